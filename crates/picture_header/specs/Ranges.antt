@@ -1,5 +1,5 @@
 -- What a header may say: the values that the fields allow.
-use Rattle.std.specs.Prelude.{◌≡◌, ℕ, ◌≤◌, List, [], ◌∷◌, length, All, Option, Some, None}
+use Rattle.std.specs.Prelude.{◌≡◌, ℕ, ◌≤◌, List, [], ◌∷◌, length, Option, Some, None}
 use Rattle.h263_types.specs.declared.Kind.{Kind}
 use Rattle.h263_types.specs.declared.Kind.TheVariants as kinds
 use Rattle.back_messages.specs.declared.Message.{Message}
@@ -20,11 +20,16 @@ messages_in [] = []
 messages_in (None ∷ places) = messages_in places
 messages_in (Some m ∷ places) = m ∷ messages_in places
 
--- messages with values of eight bits, first in the places, which are four
+-- messages whose values have eight bits
+abbrev pub AreMessages : List Message → Type 0
+AreMessages [] = Unit {0}
+AreMessages (m ∷ messages) = IsMessage m × AreMessages messages
+
+-- four places, with the messages first
 pub record IsBack (places : List (Option Message)) : Type 0 where
   pub first : places ≡ in_places (messages_in places)
   pub few : length (messages_in places) ≤ 4
-  pub each : All IsMessage (messages_in places)
+  pub each : AreMessages (messages_in places)
 
 pub record IsHeader (h : Header) : Type 0 where
   pub tr : h.tr ≤ 255

@@ -3,7 +3,7 @@ use Rattle.std.specs.Prelude.{ℕ, ◌+◌, ◌*◌, List, [], ◌∷◌, ◌++�
 use Rattle.h263_types.specs.declared.format.Format.{Format}
 use Rattle.h263_types.specs.declared.Kind.{Kind}
 use Rattle.h263_types.specs.declared.Kind.TheVariants as kinds
-use Rattle.h263_bits.specs.Bits.{spelled, fields}
+use Rattle.h263_bits.specs.Bits.{fields}
 use Rattle.back_messages.specs.declared.Message.{Message}
 use Rattle.back_messages.specs.Text.{code_of}
 use Rattle.picture_header.specs.declared.header.Header.{Header}
@@ -18,10 +18,17 @@ kind_code kinds.P = 1
 abbrev pub opening_fields : ℕ → List (ℕ × ℕ)
 opening_fields tr = (6, 32) ∷ (8, tr) ∷ (2, 2) ∷ (3, 0) ∷ (3, 7) ∷ []
 
+-- UFEP and OPPTYPE
+abbrev pub optional_fields : Format → List (ℕ × ℕ)
+optional_fields format = (3, 1) ∷ (3, format_code format) ∷ (1, 0) ∷ (10, 24) ∷ (4, 8) ∷ []
+
+-- MPPTYPE
+abbrev pub mandatory_fields : Kind → ℕ → List (ℕ × ℕ)
+mandatory_fields kind rounding = (3, kind_code kind) ∷ (2, 0) ∷ (1, rounding) ∷ (3, 1) ∷ []
+
 -- PLUSPTYPE
 abbrev pub plus_fields : Format → Kind → ℕ → List (ℕ × ℕ)
-plus_fields format kind rounding =
-    (3, 1) ∷ (3, format_code format) ∷ (1, 0) ∷ (10, 24) ∷ (4, 8) ∷ (3, kind_code kind) ∷ (2, 0) ∷ (1, rounding) ∷ (3, 1) ∷ []
+plus_fields format kind rounding = optional_fields format ++ mandatory_fields kind rounding
 
 -- CPM, SSS, RPSMF
 abbrev pub channel_fields : ℕ → List (ℕ × ℕ)

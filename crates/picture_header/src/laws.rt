@@ -10,11 +10,9 @@ ghost use Rattle.picture_header.specs.Written.{written_header};
 /// Of two texts of which one begins the other both are the same, and spell the same header.
 pub fn one_reading()
     ensures { (format : Format) (a b : Header) (x y more : List Bool) → HeaderText format a x → HeaderText format b y → x ++ more ≡ y → (x ≡ y) × (a ≡ b) }
-{
-}
+{}
 
 /// What is written of a header is read again, whatever follows, and reading stops behind it.
 pub fn read_again()
     ensures { (h : Header) (at : ℕ) (rest : List Bool) → IsHeader h → reading (header h.format) (record { at = at; bits = written_header h ++ rest }) ≡ Ok (h, record { at = at + length (written_header h); bits = rest }) }
-{
-}
+{}

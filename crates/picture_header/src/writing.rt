@@ -1,11 +1,11 @@
 ghost use Rattle.std.specs.Prelude.{◌≡◌, ℕ, ◌+◌, ◌*◌, ◌≤◌, ◌<◌, ◌++◌, ◌∷◌, [], length, Option};
 ghost use Rattle.h263_bits.specs.Bits.{fields};
-ghost use Rattle.h263_bits.specs.Written.{Appends, len_of, room_of};
+ghost use Rattle.h263_bits.specs.Written.{Appends, len_of, room_of, buffer_of, written};
 ghost use Rattle.back_messages.specs.declared.Message.{Message};
 ghost use Rattle.back_messages.specs.Text.{IsMessage, code_of};
 ghost use Rattle.picture_header.specs.Text.{format_code, HeaderText};
 ghost use Rattle.picture_header.specs.Ranges.{IsReference, IsBack, IsHeader, messages_in};
-ghost use Rattle.picture_header.specs.Written.{kind_code, opening_fields, plus_fields, channel_fields, reference_fields, back_fields, written_header, written_bits, reference_bits};
+ghost use Rattle.picture_header.specs.Written.{kind_code, opening_fields, optional_fields, mandatory_fields, plus_fields, channel_fields, reference_fields, back_fields, written_header, written_bits, reference_bits};
 
 use crate::header::Header;
 use back_messages::{Message, code};
@@ -47,6 +47,32 @@ fn write_opening(writer: &mut BitWriter<'_>, tr: u16)
     writer.put(0b111, 3);
 }
 
+/// Writes UFEP and OPPTYPE.
+fn write_optional_type(writer: &mut BitWriter<'_>, format: Format)
+    requires room { len_of writer.old + 21 ≤ room_of writer.old }
+    ensures bits { Appends writer.old writer.new (fields (optional_fields format)) }
+    ensures len { len_of writer.new ≡ len_of writer.old + 21 }
+{
+    writer.put(0b001, 3);
+    writer.put(format_bits(format), 3);
+    writer.put(0, 1);
+    writer.put(0b0000011000, 10);
+    writer.put(0b1000, 4);
+}
+
+/// Writes MPPTYPE.
+fn write_mandatory_type(writer: &mut BitWriter<'_>, kind: Kind, rounding: u8)
+    requires rounding { rounding ≤ 1 }
+    requires room { len_of writer.old + 9 ≤ room_of writer.old }
+    ensures bits { Appends writer.old writer.new (fields (mandatory_fields kind rounding)) }
+    ensures len { len_of writer.new ≡ len_of writer.old + 9 }
+{
+    writer.put(kind_bits(kind), 3);
+    writer.put(0b00, 2);
+    writer.put(rounding as u32, 1);
+    writer.put(0b001, 3);
+}
+
 /// Writes PLUSPTYPE.
 fn write_plus_type(writer: &mut BitWriter<'_>, format: Format, kind: Kind, rounding: u8)
     requires rounding { rounding ≤ 1 }
@@ -54,15 +80,8 @@ fn write_plus_type(writer: &mut BitWriter<'_>, format: Format, kind: Kind, round
     ensures bits { Appends writer.old writer.new (fields (plus_fields format kind rounding)) }
     ensures len { len_of writer.new ≡ len_of writer.old + 30 }
 {
-    writer.put(0b001, 3);
-    writer.put(format_bits(format), 3);
-    writer.put(0, 1);
-    writer.put(0b0000011000, 10);
-    writer.put(0b1000, 4);
-    writer.put(kind_bits(kind), 3);
-    writer.put(0b00, 2);
-    writer.put(rounding as u32, 1);
-    writer.put(0b001, 3);
+    write_optional_type(writer, format);
+    write_mandatory_type(writer, kind, rounding);
 }
 
 /// Writes CPM, SSS and RPSMF.
@@ -147,9 +166,21 @@ pub fn write_header(writer: &mut BitWriter<'_>, header: &Header)
     write_end(writer, header.quant);
 }
 
+/// The bits of TRP, where it is there.
+fn trp_bits(trp: Option<u16>) -> u32
+    ensures bits { result ≡ reference_bits trp }
+    ensures few { result ≤ 10 }
+{
+    match trp {
+        None => 0,
+        Some(_) => 10,
+    }
+}
+
 /// The bits that the messages and their BCIs 1 take.
 fn back_bits(places: &[Option<Message>; 4]) -> u32
-    ensures { result ≡ 25 * length (messages_in places.now) }
+    ensures bits { result ≡ 25 * length (messages_in places.now) }
+    ensures few { result ≤ 100 }
 {
     let mut bits = 0;
     'places: for place in places {
@@ -165,6 +196,5 @@ pub fn header_bits(header: &Header) -> u32
     ensures bits { result ≡ length (written_header header.now) }
     ensures parts { result ≡ written_bits header.now }
 {
-    let reference = if header.trp.is_some() { 10 } else { 0 };
-    67 + reference + back_bits(&header.back)
+    67 + trp_bits(header.trp) + back_bits(&header.back)
 }
