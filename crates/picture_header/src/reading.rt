@@ -1,10 +1,10 @@
 ghost use Rattle.std.specs.Prelude.{◌≡◌, ℕ, Option, IfOk, IfSome, IsOkAnd, IsSome, List, Bool, ◌++◌, ◌≤◌, ◌<◌, ◌^◌};
-ghost use Rattle.h263_bits.specs.Reading.{Gives, Takes};
+ghost use Rattle.h263_bits.specs.Reading.{Gives, Takes, first_fault};
 ghost use Rattle.h263_bits.specs.Syntax.{any, only, field_at, reading, goes_on};
 ghost use Rattle.h263_types.specs.declared.Kind.{Kind};
 ghost use Rattle.back_messages.specs.Text.{IsMessage, message};
 ghost use Rattle.back_messages.specs.declared.Message.{Message};
-ghost use Rattle.picture_header.specs.Text.{opening, plus_type, reference, extra, extra_turn, bci, next_message, back, channel, quant, header, HeaderText};
+ghost use Rattle.picture_header.specs.Text.{opening, plus_type, reference, extra, extra_turn, bci, next_message, back, channel, quant, header, header_fault, HeaderText};
 ghost use Rattle.picture_header.specs.Back.{ReadsBack};
 ghost use Rattle.picture_header.specs.Ranges.{IsReference, IsBack, IsHeader};
 ghost use Rattle.picture_header.specs.declared.header.Header.{Header};
@@ -254,7 +254,8 @@ pub fn read_header(reader: &mut BitReader<'_>, format: Format) -> Result<Header,
     ensures found { IfOk result (λ h. Takes reader.old reader.new (HeaderText format h)) }
     // What is spelled is read, whatever follows.
     ensures only { (h : Header) (text rest : List Bool) → HeaderText format h text → reader.old.bits ≡ text ++ rest → IsOkAnd result (λ found. (found ≡ h) × (reader.new.bits ≡ rest)) }
-    // Otherwise it is the first fault.
+    // Otherwise it is the first fault, at its place.
+    ensures fault { first_fault result ≡ header_fault format reader.old }
     ensures exact { Gives (λ (h : Header). h) result reader.new (reading (header format) reader.old) }
     ensures range { IfOk result IsHeader }
 {
