@@ -62,3 +62,13 @@ module _ {Frame Style Mb Picture Fault MessageFault : Type 0} (coding : Coding F
   ReferencesAreFull c =
       (n m : ℕ) (x : Coded Style Mb Picture) → slice_get c.coded n ≡ Some x → x.reference ≡ Some m
       → (m < n) × (n ≤ m + window rules) × (is_full coding c.coded c.arrived m ≡ true)
+
+  -- The two ends have done what the ideal call says, and the five statements hold that carry this from event to event.
+  pub record EndsFollow (c : Call Style Mb Picture) (both : Joined Style Mb Picture) : Type 0 where
+    pub agree : Agree coding rules c both
+    pub counts : CountsAreNear c
+    pub complete : CompleteAreFull c both.receiver.taken
+    pub pictures : PicturesAreThose c both.receiver.taken
+    pub taken : MatchArrivals c.coded c.arrived both.receiver.taken
+    pub known : KnownAreFull c
+    pub references : ReferencesAreFull c
