@@ -1,12 +1,12 @@
 -- In the run of both ends each end does what its own run does.
-use Rattle.std.proofs.Common.{◌≡◌, ℕ, refl, sym, ap, ◌∙◌, Option, Some, None, List, [], ◌∷◌, ◌++◌, length}
+use Rattle.std.proofs.Common.{◌≡◌, ℕ, refl, ap, ◌∙◌, Option, Some, None, List, [], ◌∷◌, ◌++◌, length}
 use Rattle.std.specs.Prelude.{slice_get}
 use Rattle.std.specs.Option.{option_map_or}
 use Rattle.call_model.specs.Coding.{Rules, Coding}
 use Rattle.call_model.specs.IdealCall.{Event, Send, Deliver, Play, Back}
 use Rattle.call_model.specs.Sending.{SenderRun, SenderEntry, Capture, Feedback, after_capture, after_feedback, packets_of, sender_run}
-use Rattle.call_model.specs.Receiving.{ReceiverRun, ReceiverEntry, Packet, PlayNext, after_packet, after_play, receiver_run}
-use Rattle.call_model.specs.JoinedRun.{Told, Joined, after_bytes, after_both, joined, to_sender, to_receiver, sender_entries, receiver_entries, EachEndRuns}
+use Rattle.call_model.specs.Receiving.{ReceiverRun, ReceiverEntry, Packet, after_packet, after_play, receiver_run}
+use Rattle.call_model.specs.JoinedRun.{Told, Joined, after_bytes, joined, sender_entries, receiver_entries, EachEndRuns}
 
 module _ {Frame Style Mb Picture Fault MessageFault : Type 0} (coding : Coding Frame Style Mb Picture Fault MessageFault) (rules : Rules) where
   abbrev SenderIs : ReceiverRun Style Mb Picture → ℕ → List Frame → List Event → Type 0

@@ -1,11 +1,11 @@
 -- The coding of pictures of two samples meets the laws that are asked of a coding.
-use Rattle.std.proofs.Common.{◌≡◌, ℕ, zero, suc, ◌+◌, ◌-◌, ◌<◌, ◌≤◌, Bool, true, false, ◌&&◌, refl, sym, ap, ◌∙◌, subst, arith, inl, inr, Option, Some, None, Result, Ok, Err, List, [], ◌∷◌, length, eqb, ltb}
+use Rattle.std.proofs.Common.{◌≡◌, ℕ, zero, suc, ◌+◌, ◌-◌, ◌<◌, ◌≤◌, Bool, true, false, refl, sym, ap, ◌∙◌, subst, arith, inl, inr, Option, Some, None, Result, Ok, Err, List, [], ◌∷◌, length, eqb, ltb}
 use Rattle.std.specs.Prelude.{slice_get, map, slice_index_or, if◌then◌else◌}
 use Rattle.std.specs.Option.{option_map}
-use Rattle.std.proofs.lemmas.Bool.{le-leb, lt-ltb, lt-leb, le-ltb, and_from, and_parts, and_left, and_right, eq-eqb, eqb-true, ne_eqb, cases_eq, cases_lt, leb-true, ltb-true}
+use Rattle.std.proofs.lemmas.Bool.{le-leb, lt-ltb, lt-leb, le-ltb, and_from, and_left, and_right, eq-eqb, eqb-true, ne_eqb, cases_eq, cases_lt, ltb-true}
 use Rattle.std.proofs.lemmas.Option.{slice_get-map}
-use Rattle.call_model.specs.Coding.{Rules, Slice, has_mb, Header, Piece, Message, Ack, Nack, Coding}
-use Rattle.call_model.specs.SmallCoding.{Two, SmallMb, Same, Value, SmallFault, Unread, small_sample, option_word, word_option, mb_word, word_mb, small_packet, small_read, small_message, small_read_message, small}
+use Rattle.call_model.specs.Coding.{Rules, Slice, has_mb, Header, Piece, Message, Ack, Nack}
+use Rattle.call_model.specs.SmallCoding.{SmallMb, Same, Value, SmallFault, Unread, small_sample, option_word, word_option, mb_word, word_mb, small_packet, small_read, small_message, small_read_message, small}
 use Rattle.call_model.specs.Lawful.{IsCoding}
 
 abbrev one : ℕ → SmallMb → Slice SmallMb
@@ -101,10 +101,10 @@ small_lawful rules two = record {
       subst (λ (s : Slice SmallMb). (0 < length s.mbs) × (s.first + length s.mbs ≤ rules.mbs)) at.1 (omega arith, omega (arith, at.0));
   read_again = λ n sequence predicted header mbs j slice chosen fits e.
       let at = cut_at mbs j slice e in (
-      small_packet header slice,
-      slice_get-map (small_packet header) (cut mbs) j ∙ ap (option_map (small_packet header)) e,
-      subst (λ (s : Slice SmallMb). small_read (small_packet header s) ≡ Ok (record { header = header; slice = s })) at.1 (read_one header j (slice_index_or mbs j Same) at.0),
-    );
+        small_packet header slice,
+        slice_get-map (small_packet header) (cut mbs) j ∙ ap (option_map (small_packet header)) e,
+        subst (λ (s : Slice SmallMb). small_read (small_packet header s) ≡ Ok (record { header = header; slice = s })) at.1 (read_one header j (slice_index_or mbs j Same) at.0),
+      );
   no_packet = λ n sequence header slices j e. none_left header slices j e;
   read_inside = λ bytes piece e. let at = inside bytes piece e in (at.0, omega (arith, at.1));
   same_style_is = λ a b. (λ e. eqb-true a b e, λ e. eq-eqb a b e);

@@ -5,8 +5,8 @@ use Rattle.std.specs.List.{list_any}
 use Rattle.call_model.specs.Numbers.{greatest}
 use Rattle.call_model.specs.Coding.{Rules, window, Slice, Coding, reconstruction}
 
--- A coded picture. Its depth is the length of its chain of references: 0 where it is coded intra. Its picture is what
--- decoding gives.
+-- A coded picture. Its depth is the length of its chain of references: 0 where it is coded intra.
+-- Its picture is what decoding gives.
 pub record Coded (Style Mb Picture : Type 0) : Type 0 where
   pub reference : Option ℕ
   pub depth : ℕ
@@ -14,8 +14,8 @@ pub record Coded (Style Mb Picture : Type 0) : Type 0 where
   pub mbs : List Mb
   pub picture : Picture
 
--- The reference of picture n: the greatest known number in the window below n, unless there is none or its chain may not
--- grow. Without a reference the picture is coded intra.
+-- The reference of picture n: the greatest known number in the window below n, unless there is none
+-- or its chain may not grow. Without a reference the picture is coded intra.
 unfoldable pub reference_for : Rules → (ℕ → ℕ) → (ℕ → Bool) → ℕ → Option ℕ
 reference_for rules depth known n =
     option_and_then (λ m. if nat_lt (depth m) rules.chain then Some m else None)

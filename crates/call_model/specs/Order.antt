@@ -28,7 +28,8 @@ abbrev pub SameOrApart : {Mb : Type 0} → Slice Mb → Slice Mb → Type 0
 SameOrApart a b = (a ≡ b) ⊎ ((k : ℕ) → has_mb a k ≡ true → has_mb b k ≡ true → ⊥)
 
 module _ {Frame Style Mb Picture Fault MessageFault : Type 0} (coding : Coding Frame Style Mb Picture Fault MessageFault) (rules : Rules) where
-  -- the number of the picture that a packet is of, where it comes after so many plays and has no fault
+  -- the number of the picture that a packet is of, where it comes after so many plays and has no
+  -- fault
   unfoldable pub number_at : ℕ → List ℕ → Option ℕ
   number_at played bytes = option_map_or (λ piece. nearest rules played piece.header.number) (result_ok (coding.read bytes)) None
 
@@ -48,7 +49,8 @@ module _ {Frame Style Mb Picture Fault MessageFault : Type 0} (coding : Coding F
   own n (Packet bytes ∷ past) = if is_own n (played_after past) bytes then bytes ∷ own n past else own n past
   own n (PlayNext ∷ past) = own n past
 
-  -- where each packet of n stands, n is open and its reference, if it has one, is complete and in the window
+  -- where each packet of n stands, n is open and its reference, if it has one, is complete and in
+  -- the window
   abbrev pub InPlace : ℕ → Option ℕ → List ReceiverEntry → Type 0
   InPlace n reference [] = ⊤
   InPlace n reference (Packet bytes ∷ past) =
@@ -71,14 +73,16 @@ module _ {Frame Style Mb Picture Fault MessageFault : Type 0} (coding : Coding F
   abbrev pub HasPiece : List ℕ → (Piece Style Mb → Type 0) → Type 0
   HasPiece bytes P = (piece : Piece Style Mb) → coding.read bytes ≡ Ok piece → P piece
 
-  -- the packets of n have one header, their slices are the same or apart, and each comes while n is open and its reference is there
+  -- the packets of n have one header, their slices are the same or apart, and each comes while n is
+  -- open and its reference is there
   pub record AreOfOne (n : ℕ) (header : Header Style) (reference : Option ℕ) (entries : List ReceiverEntry) : Type 0 where
     pub in_place : InPlace n reference entries
     pub headers : (bytes : List ℕ) → IsIn bytes (own n entries) → HasPiece bytes (λ piece. piece.header ≡ header)
     pub slices : (a b : List ℕ) → IsIn a (own n entries) → IsIn b (own n entries) → HasPiece a (λ p. HasPiece b (λ q. SameOrApart p.slice q.slice))
 
-  -- Let two lists of what came before the play of picture n have the same entries in the same order apart from packets of n,
-  -- and the same set of packets of n, all of one header. Then each play up to the play of n shows the same, with the same mark.
+  -- Let two lists of what came before the play of picture n have the same entries in the same order
+  -- apart from packets of n, and the same set of packets of n, all of one header. Then each play up
+  -- to the play of n shows the same, with the same mark.
   abbrev pub AnyOrder : Type 0
   AnyOrder = (n : ℕ) (header : Header Style) (reference : Option ℕ) (a b : List ReceiverEntry) →
       reference ≡ option_and_then (nearest_below rules n) header.reference → is_some reference ≡ is_some header.reference →

@@ -12,7 +12,8 @@ module _ {Frame Style Mb Picture Fault MessageFault : Type 0} (coding : Coding F
       receiver.played ≡ 0 → AllNearBoth coding rules receiver quant frames (Deliver n j ∷ past)
       → length (joined coding rules receiver quant frames past).sender.coded < n + period rules
 
-  -- a message that is brought back is one of the last, as many as half a period and the lead, less one
+  -- a message that is brought back is one of the last, as many as half a period and the lead, less
+  -- one
   abbrev pub MessagesAreInRing : Type 0
   MessagesAreInRing = (receiver : ReceiverRun Style Mb Picture) (quant : ℕ) (frames : List Frame) (past : List Event) (k : ℕ) →
       receiver.played ≡ 0 → (0 < quant) × (quant < 32) → AllNearBoth coding rules receiver quant frames (Back k ∷ past)

@@ -1,6 +1,7 @@
--- A coding of pictures of two samples, over which calls can be computed: each sample is a macroblock and a slice of its own.
+-- A coding of pictures of two samples, over which calls can be computed: each sample is a
+-- macroblock and a slice of its own.
 use Rattle.std.specs.Prelude.{ℕ, zero, suc, nat_lt, ◌==◌, List, [], ◌∷◌, map, slice_index_or, Option, Some, None, Result, Ok, Err, if◌then◌else◌}
-use Rattle.std.specs.Option.{option_map, option_map_or}
+use Rattle.std.specs.Option.{option_map}
 use Rattle.call_model.specs.Coding.{Slice, Header, Piece, Message, Ack, Nack, Coding}
 
 -- a frame or a picture
@@ -51,7 +52,8 @@ abbrev pub word_mb : ℕ → SmallMb
 word_mb zero = Same
 word_mb (suc value) = Value value
 
--- a packet has five numbers: its picture's, the reference's, the depth, the slice's place and its macroblock
+-- a packet has five numbers: its picture's, the reference's, the depth, the slice's place and its
+-- macroblock
 abbrev pub small_packet : Header ℕ → Slice SmallMb → List ℕ
 small_packet header slice = header.number ∷ option_word header.reference ∷ header.style ∷ slice.first ∷ mb_word (slice_index_or slice.mbs 0 Same) ∷ []
 

@@ -34,7 +34,8 @@ module _ {Frame Style Mb Picture Fault MessageFault : Type 0} (coding : Coding F
   SlotsTellOffer = (entries : List ReceiverEntry) → let run = receiver_run coding rules entries in
       greatest (λ m. is_kept run m && nat_lt run.played (m + rules.slots)) (run.played + rules.lead + 1) ≡ offer rules run.taken run.played
 
-  -- an open picture that becomes complete takes its slot, whatever was there, and no other slot changes
+  -- an open picture that becomes complete takes its slot, whatever was there, and no other slot
+  -- changes
   abbrev pub NewOneTakesItsSlot : Type 0
   NewOneTakesItsSlot = (entries : List ReceiverEntry) (n : ℕ) (taken : List (TakenSlice Style Mb)) → let run = receiver_run coding rules entries in let after = record run { taken = taken } in
       run.played ≤ n → n ≤ run.played + rules.lead → is_complete rules.mbs taken n ≡ true

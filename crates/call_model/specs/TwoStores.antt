@@ -1,5 +1,5 @@
 -- That the two ends do what the ideal call says, and the statements that carry it.
-use Rattle.std.specs.Prelude.{◌≡◌, ℕ, ◌+◌, ◌%◌, ◌<◌, ◌≤◌, ⊤, true, List, [], ◌∷◌, length, map, slice_get, Option, Some, None}
+use Rattle.std.specs.Prelude.{◌≡◌, ℕ, ◌+◌, ◌%◌, ◌<◌, ◌≤◌, ⊤, true, List, [], ◌∷◌, length, map, slice_get, Some}
 use Rattle.call_model.specs.Coding.{Rules, window, period, Message, Ack, Coding}
 use Rattle.call_model.specs.CodedPictures.{Coded, is_among, slices_of}
 use Rattle.call_model.specs.IdealCall.{Note, Got, Lost, about, Arrival, Call, is_full}
@@ -15,8 +15,8 @@ travelling rules (Lost n offered) = nack rules n offered
 abbrev pub told_of : {Frame Style Mb Picture Fault MessageFault : Type 0} → Coding Frame Style Mb Picture Fault MessageFault → Rules → Note → Told
 told_of coding rules note = record { about = about note; bytes = coding.write_message (travelling rules note) }
 
--- The two ends have done what the ideal call says: the sender's pictures with their references, the numbers that it knows,
--- the messages that the receiver said, and each play with its mark.
+-- The two ends have done what the ideal call says: the sender's pictures with their references, the
+-- numbers that it knows, the messages that the receiver said, and each play with its mark.
 pub record Agree {Frame Style Mb Picture Fault MessageFault : Type 0} (coding : Coding Frame Style Mb Picture Fault MessageFault) (rules : Rules) (c : Call Style Mb Picture) (both : Joined Style Mb Picture) : Type 0 where
   pub pictures : both.sender.coded ≡ c.coded
   pub known : both.sender.known ≡ c.known
@@ -24,7 +24,8 @@ pub record Agree {Frame Style Mb Picture Fault MessageFault : Type 0} (coding : 
   pub messages : both.said ≡ map (told_of coding rules) c.said
   pub shown : both.shown ≡ c.shown
 
--- the receiver took this slice for this arrival: the slice of that place, with the header of its own picture
+-- the receiver took this slice for this arrival: the slice of that place, with the header of its
+-- own picture
 pub record IsTakenFor {Frame Style Mb Picture Fault MessageFault : Type 0} (coding : Coding Frame Style Mb Picture Fault MessageFault) (rules : Rules) (coded : List (Coded Style Mb Picture)) (a : Arrival) (t : TakenSlice Style Mb) : Type 0 where
   pub number : t.number ≡ a.number
   pub picture : Coded Style Mb Picture
@@ -63,7 +64,8 @@ module _ {Frame Style Mb Picture Fault MessageFault : Type 0} (coding : Coding F
       (n m : ℕ) (x : Coded Style Mb Picture) → slice_get c.coded n ≡ Some x → x.reference ≡ Some m
       → (m < n) × (n ≤ m + window rules) × (is_full coding c.coded c.arrived m ≡ true)
 
-  -- The two ends have done what the ideal call says, and the five statements hold that carry this from event to event.
+  -- The two ends have done what the ideal call says, and the five statements hold that carry this
+  -- from event to event.
   pub record EndsFollow (c : Call Style Mb Picture) (both : Joined Style Mb Picture) : Type 0 where
     pub agree : Agree coding rules c both
     pub counts : CountsAreNear c
