@@ -1,0 +1,5 @@
+use Rattle.back_messages.proofs.Codes.{text_read, read_text}
+use Rattle.back_messages.proofs.laws.exact_text.Goals as goal
+
+pub returns : goal.returns
+returns c = record { written = text_read; read = read_text }

@@ -1,0 +1,5 @@
+use Rattle.back_messages.proofs.Codes.{field_spells, spelled_field}
+use Rattle.back_messages.proofs.laws.field_text.Goals as goal
+
+pub returns : goal.returns
+returns c = record { written = field_spells; read = spelled_field }

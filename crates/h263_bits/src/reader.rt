@@ -1,0 +1,110 @@
+ghost use Rattle.std.specs.Prelude.{◌≡◌, ℕ, ◌+◌, ◌-◌, ◌*◌, ◌<◌, ◌≤◌, ◌^◌, length, take, drop, IfOk, OnErr};
+ghost use Rattle.h263_bits.specs.Bits.{bits_of, number};
+ghost use Rattle.h263_bits.specs.Reading.{Bits, Gives, bits_between, number_at, skip};
+
+use crate::fault::{Fault, FaultKind};
+use std::marker::Model;
+
+/// Reads bits from a place up to another, most significant first.
+#[derive(Drop)]
+pub struct BitReader<'a> {
+    bytes: &'a [u8],
+    at: u32,
+    end: u32,
+}
+
+impl<'a> Model for BitReader<'a> {
+    ghost use Rattle.std.specs.Prelude.{◌*◌, ◌≤◌, length};
+    ghost use Rattle.h263_bits.specs.Reading.{Bits, bits_between};
+
+    ghost Value = { Bits };
+
+    ghost view = { λ r. bits_between r.bytes.now r.at r.end };
+
+    ghost invariant = { λ r. (r.at ≤ r.end) × (r.end ≤ 8 * length r.bytes.now) × (length r.bytes.now ≤ 65535) };
+}
+
+/// The number of the n bits from a place on.
+fn number_from(bytes: &[u8], at: u32, n: u32) -> u32
+    requires few { n ≤ 32 }
+    requires room { at + n ≤ 8 * length bytes.now }
+    requires short { length bytes.now ≤ 65535 }
+    ensures value { result ≡ number (take n (drop at (bits_of bytes.now))) }
+    ensures below { result < 2 ^ n }
+{
+    let first = (at / 8) as usize;
+    let last = ((at + n + 7) / 8) as usize;
+    let mut sum: u64 = 0;
+    for byte in &bytes[first..last] {
+        sum = sum * 256 + *byte as u64;
+    }
+    let behind = 8 * last as u32 - (at + n);
+    ((sum >> behind) & ((1u64 << n) - 1)) as u32
+}
+
+impl<'a> BitReader<'a> {
+    /// A reader of the bits from place `from` up to place `to`.
+    pub fn new(bytes: &'a [u8], from: u32, to: u32) -> BitReader<'a>
+        requires short { length bytes.now ≤ 65535 }
+        requires order { from ≤ to }
+        requires within { to ≤ 8 * length bytes.now }
+        ensures bits { result ≡ bits_between bytes.now from to }
+        ensures rest { length result.bits ≡ to - from }
+    {
+        BitReader {
+            bytes,
+            at: from,
+            end: to,
+        }
+    }
+
+    /// The next n bits as a number.
+    pub fn bits(&mut self, n: u32) -> Result<u32, Fault>
+        requires { n ≤ 32 }
+        ensures reads { Gives (λ (v : ℕ). v) result self.new (number_at n self.old) }
+        ensures below { IfOk result (λ v. v < 2 ^ n) }
+        ensures err { OnErr result (self.new ≡ self.old) }
+    {
+        if self.end - self.at < n {
+            return Err(Fault {
+                kind: FaultKind::Ended,
+                at: self.at,
+            });
+        }
+        let value = number_from(self.bytes, self.at, n);
+        self.at += n;
+        Ok(value)
+    }
+
+    /// The next n bits as a number, which the reader keeps.
+    pub fn peek(&self, n: u32) -> u32
+        requires few { n ≤ 32 }
+        requires there { n ≤ length self.now.bits }
+        ensures value { result ≡ number (take n self.now.bits) }
+        ensures below { result < 2 ^ n }
+    {
+        number_from(self.bytes, self.at, n)
+    }
+
+    /// Passes over n bits.
+    pub fn skip(&mut self, n: u32)
+        requires { n ≤ length self.old.bits }
+        ensures { self.new ≡ skip n self.old }
+    {
+        self.at += n;
+    }
+
+    /// The place of the next bit, counted from the first bit of the bytes.
+    pub fn at(&self) -> u32
+        ensures { result ≡ self.now.at }
+    {
+        self.at
+    }
+
+    /// How many bits are left.
+    pub fn rest(&self) -> u32
+        ensures { result ≡ length self.now.bits }
+    {
+        self.end - self.at
+    }
+}

@@ -1,0 +1,103 @@
+ghost use Rattle.std.specs.Prelude.{◌≡◌, ℕ, ◌+◌, ◌-◌, ◌*◌, ◌/◌, ◌%◌, ◌<◌, ◌≤◌, ◌^◌, ◌++◌, length, take, []};
+ghost use Rattle.h263_bits.specs.Bits.{bits_of, spelled};
+
+/// Writes bits behind one another, most significant first.
+#[derive(Drop)]
+pub struct BitWriter<'a> {
+    bytes: &'a mut [u8],
+    len: u32,
+    ghost short: { length bytes.now ≤ 65535 },
+    ghost within: { len ≤ 8 * length bytes.now },
+}
+
+/// A byte with a few bits put behind its first `used`.
+fn with_part(old: u8, used: u32, part: u32, count: u32) -> u8
+    requires inside { used + count ≤ 8 }
+    requires fits { part < 2 ^ count }
+    ensures { take (used + count) (spelled 8 result) ≡ take used (spelled 8 old) ++ spelled count part }
+{
+    let kept = (old as u32 >> (8 - used)) << (8 - used);
+    (kept + (part << (8 - used - count))) as u8
+}
+
+/// Writes a few bits inside one byte, behind the first `at` bits.
+fn put_part(bytes: &mut [u8], at: u32, part: u32, count: u32)
+    requires inside { at % 8 + count ≤ 8 }
+    requires fits { part < 2 ^ count }
+    requires room { at + count ≤ 8 * length bytes.old }
+    requires some { 0 < count }
+    ensures { take (at + count) (bits_of bytes.new) ≡ take at (bits_of bytes.old) ++ spelled count part }
+{
+    let k = (at / 8) as usize;
+    bytes[k] = with_part(bytes[k], at % 8, part, count);
+}
+
+/// Writes the n bits of a number behind the first `at` bits.
+fn put_bits(bytes: &mut [u8], at: u32, value: u32, n: u32)
+    requires few { n ≤ 32 }
+    requires fits { value < 2 ^ n }
+    requires room { at + n ≤ 8 * length bytes.old }
+    requires short { length bytes.old ≤ 65535 }
+    ensures { take (at + n) (bits_of bytes.new) ≡ take at (bits_of bytes.old) ++ spelled n value }
+{
+    let mut left = n;
+    'parts: while left > 0 {
+        let place = at + (n - left);
+        let count = left.min(8 - place % 8);
+        let part = (value >> (left - count)) % (1 << count);
+        put_part(bytes, place, part, count);
+        left -= count;
+    }
+}
+
+impl<'a> BitWriter<'a> {
+    ghost use Rattle.h263_bits.specs.Written.{written, len_of, room_of, buffer_of, to_byte, Appends, Cuts};
+
+    /// A writer at the first bit of a buffer.
+    pub fn new(bytes: &'a mut [u8]) -> BitWriter<'a>
+        requires { length bytes.old ≤ 65535 }
+        ensures buffer { buffer_of result ≡ bytes.entry.ghost_name }
+        ensures room { room_of result ≡ 8 * length bytes.old }
+        ensures none { written result ≡ [] }
+        ensures len { len_of result ≡ 0 }
+    {
+        BitWriter { bytes, len: 0 }
+    }
+
+    /// Appends the n bits of a number. What stands behind them in the buffer is left open.
+    pub fn put(&mut self, value: u32, n: u32)
+        requires few { n ≤ 32 }
+        requires fits { value < 2 ^ n }
+        requires room { len_of self.old + n ≤ room_of self.old }
+        ensures bits { Appends self.old self.new (spelled n value) }
+        ensures len { len_of self.new ≡ len_of self.old + n }
+    {
+        put_bits(self.bytes, self.len, value, n);
+        self.len += n;
+    }
+
+    /// Appends zero bits up to a byte.
+    pub fn align(&mut self)
+        ensures bits { Appends self.old self.new (spelled (to_byte (len_of self.old)) 0) }
+        ensures len { len_of self.new ≡ len_of self.old + to_byte (len_of self.old) }
+        ensures whole { len_of self.new % 8 ≡ 0 }
+    {
+        self.put(0, (8 - self.len % 8) % 8);
+    }
+
+    /// Drops the bits behind the first `len`.
+    pub fn cut(&mut self, len: u32)
+        requires { len ≤ len_of self.old }
+        ensures bits { Cuts self.old self.new len }
+        ensures len { len_of self.new ≡ len }
+    {
+        self.len = len;
+    }
+
+    /// How many bits are written.
+    pub fn len(&self) -> u32
+        ensures { result ≡ len_of self.now }
+    {
+        self.len
+    }
+}

@@ -1,0 +1,4 @@
+pub mod Sizes
+pub mod Vectors
+pub mod Blocks
+pub mod Params

@@ -1,0 +1,35 @@
+//! The types that all parts of the codec share: formats, macroblocks, vectors and how far they reach, parameters.
+#![tactic(auto)]
+
+mod blocks;
+mod format;
+mod limits;
+mod params;
+mod vector;
+
+pub use blocks::{Block, Mb, SliceHead};
+pub use format::Format;
+pub use limits::reach;
+pub use params::{ParamFault, Params};
+pub use vector::{Reach, Vector};
+
+/// Whether a picture is coded by itself (I) or predicted from another one (P).
+#[derive(Clone, Copy, Debug, PartialEq, Eq)]
+pub enum Kind {
+    I,
+    P,
+}
+
+/// How a picture that is shown stands to the sender's: the same, in part, or not at all.
+#[derive(Clone, Copy, Debug, PartialEq, Eq)]
+pub enum Mark {
+    /// Every macroblock arrived: the picture is the sender's reconstruction.
+    Exact,
+    /// Some macroblocks arrived; the others are those of the picture shown before.
+    Patched,
+    /// Nothing arrived: the picture shown before is shown again.
+    Held,
+}
+
+#[cfg(test)]
+mod tests;
