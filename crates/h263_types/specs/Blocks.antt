@@ -25,6 +25,16 @@ pub record IsDc (z : ℤ) : Type 0 where
   pub low : pos 1 ≤ℤ z
   pub high : z ≤ℤ pos 254
 
+-- a value that a level stands for, as the inverse transform takes it (H.263, 6.2.2)
+pub record IsValue (z : ℤ) : Type 0 where
+  pub low : neg_ℤ (pos 2048) ≤ℤ z
+  pub high : z ≤ℤ pos 2047
+
+-- a coefficient, as the quantiser takes it
+pub record IsCoefficient (z : ℤ) : Type 0 where
+  pub low : neg_ℤ (pos 65535) ≤ℤ z
+  pub high : z ≤ℤ pos 65535
+
 -- a component of a vector in half samples (H.263, 6.1.1)
 pub record IsComponent (z : ℤ) : Type 0 where
   pub low : neg_ℤ (pos 32) ≤ℤ z

@@ -1,0 +1,96 @@
+-- The ideal call before an event, by a name for each thing: what is so after the events before it,
+-- the newest first.
+use Rattle.std.specs.Prelude.{◌≡◌, ◌↔◌, ◌⊎◌, ℕ, ◌+◌, ◌<◌, ◌≤◌, Bool, true, ◌==◌, List, [], ◌∷◌, length, slice_get, Option, Some, None, option_and_then, if◌then◌else◌}
+use Rattle.std.specs.Option.{option_map}
+use Rattle.call_model.specs.Coding.{Rules, Mark, Exact, Coding}
+use Rattle.call_model.specs.CodedPictures.{Coded, depth_at, picture_at}
+use Rattle.call_model.specs.IdealCall.{Event, Send, Deliver, Play, Note, Shown, has_arrived, slices_at, is_full, ideal, AllNear}
+
+-- how many pictures were sent
+abbrev pub sent_before : List Event → ℕ
+sent_before [] = 0
+sent_before (Send ∷ past) = sent_before past + 1
+sent_before (_ ∷ past) = sent_before past
+
+-- how many pictures were played
+abbrev pub played_before : List Event → ℕ
+played_before [] = 0
+played_before (Play ∷ past) = played_before past + 1
+played_before (_ ∷ past) = played_before past
+
+-- picture n is open: from lead pictures before its play until its play
+abbrev pub IsOpen : Rules → List Event → ℕ → Type 0
+IsOpen rules past n = (played_before past ≤ n) × (n ≤ played_before past + rules.lead)
+
+-- what play n showed, among the plays with the newest first
+abbrev pub play_at : {Picture : Type 0} → List (Shown Picture) → ℕ → Option (Shown Picture)
+play_at [] n = None
+play_at (x ∷ shown) n = if length shown == n then Some x else play_at shown n
+
+module _ {Frame Style Mb Picture Fault MessageFault : Type 0} (coding : Coding Frame Style Mb Picture Fault MessageFault) (rules : Rules) (quant : ℕ) (frames : List Frame) where
+  -- the slice at place j of picture n arrived while n was open
+  abbrev pub arrived : List Event → ℕ → ℕ → Bool
+  arrived past n j = has_arrived (ideal coding rules quant frames past).arrived n j
+
+  -- picture n was sent, and each of its slices arrived while it was open
+  abbrev pub IsFull : List Event → ℕ → Type 0
+  IsFull past n = is_full coding (ideal coding rules quant frames past).coded (ideal coding rules quant frames past).arrived n ≡ true
+
+  -- the messages, oldest first
+  abbrev pub said : List Event → List Note
+  said past = (ideal coding rules quant frames past).said
+
+  -- the pictures that the sender knows to be full
+  abbrev pub known : List Event → List ℕ
+  known past = (ideal coding rules quant frames past).known
+
+  -- the reference of picture n, none where it is coded intra or was not sent
+  abbrev pub reference_of : List Event → ℕ → Option ℕ
+  reference_of past n = option_and_then (λ (x : Coded Style Mb Picture). x.reference) (slice_get (ideal coding rules quant frames past).coded n)
+
+  -- the length of its chain of references
+  abbrev pub depth_of : List Event → ℕ → ℕ
+  depth_of past n = depth_at (ideal coding rules quant frames past).coded n
+
+  -- what decoding gives of picture n, if it was sent
+  abbrev pub reconstruction_of : List Event → ℕ → Option Picture
+  reconstruction_of past n = picture_at (ideal coding rules quant frames past).coded n
+
+  -- the mark of picture n, if it was played
+  abbrev pub mark_of : List Event → ℕ → Option Mark
+  mark_of past n = option_map (λ (x : Shown Picture). x.mark) (play_at (ideal coding rules quant frames past).shown n)
+
+  -- what the play of picture n showed, if it was played
+  abbrev pub shown : List Event → ℕ → Option Picture
+  shown past n = option_map (λ (x : Shown Picture). x.picture) (play_at (ideal coding rules quant frames past).shown n)
+
+  -- how many slices picture n has: none where it was not sent
+  abbrev pub slices_before : List Event → ℕ → ℕ
+  slices_before past n = length (slices_at coding (ideal coding rules quant frames past).coded n)
+
+  -- the slice at place j of picture n was delivered while n was open
+  abbrev pub WasDelivered : List Event → ℕ → ℕ → Type 0
+  WasDelivered [] n j = ⊥
+  WasDelivered (Deliver m i ∷ past) n j = ((m ≡ n) × (i ≡ j) × IsOpen rules past n × (j < slices_before past n)) ⊎ WasDelivered past n j
+  WasDelivered (_ ∷ past) n j = WasDelivered past n j
+
+  -- the pictures that the call has sent and played are the events that did so
+  abbrev pub CountsAreThose : Type 0
+  CountsAreThose = (past : List Event) →
+      (AllNear coding rules quant frames past → length (ideal coding rules quant frames past).coded ≡ sent_before past)
+      × ((ideal coding rules quant frames past).played ≡ played_before past)
+
+  -- what has arrived is what was delivered in time
+  abbrev pub ArrivedWasDelivered : Type 0
+  ArrivedWasDelivered = (past : List Event) (n j : ℕ) → (arrived past n j ≡ true) ↔ WasDelivered past n j
+
+  -- the play of a picture is marked exact where the picture is full and nowhere else, and then
+  -- shows what decoding gives of it
+  abbrev pub ExactWhereFull : Type 0
+  ExactWhereFull = (past : List Event) → let n = played_before past in
+      ((mark_of (Play ∷ past) n ≡ Some Exact) ↔ IsFull past n) × (IsFull past n → shown (Play ∷ past) n ≡ reconstruction_of past n)
+
+  -- what a play showed stays
+  abbrev pub ShownStays : Type 0
+  ShownStays = (past : List Event) (e : Event) (n : ℕ) → n < played_before past →
+      (mark_of (e ∷ past) n ≡ mark_of past n) × (shown (e ∷ past) n ≡ shown past n)

@@ -1,0 +1,148 @@
+-- Calls of pictures of two samples, and what is read off them.
+use Rattle.std.specs.Prelude.{ℕ, zero, suc, ◌+◌, List, [], ◌∷◌, ◌++◌, map, reverse, replicate, slice_get, Option}
+use Rattle.std.specs.Option.{option_map_or}
+use Rattle.call_model.specs.Coding.{Rules, Mark}
+use Rattle.call_model.specs.CodedPictures.{Coded}
+use Rattle.call_model.specs.IdealCall.{Event, Send, Deliver, Play, Back, Shown, Call, ideal}
+use Rattle.call_model.specs.Sending.{packets_of}
+use Rattle.call_model.specs.Receiving.{Heard, heard}
+use Rattle.call_model.specs.JoinedRun.{Told, Joined, joined, new_receiver}
+use Rattle.call_model.specs.SmallCoding.{Two, SmallMb, SmallFault, small}
+
+-- the frames and the events of a call, the oldest first
+pub record Scene : Type 0 where
+  pub rules : Rules
+  pub frames : List Two
+  pub events : List Event
+
+-- slots and lead as given, temporal references of eight bits, and chains of at most 131
+abbrev pub rules_of : ℕ → ℕ → Rules
+rules_of slots lead = record { slots = slots; lead = lead; half = 128; chain = 131; mbs = 2 }
+
+-- a picture whose samples are the same
+abbrev pub flat : ℕ → Two
+flat value = record { left = value; right = value }
+
+-- the ideal call
+abbrev pub call_of : Scene → Call ℕ SmallMb Two
+call_of scene = ideal small scene.rules 8 scene.frames (reverse scene.events)
+
+-- both ends
+abbrev pub ends_of : Scene → Joined ℕ SmallMb Two
+ends_of scene = joined small scene.rules (new_receiver small scene.rules) 8 scene.frames (reverse scene.events)
+
+-- of each picture the number of its reference
+abbrev pub references : List (Coded ℕ SmallMb Two) → List (Option ℕ)
+references coded = map (λ (x : Coded ℕ SmallMb Two). x.reference) coded
+
+-- of each picture its depth
+abbrev pub depths : List (Coded ℕ SmallMb Two) → List ℕ
+depths coded = map (λ (x : Coded ℕ SmallMb Two). x.depth) coded
+
+-- the marks of the plays, the oldest first
+abbrev pub marks : List (Shown Two) → List Mark
+marks shown = map (λ (x : Shown Two). x.mark) (reverse shown)
+
+-- the pictures that they showed
+abbrev pub pictures : List (Shown Two) → List Two
+pictures shown = map (λ (x : Shown Two). x.picture) (reverse shown)
+
+-- the bytes of messages
+abbrev pub bytes_of : List Told → List (List ℕ)
+bytes_of said = map (λ (told : Told). told.bytes) said
+
+-- the receiver's answers to the deliveries among these events, both with the newest first
+abbrev pub heard_in : Rules → List Two → List Event → List (Heard SmallFault)
+heard_in rules frames [] = []
+heard_in rules frames (Deliver n j ∷ past) =
+    let both = joined small rules (new_receiver small rules) 8 frames past in
+    option_map_or (λ bytes. heard small rules both.receiver (small.read bytes) ∷ []) (slice_get (packets_of small rules both.sender.coded n) j) [] ++ heard_in rules frames past
+heard_in rules frames (e ∷ past) = heard_in rules frames past
+
+-- the receiver's answers, the oldest first
+abbrev pub answers : Scene → List (Heard SmallFault)
+answers scene = reverse (heard_in scene.rules scene.frames (reverse scene.events))
+
+-- both slices of picture n are delivered
+abbrev pub whole : ℕ → List Event
+whole n = Deliver n 0 ∷ Deliver n 1 ∷ []
+
+-- so many pictures are sent and played, and nothing of them arrives
+abbrev pub lost : ℕ → List Event
+lost zero = []
+lost (suc count) = Send ∷ Play ∷ lost count
+
+-- so many pictures, from n on, are sent, arrive and are played
+abbrev pub seen : ℕ → ℕ → List Event
+seen n zero = []
+seen n (suc count) = Send ∷ whole n ++ Play ∷ seen (n + 1) count
+
+-- so many pictures, from n on, are sent, arrive, are acknowledged by message n and its followers,
+-- and are played
+abbrev pub acknowledged : ℕ → ℕ → List Event
+acknowledged n zero = []
+acknowledged n (suc count) = Send ∷ whole n ++ Back n ∷ Play ∷ acknowledged (n + 1) count
+
+-- picture 0 is acknowledged, 1 and 2 are lost, and 3 arrives
+abbrev pub window_scene : Scene
+window_scene = record {
+  rules = rules_of 4 1;
+  frames = replicate 4 (flat 100);
+  events = seen 0 1 ++ Back 0 ∷ lost 2 ++ seen 3 1;
+}
+
+-- picture 0 arrives, 1 is lost, and its NACK comes back
+abbrev pub offer_scene : Scene
+offer_scene = record {
+  rules = rules_of 4 1;
+  frames = replicate 3 (flat 100);
+  events = seen 0 1 ++ lost 1 ++ Back 1 ∷ seen 2 1;
+}
+
+-- picture 0 arrives, and four are lost
+abbrev pub far_offer_scene : Scene
+far_offer_scene = record {
+  rules = rules_of 4 1;
+  frames = replicate 5 (flat 100);
+  events = seen 0 1 ++ lost 4;
+}
+
+-- all arrive and are acknowledged
+abbrev pub chain_scene : Scene
+chain_scene = record {
+  rules = rules_of 4 1;
+  frames = replicate 133 (flat 100);
+  events = acknowledged 0 133;
+}
+
+-- the second half comes after the play
+abbrev pub late_scene : Scene
+late_scene = record {
+  rules = rules_of 4 1;
+  frames = flat 100 ∷ [];
+  events = Send ∷ Deliver 0 0 ∷ Play ∷ Deliver 0 1 ∷ [];
+}
+
+-- each half comes twice, the second half first
+abbrev pub shuffled_scene : Scene
+shuffled_scene = record {
+  rules = rules_of 4 1;
+  frames = flat 100 ∷ [];
+  events = Send ∷ Deliver 0 1 ∷ Deliver 0 1 ∷ Deliver 0 0 ∷ Deliver 0 0 ∷ Play ∷ [];
+}
+
+-- picture 0 is acknowledged, half of picture 1 comes, its NACK comes back, and picture 2 arrives
+abbrev pub patched_scene : Scene
+patched_scene = record {
+  rules = rules_of 4 1;
+  frames = flat 100 ∷ flat 50 ∷ flat 100 ∷ [];
+  events = acknowledged 0 1 ++ Send ∷ Deliver 1 0 ∷ Play ∷ Back 1 ∷ seen 2 1;
+}
+
+-- pictures 0 to 3 arrive, 4 to 258 are lost, 259 arrives and is acknowledged, and 260 arrives
+abbrev pub wrap_scene : Scene
+wrap_scene = record {
+  rules = rules_of 5 1;
+  frames = replicate 3 (flat 100) ++ flat 50 ∷ replicate 257 (flat 100);
+  events = seen 0 4 ++ lost 255 ++ acknowledged 259 1 ++ seen 260 1;
+}

@@ -1,0 +1,5 @@
+pub mod Gains
+pub mod Roles
+pub mod Inputs
+pub mod Outputs
+pub mod Fronts

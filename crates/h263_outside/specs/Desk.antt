@@ -1,0 +1,126 @@
+-- What a program sees of the outside, and what each call of a desk does to it.
+use Rattle.std.specs.Prelude.{◌≡◌, ◌⊎◌, ℕ, ◌+◌, ◌-◌, ◌^◌, ◌<◌, ◌≤◌, ◌==◌, min, Bool, false, List, ◌++◌, length, take, drop, [], Option, if◌then◌else◌}
+use Rattle.std.specs.Option.{option_map}
+use Rattle.h263_outside.specs.declared.desk.Role.{Role}
+use Rattle.h263_outside.specs.declared.desk.Role.TheVariants.{Video, Events, Pictures, Wire, Report}
+
+-- how often each call has failed, up to 2^64 - 1
+pub record Faults : Type 0 where
+  pub attach : ℕ
+  pub read : ℕ
+  pub write : ℕ
+
+-- the meaning of a desk: for each role whether it is attached, and, where told, its name, what is left to read and what was written
+pub record Outside : Type 0 where
+  pub attached : Role → Bool
+  pub name : Role → Option (List ℕ)
+  pub left : Role → Option (List ℕ)
+  pub written : Role → Option (List ℕ)
+  pub faults : Faults
+
+-- the roles in their order, by number
+abbrev pub role_number : Role → ℕ
+role_number Video = 0
+role_number Events = 1
+role_number Pictures = 2
+role_number Wire = 3
+role_number Report = 4
+
+-- whether two roles are the same
+abbrev pub is_role : Role → Role → Bool
+is_role role other = role_number role == role_number other
+
+-- a role that is read
+abbrev pub IsInput : Role → Type 0
+IsInput Video = Unit {0}
+IsInput Events = Unit {0}
+IsInput Pictures = ⊥
+IsInput Wire = ⊥
+IsInput Report = ⊥
+
+-- a role that is written
+abbrev pub IsOutput : Role → Type 0
+IsOutput Video = ⊥
+IsOutput Events = ⊥
+IsOutput Pictures = Unit {0}
+IsOutput Wire = Unit {0}
+IsOutput Report = Unit {0}
+
+-- f, with another value at one role
+abbrev pub with_role : {A : Type 0} → (Role → A) → Role → A → Role → A
+with_role f role x r = if is_role role r then x else f r
+
+-- no role is attached
+abbrev pub NoneAttached : (Role → Bool) → Type 0
+NoneAttached attached = attached ≡ (λ _. false)
+
+-- the role has gained these bytes at its end, where what was written is told
+abbrev pub appended : (Role → Option (List ℕ)) → Role → List ℕ → Role → Option (List ℕ)
+appended written role bytes r = if is_role role r then option_map (λ old. old ++ bytes) (written r) else written r
+
+-- the role has gained a front of these bytes, and the rest of them not
+pub record GainsFront (role : Role) (all : List ℕ) (old new : Role → Option (List ℕ)) : Type 0 where
+  pub front : List ℕ
+  pub rest : List ℕ
+  pub whole : front ++ rest ≡ all
+  pub gained : new ≡ appended old role front
+
+-- the role has lost n bytes at the front, where what is left is told
+abbrev pub consumed : (Role → Option (List ℕ)) → Role → ℕ → Role → Option (List ℕ)
+consumed left role n r = if is_role role r then option_map (λ old. drop n old) (left r) else left r
+
+-- the role has lost some bytes at the front, fewer than the limit
+pub record LosesFront (role : Role) (limit : ℕ) (old new : Role → Option (List ℕ)) : Type 0 where
+  pub count : ℕ
+  pub fewer : count < limit
+  pub lost : new ≡ consumed old role count
+
+-- what was read, k bytes at the front of the buffer, is what was first left; it is nothing only at the end
+pub record IsFront (left buf : List ℕ) (k : ℕ) : Type 0 where
+  pub within : k ≤ length left
+  pub same : take k buf ≡ take k left
+  pub ends : k ≡ 0 → left ≡ []
+
+-- what was read is what was first left, and fills the buffer unless it is all that was left
+pub record FillsFront (left buf : List ℕ) (k : ℕ) : Type 0 where
+  pub within : k ≤ length left
+  pub same : take k buf ≡ take k left
+  pub ends : k < length buf → k ≡ length left
+
+-- a count is greater than before, or stands at its end
+abbrev pub Rose : ℕ → ℕ → Type 0
+Rose before now = (before < now) ⊎ (2 ^ 64 - 1 ≤ now)
+
+-- a count and one more, or its end
+abbrev pub raised_count : ℕ → ℕ
+raised_count n = min (n + 1) (2 ^ 64 - 1)
+
+-- no count falls
+pub record NoneFalls (old new : Faults) : Type 0 where
+  pub attach : old.attach ≤ new.attach
+  pub read : old.read ≤ new.read
+  pub write : old.write ≤ new.write
+
+-- some count rose
+abbrev pub SomeRose : Faults → Faults → Type 0
+SomeRose old new = Rose old.attach new.attach ⊎ Rose old.read new.read ⊎ Rose old.write new.write
+
+-- nothing changes but what is attached, and by which name
+pub record OnlyAttaches (old new : Outside) : Type 0 where
+  pub left : new.left ≡ old.left
+  pub written : new.written ≡ old.written
+  pub faults : NoneFalls old.faults new.faults
+
+-- nothing changes but what is left
+pub record OnlyReads (old new : Outside) : Type 0 where
+  pub attached : new.attached ≡ old.attached
+  pub name : new.name ≡ old.name
+  pub written : new.written ≡ old.written
+  pub faults : NoneFalls old.faults new.faults
+
+-- nothing changes but what was written
+pub record OnlyWrites (old new : Outside) : Type 0 where
+  pub attached : new.attached ≡ old.attached
+  pub name : new.name ≡ old.name
+  pub left : new.left ≡ old.left
+  pub faults : NoneFalls old.faults new.faults

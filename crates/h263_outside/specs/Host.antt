@@ -1,0 +1,16 @@
+-- What a desk over the host tells: which roles are attached, and its counts.
+use Rattle.std.specs.Prelude.{ℕ, Bool, None}
+use Rattle.h263_outside.specs.Desk.{Outside, Faults}
+use Rattle.h263_outside.specs.Memory.{by_role}
+
+abbrev pub silent_outside : Bool → Bool → Bool → Bool → Bool → ℕ → ℕ → ℕ → Outside
+silent_outside video events pictures wire report attaches reads writes = record {
+  attached = by_role video events pictures wire report;
+  name = λ _. None;
+  left = λ _. None;
+  written = λ _. None;
+  faults = record { attach = attaches; read = reads; write = writes };
+}
+
+abbrev pub no_faults : Faults
+no_faults = record { attach = 0; read = 0; write = 0 }

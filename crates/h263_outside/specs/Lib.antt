@@ -1,0 +1,4 @@
+pub mod Desk
+pub mod Gains
+pub mod Host
+pub mod Memory

@@ -1,0 +1,141 @@
+// The host's files and standard output: the trusted edge. What they hold is not told.
+ghost use Rattle.std.specs.Prelude.{◌≡◌, ◌≤◌, length, IfOk, is_some};
+
+use crate::memory::raised;
+use crate::{Desk, Failed, Role, Unattached};
+use std::fs;
+use std::io::{Read, Write};
+use std::rt::Runtime;
+
+/// A desk over a runtime: files by name for video, events, pictures and wire, where the last two are
+/// created or emptied, and standard output for the report. It tells neither names nor bytes.
+#[derive(Drop)]
+pub struct HostDesk<R: Runtime> {
+    rt: R,
+    video: Option<R::File>,
+    events: Option<R::File>,
+    pictures: Option<R::File>,
+    wire: Option<R::File>,
+    reports: bool,
+    attach_faults: u64,
+    read_faults: u64,
+    write_faults: u64,
+}
+
+impl<R: Runtime> HostDesk<R> {
+    ghost use Rattle.h263_outside.specs.Desk.{NoneAttached};
+    ghost use Rattle.h263_outside.specs.Host.{no_faults};
+
+    /// A desk with nothing attached, which opens its files and prints by this runtime.
+    pub fn new(rt: R) -> Self
+        ensures detached { NoneAttached (⟦<HostDesk<R> as Desk>⟧.outside result).attached }
+        ensures faults { (⟦<HostDesk<R> as Desk>⟧.outside result).faults ≡ no_faults }
+    {
+        HostDesk {
+            rt,
+            video: None,
+            events: None,
+            pictures: None,
+            wire: None,
+            reports: false,
+            attach_faults: 0,
+            read_faults: 0,
+            write_faults: 0,
+        }
+    }
+}
+
+fn read_file<F: Read>(file: &mut Option<F>, buf: &mut [u8]) -> Result<usize, Failed>
+    ensures count { IfOk result (λ k. k ≤ length buf.old) }
+    ensures open { is_some file.new ≡ is_some file.old }
+{
+    let Some(file) = file else {
+        return Err(Failed);
+    };
+    match file.read(buf) {
+        Ok(count) => Ok(count),
+        Err(_) => Err(Failed),
+    }
+}
+
+fn write_file<F: Write>(file: &mut Option<F>, bytes: &[u8]) -> Result<usize, Failed>
+    ensures count { IfOk result (λ k. k ≤ length bytes.now) }
+    ensures open { is_some file.new ≡ is_some file.old }
+{
+    let Some(file) = file else {
+        return Err(Failed);
+    };
+    match file.write(bytes) {
+        Ok(count) => Ok(count),
+        Err(_) => Err(Failed),
+    }
+}
+
+impl<R: Runtime> Desk for HostDesk<R> {
+    ghost use Rattle.h263_outside.specs.Host.{silent_outside};
+
+    ghost outside = { λ d. silent_outside (is_some d.video) (is_some d.events) (is_some d.pictures) (is_some d.wire) d.reports d.attach_faults d.read_faults d.write_faults };
+
+    fn attach(&mut self, role: Role, name: &str) -> Result<(), Unattached> {
+        match role {
+            Role::Video => {
+                if let Ok(file) = fs::open(&self.rt, name) {
+                    self.video = Some(file);
+                    return Ok(());
+                }
+            }
+            Role::Events => {
+                if let Ok(file) = fs::open(&self.rt, name) {
+                    self.events = Some(file);
+                    return Ok(());
+                }
+            }
+            Role::Pictures => {
+                if let Ok(file) = fs::create(&self.rt, name) {
+                    self.pictures = Some(file);
+                    return Ok(());
+                }
+            }
+            Role::Wire => {
+                if let Ok(file) = fs::create(&self.rt, name) {
+                    self.wire = Some(file);
+                    return Ok(());
+                }
+            }
+            Role::Report => {
+                self.reports = true;
+                return Ok(());
+            }
+        }
+        self.attach_faults = raised(self.attach_faults);
+        Err(Unattached::Failed)
+    }
+
+    fn read(&mut self, role: Role, buf: &mut [u8]) -> Result<usize, Failed> {
+        let outcome = match role {
+            Role::Video => read_file(&mut self.video, buf),
+            Role::Events => read_file(&mut self.events, buf),
+            _ => unreachable!(),
+        };
+        if outcome.is_err() {
+            self.read_faults = raised(self.read_faults);
+        }
+        outcome
+    }
+
+    fn write(&mut self, role: Role, bytes: &[u8]) -> Result<usize, Failed> {
+        let outcome = match role {
+            Role::Pictures => write_file(&mut self.pictures, bytes),
+            Role::Wire => write_file(&mut self.wire, bytes),
+            Role::Report => self.rt.write_some(bytes).map_err(|_| Failed),
+            _ => unreachable!(),
+        };
+        match outcome {
+            Ok(count) if count > 0 => Ok(count),
+            _ => {
+                self.write_faults = raised(self.write_faults);
+                Err(Failed)
+            }
+        }
+    }
+}

@@ -1,0 +1,130 @@
+// What no clause says: that calls succeed with ample memory, and that files hold what was written on the host.
+// Where memory ran out in a test its steps are taken again, and are then to reach their end.
+ghost use Rattle.std.specs.Prelude.{◌≡◌, ◌<◌, true, IfOk};
+ghost use Rattle.h263_outside.specs.Desk.{NoneAttached};
+ghost use Rattle.h263_outside.specs.Memory.{memory_outside};
+ghost use Rattle.h263_outside.specs.declared.desk.Role.TheVariants.{Video, Pictures};
+
+use super::*;
+use std::alloc::Global;
+use std::process::Abort;
+use std::test::Fail;
+
+// An attach that fails, and not for want of memory, fails again when the steps are taken again.
+impl From<Unattached> for OutOfMemory {
+    fn from(_: Unattached) -> Self {
+        OutOfMemory
+    }
+}
+
+// A desk with a video, attached as Video and Pictures by its first two calls, and one call that is to fail.
+fn opened(alloc: Global, piece: usize, failing: u64) -> Result<MemoryDesk, OutOfMemory>
+    requires { 0 < piece }
+    ensures video { IfOk result (λ desk. (memory_outside desk).attached Video ≡ true) }
+    ensures pictures { IfOk result (λ desk. (memory_outside desk).attached Pictures ≡ true) }
+{
+    let mut desk = MemoryDesk::new(alloc, piece, 5)?;
+    desk.put(Role::Video, b"RIFFWAVE")?;
+    desk.fail(failing)?;
+    desk.attach(Role::Video, "in")?;
+    desk.attach(Role::Pictures, "out")?;
+    Ok(desk)
+}
+
+#[test]
+fn starts(rt: HostRuntime) -> Result<(), Fail> {
+    if let Err(OutOfMemory) = start(&rt, rt.alloc()) {
+        start(&rt, rt.alloc())?;
+    }
+    Ok(())
+}
+
+fn start(rt: &impl Abort, alloc: Global) -> Result<(), OutOfMemory> {
+    let mut desk = MemoryDesk::new(alloc, 7, 100)?;
+    desk.put(Role::Video, b"RIFF")?;
+    desk.fail(3)?;
+    assert_eq!(rt; desk.text(Role::Pictures), b"".as_slice());
+    Ok(())
+}
+
+#[test]
+fn pieces_and_room(rt: HostRuntime) -> Result<(), Fail> {
+    if let Err(OutOfMemory) = move_pieces(&rt, rt.alloc()) {
+        move_pieces(&rt, rt.alloc())?;
+    }
+    Ok(())
+}
+
+fn move_pieces(rt: &impl Abort, alloc: Global) -> Result<(), OutOfMemory> {
+    let mut desk = opened(alloc, 3, 9)?;
+    let mut buf = [0; 6];
+    assert_eq!(rt; desk.read(Role::Video, &mut buf), Ok(3));
+    assert_eq!(rt; buf, *b"RIF\0\0\0");
+    assert_eq!(rt; desk.write(Role::Pictures, b"abcd"), Ok(3));
+    assert_eq!(rt; desk.write(Role::Pictures, b"defg"), Ok(2));
+    assert_eq!(rt; desk.write(Role::Pictures, b"f"), Err(Failed));
+    assert_eq!(rt; desk.text(Role::Pictures), b"abcde".as_slice());
+    Ok(())
+}
+
+#[test]
+fn whole_reads_and_writes(rt: HostRuntime) -> Result<(), Fail> {
+    for piece in [1, 3, 4096] {
+        if let Err(OutOfMemory) = move_whole(&rt, rt.alloc(), piece) {
+            move_whole(&rt, rt.alloc(), piece)?;
+        }
+    }
+    Ok(())
+}
+
+fn move_whole(rt: &impl Abort, alloc: Global, piece: usize) -> Result<(), OutOfMemory>
+    requires { 0 < piece }
+{
+    let mut desk = opened(alloc, piece, 99)?;
+    let mut buf = [0; 6];
+    assert_eq!(rt; read_full(&mut desk, Role::Video, &mut buf), Ok(6));
+    assert_eq!(rt; buf, *b"RIFFWA");
+    assert_eq!(rt; read_full(&mut desk, Role::Video, &mut buf), Ok(2));
+    assert_eq!(rt; buf, *b"VEFFWA");
+    assert_eq!(rt; read_full(&mut desk, Role::Video, &mut buf), Ok(0));
+    assert_eq!(rt; write_all(&mut desk, Role::Pictures, b"abc"), Ok(()));
+    assert_eq!(rt; write_all(&mut desk, Role::Pictures, b"defg"), Err(Failed));
+    assert_eq!(rt; desk.text(Role::Pictures), b"abcde".as_slice());
+    Ok(())
+}
+
+// In an empty folder: what is written as one role is read as another.
+#[test]
+fn files_of_the_host(rt: HostRuntime) -> Result<(), Fail> {
+    let mut desk = HostDesk::new(rt);
+    write_and_read(&mut desk)?;
+    Ok(())
+}
+
+fn write_and_read<D: Desk>(desk: &mut D) -> Result<(), &'static str>
+    requires { NoneAttached (D.outside desk.old).attached }
+{
+    if desk.attach(Role::Pictures, "written").is_err() {
+        return Err("a file is created");
+    }
+    if write_all(desk, Role::Pictures, b"FRAME").is_err() {
+        return Err("it is written");
+    }
+    if desk.attach(Role::Video, "written").is_err() {
+        return Err("it is opened");
+    }
+    let mut buf = [0; 6];
+    if read_full(desk, Role::Video, &mut buf) != Ok(5) || buf != *b"FRAME\0" {
+        return Err("it holds what was written");
+    }
+    if desk.attach(Role::Events, "missing") != Err(Unattached::Failed) {
+        return Err("a missing file is not opened");
+    }
+    if desk.attach(Role::Report, "").is_err() {
+        return Err("the report is opened");
+    }
+    if write_all(desk, Role::Report, b"a line\n").is_err() {
+        return Err("the report is written");
+    }
+    Ok(())
+}

@@ -1,0 +1,4 @@
+pub mod Ranges
+pub mod Pictures
+pub mod Runs
+pub mod Wholes

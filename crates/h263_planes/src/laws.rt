@@ -1,0 +1,24 @@
+//! What ties a picture to its samples and to its bytes. Each law is the contract of a function that does nothing.
+ghost use Rattle.std.specs.Prelude.{◌≡◌, ℕ, List, length};
+ghost use Rattle.h263_types.specs.declared.format.Format.{Format};
+ghost use Rattle.h263_types.specs.Sizes.{size_of_picture};
+ghost use Rattle.h263_planes.specs.Picture.{Picture};
+ghost use Rattle.h263_planes.specs.Layout.{picture_of};
+ghost use Rattle.h263_planes.specs.Samples.{IsPicture, HasSameSamples, bytes_of};
+
+/// Two pictures of one format that have the same sample at every place are the same picture.
+pub fn same_samples()
+    ensures { (p q : Picture) → IsPicture p → IsPicture q → p.format ≡ q.format → HasSameSamples p q → p ≡ q }
+{}
+
+/// A picture's bytes are its planes Y, Cb and Cr one after the other.
+pub fn bytes_are_planes()
+    ensures planes { (f : Format) (bytes : List ℕ) → length bytes ≡ size_of_picture f → bytes_of (picture_of f bytes) ≡ bytes }
+    ensures whole { (f : Format) (bytes : List ℕ) → length bytes ≡ size_of_picture f → IsPicture (picture_of f bytes) }
+{}
+
+/// The planes of a picture one after the other are bytes that hold it.
+pub fn planes_are_bytes()
+    ensures picture { (p : Picture) → IsPicture p → picture_of p.format (bytes_of p) ≡ p }
+    ensures size { (p : Picture) → IsPicture p → length (bytes_of p) ≡ size_of_picture p.format }
+{}

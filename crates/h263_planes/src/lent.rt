@@ -1,0 +1,57 @@
+//! A picture that is lent for reading.
+ghost use Rattle.std.specs.Prelude.{◌≡◌, length};
+ghost use Rattle.h263_types.specs.Sizes.{size_of_picture};
+
+use crate::Plane;
+use crate::layout::place;
+use h263_types::Format;
+
+/// A picture over bytes that hold its planes Y, Cb and Cr, each by rows from the top.
+#[derive(Clone, Copy)]
+pub struct PictureRef<'a> {
+    format: Format,
+    bytes: &'a [u8],
+    ghost whole: { length bytes.now ≡ size_of_picture format },
+}
+
+impl<'a> PictureRef<'a> {
+    ghost use Rattle.std.specs.Prelude.{◌≡◌, ℕ, ◌+◌, ◌<◌, length, slice_index};
+    ghost use Rattle.h263_types.specs.Sizes.{size_of_picture};
+    ghost use Rattle.h263_planes.specs.Layout.{picture_of};
+    ghost use Rattle.h263_planes.specs.Samples.{Inside, IsPicture, sample_at};
+    ghost use Rattle.h263_planes.specs.Lent.{picture};
+
+    /// The picture that `bytes` hold, `format.size()` of them.
+    pub fn new(format: Format, bytes: &'a [u8]) -> PictureRef<'a>
+        requires { length bytes.now ≡ size_of_picture format }
+        ensures picture { picture result ≡ picture_of format bytes.now }
+        ensures whole { IsPicture (picture result) }
+    {
+        PictureRef { format, bytes }
+    }
+
+    pub fn format(&self) -> Format
+        ensures format { result ≡ (picture self.now).format }
+        ensures whole { IsPicture (picture self.now) }
+    {
+        self.format
+    }
+
+    /// The sample in column `x` of row `y`, 0 to 255.
+    pub fn sample(&self, plane: Plane, x: u32, y: u32) -> u8
+        requires { Inside (picture self.now).format plane x y 1 }
+        ensures { result ≡ sample_at (picture self.now) plane x y }
+    {
+        self.bytes[place(self.format, plane, x, y)]
+    }
+
+    /// The `n` samples of row `y` from column `x` on, lent without a copy.
+    pub fn row(&self, plane: Plane, x: u32, y: u32, n: u32) -> &'a [u8]
+        requires { Inside (picture self.now).format plane x y n }
+        ensures length { length result.now ≡ n }
+        ensures samples { (i : ℕ) → i < n → slice_index result.now i ≡ sample_at (picture self.now) plane (x + i) y }
+    {
+        let at = place(self.format, plane, x, y);
+        &self.bytes[at..at + n as usize]
+    }
+}

@@ -1,0 +1,77 @@
+//! A picture that is lent for writing.
+ghost use Rattle.std.specs.Prelude.{◌≡◌, length};
+ghost use Rattle.h263_types.specs.Sizes.{size_of_picture};
+
+use crate::Plane;
+use crate::layout::place;
+use crate::lent::PictureRef;
+use h263_types::Format;
+
+/// A picture over bytes that may be written: its planes Y, Cb and Cr, each by rows from the top.
+#[derive(Drop)]
+pub struct PictureMut<'a> {
+    format: Format,
+    bytes: &'a mut [u8],
+    ghost whole: { length bytes.now ≡ size_of_picture format },
+}
+
+impl<'a> PictureMut<'a> {
+    ghost use Rattle.std.specs.Prelude.{◌≡◌, ℕ, ◌-◌, length, slice_index, if◌then◌else◌};
+    ghost use Rattle.h263_planes.specs.declared.Plane.{Plane};
+    ghost use Rattle.h263_types.specs.Sizes.{size_of_picture};
+    ghost use Rattle.h263_planes.specs.Layout.{picture_of};
+    ghost use Rattle.h263_planes.specs.Samples.{Inside, IsPicture, sample_at, with_sample, with_samples, in_run};
+    ghost use Rattle.h263_planes.specs.Lent.{picture};
+    ghost use Rattle.h263_planes.specs.Work.{work, loan_of};
+
+    /// The picture that `bytes` hold, `format.size()` of them, for writing.
+    pub fn new(format: Format, bytes: &'a mut [u8]) -> PictureMut<'a>
+        requires { length bytes.old ≡ size_of_picture format }
+        ensures same_loan { loan_of result ≡ bytes.entry.ghost_name }
+        ensures picture { work result ≡ picture_of format bytes.old }
+        ensures whole { IsPicture (work result) }
+    {
+        PictureMut { format, bytes }
+    }
+
+    pub fn format(&self) -> Format
+        ensures format { result ≡ (work self.now).format }
+        ensures whole { IsPicture (work self.now) }
+    {
+        self.format
+    }
+
+    /// Writes the sample in column `x` of row `y`.
+    pub fn set(&mut self, plane: Plane, x: u32, y: u32, value: u8)
+        requires { Inside (work self.old).format plane x y 1 }
+        ensures same_loan { loan_of self.new ≡ loan_of self.old }
+        ensures picture { work self.new ≡ with_sample (work self.old) plane x y value }
+        ensures format { (work self.new).format ≡ (work self.old).format }
+        ensures whole { IsPicture (work self.new) }
+        ensures samples { (other : Plane) (i j : ℕ) → Inside (work self.old).format other i j 1 → sample_at (work self.new) other i j ≡ (if in_run plane x y 1 other i j then value else sample_at (work self.old) other i j) }
+    {
+        let at = place(self.format, plane, x, y);
+        self.bytes[at] = value;
+    }
+
+    /// Writes `samples` into row `y` from column `x` on.
+    pub fn set_row(&mut self, plane: Plane, x: u32, y: u32, samples: &[u8])
+        requires { Inside (work self.old).format plane x y (length samples.now) }
+        ensures same_loan { loan_of self.new ≡ loan_of self.old }
+        ensures picture { work self.new ≡ with_samples (work self.old) plane x y samples.now }
+        ensures format { (work self.new).format ≡ (work self.old).format }
+        ensures whole { IsPicture (work self.new) }
+        ensures samples { (other : Plane) (i j : ℕ) → Inside (work self.old).format other i j 1 → sample_at (work self.new) other i j ≡ (if in_run plane x y (length samples.now) other i j then slice_index samples.now (i - x) else sample_at (work self.old) other i j) }
+    {
+        let from = place(self.format, plane, x, y);
+        self.bytes[from..from + samples.len()].copy_from_slice(samples);
+    }
+
+    /// The picture as it is now, for reading.
+    pub fn seen(&self) -> PictureRef<'_>
+        ensures picture { picture result ≡ work self.now }
+        ensures whole { IsPicture (picture result) }
+    {
+        PictureRef::new(self.format, &*self.bytes)
+    }
+}

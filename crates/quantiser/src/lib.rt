@@ -1,0 +1,62 @@
+//! Levels and the values that they stand for, by the quantiser (H.263, 6.2.1 and 6.2.2), and the levels of
+//! coefficients.
+#![tactic(auto)]
+
+ghost use Rattle.std.specs.Prelude.{◌≡◌, ℕ, ◌≤◌};
+ghost use Rattle.h263_types.specs.Blocks.{IsCoefficient, IsLevel, IsQuant, IsValue};
+ghost use Rattle.quantiser.specs.Levels.{inter_level, intra_level, signed_of, value_of};
+
+/// The value, -2048 to 2047, of a level from -127 to 127 that isn't an INTRADC value; `quant` is 1 to 31.
+pub fn value(quant: u8, level: i16) -> i16
+    requires quant { IsQuant quant }
+    requires level { IsLevel level }
+    ensures value { result ≡ value_of quant level }
+    ensures range { IsValue result }
+{
+    if level == 0 {
+        return 0;
+    }
+    let quant = u32::from(quant);
+    let size = quant * (2 * u32::from(level.unsigned_abs()) + 1) - (1 - quant % 2);
+    if level < 0 {
+        -(size.min(2048) as i16)
+    } else {
+        size.min(2047) as i16
+    }
+}
+
+/// The level, -127 to 127, of a coefficient of an inter block, within 65,535 of 0; `quant` is 1 to 31.
+pub fn level_inter(quant: u8, coefficient: i32) -> i16
+    requires quant { IsQuant quant }
+    requires coefficient { IsCoefficient coefficient }
+    ensures level { result ≡ inter_level quant coefficient }
+    ensures range { IsLevel result }
+{
+    let quant = u32::from(quant);
+    let size = coefficient.unsigned_abs().saturating_sub(quant / 2) / (2 * quant);
+    signed(coefficient, size.min(127) as i16)
+}
+
+/// The level, -127 to 127, of a coefficient of an intra block other than its first, within 65,535 of 0; `quant` is
+/// 1 to 31.
+pub fn level_intra(quant: u8, coefficient: i32) -> i16
+    requires quant { IsQuant quant }
+    requires coefficient { IsCoefficient coefficient }
+    ensures level { result ≡ intra_level quant coefficient }
+    ensures range { IsLevel result }
+{
+    let size = coefficient.unsigned_abs() / (2 * u32::from(quant));
+    signed(coefficient, size.min(127) as i16)
+}
+
+// `size`, 0 to 127, with the sign of `number`.
+fn signed(number: i32, size: i16) -> i16
+    requires { IsLevel size }
+    ensures value { result ≡ signed_of number size }
+    ensures range { IsLevel result }
+{
+    if number < 0 { -size } else { size }
+}
+
+#[cfg(test)]
+mod tests;
