@@ -98,9 +98,9 @@ faultless type urf tr marker rtr e =
     record {
       type_low = ltb-false type 2 n.0;
       urf_no = differs urf 1 n.1;
-      tr_low = omega (arith, ltb-false 255 tr b.0);
+      tr_low = ltb-false 255 tr b.0;
       marker_no = differs marker 0 c.0;
-      rtr_low = omega (arith, ltb-false 255 rtr d.0);
+      rtr_low = ltb-false 255 rtr d.0;
       pair = λ three. eqb-true tr rtr (both_not (type == 3) (tr == rtr) f.0 (eq-eqb type 3 three));
     }
 

@@ -10,7 +10,7 @@ use Rattle.h263_bits.specs.declared.fault.Fault.{Fault}
 use Rattle.h263_bits.specs.declared.fault.FaultKind.{FaultKind}
 use Rattle.h263_bits.specs.declared.fault.FaultKind.TheVariants.{Ended, BadCode}
 use Rattle.h263_bits.specs.Bits.{number, spelled, fields}
-use Rattle.h263_bits.specs.Reading.{Bits, Gives, Takes, ok, err, skip, number_at, ◌>>=◌}
+use Rattle.h263_bits.specs.Reading.{Bits, Gives, Takes, ok, err, first_fault, skip, number_at, ◌>>=◌}
 use Rattle.h263_bits.specs.Syntax.{Syntax, Allowed, IsIn, Words, begins, found, is_cut, taken, is_prefix_free, Turn, again, finally, done, field, code, part, element, repeat, refused, field_at, word_at, standing_at, turned, turns_at, either, Turns, Spells, reading, IsProductive}
 use Rattle.h263_bits.proofs.BitLists.{length-spelled, number-spelled, spelled-number, number-lt}
 
@@ -321,6 +321,11 @@ texts_read {X} {A} view s r old new each g a text rest spelt parts = at_result r
         let f = ok_is (view x, new) (a, from (old.at + length text) rest) (sym g ∙ whole) in
         (ap (λ (p : A × Bits). p.0) f, ap (λ (p : A × Bits). p.1.bits) f)
     at_result (Err e) g = err_not_ok e (a, from (old.at + length text) rest) (sym g ∙ whole)
+
+-- The fault of the call is the first one of the reading.
+pub reads_fault : {X Y : Type 0} (view : X → Y) (r : Result X Fault) (left : Bits) (read : Result (Y × Bits) Fault) → Gives view r left read → first_fault r ≡ first_fault read
+reads_fault view (Ok x) left read g = ap first_fault (sym g)
+reads_fault view (Err e) left read g = ap first_fault (sym g)
 
 -- ---- what a writer's text spells, step by step
 

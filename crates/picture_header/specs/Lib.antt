@@ -1,0 +1,4 @@
+pub mod Text
+pub mod Back
+pub mod Written
+pub mod Ranges

@@ -1,0 +1,154 @@
+-- The picture header (H.263, 5.1, with Annexes K and N on): its fields in their order, from the last bits of the start code to the last PEI.
+use Rattle.std.specs.Prelude.{Bool, ℕ, ◌-◌, List, [], ◌∷◌, ◌++◌, length, take, map, Option, Some, None, nat_lt, ◌==◌, if◌then◌else◌}
+use Rattle.h263_types.specs.declared.format.Format.{Format}
+use Rattle.h263_types.specs.declared.format.Format.TheVariants.{SubQcif, Qcif, Cif}
+use Rattle.h263_types.specs.declared.Kind.{Kind}
+use Rattle.h263_types.specs.declared.Kind.TheVariants as kinds
+use Rattle.picture_header.specs.declared.header.Header.{Header}
+use Rattle.h263_bits.specs.declared.fault.FaultKind.TheVariants as faults
+use Rattle.h263_bits.specs.declared.fault.Fault.{Fault}
+use Rattle.h263_bits.specs.Reading.{Bits, first_fault}
+use Rattle.h263_bits.specs.Syntax.{Syntax, either, Allowed, any, only, done, field, element, part, repeat, Turn, again, finally, Spells, reading}
+use Rattle.back_messages.specs.declared.Message.{Message}
+use Rattle.back_messages.specs.Text.{message}
+
+-- ---- the fields whose values are chosen
+
+abbrev pub format_code : Format → ℕ
+format_code SubQcif = 1
+format_code Qcif = 2
+format_code Cif = 3
+
+-- a number of a source format, and the one that is expected
+abbrev pub is_format : Format → Allowed ℕ
+is_format format n =
+    if n == format_code format then None
+    else if (nat_lt 0 n) then (if nat_lt n 4 then Some faults.OtherFormat else Some faults.SourceFormat) else Some faults.SourceFormat
+
+abbrev pub is_kind : Allowed ℕ
+is_kind n = if nat_lt n 2 then None else Some faults.PictureKind
+
+abbrev pub kind_of : ℕ → Kind
+kind_of n = if n == 0 then kinds.I else kinds.P
+
+abbrev pub is_channel : Allowed ℕ
+is_channel n = if nat_lt n 4 then Some faults.Rpsmf else None
+
+-- TRPI
+abbrev pub is_referring : Kind → Allowed ℕ
+is_referring kinds.I = only 0 faults.IntraReference
+is_referring kinds.P = only 1 faults.NoReference
+
+abbrev pub is_low : Allowed ℕ
+is_low n = if nat_lt 255 n then Some faults.HighBits else None
+
+abbrev pub is_quant : Allowed ℕ
+is_quant n = if n == 0 then Some faults.Quant else None
+
+-- ---- the header, part by part
+
+-- the rest of the start code, TR and PTYPE (5.1.1 to 5.1.3)
+unfoldable pub opening : Syntax ℕ
+opening =
+    field 6 (only 32 faults.NoStart) λ start.
+    field 8 any λ tr.
+    field 2 (only 2 faults.PictureType) λ type.
+    field 3 any λ display.
+    field 3 (only 7 faults.PictureType) λ extended.
+    done tr
+
+-- PLUSPTYPE: UFEP, OPPTYPE and MPPTYPE (5.1.4)
+unfoldable pub plus_type : Format → Syntax (Kind × ℕ)
+plus_type format =
+    field 3 (only 1 faults.Ufep) λ ufep.
+    field 3 (is_format format) λ source.
+    field 1 (only 0 faults.CustomClock) λ clock.
+    field 10 (only 24 faults.Modes) λ modes.
+    field 4 (only 8 faults.Marker) λ tail.
+    field 3 is_kind λ kind.
+    field 2 (only 0 faults.Resampling) λ resampling.
+    field 1 any λ rounding.
+    field 3 (only 1 faults.Marker) λ end.
+    done (kind_of kind, rounding)
+
+-- TRPI, and TRP in a picture that refers to another (5.1.14, 5.1.15)
+unfoldable pub reference : Kind → Syntax (Option ℕ)
+reference kinds.I = field 1 (only 0 faults.IntraReference) λ refers. done None
+reference kinds.P =
+    field 1 (only 1 faults.NoReference) λ refers.
+    field 10 is_low λ trp.
+    done (Some trp)
+
+-- PEI, and the byte behind a 1, which is passed over (5.1.24, 5.1.25)
+unfoldable pub extra_turn : Unit {0} → Syntax (Turn (Unit {0}) (Unit {0}))
+extra_turn u =
+    field 1 any λ pei.
+    either (pei == 0) (done (finally tt)) (field 8 any λ psupp. done (again tt))
+
+unfoldable pub extra : Syntax (Unit {0})
+extra = repeat tt extra_turn
+
+-- ---- messages
+
+-- at the fifth BCI 1 there are too many messages
+abbrev pub has_room : ℕ → Allowed ℕ
+has_room used more = if more == 0 then None else if nat_lt used 4 then None else Some faults.ManyMessages
+
+-- BCI: 1, or 01 for the end (5.1.16)
+unfoldable pub bci : Syntax ℕ
+bci =
+    field 1 any λ more.
+    either (more == 0) (field 1 (only 1 faults.Bci) λ end. done 0) (done 1)
+
+-- BCI and a message, or BCI alone (5.1.17)
+unfoldable pub next_message : ℕ → Syntax (Option Message)
+next_message used =
+    element bci (has_room used) λ more.
+    either (more == 0) (done None) (part message any λ m. done (Some m))
+
+abbrev pub after_message : List Message → Option Message → Turn (List Message) (List Message)
+after_message messages None = finally messages
+after_message messages (Some m) = again (messages ++ m ∷ [])
+
+unfoldable pub back_turn : List Message → Syntax (Turn (List Message) (List Message))
+back_turn messages = part (next_message (length messages)) any λ next. done (after_message messages next)
+
+unfoldable pub back : Syntax (List Message)
+back = repeat [] back_turn
+
+-- the messages first, in four places
+abbrev pub in_places : List Message → List (Option Message)
+in_places messages = take 4 (map Some messages ++ None ∷ None ∷ None ∷ None ∷ [])
+
+-- ---- the whole header
+
+-- CPM, SSS and RPSMF (5.1.20, 5.1.10, 5.1.13)
+unfoldable pub channel : Syntax ℕ
+channel =
+    field 1 (only 0 faults.Cpm) λ cpm.
+    field 2 (only 0 faults.SliceMode) λ sss.
+    field 3 is_channel λ rpsmf.
+    done (rpsmf - 4)
+
+-- PQUANT (5.1.19)
+unfoldable pub quant : Syntax ℕ
+quant = field 5 is_quant λ quant. done quant
+
+unfoldable pub header : Format → Syntax Header
+header format =
+    part opening any λ tr.
+    part (plus_type format) any λ type.
+    part channel any λ channel.
+    part (reference type.0) any λ trp.
+    part back any λ messages.
+    part quant any λ quant.
+    part extra any λ end.
+    done (record { tr = tr; format = format; kind = type.0; rounding = type.1; channel = channel; trp = trp; quant = quant; back = in_places messages })
+
+-- the bits are a text of the header: its fields, and free values where the header keeps none
+abbrev pub HeaderText : Format → Header → List Bool → Type 0
+HeaderText format h bits = Spells (header format) h bits
+
+-- the first fault of a header in bits from a place on, if there is one
+abbrev pub header_fault : Format → Bits → Option Fault
+header_fault format b = first_fault (reading (header format) b)

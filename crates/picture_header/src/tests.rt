@@ -1,0 +1,151 @@
+//! The header's bits in bytes, and each fault at its place.
+use super::*;
+use back_messages::Message;
+use h263_bits::{BitReader, BitWriter, Fault, FaultKind};
+use h263_types::{Format, Kind};
+use std::test::Fail;
+
+/// A P picture of QCIF: TR 5, rounding 1, RPSMF 111, TRP 4, PQUANT 8. A space stands between fields.
+const P_HEADER: &str =
+    "100000 00000101 10 010 111 001 010 0 0000011000 1000 001 00 1 001 0 00 111 1 0000000100 01 01000 0";
+
+/// Puts a text of zeros and ones into bytes from place `from` up to place `to` at most. Answers where it ends.
+fn put_text(bytes: &mut [u8; 32], from: u32, to: u32, text: &str) -> u32 {
+    let mut place = from;
+    for digit in text.as_bytes() {
+        if *digit != b' ' && place < to && place < 256 {
+            bytes[(place / 8) as usize] |= (*digit & 1) << (7 - place % 8);
+            place += 1;
+        }
+    }
+    place
+}
+
+/// The header in the first `keep` bits of the P picture's header and in the text behind them, or its fault.
+fn read_changed(format: Format, keep: u32, text: &str) -> Result<Header, Fault> {
+    let mut bytes = [0; 32];
+    let kept = put_text(&mut bytes, 0, keep, P_HEADER);
+    let end = put_text(&mut bytes, kept, 256, text);
+    let mut reader = BitReader::new(&bytes, 0, end.min(256));
+    read_header(&mut reader, format)
+}
+
+#[test]
+fn one_flat_picture(rt: HostRuntime) -> Result<(), Fail> {
+    let bytes = [0x80, 0x02, 0x1c, 0x90, 0x31, 0x00, 0x11, 0xca, 0x00, 0xff];
+    let mut reader = BitReader::new(&bytes, 0, 80);
+    let header = read_header(&mut reader, Format::SubQcif)?;
+    let want = Header {
+        tr: 0,
+        format: Format::SubQcif,
+        kind: Kind::I,
+        rounding: 0,
+        channel: 3,
+        trp: None,
+        quant: 8,
+        back: [None; 4],
+    };
+    assert_eq!(rt; header, want);
+    assert_eq!(rt; reader.at(), 67);
+    assert_eq!(rt; header_bits(&header), 67);
+    let mut written = [0xff; 9];
+    let mut writer = BitWriter::new(&mut written);
+    write_header(&mut writer, &header);
+    writer.align();
+    assert_eq!(rt; &written[..], &bytes[..9]);
+    Ok(())
+}
+
+#[test]
+fn four_messages_and_psupp(rt: HostRuntime) -> Result<(), Fail> {
+    let mut bytes = [0; 32];
+    let kept = put_text(&mut bytes, 0, 69, P_HEADER);
+    let ack = "1 11 0 0000000011 1 0000000011";
+    let nack = "1 10 0 0011111111 1 0000000000";
+    let mut end = kept;
+    for message in [ack, nack, ack, nack] {
+        end = put_text(&mut bytes, end, 256, message);
+    }
+    end = put_text(&mut bytes, end, 256, "01 11111 1 10101010 1 11111111 0 1");
+    let mut reader = BitReader::new(&bytes, 0, end.min(256));
+    let header = read_header(&mut reader, Format::Qcif)?;
+    let want = Header {
+        tr: 5,
+        format: Format::Qcif,
+        kind: Kind::P,
+        rounding: 1,
+        channel: 3,
+        trp: Some(4),
+        quant: 31,
+        back: [
+            Some(Message::Ack { tr: 3 }),
+            Some(Message::Nack { tr: 255, rtr: 0 }),
+            Some(Message::Ack { tr: 3 }),
+            Some(Message::Nack { tr: 255, rtr: 0 }),
+        ],
+    };
+    assert_eq!(rt; header, want);
+    assert_eq!(rt; reader.rest(), 1);
+    assert_eq!(rt; header_bits(&header), 177);
+    let mut written = [0; 32];
+    let mut writer = BitWriter::new(&mut written);
+    write_header(&mut writer, &header);
+    let mut reader = BitReader::new(&written, 0, 177);
+    assert_eq!(rt; read_header(&mut reader, Format::Qcif), Ok(want));
+    assert_eq!(rt; reader.rest(), 0);
+    Ok(())
+}
+
+#[test]
+fn first_faults(rt: HostRuntime) {
+    let table = [
+        (0, "100001", FaultKind::NoStart, 0),
+        (14, "11", FaultKind::PictureType, 14),
+        (19, "110", FaultKind::PictureType, 19),
+        (22, "000", FaultKind::Ufep, 22),
+        (25, "000", FaultKind::SourceFormat, 25),
+        (25, "100", FaultKind::SourceFormat, 25),
+        (25, "011", FaultKind::OtherFormat, 25),
+        (28, "1", FaultKind::CustomClock, 28),
+        (29, "0000011001", FaultKind::Modes, 29),
+        (39, "1001", FaultKind::Marker, 39),
+        (43, "010", FaultKind::PictureKind, 43),
+        (46, "10", FaultKind::Resampling, 46),
+        (49, "000", FaultKind::Marker, 49),
+        (52, "1", FaultKind::Cpm, 52),
+        (53, "01", FaultKind::SliceMode, 53),
+        (55, "011", FaultKind::Rpsmf, 55),
+        (58, "0", FaultKind::NoReference, 58),
+        (43, "000 00 1 001 0 00 111 1", FaultKind::IntraReference, 58),
+        (59, "0100000000", FaultKind::HighBits, 59),
+        (69, "00", FaultKind::Bci, 69),
+        (
+            69,
+            "1 11 0 0000000011 1 0000000010",
+            FaultKind::Messages,
+            70,
+        ),
+        (71, "00000", FaultKind::Quant, 71),
+        (0, "", FaultKind::Ended, 0),
+        (29, "000001100", FaultKind::Ended, 29),
+        (69, "0", FaultKind::Ended, 69),
+        (69, "1 11 0 0000000011 1 000000001", FaultKind::Ended, 70),
+        (76, "1 1111111", FaultKind::Ended, 77),
+        (76, "1 11111111", FaultKind::Ended, 85),
+    ];
+    for (keep, text, kind, at) in table {
+        let fault = Fault { kind, at };
+        assert_eq!(rt;
+            read_changed(Format::Qcif, keep, text),
+            Err(fault),
+            "{text} at place {keep}"
+        );
+    }
+    let five =
+        "1 11 0 0000000000 1 0000000000 1 11 0 0000000001 1 0000000001 1 11 0 0000000010 1 0000000010 1 11 0 0000000011 1 0000000011 1";
+    let many = Fault {
+        kind: FaultKind::ManyMessages,
+        at: 169,
+    };
+    assert_eq!(rt; read_changed(Format::Qcif, 69, five), Err(many));
+}
