@@ -70,7 +70,7 @@ pass_of d f k {c0} {c1} {c2} {c3} {c4} {c5} {c6} {c7} e0 e1 e2 e3 e4 e5 e6 e7 =
     (ap (λ z. factor d 4 k *ℤ z) e4) (ap (λ z. factor d 5 k *ℤ z) e5) (ap (λ z. factor d 6 k *ℤ z) e6) (ap (λ z. factor d 7 k *ℤ z) e7))
 
 -- a number that was passed
-pub passed : {z e : ℤ} → Within (2 ^ 31) z → z ≡ e → to_z w64 (of_z w64 z) ≡ e
+pub passed : {z e : ℤ} → Within (2 ^ 30) z → z ≡ e → to_z w64 (of_z w64 z) ≡ e
 passed {z} {e} h q = omega (arith, ints)
 
 pub within_same : (m n : ℕ) {z e : ℤ} → m ≤ n → z ≡ e → Within m e → Within n z

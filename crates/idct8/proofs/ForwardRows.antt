@@ -14,11 +14,30 @@ plain_sum {r} a b ha hb e = omega (arith, ints)
 pub plain_difference : {r : ℤ} (a b : ℤ) → Within (2 ^ 31) a → Within (2 ^ 31) b → r ≡ to_z w64 (of_z w64 a) -ℤ to_z w64 (of_z w64 b) → r ≡ a -ℤ b
 plain_difference {r} a b ha hb e = omega (arith, ints)
 
+pub wider : {z : ℤ} → Within (2 ^ 30) z → Within (2 ^ 31) z
+wider {z} h = omega (arith, ints)
+
 pub fits : {z : ℤ} → Within (2 ^ 32) z → FitsSigned w64 z
 fits {z} h = omega (arith, ints)
 
 pub plain : {z : ℤ} → Within (2 ^ 46) z → to_z w64 (of_z w64 z) ≡ z
 plain {z} h = omega (arith, ints)
+
+pub narrow : {z : ℤ} → Within (2 ^ 45) z → Within (2 ^ 46) z
+narrow {z} h = omega (arith, ints)
+
+-- an even sum, from the pairs of pairs
+pub even_0 : {d q0 q1 : ℤ} (p0 p1 p2 p3 : ℤ) → d ≡ pos 2048 *ℤ q0 +ℤ pos 2048 *ℤ q1 → q0 ≡ p0 +ℤ p3 → q1 ≡ p1 +ℤ p2 → d ≡ pos 2048 *ℤ p0 +ℤ pos 2048 *ℤ p1 +ℤ pos 2048 *ℤ p2 +ℤ pos 2048 *ℤ p3
+even_0 {d} {q0} {q1} p0 p1 p2 p3 e e0 e1 = omega (arith, ints)
+
+pub even_2 : {d q0 q1 : ℤ} (p0 p1 p2 p3 : ℤ) → d ≡ pos 2676 *ℤ q0 +ℤ pos 1108 *ℤ q1 → q0 ≡ p0 -ℤ p3 → q1 ≡ p1 -ℤ p2 → d ≡ pos 2676 *ℤ p0 +ℤ pos 1108 *ℤ p1 +ℤ neg_ℤ (pos 1108) *ℤ p2 +ℤ neg_ℤ (pos 2676) *ℤ p3
+even_2 {d} {q0} {q1} p0 p1 p2 p3 e e0 e1 = omega (arith, ints)
+
+pub even_4 : {d q0 q1 : ℤ} (p0 p1 p2 p3 : ℤ) → d ≡ pos 2048 *ℤ q0 +ℤ neg_ℤ (pos 2048) *ℤ q1 → q0 ≡ p0 +ℤ p3 → q1 ≡ p1 +ℤ p2 → d ≡ pos 2048 *ℤ p0 +ℤ neg_ℤ (pos 2048) *ℤ p1 +ℤ neg_ℤ (pos 2048) *ℤ p2 +ℤ pos 2048 *ℤ p3
+even_4 {d} {q0} {q1} p0 p1 p2 p3 e e0 e1 = omega (arith, ints)
+
+pub even_6 : {d q0 q1 : ℤ} (p0 p1 p2 p3 : ℤ) → d ≡ pos 1108 *ℤ q0 +ℤ neg_ℤ (pos 2676) *ℤ q1 → q0 ≡ p0 -ℤ p3 → q1 ≡ p1 -ℤ p2 → d ≡ pos 1108 *ℤ p0 +ℤ neg_ℤ (pos 2676) *ℤ p1 +ℤ pos 2676 *ℤ p2 +ℤ neg_ℤ (pos 1108) *ℤ p3
+even_6 {d} {q0} {q1} p0 p1 p2 p3 e e0 e1 = omega (arith, ints)
 
 module _ (s0 s1 s2 s3 s4 s5 s6 s7 : ℤ) where
   forward_0 : pass_at Forward (s0 ∷ s1 ∷ s2 ∷ s3 ∷ s4 ∷ s5 ∷ s6 ∷ s7 ∷ []) 0 ≡ pos 0 +ℤ pos 2048 *ℤ s0 +ℤ pos 2048 *ℤ s1 +ℤ pos 2048 *ℤ s2 +ℤ pos 2048 *ℤ s3 +ℤ pos 2048 *ℤ s4 +ℤ pos 2048 *ℤ s5 +ℤ pos 2048 *ℤ s6 +ℤ pos 2048 *ℤ s7

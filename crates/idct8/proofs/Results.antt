@@ -8,7 +8,7 @@ use Rattle.idct8.specs.declared.passes.Direction.TheVariants.{Inverse, Forward}
 use Rattle.idct8.specs.Sums.{sum_below}
 use Rattle.idct8.specs.Ranges.{IsSample, Within}
 use Rattle.idct8.specs.Transform.{entry, rounded, inverse_at, forward_at}
-use Rattle.idct8.specs.Passes.{factor, column_sums, transform_at}
+use Rattle.idct8.specs.Passes.{factor, column_sums}
 use Rattle.idct8.proofs.Sums.{same_sum, factor_sum, times_assoc}
 use Rattle.idct8.proofs.Factors.{within_pass, within_same}
 

@@ -1,5 +1,5 @@
 -- The steps of the loops that fill a block, and the two passes together.
-use Rattle.std.proofs.Common.{◌≡◌, ℕ, ◌+◌, ◌*◌, ◌<◌, ◌≢◌, ℤ, pos, ◌*ℤ◌, arith, ap, ◌∙◌, sym, subst, slice_set, List, length, get_or, below_more, get_or-set_same, get_or-set_other}
+use Rattle.std.proofs.Common.{◌≡◌, ℕ, ◌+◌, ◌*◌, ◌<◌, ◌≢◌, ℤ, pos, ◌*ℤ◌, arith, ap, ◌∙◌, sym, subst, slice_set, List, length, below_more, get_or-set_same, get_or-set_other}
 use Rattle.idct8.specs.declared.passes.Direction.{Direction}
 use Rattle.idct8.specs.Sums.{sum_below}
 use Rattle.idct8.specs.Transform.{entry, rounded}

@@ -1,5 +1,5 @@
 -- Sums of signed terms.
-use Rattle.std.proofs.Common.{◌≡◌, ℕ, ◌+◌, ◌*◌, ◌<◌, zero, suc, ℤ, pos, ◌+ℤ◌, ◌*ℤ◌, arith, refl, ap, ◌∙◌}
+use Rattle.std.proofs.Common.{◌≡◌, ℕ, ◌+◌, ◌*◌, ◌<◌, zero, suc, ℤ, ◌+ℤ◌, ◌*ℤ◌, arith, refl, ap, ◌∙◌}
 use borrow.Author.Differences.{up, down, product_is}
 use Rattle.std.proofs.lemmas.Int.{ints}
 use Rattle.idct8.specs.Sums.{sum_below}

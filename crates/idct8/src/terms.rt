@@ -45,6 +45,19 @@ pub(crate) fn dot(m0: i64, c0: i64, m1: i64, c1: i64, m2: i64, c2: i64, m3: i64,
 // The sum and the difference of two inputs.
 #[inline(always)]
 pub(crate) fn pair(a: i64, b: i64) -> (i64, i64)
+    requires a { Within (2 ^ 30) a }
+    requires b { Within (2 ^ 30) b }
+    ensures sum { result.0 ≡ a +ℤ b }
+    ensures difference { result.1 ≡ a -ℤ b }
+    ensures sum_size { Within (2 ^ 31) result.0 }
+    ensures difference_size { Within (2 ^ 32) result.1 }
+{
+    (a + b, a - b)
+}
+
+// The sum and the difference of two sums of two inputs.
+#[inline(always)]
+pub(crate) fn pair_of_sums(a: i64, b: i64) -> (i64, i64)
     requires a { Within (2 ^ 31) a }
     requires b { Within (2 ^ 31) b }
     ensures sum { result.0 ≡ a +ℤ b }

@@ -45,7 +45,7 @@ fn transform(block: &[i16; 64], direction: Direction, out: &mut [i32; 64])
 
 // The first pass, over each column.
 #[inline(always)]
-fn columns(block: &[i16; 64], direction: Direction, mid: &mut [i64; 64])
+fn columns(block: &[i16; 64], direction: Direction, mid: &mut [i32; 64])
     requires { All (Within (2 ^ 12)) block.now }
     ensures sums { (r i : ℕ) → r < 8 → i < 8 → entry mid.new r i ≡ column_sums direction block.now r i }
     ensures small { (r i : ℕ) → r < 8 → i < 8 → Within (2 ^ 27) (entry mid.new r i) }
@@ -53,7 +53,7 @@ fn columns(block: &[i16; 64], direction: Direction, mid: &mut [i64; 64])
     for i in 0..8 {
         let sums = column(block, i, direction);
         for r in 0..8 {
-            mid[8 * r + i] = sums[r];
+            mid[8 * r + i] = sums[r] as i32;
         }
     }
 }
@@ -91,7 +91,7 @@ fn number(block: &[i16; 64], j: usize, i: usize) -> i64
 
 // The second pass, over each row, and the rounding.
 #[inline(always)]
-fn rows(mid: &[i64; 64], direction: Direction, out: &mut [i32; 64])
+fn rows(mid: &[i32; 64], direction: Direction, out: &mut [i32; 64])
     requires { (r i : ℕ) → r < 8 → i < 8 → Within (2 ^ 27) (entry mid.now r i) }
     ensures { (r k : ℕ) → r < 8 → k < 8 → entry out.new r k ≡ rounded (row_sums direction mid.now r k) }
 {
@@ -104,7 +104,7 @@ fn rows(mid: &[i64; 64], direction: Direction, out: &mut [i32; 64])
 }
 
 #[inline(always)]
-fn row(mid: &[i64; 64], r: usize, direction: Direction) -> [i64; 8]
+fn row(mid: &[i32; 64], r: usize, direction: Direction) -> [i64; 8]
     requires r { r < 8 }
     requires small { (r i : ℕ) → r < 8 → i < 8 → Within (2 ^ 27) (entry mid.now r i) }
     ensures sums { (k : ℕ) → k < 8 → slice_index_or result k (pos 0) ≡ row_sums direction mid.now r k }
@@ -124,14 +124,14 @@ fn row(mid: &[i64; 64], r: usize, direction: Direction) -> [i64; 8]
 }
 
 #[inline(always)]
-fn sum(mid: &[i64; 64], r: usize, i: usize) -> i64
+fn sum(mid: &[i32; 64], r: usize, i: usize) -> i64
     requires r { r < 8 }
     requires i { i < 8 }
     requires small { (r i : ℕ) → r < 8 → i < 8 → Within (2 ^ 27) (entry mid.now r i) }
     ensures value { result ≡ entry mid.now r i }
     ensures size { Within (2 ^ 27) result }
 {
-    mid[8 * r + i]
+    i64::from(mid[8 * r + i])
 }
 
 // z / 2^25, rounded to the nearest.

@@ -5,7 +5,7 @@ use Rattle.idct8.specs.Transform.{entry}
 use Rattle.idct8.proofs.Factors.{pass_of, within_pass, passed, within_same}
 use Rattle.idct8.proofs.two_passes.column.Goals as goal
 
-wide : {z : ℤ} → Within (2 ^ 12) z → Within (2 ^ 31) z
+wide : {z : ℤ} → Within (2 ^ 12) z → Within (2 ^ 30) z
 wide {z} h = omega (arith, ints)
 
 pub returns-clause-sums : goal.returns-clause-sums

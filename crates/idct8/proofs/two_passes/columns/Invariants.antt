@@ -1,4 +1,4 @@
-use Rattle.std.proofs.Common.{◌≡◌, ℕ, ◌<◌, ◌^◌, length, ℤ}
+use Rattle.std.proofs.Common.{◌≡◌, ℕ, ◌<◌, ◌^◌, length}
 use Rattle.idct8.specs.Ranges.{Within}
 use Rattle.idct8.specs.Transform.{entry}
 use Rattle.idct8.specs.Passes.{column_sums}

@@ -1,5 +1,4 @@
 use Rattle.std.proofs.Common.{◌+◌, ◌*◌, pos, arith}
-use Rattle.idct8.specs.declared.passes.Direction.TheVariants.{Inverse}
 use Rattle.idct8.proofs.Results.{inverse_small, value_within}
 use Rattle.idct8.proofs.two_passes.inverse.Goals as goal
 

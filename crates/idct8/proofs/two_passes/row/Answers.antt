@@ -1,11 +1,11 @@
-use Rattle.std.proofs.Common.{◌^◌, ◌*◌, ◌+◌, ℤ, pos, ◌∙◌, lit≤, arith}
+use Rattle.std.proofs.Common.{◌^◌, ◌*◌, ℤ, ◌∙◌, lit≤, arith}
 use Rattle.std.proofs.lemmas.Int.{ints}
 use Rattle.idct8.specs.Ranges.{Within}
 use Rattle.idct8.specs.Transform.{entry}
 use Rattle.idct8.proofs.Factors.{pass_of, within_pass, passed, within_same}
 use Rattle.idct8.proofs.two_passes.row.Goals as goal
 
-wide : {z : ℤ} → Within (2 ^ 27) z → Within (2 ^ 31) z
+wide : {z : ℤ} → Within (2 ^ 27) z → Within (2 ^ 30) z
 wide {z} h = omega (arith, ints)
 
 pub returns-clause-sums : goal.returns-clause-sums
