@@ -1,0 +1,14 @@
+//! The code tables of macroblocks and blocks.
+#![tactic(auto)]
+
+mod code;
+mod macroblock;
+mod tables;
+mod words;
+
+pub use code::Coefficient;
+pub use macroblock::{MbClass, Mcbpc, read_dquant, read_mcbpc};
+pub use words::{read_cbpy, read_event, read_mvd};
+
+#[cfg(test)]
+mod tests;
