@@ -63,6 +63,11 @@ dquant_table = record { list = dquant_words; apart = refl }
 unfoldable pub dquant : Syntax ℤ
 dquant = code dquant_table done
 
+-- a step of the quantiser: -2, -1, 1 or 2
+abbrev pub IsStep : ℤ → Type 0
+IsStep (pos n) = (n ≡ 1) ⊎ (n ≡ 2)
+IsStep (negsuc n) = (n ≡ 0) ⊎ (n ≡ 1)
+
 -- the text that is written for a step
 unfoldable pub dquant_text : ℤ → List Bool
 dquant_text (negsuc n) = if n == 0 then word "00" else word "01"
