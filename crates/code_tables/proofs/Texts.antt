@@ -1,6 +1,12 @@
 -- The words as the code has them are the texts of the standard.
-use Rattle.std.proofs.Common.{◌≡◌, ◌⊎◌, ℕ, zero, suc, ◌+◌, ◌<◌, Bool, refl, ap, sym, ◌∙◌, subst, arith, inl, inr, List, [], length, get_or}
-use Rattle.std.specs.Prelude.{ℤ, pos, negsuc, slice_index_or}
+use Rattle.std.proofs.lemmas.Int.{ints}
+use Rattle.std.proofs.lemmas.List.{get_or-map}
+use Rattle.h263_bits.specs.declared.writer.BitWriter.{BitWriter}
+use Rattle.h263_bits.specs.Written.{Appends, written}
+use Rattle.code_tables.specs.Tables.{cbpy_texts, magnitude_texts, sign_text}
+use Rattle.std.proofs.lemmas.Bool.{ne_eqb}
+use Rattle.std.proofs.Common.{eqb, false, append_assoc, ◌++◌, ◌≡◌, ◌⊎◌, ℕ, zero, suc, ◌+◌, ◌<◌, Bool, refl, ap, sym, ◌∙◌, subst, arith, inl, inr, List, [], length, get_or}
+use Rattle.std.specs.Prelude.{ℤ, pos, negsuc, slice_index_or, map, ◌<ℤ◌}
 use Rattle.h263_types.specs.declared.Kind.TheVariants as kinds
 use Rattle.h263_bits.specs.Bits.{spelled}
 use Rattle.code_tables.specs.declared.code.Code.{Code}
@@ -8,8 +14,8 @@ use Rattle.code_tables.specs.declared.macroblock.MbClass.{MbClass}
 use Rattle.code_tables.specs.declared.macroblock.MbClass.TheVariants.{Inter, InterQ, Inter4, Intra, IntraQ}
 use Rattle.code_tables.specs.declared.macroblock.Mcbpc.{Mcbpc}
 use Rattle.code_tables.specs.declared.macroblock.Mcbpc.TheVariants.{Stuffing, Word}
-use Rattle.code_tables.specs.declared.tables.TheConstants.{INTER_MCBPC, INTRA_MCBPC, STEPS}
-use Rattle.code_tables.specs.Words.{code_at, word_of}
+use Rattle.code_tables.specs.declared.tables.TheConstants.{INTER_MCBPC, INTRA_MCBPC, STEPS, CBPY, MAGNITUDES}
+use Rattle.code_tables.specs.Words.{code_at, word_of, text_at}
 use Rattle.code_tables.specs.Mcbpc.{class_texts, IsInTable, IsStep, mcbpc_text, dquant_text}
 use Rattle.code_tables.specs.Places.{inter_place_of, intra_place_of, step_place_of}
 
@@ -67,3 +73,42 @@ step_text_negsuc n (inr e) = subst (λ (k : ℕ). word_of (code_at STEPS (step_p
 pub step_text : (z : ℤ) → IsStep z → word_of (code_at STEPS (step_place_of z)) ≡ dquant_text z
 step_text (pos n) s = step_text_pos n s
 step_text (negsuc n) s = step_text_negsuc n s
+
+-- ---- tables whose words stand for their places
+
+place_text : (codes : List Code) (texts : List (List Bool)) (n : ℕ) → texts ≡ map word_of codes → n < length codes → word_of (code_at codes n) ≡ text_at texts n
+place_text codes texts n same lt =
+    sym (get_or-map word_of codes n (record { bits = 0; len = 0 }) [] lt) ∙ sym (ap (λ (ts : List (List Bool)). get_or ts n []) same)
+
+cbpy_same : cbpy_texts ≡ map word_of CBPY
+unfolding cbpy_texts spelled
+cbpy_same = refl
+
+magnitudes_same : magnitude_texts ≡ map word_of MAGNITUDES
+unfolding magnitude_texts spelled
+magnitudes_same = refl
+
+pub pattern_text : (n : ℕ) → n < 16 → word_of (code_at CBPY n) ≡ text_at cbpy_texts n
+pattern_text n lt = place_text CBPY cbpy_texts n cbpy_same lt
+
+pub magnitude_text : (n : ℕ) → n < 33 → word_of (code_at MAGNITUDES n) ≡ text_at magnitude_texts n
+magnitude_text n lt = place_text MAGNITUDES magnitude_texts n magnitudes_same lt
+
+-- one text behind the other
+pub appends_both : (a b c : BitWriter) (x y : List Bool) → Appends a b x → Appends b c y → Appends a c (x ++ y)
+appends_both a b c x y p q = record {
+  buffer = q.buffer ∙ p.buffer;
+  room = q.room ∙ p.room;
+  text = q.text ∙ ap (λ (t : List Bool). t ++ y) p.text ∙ append_assoc (written a) x y;
+}
+
+pub minus_text : (z : ℤ) → z <ℤ pos 0 → sign_text z ≡ spelled 1 1
+unfolding spelled
+minus_text (pos n) below = absurd (omega (arith, ints))
+minus_text (negsuc n) below = refl
+
+pub plus_text : (z : ℤ) → pos 0 <ℤ z → sign_text z ≡ spelled 1 0
+unfolding spelled
+plus_text (pos zero) above = absurd (omega (arith, ints))
+plus_text (pos (suc n)) above = let some : eqb (suc n) 0 ≡ false = ne_eqb (suc n) 0 (λ (e : suc n ≡ 0). omega (arith, e)) in rw some refl
+plus_text (negsuc n) above = absurd (omega (arith, ints))

@@ -2,7 +2,7 @@
 use Rattle.std.specs.Prelude.{ℕ, ◌+◌, ◌-◌, List, [], ◌∷◌, ◌++◌, Bool, true, false, refl, if◌then◌else◌, Option, Some, None, ◌==◌, nat_lt, ℤ, pos, negsuc, neg_ℤ}
 use Rattle.h263_bits.specs.declared.fault.FaultKind.TheVariants.{BadCode, BadLevel}
 use Rattle.h263_bits.specs.Syntax.{Syntax, Words, Allowed, any, code, done, field, element, either, begins, is_prefix_free}
-use Rattle.code_tables.specs.Words.{word, from_number}
+use Rattle.code_tables.specs.Words.{word, from_number, text_at}
 
 -- CBPY of an intra macroblock, patterns 0 to 15
 unfoldable pub cbpy_texts : List (List Bool)
@@ -18,6 +18,10 @@ cbpy_table = record { list = cbpy_words; apart = refl }
 -- CBPY; an inter macroblock has the word of the complement
 unfoldable pub cbpy : Bool → Syntax ℕ
 cbpy intra = code cbpy_table λ pattern. done (if intra then pattern else 15 - pattern)
+
+-- the text that is written for a pattern
+unfoldable pub cbpy_text : Bool → ℕ → List Bool
+cbpy_text intra pattern = text_at cbpy_texts (if intra then pattern else 15 - pattern)
 
 -- the magnitudes 0 to 32 of MVD, in half samples
 unfoldable pub magnitude_texts : List (List Bool)
@@ -171,3 +175,17 @@ is_difference (negsuc n) = None
 
 unfoldable pub mvd : Syntax ℤ
 mvd = element mvd_parts is_difference done
+
+-- the size of a number
+abbrev pub size_of : ℤ → ℕ
+size_of (pos n) = n
+size_of (negsuc n) = n + 1
+
+-- the sign behind a size: none at 0, 1 for minus
+abbrev pub sign_text : ℤ → List Bool
+sign_text (pos n) = if n == 0 then [] else false ∷ []
+sign_text (negsuc n) = true ∷ []
+
+-- the text that is written for a difference
+unfoldable pub mvd_text : ℤ → List Bool
+mvd_text v = text_at magnitude_texts (size_of v) ++ sign_text v

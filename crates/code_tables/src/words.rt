@@ -1,12 +1,14 @@
-ghost use Rattle.std.specs.Prelude.{◌≡◌, ◌≢◌, ℕ, ℤ, slice_get, IfOk, IfSome, ◌<◌, ◌≤◌};
+ghost use Rattle.std.specs.Prelude.{◌≡◌, ◌≢◌, ℕ, ℤ, pos, negsuc, ◌+◌, ◌-◌, slice_get, IfOk, IfSome, ◌<◌, ◌≤◌, ◌≤ℤ◌, length};
+ghost use Rattle.h263_bits.specs.Written.{Appends, len_of, room_of};
+ghost use Rattle.code_tables.specs.Words.{text_at};
 ghost use Rattle.h263_bits.specs.Reading.{Gives};
 ghost use Rattle.h263_bits.specs.Syntax.{reading, word_at};
-ghost use Rattle.code_tables.specs.Tables.{cbpy, cbpy_words, magnitude_words, tcoef_words, mvd, signed, level_of, mvd_parts, event, event_parts};
+ghost use Rattle.code_tables.specs.Tables.{cbpy, cbpy_texts, cbpy_text, magnitude_texts, size_of, sign_text, mvd_text, cbpy_words, magnitude_words, tcoef_words, mvd, signed, level_of, mvd_parts, event, event_parts};
 ghost use Rattle.code_tables.specs.Events.{event_of_code, coefficient_of};
 
-use crate::code::{Coefficient, Level, read_code};
+use crate::code::{Coefficient, Level, read_code, write_code};
 use crate::tables::{CBPY, CBPY_FAST, EVENTS, EVENTS_FAST, LEVELS, MAGNITUDES, MAGNITUDES_FAST};
-use h263_bits::{BitReader, Fault, FaultKind};
+use h263_bits::{BitReader, BitWriter, Fault, FaultKind};
 
 fn read_pattern(reader: &mut BitReader<'_>) -> Result<usize, Fault>
     ensures reads { Gives (λ (i : ℕ). i) result reader.new (word_at cbpy_words reader.old) }
@@ -143,4 +145,73 @@ pub fn read_event(reader: &mut BitReader<'_>) -> Result<Coefficient, Fault>
             at,
         }),
     }
+}
+
+fn write_pattern(writer: &mut BitWriter<'_>, pattern: usize)
+    requires pattern { pattern < 16 }
+    requires room { len_of writer.old + length (text_at cbpy_texts pattern) ≤ room_of writer.old }
+    ensures bits { Appends writer.old writer.new (text_at cbpy_texts pattern) }
+    ensures len { len_of writer.new ≡ len_of writer.old + length (text_at cbpy_texts pattern) }
+{
+    write_code(writer, &CBPY, pattern);
+}
+
+/// Writes CBPY. An inter macroblock has the word of the complement.
+#[tactic(auto, unfolding(crate::specs::Tables::cbpy_text))]
+pub fn write_cbpy(writer: &mut BitWriter<'_>, intra: bool, cbpy: u8)
+    requires pattern { cbpy < 16 }
+    requires room { len_of writer.old + length (cbpy_text intra cbpy) ≤ room_of writer.old }
+    ensures bits { Appends writer.old writer.new (cbpy_text intra cbpy) }
+    ensures len { len_of writer.new ≡ len_of writer.old + length (cbpy_text intra cbpy) }
+{
+    if intra {
+        write_pattern(writer, cbpy as usize);
+    } else {
+        write_pattern(writer, 15 - cbpy as usize);
+    }
+}
+
+fn write_magnitude(writer: &mut BitWriter<'_>, size: usize)
+    requires size { size < 33 }
+    requires room { len_of writer.old + length (text_at magnitude_texts size) ≤ room_of writer.old }
+    ensures bits { Appends writer.old writer.new (text_at magnitude_texts size) }
+    ensures len { len_of writer.new ≡ len_of writer.old + length (text_at magnitude_texts size) }
+{
+    write_code(writer, &MAGNITUDES, size);
+}
+
+/// The size of a number.
+fn size(value: i8) -> usize
+    ensures { result ≡ size_of value }
+{
+    if value < 0 {
+        (-(value as i16)) as usize
+    } else {
+        value as usize
+    }
+}
+
+/// The sign behind a size: none at 0, 1 for minus.
+fn write_sign(writer: &mut BitWriter<'_>, value: i8)
+    requires room { len_of writer.old + length (sign_text value) ≤ room_of writer.old }
+    ensures bits { Appends writer.old writer.new (sign_text value) }
+    ensures len { len_of writer.new ≡ len_of writer.old + length (sign_text value) }
+{
+    if value < 0 {
+        writer.put(1, 1);
+    } else if value > 0 {
+        writer.put(0, 1);
+    }
+}
+
+/// Writes MVD, a difference of vectors in half samples, -32 to 31.
+pub fn write_mvd(writer: &mut BitWriter<'_>, value: i8)
+    requires low { negsuc 31 ≤ℤ value }
+    requires high { value ≤ℤ pos 31 }
+    requires room { len_of writer.old + length (mvd_text value) ≤ room_of writer.old }
+    ensures bits { Appends writer.old writer.new (mvd_text value) }
+    ensures len { len_of writer.new ≡ len_of writer.old + length (mvd_text value) }
+{
+    write_magnitude(writer, size(value));
+    write_sign(writer, value);
 }
