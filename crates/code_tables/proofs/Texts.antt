@@ -20,7 +20,7 @@ use Rattle.code_tables.specs.Mcbpc.{class_texts, IsInTable, IsStep, mcbpc_text, 
 use Rattle.code_tables.specs.Places.{inter_place_of, intra_place_of, step_place_of}
 
 -- a fact for each of four numbers
-four : (P : ℕ → Type 0) → P 0 → P 1 → P 2 → P 3 → (n : ℕ) → n < 4 → P n
+pub four : (P : ℕ → Type 0) → P 0 → P 1 → P 2 → P 3 → (n : ℕ) → n < 4 → P n
 four P a b c d zero lt = a
 four P a b c d (suc zero) lt = b
 four P a b c d (suc (suc zero)) lt = c
@@ -37,7 +37,7 @@ inter_text (Word Intra n) lt = four (λ k. word_of (code_at INTER_MCBPC (12 + k)
 inter_text (Word IntraQ n) lt = four (λ k. word_of (code_at INTER_MCBPC (16 + k)) ≡ slice_index_or (class_texts kinds.P IntraQ) k []) refl refl refl refl n lt
 
 -- in an I picture a macroblock is intra
-no_inter : (class : MbClass) → (class ≡ Intra) ⊎ (class ≡ IntraQ) → (class ≡ Inter) ⊎ ((class ≡ InterQ) ⊎ (class ≡ Inter4)) → ⊥
+pub no_inter : (class : MbClass) → (class ≡ Intra) ⊎ (class ≡ IntraQ) → (class ≡ Inter) ⊎ ((class ≡ InterQ) ⊎ (class ≡ Inter4)) → ⊥
 no_inter Inter (inl e) h = cc
 no_inter Inter (inr e) h = cc
 no_inter InterQ (inl e) h = cc

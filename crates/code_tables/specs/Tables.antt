@@ -1,5 +1,5 @@
 -- The code tables, as the standard writes them.
-use Rattle.std.specs.Prelude.{ℕ, ◌+◌, ◌-◌, List, [], ◌∷◌, ◌++◌, Bool, true, false, refl, if◌then◌else◌, Option, Some, None, ◌==◌, nat_lt, ℤ, pos, negsuc, neg_ℤ}
+use Rattle.std.specs.Prelude.{ℕ, suc, ◌+◌, ◌-◌, List, [], ◌∷◌, ◌++◌, Bool, true, false, refl, if◌then◌else◌, Option, Some, None, ◌==◌, nat_lt, ℤ, pos, negsuc, neg_ℤ}
 use Rattle.h263_bits.specs.declared.fault.FaultKind.TheVariants.{BadCode, BadLevel}
 use Rattle.h263_bits.specs.Syntax.{Syntax, Words, Allowed, any, code, done, field, element, either, begins, is_prefix_free}
 use Rattle.code_tables.specs.Words.{word, from_number, text_at}
@@ -179,7 +179,7 @@ mvd = element mvd_parts is_difference done
 -- the size of a number
 abbrev pub size_of : ℤ → ℕ
 size_of (pos n) = n
-size_of (negsuc n) = n + 1
+size_of (negsuc n) = suc n
 
 -- the sign behind a size: none at 0, 1 for minus
 abbrev pub sign_text : ℤ → List Bool

@@ -2,6 +2,7 @@
 #![tactic(auto)]
 
 mod code;
+pub mod laws;
 mod macroblock;
 mod tables;
 mod words;
