@@ -1,13 +1,13 @@
 -- Calls of pictures of two samples, and what is read off them.
-use Rattle.std.specs.Prelude.{ℕ, zero, suc, ◌+◌, List, [], ◌∷◌, ◌++◌, map, reverse, replicate, slice_get, Option}
+use Rattle.std.specs.Prelude.{ℕ, zero, suc, ◌+◌, List, [], ◌∷◌, ◌++◌, map, reverse, replicate, slice_get, Option, Some, None}
 use Rattle.std.specs.Option.{option_map_or}
 use Rattle.call_model.specs.Coding.{Rules, Mark}
 use Rattle.call_model.specs.CodedPictures.{Coded}
 use Rattle.call_model.specs.IdealCall.{Event, Send, Deliver, Play, Back, Shown, Call, ideal}
 use Rattle.call_model.specs.Sending.{packets_of}
-use Rattle.call_model.specs.Receiving.{Heard, heard}
+use Rattle.call_model.specs.Receiving.{Heard, heard, ReceiverEntry, Packet, PlayNext, receiver_run}
 use Rattle.call_model.specs.JoinedRun.{Told, Joined, joined, new_receiver}
-use Rattle.call_model.specs.SmallCoding.{Two, SmallMb, SmallFault, small}
+use Rattle.call_model.specs.SmallCoding.{Two, SmallMb, Value, SmallFault, small_packet, small_read, small}
 
 -- the frames and the events of a call, the oldest first
 pub record Scene : Type 0 where
@@ -146,3 +146,18 @@ wrap_scene = record {
   frames = replicate 3 (flat 100) ++ flat 50 ∷ replicate 257 (flat 100);
   events = seen 0 4 ++ lost 255 ++ acknowledged 259 1 ++ seen 260 1;
 }
+
+-- the bytes of one half of picture n, flat 100, with this depth in its header
+abbrev pub half_packet : ℕ → Option ℕ → ℕ → ℕ → List ℕ
+half_packet n reference depth place =
+    small_packet (record { number = n; reference = reference; style = depth }) (record { first = place; mbs = Value 100 ∷ [] })
+
+-- Picture 0 is complete, two were played, and the left half of picture 2 was taken; the newest
+-- first.
+abbrev pub half_taken : List ReceiverEntry
+half_taken =
+    Packet (half_packet 2 (Some 0) 1 0) ∷ PlayNext ∷ PlayNext ∷ Packet (half_packet 0 None 0 1) ∷ Packet (half_packet 0 None 0 0) ∷ []
+
+-- what the receiver answers then to these bytes
+abbrev pub then_heard : List ℕ → Heard SmallFault
+then_heard bytes = heard small (rules_of 4 1) (receiver_run small (rules_of 4 1) half_taken) (small_read bytes)

@@ -7,10 +7,11 @@ ghost use Rattle.call_model.specs.Coding.{Ack, Exact, Held, Patched, Rules};
 ghost use Rattle.call_model.specs.CodedPictures.{is_among};
 ghost use Rattle.call_model.specs.IdealCall.{Got, Lost};
 ghost use Rattle.call_model.specs.Lawful.{IsCoding};
-ghost use Rattle.call_model.specs.Receiving.{Completed, Late, Repeat, Taken};
-ghost use Rattle.call_model.specs.SmallCoding.{small};
+ghost use Rattle.call_model.specs.Receiving.{Completed, Early, HeaderDiffers, Late, MissingReference, Refused, Repeat, Taken};
+ghost use Rattle.call_model.specs.SmallCoding.{small, Unread};
 ghost use Rattle.call_model.specs.Store.{slot_of};
 ghost use Rattle.call_model.specs.Worked.{answers, bytes_of, call_of, depths, ends_of, flat, marks, pictures, references};
+ghost use Rattle.call_model.specs.Worked.{half_packet, then_heard};
 ghost use Rattle.call_model.specs.Worked.{chain_scene, far_offer_scene, late_scene, offer_scene, patched_scene, shuffled_scene, window_scene, wrap_scene};
 
 /// The window of four slots and a lead of one has two pictures: picture 2 may still refer to
@@ -82,6 +83,22 @@ pub fn patched_picture_kept_out()
     ensures sender { (ends_of patched_scene).sender.known ≡ 0 ∷ 0 ∷ [] }
     ensures receiver { pictures (ends_of patched_scene).shown
         ≡ flat 100 ∷ record { left = 50; right = 100 } ∷ flat 100 ∷ [] }
+{}
+
+/// Two pictures were played, picture 0 is complete, and half of picture 2 was taken, which refers
+/// to picture 0. To the other half picture 2 is complete. The same half again is a repeat. With
+/// another header it is refused, and so are bytes that spell nothing. Picture 3 may not refer to
+/// picture 0, which is out of its window, nor to picture 1, which is not complete. Picture 1 is
+/// late, and picture 4 is early.
+pub fn each_answer()
+    ensures completed { then_heard (half_packet 2 (Some 0) 1 1) ≡ Completed (Ack 2) }
+    ensures repeat { then_heard (half_packet 2 (Some 0) 1 0) ≡ Repeat }
+    ensures other_header { then_heard (half_packet 2 (Some 0) 2 1) ≡ HeaderDiffers }
+    ensures unread { then_heard [] ≡ Refused Unread }
+    ensures out_of_window { then_heard (half_packet 3 (Some 0) 1 0) ≡ MissingReference }
+    ensures not_complete { then_heard (half_packet 3 (Some 1) 1 0) ≡ MissingReference }
+    ensures late { then_heard (half_packet 1 (Some 0) 1 0) ≡ Late }
+    ensures early { then_heard (half_packet 4 None 0 0) ≡ Early }
 {}
 
 /// Picture 259 has the temporal reference of picture 3, which the receiver still keeps, after a

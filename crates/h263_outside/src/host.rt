@@ -1,5 +1,6 @@
 // The host's files and standard output: the trusted edge. What they hold is not told.
 ghost use Rattle.std.specs.Prelude.{◌≡◌, ◌≤◌, length, IfOk, is_some};
+ghost use Rattle.h263_outside.specs.Desk.{NoneAttached};
 
 use crate::memory::raised;
 use crate::{Desk, Failed, Role, Unattached};
@@ -23,7 +24,6 @@ pub struct HostDesk<R: Runtime> {
 }
 
 impl<R: Runtime> HostDesk<R> {
-    ghost use Rattle.h263_outside.specs.Desk.{NoneAttached};
     ghost use Rattle.h263_outside.specs.Host.{no_faults};
 
     /// A desk with nothing attached, which opens its files and prints by this runtime.
@@ -137,5 +137,49 @@ impl<R: Runtime> Desk for HostDesk<R> {
                 Err(Failed)
             }
         }
+    }
+}
+
+// Its one test, in an empty folder: what is written as one role is read as another.
+#[cfg(test)]
+mod tests {
+    use super::*;
+    use crate::{read_full, write_all};
+    use std::test::Fail;
+
+    #[test]
+    fn files_of_the_host(rt: HostRuntime) -> Result<(), Fail> {
+        let mut desk = HostDesk::new(rt);
+        write_and_read(&mut desk)?;
+        fs::remove_file(&desk.rt, "written")?;
+        Ok(())
+    }
+
+    fn write_and_read<D: Desk>(desk: &mut D) -> Result<(), &'static str>
+        requires { NoneAttached (D.outside desk.old).attached }
+    {
+        if desk.attach(Role::Pictures, "written").is_err() {
+            return Err("a file is created");
+        }
+        if write_all(desk, Role::Pictures, b"FRAME").is_err() {
+            return Err("it is written");
+        }
+        if desk.attach(Role::Video, "written").is_err() {
+            return Err("it is opened");
+        }
+        let mut buf = [0; 6];
+        if read_full(desk, Role::Video, &mut buf) != Ok(5) || buf != *b"FRAME\0" {
+            return Err("it holds what was written");
+        }
+        if desk.attach(Role::Events, "missing") != Err(Unattached::Failed) {
+            return Err("a missing file is not opened");
+        }
+        if desk.attach(Role::Report, "").is_err() {
+            return Err("the report is opened");
+        }
+        if write_all(desk, Role::Report, b"a line\n").is_err() {
+            return Err("the report is written");
+        }
+        Ok(())
     }
 }

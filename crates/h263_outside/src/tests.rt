@@ -1,7 +1,6 @@
-// What no clause says: that calls succeed with ample memory, and that files hold what was written on the host.
+// What no clause says: that calls succeed with ample memory.
 // Where memory ran out in a test its steps are taken again, and are then to reach their end.
 ghost use Rattle.std.specs.Prelude.{◌≡◌, ◌<◌, true, IfOk};
-ghost use Rattle.h263_outside.specs.Desk.{NoneAttached};
 ghost use Rattle.h263_outside.specs.Memory.{memory_outside};
 ghost use Rattle.h263_outside.specs.declared.desk.Role.TheVariants.{Video, Pictures};
 
@@ -90,41 +89,5 @@ fn move_whole(rt: &impl Abort, alloc: Global, piece: usize) -> Result<(), OutOfM
     assert_eq!(rt; write_all(&mut desk, Role::Pictures, b"abc"), Ok(()));
     assert_eq!(rt; write_all(&mut desk, Role::Pictures, b"defg"), Err(Failed));
     assert_eq!(rt; desk.text(Role::Pictures), b"abcde".as_slice());
-    Ok(())
-}
-
-// In an empty folder: what is written as one role is read as another.
-#[test]
-fn files_of_the_host(rt: HostRuntime) -> Result<(), Fail> {
-    let mut desk = HostDesk::new(rt);
-    write_and_read(&mut desk)?;
-    Ok(())
-}
-
-fn write_and_read<D: Desk>(desk: &mut D) -> Result<(), &'static str>
-    requires { NoneAttached (D.outside desk.old).attached }
-{
-    if desk.attach(Role::Pictures, "written").is_err() {
-        return Err("a file is created");
-    }
-    if write_all(desk, Role::Pictures, b"FRAME").is_err() {
-        return Err("it is written");
-    }
-    if desk.attach(Role::Video, "written").is_err() {
-        return Err("it is opened");
-    }
-    let mut buf = [0; 6];
-    if read_full(desk, Role::Video, &mut buf) != Ok(5) || buf != *b"FRAME\0" {
-        return Err("it holds what was written");
-    }
-    if desk.attach(Role::Events, "missing") != Err(Unattached::Failed) {
-        return Err("a missing file is not opened");
-    }
-    if desk.attach(Role::Report, "").is_err() {
-        return Err("the report is opened");
-    }
-    if write_all(desk, Role::Report, b"a line\n").is_err() {
-        return Err("the report is written");
-    }
     Ok(())
 }

@@ -1,0 +1,191 @@
+-- The code tables, as the standard writes them.
+use Rattle.std.specs.Prelude.{ℕ, suc, ◌+◌, ◌-◌, List, [], ◌∷◌, ◌++◌, Bool, true, false, refl, if◌then◌else◌, Option, Some, None, ◌==◌, nat_lt, ℤ, pos, negsuc, neg_ℤ}
+use Rattle.h263_bits.specs.declared.fault.FaultKind.TheVariants.{BadCode, BadLevel}
+use Rattle.h263_bits.specs.Syntax.{Syntax, Words, Allowed, any, code, done, field, element, either, begins, is_prefix_free}
+use Rattle.code_tables.specs.Words.{word, from_number, text_at}
+
+-- CBPY of an intra macroblock, patterns 0 to 15
+unfoldable pub cbpy_texts : List (List Bool)
+cbpy_texts = word "0011" ∷ word "00101" ∷ word "00100" ∷ word "1001" ∷ word "00011" ∷ word "0111" ∷ word "000010" ∷ word "1011" ∷ word "00010" ∷ word "000011" ∷ word "0101" ∷ word "1010" ∷ word "0100" ∷ word "1000" ∷ word "0110" ∷ word "11" ∷ []
+
+unfoldable pub cbpy_words : List (List Bool × ℕ)
+cbpy_words = from_number 0 cbpy_texts
+
+unfoldable pub cbpy_table : Words ℕ
+unfolding cbpy_words cbpy_texts begins is_prefix_free
+cbpy_table = record { list = cbpy_words; apart = refl }
+
+-- CBPY; an inter macroblock has the word of the complement
+unfoldable pub cbpy : Bool → Syntax ℕ
+cbpy intra = code cbpy_table λ pattern. done (if intra then pattern else 15 - pattern)
+
+-- the text that is written for a pattern
+unfoldable pub cbpy_text : Bool → ℕ → List Bool
+cbpy_text intra pattern = text_at cbpy_texts (if intra then pattern else 15 - pattern)
+
+-- the magnitudes 0 to 32 of MVD, in half samples
+unfoldable pub magnitude_texts : List (List Bool)
+magnitude_texts = word "1" ∷ word "01" ∷ word "001" ∷ word "0001" ∷ word "000011" ∷ word "0000101" ∷ word "0000100" ∷ word "0000011" ∷ word "000001011" ∷ word "000001010" ∷ word "000001001" ∷ word "0000010001" ∷ word "0000010000" ∷ word "0000001111" ∷ word "0000001110" ∷ word "0000001101" ∷ word "0000001100" ∷ word "0000001011" ∷ word "0000001010" ∷ word "0000001001" ∷ word "0000001000" ∷ word "0000000111" ∷ word "0000000110" ∷ word "0000000101" ∷ word "0000000100" ∷ word "00000000111" ∷ word "00000000110" ∷ word "00000000101" ∷ word "00000000100" ∷ word "00000000011" ∷ word "00000000010" ∷ word "000000000011" ∷ word "000000000010" ∷ []
+
+unfoldable pub magnitude_words : List (List Bool × ℕ)
+magnitude_words = from_number 0 magnitude_texts
+
+unfoldable pub magnitude_table : Words ℕ
+unfolding magnitude_words magnitude_texts begins is_prefix_free
+magnitude_table = record { list = magnitude_words; apart = refl }
+
+-- ---- TCOEF
+
+-- LAST, RUN and the size of LEVEL
+pub record Event : Type 0 where
+  pub last : Bool
+  pub run : ℕ
+  pub size : ℕ
+
+-- the words for sizes from n on
+abbrev pub sized : Bool → ℕ → ℕ → List (List Bool) → List (List Bool × Option Event)
+sized last run n [] = []
+sized last run n (w ∷ ws) = (w, Some (record { last = last; run = run; size = n })) ∷ sized last run (n + 1) ws
+
+-- the words of one LAST and RUN, for sizes 1, 2, 3 and so on
+abbrev pub events : Bool → ℕ → List (List Bool) → List (List Bool × Option Event)
+events last run words = sized last run 1 words
+
+-- the words of events, and the escape, which stands for none
+unfoldable pub tcoef_words : List (List Bool × Option Event)
+tcoef_words =
+    events false 0 (word "10" ∷ word "1111" ∷ word "010101" ∷ word "0010111" ∷ word "00011111" ∷ word "000100101" ∷ word "000100100" ∷ word "0000100001" ∷ word "0000100000" ∷ word "00000000111" ∷ word "00000000110" ∷ word "00000100000" ∷ []) ++
+    events false 1 (word "110" ∷ word "010100" ∷ word "00011110" ∷ word "0000001111" ∷ word "00000100001" ∷ word "000001010000" ∷ []) ++
+    events false 2 (word "1110" ∷ word "00011101" ∷ word "0000001110" ∷ word "000001010001" ∷ []) ++
+    events false 3 (word "01101" ∷ word "000100011" ∷ word "0000001101" ∷ []) ++
+    events false 4 (word "01100" ∷ word "000100010" ∷ word "000001010010" ∷ []) ++
+    events false 5 (word "01011" ∷ word "0000001100" ∷ word "000001010011" ∷ []) ++
+    events false 6 (word "010011" ∷ word "0000001011" ∷ word "000001010100" ∷ []) ++
+    events false 7 (word "010010" ∷ word "0000001010" ∷ []) ++
+    events false 8 (word "010001" ∷ word "0000001001" ∷ []) ++
+    events false 9 (word "010000" ∷ word "0000001000" ∷ []) ++
+    events false 10 (word "0010110" ∷ word "000001010101" ∷ []) ++
+    events false 11 (word "0010101" ∷ []) ++
+    events false 12 (word "0010100" ∷ []) ++
+    events false 13 (word "00011100" ∷ []) ++
+    events false 14 (word "00011011" ∷ []) ++
+    events false 15 (word "000100001" ∷ []) ++
+    events false 16 (word "000100000" ∷ []) ++
+    events false 17 (word "000011111" ∷ []) ++
+    events false 18 (word "000011110" ∷ []) ++
+    events false 19 (word "000011101" ∷ []) ++
+    events false 20 (word "000011100" ∷ []) ++
+    events false 21 (word "000011011" ∷ []) ++
+    events false 22 (word "000011010" ∷ []) ++
+    events false 23 (word "00000100010" ∷ []) ++
+    events false 24 (word "00000100011" ∷ []) ++
+    events false 25 (word "000001010110" ∷ []) ++
+    events false 26 (word "000001010111" ∷ []) ++
+    events true 0 (word "0111" ∷ word "000011001" ∷ word "00000000101" ∷ []) ++
+    events true 1 (word "001111" ∷ word "00000000100" ∷ []) ++
+    events true 2 (word "001110" ∷ []) ++
+    events true 3 (word "001101" ∷ []) ++
+    events true 4 (word "001100" ∷ []) ++
+    events true 5 (word "0010011" ∷ []) ++
+    events true 6 (word "0010010" ∷ []) ++
+    events true 7 (word "0010001" ∷ []) ++
+    events true 8 (word "0010000" ∷ []) ++
+    events true 9 (word "00011010" ∷ []) ++
+    events true 10 (word "00011001" ∷ []) ++
+    events true 11 (word "00011000" ∷ []) ++
+    events true 12 (word "00010111" ∷ []) ++
+    events true 13 (word "00010110" ∷ []) ++
+    events true 14 (word "00010101" ∷ []) ++
+    events true 15 (word "00010100" ∷ []) ++
+    events true 16 (word "00010011" ∷ []) ++
+    events true 17 (word "000011000" ∷ []) ++
+    events true 18 (word "000010111" ∷ []) ++
+    events true 19 (word "000010110" ∷ []) ++
+    events true 20 (word "000010101" ∷ []) ++
+    events true 21 (word "000010100" ∷ []) ++
+    events true 22 (word "000010011" ∷ []) ++
+    events true 23 (word "000010010" ∷ []) ++
+    events true 24 (word "000010001" ∷ []) ++
+    events true 25 (word "0000000111" ∷ []) ++
+    events true 26 (word "0000000110" ∷ []) ++
+    events true 27 (word "0000000101" ∷ []) ++
+    events true 28 (word "0000000100" ∷ []) ++
+    events true 29 (word "00000100100" ∷ []) ++
+    events true 30 (word "00000100101" ∷ []) ++
+    events true 31 (word "00000100110" ∷ []) ++
+    events true 32 (word "00000100111" ∷ []) ++
+    events true 33 (word "000001011000" ∷ []) ++
+    events true 34 (word "000001011001" ∷ []) ++
+    events true 35 (word "000001011010" ∷ []) ++
+    events true 36 (word "000001011011" ∷ []) ++
+    events true 37 (word "000001011100" ∷ []) ++
+    events true 38 (word "000001011101" ∷ []) ++
+    events true 39 (word "000001011110" ∷ []) ++
+    events true 40 (word "000001011111" ∷ []) ++ (word "0000011", None) ∷ []
+
+unfoldable pub event_table : Words (Option Event)
+unfolding tcoef_words begins is_prefix_free
+event_table = record { list = tcoef_words; apart = refl }
+
+-- a size with its sign, 1 for minus
+abbrev pub signed : ℕ → ℕ → ℤ
+signed sign size = if sign == 0 then pos size else neg_ℤ (pos size)
+
+-- an event as it is read: LEVEL with its sign
+pub record Coefficient : Type 0 where
+  pub last : Bool
+  pub run : ℕ
+  pub level : ℤ
+
+-- LEVEL of an escape, in two's complement
+abbrev pub is_level : Allowed ℕ
+is_level n = if n == 0 then Some BadLevel else if n == 128 then Some BadLevel else None
+
+abbrev pub level_of : ℕ → ℤ
+level_of n = if nat_lt n 128 then pos n else neg_ℤ (pos (256 - n))
+
+-- what follows a word: a sign, or the fields of the escape
+abbrev pub after_word : Option Event → Syntax Coefficient
+after_word (Some e) =
+    field 1 any λ sign.
+    done (record { last = e.last; run = e.run; level = signed sign e.size })
+after_word None =
+    field 1 any λ last.
+    field 6 any λ run.
+    field 8 is_level λ level.
+    done (record { last = last == 1; run = run; level = level_of level })
+
+unfoldable pub event_parts : Syntax Coefficient
+event_parts = code event_table after_word
+
+-- an event is one element: each of its faults stands at its first bit
+unfoldable pub event : Syntax Coefficient
+event = element event_parts any done
+
+-- ---- MVD
+
+-- magnitude and sign; there is no sign at 0
+unfoldable pub mvd_parts : Syntax ℤ
+mvd_parts = code magnitude_table λ size. either (size == 0) (done (pos 0)) (field 1 any λ sign. done (signed sign size))
+
+-- 32 is no vector difference
+abbrev pub is_difference : Allowed ℤ
+is_difference (pos n) = if n == 32 then Some BadCode else None
+is_difference (negsuc n) = None
+
+unfoldable pub mvd : Syntax ℤ
+mvd = element mvd_parts is_difference done
+
+-- the size of a number
+abbrev pub size_of : ℤ → ℕ
+size_of (pos n) = n
+size_of (negsuc n) = suc n
+
+-- the sign behind a size: none at 0, 1 for minus
+abbrev pub sign_text : ℤ → List Bool
+sign_text (pos n) = if n == 0 then [] else false ∷ []
+sign_text (negsuc n) = true ∷ []
+
+-- the text that is written for a difference
+unfoldable pub mvd_text : ℤ → List Bool
+mvd_text v = text_at magnitude_texts (size_of v) ++ sign_text v

@@ -1,0 +1,30 @@
+//! Laws over the definitions alone.
+ghost use Rattle.std.specs.Prelude.{◌≡◌, ℕ, ℤ, pos, negsuc, ◌≤ℤ◌, ◌<◌, ◌++◌, List, Bool, length};
+ghost use Rattle.h263_types.specs.declared.Kind.{Kind};
+ghost use Rattle.h263_bits.specs.Syntax.{Spells};
+ghost use Rattle.code_tables.specs.Mcbpc.{mcbpc, dquant, IsInTable, IsStep, mcbpc_text, dquant_text};
+ghost use Rattle.code_tables.specs.Tables.{cbpy, cbpy_text, mvd, mvd_text, event, Coefficient};
+ghost use Rattle.code_tables.specs.declared.macroblock.Mcbpc.{Mcbpc};
+
+/// Of two texts of which one begins the other both are the same, and spell the same value: in each table, with the
+/// signs and the escape behind its words.
+pub fn one_reading()
+    ensures mcbpc { (kind : Kind) (a b : Mcbpc) (x y more : List Bool)
+        → Spells (mcbpc kind) a x → Spells (mcbpc kind) b y → x ++ more ≡ y → (x ≡ y) × (a ≡ b) }
+    ensures cbpy { (intra : Bool) (a b : ℕ) (x y more : List Bool)
+        → Spells (cbpy intra) a x → Spells (cbpy intra) b y → x ++ more ≡ y → (x ≡ y) × (a ≡ b) }
+    ensures dquant { (a b : ℤ) (x y more : List Bool)
+        → Spells dquant a x → Spells dquant b y → x ++ more ≡ y → (x ≡ y) × (a ≡ b) }
+    ensures mvd { (a b : ℤ) (x y more : List Bool)
+        → Spells mvd a x → Spells mvd b y → x ++ more ≡ y → (x ≡ y) × (a ≡ b) }
+    ensures event { (a b : Coefficient) (x y more : List Bool)
+        → Spells event a x → Spells event b y → x ++ more ≡ y → (x ≡ y) × (a ≡ b) }
+{}
+
+/// What is written for a value is a text of it.
+pub fn written_is_text()
+    ensures mcbpc { (kind : Kind) (m : Mcbpc) → IsInTable kind m → Spells (mcbpc kind) m (mcbpc_text kind m) }
+    ensures cbpy { (intra : Bool) (pattern : ℕ) → pattern < 16 → Spells (cbpy intra) pattern (cbpy_text intra pattern) }
+    ensures dquant { (step : ℤ) → IsStep step → Spells dquant step (dquant_text step) }
+    ensures mvd { (value : ℤ) → negsuc 31 ≤ℤ value → value ≤ℤ pos 31 → Spells mvd value (mvd_text value) }
+{}

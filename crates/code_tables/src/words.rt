@@ -1,0 +1,217 @@
+ghost use Rattle.std.specs.Prelude.{◌≡◌, ◌≢◌, ℕ, ℤ, pos, negsuc, ◌+◌, ◌-◌, slice_get, IfOk, IfSome, ◌<◌, ◌≤◌, ◌≤ℤ◌, length};
+ghost use Rattle.h263_bits.specs.Written.{Appends, len_of, room_of};
+ghost use Rattle.code_tables.specs.Words.{text_at};
+ghost use Rattle.h263_bits.specs.Reading.{Gives};
+ghost use Rattle.h263_bits.specs.Syntax.{reading, word_at};
+ghost use Rattle.code_tables.specs.Tables.{cbpy, cbpy_texts, cbpy_text, magnitude_texts, size_of, sign_text, mvd_text, cbpy_words, magnitude_words, tcoef_words, mvd, signed, level_of, mvd_parts, event, event_parts};
+ghost use Rattle.code_tables.specs.Events.{event_of_code, coefficient_of};
+
+use crate::code::{Coefficient, Level, read_code, write_code};
+use crate::tables::{CBPY, CBPY_FAST, EVENTS, EVENTS_FAST, LEVELS, MAGNITUDES, MAGNITUDES_FAST};
+use h263_bits::{BitReader, BitWriter, Fault, FaultKind};
+
+fn read_pattern(reader: &mut BitReader<'_>) -> Result<usize, Fault>
+    ensures reads { Gives (λ (i : ℕ). i) result reader.new (word_at cbpy_words reader.old) }
+    ensures below { IfOk result (λ i. i < 16) }
+{
+    read_code(reader, &CBPY, &CBPY_FAST)
+}
+
+/// CBPY. An inter macroblock has the word of the complement.
+#[tactic(auto, unfolding(crate::specs::Tables::cbpy, crate::specs::Tables::cbpy_table, h263_bits::specs::Syntax::reading))]
+pub fn read_cbpy(reader: &mut BitReader<'_>, intra: bool) -> Result<u8, Fault>
+    ensures { Gives (λ (i : ℕ). i) result reader.new (reading (cbpy intra) reader.old) }
+{
+    let pattern = read_pattern(reader)? as u8;
+    Ok(if intra { pattern } else { 15 - pattern })
+}
+
+fn read_magnitude(reader: &mut BitReader<'_>) -> Result<usize, Fault>
+    ensures reads { Gives (λ (i : ℕ). i) result reader.new (word_at magnitude_words reader.old) }
+    ensures below { IfOk result (λ i. i < 33) }
+{
+    read_code(reader, &MAGNITUDES, &MAGNITUDES_FAST)
+}
+
+/// A size with its sign, 1 for minus.
+fn with_sign(sign: u32, size: u8) -> i8
+    requires { size < 128 }
+    ensures { result ≡ signed sign size }
+{
+    if sign == 0 { size as i8 } else { -(size as i8) }
+}
+
+#[tactic(auto, unfolding(crate::specs::Tables::mvd_parts, crate::specs::Tables::magnitude_table, h263_bits::specs::Syntax::reading))]
+fn read_mvd_parts(reader: &mut BitReader<'_>) -> Result<i8, Fault>
+    ensures { Gives (λ (v : ℤ). v) result reader.new (reading mvd_parts reader.old) }
+{
+    let size = read_magnitude(reader)?;
+    if size == 0 {
+        return Ok(0);
+    }
+    let sign = reader.bits(1)?;
+    Ok(with_sign(sign, size as u8))
+}
+
+/// MVD, a difference of vectors in half samples.
+#[tactic(auto, unfolding(crate::specs::Tables::mvd, h263_bits::specs::Syntax::reading))]
+pub fn read_mvd(reader: &mut BitReader<'_>) -> Result<i8, Fault>
+    ensures { Gives (λ (v : ℤ). v) result reader.new (reading mvd reader.old) }
+{
+    let at = reader.at();
+    match read_mvd_parts(reader) {
+        Ok(value) => {
+            if value == 32 {
+                return Err(Fault {
+                    kind: FaultKind::BadCode,
+                    at,
+                });
+            }
+            Ok(value)
+        }
+        Err(fault) => Err(Fault {
+            kind: fault.kind,
+            at,
+        }),
+    }
+}
+
+fn level_at(levels: &[Level], place: usize) -> Option<Level>
+    ensures { result ≡ slice_get levels.now place }
+{
+    levels.get(place).copied()
+}
+
+fn read_event_word(reader: &mut BitReader<'_>) -> Result<Option<Level>, Fault>
+    ensures reads { Gives event_of_code result reader.new (word_at tcoef_words reader.old) }
+    ensures small { IfOk result (λ o. IfSome o (λ level. level.size < 128)) }
+{
+    let place = read_code(reader, &EVENTS, &EVENTS_FAST)?;
+    Ok(level_at(&LEVELS, place))
+}
+
+#[tactic(auto, unfolding(crate::specs::Tables::event_parts, crate::specs::Tables::event_table, h263_bits::specs::Syntax::reading))]
+fn read_event_parts(reader: &mut BitReader<'_>) -> Result<Coefficient, Fault>
+    ensures { Gives coefficient_of result reader.new (reading event_parts reader.old) }
+{
+    if let Some(level) = read_event_word(reader)? {
+        let sign = reader.bits(1)?;
+        return Ok(Coefficient {
+            last: level.last,
+            run: level.run,
+            level: with_sign(sign, level.size),
+        });
+    }
+    let last = reader.bits(1)?;
+    let run = reader.bits(6)?;
+    let at = reader.at();
+    let level = reader.bits(8)?;
+    if level == 0 || level == 128 {
+        return Err(Fault {
+            kind: FaultKind::BadLevel,
+            at,
+        });
+    }
+    Ok(Coefficient {
+        last: last == 1,
+        run: run as u8,
+        level: escape_level(level),
+    })
+}
+
+/// LEVEL of an escape, in two's complement.
+fn escape_level(bits: u32) -> i8
+    requires byte { bits < 256 }
+    requires in_range { bits ≢ 128 }
+    ensures { result ≡ level_of bits }
+{
+    if bits < 128 {
+        bits as i8
+    } else {
+        -((256 - bits) as i8)
+    }
+}
+
+/// An event: LAST, RUN and LEVEL.
+#[tactic(auto, unfolding(crate::specs::Tables::event, h263_bits::specs::Syntax::reading))]
+pub fn read_event(reader: &mut BitReader<'_>) -> Result<Coefficient, Fault>
+    ensures { Gives coefficient_of result reader.new (reading event reader.old) }
+{
+    let at = reader.at();
+    match read_event_parts(reader) {
+        Ok(event) => Ok(event),
+        Err(fault) => Err(Fault {
+            kind: fault.kind,
+            at,
+        }),
+    }
+}
+
+fn write_pattern(writer: &mut BitWriter<'_>, pattern: usize)
+    requires pattern { pattern < 16 }
+    requires room { len_of writer.old + length (text_at cbpy_texts pattern) ≤ room_of writer.old }
+    ensures bits { Appends writer.old writer.new (text_at cbpy_texts pattern) }
+    ensures len { len_of writer.new ≡ len_of writer.old + length (text_at cbpy_texts pattern) }
+{
+    write_code(writer, &CBPY, pattern);
+}
+
+/// Writes CBPY. An inter macroblock has the word of the complement.
+#[tactic(auto, unfolding(crate::specs::Tables::cbpy_text))]
+pub fn write_cbpy(writer: &mut BitWriter<'_>, intra: bool, cbpy: u8)
+    requires pattern { cbpy < 16 }
+    requires room { len_of writer.old + length (cbpy_text intra cbpy) ≤ room_of writer.old }
+    ensures bits { Appends writer.old writer.new (cbpy_text intra cbpy) }
+    ensures len { len_of writer.new ≡ len_of writer.old + length (cbpy_text intra cbpy) }
+{
+    if intra {
+        write_pattern(writer, cbpy as usize);
+    } else {
+        write_pattern(writer, 15 - cbpy as usize);
+    }
+}
+
+fn write_magnitude(writer: &mut BitWriter<'_>, size: usize)
+    requires size { size < 33 }
+    requires room { len_of writer.old + length (text_at magnitude_texts size) ≤ room_of writer.old }
+    ensures bits { Appends writer.old writer.new (text_at magnitude_texts size) }
+    ensures len { len_of writer.new ≡ len_of writer.old + length (text_at magnitude_texts size) }
+{
+    write_code(writer, &MAGNITUDES, size);
+}
+
+/// The size of a number.
+fn size(value: i8) -> usize
+    ensures { result ≡ size_of value }
+{
+    if value < 0 {
+        (-(value as i16)) as usize
+    } else {
+        value as usize
+    }
+}
+
+/// The sign behind a size: none at 0, 1 for minus.
+fn write_sign(writer: &mut BitWriter<'_>, value: i8)
+    requires room { len_of writer.old + length (sign_text value) ≤ room_of writer.old }
+    ensures bits { Appends writer.old writer.new (sign_text value) }
+    ensures len { len_of writer.new ≡ len_of writer.old + length (sign_text value) }
+{
+    if value < 0 {
+        writer.put(1, 1);
+    } else if value > 0 {
+        writer.put(0, 1);
+    }
+}
+
+/// Writes MVD, a difference of vectors in half samples, -32 to 31.
+pub fn write_mvd(writer: &mut BitWriter<'_>, value: i8)
+    requires low { negsuc 31 ≤ℤ value }
+    requires high { value ≤ℤ pos 31 }
+    requires room { len_of writer.old + length (mvd_text value) ≤ room_of writer.old }
+    ensures bits { Appends writer.old writer.new (mvd_text value) }
+    ensures len { len_of writer.new ≡ len_of writer.old + length (mvd_text value) }
+{
+    write_magnitude(writer, size(value));
+    write_sign(writer, value);
+}

@@ -1,0 +1,5 @@
+pub mod Attached
+pub mod Buffers
+pub mod Ends
+pub mod Frames
+pub mod Plays

@@ -1,0 +1,7 @@
+pub mod Sums
+pub mod Wraps
+pub mod Factors
+pub mod InverseRows
+pub mod ForwardRows
+pub mod Steps
+pub mod Results

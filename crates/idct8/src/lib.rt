@@ -1,0 +1,12 @@
+//! The transforms of a block of 8 x 8 numbers (H.263, 6.2.4): the inverse one gives samples, or what they differ
+//! by from a prediction; the forward one gives coefficients. Both are exact: a double sum with one rounding.
+#![tactic(auto)]
+
+mod passes;
+mod terms;
+mod two_passes;
+
+pub use two_passes::{forward, inverse};
+
+#[cfg(test)]
+mod tests;
