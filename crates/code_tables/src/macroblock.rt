@@ -8,8 +8,8 @@ ghost use Rattle.code_tables.specs.Places.{class_place_of, inter_place_of, intra
 
 use crate::code::{read_code, write_code};
 use crate::tables::{
-    INTER_MCBPC, INTER_MCBPC_FAST, INTER_MCBPC_SYMBOLS, INTRA_MCBPC, INTRA_MCBPC_FAST, INTRA_MCBPC_SYMBOLS, STEPS,
-    STEPS_FAST, STEP_SYMBOLS,
+    INTER_MCBPC, INTER_MCBPC_FAST, INTER_MCBPC_SYMBOLS, INTRA_MCBPC, INTRA_MCBPC_FAST,
+    INTRA_MCBPC_SYMBOLS, STEP_SYMBOLS, STEPS, STEPS_FAST,
 };
 use h263_bits::{BitReader, BitWriter, Fault};
 use h263_types::Kind;
@@ -116,7 +116,10 @@ fn intra_place(word: Mcbpc) -> usize
 {
     match word {
         Mcbpc::Stuffing => 8,
-        Mcbpc::Word { class: MbClass::IntraQ, cbpc } => 4 + cbpc as usize,
+        Mcbpc::Word {
+            class: MbClass::IntraQ,
+            cbpc,
+        } => 4 + cbpc as usize,
         Mcbpc::Word { class: _, cbpc } => cbpc as usize,
     }
 }

@@ -728,17 +728,51 @@ pub const INTRA_MCBPC: [Code; 9] = [
     Code { bits: 1, len: 9 },
 ];
 
-pub const INTRA_MCBPC_FAST: [u8; 256] = [255, 255, 255, 255, 5, 5, 5, 5, 6, 6, 6, 6, 7, 7, 7, 7, 4, 4, 4, 4, 4, 4, 4, 4, 4, 4, 4, 4, 4, 4, 4, 4, 1, 1, 1, 1, 1, 1, 1, 1, 1, 1, 1, 1, 1, 1, 1, 1, 1, 1, 1, 1, 1, 1, 1, 1, 1, 1, 1, 1, 1, 1, 1, 1, 2, 2, 2, 2, 2, 2, 2, 2, 2, 2, 2, 2, 2, 2, 2, 2, 2, 2, 2, 2, 2, 2, 2, 2, 2, 2, 2, 2, 2, 2, 2, 2, 3, 3, 3, 3, 3, 3, 3, 3, 3, 3, 3, 3, 3, 3, 3, 3, 3, 3, 3, 3, 3, 3, 3, 3, 3, 3, 3, 3, 3, 3, 3, 3, 0, 0, 0, 0, 0, 0, 0, 0, 0, 0, 0, 0, 0, 0, 0, 0, 0, 0, 0, 0, 0, 0, 0, 0, 0, 0, 0, 0, 0, 0, 0, 0, 0, 0, 0, 0, 0, 0, 0, 0, 0, 0, 0, 0, 0, 0, 0, 0, 0, 0, 0, 0, 0, 0, 0, 0, 0, 0, 0, 0, 0, 0, 0, 0, 0, 0, 0, 0, 0, 0, 0, 0, 0, 0, 0, 0, 0, 0, 0, 0, 0, 0, 0, 0, 0, 0, 0, 0, 0, 0, 0, 0, 0, 0, 0, 0, 0, 0, 0, 0, 0, 0, 0, 0, 0, 0, 0, 0, 0, 0, 0, 0, 0, 0, 0, 0, 0, 0, 0, 0, 0, 0, 0, 0, 0, 0, 0, 0];
+pub const INTRA_MCBPC_FAST: [u8; 256] = [
+    255, 255, 255, 255, 5, 5, 5, 5, 6, 6, 6, 6, 7, 7, 7, 7, 4, 4, 4, 4, 4, 4, 4, 4, 4, 4, 4, 4, 4,
+    4, 4, 4, 1, 1, 1, 1, 1, 1, 1, 1, 1, 1, 1, 1, 1, 1, 1, 1, 1, 1, 1, 1, 1, 1, 1, 1, 1, 1, 1, 1, 1,
+    1, 1, 1, 2, 2, 2, 2, 2, 2, 2, 2, 2, 2, 2, 2, 2, 2, 2, 2, 2, 2, 2, 2, 2, 2, 2, 2, 2, 2, 2, 2, 2,
+    2, 2, 2, 3, 3, 3, 3, 3, 3, 3, 3, 3, 3, 3, 3, 3, 3, 3, 3, 3, 3, 3, 3, 3, 3, 3, 3, 3, 3, 3, 3, 3,
+    3, 3, 3, 0, 0, 0, 0, 0, 0, 0, 0, 0, 0, 0, 0, 0, 0, 0, 0, 0, 0, 0, 0, 0, 0, 0, 0, 0, 0, 0, 0, 0,
+    0, 0, 0, 0, 0, 0, 0, 0, 0, 0, 0, 0, 0, 0, 0, 0, 0, 0, 0, 0, 0, 0, 0, 0, 0, 0, 0, 0, 0, 0, 0, 0,
+    0, 0, 0, 0, 0, 0, 0, 0, 0, 0, 0, 0, 0, 0, 0, 0, 0, 0, 0, 0, 0, 0, 0, 0, 0, 0, 0, 0, 0, 0, 0, 0,
+    0, 0, 0, 0, 0, 0, 0, 0, 0, 0, 0, 0, 0, 0, 0, 0, 0, 0, 0, 0, 0, 0, 0, 0, 0, 0, 0, 0, 0, 0, 0, 0,
+    0, 0, 0,
+];
 
 pub const INTRA_MCBPC_SYMBOLS: [Mcbpc; 9] = [
-    Mcbpc::Word { class: MbClass::Intra, cbpc: 0 },
-    Mcbpc::Word { class: MbClass::Intra, cbpc: 1 },
-    Mcbpc::Word { class: MbClass::Intra, cbpc: 2 },
-    Mcbpc::Word { class: MbClass::Intra, cbpc: 3 },
-    Mcbpc::Word { class: MbClass::IntraQ, cbpc: 0 },
-    Mcbpc::Word { class: MbClass::IntraQ, cbpc: 1 },
-    Mcbpc::Word { class: MbClass::IntraQ, cbpc: 2 },
-    Mcbpc::Word { class: MbClass::IntraQ, cbpc: 3 },
+    Mcbpc::Word {
+        class: MbClass::Intra,
+        cbpc: 0,
+    },
+    Mcbpc::Word {
+        class: MbClass::Intra,
+        cbpc: 1,
+    },
+    Mcbpc::Word {
+        class: MbClass::Intra,
+        cbpc: 2,
+    },
+    Mcbpc::Word {
+        class: MbClass::Intra,
+        cbpc: 3,
+    },
+    Mcbpc::Word {
+        class: MbClass::IntraQ,
+        cbpc: 0,
+    },
+    Mcbpc::Word {
+        class: MbClass::IntraQ,
+        cbpc: 1,
+    },
+    Mcbpc::Word {
+        class: MbClass::IntraQ,
+        cbpc: 2,
+    },
+    Mcbpc::Word {
+        class: MbClass::IntraQ,
+        cbpc: 3,
+    },
     Mcbpc::Stuffing,
 ];
 
@@ -767,29 +801,99 @@ pub const INTER_MCBPC: [Code; 21] = [
     Code { bits: 1, len: 9 },
 ];
 
-pub const INTER_MCBPC_FAST: [u8; 256] = [255, 255, 255, 14, 13, 11, 15, 15, 10, 10, 9, 9, 6, 6, 5, 5, 16, 16, 16, 16, 3, 3, 3, 3, 12, 12, 12, 12, 12, 12, 12, 12, 2, 2, 2, 2, 2, 2, 2, 2, 2, 2, 2, 2, 2, 2, 2, 2, 1, 1, 1, 1, 1, 1, 1, 1, 1, 1, 1, 1, 1, 1, 1, 1, 8, 8, 8, 8, 8, 8, 8, 8, 8, 8, 8, 8, 8, 8, 8, 8, 8, 8, 8, 8, 8, 8, 8, 8, 8, 8, 8, 8, 8, 8, 8, 8, 4, 4, 4, 4, 4, 4, 4, 4, 4, 4, 4, 4, 4, 4, 4, 4, 4, 4, 4, 4, 4, 4, 4, 4, 4, 4, 4, 4, 4, 4, 4, 4, 0, 0, 0, 0, 0, 0, 0, 0, 0, 0, 0, 0, 0, 0, 0, 0, 0, 0, 0, 0, 0, 0, 0, 0, 0, 0, 0, 0, 0, 0, 0, 0, 0, 0, 0, 0, 0, 0, 0, 0, 0, 0, 0, 0, 0, 0, 0, 0, 0, 0, 0, 0, 0, 0, 0, 0, 0, 0, 0, 0, 0, 0, 0, 0, 0, 0, 0, 0, 0, 0, 0, 0, 0, 0, 0, 0, 0, 0, 0, 0, 0, 0, 0, 0, 0, 0, 0, 0, 0, 0, 0, 0, 0, 0, 0, 0, 0, 0, 0, 0, 0, 0, 0, 0, 0, 0, 0, 0, 0, 0, 0, 0, 0, 0, 0, 0, 0, 0, 0, 0, 0, 0, 0, 0, 0, 0, 0, 0];
+pub const INTER_MCBPC_FAST: [u8; 256] = [
+    255, 255, 255, 14, 13, 11, 15, 15, 10, 10, 9, 9, 6, 6, 5, 5, 16, 16, 16, 16, 3, 3, 3, 3, 12,
+    12, 12, 12, 12, 12, 12, 12, 2, 2, 2, 2, 2, 2, 2, 2, 2, 2, 2, 2, 2, 2, 2, 2, 1, 1, 1, 1, 1, 1,
+    1, 1, 1, 1, 1, 1, 1, 1, 1, 1, 8, 8, 8, 8, 8, 8, 8, 8, 8, 8, 8, 8, 8, 8, 8, 8, 8, 8, 8, 8, 8, 8,
+    8, 8, 8, 8, 8, 8, 8, 8, 8, 8, 4, 4, 4, 4, 4, 4, 4, 4, 4, 4, 4, 4, 4, 4, 4, 4, 4, 4, 4, 4, 4, 4,
+    4, 4, 4, 4, 4, 4, 4, 4, 4, 4, 0, 0, 0, 0, 0, 0, 0, 0, 0, 0, 0, 0, 0, 0, 0, 0, 0, 0, 0, 0, 0, 0,
+    0, 0, 0, 0, 0, 0, 0, 0, 0, 0, 0, 0, 0, 0, 0, 0, 0, 0, 0, 0, 0, 0, 0, 0, 0, 0, 0, 0, 0, 0, 0, 0,
+    0, 0, 0, 0, 0, 0, 0, 0, 0, 0, 0, 0, 0, 0, 0, 0, 0, 0, 0, 0, 0, 0, 0, 0, 0, 0, 0, 0, 0, 0, 0, 0,
+    0, 0, 0, 0, 0, 0, 0, 0, 0, 0, 0, 0, 0, 0, 0, 0, 0, 0, 0, 0, 0, 0, 0, 0, 0, 0, 0, 0, 0, 0, 0, 0,
+    0, 0, 0, 0, 0, 0, 0, 0, 0, 0,
+];
 
 pub const INTER_MCBPC_SYMBOLS: [Mcbpc; 21] = [
-    Mcbpc::Word { class: MbClass::Inter, cbpc: 0 },
-    Mcbpc::Word { class: MbClass::Inter, cbpc: 1 },
-    Mcbpc::Word { class: MbClass::Inter, cbpc: 2 },
-    Mcbpc::Word { class: MbClass::Inter, cbpc: 3 },
-    Mcbpc::Word { class: MbClass::InterQ, cbpc: 0 },
-    Mcbpc::Word { class: MbClass::InterQ, cbpc: 1 },
-    Mcbpc::Word { class: MbClass::InterQ, cbpc: 2 },
-    Mcbpc::Word { class: MbClass::InterQ, cbpc: 3 },
-    Mcbpc::Word { class: MbClass::Inter4, cbpc: 0 },
-    Mcbpc::Word { class: MbClass::Inter4, cbpc: 1 },
-    Mcbpc::Word { class: MbClass::Inter4, cbpc: 2 },
-    Mcbpc::Word { class: MbClass::Inter4, cbpc: 3 },
-    Mcbpc::Word { class: MbClass::Intra, cbpc: 0 },
-    Mcbpc::Word { class: MbClass::Intra, cbpc: 1 },
-    Mcbpc::Word { class: MbClass::Intra, cbpc: 2 },
-    Mcbpc::Word { class: MbClass::Intra, cbpc: 3 },
-    Mcbpc::Word { class: MbClass::IntraQ, cbpc: 0 },
-    Mcbpc::Word { class: MbClass::IntraQ, cbpc: 1 },
-    Mcbpc::Word { class: MbClass::IntraQ, cbpc: 2 },
-    Mcbpc::Word { class: MbClass::IntraQ, cbpc: 3 },
+    Mcbpc::Word {
+        class: MbClass::Inter,
+        cbpc: 0,
+    },
+    Mcbpc::Word {
+        class: MbClass::Inter,
+        cbpc: 1,
+    },
+    Mcbpc::Word {
+        class: MbClass::Inter,
+        cbpc: 2,
+    },
+    Mcbpc::Word {
+        class: MbClass::Inter,
+        cbpc: 3,
+    },
+    Mcbpc::Word {
+        class: MbClass::InterQ,
+        cbpc: 0,
+    },
+    Mcbpc::Word {
+        class: MbClass::InterQ,
+        cbpc: 1,
+    },
+    Mcbpc::Word {
+        class: MbClass::InterQ,
+        cbpc: 2,
+    },
+    Mcbpc::Word {
+        class: MbClass::InterQ,
+        cbpc: 3,
+    },
+    Mcbpc::Word {
+        class: MbClass::Inter4,
+        cbpc: 0,
+    },
+    Mcbpc::Word {
+        class: MbClass::Inter4,
+        cbpc: 1,
+    },
+    Mcbpc::Word {
+        class: MbClass::Inter4,
+        cbpc: 2,
+    },
+    Mcbpc::Word {
+        class: MbClass::Inter4,
+        cbpc: 3,
+    },
+    Mcbpc::Word {
+        class: MbClass::Intra,
+        cbpc: 0,
+    },
+    Mcbpc::Word {
+        class: MbClass::Intra,
+        cbpc: 1,
+    },
+    Mcbpc::Word {
+        class: MbClass::Intra,
+        cbpc: 2,
+    },
+    Mcbpc::Word {
+        class: MbClass::Intra,
+        cbpc: 3,
+    },
+    Mcbpc::Word {
+        class: MbClass::IntraQ,
+        cbpc: 0,
+    },
+    Mcbpc::Word {
+        class: MbClass::IntraQ,
+        cbpc: 1,
+    },
+    Mcbpc::Word {
+        class: MbClass::IntraQ,
+        cbpc: 2,
+    },
+    Mcbpc::Word {
+        class: MbClass::IntraQ,
+        cbpc: 3,
+    },
     Mcbpc::Stuffing,
 ];
 
@@ -800,6 +904,15 @@ pub const STEPS: [Code; 4] = [
     Code { bits: 3, len: 2 },
 ];
 
-pub const STEPS_FAST: [u8; 256] = [0, 0, 0, 0, 0, 0, 0, 0, 0, 0, 0, 0, 0, 0, 0, 0, 0, 0, 0, 0, 0, 0, 0, 0, 0, 0, 0, 0, 0, 0, 0, 0, 0, 0, 0, 0, 0, 0, 0, 0, 0, 0, 0, 0, 0, 0, 0, 0, 0, 0, 0, 0, 0, 0, 0, 0, 0, 0, 0, 0, 0, 0, 0, 0, 1, 1, 1, 1, 1, 1, 1, 1, 1, 1, 1, 1, 1, 1, 1, 1, 1, 1, 1, 1, 1, 1, 1, 1, 1, 1, 1, 1, 1, 1, 1, 1, 1, 1, 1, 1, 1, 1, 1, 1, 1, 1, 1, 1, 1, 1, 1, 1, 1, 1, 1, 1, 1, 1, 1, 1, 1, 1, 1, 1, 1, 1, 1, 1, 2, 2, 2, 2, 2, 2, 2, 2, 2, 2, 2, 2, 2, 2, 2, 2, 2, 2, 2, 2, 2, 2, 2, 2, 2, 2, 2, 2, 2, 2, 2, 2, 2, 2, 2, 2, 2, 2, 2, 2, 2, 2, 2, 2, 2, 2, 2, 2, 2, 2, 2, 2, 2, 2, 2, 2, 2, 2, 2, 2, 2, 2, 2, 2, 3, 3, 3, 3, 3, 3, 3, 3, 3, 3, 3, 3, 3, 3, 3, 3, 3, 3, 3, 3, 3, 3, 3, 3, 3, 3, 3, 3, 3, 3, 3, 3, 3, 3, 3, 3, 3, 3, 3, 3, 3, 3, 3, 3, 3, 3, 3, 3, 3, 3, 3, 3, 3, 3, 3, 3, 3, 3, 3, 3, 3, 3, 3, 3];
+pub const STEPS_FAST: [u8; 256] = [
+    0, 0, 0, 0, 0, 0, 0, 0, 0, 0, 0, 0, 0, 0, 0, 0, 0, 0, 0, 0, 0, 0, 0, 0, 0, 0, 0, 0, 0, 0, 0, 0,
+    0, 0, 0, 0, 0, 0, 0, 0, 0, 0, 0, 0, 0, 0, 0, 0, 0, 0, 0, 0, 0, 0, 0, 0, 0, 0, 0, 0, 0, 0, 0, 0,
+    1, 1, 1, 1, 1, 1, 1, 1, 1, 1, 1, 1, 1, 1, 1, 1, 1, 1, 1, 1, 1, 1, 1, 1, 1, 1, 1, 1, 1, 1, 1, 1,
+    1, 1, 1, 1, 1, 1, 1, 1, 1, 1, 1, 1, 1, 1, 1, 1, 1, 1, 1, 1, 1, 1, 1, 1, 1, 1, 1, 1, 1, 1, 1, 1,
+    2, 2, 2, 2, 2, 2, 2, 2, 2, 2, 2, 2, 2, 2, 2, 2, 2, 2, 2, 2, 2, 2, 2, 2, 2, 2, 2, 2, 2, 2, 2, 2,
+    2, 2, 2, 2, 2, 2, 2, 2, 2, 2, 2, 2, 2, 2, 2, 2, 2, 2, 2, 2, 2, 2, 2, 2, 2, 2, 2, 2, 2, 2, 2, 2,
+    3, 3, 3, 3, 3, 3, 3, 3, 3, 3, 3, 3, 3, 3, 3, 3, 3, 3, 3, 3, 3, 3, 3, 3, 3, 3, 3, 3, 3, 3, 3, 3,
+    3, 3, 3, 3, 3, 3, 3, 3, 3, 3, 3, 3, 3, 3, 3, 3, 3, 3, 3, 3, 3, 3, 3, 3, 3, 3, 3, 3, 3, 3, 3, 3,
+];
 
 pub const STEP_SYMBOLS: [i8; 4] = [-1, -2, 1, 2];
