@@ -916,3 +916,15 @@ pub const STEPS_FAST: [u8; 256] = [
 ];
 
 pub const STEP_SYMBOLS: [i8; 4] = [-1, -2, 1, 2];
+
+/// Where the words of LAST 0 begin, by RUN, and where the last ones end.
+pub const LAST_0_STARTS: [u8; 28] = [
+    0, 12, 18, 22, 25, 28, 31, 34, 36, 38, 40, 42, 43, 44, 45, 46, 47, 48, 49, 50, 51, 52, 53, 54,
+    55, 56, 57, 58,
+];
+
+/// Where the words of LAST 1 begin, by RUN, and where the last ones end.
+pub const LAST_1_STARTS: [u8; 42] = [
+    58, 61, 63, 64, 65, 66, 67, 68, 69, 70, 71, 72, 73, 74, 75, 76, 77, 78, 79, 80, 81, 82, 83, 84,
+    85, 86, 87, 88, 89, 90, 91, 92, 93, 94, 95, 96, 97, 98, 99, 100, 101, 102,
+];
