@@ -1,5 +1,5 @@
 -- The code tables, as the standard writes them.
-use Rattle.std.specs.Prelude.{ℕ, suc, ◌<◌, slice_get, option_and_then, ◌+◌, ◌-◌, List, [], ◌∷◌, ◌++◌, Bool, true, false, refl, if◌then◌else◌, Option, Some, None, ◌==◌, nat_lt, ℤ, pos, negsuc, neg_ℤ}
+use Rattle.std.specs.Prelude.{length, count_by, is_some, ◌&&◌, ℕ, suc, ◌<◌, slice_get, option_and_then, ◌+◌, ◌-◌, List, [], ◌∷◌, ◌++◌, Bool, true, false, refl, if◌then◌else◌, Option, Some, None, ◌==◌, nat_lt, ℤ, pos, negsuc, neg_ℤ}
 use Rattle.h263_bits.specs.declared.fault.FaultKind.TheVariants.{BadCode, BadLevel}
 use Rattle.h263_bits.specs.Bits.{fields}
 use Rattle.h263_bits.specs.Syntax.{Syntax, Words, Allowed, any, code, done, field, element, either, begins, is_prefix_free}
@@ -140,6 +140,10 @@ tcoef_words = from_runs false 0 last_0_texts ++ from_runs true 0 last_1_texts ++
 unfoldable pub event_table : Words (Option Event)
 unfolding tcoef_words last_0_texts last_1_texts begins is_prefix_free
 event_table = record { list = tcoef_words; apart = refl }
+
+-- how many words of events have so many bits, the escape left out
+unfoldable pub words_of_length : ℕ → ℕ
+words_of_length n = count_by (λ w. is_some w.1 && (length w.0 == n)) tcoef_words
 
 -- a size with its sign, 1 for minus
 abbrev pub signed : ℕ → ℕ → ℤ

@@ -1,7 +1,8 @@
-ghost use Rattle.std.specs.Prelude.{◌≡◌, ℕ, ℤ, ◌<◌, ◌+◌, ◌≤◌, IfOk, length, slice_get, Some};
+ghost use Rattle.std.specs.Prelude.{◌≡◌, ℕ, ℤ, ◌<◌, ◌+◌, ◌≤◌, IfErr, length, slice_get, Some};
 ghost use Rattle.h263_bits.specs.Reading.{Gives};
 ghost use Rattle.h263_bits.specs.Syntax.{reading, word_at};
 ghost use Rattle.h263_types.specs.declared.Kind.TheVariants as kinds;
+ghost use Rattle.h263_bits.specs.declared.fault.FaultKind.TheVariants.{Ended};
 ghost use Rattle.h263_bits.specs.Written.{Appends, len_of, room_of};
 ghost use Rattle.code_tables.specs.Mcbpc.{mcbpc, mcbpc_words, dquant, dquant_words, IsInTable, IsStep, mcbpc_text, dquant_text};
 ghost use Rattle.code_tables.specs.Places.{class_place_of, inter_place_of, intra_place_of, step_place_of};
@@ -80,7 +81,9 @@ fn read_step(reader: &mut BitReader<'_>) -> Result<i8, Fault>
 /// DQUANT, the step of the quantiser (H.263 5.3.6): -2, -1, 1 or 2.
 #[tactic(auto, unfolding(crate::specs::Mcbpc::dquant, crate::specs::Mcbpc::dquant_table, h263_bits::specs::Syntax::reading))]
 pub fn read_dquant(reader: &mut BitReader<'_>) -> Result<i8, Fault>
-    ensures { Gives (λ (s : ℤ). s) result reader.new (reading dquant reader.old) }
+    ensures reads { Gives (λ (s : ℤ). s) result reader.new (reading dquant reader.old) }
+    // Each pair of bits is a word, so there is no bad code.
+    ensures ended { IfErr result (λ fault. fault.kind ≡ Ended) }
 {
     read_step(reader)
 }
