@@ -1,11 +1,11 @@
--- The code tables, as the standard writes them.
+-- CBPY, MVD and TCOEF (H.263 5.3.5, 5.3.7 and 5.4.2), as the standard writes them.
 use Rattle.std.specs.Prelude.{length, count_by, is_some, ◌&&◌, ℕ, suc, ◌<◌, slice_get, option_and_then, ◌+◌, ◌-◌, List, [], ◌∷◌, ◌++◌, Bool, true, false, refl, if◌then◌else◌, Option, Some, None, ◌==◌, nat_lt, ℤ, pos, negsuc, neg_ℤ}
 use Rattle.h263_bits.specs.declared.fault.FaultKind.TheVariants.{BadCode, BadLevel}
 use Rattle.h263_bits.specs.Bits.{fields}
 use Rattle.h263_bits.specs.Syntax.{Syntax, Words, Allowed, any, code, done, field, element, either, begins, is_prefix_free}
 use Rattle.code_tables.specs.Words.{word, from_number, text_at}
 
--- CBPY of an intra macroblock, patterns 0 to 15
+-- the words of CBPY in an intra macroblock, patterns 0 to 15
 unfoldable pub cbpy_texts : List (List Bool)
 cbpy_texts = word "0011" ∷ word "00101" ∷ word "00100" ∷ word "1001" ∷ word "00011" ∷ word "0111" ∷ word "000010" ∷ word "1011" ∷ word "00010" ∷ word "000011" ∷ word "0101" ∷ word "1010" ∷ word "0100" ∷ word "1000" ∷ word "0110" ∷ word "11" ∷ []
 
@@ -24,7 +24,7 @@ cbpy intra = code cbpy_table λ pattern. done (if intra then pattern else 15 - p
 unfoldable pub cbpy_text : Bool → ℕ → List Bool
 cbpy_text intra pattern = text_at cbpy_texts (if intra then pattern else 15 - pattern)
 
--- the magnitudes 0 to 32 of MVD, in half samples
+-- the words of MVD, magnitudes 0 to 32 in half samples; a sign follows
 unfoldable pub magnitude_texts : List (List Bool)
 magnitude_texts = word "1" ∷ word "01" ∷ word "001" ∷ word "0001" ∷ word "000011" ∷ word "0000101" ∷ word "0000100" ∷ word "0000011" ∷ word "000001011" ∷ word "000001010" ∷ word "000001001" ∷ word "0000010001" ∷ word "0000010000" ∷ word "0000001111" ∷ word "0000001110" ∷ word "0000001101" ∷ word "0000001100" ∷ word "0000001011" ∷ word "0000001010" ∷ word "0000001001" ∷ word "0000001000" ∷ word "0000000111" ∷ word "0000000110" ∷ word "0000000101" ∷ word "0000000100" ∷ word "00000000111" ∷ word "00000000110" ∷ word "00000000101" ∷ word "00000000100" ∷ word "00000000011" ∷ word "00000000010" ∷ word "000000000011" ∷ word "000000000010" ∷ []
 

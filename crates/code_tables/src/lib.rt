@@ -1,4 +1,9 @@
-//! The code tables of macroblocks and blocks.
+//! The code tables of macroblocks and blocks (H.263, 5.3 and 5.4): MCBPC, CBPY, DQUANT, MVD and the events of TCOEF, read and
+//! written.
+//!
+//! `specs/` has each table as the standard prints it, and says which bits spell which value. A reader finds exactly that, or
+//! the first fault at its place: most words by a look at eight bits, and all others by a search. A writer writes the word at
+//! a place of the table.
 #![tactic(auto)]
 
 mod code;

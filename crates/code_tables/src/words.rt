@@ -22,7 +22,7 @@ fn read_pattern(reader: &mut BitReader<'_>) -> Result<usize, Fault>
     read_code(reader, &CBPY, &CBPY_FAST)
 }
 
-/// CBPY. An inter macroblock has the word of the complement.
+/// CBPY, the pattern of the luminance blocks, 0 to 15 (H.263 5.3.5). An inter macroblock has the word of the complement.
 #[tactic(auto, unfolding(crate::specs::Tables::cbpy, crate::specs::Tables::cbpy_table, h263_bits::specs::Syntax::reading))]
 pub fn read_cbpy(reader: &mut BitReader<'_>, intra: bool) -> Result<u8, Fault>
     ensures { Gives (λ (i : ℕ). i) result reader.new (reading (cbpy intra) reader.old) }
@@ -58,7 +58,7 @@ fn read_mvd_parts(reader: &mut BitReader<'_>) -> Result<i8, Fault>
     Ok(with_sign(sign, size as u8))
 }
 
-/// MVD, a difference of vectors in half samples.
+/// MVD, a difference of vectors in half samples, -32 to 31 (H.263 5.3.7).
 #[tactic(auto, unfolding(crate::specs::Tables::mvd, h263_bits::specs::Syntax::reading))]
 pub fn read_mvd(reader: &mut BitReader<'_>) -> Result<i8, Fault>
     ensures { Gives (λ (v : ℤ). v) result reader.new (reading mvd reader.old) }
@@ -137,7 +137,7 @@ fn escape_level(bits: u32) -> i8
     }
 }
 
-/// An event: LAST, RUN and LEVEL.
+/// An event of TCOEF: LAST, RUN and LEVEL, as a word with its sign or as an escape (H.263 5.4.2).
 #[tactic(auto, unfolding(crate::specs::Tables::event, h263_bits::specs::Syntax::reading))]
 pub fn read_event(reader: &mut BitReader<'_>) -> Result<Coefficient, Fault>
     ensures { Gives coefficient_of result reader.new (reading event reader.old) }
