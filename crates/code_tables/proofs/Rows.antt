@@ -13,7 +13,7 @@ use Rattle.std.proofs.lemmas.Option.{slice_get-get_or, slice_get_past}
 use Rattle.h263_bits.proofs.SyntaxLaws.{and_both}
 use Rattle.h263_bits.specs.Bits.{spelled}
 use Rattle.code_tables.specs.declared.code.Code.{Code}
-use Rattle.code_tables.specs.declared.tables.TheConstants.{EVENTS}
+use Rattle.code_tables.specs.declared.event_tables.TheConstants.{EVENTS}
 use Rattle.code_tables.specs.Words.{code_at, word_of, place_in, cut_rows}
 use Rattle.code_tables.specs.Starts.{starts_of}
 use Rattle.code_tables.specs.Tables.{rows_of, last_0_texts, last_1_texts, triple_text, Coefficient, size_of, sign_text, escape_fields, event_text}

@@ -7,6 +7,7 @@
 #![tactic(auto)]
 
 mod code;
+mod event_tables;
 pub mod laws;
 mod macroblock;
 mod tables;

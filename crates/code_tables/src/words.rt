@@ -9,10 +9,8 @@ ghost use Rattle.code_tables.specs.Tables.{cbpy, cbpy_texts, cbpy_text, magnitud
 ghost use Rattle.code_tables.specs.Events.{event_of_code, coefficient_of};
 
 use crate::code::{Coefficient, Level, read_code, write_code};
-use crate::tables::{
-    CBPY, CBPY_FAST, EVENTS, EVENTS_FAST, LAST_0_STARTS, LAST_1_STARTS, LEVELS, MAGNITUDES,
-    MAGNITUDES_FAST,
-};
+use crate::event_tables::{EVENTS, EVENTS_FAST, LAST_0_STARTS, LAST_1_STARTS, LEVELS};
+use crate::tables::{CBPY, CBPY_FAST, MAGNITUDES, MAGNITUDES_FAST};
 use h263_bits::{BitReader, BitWriter, Fault, FaultKind};
 
 fn read_pattern(reader: &mut BitReader<'_>) -> Result<usize, Fault>

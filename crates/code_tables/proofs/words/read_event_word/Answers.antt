@@ -9,7 +9,7 @@ use Rattle.h263_bits.specs.declared.fault.Fault.{Fault}
 use Rattle.h263_bits.specs.Bits.{spelled}
 use Rattle.h263_bits.specs.Reading.{Bits, ◌>>=◌}
 use Rattle.h263_bits.specs.Syntax.{begins, is_prefix_free, word_at}
-use Rattle.code_tables.specs.declared.tables.TheConstants.{EVENTS, LEVELS}
+use Rattle.code_tables.specs.declared.event_tables.TheConstants.{EVENTS, LEVELS}
 use Rattle.code_tables.specs.Words.{listed}
 use Rattle.code_tables.specs.Tables.{Event, tcoef_words, last_0_texts, last_1_texts}
 use Rattle.code_tables.specs.Events.{event_of_code}

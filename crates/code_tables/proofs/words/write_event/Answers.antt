@@ -3,7 +3,7 @@ use Rattle.std.specs.Prelude.{ℤ}
 use Rattle.std.proofs.lemmas.Int.{to_z-of_z}
 use Rattle.h263_bits.specs.Bits.{fields}
 use Rattle.h263_bits.specs.Written.{Appends, len_of, room_of}
-use Rattle.code_tables.specs.declared.tables.TheConstants.{EVENTS}
+use Rattle.code_tables.specs.declared.event_tables.TheConstants.{EVENTS}
 use Rattle.code_tables.specs.Words.{code_at, word_of, place_in}
 use Rattle.code_tables.specs.Starts.{starts_of}
 use Rattle.code_tables.specs.Tables.{size_of, sign_text, event_text, escape_fields}
