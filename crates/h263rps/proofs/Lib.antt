@@ -3,3 +3,11 @@ pub mod Buffers
 pub mod Ends
 pub mod Frames
 pub mod Plays
+pub mod Filled
+pub mod Paint
+pub mod Received
+pub mod Spelt
+pub mod Sums
+pub mod Texts
+pub mod Turns
+pub mod Whole

@@ -3,7 +3,10 @@
 
 mod call;
 mod coding;
+mod flat_blocks;
 mod laws;
+mod packet_reader;
+mod packet_writer;
 mod program;
 mod status;
 mod words;
