@@ -4,7 +4,7 @@ use Rattle.h263_planes.specs.Picture.{Picture}
 use Rattle.h263_planes.specs.Lent.{picture}
 use Rattle.h263_planes.specs.Layout.{picture_of}
 use Rattle.h263rps.specs.Flat.{AreValuesOf}
-use Rattle.h263rps.proofs.Whole.{can_be_sent, painted_is}
+use Rattle.h263rps.proofs.FlatPictures.{can_be_sent, painted_is}
 use Rattle.h263rps.proofs.coding.code_frame.Goals as goal
 
 pub sent_values-heard-requires : goal.sent_values-heard-requires

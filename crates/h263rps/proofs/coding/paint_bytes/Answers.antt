@@ -1,5 +1,5 @@
 use Rattle.std.proofs.Common.{rules}
-use Rattle.h263rps.proofs.Whole.{painted_bytes}
+use Rattle.h263rps.proofs.FlatPictures.{painted_bytes}
 use Rattle.h263rps.proofs.coding.paint_bytes.Goals as goal
 
 pub returns : goal.returns

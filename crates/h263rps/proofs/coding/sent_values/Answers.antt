@@ -1,6 +1,6 @@
 use Rattle.std.proofs.Common.{◌∙◌, sym}
 use Rattle.h263_bits.proofs.SyntaxLaws.{err_not_ok, ok_is}
-use Rattle.h263rps.proofs.Spelt.{heard}
+use Rattle.h263rps.proofs.PacketSpelt.{heard}
 use Rattle.h263rps.proofs.coding.sent_values.Goals as goal
 
 pub returns : goal.returns

@@ -2,7 +2,7 @@ use Rattle.std.proofs.Common.{ℕ, ◌+◌, ◌*◌, ◌∙◌, arith}
 use Rattle.h263_planes.specs.Lent.{picture}
 use Rattle.h263_planes.specs.Samples.{sample_at}
 use Rattle.h263rps.specs.Flat.{block_row}
-use Rattle.h263rps.proofs.Sums.{sum_more, sum_of_row}
+use Rattle.h263rps.proofs.BlockSums.{sum_more, sum_of_row}
 use Rattle.h263rps.proofs.flat_blocks.sum_of_block.Goals as goal
 
 pub loop-j-preserved : goal.loop-j-preserved

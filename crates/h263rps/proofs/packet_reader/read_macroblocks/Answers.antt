@@ -3,7 +3,7 @@ use Rattle.std.proofs.lemmas.List.{length-set, take_all}
 use Rattle.std.proofs.lemmas.Result.{err_from_is_err_and}
 use Rattle.h263_bits.specs.Syntax.{reading}
 use Rattle.h263rps.specs.Packet.{macroblocks}
-use Rattle.h263rps.proofs.Turns.{one_more, stopped, macroblocks_done}
+use Rattle.h263rps.proofs.PacketTurns.{one_more, stopped, macroblocks_done}
 use Rattle.h263rps.proofs.packet_reader.read_macroblocks.Goals as goal
 
 pub turns-preserved : goal.turns-preserved

@@ -2,7 +2,7 @@ use Rattle.std.proofs.Common.{◌∙◌, ap}
 use Rattle.h263_bits.specs.Reading.{Bits}
 use Rattle.h263_bits.specs.Syntax.{reading}
 use Rattle.h263rps.specs.Packet.{packet, value_of}
-use Rattle.h263rps.proofs.Received.{reader_is, gives_value}
+use Rattle.h263rps.proofs.PacketBytes.{reader_is, gives_value}
 use Rattle.h263rps.proofs.packet_reader.read_packet.Goals as goal
 
 pub returns : goal.returns

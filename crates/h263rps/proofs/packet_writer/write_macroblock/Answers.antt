@@ -1,4 +1,4 @@
-use Rattle.h263rps.proofs.Texts.{then, nothing}
+use Rattle.h263rps.proofs.PacketTexts.{then, nothing}
 use Rattle.h263rps.proofs.packet_writer.write_macroblock.Goals as goal
 
 pub returns-clause-bits : goal.returns-clause-bits

@@ -1,5 +1,5 @@
 use Rattle.std.proofs.Common.{◌∙◌, sym, arith}
-use Rattle.h263rps.proofs.Texts.{packet_of, whole}
+use Rattle.h263rps.proofs.PacketTexts.{packet_of, whole}
 use Rattle.h263rps.proofs.packet_writer.write_packet.Goals as goal
 
 pub returns : goal.returns
