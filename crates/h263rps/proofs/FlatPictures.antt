@@ -88,7 +88,7 @@ format_is p = refl
 whole_reconstruction : (p : Picture) → IsPicture (reconstruction p)
 whole_reconstruction p = record {
   lengths = λ plane. ap length (plane_is p plane) ∙ length-map-range_with_len (λ (k : ℕ). block_dc p plane (k % width_in p.format plane / 8) (k / width_in p.format plane / 8)) 0 (width_in p.format plane * height_in p.format plane)
-    ∙ ap (λ (f : Format). width_in f plane * height_in f plane) (sym (format_is p));
+      ∙ ap (λ (f : Format). width_in f plane * height_in f plane) (sym (format_is p));
 }
 
 -- the place of a sample says its column and row
@@ -129,7 +129,7 @@ painted_is frame out values heard long size same each painted =
     let painted' : IsPainted (picture_of SubQcif out) values = subst (λ (v : List (List ℕ)). IsPainted (picture_of SubQcif out) v) same painted in
     sym (bytes_of_picture SubQcif out size)
     ∙ ap bytes_of (same_pictures (picture_of SubQcif out) (reconstruction (picture_of SubQcif frame)) (whole_picture SubQcif out size) (whole_reconstruction (picture_of SubQcif frame)) (sym (format_is (picture_of SubQcif frame)))
-      (painted_samples frame out values each painted'))
+    (painted_samples frame out values each painted'))
 
 -- what was painted through a loan of bytes is painted in the bytes
 pub painted_bytes : (r : PictureMut) (bytes : List ℕ) (values : List (List ℕ)) → r.format ≡ SubQcif → IsPainted (work r) values → bytes ≡ r.bytes.now → IsPainted (picture_of SubQcif bytes) values

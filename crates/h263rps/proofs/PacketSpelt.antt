@@ -98,7 +98,7 @@ macroblocks_spelt before [] each = subst (λ (l : List (List ℕ)). Spells (macr
 macroblocks_spelt before (six ∷ values) each =
     let more = macroblocks_spelt (before ++ six ∷ []) values (λ k lt. each (suc k) (omega arith)) in
     let here : Spells (macroblocks (length values) (before ++ six ∷ [])) (before ++ (six ∷ values)) (macroblocks_text values) =
-      subst (λ (l : List (List ℕ)). Spells (macroblocks (length values) (before ++ six ∷ [])) l (macroblocks_text values)) (append_assoc before (six ∷ []) values) more in
+    subst (λ (l : List (List ℕ)). Spells (macroblocks (length values) (before ++ six ∷ [])) l (macroblocks_text values)) (append_assoc before (six ∷ []) values) more in
     any_part macroblock (λ six. macroblocks (length values) (before ++ six ∷ [])) six (before ++ (six ∷ values)) (fields (macroblock_fields six)) (macroblocks_text values) (macroblock_spelt six (each 0 (omega arith))) here
 
 values_spelt : (values : List (List ℕ)) → AreFlat values → Spells (macroblocks 48 []) values (macroblocks_text values)
@@ -117,12 +117,12 @@ packet_spelt number values flat =
     subst (λ (l : List Bool). Spells packet values l)
     (regroup (fields (rtp_fields number)) (fields (opening_fields number)) (fields plus_fields) (fields end_fields) (fields slice_fields) (macroblocks_text values) (fields ((5, 0) ∷ [])))
     (any_part rtp _ tt values (fields (rtp_fields number)) _ (rtp_spelt number)
-      (any_part opening _ tt values (fields (opening_fields number)) _ (opening_spelt number)
-        (any_part plus_type _ tt values (fields plus_fields) _ plus_spelt
-          (any_part header_end _ tt values (fields end_fields) _ end_spelt
-            (any_part slice_start _ tt values (fields slice_fields) _ slice_spelt
-              (any_part (macroblocks 48 []) _ values values (macroblocks_text values) _ (values_spelt values flat)
-                (spells_field 5 _ _ values 0 [] (omega arith) refl (spells_done values))))))))
+    (any_part opening _ tt values (fields (opening_fields number)) _ (opening_spelt number)
+    (any_part plus_type _ tt values (fields plus_fields) _ plus_spelt
+    (any_part header_end _ tt values (fields end_fields) _ end_spelt
+    (any_part slice_start _ tt values (fields slice_fields) _ slice_spelt
+    (any_part (macroblocks 48 []) _ values values (macroblocks_text values) _ (values_spelt values flat)
+    (spells_field 5 _ _ values 0 [] (omega arith) refl (spells_done values))))))))
 
 macroblock_productive : IsProductive macroblock
 unfolding macroblock intra_dc IsProductive

@@ -11,7 +11,8 @@ ghost use Rattle.h263rps.specs.Play.{GainsPictures, StopsInPictures, IsPlaying, 
 use crate::Status;
 use crate::coding::code_frame;
 use crate::y4m::{
-    EXACT_LINE, FRAME_LINE, FRAME_SIZE, HEAD_LINE, MAX_FRAMES, OUT_HEAD, PICTURE_SIZE, read_end, read_frame, read_head,
+    EXACT_LINE, FRAME_LINE, FRAME_SIZE, HEAD_LINE, MAX_FRAMES, OUT_HEAD, PICTURE_SIZE, read_end,
+    read_frame, read_head,
 };
 use h263_outside::{Desk, Role, write_all};
 use std::alloc::Global;
@@ -69,11 +70,7 @@ fn play_frame<D: Desk>(
 }
 
 // Plays the frames, and sees that no more come than may.
-fn play_frames<D: Desk>(
-    desk: &mut D,
-    frame: &mut [u8],
-    picture: &mut [u8],
-) -> Result<(), Status>
+fn play_frames<D: Desk>(desk: &mut D, frame: &mut [u8], picture: &mut [u8]) -> Result<(), Status>
     requires video { (D.outside desk.old).attached Video ≡ true }
     requires pictures { (D.outside desk.old).attached Pictures ≡ true }
     requires frame { length frame.old ≡ 18438 }

@@ -10,7 +10,6 @@ ghost use Rattle.h263rps.specs.Flat.{block_row, block_sum, dc_of_sum, block_dc, 
 
 use h263_planes::{PictureMut, PictureRef, Plane};
 
-
 // The sum of eight samples.
 fn row_sum(samples: &[u8]) -> u32
     requires { length samples.now ≡ 8 }

@@ -14,5 +14,5 @@ pub returns : goal.returns
 returns c =
     let values = c.values_of_frame-values.result in
     let each : (mb : ℕ) → mb < 48 → AreValuesOf (picture_of SubQcif c.args.frame.now) mb (slice_index_or values mb []) =
-      subst (λ (p : Picture). (mb : ℕ) → mb < 48 → AreValuesOf p mb (slice_index_or values mb [])) c.new.ensures.picture c.values_of_frame-values.ensures.each in
+    subst (λ (p : Picture). (mb : ℕ) → mb < 48 → AreValuesOf p mb (slice_index_or values mb [])) c.new.ensures.picture c.values_of_frame-values.ensures.each in
     painted_is c.args.frame.now c.paint_bytes.new.out values c.sent_values-heard.result c.requires.frame (c.paint_bytes.auto.out ∙ c.requires.out) c.sent_values-heard.ensures each c.paint_bytes.ensures

@@ -14,5 +14,5 @@ turns-preserved c = record {
       let here : Inside c.turns.out.format other i j 1 = subst (λ (f : Format). Inside f other i j 1) (sym c.turns.invariant.format) h in
       more_blocks (same_plane c.args.plane other) c.turns.bx i j c.args.y _ (value_in c.args.values.now c.args.plane (i / 8) (c.args.y / 8)) _ _ _ (c.set_row.ensures.samples other i j here) (c.turns.invariant.samples other i j h)
       (λ from to. let e : i / 8 ≡ c.turns.bx = omega arith in
-        get_or-replicate 8 (i - 8 * c.turns.bx) c.value_of-value.result 0 (omega arith) ∙ c.value_of-value.ensures ∙ ap (λ (b : ℕ). value_in c.args.values.now c.args.plane b (c.args.y / 8)) (sym e));
+      get_or-replicate 8 (i - 8 * c.turns.bx) c.value_of-value.result 0 (omega arith) ∙ c.value_of-value.ensures ∙ ap (λ (b : ℕ). value_in c.args.values.now c.args.plane b (c.args.y / 8)) (sym e));
 }

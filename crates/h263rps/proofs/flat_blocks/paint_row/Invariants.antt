@@ -12,5 +12,5 @@ invariant-turns l = record {
   same_loan : loan_of l.out ≡ loan_of l.initial.out;
   format : (work l.out).format ≡ SubQcif;
   samples : (other : Plane) (i j : ℕ) → Inside SubQcif other i j 1 →
-    sample_at (work l.out) other i j ≡ cond (same_plane l.plane other && (nat_eq j l.y && nat_lt i (8 * l.bx))) (value_in l.values l.plane (i / 8) (l.y / 8)) (sample_at (work l.initial.out) other i j);
+      sample_at (work l.out) other i j ≡ cond (same_plane l.plane other && (nat_eq j l.y && nat_lt i (8 * l.bx))) (value_in l.values l.plane (i / 8) (l.y / 8)) (sample_at (work l.initial.out) other i j);
 }

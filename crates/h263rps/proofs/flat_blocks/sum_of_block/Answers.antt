@@ -10,6 +10,6 @@ loop-j-preserved c =
     let p = picture c.args.frame in
     record {
       sum = sum_more (λ (j : ℕ). block_row p c.args.plane c.args.bx c.args.by j) c.loop-j.j c.loop-j.total c.row_sum-total.result c.loop-j.invariant.sum
-        (c.row_sum-total.ensures.sum ∙ sum_of_row (λ (i : ℕ). sample_at p c.args.plane (8 * c.args.bx + i) (8 * c.args.by + c.loop-j.j)) c.row.result.now 8 c.row.ensures.length c.row.ensures.samples);
+          (c.row_sum-total.ensures.sum ∙ sum_of_row (λ (i : ℕ). sample_at p c.args.plane (8 * c.args.bx + i) (8 * c.args.by + c.loop-j.j)) c.row.result.now 8 c.row.ensures.length c.row.ensures.samples);
       most = omega arith;
     }

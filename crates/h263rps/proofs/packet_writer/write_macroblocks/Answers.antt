@@ -16,6 +16,6 @@ returns-clause-bits c = record {
   buffer = c.turns.invariant.buffer;
   room = c.turns.invariant.room;
   text = sym (append-nil (written c.turns.writer))
-    ∙ ap (λ (l : List Bool). written c.turns.writer ++ l) (sym (no_text c.args.values.now c.turns.six-index (omega arith)))
-    ∙ c.turns.invariant.text;
+      ∙ ap (λ (l : List Bool). written c.turns.writer ++ l) (sym (no_text c.args.values.now c.turns.six-index (omega arith)))
+      ∙ c.turns.invariant.text;
 }
