@@ -3,3 +3,4 @@ pub mod Buffers
 pub mod Ends
 pub mod Frames
 pub mod Plays
+pub mod Whole

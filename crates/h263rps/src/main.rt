@@ -3,7 +3,7 @@
 
 mod call;
 mod coding;
-mod laws;
+pub mod laws;
 mod program;
 mod status;
 mod words;
