@@ -1,17 +1,16 @@
 -- A text with no fault is a video, and a video has no fault.
-use Rattle.std.proofs.Common.{◌≡◌, ◌≢◌, ℕ, zero, suc, ◌+◌, ◌-◌, ◌*◌, ◌<◌, ◌≤◌, inl, inr, nat_lt, if◌then◌else◌, List, [], ◌∷◌, ◌++◌, length, take, drop, Option, Some, None, Result, Ok, Err, refl, sym, ap, ◌∙◌, subst, arith, All, append_assoc, take-append-drop, length-take, length-drop, length-append}
+use Rattle.std.proofs.Common.{◌≡◌, ℕ, zero, suc, ◌+◌, ◌<◌, ◌≤◌, inl, inr, nat_lt, if◌then◌else◌, List, [], ◌∷◌, ◌++◌, length, take, drop, Option, Some, None, Result, Ok, Err, refl, sym, ap, ◌∙◌, subst, arith, All, append_assoc, take-append-drop, length-take, length-drop, length-append}
 use Rattle.std.specs.List.{flat_map}
 use Rattle.std.proofs.lemmas.Bool.{cases_lt, cases_eq}
 use Rattle.std.proofs.lemmas.Bool.Decides.{nat_tests}
-use Rattle.std.proofs.lemmas.List.{drop-drop, take-append-le, take_all}
+use Rattle.std.proofs.lemmas.List.{drop-drop}
 use Rattle.std.proofs.lemmas.List.Elements.{All-nil, All-cons, All-head, All-tail}
 use Rattle.std.proofs.Math.Seq.{take-append_seam, drop-append_seam}
 use Rattle.h263rps.specs.declared.y4m.Y4mFault.{Y4mFault}
 use Rattle.h263rps.specs.declared.y4m.Y4mFault.TheVariants.{NotY4m}
-use Rattle.h263rps.specs.declared.y4m.TheConstants.{HEAD_LINE, FRAME_LINE, OUT_HEAD}
-use Rattle.h263rps.specs.declared.status.Status.TheVariants.{Ok as Fine}
+use Rattle.h263rps.specs.declared.y4m.TheConstants.{HEAD_LINE, FRAME_LINE}
 use Rattle.h263rps.specs.Y4m.{framed, IsVideo, agreement, head_fault, frame_of, frames_from, frames_of, fault_from, fault_of, fault_behind, frames_behind, video_fault, video_frames}
-use Rattle.h263rps.specs.Out.{Output, ended, pictures_text, frames_text, call_output, shown}
+use Rattle.h263rps.specs.Out.{ended, pictures_text, call_output, shown}
 use Rattle.h263rps.proofs.Frames.{whole_frame, not_y4m, short_frame, frames_step, fault_step, frames-nil, fault-nil}
 
 same_heads : (a b : ℕ) (line bytes : List ℕ) → a ≡ b → agreement (a ∷ line) (b ∷ bytes) ≡ suc (agreement line bytes)

@@ -6,11 +6,10 @@ mod coding;
 pub mod laws;
 mod program;
 mod status;
-mod words;
-mod y4m;
-
 #[cfg(test)]
 mod tests;
+mod words;
+mod y4m;
 
 use h263_outside::HostDesk;
 pub use program::run;
