@@ -11,3 +11,4 @@ pub mod PacketTexts
 pub mod PacketTurns
 pub mod Paint
 pub mod Plays
+pub mod Whole

@@ -73,3 +73,7 @@ command_output (Some (Call input output)) video events = call_output video
 -- what the words give, where the inputs hold these bytes
 abbrev pub output_of : List (List ℕ) → List ℕ → List ℕ → Output
 output_of words video events = command_output (command_of words) video events
+
+-- the output of a call whose video has these frames: the head, and each frame's reconstruction with its line
+abbrev pub shown : List (List ℕ) → Output
+shown frames = record { status = Fine; pictures = OUT_HEAD.now ++ flat_map (λ frame. EXACT_LINE.now ++ coded frame) frames; wire = []; report = [] }

@@ -31,7 +31,19 @@ fn write<D: Desk>(desk: &mut D, bytes: &[u8]) -> Result<(), Status>
     }
 }
 
-// Writes a frame line and a picture.
+// Writes the line before a picture.
+fn write_frame_line<D: Desk>(desk: &mut D) -> Result<(), Status>
+    requires { (D.outside desk.old).attached Pictures ≡ true }
+    ensures ok { OnOk result (GainsPictures EXACT_LINE.now (D.outside desk.old).written (D.outside desk.new).written) }
+    ensures err { OnErr result (StopsInPictures EXACT_LINE.now (D.outside desk.old).written (D.outside desk.new).written) }
+    ensures kind { IfErr result (λ status. status ≡ Status.WriteFault) }
+    ensures cause { OnErr result (Rose (D.outside desk.old).faults.write (D.outside desk.new).faults.write) }
+    ensures rest { OnlyWrites (D.outside desk.old) (D.outside desk.new) }
+{
+    write(desk, EXACT_LINE)
+}
+
+// Writes a picture with its line.
 fn write_frame<D: Desk>(desk: &mut D, picture: &[u8]) -> Result<(), Status>
     requires { (D.outside desk.old).attached Pictures ≡ true }
     ensures ok { OnOk result (GainsPictures (EXACT_LINE.now ++ picture.now) (D.outside desk.old).written (D.outside desk.new).written) }
@@ -40,7 +52,7 @@ fn write_frame<D: Desk>(desk: &mut D, picture: &[u8]) -> Result<(), Status>
     ensures cause { OnErr result (Rose (D.outside desk.old).faults.write (D.outside desk.new).faults.write) }
     ensures rest { OnlyWrites (D.outside desk.old) (D.outside desk.new) }
 {
-    write(desk, EXACT_LINE)?;
+    write_frame_line(desk)?;
     write(desk, picture)
 }
 

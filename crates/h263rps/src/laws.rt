@@ -1,1 +1,20 @@
-// Laws of the definitions.
+// Laws of the definitions, in the subject's words.
+ghost use Rattle.std.specs.Prelude.{◌≡◌, ℕ, List, None};
+ghost use Rattle.h263rps.specs.Y4m.{IsVideo, video_fault, video_frames};
+ghost use Rattle.h263rps.specs.Out.{call_output, shown};
+
+/// A text with no fault is a video: its head, and its frames with their lines.
+pub fn accepted_is_a_video()
+    ensures { (video : List ℕ) → video_fault video ≡ None → IsVideo video (video_frames video) }
+{}
+
+/// A video has no fault, and its frames are these.
+pub fn a_video_is_accepted()
+    ensures fault { (video : List ℕ) (frames : List (List ℕ)) → IsVideo video frames → video_fault video ≡ None }
+    ensures frames { (video : List ℕ) (frames : List (List ℕ)) → IsVideo video frames → video_frames video ≡ frames }
+{}
+
+/// Of a video `call` shows each frame's reconstruction, in order, and ends with `Ok`.
+pub fn a_call_shows_each_frame()
+    ensures { (video : List ℕ) (frames : List (List ℕ)) → IsVideo video frames → call_output video ≡ shown frames }
+{}

@@ -4,7 +4,7 @@
 mod call;
 mod coding;
 mod flat_blocks;
-mod laws;
+pub mod laws;
 mod packet_reader;
 #[cfg(test)]
 mod packet_tests;

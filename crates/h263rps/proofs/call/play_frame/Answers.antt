@@ -1,4 +1,4 @@
-use Rattle.std.proofs.Common.{◌≡◌, ◌+◌, ◌*◌, ap, ◌∙◌, true, false, List, ℕ, Option, drop, sym}
+use Rattle.std.proofs.Common.{◌+◌, ◌*◌, ap, ◌∙◌, true, false, List, ℕ, Option, drop}
 use Rattle.h263_outside.specs.declared.desk.Role.{Role}
 use Rattle.h263_outside.specs.declared.desk.Role.TheVariants.{Video}
 use Rattle.h263_outside.proofs.Fronts.{rest_all}
