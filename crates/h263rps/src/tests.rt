@@ -102,6 +102,27 @@ fn the_head_alone_and_a_flat_picture(rt: HostRuntime) -> Result<(), Fail> {
     Ok(())
 }
 
+const BLACK: &[u8] = &[0; 18_432];
+
+const GREY: &[u8] = &[128; 18_432];
+
+const WHITE: &[u8] = &[255; 18_432];
+
+// INTRADC is from 1 to 254.
+#[test]
+fn three_flat_pictures(rt: HostRuntime) -> Result<(), Fail> {
+    let video: &[&[u8]] = &[
+        HEAD_LINE, FRAME_LINE, BLACK, FRAME_LINE, GREY, FRAME_LINE, WHITE,
+    ];
+    let darkest: &[u8] = &[1; 18_432];
+    let brightest: &[u8] = &[254; 18_432];
+    let shown: &[&[u8]] = &[
+        OUT_HEAD, EXACT_LINE, darkest, EXACT_LINE, GREY, EXACT_LINE, brightest,
+    ];
+    run_twice(&rt, rt.alloc(), 4096, &[(video, NONE, Status::Ok, shown)])?;
+    Ok(())
+}
+
 const RIFF: &[&[u8]] = &[b"RIFF"];
 
 const CUT_HEAD: &[&[u8]] = &[b"YUV4MPEG2 W128 H9"];
