@@ -1,6 +1,6 @@
 -- A frame that was coded by its blocks' values and painted by them is its reconstruction.
-use Rattle.std.proofs.Common.{◌≡◌, ℕ, ◌+◌, ◌*◌, ◌/◌, ◌%◌, ◌<◌, ◌≤◌, List, [], ◌++◌, length, get_or, map, refl, sym, ap, ◌∙◌, subst, arith, mul_comm, add-zero}
-use Rattle.std.specs.Prelude.{slice_index, slice_index_or, min, max, nat_lt, ◌==◌}
+use Rattle.std.proofs.Common.{◌≡◌, ℕ, ◌+◌, ◌*◌, ◌/◌, ◌%◌, ◌<◌, ◌≤◌, List, [], length, get_or, map, refl, sym, ap, ◌∙◌, subst, arith, mul_comm, add-zero}
+use Rattle.std.specs.Prelude.{slice_index_or}
 use Rattle.std.specs.List.{range_with_len}
 use Rattle.std.proofs.lemmas.List.FromFn.{length-map-range_with_len, get_or-map-range_with_len}
 use Rattle.std.proofs.lemmas.Bool.{lt-ltb}
@@ -16,7 +16,7 @@ use Rattle.h263_planes.specs.Work.{work}
 use Rattle.h263_planes.specs.declared.work.PictureMut.{PictureMut}
 use Rattle.h263_planes.specs.Samples.{Inside, IsPicture, HasSameSamples, plane_of, sample_at, bytes_of}
 use Rattle.h263_planes.proofs.Wholes.{same_pictures, whole_picture, bytes_of_picture}
-use Rattle.h263rps.specs.Flat.{dc_of_sum, block_sum, block_dc, dc_at, plane_of_block, column_of_block, row_of_block, mb_of_block, block_in_mb, value_in, AreValuesOf, IsPainted, flat_plane, reconstruction, coded}
+use Rattle.h263rps.specs.Flat.{dc_of_sum, block_sum, block_dc, dc_at, plane_of_block, column_of_block, row_of_block, value_in, AreValuesOf, IsPainted, flat_plane, reconstruction, coded}
 use Rattle.h263rps.specs.Values.{AreDcs, AreFlat}
 
 -- ---- values can be sent

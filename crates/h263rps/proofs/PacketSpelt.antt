@@ -1,11 +1,10 @@
 -- What is written of a flat picture spells its values, so that it is read again.
-use Rattle.std.proofs.Common.{◌≡◌, ℕ, zero, suc, ◌+◌, ◌*◌, ◌%◌, ◌^◌, ◌<◌, ◌≤◌, Bool, true, false, List, [], ◌∷◌, ◌++◌, length, get_or, None, Ok, refl, sym, ap, ◌∙◌, subst, append_assoc, arith}
-use Rattle.std.specs.Prelude.{slice_index, ◌==◌}
+use Rattle.std.proofs.Common.{◌≡◌, ℕ, zero, suc, ◌+◌, ◌*◌, ◌%◌, ◌^◌, ◌<◌, ◌≤◌, Bool, List, [], ◌∷◌, ◌++◌, length, get_or, None, Ok, refl, sym, subst, append_assoc, arith}
+use Rattle.std.specs.Prelude.{slice_index}
 use Rattle.std.proofs.lemmas.List.{append-nil}
 use Rattle.std.proofs.lemmas.Bool.Decides.{nat_tests}
 use Rattle.h263_bits.specs.Bits.{spelled, fields}
-use Rattle.h263_bits.specs.Reading.{Bits}
-use Rattle.h263_bits.specs.Syntax.{Syntax, Allowed, any, field, part, done, Spells, IsProductive, reading}
+use Rattle.h263_bits.specs.Syntax.{Syntax, any, part, done, Spells, IsProductive, reading}
 use Rattle.h263_bits.proofs.SyntaxLaws.{complete, spells_done, spells_field, spells_part}
 use Rattle.h263rps.specs.Packet.{value_of, rtp, opening, plus_type, header_end, slice_start, intra_dc, is_dc, dc_of, macroblock, macroblocks, packet}
 use Rattle.h263rps.specs.PacketText.{rtp_fields, opening_fields, plus_fields, end_fields, slice_fields, code_of, macroblock_fields, macroblocks_text, packet_text}

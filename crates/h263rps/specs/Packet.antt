@@ -1,5 +1,5 @@
 -- The packet of a flat picture: an I picture of 128 x 96 in one slice, in which each block has its INTRADC and no other level.
-use Rattle.std.specs.Prelude.{◌≡◌, ℕ, zero, suc, ◌==◌, List, [], ◌∷◌, ◌++◌, Bool, Option, Some, None, Result, Ok, Err, if◌then◌else◌}
+use Rattle.std.specs.Prelude.{ℕ, zero, suc, ◌==◌, List, [], ◌∷◌, ◌++◌, Some, None, Result, Ok, Err, if◌then◌else◌}
 use Rattle.h263_bits.specs.declared.fault.Fault.{Fault}
 use Rattle.h263_bits.specs.Reading.{Bits}
 use Rattle.h263_bits.specs.declared.fault.FaultKind.TheVariants as faults

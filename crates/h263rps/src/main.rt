@@ -4,6 +4,8 @@
 mod call;
 mod coding;
 mod flat_blocks;
+#[cfg(test)]
+mod host_tests;
 pub mod laws;
 mod packet_reader;
 #[cfg(test)]

@@ -1,4 +1,4 @@
-use Rattle.std.proofs.Common.{ℕ, List, [], ◌≡◌, ◌<◌, length, slice_index_or, subst, ◌∙◌}
+use Rattle.std.proofs.Common.{ℕ, [], ◌<◌, slice_index_or, subst, ◌∙◌}
 use Rattle.h263_types.specs.declared.format.Format.TheVariants.{SubQcif}
 use Rattle.h263_planes.specs.Picture.{Picture}
 use Rattle.h263_planes.specs.Lent.{picture}

@@ -1,4 +1,4 @@
-use Rattle.std.proofs.Common.{◌≡◌, ℕ, ◌/◌, ◌∙◌, sym, ap}
+use Rattle.std.proofs.Common.{ℕ, ◌/◌, ◌∙◌, sym, ap}
 use Rattle.h263_planes.specs.Samples.{same_plane}
 use Rattle.h263rps.specs.Flat.{value_in}
 use Rattle.h263rps.proofs.Paint.{more_rows}

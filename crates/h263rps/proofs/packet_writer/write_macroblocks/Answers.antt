@@ -1,4 +1,4 @@
-use Rattle.std.proofs.Common.{◌≡◌, ◌++◌, Bool, List, drop, append-nil, ap, sym, ◌∙◌, arith}
+use Rattle.std.proofs.Common.{◌++◌, Bool, List, append-nil, ap, sym, ◌∙◌, arith}
 use Rattle.h263_bits.specs.Written.{written}
 use Rattle.h263rps.proofs.PacketTexts.{one_more, no_text}
 use Rattle.h263rps.proofs.packet_writer.write_macroblocks.Goals as goal
