@@ -136,59 +136,24 @@ const CUT_LINE: &[&[u8]] = &[HEAD_LINE, b"FRA"];
 // Its second frame ends after its first plane.
 const CUT_FRAME: &[&[u8]] = &[HEAD_LINE, FRAME_LINE, PICTURE, FRAME_LINE, LUMA];
 
+// A video, its fault, and what is shown of it.
+type Refused<'a> = (&'a [&'a [u8]], Y4mFault, &'a [&'a [u8]]);
+
 #[test]
 fn refused_videos(rt: HostRuntime) -> Result<(), Fail> {
-    let cases: &[Case] = &[
-        (
-            RIFF,
-            NONE,
-            Status::VideoRefused {
-                fault: Y4mFault::NotY4m { at: 0 },
-            },
-            &[],
-        ),
-        (
-            CUT_HEAD,
-            NONE,
-            Status::VideoRefused {
-                fault: Y4mFault::NotY4m { at: 17 },
-            },
-            &[],
-        ),
-        (
-            OTHER_SIZE,
-            NONE,
-            Status::VideoRefused {
-                fault: Y4mFault::NotY4m { at: 12 },
-            },
-            &[],
-        ),
-        (
-            OTHER_LINE,
-            NONE,
-            Status::VideoRefused {
-                fault: Y4mFault::NotY4m { at: 24 },
-            },
-            &[OUT_HEAD],
-        ),
-        (
-            CUT_LINE,
-            NONE,
-            Status::VideoRefused {
-                fault: Y4mFault::ShortFrame { at: 22 },
-            },
-            &[OUT_HEAD],
-        ),
-        (
-            CUT_FRAME,
-            NONE,
-            Status::VideoRefused {
-                fault: Y4mFault::ShortFrame { at: 30_751 },
-            },
-            &[OUT_HEAD, EXACT_LINE, PICTURE],
-        ),
+    let shown: &[&[u8]] = &[OUT_HEAD, EXACT_LINE, PICTURE];
+    let cases: &[Refused] = &[
+        (RIFF, Y4mFault::NotY4m { at: 0 }, &[]),
+        (CUT_HEAD, Y4mFault::NotY4m { at: 17 }, &[]),
+        (OTHER_SIZE, Y4mFault::NotY4m { at: 12 }, &[]),
+        (OTHER_LINE, Y4mFault::NotY4m { at: 24 }, &[OUT_HEAD]),
+        (CUT_LINE, Y4mFault::ShortFrame { at: 22 }, &[OUT_HEAD]),
+        (CUT_FRAME, Y4mFault::ShortFrame { at: 30_751 }, shown),
     ];
-    run_twice(&rt, rt.alloc(), 4096, cases)?;
+    for (video, fault, pictures) in cases {
+        let ends = Status::VideoRefused { fault: *fault };
+        run_twice(&rt, rt.alloc(), 4096, &[(video, NONE, ends, pictures)])?;
+    }
     Ok(())
 }
 
