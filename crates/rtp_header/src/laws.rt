@@ -1,0 +1,22 @@
+//! Laws about an RTP packet, over the definitions alone.
+ghost use Rattle.std.specs.Prelude.{◌≡◌, ℕ, List, Ok};
+ghost use Rattle.rtp_header.specs.Text.{IsRtp};
+ghost use Rattle.rtp_header.specs.Faults.{rtp_in};
+ghost use Rattle.rtp_header.specs.Written.{IsWithin};
+ghost use Rattle.rtp_header.specs.declared.rtp.Rtp.{Rtp};
+
+/// Bytes are read as a packet exactly where they spell it: there is no fault exactly where there is a text.
+pub fn exact_text()
+    ensures read { (r : Rtp) (bytes : List ℕ) → rtp_in bytes ≡ Ok r → IsRtp r bytes }
+    ensures written { (r : Rtp) (bytes : List ℕ) → IsRtp r bytes → rtp_in bytes ≡ Ok r }
+{}
+
+/// Bytes spell one packet.
+pub fn one_reading()
+    ensures { (r s : Rtp) (bytes : List ℕ) → IsRtp r bytes → IsRtp s bytes → r ≡ s }
+{}
+
+/// The payload lies in the packet, behind 12 bytes at least.
+pub fn payload_within()
+    ensures { (r : Rtp) (bytes : List ℕ) → rtp_in bytes ≡ Ok r → IsWithin r bytes }
+{}
