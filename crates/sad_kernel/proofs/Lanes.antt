@@ -1,0 +1,79 @@
+-- The differences of two vectors, as the lanes compute them.
+use Rattle.std.proofs.Common.{◌≡◌, ℕ, suc, take, length-drop, ◌+◌, ◌-◌, ◌*◌, ◌%◌, ◌<◌, ◌≤◌, List, [], ◌∷◌, ◌++◌, length, map, drop, refl, ap, ◌∙◌, sym, subst, arith, cond, ltb, w8, Fits, get_or, drop-cons, add-one}
+use Rattle.std.specs.Int.{abs_diff}
+use Rattle.std.proofs.lemmas.Bool.Decides.{nat_tests}
+use Rattle.std.proofs.Math.Seq.{take-length}
+use Rattle.std.proofs.Math.ListN.{drop_of_length-le}
+use lib.Lanes.{zip2, sel_l, top, Each1, chunk}
+use Rattle.std.proofs.lemmas.Simd.{sum_bound, length-zip2, length-chunk, chunk-drop, Each1-from_get_or}
+use Rattle.sad_kernel.specs.Differences.{differences}
+
+abbrev pub difference_l : List ℕ → List ℕ → List ℕ
+difference_l xs ys =
+    let less = map (top 7) (zip2 (λ a b. cond (ltb a b) 255 0) xs ys) in
+    zip2 (λ a b. (a + (256 - b)) % 256) (sel_l less ys xs) (sel_l less xs ys)
+
+one : (x y : ℕ) → x < 256 → y < 256 → (cond (top 7 (cond (ltb x y) 255 0)) y x + (256 - cond (top 7 (cond (ltb x y) 255 0)) x y)) % 256 ≡ abs_diff x y
+one x y hx hy = grind (arith, nat_tests)
+
+pub lanes_differ : (xs ys : List ℕ) → Each1 (λ x. x < 256) xs → Each1 (λ x. x < 256) ys → difference_l xs ys ≡ zip2 abs_diff xs ys
+lanes_differ [] ys hx hy = refl
+lanes_differ (x ∷ xs) [] hx hy = refl
+lanes_differ (x ∷ xs) (y ∷ ys) hx hy = cc (one x y hx.0 hy.0, lanes_differ xs ys hx.1 hy.1)
+
+pub same_map : (xs : List ℕ) → map (λ x. x) xs ≡ xs
+same_map [] = refl
+same_map (x ∷ xs) = ap (λ l. x ∷ l) (same_map xs)
+
+small_difference : (xs ys : List ℕ) → Each1 (λ x. x < 256) xs → Each1 (λ x. x < 256) ys → Each1 (λ d. d ≤ 255) (zip2 abs_diff xs ys)
+small_difference [] ys hx hy = tt
+small_difference (x ∷ xs) [] hx hy = tt
+small_difference (x ∷ xs) (y ∷ ys) hx hy = (omega (arith, hx.0, hy.0), small_difference xs ys hx.1 hy.1)
+
+pub differences_small : (xs ys : List ℕ) (n : ℕ) → length xs ≡ n → length ys ≡ n → Each1 (λ x. x < 256) xs → Each1 (λ x. x < 256) ys → differences xs ys ≤ 255 * n
+differences_small xs ys n ex ey hx hy =
+    let long : length (zip2 abs_diff xs ys) ≡ n = length-zip2 abs_diff xs ys (ex ∙ sym ey) ∙ ex in
+    subst (λ k. differences xs ys ≤ 255 * k) long (sum_bound 255 (zip2 abs_diff xs ys) (small_difference xs ys hx hy))
+
+-- the lanes' differences, as they are added
+pub cast_differs : (xs ys : List ℕ) → Each1 (λ x. x < 256) xs → Each1 (λ x. x < 256) ys → map (λ (k : ℕ). k) (difference_l xs ys) ≡ zip2 abs_diff xs ys
+cast_differs xs ys hx hy = same_map (difference_l xs ys) ∙ lanes_differ xs ys hx hy
+
+-- two parts, one after the other
+pub differences-append : (xs us ys vs : List ℕ) → length xs ≡ length us → differences (xs ++ ys) (us ++ vs) ≡ differences xs us + differences ys vs
+differences-append [] [] ys vs h = omega arith
+differences-append [] (u ∷ us) ys vs h = absurd (omega arith)
+differences-append (x ∷ xs) [] ys vs h = absurd (omega arith)
+differences-append (x ∷ xs) (u ∷ us) ys vs h = omega (arith, differences-append xs us ys vs (omega arith))
+
+pub differences-drop : (xs ys : List ℕ) (i n : ℕ) → i + n ≤ length xs → i + n ≤ length ys →
+    differences (drop i xs) (drop i ys) ≡ differences (chunk i n xs) (chunk i n ys) + differences (drop (i + n) xs) (drop (i + n) ys)
+differences-drop xs ys i n hx hy =
+    let e : differences (drop i xs) (drop i ys) ≡ differences (chunk i n xs ++ drop (i + n) xs) (chunk i n ys ++ drop (i + n) ys) = cc (chunk-drop i n xs, chunk-drop i n ys) in
+    e ∙ differences-append (chunk i n xs) (chunk i n ys) (drop (i + n) xs) (drop (i + n) ys) (length-chunk i n xs hx ∙ sym (length-chunk i n ys hy))
+
+pub differences-one : (xs ys : List ℕ) (i : ℕ) → i < length xs → i < length ys →
+    differences (drop i xs) (drop i ys) ≡ abs_diff (get_or xs i 0) (get_or ys i 0) + differences (drop (i + 1) xs) (drop (i + 1) ys)
+differences-one xs ys i hx hy =
+    let e : differences (drop i xs) (drop i ys) ≡ differences (get_or xs i 0 ∷ drop (suc i) xs) (get_or ys i 0 ∷ drop (suc i) ys) = cc (drop-cons xs i 0 hx, drop-cons ys i 0 hy) in
+    rw add-one e
+
+pub bytes : (xs : List ℕ) → ((i : ℕ) → Fits w8 (get_or xs i 0)) → Each1 (λ x. x < 256) xs
+bytes xs h = Each1-from_get_or (λ x. x < 256) xs 0 (λ i hi. (h i).fits)
+
+-- nothing is left at the end
+pub differences-end : (xs ys : List ℕ) (i : ℕ) → length xs ≤ i → differences (drop i xs) (drop i ys) ≡ 0
+differences-end xs ys i h = ap (λ l. differences l (drop i ys)) (drop_of_length-le xs h)
+
+-- the whole sum, of at most 65536 bytes
+pub whole_small : (xs ys : List ℕ) → length xs ≡ length ys → length xs ≤ 65536 → ((i : ℕ) → Fits w8 (get_or xs i 0)) → ((i : ℕ) → Fits w8 (get_or ys i 0)) →
+    differences xs ys ≤ 16711680
+whole_small xs ys e h hx hy = omega (arith, differences_small xs ys (length xs) refl (sym e) (bytes xs hx) (bytes ys hy))
+
+-- a slice from i to the end is the rest of the list
+take_rest : (xs : List ℕ) (i : ℕ) → take (length xs - i) (drop i xs) ≡ drop i xs
+take_rest xs i = subst (λ (n : ℕ). take n (drop i xs) ≡ drop i xs) (length-drop i xs) (take-length (drop i xs))
+
+pub differences-rest : (xs ys : List ℕ) (i : ℕ) →
+    differences (take (length xs - i) (drop i xs)) (take (length ys - i) (drop i ys)) ≡ differences (drop i xs) (drop i ys)
+differences-rest xs ys i = cc (take_rest xs i, take_rest ys i)

@@ -1,0 +1,48 @@
+use super::*;
+
+#[test]
+fn sums_by_hand(rt: HostRuntime) {
+    // differences 1, 2, 3 and 4
+    let a = [10, 20, 30, 40];
+    let b = [11, 18, 33, 36];
+    assert_eq!(rt; sad(&a, &b), 10);
+    let table = [
+        (0, None),
+        (9, None),
+        (10, None),
+        (11, Some(10)),
+        (1000, Some(10)),
+    ];
+    for (stop, want) in table {
+        assert_eq!(rt; sad_until(&a, &b, stop), want, "at {stop}");
+    }
+    assert_eq!(rt; sad(&[], &[]), 0);
+    assert_eq!(rt; sad_until(&[], &[], 0), None);
+}
+
+#[test]
+fn lanes_and_the_rest(rt: HostRuntime) {
+    // the difference at place k is 255 - 5 * k
+    let mut a = [0; 48];
+    let mut b = [0; 48];
+    for k in 0..48u8 {
+        a[k as usize] = if k % 2 == 0 { 255 - 2 * k } else { 3 * k };
+        b[k as usize] = if k % 2 == 0 { 3 * k } else { 255 - 2 * k };
+    }
+    let table = [
+        (0, 0),
+        (1, 255),
+        (15, 3300),
+        (16, 3480),
+        (17, 3655),
+        (32, 5680),
+        (33, 5775),
+        (48, 6600),
+    ];
+    for (n, want) in table {
+        assert!(rt; n <= 48 && want < 10_000);
+        assert_eq!(rt; sad(&a[..n], &b[..n]), want, "of {n}");
+        assert_eq!(rt; sad_until(&a[..n], &b[..n], want + 1), Some(want), "of {n}");
+        assert_eq!(rt; sad_until(&a[..n], &b[..n], want), None, "of {n}");
+    }
+}
