@@ -1,0 +1,45 @@
+-- The payload header in front of H.263 data (RFC 4629, 5.1), with the extra picture header, and the data's first two bits.
+use Rattle.std.specs.Prelude.{◌≡◌, ℕ, ◌+◌, ◌*◌, ◌<◌, ◌==◌, Bool, true, not, List, [], ◌∷◌, ◌++◌, length, Option, Some, None, is_none}
+use Rattle.h263_bits.specs.declared.fault.FaultKind.TheVariants as faults
+use Rattle.h263_bits.specs.Reading.{Bits}
+use Rattle.h263_bits.specs.Syntax.{Syntax, any, only, done, field, either, Spells}
+use Rattle.h263_types.specs.declared.format.Format.{Format}
+use Rattle.picture_header.specs.declared.header.Header.{Header}
+use Rattle.picture_header.specs.Text.{IsHeaderText}
+use Rattle.h263_payload.specs.declared.payload.Payload.{Payload}
+
+-- RR, P, V, PLEN and PEBIT, and where V is set the byte of video redundancy coding (5.2). The value is PLEN and PEBIT.
+-- P is set where the data begins with a start code, whose two zero bytes are left out.
+unfoldable pub opening : Syntax (ℕ × ℕ)
+opening =
+    field 5 any λ rr.
+    field 1 (only 1 faults.FollowOn) λ p.
+    field 1 any λ v.
+    field 6 any λ plen.
+    field 3 any λ pebit.
+    either (v == 0) (done (plen, pebit)) (field 8 any λ redundancy. done (plen, pebit))
+
+-- the extra picture header takes PLEN bytes, of which the last PEBIT bits are left out
+abbrev pub IsExtra : Format → ℕ → ℕ → Option Header → List Bool → Type 0
+IsExtra format plen pebit None bits = (plen ≡ 0) × (bits ≡ [])
+IsExtra format plen pebit (Some h) bits =
+    (text : List Bool) × (rest : List Bool) × (bits ≡ text ++ rest) × (0 < plen) × (length bits ≡ 8 * plen) × (length rest ≡ pebit) × IsHeaderText format h text
+
+-- the rest of a start code: 10 begins a picture, 11 a later slice (H.263, 5.1.1 and K.2)
+abbrev pub IsBegun : Bool → List Bool → Type 0
+IsBegun begins coded = (rest : List Bool) × (coded ≡ true ∷ not begins ∷ rest)
+
+-- the bits from a place on are a payload: its header, and data behind it
+pub record IsPayload (format : Format) (p : Payload) (b : Bits) : Type 0 where
+  pub plen : ℕ
+  pub pebit : ℕ
+  pub front : List Bool
+  pub middle : List Bool
+  pub coded : List Bool
+  pub parts : b.bits ≡ front ++ (middle ++ coded)
+  pub opened : Spells opening (plen, pebit) front
+  pub extra : IsExtra format plen pebit p.extra middle
+  pub begun : IsBegun p.begins coded
+  -- a picture has no extra header, and a later slice has one
+  pub begins : p.begins ≡ is_none p.extra
+  pub from : p.from ≡ b.at + (length front + length middle)
