@@ -1,5 +1,5 @@
 -- How a run ends, by how its command has ended.
-use Rattle.std.proofs.Common.{◌≡◌, ◌⊎◌, inl, inr, ℕ, List, Option, Some, None, Result, Ok, Err, IsErrAnd, refl, sym, ap, ◌∙◌, subst}
+use Rattle.std.proofs.Common.{◌≡◌, ◌⊎◌, inl, inr, ℕ, List, Option, Some, None, Result, IsErrAnd, refl, sym, ap, subst}
 use Rattle.h263_outside.specs.Desk.{Outside, Faults, SomeRose}
 use Rattle.h263_outside.specs.declared.desk.Role.{Role}
 use Rattle.h263rps.specs.declared.y4m.Y4mFault.{Y4mFault}

@@ -1,7 +1,7 @@
 -- What a call has written so far, and what it is to give.
-use Rattle.std.proofs.Common.{◌≡◌, ℕ, suc, ◌+◌, ◌-◌, ◌*◌, ◌<◌, ◌≤◌, Bool, true, false, List, [], ◌∷◌, ◌++◌, length, drop, Option, Some, None, Result, Ok, Err, IsErrAnd, refl, sym, ap, ◌∙◌, subst, arith, length-drop, append-nil}
+use Rattle.std.proofs.Common.{◌≡◌, ℕ, suc, ◌+◌, ◌-◌, ◌*◌, ◌<◌, ◌≤◌, Bool, List, [], ◌++◌, length, drop, Option, Some, None, Result, Ok, Err, IsErrAnd, refl, sym, ap, ◌∙◌, subst, arith, append-nil}
 use Rattle.h263_outside.specs.Desk.{Outside, Faults, NoneFalls, Rose, appended, GainsFront}
-use Rattle.h263_outside.specs.Gains.{gained, Before, Front}
+use Rattle.h263_outside.specs.Gains.{Before}
 use Rattle.h263_outside.specs.declared.desk.Role.{Role}
 use Rattle.h263_outside.specs.declared.desk.Role.TheVariants.{Video, Pictures, Wire, Report}
 use Rattle.h263_outside.proofs.Gains.{rose_since}
@@ -13,11 +13,11 @@ use Rattle.h263rps.specs.declared.y4m.VideoStop.TheVariants.{Read, Refused}
 use Rattle.h263rps.specs.declared.y4m.TheConstants.{EXACT_LINE, OUT_HEAD}
 use Rattle.h263rps.specs.declared.status.Status.{Status}
 use Rattle.h263rps.specs.declared.status.Status.TheVariants.{Ok as Fine, OutOfMemory, Usage, ReadFault, WriteFault, VideoRefused, OpenFault}
-use Rattle.h263rps.specs.Coding.{coded}
+use Rattle.h263rps.specs.Flat.{coded}
 use Rattle.h263rps.specs.Y4m.{head_fault, frame_of, frames_of, fault_of, fault_behind, frames_behind, video_fault, video_frames}
 use Rattle.h263rps.specs.Status.{stop_status, status_of}
-use Rattle.h263rps.specs.Out.{Output, call_output, frame_text, frames_text, pictures_text, ended}
-use Rattle.h263rps.specs.Run.{IsExactly, IsCutOff, Gives, HasCause, IsLater, KeepsRoles}
+use Rattle.h263rps.specs.Out.{Output, call_output, frames_text, pictures_text, ended}
+use Rattle.h263rps.specs.Run.{IsExactly, IsCutOff, HasCause, IsLater, KeepsRoles}
 use Rattle.h263rps.specs.Play.{HeadGives, FrameGives, EndGives, GainsPictures, StopsInPictures, IsPlaying, HasEnded, FramePlays}
 use Rattle.h263rps.proofs.Frames.{frames_step, fault_step, frames_stop, fault_stop, frames-nil, fault-nil, frames_full, fault_full}
 

@@ -9,7 +9,7 @@ use Rattle.h263rps.specs.declared.status.Status.{Status}
 use Rattle.h263rps.specs.declared.status.Status.TheVariants.{Ok as Fine, Usage, VideoRefused}
 use Rattle.h263rps.specs.declared.y4m.Y4mFault.{Y4mFault}
 use Rattle.h263rps.specs.declared.y4m.TheConstants.{EXACT_LINE, OUT_HEAD}
-use Rattle.h263rps.specs.Coding.{coded}
+use Rattle.h263rps.specs.Flat.{coded}
 use Rattle.h263rps.specs.Y4m.{head_fault, video_fault, video_frames}
 
 -- how a run is to end, and the text of each output
@@ -73,3 +73,7 @@ command_output (Some (Call input output)) video events = call_output video
 -- what the words give, where the inputs hold these bytes
 abbrev pub output_of : List (List ℕ) → List ℕ → List ℕ → Output
 output_of words video events = command_output (command_of words) video events
+
+-- the output of a call whose video has these frames: the head, and each frame's reconstruction with its line
+abbrev pub shown : List (List ℕ) → Output
+shown frames = record { status = Fine; pictures = OUT_HEAD.now ++ flat_map (λ frame. EXACT_LINE.now ++ coded frame) frames; wire = []; report = [] }

@@ -1,17 +1,16 @@
 -- A call in the middle of its video.
-use Rattle.std.specs.Prelude.{ℕ, suc, ◌≡◌, ◌+◌, ◌<◌, Bool, true, false, List, [], length, drop, Option, Some, None, Result, Ok, Err}
+use Rattle.std.specs.Prelude.{ℕ, ◌≡◌, ◌+◌, ◌<◌, Bool, true, false, List, [], length, drop, Option, Some, None, Result, Ok, Err}
 use Rattle.h263_outside.specs.Desk.{Outside}
 use Rattle.h263_outside.specs.Gains.{gained, Before, Front}
 use Rattle.h263_outside.specs.declared.desk.Role.{Role}
 use Rattle.h263_outside.specs.declared.desk.Role.TheVariants.{Video, Pictures, Wire, Report}
 use Rattle.h263rps.specs.declared.status.Status.{Status}
 use Rattle.h263rps.specs.declared.status.Status.TheVariants.{Ok as Fine}
-use Rattle.h263rps.specs.declared.y4m.Y4mFault.{Y4mFault}
 use Rattle.h263rps.specs.declared.y4m.Y4mFault.TheVariants.{TooMany}
 use Rattle.h263rps.specs.declared.y4m.VideoStop.{VideoStop}
 use Rattle.h263rps.specs.declared.y4m.VideoStop.TheVariants.{Read, Refused}
 use Rattle.h263rps.specs.Y4m.{head_fault, frame_of, frames_of, fault_of}
-use Rattle.h263rps.specs.Out.{Output, call_output, frames_text, ended}
+use Rattle.h263rps.specs.Out.{call_output, frames_text, ended}
 use Rattle.h263rps.specs.Run.{Gives}
 
 -- what the reader of the head says of a video, and of what is left of it

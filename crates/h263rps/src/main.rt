@@ -1,35 +1,56 @@
 //! The picture half of a video telephone: a call from a Y4M video to the Y4M video that is shown.
 #![tactic(auto)]
 
+ghost use Rattle.std.specs.Prelude.{◌≡◌, ◌⊎◌, None, IfOk, map};
+ghost use Rattle.h263rps.specs.Out.{command_of, texts};
+ghost use Rattle.std.specs.String.{string_bytes};
+
 mod call;
 mod coding;
-mod laws;
+mod flat_blocks;
+#[cfg(test)]
+mod host_tests;
+pub mod laws;
+mod packet_reader;
+#[cfg(test)]
+mod packet_tests;
+mod packet_writer;
 mod program;
 mod status;
-mod words;
-mod y4m;
-
 #[cfg(test)]
 mod tests;
+mod words;
+mod y4m;
 
 use h263_outside::HostDesk;
 pub use program::run;
 pub use status::Status;
-use std::alloc::Global;
+use std::alloc::{AllocError, Global};
 use std::process::ExitCode;
 use std::{env, io};
 pub use y4m::Y4mFault;
 
-// Runs the words on the host's files.
-fn run_words(alloc: Global, rt: HostRuntime, words: &[String]) -> Status {
+// The words as texts.
+fn texts_of(alloc: Global, words: &[String]) -> Result<Vec<&str>, AllocError>
+    ensures { IfOk result (λ list. texts list.items ≡ map string_bytes words.now) }
+{
     let mut texts = Vec::new(alloc);
     for word in words {
-        if texts.push(word.as_str()).is_err() {
-            return Status::OutOfMemory;
-        }
+        texts.push(word.as_str())?;
     }
+    Ok(texts)
+}
+
+// Runs the words on the host's files.
+fn run_words(alloc: Global, rt: HostRuntime, words: &[String]) -> Status
+    ensures usage { result ≡ Status.Usage → command_of (map string_bytes words.now) ≡ None }
+    ensures command { command_of (map string_bytes words.now) ≡ None → (result ≡ Status.Usage) ⊎ (result ≡ Status.OutOfMemory) }
+{
     let mut desk = HostDesk::new(rt);
-    run(alloc, &texts, &mut desk)
+    match texts_of(alloc, words) {
+        Ok(texts) => run(alloc, &texts, &mut desk),
+        Err(_) => Status::OutOfMemory,
+    }
 }
 
 // The words behind the program's name.

@@ -1,4 +1,4 @@
-use Rattle.std.proofs.Common.{ℕ, ◌+◌, ◌-◌, ◌*◌, true, false}
+use Rattle.std.proofs.Common.{◌+◌, ◌-◌, ◌*◌, true, false}
 use Rattle.h263rps.proofs.Plays.{one_more, next_place, no_more, played, ended_err, end_stops, end_found, roles_on}
 use Rattle.h263rps.proofs.call.play_frames.Goals as goal
 

@@ -5,13 +5,13 @@ use Rattle.h263rps.specs.Play.{StopsInPictures}
 use Rattle.h263rps.proofs.Plays.{stops_first, stops_second}
 use Rattle.h263rps.proofs.call.write_frame.Goals as goal
 
-pub returns-in_err-write-clause-err : goal.returns-in_err-write-clause-err
-returns-in_err-write-clause-err g c =
-    on_err_always c.from_residual.result (stops_first EXACT_LINE.now c.args.picture.now _ _ c.in_err-write.ensures.err)
+pub returns-in_err-write_frame_line-clause-err : goal.returns-in_err-write_frame_line-clause-err
+returns-in_err-write_frame_line-clause-err g c =
+    on_err_always c.from_residual.result (stops_first EXACT_LINE.now c.args.picture.now _ _ c.in_err-write_frame_line.ensures.err)
 
 pub returns-clause-err : goal.returns-clause-err
 returns-clause-err g c =
     let old = (g.D.Desk.outside c.args.desk.now).written in
-    let middle = (g.D.Desk.outside c.write.new.desk).written in
-    let new = (g.D.Desk.outside c.write-2.new.desk).written in
-    on_err_weaker c.write-2.result (λ (s : StopsInPictures c.args.picture.now middle new). stops_second EXACT_LINE.now c.args.picture.now old middle new c.in_ok-write.ensures.ok s) c.write-2.ensures.err
+    let middle = (g.D.Desk.outside c.write_frame_line.new.desk).written in
+    let new = (g.D.Desk.outside c.write.new.desk).written in
+    on_err_weaker c.write.result (λ (s : StopsInPictures c.args.picture.now middle new). stops_second EXACT_LINE.now c.args.picture.now old middle new c.in_ok-write_frame_line.ensures.ok s) c.write.ensures.err
