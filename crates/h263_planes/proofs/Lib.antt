@@ -2,3 +2,4 @@ pub mod Ranges
 pub mod Pictures
 pub mod Runs
 pub mod Wholes
+pub mod Givens

@@ -86,7 +86,7 @@ sets_in_plane f plane (v ∷ vs) bytes i h =
     ∙ ap (λ l. with_plane (picture_of f bytes) plane (sets l (suc i) vs)) (plane_of_with (picture_of f bytes) plane _)
 
 -- the place of the run's last sample
-run_inside : (w h x y n : ℕ) → x + n ≤ w → y < h → w * y + x + n ≤ w * h
+pub run_inside : (w h x y n : ℕ) → x + n ≤ w → y < h → w * y + x + n ≤ w * h
 run_inside w h x y n hx hy = let more : w * suc y ≤ w * h = mul-le-mul_left w hy in omega (arith, more)
 
 plane_fits : (f : Format) (plane : Plane) → offset_of f plane + width_in f plane * height_in f plane ≤ size_of_picture f

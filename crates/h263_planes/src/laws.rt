@@ -4,7 +4,9 @@ ghost use Rattle.h263_types.specs.declared.format.Format.{Format};
 ghost use Rattle.h263_types.specs.Sizes.{size_of_picture};
 ghost use Rattle.h263_planes.specs.Picture.{Picture};
 ghost use Rattle.h263_planes.specs.Layout.{picture_of};
-ghost use Rattle.h263_planes.specs.Samples.{IsPicture, HasSameSamples, bytes_of};
+ghost use Rattle.h263_planes.specs.declared.Plane.{Plane};
+ghost use Rattle.h263_planes.specs.Samples.{Inside, IsPicture, HasSameSamples, bytes_of, sample_at};
+ghost use Rattle.h263_planes.specs.Given.{picture_with};
 
 /// Two pictures of one format that have the same sample at every place are the same picture.
 pub fn same_samples()
@@ -21,4 +23,12 @@ pub fn bytes_are_planes()
 pub fn planes_are_bytes()
     ensures picture { (p : Picture) → IsPicture p → picture_of p.format (bytes_of p) ≡ p }
     ensures size { (p : Picture) → IsPicture p → length (bytes_of p) ≡ size_of_picture p.format }
+{}
+
+/// There is one picture of a format whose samples are given ones.
+pub fn samples_are_picture()
+    ensures whole { (f : Format) (sample : Plane → ℕ → ℕ → ℕ) → IsPicture (picture_with f sample) }
+    ensures format { (f : Format) (sample : Plane → ℕ → ℕ → ℕ) → (picture_with f sample).format ≡ f }
+    ensures samples { (f : Format) (sample : Plane → ℕ → ℕ → ℕ) (plane : Plane) (x y : ℕ) → Inside f plane x y 1 → sample_at (picture_with f sample) plane x y ≡ sample plane x y }
+    ensures only { (p : Picture) (sample : Plane → ℕ → ℕ → ℕ) → IsPicture p → ((plane : Plane) (x y : ℕ) → Inside p.format plane x y 1 → sample_at p plane x y ≡ sample plane x y) → p ≡ picture_with p.format sample }
 {}

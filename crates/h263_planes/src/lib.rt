@@ -2,11 +2,15 @@
 //! rows from the top (H.263, 4.1).
 #![tactic(auto)]
 
+mod blocks;
+mod corners;
 pub mod laws;
 mod layout;
 mod lent;
 mod work;
 
+pub use blocks::Corner;
+pub use corners::block_corner;
 pub use lent::PictureRef;
 pub use work::PictureMut;
 

@@ -41,3 +41,23 @@ fn a_row_is_written_and_lent(rt: HostRuntime) {
     assert_eq!(rt; seen.format(), Format::SubQcif);
     assert_eq!(rt; &bytes[15_356..15_361], [1, 2, 3, 4, 128].as_slice());
 }
+
+#[test]
+fn corners_of_a_macroblock(rt: HostRuntime) {
+    // macroblock 9 is the second of the second row
+    let table = [
+        (0, Plane::Y, 16, 16),
+        (1, Plane::Y, 24, 16),
+        (2, Plane::Y, 16, 24),
+        (3, Plane::Y, 24, 24),
+        (4, Plane::Cb, 8, 8),
+        (5, Plane::Cr, 8, 8),
+    ];
+    for (block, plane, x, y) in table {
+        assert!(rt; block < 6);
+        assert_eq!(rt;
+            block_corner(Format::SubQcif, 9, block),
+            Corner { plane, x, y }
+        );
+    }
+}

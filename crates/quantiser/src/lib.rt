@@ -1,10 +1,15 @@
-//! Levels and the values that they stand for, by the quantiser (H.263, 6.2.1 and 6.2.2), and the levels of
-//! coefficients.
+//! Levels and the values that they stand for, by the quantiser (H.263, 6.2.1 and 6.2.2), the levels of
+//! coefficients, and the zigzag order of a block's levels (6.2.3).
 #![tactic(auto)]
+
+pub mod laws;
+mod scan;
 
 ghost use Rattle.std.specs.Prelude.{◌≡◌, ℕ, ◌≤◌};
 ghost use Rattle.h263_types.specs.Blocks.{IsCoefficient, IsLevel, IsQuant, IsValue};
 ghost use Rattle.quantiser.specs.Levels.{inter_level, intra_level, signed_of, value_of};
+
+pub use scan::{block_place, zigzag_place};
 
 /// The value, -2048 to 2047, of a level from -127 to 127 that isn't an INTRADC value; `quant` is 1 to 31.
 pub fn value(quant: u8, level: i16) -> i16

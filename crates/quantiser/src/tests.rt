@@ -41,3 +41,21 @@ fn levels_of_coefficients(rt: HostRuntime) {
         );
     }
 }
+
+#[test]
+fn places_of_the_zigzag(rt: HostRuntime) {
+    let table = [
+        (0, 0),
+        (1, 1),
+        (2, 8),
+        (3, 16),
+        (5, 2),
+        (28, 7),
+        (35, 56),
+        (63, 63),
+    ];
+    for (k, at) in table {
+        assert!(rt; k < 64 && at < 64);
+        assert_eq!(rt; (block_place(k), zigzag_place(at)), (at, k));
+    }
+}

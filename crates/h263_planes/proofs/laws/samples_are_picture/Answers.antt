@@ -1,0 +1,14 @@
+use Rattle.h263_planes.proofs.Givens.{format_with, whole_with, sample_with, only_with}
+use Rattle.h263_planes.proofs.laws.samples_are_picture.Goals as goal
+
+pub returns-clause-whole : goal.returns-clause-whole
+returns-clause-whole c = whole_with
+
+pub returns-clause-format : goal.returns-clause-format
+returns-clause-format c = format_with
+
+pub returns-clause-samples : goal.returns-clause-samples
+returns-clause-samples c = sample_with
+
+pub returns-clause-only : goal.returns-clause-only
+returns-clause-only c = only_with

@@ -1,0 +1,12 @@
+//! The choice of each macroblock: how it is coded, and with which levels. H.263 leaves this to the encoder.
+#![tactic(auto)]
+
+mod intra;
+pub mod laws;
+mod macroblock;
+mod samples;
+
+pub use macroblock::choose;
+
+#[cfg(test)]
+mod tests;

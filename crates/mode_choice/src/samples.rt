@@ -1,0 +1,35 @@
+//! The samples of a block.
+ghost use Rattle.std.specs.Prelude.{◌≡◌, ℕ, ◌%◌, ◌/◌, ◌<◌, pos, All, length, slice_index, slice_index_or, nat_eq, if◌then◌else◌};
+ghost use Rattle.h263_types.specs.Sizes.{mbs_of};
+ghost use Rattle.h263_planes.specs.Lent.{picture};
+ghost use Rattle.idct8.specs.Ranges.{IsSample};
+ghost use Rattle.mode_choice.specs.Choice.{samples_of};
+
+use h263_planes::{PictureRef, block_corner};
+
+// The samples of block `block` of macroblock `mb`, by rows.
+pub(crate) fn block_samples(frame: PictureRef<'_>, mb: u32, block: u32) -> [i16; 64]
+    requires mb { mb < mbs_of (picture frame).format }
+    requires block { block < 6 }
+    ensures samples { result ≡ samples_of (picture frame.entry) mb block }
+    ensures range { All IsSample result }
+{
+    let corner = block_corner(frame.format(), mb, block);
+    let mut samples = [0; 64];
+    for y in 0..8u32 {
+        let row = frame.row(corner.plane, corner.x, corner.y + y, 8);
+        put_row(&mut samples, y as usize, row);
+    }
+    samples
+}
+
+// Writes row `y` of a block.
+fn put_row(samples: &mut [i16; 64], y: usize, row: &[u8])
+    requires y { y < 8 }
+    requires row { length row.now ≡ 8 }
+    ensures { (k : ℕ) → k < 64 → slice_index_or samples.new k (pos 0) ≡ (if nat_eq (k / 8) y then pos (slice_index row.now (k % 8)) else slice_index_or samples.old k (pos 0)) }
+{
+    for x in 0..8 {
+        samples[8 * y + x] = i16::from(row[x]);
+    }
+}

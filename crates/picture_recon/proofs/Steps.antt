@@ -1,0 +1,60 @@
+-- The steps of the loops that fill a block, a macroblock and a slice.
+use Rattle.std.proofs.Common.{◌≡◌, ◌≢◌, ℕ, ◌+◌, ◌*◌, ◌-◌, ◌%◌, ◌<◌, ◌≤◌, List, length, get_or, drop, slice_set, slice_range, Bool, true, false, cond, ◌&&◌, nat_eq, nat_le, nat_lt, ap, subst, sym, ◌∙◌, arith, lit<, below_more, get_or-set_same, get_or-set_other, get_or-take, get_or-drop}
+use Rattle.std.proofs.lemmas.Bool.Decides.{nat_tests}
+use Rattle.h263_planes.specs.declared.Plane.{Plane}
+use Rattle.h263_planes.specs.declared.Plane.TheVariants.{Y, Cb, Cr}
+use Rattle.h263_planes.specs.Blocks.{block_of}
+
+-- one more element of a list
+pub one_more : {X : Type 0} (P : ℕ → X → Type 0) (xs : List X) (at : ℕ) (v d : X) → at < length xs → P at v →
+    ((k : ℕ) → k < at → P k (get_or xs k d)) → (k : ℕ) → k < at + 1 → P k (get_or (slice_set xs at v) k d)
+one_more P xs at v d room now before =
+    below_more (λ k. P k (get_or (slice_set xs at v) k d)) at
+    (λ k h. let other : k ≢ at = omega arith in subst (P k) (sym (get_or-set_other xs at k v d other)) (before k h))
+    (subst (P at) (sym (get_or-set_same xs at v d room)) now)
+
+inside_rows : (x y k i j now blk old before run : ℕ) →
+    now ≡ cond (nat_eq j (y + k) && (nat_le x i && nat_lt i (x + 8))) run before →
+    before ≡ cond ((nat_le y j && nat_lt j (y + k)) && (nat_le x i && nat_lt i (x + 8))) blk old →
+    (j ≡ y + k → x ≤ i → i < x + 8 → run ≡ blk) →
+    now ≡ cond ((nat_le y j && nat_lt j (y + (k + 1))) && (nat_le x i && nat_lt i (x + 8))) blk old
+inside_rows x y k i j now blk old before run h1 h2 h3 = grind (arith, nat_tests)
+
+-- one more row of a block
+pub more_rows : (s : Bool) (x y k i j now blk old before run : ℕ) →
+    now ≡ cond (s && (nat_eq j (y + k) && (nat_le x i && nat_lt i (x + 8)))) run before →
+    before ≡ cond (s && ((nat_le y j && nat_lt j (y + k)) && (nat_le x i && nat_lt i (x + 8)))) blk old →
+    (j ≡ y + k → x ≤ i → i < x + 8 → run ≡ blk) →
+    now ≡ cond (s && ((nat_le y j && nat_lt j (y + (k + 1))) && (nat_le x i && nat_lt i (x + 8)))) blk old
+more_rows true x y k i j now blk old before run h1 h2 h3 = inside_rows x y k i j now blk old before run h1 h2 h3
+more_rows false x y k i j now blk old before run h1 h2 h3 = h1 ∙ h2
+
+-- a place in row k of the block whose corner is at multiples of 8
+pub in_row : (block : List ℕ) (x y k i j : ℕ) → x % 8 ≡ 0 → y % 8 ≡ 0 → k < 8 → j ≡ y + k → x ≤ i → i < x + 8 →
+    get_or (slice_range block (8 * k) (8 * k + 8)) (i - x) 0 ≡ get_or block (8 * (j % 8) + i % 8) 0
+in_row block x y k i j mx my hk hj hx hi =
+    let e : 8 * k + (i - x) ≡ 8 * (j % 8) + i % 8 = omega arith in
+    get_or-take (8 * k + 8 - 8 * k) (drop (8 * k) block) (i - x) 0 (omega arith)
+    ∙ get_or-drop (8 * k) block (i - x) 0
+    ∙ ap (λ m. get_or block m 0) e
+
+-- one more block of a macroblock
+pub more_blocks : (m at bl b now blk old before val : ℕ) →
+    now ≡ cond (nat_eq m at && nat_eq bl b) blk before → before ≡ cond (nat_eq m at && nat_lt bl b) val old → (bl ≡ b → blk ≡ val) →
+    now ≡ cond (nat_eq m at && nat_lt bl (b + 1)) val old
+more_blocks m at bl b now blk old before val h1 h2 h3 = grind (arith, nat_tests)
+
+pub six_blocks : (plane : Plane) (x y : ℕ) → block_of plane x y < 6
+six_blocks Y x y = omega arith
+six_blocks Cb x y = lit< tt
+six_blocks Cr x y = lit< tt
+
+-- all blocks of a macroblock
+pub all_blocks : (m at bl b now val old : ℕ) → bl < b → now ≡ cond (nat_eq m at && nat_lt bl b) val old → now ≡ cond (nat_eq m at) val old
+all_blocks m at bl b now val old h e = grind (arith, nat_tests)
+
+-- one more macroblock of a slice
+pub more_macroblocks : (first m at now mb old before val : ℕ) → first ≤ at →
+    now ≡ cond (nat_eq m at) mb before → before ≡ cond (nat_le first m && nat_lt m at) val old → (m ≡ at → mb ≡ val) →
+    now ≡ cond (nat_le first m && nat_lt m (at + 1)) val old
+more_macroblocks first m at now mb old before val h h1 h2 h3 = grind (arith, nat_tests)

@@ -1,0 +1,43 @@
+//! Writing a block into a picture.
+ghost use Rattle.std.specs.Prelude.{◌≡◌, ℕ, ◌+◌, ◌*◌, ◌%◌, ◌<◌, ◌&&◌, slice_index, nat_eq, if◌then◌else◌};
+ghost use Rattle.h263_types.specs.Sizes.{mbs_of};
+ghost use Rattle.h263_planes.specs.declared.Plane.{Plane};
+ghost use Rattle.h263_planes.specs.Blocks.{IsCorner, block_of, mb_of};
+ghost use Rattle.h263_planes.specs.Samples.{Inside, IsPicture, in_block, sample_at};
+ghost use Rattle.h263_planes.specs.Work.{loan_of, work};
+
+use h263_planes::{Corner, PictureMut, block_corner};
+use h263_types::Format;
+
+// Writes the samples of block `block` of macroblock `at`.
+pub(crate) fn put_block(
+    out: &mut PictureMut<'_>,
+    format: Format,
+    at: u32,
+    block: u32,
+    samples: &[u8; 64],
+)
+    requires format { (work out.old).format ≡ format }
+    requires at { at < mbs_of format }
+    requires block { block < 6 }
+    ensures same_loan { loan_of out.new ≡ loan_of out.old }
+    ensures format { (work out.new).format ≡ format }
+    ensures whole { IsPicture (work out.new) }
+    ensures samples { (plane : Plane) (x y : ℕ) → Inside format plane x y 1 → sample_at (work out.new) plane x y ≡ (if nat_eq (mb_of format plane x y) at && nat_eq (block_of plane x y) block then slice_index samples.now (8 * (y % 8) + x % 8) else sample_at (work out.old) plane x y) }
+{
+    put_samples(out, block_corner(format, at, block), samples);
+}
+
+// Writes 8 x 8 samples from a corner on.
+fn put_samples(out: &mut PictureMut<'_>, corner: Corner, samples: &[u8; 64])
+    requires { IsCorner (work out.old).format corner }
+    ensures same_loan { loan_of out.new ≡ loan_of out.old }
+    ensures format { (work out.new).format ≡ (work out.old).format }
+    ensures whole { IsPicture (work out.new) }
+    ensures samples { (plane : Plane) (x y : ℕ) → Inside (work out.old).format plane x y 1 → sample_at (work out.new) plane x y ≡ (if in_block corner.plane corner.x corner.y 8 8 plane x y then slice_index samples.now (8 * (y % 8) + x % 8) else sample_at (work out.old) plane x y) }
+{
+    for k in 0..8u32 {
+        let at = 8 * k as usize;
+        out.set_row(corner.plane, corner.x, corner.y + k, &samples[at..at + 8]);
+    }
+}
