@@ -53,7 +53,8 @@ fn row(
     }
 }
 
-// A block of 16 x 16 predicted samples.
+// A block of 16 x 16 predicted samples, by runs of eight, two to a row: averages of eight samples are made at once, and
+// those of sixteen one by one.
 #[inline(always)]
 pub(crate) fn of_sixteen(
     reference: PictureRef<'_>,
@@ -71,14 +72,14 @@ pub(crate) fn of_sixteen(
     requires rounding { rounding ≤ 1 }
     ensures { (j i : ℕ) → j < 16 → i < 16 → slice_index out.new (16 * j + i) ≡ interpolated (picture reference.entry) plane half_x half_y rounding (x + i) (y + j) }
 {
-    for j in 0..16u32 {
-        let start = 16 * j as usize;
+    for k in 0..32u32 {
+        let start = 8 * k as usize;
         row(
-            &mut out[start..start + 16],
+            &mut out[start..start + 8],
             reference,
             plane,
-            x,
-            y + j,
+            x + 8 * (k % 2),
+            y + k / 2,
             half_x,
             half_y,
             rounding,
