@@ -1,0 +1,12 @@
+//! Prediction of a macroblock's samples from a picture that is lent: whole and half samples (H.263, 6.1).
+#![tactic(auto)]
+
+mod block;
+mod macroblock;
+mod place;
+mod rows;
+
+pub use macroblock::{chroma, luma};
+
+#[cfg(test)]
+mod tests;
