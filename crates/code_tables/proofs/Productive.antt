@@ -1,5 +1,5 @@
 -- No table has a repeated part.
-use Rattle.std.proofs.Common.{ℕ, zero, suc, Bool, Option, Some, None, eqb}
+use Rattle.std.proofs.Common.{ℕ, Bool, Option, Some, None, eqb}
 use Rattle.std.specs.Prelude.{ℤ, pos}
 use Rattle.h263_types.specs.declared.Kind.{Kind}
 use Rattle.h263_bits.specs.Syntax.{Syntax, IsProductive, any, field, done}

@@ -3,12 +3,11 @@ use Rattle.std.proofs.lemmas.Int.{ints}
 use Rattle.std.proofs.lemmas.List.{append-nil}
 use Rattle.std.proofs.lemmas.Bool.{ne_eqb}
 use Rattle.std.proofs.Common.{zero-add, ◌≡◌, ◌⊎◌, ℕ, zero, suc, ◌+◌, ◌-◌, ◌<◌, Bool, true, false, refl, ap, sym, ◌∙◌, subst, arith, inl, inr, List, [], ◌∷◌, ◌++◌, length, eqb, Ok, None}
-use Rattle.std.specs.Prelude.{ℤ, pos, negsuc, ◌≤ℤ◌, slice_index_or, if◌then◌else◌}
+use Rattle.std.specs.Prelude.{ℤ, pos, negsuc, ◌≤ℤ◌}
 use Rattle.h263_types.specs.declared.Kind.{Kind}
 use Rattle.h263_types.specs.declared.Kind.TheVariants as kinds
 use Rattle.h263_bits.specs.Bits.{spelled}
-use Rattle.h263_bits.specs.Reading.{Bits}
-use Rattle.h263_bits.specs.Syntax.{Syntax, Spells, IsIn, reading, any, field, done, either, found, begins, is_cut, word_at}
+use Rattle.h263_bits.specs.Syntax.{Syntax, Spells, IsIn, reading, any, field, done, either, found, begins, word_at}
 use Rattle.h263_bits.proofs.SyntaxLaws.{sound, spells_code, spells_done, spells_field, spells_element, spells_whole}
 use Rattle.code_tables.specs.declared.macroblock.MbClass.TheVariants.{Inter, InterQ, Inter4, Intra, IntraQ}
 use Rattle.code_tables.specs.declared.macroblock.Mcbpc.{Mcbpc}

@@ -1,10 +1,11 @@
--- The code tables, as the standard writes them.
-use Rattle.std.specs.Prelude.{ℕ, suc, ◌+◌, ◌-◌, List, [], ◌∷◌, ◌++◌, Bool, true, false, refl, if◌then◌else◌, Option, Some, None, ◌==◌, nat_lt, ℤ, pos, negsuc, neg_ℤ}
+-- CBPY, MVD and TCOEF (H.263 5.3.5, 5.3.7 and 5.4.2), as the standard writes them.
+use Rattle.std.specs.Prelude.{length, count_by, is_some, ◌&&◌, ℕ, suc, ◌<◌, slice_get, option_and_then, ◌+◌, ◌-◌, List, [], ◌∷◌, ◌++◌, Bool, true, false, refl, if◌then◌else◌, Option, Some, None, ◌==◌, nat_lt, ℤ, pos, negsuc, neg_ℤ}
 use Rattle.h263_bits.specs.declared.fault.FaultKind.TheVariants.{BadCode, BadLevel}
+use Rattle.h263_bits.specs.Bits.{fields}
 use Rattle.h263_bits.specs.Syntax.{Syntax, Words, Allowed, any, code, done, field, element, either, begins, is_prefix_free}
 use Rattle.code_tables.specs.Words.{word, from_number, text_at}
 
--- CBPY of an intra macroblock, patterns 0 to 15
+-- the words of CBPY in an intra macroblock, patterns 0 to 15
 unfoldable pub cbpy_texts : List (List Bool)
 cbpy_texts = word "0011" ∷ word "00101" ∷ word "00100" ∷ word "1001" ∷ word "00011" ∷ word "0111" ∷ word "000010" ∷ word "1011" ∷ word "00010" ∷ word "000011" ∷ word "0101" ∷ word "1010" ∷ word "0100" ∷ word "1000" ∷ word "0110" ∷ word "11" ∷ []
 
@@ -23,7 +24,7 @@ cbpy intra = code cbpy_table λ pattern. done (if intra then pattern else 15 - p
 unfoldable pub cbpy_text : Bool → ℕ → List Bool
 cbpy_text intra pattern = text_at cbpy_texts (if intra then pattern else 15 - pattern)
 
--- the magnitudes 0 to 32 of MVD, in half samples
+-- the words of MVD, magnitudes 0 to 32 in half samples; a sign follows
 unfoldable pub magnitude_texts : List (List Bool)
 magnitude_texts = word "1" ∷ word "01" ∷ word "001" ∷ word "0001" ∷ word "000011" ∷ word "0000101" ∷ word "0000100" ∷ word "0000011" ∷ word "000001011" ∷ word "000001010" ∷ word "000001001" ∷ word "0000010001" ∷ word "0000010000" ∷ word "0000001111" ∷ word "0000001110" ∷ word "0000001101" ∷ word "0000001100" ∷ word "0000001011" ∷ word "0000001010" ∷ word "0000001001" ∷ word "0000001000" ∷ word "0000000111" ∷ word "0000000110" ∷ word "0000000101" ∷ word "0000000100" ∷ word "00000000111" ∷ word "00000000110" ∷ word "00000000101" ∷ word "00000000100" ∷ word "00000000011" ∷ word "00000000010" ∷ word "000000000011" ∷ word "000000000010" ∷ []
 
@@ -51,81 +52,98 @@ sized last run n (w ∷ ws) = (w, Some (record { last = last; run = run; size = 
 abbrev pub events : Bool → ℕ → List (List Bool) → List (List Bool × Option Event)
 events last run words = sized last run 1 words
 
+-- the words of LAST 0: a row for each RUN from 0 on, for sizes 1, 2, 3 and so on
+unfoldable pub last_0_texts : List (List (List Bool))
+last_0_texts =
+    (word "10" ∷ word "1111" ∷ word "010101" ∷ word "0010111" ∷ word "00011111" ∷ word "000100101" ∷ word "000100100" ∷ word "0000100001" ∷ word "0000100000" ∷ word "00000000111" ∷ word "00000000110" ∷ word "00000100000" ∷ []) ∷
+    (word "110" ∷ word "010100" ∷ word "00011110" ∷ word "0000001111" ∷ word "00000100001" ∷ word "000001010000" ∷ []) ∷
+    (word "1110" ∷ word "00011101" ∷ word "0000001110" ∷ word "000001010001" ∷ []) ∷
+    (word "01101" ∷ word "000100011" ∷ word "0000001101" ∷ []) ∷
+    (word "01100" ∷ word "000100010" ∷ word "000001010010" ∷ []) ∷
+    (word "01011" ∷ word "0000001100" ∷ word "000001010011" ∷ []) ∷
+    (word "010011" ∷ word "0000001011" ∷ word "000001010100" ∷ []) ∷
+    (word "010010" ∷ word "0000001010" ∷ []) ∷
+    (word "010001" ∷ word "0000001001" ∷ []) ∷
+    (word "010000" ∷ word "0000001000" ∷ []) ∷
+    (word "0010110" ∷ word "000001010101" ∷ []) ∷
+    (word "0010101" ∷ []) ∷
+    (word "0010100" ∷ []) ∷
+    (word "00011100" ∷ []) ∷
+    (word "00011011" ∷ []) ∷
+    (word "000100001" ∷ []) ∷
+    (word "000100000" ∷ []) ∷
+    (word "000011111" ∷ []) ∷
+    (word "000011110" ∷ []) ∷
+    (word "000011101" ∷ []) ∷
+    (word "000011100" ∷ []) ∷
+    (word "000011011" ∷ []) ∷
+    (word "000011010" ∷ []) ∷
+    (word "00000100010" ∷ []) ∷
+    (word "00000100011" ∷ []) ∷
+    (word "000001010110" ∷ []) ∷
+    (word "000001010111" ∷ []) ∷ []
+
+-- the words of LAST 1, likewise
+unfoldable pub last_1_texts : List (List (List Bool))
+last_1_texts =
+    (word "0111" ∷ word "000011001" ∷ word "00000000101" ∷ []) ∷
+    (word "001111" ∷ word "00000000100" ∷ []) ∷
+    (word "001110" ∷ []) ∷
+    (word "001101" ∷ []) ∷
+    (word "001100" ∷ []) ∷
+    (word "0010011" ∷ []) ∷
+    (word "0010010" ∷ []) ∷
+    (word "0010001" ∷ []) ∷
+    (word "0010000" ∷ []) ∷
+    (word "00011010" ∷ []) ∷
+    (word "00011001" ∷ []) ∷
+    (word "00011000" ∷ []) ∷
+    (word "00010111" ∷ []) ∷
+    (word "00010110" ∷ []) ∷
+    (word "00010101" ∷ []) ∷
+    (word "00010100" ∷ []) ∷
+    (word "00010011" ∷ []) ∷
+    (word "000011000" ∷ []) ∷
+    (word "000010111" ∷ []) ∷
+    (word "000010110" ∷ []) ∷
+    (word "000010101" ∷ []) ∷
+    (word "000010100" ∷ []) ∷
+    (word "000010011" ∷ []) ∷
+    (word "000010010" ∷ []) ∷
+    (word "000010001" ∷ []) ∷
+    (word "0000000111" ∷ []) ∷
+    (word "0000000110" ∷ []) ∷
+    (word "0000000101" ∷ []) ∷
+    (word "0000000100" ∷ []) ∷
+    (word "00000100100" ∷ []) ∷
+    (word "00000100101" ∷ []) ∷
+    (word "00000100110" ∷ []) ∷
+    (word "00000100111" ∷ []) ∷
+    (word "000001011000" ∷ []) ∷
+    (word "000001011001" ∷ []) ∷
+    (word "000001011010" ∷ []) ∷
+    (word "000001011011" ∷ []) ∷
+    (word "000001011100" ∷ []) ∷
+    (word "000001011101" ∷ []) ∷
+    (word "000001011110" ∷ []) ∷
+    (word "000001011111" ∷ []) ∷ []
+
+-- the words of the rows, RUN from run on
+abbrev pub from_runs : Bool → ℕ → List (List (List Bool)) → List (List Bool × Option Event)
+from_runs last run [] = []
+from_runs last run (row ∷ rows) = events last run row ++ from_runs last (run + 1) rows
+
 -- the words of events, and the escape, which stands for none
 unfoldable pub tcoef_words : List (List Bool × Option Event)
-tcoef_words =
-    events false 0 (word "10" ∷ word "1111" ∷ word "010101" ∷ word "0010111" ∷ word "00011111" ∷ word "000100101" ∷ word "000100100" ∷ word "0000100001" ∷ word "0000100000" ∷ word "00000000111" ∷ word "00000000110" ∷ word "00000100000" ∷ []) ++
-    events false 1 (word "110" ∷ word "010100" ∷ word "00011110" ∷ word "0000001111" ∷ word "00000100001" ∷ word "000001010000" ∷ []) ++
-    events false 2 (word "1110" ∷ word "00011101" ∷ word "0000001110" ∷ word "000001010001" ∷ []) ++
-    events false 3 (word "01101" ∷ word "000100011" ∷ word "0000001101" ∷ []) ++
-    events false 4 (word "01100" ∷ word "000100010" ∷ word "000001010010" ∷ []) ++
-    events false 5 (word "01011" ∷ word "0000001100" ∷ word "000001010011" ∷ []) ++
-    events false 6 (word "010011" ∷ word "0000001011" ∷ word "000001010100" ∷ []) ++
-    events false 7 (word "010010" ∷ word "0000001010" ∷ []) ++
-    events false 8 (word "010001" ∷ word "0000001001" ∷ []) ++
-    events false 9 (word "010000" ∷ word "0000001000" ∷ []) ++
-    events false 10 (word "0010110" ∷ word "000001010101" ∷ []) ++
-    events false 11 (word "0010101" ∷ []) ++
-    events false 12 (word "0010100" ∷ []) ++
-    events false 13 (word "00011100" ∷ []) ++
-    events false 14 (word "00011011" ∷ []) ++
-    events false 15 (word "000100001" ∷ []) ++
-    events false 16 (word "000100000" ∷ []) ++
-    events false 17 (word "000011111" ∷ []) ++
-    events false 18 (word "000011110" ∷ []) ++
-    events false 19 (word "000011101" ∷ []) ++
-    events false 20 (word "000011100" ∷ []) ++
-    events false 21 (word "000011011" ∷ []) ++
-    events false 22 (word "000011010" ∷ []) ++
-    events false 23 (word "00000100010" ∷ []) ++
-    events false 24 (word "00000100011" ∷ []) ++
-    events false 25 (word "000001010110" ∷ []) ++
-    events false 26 (word "000001010111" ∷ []) ++
-    events true 0 (word "0111" ∷ word "000011001" ∷ word "00000000101" ∷ []) ++
-    events true 1 (word "001111" ∷ word "00000000100" ∷ []) ++
-    events true 2 (word "001110" ∷ []) ++
-    events true 3 (word "001101" ∷ []) ++
-    events true 4 (word "001100" ∷ []) ++
-    events true 5 (word "0010011" ∷ []) ++
-    events true 6 (word "0010010" ∷ []) ++
-    events true 7 (word "0010001" ∷ []) ++
-    events true 8 (word "0010000" ∷ []) ++
-    events true 9 (word "00011010" ∷ []) ++
-    events true 10 (word "00011001" ∷ []) ++
-    events true 11 (word "00011000" ∷ []) ++
-    events true 12 (word "00010111" ∷ []) ++
-    events true 13 (word "00010110" ∷ []) ++
-    events true 14 (word "00010101" ∷ []) ++
-    events true 15 (word "00010100" ∷ []) ++
-    events true 16 (word "00010011" ∷ []) ++
-    events true 17 (word "000011000" ∷ []) ++
-    events true 18 (word "000010111" ∷ []) ++
-    events true 19 (word "000010110" ∷ []) ++
-    events true 20 (word "000010101" ∷ []) ++
-    events true 21 (word "000010100" ∷ []) ++
-    events true 22 (word "000010011" ∷ []) ++
-    events true 23 (word "000010010" ∷ []) ++
-    events true 24 (word "000010001" ∷ []) ++
-    events true 25 (word "0000000111" ∷ []) ++
-    events true 26 (word "0000000110" ∷ []) ++
-    events true 27 (word "0000000101" ∷ []) ++
-    events true 28 (word "0000000100" ∷ []) ++
-    events true 29 (word "00000100100" ∷ []) ++
-    events true 30 (word "00000100101" ∷ []) ++
-    events true 31 (word "00000100110" ∷ []) ++
-    events true 32 (word "00000100111" ∷ []) ++
-    events true 33 (word "000001011000" ∷ []) ++
-    events true 34 (word "000001011001" ∷ []) ++
-    events true 35 (word "000001011010" ∷ []) ++
-    events true 36 (word "000001011011" ∷ []) ++
-    events true 37 (word "000001011100" ∷ []) ++
-    events true 38 (word "000001011101" ∷ []) ++
-    events true 39 (word "000001011110" ∷ []) ++
-    events true 40 (word "000001011111" ∷ []) ++ (word "0000011", None) ∷ []
+tcoef_words = from_runs false 0 last_0_texts ++ from_runs true 0 last_1_texts ++ (word "0000011", None) ∷ []
 
 unfoldable pub event_table : Words (Option Event)
-unfolding tcoef_words begins is_prefix_free
+unfolding tcoef_words last_0_texts last_1_texts begins is_prefix_free
 event_table = record { list = tcoef_words; apart = refl }
+
+-- how many words of events have so many bits, the escape left out
+unfoldable pub words_of_length : ℕ → ℕ
+words_of_length n = count_by (λ w. is_some w.1 && (length w.0 == n)) tcoef_words
 
 -- a size with its sign, 1 for minus
 abbrev pub signed : ℕ → ℕ → ℤ
@@ -189,3 +207,40 @@ sign_text (negsuc n) = true ∷ []
 -- the text that is written for a difference
 unfoldable pub mvd_text : ℤ → List Bool
 mvd_text v = text_at magnitude_texts (size_of v) ++ sign_text v
+
+-- ---- what is written for an event
+
+-- the rows of a LAST
+abbrev pub rows_of : Bool → List (List (List Bool))
+rows_of false = last_0_texts
+rows_of true = last_1_texts
+
+-- the word of LAST, RUN and a size from 1 on, if they have one
+unfoldable pub triple_text : Bool → ℕ → ℕ → Option (List Bool)
+triple_text last run size = option_and_then (λ row. slice_get row (size - 1)) (slice_get (rows_of last) run)
+
+-- LEVEL in two's complement of eight bits
+abbrev pub byte_of : ℤ → ℕ
+byte_of (pos n) = n
+byte_of (negsuc n) = 255 - n
+
+abbrev pub bit_of : Bool → ℕ
+bit_of b = if b then 1 else 0
+
+-- the escape, with LAST, RUN and LEVEL
+abbrev pub escape_fields : Coefficient → List (ℕ × ℕ)
+escape_fields e = (7, 3) ∷ (1, bit_of e.last) ∷ (6, e.run) ∷ (8, byte_of e.level) ∷ []
+
+abbrev pub word_or_escape : Coefficient → Option (List Bool) → List Bool
+word_or_escape e (Some w) = w ++ sign_text e.level
+word_or_escape e None = fields (escape_fields e)
+
+-- the text that is written for an event: its word and sign where it has a word, else the escape
+unfoldable pub event_text : Coefficient → List Bool
+event_text e = word_or_escape e (triple_text e.last e.run (size_of e.level))
+
+-- an event of a block: RUN below 64, and a level from -127 to 127 that is not 0
+pub record IsEvent (e : Coefficient) : Type 0 where
+  pub run : e.run < 64
+  pub some : 0 < size_of e.level
+  pub level : size_of e.level < 128

@@ -1,9 +1,9 @@
 //! Laws over the definitions alone.
-ghost use Rattle.std.specs.Prelude.{◌≡◌, ℕ, ℤ, pos, negsuc, ◌≤ℤ◌, ◌<◌, ◌++◌, List, Bool, length};
+ghost use Rattle.std.specs.Prelude.{◌≡◌, ℕ, ℤ, pos, negsuc, ◌≤ℤ◌, ◌<◌, ◌+◌, ◌++◌, List, [], ◌∷◌, Bool, length, map};
 ghost use Rattle.h263_types.specs.declared.Kind.{Kind};
 ghost use Rattle.h263_bits.specs.Syntax.{Spells};
 ghost use Rattle.code_tables.specs.Mcbpc.{mcbpc, dquant, IsInTable, IsStep, mcbpc_text, dquant_text};
-ghost use Rattle.code_tables.specs.Tables.{cbpy, cbpy_text, mvd, mvd_text, event, Coefficient};
+ghost use Rattle.code_tables.specs.Tables.{cbpy, cbpy_text, mvd, mvd_text, tcoef_words, words_of_length, event, event_text, Coefficient, IsEvent};
 ghost use Rattle.code_tables.specs.declared.macroblock.Mcbpc.{Mcbpc};
 
 /// Of two texts of which one begins the other both are the same, and spell the same value: in each table, with the
@@ -27,4 +27,13 @@ pub fn written_is_text()
     ensures cbpy { (intra : Bool) (pattern : ℕ) → pattern < 16 → Spells (cbpy intra) pattern (cbpy_text intra pattern) }
     ensures dquant { (step : ℤ) → IsStep step → Spells dquant step (dquant_text step) }
     ensures mvd { (value : ℤ) → negsuc 31 ≤ℤ value → value ≤ℤ pos 31 → Spells mvd value (mvd_text value) }
+    ensures event { (e : Coefficient) → IsEvent e → Spells event e (event_text e) }
+{}
+
+/// There are 102 words of events; of 2 bits to 12 bits so many.
+#[tactic(auto, unfolding(crate::specs::Tables::words_of_length, crate::specs::Tables::tcoef_words, crate::specs::Tables::last_0_texts, crate::specs::Tables::last_1_texts))]
+pub fn event_words()
+    ensures lengths { map words_of_length (2 ∷ 3 ∷ 4 ∷ 5 ∷ 6 ∷ 7 ∷ 8 ∷ 9 ∷ 10 ∷ 11 ∷ 12 ∷ [])
+        ≡ 1 ∷ 1 ∷ 3 ∷ 3 ∷ 10 ∷ 8 ∷ 13 ∷ 21 ∷ 14 ∷ 12 ∷ 16 ∷ [] }
+    ensures all { length tcoef_words ≡ 102 + 1 }
 {}

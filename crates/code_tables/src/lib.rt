@@ -1,7 +1,13 @@
-//! The code tables of macroblocks and blocks.
+//! The code tables of macroblocks and blocks (H.263, 5.3 and 5.4): MCBPC, CBPY, DQUANT, MVD and the events of TCOEF, read and
+//! written.
+//!
+//! `specs/` has each table as the standard prints it, and says which bits spell which value. A reader finds exactly that, or
+//! the first fault at its place: most words by a look at eight bits, and all others by a search. A writer writes the word at
+//! a place of the table.
 #![tactic(auto)]
 
 mod code;
+mod event_tables;
 pub mod laws;
 mod macroblock;
 mod tables;
@@ -9,7 +15,7 @@ mod words;
 
 pub use code::Coefficient;
 pub use macroblock::{MbClass, Mcbpc, read_dquant, read_mcbpc, write_dquant, write_mcbpc};
-pub use words::{read_cbpy, read_event, read_mvd, write_cbpy, write_mvd};
+pub use words::{read_cbpy, read_event, read_mvd, write_cbpy, write_event, write_mvd};
 
 #[cfg(test)]
 mod tests;

@@ -1,15 +1,16 @@
-ghost use Rattle.std.specs.Prelude.{◌≡◌, ℕ, ℤ, ◌<◌, ◌+◌, ◌≤◌, IfOk, length, slice_get, Some};
+ghost use Rattle.std.specs.Prelude.{◌≡◌, ℕ, ℤ, ◌<◌, ◌+◌, ◌≤◌, IfErr, length, slice_get, Some};
 ghost use Rattle.h263_bits.specs.Reading.{Gives};
 ghost use Rattle.h263_bits.specs.Syntax.{reading, word_at};
 ghost use Rattle.h263_types.specs.declared.Kind.TheVariants as kinds;
+ghost use Rattle.h263_bits.specs.declared.fault.FaultKind.TheVariants.{Ended};
 ghost use Rattle.h263_bits.specs.Written.{Appends, len_of, room_of};
 ghost use Rattle.code_tables.specs.Mcbpc.{mcbpc, mcbpc_words, dquant, dquant_words, IsInTable, IsStep, mcbpc_text, dquant_text};
 ghost use Rattle.code_tables.specs.Places.{class_place_of, inter_place_of, intra_place_of, step_place_of};
 
 use crate::code::{read_code, write_code};
 use crate::tables::{
-    INTER_MCBPC, INTER_MCBPC_FAST, INTER_MCBPC_SYMBOLS, INTRA_MCBPC, INTRA_MCBPC_FAST, INTRA_MCBPC_SYMBOLS, STEPS,
-    STEPS_FAST, STEP_SYMBOLS,
+    INTER_MCBPC, INTER_MCBPC_FAST, INTER_MCBPC_SYMBOLS, INTRA_MCBPC, INTRA_MCBPC_FAST,
+    INTRA_MCBPC_SYMBOLS, STEP_SYMBOLS, STEPS, STEPS_FAST,
 };
 use h263_bits::{BitReader, BitWriter, Fault};
 use h263_types::Kind;
@@ -80,7 +81,9 @@ fn read_step(reader: &mut BitReader<'_>) -> Result<i8, Fault>
 /// DQUANT, the step of the quantiser (H.263 5.3.6): -2, -1, 1 or 2.
 #[tactic(auto, unfolding(crate::specs::Mcbpc::dquant, crate::specs::Mcbpc::dquant_table, h263_bits::specs::Syntax::reading))]
 pub fn read_dquant(reader: &mut BitReader<'_>) -> Result<i8, Fault>
-    ensures { Gives (λ (s : ℤ). s) result reader.new (reading dquant reader.old) }
+    ensures reads { Gives (λ (s : ℤ). s) result reader.new (reading dquant reader.old) }
+    // Each pair of bits is a word, so there is no bad code.
+    ensures ended { IfErr result (λ fault. fault.kind ≡ Ended) }
 {
     read_step(reader)
 }
@@ -116,7 +119,10 @@ fn intra_place(word: Mcbpc) -> usize
 {
     match word {
         Mcbpc::Stuffing => 8,
-        Mcbpc::Word { class: MbClass::IntraQ, cbpc } => 4 + cbpc as usize,
+        Mcbpc::Word {
+            class: MbClass::IntraQ,
+            cbpc,
+        } => 4 + cbpc as usize,
         Mcbpc::Word { class: _, cbpc } => cbpc as usize,
     }
 }

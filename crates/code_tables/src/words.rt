@@ -1,13 +1,16 @@
-ghost use Rattle.std.specs.Prelude.{◌≡◌, ◌≢◌, ℕ, ℤ, pos, negsuc, ◌+◌, ◌-◌, slice_get, IfOk, IfSome, ◌<◌, ◌≤◌, ◌≤ℤ◌, length};
+ghost use Rattle.std.specs.Prelude.{◌≡◌, ◌≢◌, ℕ, ℤ, pos, negsuc, ◌+◌, ◌-◌, ◌++◌, slice_get, IfOk, IfSome, ◌<◌, ◌≤◌, ◌≤ℤ◌, length};
 ghost use Rattle.h263_bits.specs.Written.{Appends, len_of, room_of};
-ghost use Rattle.code_tables.specs.Words.{text_at};
+ghost use Rattle.h263_bits.specs.Bits.{fields};
+ghost use Rattle.code_tables.specs.Words.{text_at, code_at, word_of, place_in};
+ghost use Rattle.code_tables.specs.Starts.{starts_of};
 ghost use Rattle.h263_bits.specs.Reading.{Gives};
 ghost use Rattle.h263_bits.specs.Syntax.{reading, word_at};
-ghost use Rattle.code_tables.specs.Tables.{cbpy, cbpy_texts, cbpy_text, magnitude_texts, size_of, sign_text, mvd_text, cbpy_words, magnitude_words, tcoef_words, mvd, signed, level_of, mvd_parts, event, event_parts};
+ghost use Rattle.code_tables.specs.Tables.{cbpy, cbpy_texts, cbpy_text, magnitude_texts, size_of, sign_text, mvd_text, cbpy_words, magnitude_words, tcoef_words, mvd, signed, level_of, mvd_parts, event, event_parts, byte_of, escape_fields, event_text, IsEvent};
 ghost use Rattle.code_tables.specs.Events.{event_of_code, coefficient_of};
 
 use crate::code::{Coefficient, Level, read_code, write_code};
-use crate::tables::{CBPY, CBPY_FAST, EVENTS, EVENTS_FAST, LEVELS, MAGNITUDES, MAGNITUDES_FAST};
+use crate::event_tables::{EVENTS, EVENTS_FAST, LAST_0_STARTS, LAST_1_STARTS, LEVELS};
+use crate::tables::{CBPY, CBPY_FAST, MAGNITUDES, MAGNITUDES_FAST};
 use h263_bits::{BitReader, BitWriter, Fault, FaultKind};
 
 fn read_pattern(reader: &mut BitReader<'_>) -> Result<usize, Fault>
@@ -17,7 +20,7 @@ fn read_pattern(reader: &mut BitReader<'_>) -> Result<usize, Fault>
     read_code(reader, &CBPY, &CBPY_FAST)
 }
 
-/// CBPY. An inter macroblock has the word of the complement.
+/// CBPY, the pattern of the luminance blocks, 0 to 15 (H.263 5.3.5). An inter macroblock has the word of the complement.
 #[tactic(auto, unfolding(crate::specs::Tables::cbpy, crate::specs::Tables::cbpy_table, h263_bits::specs::Syntax::reading))]
 pub fn read_cbpy(reader: &mut BitReader<'_>, intra: bool) -> Result<u8, Fault>
     ensures { Gives (λ (i : ℕ). i) result reader.new (reading (cbpy intra) reader.old) }
@@ -53,7 +56,7 @@ fn read_mvd_parts(reader: &mut BitReader<'_>) -> Result<i8, Fault>
     Ok(with_sign(sign, size as u8))
 }
 
-/// MVD, a difference of vectors in half samples.
+/// MVD, a difference of vectors in half samples, -32 to 31 (H.263 5.3.7).
 #[tactic(auto, unfolding(crate::specs::Tables::mvd, h263_bits::specs::Syntax::reading))]
 pub fn read_mvd(reader: &mut BitReader<'_>) -> Result<i8, Fault>
     ensures { Gives (λ (v : ℤ). v) result reader.new (reading mvd reader.old) }
@@ -132,7 +135,7 @@ fn escape_level(bits: u32) -> i8
     }
 }
 
-/// An event: LAST, RUN and LEVEL.
+/// An event of TCOEF: LAST, RUN and LEVEL, as a word with its sign or as an escape (H.263 5.4.2).
 #[tactic(auto, unfolding(crate::specs::Tables::event, h263_bits::specs::Syntax::reading))]
 pub fn read_event(reader: &mut BitReader<'_>) -> Result<Coefficient, Fault>
     ensures { Gives coefficient_of result reader.new (reading event reader.old) }
@@ -214,4 +217,81 @@ pub fn write_mvd(writer: &mut BitWriter<'_>, value: i8)
 {
     write_magnitude(writer, size(value));
     write_sign(writer, value);
+}
+
+/// The place of a size from 1 on in a row of a table.
+fn row_place(starts: &[u8], run: usize, size: usize) -> Option<usize>
+    requires size { 0 < size }
+    requires small { size < 256 }
+    requires run { run < 64 }
+    ensures { result ≡ place_in starts.now run size }
+{
+    if run + 1 < starts.len() {
+        let place = starts[run] as usize + size - 1;
+        if place < starts[run + 1] as usize {
+            return Some(place);
+        }
+    }
+    None
+}
+
+/// The place of the word of LAST, RUN and a size, if they have one.
+fn triple_place(last: bool, run: usize, size: usize) -> Option<usize>
+    requires size { 0 < size }
+    requires small { size < 256 }
+    requires run { run < 64 }
+    ensures { result ≡ place_in (starts_of last) run size }
+{
+    if last {
+        row_place(&LAST_1_STARTS, run, size)
+    } else {
+        row_place(&LAST_0_STARTS, run, size)
+    }
+}
+
+/// Writes a word of an event and its sign.
+fn write_level(writer: &mut BitWriter<'_>, place: usize, level: i8)
+    requires place { place < 103 }
+    requires room { len_of writer.old + length (word_of (code_at EVENTS place) ++ sign_text level) ≤ room_of writer.old }
+    ensures bits { Appends writer.old writer.new (word_of (code_at EVENTS place) ++ sign_text level) }
+    ensures len { len_of writer.new ≡ len_of writer.old + length (word_of (code_at EVENTS place) ++ sign_text level) }
+{
+    write_code(writer, &EVENTS, place);
+    write_sign(writer, level);
+}
+
+/// LEVEL in two's complement.
+fn level_byte(level: i8) -> u32
+    ensures { result ≡ byte_of level }
+{
+    if level < 0 {
+        (256 + level as i32) as u32
+    } else {
+        level as u32
+    }
+}
+
+fn write_escape(writer: &mut BitWriter<'_>, event: &Coefficient)
+    requires event { IsEvent (coefficient_of event.now) }
+    requires room { len_of writer.old + 22 ≤ room_of writer.old }
+    ensures bits { Appends writer.old writer.new (fields (escape_fields (coefficient_of event.now))) }
+    ensures len { len_of writer.new ≡ len_of writer.old + 22 }
+{
+    writer.put(3, 7);
+    writer.put(event.last as u32, 1);
+    writer.put(event.run as u32, 6);
+    writer.put(level_byte(event.level), 8);
+}
+
+/// Writes an event: the word of its LAST, RUN and size with the sign, where they have one, and else an escape.
+pub fn write_event(writer: &mut BitWriter<'_>, event: &Coefficient)
+    requires event { IsEvent (coefficient_of event.now) }
+    requires room { len_of writer.old + length (event_text (coefficient_of event.now)) ≤ room_of writer.old }
+    ensures bits { Appends writer.old writer.new (event_text (coefficient_of event.now)) }
+    ensures len { len_of writer.new ≡ len_of writer.old + length (event_text (coefficient_of event.now)) }
+{
+    match triple_place(event.last, event.run as usize, size(event.level)) {
+        Some(place) => write_level(writer, place, event.level),
+        None => write_escape(writer, event),
+    }
 }

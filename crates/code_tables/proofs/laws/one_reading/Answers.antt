@@ -1,5 +1,4 @@
 use Rattle.h263_bits.proofs.SyntaxLaws.{one_reading}
-use Rattle.h263_bits.specs.Syntax.{IsProductive}
 use Rattle.code_tables.specs.Mcbpc.{mcbpc, dquant}
 use Rattle.code_tables.specs.Tables.{cbpy, mvd, event}
 use Rattle.code_tables.proofs.Productive.{mcbpc_productive, cbpy_productive, dquant_productive, mvd_productive, event_productive}

@@ -6,7 +6,6 @@ use Rattle.std.proofs.lemmas.Result.{err_from_is_err_and}
 use Rattle.std.proofs.lemmas.Int.{to_z-of_z, ints}
 use Rattle.h263_bits.specs.Bits.{spelled}
 use Rattle.h263_bits.specs.Syntax.{begins, is_prefix_free}
-
 use Rattle.code_tables.specs.declared.tables.TheConstants.{STEPS, STEP_SYMBOLS}
 use Rattle.code_tables.specs.Words.{listed}
 use Rattle.code_tables.specs.Mcbpc.{dquant_words}

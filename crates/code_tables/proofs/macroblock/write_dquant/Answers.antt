@@ -1,6 +1,6 @@
 use mir.Val.{SFits}
 use Rattle.std.proofs.lemmas.Int.{to_z-of_z, ints}
-use Rattle.std.proofs.Common.{w8, arith, ◌≡◌, ◌+◌, ◌≤◌, Bool, List, length, ap, ◌∙◌, subst, sym}
+use Rattle.std.proofs.Common.{w8, arith, ◌≡◌, ◌+◌, ◌≤◌, Bool, List, length, subst, sym}
 use Rattle.h263_bits.specs.Written.{Appends, len_of, room_of}
 use Rattle.code_tables.specs.declared.tables.TheConstants.{STEPS}
 use Rattle.code_tables.specs.Words.{code_at, word_of}

@@ -1,4 +1,4 @@
-use Rattle.std.proofs.Common.{◌≡◌, ◌+◌, ◌≤◌, Bool, List, length, ap, ◌∙◌, subst, sym}
+use Rattle.std.proofs.Common.{◌≡◌, ◌+◌, ◌≤◌, Bool, List, length, subst, sym}
 use Rattle.h263_bits.specs.Written.{Appends, len_of, room_of}
 use Rattle.h263_types.specs.declared.Kind.TheVariants as kinds
 use Rattle.code_tables.specs.declared.tables.TheConstants.{INTRA_MCBPC}

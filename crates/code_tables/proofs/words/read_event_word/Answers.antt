@@ -9,9 +9,9 @@ use Rattle.h263_bits.specs.declared.fault.Fault.{Fault}
 use Rattle.h263_bits.specs.Bits.{spelled}
 use Rattle.h263_bits.specs.Reading.{Bits, ◌>>=◌}
 use Rattle.h263_bits.specs.Syntax.{begins, is_prefix_free, word_at}
-use Rattle.code_tables.specs.declared.tables.TheConstants.{EVENTS, LEVELS}
+use Rattle.code_tables.specs.declared.event_tables.TheConstants.{EVENTS, LEVELS}
 use Rattle.code_tables.specs.Words.{listed}
-use Rattle.code_tables.specs.Tables.{Event, tcoef_words}
+use Rattle.code_tables.specs.Tables.{Event, tcoef_words, last_0_texts, last_1_texts}
 use Rattle.code_tables.specs.Events.{event_of_code}
 use Rattle.code_tables.proofs.Search.{word_at-map}
 use Rattle.code_tables.proofs.words.read_event_word.Goals as goal
@@ -21,7 +21,7 @@ event_at i = event_of_code (slice_get LEVELS i)
 
 -- the words as the code has them are those of the standard
 same_words : tcoef_words ≡ map (λ (w : List Bool × ℕ). (w.0, event_at w.1)) (listed 0 EVENTS)
-unfolding tcoef_words listed spelled
+unfolding tcoef_words last_0_texts last_1_texts listed spelled
 same_words = refl
 
 read : (b : Bits) → word_at tcoef_words b ≡ (word_at (listed 0 EVENTS) b >>= λ x. Ok (event_at x.0, x.1))

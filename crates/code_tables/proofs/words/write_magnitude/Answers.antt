@@ -1,6 +1,5 @@
 use Rattle.std.proofs.Common.{◌≡◌, ◌+◌, ◌≤◌, Bool, List, length, subst, sym}
 use Rattle.h263_bits.specs.Written.{Appends, len_of, room_of}
-use Rattle.code_tables.specs.Tables.{magnitude_texts}
 use Rattle.code_tables.proofs.Texts.{magnitude_text}
 use Rattle.code_tables.proofs.words.write_magnitude.Goals as goal
 

@@ -1,4 +1,4 @@
-use Rattle.std.proofs.Common.{◌≡◌, ◌+◌, ◌≤◌, Bool, List, ◌++◌, length, length-append, subst, sym, ap, ◌∙◌, w8, arith, ℕ}
+use Rattle.std.proofs.Common.{◌≡◌, ◌+◌, ◌≤◌, ◌++◌, length, length-append, subst, ap, ◌∙◌, w8, arith, ℕ}
 use Rattle.std.specs.Prelude.{ℤ}
 use Rattle.std.proofs.lemmas.Int.{to_z-of_z}
 use Rattle.h263_bits.specs.Written.{Appends, len_of, room_of}

@@ -1,9 +1,7 @@
-use Rattle.std.proofs.Common.{◌≡◌, Bool, List, refl, sym, subst, arith}
-use Rattle.std.specs.Prelude.{ℤ, pos, negsuc, ◌<ℤ◌}
+use Rattle.std.proofs.Common.{Bool, List, sym, subst, arith}
+use Rattle.std.specs.Prelude.{pos, ◌<ℤ◌}
 use Rattle.std.proofs.lemmas.Int.{ints}
-use Rattle.h263_bits.specs.Bits.{spelled}
 use Rattle.h263_bits.specs.Written.{Appends}
-use Rattle.code_tables.specs.Tables.{sign_text}
 use Rattle.code_tables.proofs.Texts.{minus_text, plus_text}
 use Rattle.code_tables.proofs.words.write_sign.Goals as goal
 
