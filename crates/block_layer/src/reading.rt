@@ -1,0 +1,106 @@
+ghost use Rattle.std.specs.Prelude.{◌≡◌, ℕ, ◌+◌, ◌≤◌, ◌<◌, List, ℤ, pos, negsuc, ◌≤ℤ◌, IfOk};
+ghost use Rattle.h263_bits.specs.Reading.{Gives};
+ghost use Rattle.h263_bits.specs.Syntax.{reading};
+ghost use Rattle.block_layer.specs.Text.{event_turn, events, is_inside, placed, dc_of, intra_dc, intra_block, inter_block};
+ghost use Rattle.block_layer.specs.Placed.{placed_of};
+
+use code_tables::read_event;
+use h263_bits::{BitReader, Fault, FaultKind};
+use h263_types::Block;
+
+/// A level and its place.
+#[derive(Clone, Copy, Debug)]
+struct Placed {
+    place: u8,
+    level: i16,
+    last: bool,
+}
+
+/// An event, from the place at which its run starts.
+#[tactic(auto, unfolding(crate::specs::Text::placed, h263_bits::specs::Syntax::reading))]
+fn read_placed(reader: &mut BitReader<'_>, place: usize) -> Result<Placed, Fault>
+    requires { place ≤ 64 }
+    ensures reads { Gives placed_of result reader.new (reading (placed place) reader.old) }
+    ensures inside { IfOk result (λ p. p.place < 64) }
+    ensures low { IfOk result (λ p. negsuc 127 ≤ℤ p.level) }
+    ensures high { IfOk result (λ p. p.level ≤ℤ pos 127) }
+{
+    let at = reader.at();
+    let event = read_event(reader)?;
+    let place = place + event.run as usize;
+    if place > 63 {
+        return Err(Fault {
+            kind: FaultKind::PastEnd,
+            at,
+        });
+    }
+    Ok(Placed {
+        place: place as u8,
+        level: i16::from(event.level),
+        last: event.last,
+    })
+}
+
+/// Events from a place on, up to the one with LAST 1.
+fn read_events(reader: &mut BitReader<'_>, from: usize, levels: &mut [i16; 64]) -> Result<(), Fault>
+    requires { from ≤ 64 }
+    ensures { Gives (λ _. levels.new) result reader.new (reading (events from levels.old) reader.old) }
+{
+    let mut place = from;
+    'events: loop {
+        let next = read_placed(reader, place)?;
+        levels[next.place as usize] = next.level;
+        if next.last {
+            return Ok(());
+        }
+        place = next.place as usize + 1;
+    }
+}
+
+// The value that an INTRADC code stands for.
+fn dc_value(code: u32) -> i16
+    requires { code < 256 }
+    ensures { result ≡ dc_of code }
+{
+    if code == 255 { 128 } else { code as i16 }
+}
+
+// INTRADC, in a block with no other level.
+#[tactic(auto, unfolding(crate::specs::Text::intra_dc, h263_bits::specs::Syntax::reading))]
+fn read_dc(reader: &mut BitReader<'_>) -> Result<[i16; 64], Fault>
+    ensures { Gives (λ (l : List ℤ). l) result reader.new (reading intra_dc reader.old) }
+{
+    let at = reader.at();
+    let code = reader.bits(8)?;
+    if code == 0 || code == 128 {
+        return Err(Fault {
+            kind: FaultKind::BadDc,
+            at,
+        });
+    }
+    let mut levels = [0; 64];
+    levels[0] = dc_value(code);
+    Ok(levels)
+}
+
+/// A block of an intra macroblock: INTRADC, and its events where it is `coded` (H.263, 5.4). After a fault
+/// `out` is left open.
+#[tactic(auto, unfolding(crate::specs::Text::intra_block, h263_bits::specs::Syntax::reading))]
+pub fn read_intra(reader: &mut BitReader<'_>, coded: bool, out: &mut Block) -> Result<(), Fault>
+    ensures { Gives (λ _. out.new.levels) result reader.new (reading (intra_block coded) reader.old) }
+{
+    out.levels = read_dc(reader)?;
+    if !coded {
+        return Ok(());
+    }
+    read_events(reader, 1, &mut out.levels)
+}
+
+/// The events of a coded block of an inter macroblock (H.263, 5.4.2). After a fault `out` is left open.
+#[tactic(auto, unfolding(crate::specs::Text::inter_block))]
+pub fn read_inter(reader: &mut BitReader<'_>, out: &mut Block) -> Result<(), Fault>
+    ensures { Gives (λ _. out.new.levels) result reader.new (reading inter_block reader.old) }
+{
+    out.levels = [0; 64];
+    read_events(reader, 0, &mut out.levels)
+}

@@ -1,0 +1,3 @@
+pub mod Prediction
+pub mod Text
+pub mod Turns
