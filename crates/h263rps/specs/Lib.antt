@@ -1,6 +1,9 @@
-pub mod Coding
-pub mod Y4m
-pub mod Status
+pub mod Flat
 pub mod Out
-pub mod Run
+pub mod Packet
+pub mod PacketText
 pub mod Play
+pub mod Run
+pub mod Status
+pub mod Values
+pub mod Y4m

@@ -3,14 +3,18 @@
 
 mod call;
 mod coding;
+mod flat_blocks;
 mod laws;
+mod packet_reader;
+#[cfg(test)]
+mod packet_tests;
+mod packet_writer;
 mod program;
 mod status;
-mod words;
-mod y4m;
-
 #[cfg(test)]
 mod tests;
+mod words;
+mod y4m;
 
 use h263_outside::HostDesk;
 pub use program::run;

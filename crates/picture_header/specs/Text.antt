@@ -14,6 +14,7 @@ use Rattle.back_messages.specs.Text.{message}
 
 -- ---- the fields whose values are chosen
 
+-- the number of a source format (OPPTYPE, 5.1.4.2)
 abbrev pub format_code : Format → ℕ
 format_code SubQcif = 1
 format_code Qcif = 2
@@ -25,23 +26,22 @@ is_format format n =
     if n == format_code format then None
     else if (nat_lt 0 n) then (if nat_lt n 4 then Some faults.OtherFormat else Some faults.SourceFormat) else Some faults.SourceFormat
 
+-- I and P of the picture types (MPPTYPE, 5.1.4.3)
 abbrev pub is_kind : Allowed ℕ
 is_kind n = if nat_lt n 2 then None else Some faults.PictureKind
 
 abbrev pub kind_of : ℕ → Kind
 kind_of n = if n == 0 then kinds.I else kinds.P
 
+-- the four modes of the back channel (RPSMF)
 abbrev pub is_channel : Allowed ℕ
 is_channel n = if nat_lt n 4 then Some faults.Rpsmf else None
 
--- TRPI
-abbrev pub is_referring : Kind → Allowed ℕ
-is_referring kinds.I = only 0 faults.IntraReference
-is_referring kinds.P = only 1 faults.NoReference
-
+-- a temporal reference of eight bits, in a field of ten (TRP)
 abbrev pub is_low : Allowed ℕ
 is_low n = if nat_lt 255 n then Some faults.HighBits else None
 
+-- a quantiser (PQUANT)
 abbrev pub is_quant : Allowed ℕ
 is_quant n = if n == 0 then Some faults.Quant else None
 
@@ -146,8 +146,8 @@ header format =
     done (record { tr = tr; format = format; kind = type.0; rounding = type.1; channel = channel; trp = trp; quant = quant; back = in_places messages })
 
 -- the bits are a text of the header: its fields, and free values where the header keeps none
-abbrev pub HeaderText : Format → Header → List Bool → Type 0
-HeaderText format h bits = Spells (header format) h bits
+abbrev pub IsHeaderText : Format → Header → List Bool → Type 0
+IsHeaderText format h bits = Spells (header format) h bits
 
 -- the first fault of a header in bits from a place on, if there is one
 abbrev pub header_fault : Format → Bits → Option Fault

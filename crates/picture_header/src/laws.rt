@@ -3,16 +3,19 @@ ghost use Rattle.std.specs.Prelude.{◌≡◌, ℕ, ◌+◌, ◌++◌, length, L
 ghost use Rattle.h263_bits.specs.Syntax.{reading};
 ghost use Rattle.h263_types.specs.declared.format.Format.{Format};
 ghost use Rattle.picture_header.specs.declared.header.Header.{Header};
-ghost use Rattle.picture_header.specs.Text.{header, HeaderText};
+ghost use Rattle.picture_header.specs.Text.{header, IsHeaderText};
 ghost use Rattle.picture_header.specs.Ranges.{IsHeader};
 ghost use Rattle.picture_header.specs.Written.{written_header};
 
 /// Of two texts of which one begins the other both are the same, and spell the same header.
 pub fn one_reading()
-    ensures { (format : Format) (a b : Header) (x y more : List Bool) → HeaderText format a x → HeaderText format b y → x ++ more ≡ y → (x ≡ y) × (a ≡ b) }
+    ensures { (format : Format) (a b : Header) (x y more : List Bool) → IsHeaderText format a x → IsHeaderText format b y
+        → x ++ more ≡ y → (x ≡ y) × (a ≡ b) }
 {}
 
 /// What is written of a header is read again, whatever follows, and reading stops behind it.
 pub fn read_again()
-    ensures { (h : Header) (at : ℕ) (rest : List Bool) → IsHeader h → reading (header h.format) (record { at = at; bits = written_header h ++ rest }) ≡ Ok (h, record { at = at + length (written_header h); bits = rest }) }
+    ensures { (h : Header) (at : ℕ) (rest : List Bool) → IsHeader h
+        → reading (header h.format) (record { at = at; bits = written_header h ++ rest })
+        ≡ Ok (h, record { at = at + length (written_header h); bits = rest }) }
 {}

@@ -4,7 +4,7 @@ ghost use Rattle.h263_bits.specs.Syntax.{any, only, field_at, reading, goes_on};
 ghost use Rattle.h263_types.specs.declared.Kind.{Kind};
 ghost use Rattle.back_messages.specs.Text.{IsMessage, message};
 ghost use Rattle.back_messages.specs.declared.Message.{Message};
-ghost use Rattle.picture_header.specs.Text.{opening, plus_type, reference, extra, extra_turn, bci, next_message, back, channel, quant, header, header_fault, HeaderText};
+ghost use Rattle.picture_header.specs.Text.{opening, plus_type, reference, extra, extra_turn, bci, next_message, back, channel, quant, header, header_fault, IsHeaderText};
 ghost use Rattle.picture_header.specs.Back.{ReadsBack};
 ghost use Rattle.picture_header.specs.Ranges.{IsReference, IsBack, IsHeader};
 ghost use Rattle.picture_header.specs.declared.header.Header.{Header};
@@ -251,9 +251,10 @@ fn header_at(reader: &mut BitReader<'_>, format: Format) -> Result<Header, Fault
 /// Reads a picture header of the expected format, from the bit `1` of the start code to the last PEI (H.263, 5.1).
 pub fn read_header(reader: &mut BitReader<'_>, format: Format) -> Result<Header, Fault>
     // What is read is spelled by the bits that were taken.
-    ensures found { IfOk result (λ h. Takes reader.old reader.new (HeaderText format h)) }
+    ensures found { IfOk result (λ h. Takes reader.old reader.new (IsHeaderText format h)) }
     // What is spelled is read, whatever follows.
-    ensures only { (h : Header) (text rest : List Bool) → HeaderText format h text → reader.old.bits ≡ text ++ rest → IsOkAnd result (λ found. (found ≡ h) × (reader.new.bits ≡ rest)) }
+    ensures only { (h : Header) (text rest : List Bool) → IsHeaderText format h text → reader.old.bits ≡ text ++ rest
+        → IsOkAnd result (λ found. (found ≡ h) × (reader.new.bits ≡ rest)) }
     // Otherwise it is the first fault, at its place.
     ensures fault { first_fault result ≡ header_fault format reader.old }
     ensures exact { Gives (λ (h : Header). h) result reader.new (reading (header format) reader.old) }

@@ -3,7 +3,7 @@ ghost use Rattle.h263_bits.specs.Bits.{fields};
 ghost use Rattle.h263_bits.specs.Written.{Appends, len_of, room_of, buffer_of, written};
 ghost use Rattle.back_messages.specs.declared.Message.{Message};
 ghost use Rattle.back_messages.specs.Text.{IsMessage, code_of};
-ghost use Rattle.picture_header.specs.Text.{format_code, HeaderText};
+ghost use Rattle.picture_header.specs.Text.{format_code, IsHeaderText};
 ghost use Rattle.picture_header.specs.Ranges.{IsReference, IsBack, IsHeader, messages_in};
 ghost use Rattle.picture_header.specs.Written.{kind_code, opening_fields, optional_fields, mandatory_fields, plus_fields, channel_fields, reference_fields, back_fields, written_header, written_bits, reference_bits};
 
@@ -156,7 +156,7 @@ pub fn write_header(writer: &mut BitWriter<'_>, header: &Header)
     requires room { len_of writer.old + written_bits header.now ≤ room_of writer.old }
     ensures bits { Appends writer.old writer.new (written_header header.now) }
     ensures len { len_of writer.new ≡ len_of writer.old + written_bits header.now }
-    ensures spells { HeaderText header.now.format header.now (written_header header.now) }
+    ensures spells { IsHeaderText header.now.format header.now (written_header header.now) }
 {
     write_opening(writer, header.tr);
     write_plus_type(writer, header.format, header.kind, header.rounding);
