@@ -1,12 +1,15 @@
 -- Level after level: what is written, and what is still to come.
-use Rattle.std.proofs.Common.{◌≡◌, ℕ, zero, suc, ◌+◌, ◌-◌, ◌<◌, ◌≤◌, Bool, true, false, cond, List, [], ◌∷◌, ◌++◌, length, drop, take, get_or, refl, sym, ap, ◌∙◌, subst, append_assoc, arith, add-one, length-append, length-drop}
+use Rattle.std.proofs.Common.{◌≡◌, ℕ, ◌+◌, ◌-◌, ◌<◌, ◌≤◌, Bool, true, false, cond, List, [], ◌∷◌, ◌++◌, length, drop, take, refl, sym, ap, ◌∙◌, subst, append_assoc, arith, add-one, length-append, length-drop}
 use Rattle.std.specs.Prelude.{ℤ, pos}
-use Rattle.std.specs.List.{list_all}
 use Rattle.std.proofs.Math.Seq.{drop-cons}
 use Rattle.std.proofs.lemmas.List.{take_all, drop_all, append-nil}
 use Rattle.block_layer.proofs.Written.{no_events, true_not_false}
-use Rattle.code_tables.specs.Tables.{Coefficient, event_text, size_of}
-use Rattle.block_layer.specs.Text.{is_zero, none_left, events_of, events_text, levels_text}
+use Rattle.code_tables.specs.Tables.{event_text, size_of}
+use Rattle.h263_bits.specs.Bits.{spelled}
+use Rattle.h263_bits.specs.Written.{Appends, written}
+use Rattle.h263_bits.specs.declared.writer.BitWriter.{BitWriter}
+use Rattle.h263_bits.proofs.BitLists.{length-spelled}
+use Rattle.block_layer.specs.Text.{is_zero, none_left, events_of, events_text, levels_text, coded_text, dc_code, intra_text}
 use Rattle.block_layer.specs.Step.{level_at, step_text, run_after, one_event, AreWritten}
 
 -- the text of what is left, behind a run of zeros
@@ -58,7 +61,7 @@ pub lengths : (run place : ℕ) (levels : List ℤ) → place < length levels �
 lengths run place levels inside last is =
     let rest : List Bool = left_text (run_after run (level_at levels place)) (place + 1) levels in
     let split : left_text run place levels ≡ step_text last run (level_at levels place) ++ rest =
-      next run place levels inside ∙ ap (λ (l : Bool). step_text l run (level_at levels place) ++ rest) (sym is) in
+    next run place levels inside ∙ ap (λ (l : Bool). step_text l run (level_at levels place) ++ rest) (sym is) in
     ap length split ∙ length-append (step_text last run (level_at levels place)) rest
 
 pub ended : (run place : ℕ) (levels : List ℤ) (new all : List Bool) → none_left (drop place levels) ≡ true → new ++ left_text run place levels ≡ all → new ≡ all
@@ -82,3 +85,18 @@ text_is from levels = refl
 -- whether the level is the last one
 pub last_is : (last : Bool) (levels : List ℤ) (place : ℕ) → length levels ≡ 64 → last ≡ none_left (take (64 - place) (drop place levels)) → last ≡ none_left (drop place levels)
 last_is last levels place long is = is ∙ ap (λ (l : List ℤ). none_left l) (rest_is levels place long)
+
+-- the events behind INTRADC, where there are any
+pub coded_is : (levels : List ℤ) → none_left (drop 1 levels) ≡ false → coded_text levels ≡ levels_text 1 levels
+coded_is levels some = rw some refl
+
+pub none_coded : (levels : List ℤ) → none_left (drop 1 levels) ≡ true → coded_text levels ≡ []
+none_coded levels none = rw none refl
+
+-- nothing is appended
+pub nothing_more : (w : BitWriter) (text : List Bool) → text ≡ [] → Appends w w text
+nothing_more w text e = record { buffer = refl; room = refl; text = sym (ap (λ (t : List Bool). written w ++ t) e ∙ append-nil (written w)) }
+
+pub intra_length : (levels : List ℤ) → length (intra_text levels) ≡ 8 + length (coded_text levels)
+unfolding intra_text
+intra_length levels = let dc = dc_code (level_at levels 0) in length-append (spelled 8 dc) (coded_text levels) ∙ ap (λ (n : ℕ). n + length (coded_text levels)) (length-spelled 8 dc)

@@ -1,16 +1,14 @@
 -- The events that are written of a block's levels spell them.
-use Rattle.std.proofs.Common.{◌≡◌, ℕ, zero, suc, ◌+◌, ◌*◌, ◌<◌, ◌≤◌, Bool, true, false, cond, List, [], ◌∷◌, ◌++◌, length, get_or, None, refl, sym, ap, ◌∙◌, subst, append_assoc, arith, length-append}
-use Rattle.std.specs.Prelude.{ℤ, pos, negsuc, ◌≤ℤ◌, slice_set, replicate, nat_lt}
-use Rattle.std.specs.Ordering.{int_eq}
-use Rattle.std.specs.List.{list_all}
+use Rattle.std.proofs.Common.{◌≡◌, ℕ, zero, suc, ◌+◌, ◌<◌, Bool, true, false, cond, List, [], ◌∷◌, ◌++◌, length, get_or, None, refl, sym, ap, ◌∙◌, subst, append_assoc, arith, length-append}
+use Rattle.std.specs.Prelude.{ℤ, pos, negsuc, slice_set, replicate}
 use Rattle.std.proofs.lemmas.Bool.{lt-ltb}
 use Rattle.std.proofs.lemmas.Bool.Decides.{Decides-int_eq}
 use Rattle.std.proofs.lemmas.List.{append-nil}
-use Rattle.h263_bits.specs.Syntax.{any, done, again, finally, repeat, Spells}
+use Rattle.h263_bits.specs.Syntax.{any, again, finally, repeat, Spells}
 use Rattle.h263_bits.proofs.SyntaxLaws.{and_both, spells_done, spells_part, spells_last, spells_turn, spells_whole}
 use Rattle.code_tables.specs.Tables.{Coefficient, event, event_text, size_of}
 use Rattle.code_tables.proofs.WrittenEvents.{event_written}
-use Rattle.block_layer.specs.Text.{Events, Placed, placed, is_inside, event_turn, after_event, is_zero, none_left, events_of, events_text}
+use Rattle.block_layer.specs.Text.{placed, is_inside, event_turn, after_event, is_zero, none_left, events_of, events_text}
 use Rattle.block_layer.proofs.Turns.{at_place, next}
 
 pub true_not_false : true ≡ false → ⊥
@@ -54,7 +52,7 @@ zero_is : (z : ℤ) → is_zero z ≡ true → z ≡ pos 0
 zero_is z e = (Decides-int_eq z (pos 0)).0 e
 
 -- no level is left but zeros
-all_zeros : (zs : List ℤ) → none_left zs ≡ true → zs ≡ zeros (length zs)
+pub all_zeros : (zs : List ℤ) → none_left zs ≡ true → zs ≡ zeros (length zs)
 all_zeros [] none = refl
 all_zeros (z ∷ zs) none =
     let both = and_both (is_zero z) (none_left zs) none in

@@ -1,5 +1,5 @@
 -- The writing of a block's levels, one after the other.
-use Rattle.std.specs.Prelude.{ℕ, ◌+◌, ◌<◌, ◌≡◌, List, [], Bool, slice_index_or, ℤ, pos, if◌then◌else◌}
+use Rattle.std.specs.Prelude.{ℕ, ◌+◌, ◌<◌, List, [], Bool, slice_index_or, ℤ, pos, if◌then◌else◌}
 use Rattle.code_tables.specs.Tables.{Coefficient, event_text, size_of}
 use Rattle.block_layer.specs.Text.{is_zero}
 

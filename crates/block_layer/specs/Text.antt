@@ -1,11 +1,13 @@
 -- A block: INTRADC, and events up to the one with LAST 1.
-use Rattle.std.specs.Prelude.{ℕ, ◌+◌, ◌++◌, ◌∷◌, [], List, drop, not, slice_index_or, unsigned_abs, Bool, Some, None, nat_lt, ◌==◌, ◌||◌, if◌then◌else◌, slice_set, replicate, ℤ, pos}
+use Rattle.std.specs.Prelude.{ℕ, ◌+◌, ◌++◌, ◌∷◌, [], List, drop, not, slice_index_or, unsigned_abs, Bool, Option, Some, None, nat_lt, ◌==◌, ◌||◌, if◌then◌else◌, slice_set, replicate, ℤ, pos}
 use Rattle.std.specs.Ordering.{int_eq}
 use Rattle.std.specs.List.{list_all}
 use Rattle.h263_bits.specs.Bits.{spelled}
+use Rattle.h263_bits.specs.declared.fault.Fault.{Fault}
 use Rattle.h263_bits.specs.declared.fault.FaultKind.TheVariants as faults
-use Rattle.h263_bits.specs.Syntax.{Syntax, Allowed, Turn, again, finally, any, done, field, part, repeat, either}
-use Rattle.code_tables.specs.Tables.{Coefficient, event, event_text, size_of}
+use Rattle.h263_bits.specs.Reading.{Bits, first_fault}
+use Rattle.h263_bits.specs.Syntax.{Syntax, Allowed, Turn, again, finally, any, done, field, part, repeat, either, Spells, reading}
+use Rattle.code_tables.specs.Tables.{Coefficient, event, event_text}
 
 -- where the next event's run starts, and the levels so far
 pub record Events : Type 0 where
@@ -58,6 +60,24 @@ intra_block coded = part intra_dc any λ levels. either coded (events 1 levels) 
 -- a coded block of an inter macroblock
 unfoldable pub inter_block : Syntax (List ℤ)
 inter_block = events 0 no_levels
+
+-- ---- in the format's words
+
+-- the bits are a text of these levels, as a block of an intra macroblock
+abbrev pub IsIntraText : Bool → List ℤ → List Bool → Type 0
+IsIntraText coded levels bits = Spells (intra_block coded) levels bits
+
+-- the bits are a text of these levels, as a coded block of an inter macroblock
+abbrev pub IsInterText : List ℤ → List Bool → Type 0
+IsInterText levels bits = Spells inter_block levels bits
+
+-- the first fault of a block of an intra macroblock in bits from a place on, if there is one
+abbrev pub intra_block_fault : Bool → Bits → Option Fault
+intra_block_fault coded b = first_fault (reading (intra_block coded) b)
+
+-- the first fault of a coded block of an inter macroblock, likewise
+abbrev pub inter_block_fault : Bits → Option Fault
+inter_block_fault b = first_fault (reading inter_block b)
 
 -- ---- what is written
 

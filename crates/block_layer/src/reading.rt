@@ -1,14 +1,16 @@
-ghost use Rattle.std.specs.Prelude.{◌≡◌, ℕ, ◌+◌, ◌≤◌, ◌<◌, List, ℤ, pos, negsuc, ◌≤ℤ◌, IfOk};
-ghost use Rattle.h263_bits.specs.Reading.{Gives};
+//! Reads blocks.
+ghost use Rattle.std.specs.Prelude.{◌≡◌, ℕ, ◌+◌, ◌≤◌, ◌<◌, ◌++◌, List, Bool, ℤ, pos, negsuc, ◌≤ℤ◌, IfOk, IsOkAnd};
+ghost use Rattle.h263_bits.specs.Reading.{Gives, Takes, first_fault};
 ghost use Rattle.h263_bits.specs.Syntax.{reading};
-ghost use Rattle.block_layer.specs.Text.{event_turn, events, is_inside, placed, dc_of, intra_dc, intra_block, inter_block};
+ghost use Rattle.h263_types.specs.Blocks.{IsIntraBlock, IsInterBlock};
+ghost use Rattle.block_layer.specs.Text.{event_turn, events, is_inside, placed, dc_of, intra_dc, intra_block, inter_block, IsIntraText, IsInterText, intra_block_fault, inter_block_fault};
 ghost use Rattle.block_layer.specs.Placed.{placed_of};
 
 use code_tables::read_event;
 use h263_bits::{BitReader, Fault, FaultKind};
 use h263_types::Block;
 
-/// A level and its place.
+// A level and its place.
 #[derive(Clone, Copy, Debug)]
 struct Placed {
     place: u8,
@@ -16,7 +18,7 @@ struct Placed {
     last: bool,
 }
 
-/// An event, from the place at which its run starts.
+// An event, from the place at which its run starts.
 #[tactic(auto, unfolding(crate::specs::Text::placed, h263_bits::specs::Syntax::reading))]
 fn read_placed(reader: &mut BitReader<'_>, place: usize) -> Result<Placed, Fault>
     requires { place ≤ 64 }
@@ -41,7 +43,7 @@ fn read_placed(reader: &mut BitReader<'_>, place: usize) -> Result<Placed, Fault
     })
 }
 
-/// Events from a place on, up to the one with LAST 1.
+// Events from a place on, up to the one with LAST 1.
 fn read_events(reader: &mut BitReader<'_>, from: usize, levels: &mut [i16; 64]) -> Result<(), Fault>
     requires { from ≤ 64 }
     ensures { Gives (λ _. levels.new) result reader.new (reading (events from levels.old) reader.old) }
@@ -83,10 +85,8 @@ fn read_dc(reader: &mut BitReader<'_>) -> Result<[i16; 64], Fault>
     Ok(levels)
 }
 
-/// A block of an intra macroblock: INTRADC, and its events where it is `coded` (H.263, 5.4). After a fault
-/// `out` is left open.
 #[tactic(auto, unfolding(crate::specs::Text::intra_block, h263_bits::specs::Syntax::reading))]
-pub fn read_intra(reader: &mut BitReader<'_>, coded: bool, out: &mut Block) -> Result<(), Fault>
+fn intra_at(reader: &mut BitReader<'_>, coded: bool, out: &mut Block) -> Result<(), Fault>
     ensures { Gives (λ _. out.new.levels) result reader.new (reading (intra_block coded) reader.old) }
 {
     out.levels = read_dc(reader)?;
@@ -96,11 +96,41 @@ pub fn read_intra(reader: &mut BitReader<'_>, coded: bool, out: &mut Block) -> R
     read_events(reader, 1, &mut out.levels)
 }
 
-/// The events of a coded block of an inter macroblock (H.263, 5.4.2). After a fault `out` is left open.
 #[tactic(auto, unfolding(crate::specs::Text::inter_block))]
-pub fn read_inter(reader: &mut BitReader<'_>, out: &mut Block) -> Result<(), Fault>
+fn inter_at(reader: &mut BitReader<'_>, out: &mut Block) -> Result<(), Fault>
     ensures { Gives (λ _. out.new.levels) result reader.new (reading inter_block reader.old) }
 {
     out.levels = [0; 64];
     read_events(reader, 0, &mut out.levels)
+}
+
+/// Reads a block of an intra macroblock: INTRADC, and its events where it is `coded` (H.263, 5.4). After a fault
+/// `out` is left open.
+pub fn read_intra(reader: &mut BitReader<'_>, coded: bool, out: &mut Block) -> Result<(), Fault>
+    // What is read is spelled by the bits that were taken.
+    ensures found { IfOk result (λ _. Takes reader.old reader.new (IsIntraText coded out.new.levels)) }
+    // What is spelled is read, whatever follows.
+    ensures only { (levels : List ℤ) (text rest : List Bool) → IsIntraText coded levels text → reader.old.bits ≡ text ++ rest
+        → IsOkAnd result (λ _. (out.new.levels ≡ levels) × (reader.new.bits ≡ rest)) }
+    // Otherwise it is the first fault, at its place.
+    ensures fault { first_fault result ≡ intra_block_fault coded reader.old }
+    ensures exact { Gives (λ _. out.new.levels) result reader.new (reading (intra_block coded) reader.old) }
+    ensures range { IfOk result (λ _. IsIntraBlock out.new) }
+{
+    intra_at(reader, coded, out)
+}
+
+/// Reads the events of a coded block of an inter macroblock (H.263, 5.4.2). After a fault `out` is left open.
+pub fn read_inter(reader: &mut BitReader<'_>, out: &mut Block) -> Result<(), Fault>
+    // What is read is spelled by the bits that were taken.
+    ensures found { IfOk result (λ _. Takes reader.old reader.new (IsInterText out.new.levels)) }
+    // What is spelled is read, whatever follows.
+    ensures only { (levels : List ℤ) (text rest : List Bool) → IsInterText levels text → reader.old.bits ≡ text ++ rest
+        → IsOkAnd result (λ _. (out.new.levels ≡ levels) × (reader.new.bits ≡ rest)) }
+    // Otherwise it is the first fault, at its place.
+    ensures fault { first_fault result ≡ inter_block_fault reader.old }
+    ensures exact { Gives (λ _. out.new.levels) result reader.new (reading inter_block reader.old) }
+    ensures range { IfOk result (λ _. IsInterBlock out.new) }
+{
+    inter_at(reader, out)
 }

@@ -5,7 +5,7 @@ ghost use Rattle.h263_bits.specs.Written.{Appends, len_of, room_of};
 ghost use Rattle.h263_types.specs.Blocks.{IsIntraBlock, IsInterBlock};
 ghost use Rattle.code_tables.specs.Events.{coefficient_of};
 ghost use Rattle.code_tables.specs.Tables.{size_of};
-ghost use Rattle.block_layer.specs.Text.{is_zero, none_left, events_of, events_text, dc_code, is_coded, levels_text, coded_text, intra_text, inter_text};
+ghost use Rattle.block_layer.specs.Text.{is_zero, none_left, events_of, events_text, dc_code, is_coded, levels_text, coded_text, intra_text, inter_text, IsIntraText, IsInterText};
 ghost use Rattle.block_layer.specs.Step.{AreWritten, level_at, step_text, run_after, one_event};
 
 use code_tables::{Coefficient, write_event};
@@ -27,7 +27,13 @@ fn event_at(levels: &[i16; 64], place: usize, run: u8, last: bool) -> Coefficien
 
 // Writes a level behind a run of zeros, and gives the run behind it.
 #[tactic(auto, unfolding(crate::specs::Step::step_text))]
-fn write_place(writer: &mut BitWriter<'_>, levels: &[i16; 64], place: usize, run: u8, last: bool) -> u8
+fn write_place(
+    writer: &mut BitWriter<'_>,
+    levels: &[i16; 64],
+    place: usize,
+    run: u8,
+    last: bool,
+) -> u8
     requires place { place < 64 }
     requires run { run < 64 }
     requires size { size_of (level_at levels.now place) < 128 }
@@ -53,6 +59,22 @@ fn is_none_left(levels: &[i16]) -> bool
         }
     }
     true
+}
+
+/// Whether a block of an intra macroblock is coded: a level other than INTRADC isn't 0.
+pub fn is_intra_coded(block: &Block) -> bool
+    ensures coded { result ≡ is_coded block.now.levels }
+    ensures whole { length block.now.levels ≡ 64 }
+{
+    !is_none_left(&block.levels[1..])
+}
+
+/// Whether a block of an inter macroblock is coded: a level isn't 0.
+pub fn is_inter_coded(block: &Block) -> bool
+    ensures coded { result ≡ not (none_left block.now.levels) }
+    ensures whole { length block.now.levels ≡ 64 }
+{
+    !is_none_left(&block.levels)
 }
 
 // Writes the events of the levels from a place on; one at least of these isn't 0.
@@ -87,12 +109,14 @@ fn dc_bits(block: &Block) -> u32
 }
 
 /// Writes a block of an intra macroblock: INTRADC, and its events where another level isn't 0 (H.263, 5.4).
-/// There is room for its text.
+/// There is room for its text, at most 1,394 bits.
 #[tactic(auto, unfolding(crate::specs::Text::intra_text))]
 pub fn write_intra(writer: &mut BitWriter<'_>, block: &Block)
     requires block { IsIntraBlock block.now }
     requires room { len_of writer.old + length (intra_text block.now.levels) ≤ room_of writer.old }
     ensures bits { Appends writer.old writer.new (intra_text block.now.levels) }
+    // It is a text of the block, which is coded exactly where a level other than INTRADC isn't 0.
+    ensures spells { IsIntraText (is_coded block.now.levels) block.now.levels (intra_text block.now.levels) }
     ensures len { len_of writer.new ≡ len_of writer.old + length (intra_text block.now.levels) }
 {
     writer.put(dc_bits(block), 8);
@@ -113,13 +137,15 @@ fn write_coded(writer: &mut BitWriter<'_>, levels: &[i16; 64])
 }
 
 /// Writes a coded block of an inter macroblock: the events of its levels, of which one at least isn't 0
-/// (H.263, 5.4.2). There is room for its text.
+/// (H.263, 5.4.2). There is room for its text, at most 1,408 bits.
 #[tactic(auto, unfolding(crate::specs::Text::inter_text))]
 pub fn write_inter(writer: &mut BitWriter<'_>, block: &Block)
     requires block { IsInterBlock block.now }
     requires some { none_left block.now.levels ≡ false }
     requires room { len_of writer.old + length (inter_text block.now.levels) ≤ room_of writer.old }
     ensures bits { Appends writer.old writer.new (inter_text block.now.levels) }
+    // It is a text of the block.
+    ensures spells { IsInterText block.now.levels (inter_text block.now.levels) }
     ensures len { len_of writer.new ≡ len_of writer.old + length (inter_text block.now.levels) }
 {
     write_levels(writer, &block.levels, 0);

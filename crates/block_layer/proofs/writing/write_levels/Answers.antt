@@ -1,8 +1,7 @@
-use Rattle.std.proofs.Common.{true, ◌≡◌, ◌+◌, ◌≤◌, ◌++◌, Bool, List, length, drop, ap, sym, ◌∙◌, subst, arith, refl}
-use Rattle.std.specs.Prelude.{ℤ}
+use Rattle.std.proofs.Common.{true, ◌≡◌, ◌+◌, ◌++◌, Bool, List, length, drop, ap, sym, ◌∙◌, arith, refl}
 use Rattle.h263_bits.specs.Written.{written}
-use Rattle.block_layer.specs.Text.{none_left, levels_text}
-use Rattle.block_layer.specs.Step.{level_at, step_text, run_after}
+use Rattle.block_layer.specs.Text.{none_left}
+use Rattle.block_layer.specs.Step.{level_at, run_after}
 use Rattle.block_layer.proofs.Steps.{left_text, none_text, last_is, size_at, goes, lengths, ended, some_left, run_grows, text_is}
 use Rattle.block_layer.proofs.writing.write_levels.Goals as goal
 
@@ -53,7 +52,7 @@ returns-then-last-clause-bits c =
       buffer = c.write_place-run.ensures.bits.buffer ∙ c.places.invariant.buffer;
       room = c.write_place-run.ensures.bits.room ∙ c.places.invariant.room;
       text = ended (run_after c.places.run (level_at levels c.places.place)) (c.places.place + 1) levels _ _ none
-        (goes c.places.run c.places.place levels (omega arith) (written c.places.writer) (written c.write_place-run.new.writer) _ last is c.write_place-run.ensures.bits.text c.places.invariant.text);
+          (goes c.places.run c.places.place levels (omega arith) (written c.places.writer) (written c.write_place-run.new.writer) _ last is c.write_place-run.ensures.bits.text c.places.invariant.text);
     }
 
 pub returns-then-last-clause-len : goal.returns-then-last-clause-len
