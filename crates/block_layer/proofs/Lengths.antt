@@ -40,7 +40,7 @@ word_short last run size w e = at (slice_get (rows_of last) run) refl e
         let short : are_short row ≡ true = at_place are_short (rows_of last) run row (all_short last) is in
         leb-true (length w) 12 (at_place is_short row (size - 1) w short got)
 
-sign_short : (z : ℤ) → length (sign_text z) ≤ 1
+pub sign_short : (z : ℤ) → length (sign_text z) ≤ 1
 sign_short (negsuc n) = omega arith
 sign_short (pos n) = at (eqb n 0)
   where

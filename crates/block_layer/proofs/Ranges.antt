@@ -29,14 +29,15 @@ all_small : list_all (λ w. is_small w.1) tcoef_words ≡ true
 unfolding tcoef_words last_0_texts last_1_texts is_small
 all_small = refl
 
-small_at : (words : List (List Bool × Option Event)) (w : List Bool × Option Event) → list_all (λ w. is_small w.1) words ≡ true → IsIn w words → is_small w.1 ≡ true
-small_at [] w e h = absurd h
-small_at (v ∷ words) w e (inl same) =
-    let p = and_both (is_small v.1) (list_all (λ w. is_small w.1) words) e in
-    subst (λ (x : List Bool × Option Event). is_small x.1 ≡ true) same p.0
-small_at (v ∷ words) w e (inr later) =
-    let p = and_both (is_small v.1) (list_all (λ w. is_small w.1) words) e in
-    small_at words w p.1 later
+-- a test that holds of what each word of a table stands for holds of one
+pub stands_within : {S : Type 0} (test : S → Bool) (words : List (List Bool × S)) (w : List Bool × S) → list_all (λ v. test v.1) words ≡ true → IsIn w words → test w.1 ≡ true
+stands_within test [] w e h = absurd h
+stands_within {S} test (v ∷ words) w e (inl same) =
+    let p = and_both (test v.1) (list_all (λ v. test v.1) words) e in
+    subst (λ (x : List Bool × S). test x.1 ≡ true) same p.0
+stands_within test (v ∷ words) w e (inr later) =
+    let p = and_both (test v.1) (list_all (λ v. test v.1) words) e in
+    stands_within test words w p.1 later
 
 neg_size : (n : ℕ) → size_of (neg_ℤ (pos n)) ≡ n
 neg_size zero = refl
@@ -76,7 +77,7 @@ event_size : (x : Coefficient) (text : List Bool) → Spells event x text → si
 unfolding Spells event event_parts event_table
 event_size x text h =
     let inner = h.4 in
-    let small = after_size inner.1 h.0 inner.2 (small_at tcoef_words (inner.0, inner.1) all_small inner.3) inner.5 in
+    let small = after_size inner.1 h.0 inner.2 (stands_within is_small tcoef_words (inner.0, inner.1) all_small inner.3) inner.5 in
     subst (λ (c : Coefficient). size_of c.level < 128) (sym h.6.0) small
 
 is_level_of : (z : ℤ) → size_of z < 128 → IsLevel z
@@ -112,6 +113,10 @@ zero_level = is_level_of (pos 0) (omega arith)
 
 zeros_within : (n k : ℕ) → IsLevel (level_at (replicate n (pos 0)) k)
 zeros_within n k = subst (λ (z : ℤ). IsLevel z) (sym (zero_at n k)) zero_level
+
+-- a block with no level
+pub no_levels_within : IsInterBlock (record { levels = no_levels })
+no_levels_within = record { levels = λ k lt. zeros_within 64 k }
 
 -- ---- the events of a block, from a place on
 

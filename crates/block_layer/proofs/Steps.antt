@@ -9,7 +9,7 @@ use Rattle.h263_bits.specs.Bits.{spelled}
 use Rattle.h263_bits.specs.Written.{Appends, written}
 use Rattle.h263_bits.specs.declared.writer.BitWriter.{BitWriter}
 use Rattle.h263_bits.proofs.BitLists.{length-spelled}
-use Rattle.block_layer.specs.Text.{is_zero, none_left, events_of, events_text, levels_text, coded_text, dc_code, intra_text}
+use Rattle.block_layer.specs.Text.{is_zero, none_left, events_of, events_text, levels_text, coded_text, dc_code, intra_text, inter_text}
 use Rattle.block_layer.specs.Step.{level_at, step_text, run_after, one_event, AreWritten}
 
 -- the text of what is left, behind a run of zeros
@@ -100,3 +100,8 @@ nothing_more w text e = record { buffer = refl; room = refl; text = sym (ap (λ 
 pub intra_length : (levels : List ℤ) → length (intra_text levels) ≡ 8 + length (coded_text levels)
 unfolding intra_text
 intra_length levels = let dc = dc_code (level_at levels 0) in length-append (spelled 8 dc) (coded_text levels) ∙ ap (λ (n : ℕ). n + length (coded_text levels)) (length-spelled 8 dc)
+
+-- nothing is written of a block with no level
+pub none_inter : (levels : List ℤ) → none_left levels ≡ true → inter_text levels ≡ []
+unfolding inter_text levels_text
+none_inter levels none = none_text 0 0 levels none

@@ -1,5 +1,5 @@
 -- A macroblock: stuffing, COD, MCBPC, CBPY, DQUANT, the vector, and six blocks (H.263, 5.3).
-use Rattle.std.specs.Prelude.{ℕ, List, [], ◌∷◌, Bool, true, false, ◌&&◌, Some, None, nat_lt, ◌==◌, if◌then◌else◌, ℤ, pos, negsuc, ◌+ℤ◌, ◌-ℤ◌, int_le}
+use Rattle.std.specs.Prelude.{ℕ, List, [], ◌∷◌, Bool, true, false, ◌&&◌, Option, Some, None, nat_lt, ◌==◌, if◌then◌else◌, ℤ, pos, negsuc, ◌+ℤ◌, ◌-ℤ◌, int_le}
 use Rattle.std.specs.Int.{int_rem_euclid}
 use Rattle.h263_types.specs.declared.Kind.{Kind}
 use Rattle.h263_types.specs.declared.Kind.TheVariants as kinds
@@ -8,9 +8,11 @@ use Rattle.h263_types.specs.declared.vector.Reach.{Reach}
 use Rattle.h263_types.specs.declared.blocks.Block.{Block}
 use Rattle.h263_types.specs.declared.blocks.Mb.{Mb}
 use Rattle.h263_types.specs.declared.blocks.Mb.TheVariants as mbs
+use Rattle.h263_bits.specs.declared.fault.Fault.{Fault}
 use Rattle.h263_bits.specs.declared.fault.FaultKind.TheVariants as faults
 use Rattle.h263_bits.specs.Bits.{is_set}
-use Rattle.h263_bits.specs.Syntax.{Syntax, Allowed, Turn, again, finally, any, done, field, part, repeat, either}
+use Rattle.h263_bits.specs.Reading.{Bits, first_fault}
+use Rattle.h263_bits.specs.Syntax.{Syntax, Allowed, Turn, again, finally, any, done, field, part, repeat, either, Spells, reading}
 use Rattle.code_tables.specs.declared.macroblock.MbClass.{MbClass}
 use Rattle.code_tables.specs.declared.macroblock.MbClass.TheVariants as classes
 use Rattle.code_tables.specs.declared.macroblock.Mcbpc.{Mcbpc}
@@ -141,3 +143,13 @@ behind quant reach predictor (Coded class cbpc) = coded_mb quant reach predictor
 -- a macroblock, with the quantiser before it, its reach and its predictor
 unfoldable pub mb : Kind → ℕ → Reach → Vector → Syntax Mb
 mb kind quant reach predictor = part (lead kind) any λ l. behind quant reach predictor l
+
+-- ---- in the format's words
+
+-- the bits are a text of the macroblock, in a picture of this kind, where its quantiser before it, its reach and its predictor are these
+abbrev pub IsMbText : Kind → ℕ → Reach → Vector → Mb → List Bool → Type 0
+IsMbText kind quant reach predictor m bits = Spells (mb kind quant reach predictor) m bits
+
+-- the first fault of a macroblock in bits from a place on, if there is one
+abbrev pub macroblock_fault : Kind → ℕ → Reach → Vector → Bits → Option Fault
+macroblock_fault kind quant reach predictor b = first_fault (reading (mb kind quant reach predictor) b)

@@ -1,11 +1,12 @@
 //! Reads macroblocks.
-ghost use Rattle.std.specs.Prelude.{◌≡◌, ℕ, ℤ, List, ◌≤◌, ◌≤ℤ◌, ◌+ℤ◌, pos, negsuc};
-ghost use Rattle.h263_bits.specs.Reading.{Gives};
+ghost use Rattle.std.specs.Prelude.{◌≡◌, ℕ, ℤ, List, Bool, ◌++◌, ◌≤ℤ◌, ◌+ℤ◌, pos, negsuc, IfOk, IsOkAnd};
+ghost use Rattle.h263_bits.specs.Reading.{Gives, Takes, first_fault};
 ghost use Rattle.h263_bits.specs.Syntax.{reading, Turn};
+ghost use Rattle.h263_types.specs.Blocks.{IsQuant, IsMb, IsOfKind};
 ghost use Rattle.h263_types.specs.declared.blocks.Block.{Block};
 ghost use Rattle.h263_types.specs.declared.blocks.Mb.{Mb};
 ghost use Rattle.h263_types.specs.declared.vector.Vector.{Vector};
-ghost use Rattle.macroblock_layer.specs.Text.{class_turn, lead_turn, lead, is_intra, quantiser, limited, difference, moved, wrapped, is_within_across, is_within_along, is_within, vector, intra, inter, blocks, intra_mb, inter_mb, coded_mb, behind, mb};
+ghost use Rattle.macroblock_layer.specs.Text.{class_turn, lead_turn, lead, is_intra, quantiser, limited, difference, moved, wrapped, is_within_across, is_within_along, is_within, vector, intra, inter, blocks, intra_mb, inter_mb, coded_mb, behind, mb, IsMbText, macroblock_fault};
 ghost use Rattle.macroblock_layer.specs.Turns.{turn_of};
 ghost use Rattle.macroblock_layer.specs.declared.reading.Lead.{Lead};
 
@@ -29,7 +30,10 @@ fn read_class_turn(reader: &mut BitReader<'_>, kind: Kind) -> Result<Option<Lead
     let at = reader.at();
     match read_mcbpc(reader, kind)? {
         Mcbpc::Stuffing => Ok(None),
-        Mcbpc::Word { class: MbClass::Inter4, .. } => Err(Fault {
+        Mcbpc::Word {
+            class: MbClass::Inter4,
+            ..
+        } => Err(Fault {
             kind: FaultKind::FourVectors,
             at,
         }),
@@ -62,7 +66,8 @@ fn read_difference(reader: &mut BitReader<'_>) -> Result<Vector, Fault>
     Ok(Vector { x, y })
 }
 
-fn wrapped(sum: i16) -> i8
+// Modulo 64, into -32 to 31.
+pub fn wrapped(sum: i16) -> i8
     requires low { negsuc 999 ≤ℤ sum }
     requires high { sum ≤ℤ pos 999 }
     ensures wrapped { result ≡ wrapped sum }
@@ -239,7 +244,6 @@ fn stepped(quant: u8, step: i8) -> u8
 // The quantiser, changed by DQUANT in a Q class.
 #[tactic(auto, unfolding(crate::specs::Text::quantiser, h263_bits::specs::Syntax::reading))]
 fn read_quantiser(reader: &mut BitReader<'_>, class: MbClass, quant: u8) -> Result<u8, Fault>
-    requires { quant ≤ 31 }
     ensures { Gives (λ (q : ℕ). q) result reader.new (reading (quantiser class quant) reader.old) }
 {
     match class {
@@ -269,7 +273,6 @@ fn read_coded_mb(
     class: MbClass,
     cbpc: u8,
 ) -> Result<Mb, Fault>
-    requires { quant ≤ 31 }
     ensures { Gives (λ (m : Mb). m) result reader.new (reading (coded_mb quant reach predictor class cbpc) reader.old) }
 {
     let intra = is_intra(class);
@@ -290,7 +293,6 @@ fn read_behind(
     predictor: Vector,
     lead: Lead,
 ) -> Result<Mb, Fault>
-    requires { quant ≤ 31 }
     ensures { Gives (λ (m : Mb). m) result reader.new (reading (behind quant reach predictor lead) reader.old) }
 {
     match lead {
@@ -299,9 +301,24 @@ fn read_behind(
     }
 }
 
-/// A macroblock of a picture of this kind (H.263, 5.3): `quant` is the quantiser before it, 1 to 31;
-/// `predictor` predicts its vector, and `reach` says how far that may reach. After a fault `out` is left open.
 #[tactic(auto, unfolding(crate::specs::Text::mb, h263_bits::specs::Syntax::reading))]
+fn mb_at(
+    reader: &mut BitReader<'_>,
+    kind: Kind,
+    quant: u8,
+    predictor: Vector,
+    reach: Reach,
+    out: &mut Mb,
+) -> Result<(), Fault>
+    ensures { Gives (λ _. out.new) result reader.new (reading (mb kind quant reach predictor) reader.old) }
+{
+    let lead = read_lead(reader, kind)?;
+    *out = read_behind(reader, quant, reach, predictor, lead)?;
+    Ok(())
+}
+
+/// Reads a macroblock of a picture of this kind (H.263, 5.3): `quant` is the quantiser before it, 1 to 31;
+/// `predictor` predicts its vector, and `reach` says how far that may reach. After a fault `out` is left open.
 pub fn read_mb(
     reader: &mut BitReader<'_>,
     kind: Kind,
@@ -310,10 +327,15 @@ pub fn read_mb(
     reach: Reach,
     out: &mut Mb,
 ) -> Result<(), Fault>
-    requires { quant ≤ 31 }
-    ensures { Gives (λ _. out.new) result reader.new (reading (mb kind quant reach predictor) reader.old) }
+    // What is read is spelled by the bits that were taken.
+    ensures found { IfOk result (λ _. Takes reader.old reader.new (IsMbText kind quant reach predictor out.new)) }
+    // What is spelled is read, whatever follows.
+    ensures only { (m : Mb) (text rest : List Bool) → IsMbText kind quant reach predictor m text → reader.old.bits ≡ text ++ rest
+        → IsOkAnd result (λ _. (out.new ≡ m) × (reader.new.bits ≡ rest)) }
+    // Otherwise it is the first fault, at its place.
+    ensures fault { first_fault result ≡ macroblock_fault kind quant reach predictor reader.old }
+    ensures exact { Gives (λ _. out.new) result reader.new (reading (mb kind quant reach predictor) reader.old) }
+    ensures range { IsQuant quant → IfOk result (λ _. IsMb out.new × IsOfKind kind out.new) }
 {
-    let lead = read_lead(reader, kind)?;
-    *out = read_behind(reader, quant, reach, predictor, lead)?;
-    Ok(())
+    mb_at(reader, kind, quant, predictor, reach, out)
 }
