@@ -135,7 +135,7 @@ fn one_text_of_each_class(rt: HostRuntime) -> Result<(), Fail> {
         let (mb, end) = rewritten(kind, &bytes, len, &mut out)?;
         assert_eq!(rt; head_of(&mb), (quant, Vector { x, y }), "{text}");
         assert_eq!(rt; end, len, "{text}");
-        assert_eq!(rt; &out[..32], &bytes[..], "{text}");
+        assert!(rt; out.starts_with(&bytes), "{text}");
     }
     Ok(())
 }
@@ -167,16 +167,18 @@ fn first_faults(rt: HostRuntime) {
     }
 }
 
-/// The horizontal component of a predictor in four columns, where macroblock k has the vector (k + 1, -2 (k + 1)).
+/// The predictor in four columns, where macroblock k has the vector (k + 1, -2 (k + 1)).
 fn predicted(first: u32, mb: u32) -> Vector {
-    let mut vectors = [NO_VECTOR; 8];
-    for (k, vector) in vectors.iter_mut().enumerate() {
-        let size = k as i8 + 1;
-        *vector = Vector {
-            x: size,
-            y: -2 * size,
-        };
-    }
+    let vectors = [
+        Vector { x: 1, y: -2 },
+        Vector { x: 2, y: -4 },
+        Vector { x: 3, y: -6 },
+        Vector { x: 4, y: -8 },
+        Vector { x: 5, y: -10 },
+        Vector { x: 6, y: -12 },
+        Vector { x: 7, y: -14 },
+        Vector { x: 8, y: -16 },
+    ];
     if first <= mb && mb <= 8 {
         return predictor(&vectors, first, mb, 4);
     }
@@ -187,21 +189,24 @@ fn predicted(first: u32, mb: u32) -> Vector {
 #[test]
 fn predictors(rt: HostRuntime) {
     let table = [
-        (0, 0, 0),
-        (0, 1, 1),
-        (0, 5, 3),
-        (1, 5, 3),
-        (2, 5, 5),
-        (3, 5, 5),
-        (5, 5, 0),
-        (0, 7, 4),
-        (4, 7, 7),
-        (0, 4, 1),
-        (1, 4, 0),
-        (4, 4, 0),
+        (0, 0, 0, 0),
+        (0, 1, 1, -2),
+        (0, 5, 3, -6),
+        (1, 5, 3, -6),
+        (2, 5, 5, -10),
+        (3, 5, 5, -10),
+        (5, 5, 0, 0),
+        (0, 7, 4, -8),
+        (4, 7, 7, -14),
+        (0, 4, 1, -2),
+        (1, 4, 0, 0),
+        (4, 4, 0, 0),
     ];
-    for (first, mb, x) in table {
-        let want = Vector { x, y: -2 * x };
-        assert_eq!(rt; predicted(first, mb), want, "{mb} behind {first}");
+    for (first, mb, x, y) in table {
+        assert_eq!(rt;
+            predicted(first, mb),
+            Vector { x, y },
+            "{mb} behind {first}"
+        );
     }
 }
