@@ -1,10 +1,10 @@
 -- Each turn before a macroblock's class takes a bit at least.
-use Rattle.std.proofs.Common.{◌≡◌, true, List, [], length, refl}
+use Rattle.std.proofs.Common.{◌≡◌, true, [], length, refl}
 use Rattle.std.specs.Prelude.{nat_lt, ◌==◌}
 use Rattle.std.specs.List.{list_all}
 use Rattle.h263_types.specs.declared.Kind.{Kind}
 use Rattle.h263_types.specs.declared.Kind.TheVariants as kinds
-use Rattle.h263_bits.specs.Syntax.{Turn, again, finally, any, done, either, Spells, IsProductive}
+use Rattle.h263_bits.specs.Syntax.{Turn, again, finally, any, done, Spells, IsProductive}
 use Rattle.h263_bits.proofs.SyntaxLaws.{field_some, part_some, code_some, either_productive}
 use Rattle.code_tables.specs.declared.macroblock.Mcbpc.{Mcbpc}
 use Rattle.code_tables.specs.Mcbpc.{mcbpc, mcbpc_table, mcbpc_words, class_texts}

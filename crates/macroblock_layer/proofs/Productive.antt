@@ -1,10 +1,10 @@
 -- The only repeated part of a macroblock before its blocks is stuffing.
-use Rattle.std.proofs.Common.{ℕ, Bool, List}
+use Rattle.std.proofs.Common.{ℕ, Bool}
 use Rattle.h263_types.specs.declared.Kind.{Kind}
 use Rattle.h263_types.specs.declared.vector.Vector.{Vector}
 use Rattle.h263_types.specs.declared.vector.Reach.{Reach}
 use Rattle.h263_types.specs.declared.blocks.Block.{Block}
-use Rattle.h263_bits.specs.Syntax.{Syntax, IsProductive, any, done, part, either}
+use Rattle.h263_bits.specs.Syntax.{Syntax, IsProductive, any, done, part}
 use Rattle.h263_bits.proofs.SyntaxLaws.{either_productive}
 use Rattle.code_tables.specs.declared.macroblock.MbClass.{MbClass}
 use Rattle.code_tables.specs.declared.macroblock.MbClass.TheVariants as classes

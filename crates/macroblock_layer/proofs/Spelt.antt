@@ -1,6 +1,6 @@
 -- What is written of a macroblock spells it.
-use Rattle.std.proofs.Common.{◌≡◌, ℕ, zero, suc, ◌+◌, ◌-◌, ◌*◌, ◌/◌, ◌%◌, ◌<◌, ◌≤◌, Bool, true, false, cond, not, List, [], ◌∷◌, ◌++◌, length, None, refl, sym, ap, ◌∙◌, subst, inl, inr, append_assoc, arith, eqb, T}
-use Rattle.std.specs.Prelude.{ℤ, pos, negsuc, ◌+ℤ◌, ◌-ℤ◌, ◌≤ℤ◌, int_le, All, slice_index_or, replicate, nat_lt, ◌==◌, ◌⊎◌}
+use Rattle.std.proofs.Common.{◌≡◌, ℕ, ◌+◌, ◌-◌, ◌*◌, ◌/◌, ◌%◌, ◌<◌, ◌≤◌, Bool, true, false, cond, not, List, [], ◌∷◌, ◌++◌, length, None, refl, sym, ap, ◌∙◌, subst, inl, inr, append_assoc, arith, eqb, T}
+use Rattle.std.specs.Prelude.{ℤ, pos, negsuc, ◌+ℤ◌, ◌-ℤ◌, ◌≤ℤ◌, int_le, All, replicate, ◌==◌, ◌⊎◌}
 use Rattle.std.specs.Int.{int_rem_euclid}
 use Rattle.std.proofs.lemmas.Int.{ints, int_rem_euclid_is}
 use Rattle.std.proofs.lemmas.Bool.{cases_lt, eqb-true, eqb-false, ne_eqb, le-ltb}
@@ -15,7 +15,7 @@ use Rattle.h263_types.specs.declared.blocks.Mb.TheVariants as mbs
 use Rattle.h263_types.specs.Blocks.{IsQuant, IsComponent, IsVector, IsIntraBlock, IsInterBlock, IsIntraMb, IsInterMb, IsMb, IsOfKind}
 use Rattle.h263_types.specs.Vectors.{IsWithin}
 use Rattle.h263_bits.specs.Bits.{spelled, is_set}
-use Rattle.h263_bits.specs.Syntax.{Syntax, any, field, done, part, either, Turn, again, finally, Spells}
+use Rattle.h263_bits.specs.Syntax.{Syntax, any, done, part, either, Turn, finally, Spells}
 use Rattle.h263_bits.proofs.SyntaxLaws.{spells_field, spells_part, spells_done, spells_last, spells_whole}
 use Rattle.code_tables.specs.declared.macroblock.MbClass.{MbClass}
 use Rattle.code_tables.specs.declared.macroblock.MbClass.TheVariants as classes
@@ -29,9 +29,9 @@ use Rattle.block_layer.proofs.Steps.{none_inter}
 use Rattle.block_layer.proofs.Spelt.{intra_written, inter_written}
 use Rattle.macroblock_layer.specs.declared.reading.Lead.{Lead}
 use Rattle.macroblock_layer.specs.declared.reading.Lead.TheVariants.{Skipped, Coded}
-use Rattle.macroblock_layer.specs.Text.{no_four, after_mcbpc, class_turn, lead_turn, lead, is_intra, limited, quantiser, wrapped, moved, is_within_across, is_within_along, is_within, difference, in_reach, vector, block_of, intra, inter, blocks, intra_mb, inter_mb, coded_mb, behind, mb}
+use Rattle.macroblock_layer.specs.Text.{no_four, after_mcbpc, class_turn, lead_turn, lead, limited, quantiser, wrapped, moved, is_within, difference, in_reach, vector, block_of, intra, inter, blocks, intra_mb, inter_mb, coded_mb, behind, mb}
 use Rattle.macroblock_layer.proofs.Within.{component_of}
-use Rattle.macroblock_layer.specs.Written.{levels_at, has_levels, cbpy_of, cbpc_of, class_of, cod_text, class_text, step_text, head_text, vector_text, blocks_text, intra_mb_text, inter_mb_text, mb_text, IsNear, IsStepped, IsReached, AreWhole, IsWhole}
+use Rattle.macroblock_layer.specs.Written.{levels_at, has_levels, cbpy_of, cbpc_of, class_of, class_text, step_text, head_text, vector_text, blocks_text, intra_mb_text, inter_mb_text, mb_text, IsNear, IsStepped, IsReached, AreWhole, IsWhole}
 
 -- ---- COD and MCBPC
 

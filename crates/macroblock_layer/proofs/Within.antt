@@ -1,5 +1,5 @@
 -- The numbers of a macroblock that a text spells are in their ranges.
-use Rattle.std.proofs.Common.{◌≡◌, ℕ, zero, suc, ◌+◌, ◌-◌, ◌%◌, ◌<◌, ◌≤◌, Bool, true, false, cond, List, [], ◌∷◌, ◌++◌, length, refl, sym, ap, ◌∙◌, subst, arith}
+use Rattle.std.proofs.Common.{◌≡◌, ℕ, zero, suc, ◌-◌, ◌%◌, ◌<◌, Bool, true, false, cond, List, [], ◌∷◌, length, refl, sym, ap, subst, arith}
 use Rattle.std.specs.Prelude.{ℤ, pos, negsuc, ◌+ℤ◌, ◌-ℤ◌, All, slice_index_or, nat_lt, ◌==◌}
 use Rattle.std.specs.Int.{int_rem_euclid}
 use Rattle.std.specs.List.{list_all}
@@ -14,17 +14,16 @@ use Rattle.h263_types.specs.declared.blocks.Mb.{Mb}
 use Rattle.h263_types.specs.declared.blocks.Mb.TheVariants as mbs
 use Rattle.h263_types.specs.Blocks.{IsQuant, IsComponent, IsVector, IsIntraBlock, IsInterBlock, IsMb, IsOfKind}
 use Rattle.h263_bits.specs.Bits.{is_set}
-use Rattle.h263_bits.specs.Syntax.{Syntax, IsIn, Turn, again, finally, any, done, part, either, Turns, Spells}
+use Rattle.h263_bits.specs.Syntax.{Syntax, Turn, finally, either, Turns, Spells}
 use Rattle.code_tables.specs.declared.macroblock.MbClass.{MbClass}
 use Rattle.code_tables.specs.declared.macroblock.MbClass.TheVariants as classes
 use Rattle.code_tables.specs.declared.macroblock.Mcbpc.{Mcbpc}
 use Rattle.code_tables.specs.declared.macroblock.Mcbpc.TheVariants.{Stuffing, Word}
 use Rattle.code_tables.specs.Mcbpc.{mcbpc, mcbpc_table, mcbpc_words, class_texts}
-use Rattle.block_layer.specs.Text.{intra_block, inter_block, no_levels}
 use Rattle.block_layer.proofs.Ranges.{stands_within, intra_within, inter_within, no_levels_within}
 use Rattle.macroblock_layer.specs.declared.reading.Lead.{Lead}
 use Rattle.macroblock_layer.specs.declared.reading.Lead.TheVariants.{Skipped, Coded}
-use Rattle.macroblock_layer.specs.Text.{no_four, after_mcbpc, class_turn, lead_turn, lead, is_intra, limited, quantiser, wrapped, moved, vector, block_of, intra, inter, blocks, intra_mb, inter_mb, coded_mb, behind, mb}
+use Rattle.macroblock_layer.specs.Text.{after_mcbpc, class_turn, lead_turn, lead, is_intra, limited, quantiser, wrapped, vector, intra, inter, blocks, intra_mb, inter_mb, coded_mb, behind, mb}
 
 -- ---- what stands first
 

@@ -1,9 +1,8 @@
-use Rattle.std.proofs.Common.{◌≡◌, arith, ℤ}
+use Rattle.std.proofs.Common.{arith, ℤ}
 use Rattle.std.specs.Prelude.{pos, negsuc, ◌≤ℤ◌}
 use Rattle.std.specs.Int.{w8}
 use mir.Val.{SFits}
 use Rattle.std.proofs.lemmas.Int.{to_z-of_z, ints}
-use Rattle.macroblock_layer.specs.Prediction.{median_of}
 use Rattle.macroblock_layer.proofs.prediction.median_of.Goals as goal
 
 in_range : (z : ℤ) → negsuc 127 ≤ℤ z → z ≤ℤ pos 127 → SFits w8 z

@@ -1,4 +1,4 @@
-use Rattle.std.proofs.Common.{◌≡◌, Bool, true, false, not, sym, ap, ◌∙◌, length, arith}
+use Rattle.std.proofs.Common.{◌≡◌, true, sym, ap, ◌∙◌, length, arith}
 use Rattle.block_layer.specs.Text.{none_left, inter_text}
 use Rattle.block_layer.proofs.Steps.{none_inter, nothing_more}
 use Rattle.macroblock_layer.proofs.Blocks.{not_coded}

@@ -1,4 +1,4 @@
-use Rattle.std.proofs.Common.{◌≡◌, ◌+◌, ◌<◌, length, ap, ◌∙◌, arith}
+use Rattle.std.proofs.Common.{◌≡◌, ◌<◌, length, ap, ◌∙◌, arith}
 use Rattle.h263_bits.specs.Written.{written}
 use Rattle.block_layer.specs.Text.{intra_text}
 use Rattle.macroblock_layer.proofs.Blocks.{left, next_length, goes, none_left_text, ended}
