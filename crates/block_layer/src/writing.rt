@@ -1,0 +1,152 @@
+//! Writes blocks.
+ghost use Rattle.std.specs.Prelude.{◌≡◌, ℕ, ◌+◌, ◌<◌, ◌≤◌, ◌++◌, List, Bool, [], length, drop, slice_index_or, pos, negsuc, ◌≤ℤ◌, true, false, if◌then◌else◌, not, ◌==◌};
+ghost use Rattle.h263_bits.specs.Bits.{spelled};
+ghost use Rattle.h263_bits.specs.Written.{Appends, len_of, room_of};
+ghost use Rattle.h263_types.specs.Blocks.{IsIntraBlock, IsInterBlock};
+ghost use Rattle.code_tables.specs.Events.{coefficient_of};
+ghost use Rattle.code_tables.specs.Tables.{size_of};
+ghost use Rattle.block_layer.specs.Text.{is_zero, none_left, events_of, events_text, dc_code, is_coded, levels_text, coded_text, intra_text, inter_text, IsIntraText, IsInterText};
+ghost use Rattle.block_layer.specs.Step.{AreWritten, level_at, step_text, run_after, one_event};
+
+use code_tables::{Coefficient, write_event};
+use h263_bits::BitWriter;
+use h263_types::Block;
+
+// The event of a level that isn't 0.
+fn event_at(levels: &[i16; 64], place: usize, run: u8, last: bool) -> Coefficient
+    requires place { place < 64 }
+    requires size { size_of (level_at levels.now place) < 128 }
+    ensures { coefficient_of result ≡ one_event last run (level_at levels.now place) }
+{
+    Coefficient {
+        last,
+        run,
+        level: levels[place] as i8,
+    }
+}
+
+// Writes a level behind a run of zeros, and gives the run behind it.
+#[tactic(auto, unfolding(crate::specs::Step::step_text))]
+fn write_place(
+    writer: &mut BitWriter<'_>,
+    levels: &[i16; 64],
+    place: usize,
+    run: u8,
+    last: bool,
+) -> u8
+    requires place { place < 64 }
+    requires run { run < 64 }
+    requires size { size_of (level_at levels.now place) < 128 }
+    requires room { len_of writer.old + length (step_text last run (level_at levels.now place)) ≤ room_of writer.old }
+    ensures bits { Appends writer.old writer.new (step_text last run (level_at levels.now place)) }
+    ensures len { len_of writer.new ≡ len_of writer.old + length (step_text last run (level_at levels.now place)) }
+    ensures run { result ≡ run_after run (level_at levels.now place) }
+{
+    if levels[place] == 0 {
+        return run + 1;
+    }
+    write_event(writer, &event_at(levels, place, run, last));
+    0
+}
+
+// Whether each of these levels is 0.
+fn is_none_left(levels: &[i16]) -> bool
+    ensures { result ≡ none_left levels.now }
+{
+    for level in levels {
+        if *level != 0 {
+            return false;
+        }
+    }
+    true
+}
+
+/// Whether a block of an intra macroblock is coded: a level other than INTRADC isn't 0.
+pub fn is_intra_coded(block: &Block) -> bool
+    ensures coded { result ≡ is_coded block.now.levels }
+    ensures whole { length block.now.levels ≡ 64 }
+{
+    !is_none_left(&block.levels[1..])
+}
+
+/// Whether a block of an inter macroblock is coded: a level isn't 0.
+pub fn is_inter_coded(block: &Block) -> bool
+    ensures coded { result ≡ not (none_left block.now.levels) }
+    ensures whole { length block.now.levels ≡ 64 }
+{
+    !is_none_left(&block.levels)
+}
+
+// Writes the events of the levels from a place on; one at least of these isn't 0.
+fn write_levels(writer: &mut BitWriter<'_>, levels: &[i16; 64], from: usize)
+    requires from { from < 64 }
+    requires levels { AreWritten from levels.now }
+    requires some { none_left (drop from levels.now) ≡ false }
+    requires room { len_of writer.old + length (levels_text from levels.now) ≤ room_of writer.old }
+    ensures bits { Appends writer.old writer.new (levels_text from levels.now) }
+    ensures len { len_of writer.new ≡ len_of writer.old + length (levels_text from levels.now) }
+{
+    let mut run = 0;
+    'places: for place in from..64 {
+        let last = is_none_left(&levels[place + 1..]);
+        run = write_place(writer, levels, place, run, last);
+        if last {
+            return;
+        }
+    }
+}
+
+// INTRADC as it is written: 255 for 128.
+fn dc_bits(block: &Block) -> u32
+    requires { IsIntraBlock block.now }
+    ensures code { result ≡ dc_code (level_at block.now.levels 0) }
+    ensures below { result < 256 }
+{
+    if block.levels[0] == 128 {
+        return 255;
+    }
+    block.levels[0].unsigned_abs() as u32
+}
+
+/// Writes a block of an intra macroblock: INTRADC, and its events where another level isn't 0 (H.263, 5.4).
+/// There is room for its text, at most 1,394 bits.
+#[tactic(auto, unfolding(crate::specs::Text::intra_text))]
+pub fn write_intra(writer: &mut BitWriter<'_>, block: &Block)
+    requires block { IsIntraBlock block.now }
+    requires room { len_of writer.old + length (intra_text block.now.levels) ≤ room_of writer.old }
+    ensures bits { Appends writer.old writer.new (intra_text block.now.levels) }
+    // It is a text of the block, which is coded exactly where a level other than INTRADC isn't 0.
+    ensures spells { IsIntraText (is_coded block.now.levels) block.now.levels (intra_text block.now.levels) }
+    ensures len { len_of writer.new ≡ len_of writer.old + length (intra_text block.now.levels) }
+{
+    writer.put(dc_bits(block), 8);
+    write_coded(writer, &block.levels);
+}
+
+// Writes the events behind INTRADC, where there are any.
+fn write_coded(writer: &mut BitWriter<'_>, levels: &[i16; 64])
+    requires levels { AreWritten 1 levels.now }
+    requires room { len_of writer.old + length (coded_text levels.now) ≤ room_of writer.old }
+    ensures bits { Appends writer.old writer.new (coded_text levels.now) }
+    ensures len { len_of writer.new ≡ len_of writer.old + length (coded_text levels.now) }
+{
+    if is_none_left(&levels[1..]) {
+        return;
+    }
+    write_levels(writer, levels, 1);
+}
+
+/// Writes a coded block of an inter macroblock: the events of its levels, of which one at least isn't 0
+/// (H.263, 5.4.2). There is room for its text, at most 1,408 bits.
+#[tactic(auto, unfolding(crate::specs::Text::inter_text))]
+pub fn write_inter(writer: &mut BitWriter<'_>, block: &Block)
+    requires block { IsInterBlock block.now }
+    requires some { none_left block.now.levels ≡ false }
+    requires room { len_of writer.old + length (inter_text block.now.levels) ≤ room_of writer.old }
+    ensures bits { Appends writer.old writer.new (inter_text block.now.levels) }
+    // It is a text of the block.
+    ensures spells { IsInterText block.now.levels (inter_text block.now.levels) }
+    ensures len { len_of writer.new ≡ len_of writer.old + length (inter_text block.now.levels) }
+{
+    write_levels(writer, &block.levels, 0);
+}

@@ -1,0 +1,7 @@
+pub mod Ranges
+pub mod Leads
+pub mod Productive
+pub mod Within
+pub mod Blocks
+pub mod Lengths
+pub mod Spelt

@@ -1,0 +1,4 @@
+pub mod Prediction
+pub mod Text
+pub mod Turns
+pub mod Written

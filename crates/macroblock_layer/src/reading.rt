@@ -1,0 +1,341 @@
+//! Reads macroblocks.
+ghost use Rattle.std.specs.Prelude.{◌≡◌, ℕ, ℤ, List, Bool, ◌++◌, ◌≤ℤ◌, ◌+ℤ◌, pos, negsuc, IfOk, IsOkAnd};
+ghost use Rattle.h263_bits.specs.Reading.{Gives, Takes, first_fault};
+ghost use Rattle.h263_bits.specs.Syntax.{reading, Turn};
+ghost use Rattle.h263_types.specs.Blocks.{IsQuant, IsMb, IsOfKind};
+ghost use Rattle.h263_types.specs.declared.blocks.Block.{Block};
+ghost use Rattle.h263_types.specs.declared.blocks.Mb.{Mb};
+ghost use Rattle.h263_types.specs.declared.vector.Vector.{Vector};
+ghost use Rattle.macroblock_layer.specs.Text.{class_turn, lead_turn, lead, is_intra, quantiser, limited, difference, moved, wrapped, is_within_across, is_within_along, is_within, vector, intra, inter, blocks, intra_mb, inter_mb, coded_mb, behind, mb, IsMbText, macroblock_fault};
+ghost use Rattle.macroblock_layer.specs.Turns.{turn_of};
+ghost use Rattle.macroblock_layer.specs.declared.reading.Lead.{Lead};
+
+use block_layer::{read_inter, read_intra};
+use code_tables::{MbClass, Mcbpc, read_cbpy, read_dquant, read_mcbpc, read_mvd};
+use h263_bits::{BitReader, Fault, FaultKind};
+use h263_types::{Block, Kind, Mb, Reach, Vector};
+
+/// What stands first in a macroblock: Skip, or its class with the pattern of its chrominance blocks.
+#[derive(Clone, Copy, Debug, PartialEq, Eq)]
+pub enum Lead {
+    Skipped,
+    Coded { class: MbClass, cbpc: u8 },
+}
+
+// MCBPC; none for stuffing.
+#[tactic(auto, unfolding(crate::specs::Text::class_turn, h263_bits::specs::Syntax::reading))]
+fn read_class_turn(reader: &mut BitReader<'_>, kind: Kind) -> Result<Option<Lead>, Fault>
+    ensures { Gives turn_of result reader.new (reading (class_turn kind) reader.old) }
+{
+    let at = reader.at();
+    match read_mcbpc(reader, kind)? {
+        Mcbpc::Stuffing => Ok(None),
+        Mcbpc::Word {
+            class: MbClass::Inter4,
+            ..
+        } => Err(Fault {
+            kind: FaultKind::FourVectors,
+            at,
+        }),
+        Mcbpc::Word { class, cbpc } => Ok(Some(Lead::Coded { class, cbpc })),
+    }
+}
+
+// COD in P, and MCBPC; none for stuffing.
+#[tactic(auto, unfolding(crate::specs::Text::lead_turn, h263_bits::specs::Syntax::reading))]
+fn read_lead_turn(reader: &mut BitReader<'_>, kind: Kind) -> Result<Option<Lead>, Fault>
+    ensures { Gives turn_of result reader.new (reading (lead_turn kind tt) reader.old) }
+{
+    match kind {
+        Kind::I => read_class_turn(reader, Kind::I),
+        Kind::P => {
+            if reader.bits(1)? == 1 {
+                return Ok(Some(Lead::Skipped));
+            }
+            read_class_turn(reader, Kind::P)
+        }
+    }
+}
+
+#[tactic(auto, unfolding(crate::specs::Text::difference, h263_bits::specs::Syntax::reading))]
+fn read_difference(reader: &mut BitReader<'_>) -> Result<Vector, Fault>
+    ensures { Gives (λ (d : Vector). d) result reader.new (reading difference reader.old) }
+{
+    let x = read_mvd(reader)?;
+    let y = read_mvd(reader)?;
+    Ok(Vector { x, y })
+}
+
+// Modulo 64, into -32 to 31.
+pub fn wrapped(sum: i16) -> i8
+    requires low { negsuc 999 ≤ℤ sum }
+    requires high { sum ≤ℤ pos 999 }
+    ensures wrapped { result ≡ wrapped sum }
+    ensures low { negsuc 31 ≤ℤ result }
+    ensures high { result ≤ℤ pos 31 }
+{
+    ((sum + 32).rem_euclid(64) - 32) as i8
+}
+
+fn moved_across(predictor: Vector, difference: Vector) -> i8
+    ensures wrapped { result ≡ wrapped (predictor.x +ℤ difference.x) }
+    ensures low { negsuc 31 ≤ℤ result }
+    ensures high { result ≤ℤ pos 31 }
+{
+    wrapped(predictor.x as i16 + difference.x as i16)
+}
+
+fn moved_along(predictor: Vector, difference: Vector) -> i8
+    ensures wrapped { result ≡ wrapped (predictor.y +ℤ difference.y) }
+    ensures low { negsuc 31 ≤ℤ result }
+    ensures high { result ≤ℤ pos 31 }
+{
+    wrapped(predictor.y as i16 + difference.y as i16)
+}
+
+fn moved(predictor: Vector, difference: Vector) -> Vector
+    ensures { result ≡ moved predictor difference }
+{
+    Vector {
+        x: moved_across(predictor, difference),
+        y: moved_along(predictor, difference),
+    }
+}
+
+fn is_within_across(reach: Reach, vector: Vector) -> bool
+    ensures { result ≡ is_within_across reach vector }
+{
+    reach.left <= vector.x && vector.x <= reach.right
+}
+
+fn is_within_along(reach: Reach, vector: Vector) -> bool
+    ensures { result ≡ is_within_along reach vector }
+{
+    reach.up <= vector.y && vector.y <= reach.down
+}
+
+fn is_within(reach: Reach, vector: Vector) -> bool
+    ensures { result ≡ is_within reach vector }
+{
+    is_within_across(reach, vector) && is_within_along(reach, vector)
+}
+
+// The vector, by its difference to the predictor.
+#[tactic(auto, unfolding(crate::specs::Text::vector, h263_bits::specs::Syntax::reading))]
+fn read_vector(reader: &mut BitReader<'_>, reach: Reach, predictor: Vector) -> Result<Vector, Fault>
+    ensures { Gives (λ (v : Vector). v) result reader.new (reading (vector reach predictor) reader.old) }
+{
+    let at = reader.at();
+    let difference = read_difference(reader)?;
+    let vector = moved(predictor, difference);
+    if !is_within(reach, vector) {
+        return Err(Fault {
+            kind: FaultKind::BadVector,
+            at,
+        });
+    }
+    Ok(vector)
+}
+
+#[tactic(auto, unfolding(crate::specs::Text::intra, h263_bits::specs::Syntax::reading))]
+fn read_intra_block(reader: &mut BitReader<'_>, coded: bool) -> Result<Block, Fault>
+    ensures { Gives (λ (b : Block). b) result reader.new (reading (intra coded) reader.old) }
+{
+    let mut block = Block { levels: [0; 64] };
+    read_intra(reader, coded, &mut block)?;
+    Ok(block)
+}
+
+#[tactic(auto, unfolding(crate::specs::Text::inter, h263_bits::specs::Syntax::reading))]
+fn read_inter_block(reader: &mut BitReader<'_>, coded: bool) -> Result<Block, Fault>
+    ensures { Gives (λ (b : Block). b) result reader.new (reading (inter coded) reader.old) }
+{
+    let mut block = Block { levels: [0; 64] };
+    if coded {
+        read_inter(reader, &mut block)?;
+        return Ok(block);
+    }
+    Ok(block)
+}
+
+// Six blocks of an intra macroblock: four of luma, Cb and Cr.
+#[tactic(auto, unfolding(crate::specs::Text::blocks, h263_bits::specs::Syntax::reading))]
+fn read_intra_blocks(reader: &mut BitReader<'_>, cbpy: u8, cbpc: u8) -> Result<[Block; 6], Fault>
+    ensures { Gives (λ (bs : List Block). bs) result reader.new (reading (blocks intra cbpy cbpc) reader.old) }
+{
+    let a = read_intra_block(reader, cbpy / 8 % 2 == 1)?;
+    let b = read_intra_block(reader, cbpy / 4 % 2 == 1)?;
+    let c = read_intra_block(reader, cbpy / 2 % 2 == 1)?;
+    let d = read_intra_block(reader, cbpy % 2 == 1)?;
+    let cb = read_intra_block(reader, cbpc / 2 % 2 == 1)?;
+    let cr = read_intra_block(reader, cbpc % 2 == 1)?;
+    Ok([a, b, c, d, cb, cr])
+}
+
+// The same of an inter macroblock.
+#[tactic(auto, unfolding(crate::specs::Text::blocks, h263_bits::specs::Syntax::reading))]
+fn read_inter_blocks(reader: &mut BitReader<'_>, cbpy: u8, cbpc: u8) -> Result<[Block; 6], Fault>
+    ensures { Gives (λ (bs : List Block). bs) result reader.new (reading (blocks inter cbpy cbpc) reader.old) }
+{
+    let a = read_inter_block(reader, cbpy / 8 % 2 == 1)?;
+    let b = read_inter_block(reader, cbpy / 4 % 2 == 1)?;
+    let c = read_inter_block(reader, cbpy / 2 % 2 == 1)?;
+    let d = read_inter_block(reader, cbpy % 2 == 1)?;
+    let cb = read_inter_block(reader, cbpc / 2 % 2 == 1)?;
+    let cr = read_inter_block(reader, cbpc % 2 == 1)?;
+    Ok([a, b, c, d, cb, cr])
+}
+
+// Stuffing, and what stands first behind it.
+fn read_lead(reader: &mut BitReader<'_>, kind: Kind) -> Result<Lead, Fault>
+    ensures { Gives (λ (l : Lead). l) result reader.new (reading (lead kind) reader.old) }
+{
+    'turns: loop {
+        match read_lead_turn(reader, kind)? {
+            Some(lead) => return Ok(lead),
+            None => {}
+        }
+    }
+}
+
+// The macroblock behind a class: its quantiser is in force from here on.
+#[tactic(auto, unfolding(crate::specs::Text::intra_mb, h263_bits::specs::Syntax::reading))]
+fn read_intra_mb(reader: &mut BitReader<'_>, quant: u8, cbpy: u8, cbpc: u8) -> Result<Mb, Fault>
+    ensures { Gives (λ (m : Mb). m) result reader.new (reading (intra_mb quant cbpy cbpc) reader.old) }
+{
+    let blocks = read_intra_blocks(reader, cbpy, cbpc)?;
+    Ok(Mb::Intra { quant, blocks })
+}
+
+#[tactic(auto, unfolding(crate::specs::Text::inter_mb, h263_bits::specs::Syntax::reading))]
+fn read_inter_mb(
+    reader: &mut BitReader<'_>,
+    reach: Reach,
+    predictor: Vector,
+    quant: u8,
+    cbpy: u8,
+    cbpc: u8,
+) -> Result<Mb, Fault>
+    ensures { Gives (λ (m : Mb). m) result reader.new (reading (inter_mb reach predictor quant cbpy cbpc) reader.old) }
+{
+    let vector = read_vector(reader, reach, predictor)?;
+    let blocks = read_inter_blocks(reader, cbpy, cbpc)?;
+    Ok(Mb::Inter {
+        quant,
+        vector,
+        blocks,
+    })
+}
+
+// The quantiser after a step, limited to 1 to 31.
+fn stepped(quant: u8, step: i8) -> u8
+    ensures { result ≡ limited (pos quant +ℤ step) }
+{
+    let sum = quant as i16 + step as i16;
+    if sum < 1 {
+        return 1;
+    }
+    if sum > 31 {
+        return 31;
+    }
+    sum as u8
+}
+
+// The quantiser, changed by DQUANT in a Q class.
+#[tactic(auto, unfolding(crate::specs::Text::quantiser, h263_bits::specs::Syntax::reading))]
+fn read_quantiser(reader: &mut BitReader<'_>, class: MbClass, quant: u8) -> Result<u8, Fault>
+    ensures { Gives (λ (q : ℕ). q) result reader.new (reading (quantiser class quant) reader.old) }
+{
+    match class {
+        MbClass::InterQ | MbClass::IntraQ => {
+            let step = read_dquant(reader)?;
+            Ok(stepped(quant, step))
+        }
+        _ => Ok(quant),
+    }
+}
+
+fn is_intra(class: MbClass) -> bool
+    ensures { result ≡ is_intra class }
+{
+    match class {
+        MbClass::Intra | MbClass::IntraQ => true,
+        _ => false,
+    }
+}
+
+#[tactic(auto, unfolding(crate::specs::Text::coded_mb, h263_bits::specs::Syntax::reading))]
+fn read_coded_mb(
+    reader: &mut BitReader<'_>,
+    quant: u8,
+    reach: Reach,
+    predictor: Vector,
+    class: MbClass,
+    cbpc: u8,
+) -> Result<Mb, Fault>
+    ensures { Gives (λ (m : Mb). m) result reader.new (reading (coded_mb quant reach predictor class cbpc) reader.old) }
+{
+    let intra = is_intra(class);
+    let cbpy = read_cbpy(reader, intra)?;
+    let quant = read_quantiser(reader, class, quant)?;
+    if intra {
+        return read_intra_mb(reader, quant, cbpy, cbpc);
+    }
+    read_inter_mb(reader, reach, predictor, quant, cbpy, cbpc)
+}
+
+// What follows the leading words.
+#[tactic(auto, unfolding(crate::specs::Text::behind, h263_bits::specs::Syntax::reading))]
+fn read_behind(
+    reader: &mut BitReader<'_>,
+    quant: u8,
+    reach: Reach,
+    predictor: Vector,
+    lead: Lead,
+) -> Result<Mb, Fault>
+    ensures { Gives (λ (m : Mb). m) result reader.new (reading (behind quant reach predictor lead) reader.old) }
+{
+    match lead {
+        Lead::Skipped => Ok(Mb::Skip),
+        Lead::Coded { class, cbpc } => read_coded_mb(reader, quant, reach, predictor, class, cbpc),
+    }
+}
+
+#[tactic(auto, unfolding(crate::specs::Text::mb, h263_bits::specs::Syntax::reading))]
+fn mb_at(
+    reader: &mut BitReader<'_>,
+    kind: Kind,
+    quant: u8,
+    predictor: Vector,
+    reach: Reach,
+    out: &mut Mb,
+) -> Result<(), Fault>
+    ensures { Gives (λ _. out.new) result reader.new (reading (mb kind quant reach predictor) reader.old) }
+{
+    let lead = read_lead(reader, kind)?;
+    *out = read_behind(reader, quant, reach, predictor, lead)?;
+    Ok(())
+}
+
+/// Reads a macroblock of a picture of this kind (H.263, 5.3): `quant` is the quantiser before it, 1 to 31;
+/// `predictor` predicts its vector, and `reach` says how far that may reach. After a fault `out` is left open.
+pub fn read_mb(
+    reader: &mut BitReader<'_>,
+    kind: Kind,
+    quant: u8,
+    predictor: Vector,
+    reach: Reach,
+    out: &mut Mb,
+) -> Result<(), Fault>
+    // What is read is spelled by the bits that were taken.
+    ensures found { IfOk result (λ _. Takes reader.old reader.new (IsMbText kind quant reach predictor out.new)) }
+    // What is spelled is read, whatever follows.
+    ensures only { (m : Mb) (text rest : List Bool) → IsMbText kind quant reach predictor m text → reader.old.bits ≡ text ++ rest
+        → IsOkAnd result (λ _. (out.new ≡ m) × (reader.new.bits ≡ rest)) }
+    // Otherwise it is the first fault, at its place.
+    ensures fault { first_fault result ≡ macroblock_fault kind quant reach predictor reader.old }
+    ensures exact { Gives (λ _. out.new) result reader.new (reading (mb kind quant reach predictor) reader.old) }
+    ensures range { IsQuant quant → IfOk result (λ _. IsMb out.new × IsOfKind kind out.new) }
+{
+    mb_at(reader, kind, quant, predictor, reach, out)
+}

@@ -1,0 +1,277 @@
+//! Writes macroblocks.
+ghost use Rattle.std.specs.Prelude.{◌≡◌, ◌≢◌, ℕ, ◌+◌, ◌*◌, ◌<◌, ◌≤◌, ◌++◌, List, Bool, true, false, [], length, All, slice_index_or, pos, negsuc, ◌≤ℤ◌, ◌+ℤ◌, ◌-ℤ◌, ◌==◌, if◌then◌else◌};
+ghost use Rattle.h263_bits.specs.Written.{Appends, len_of, room_of};
+ghost use Rattle.h263_types.specs.declared.Kind.TheVariants as kinds;
+ghost use Rattle.h263_types.specs.declared.vector.Reach.{Reach};
+ghost use Rattle.h263_types.specs.declared.blocks.Block.{Block};
+ghost use Rattle.h263_types.specs.Blocks.{IsQuant, IsVector, IsIntraBlock, IsInterBlock, IsIntraMb, IsInterMb, IsMb, IsOfKind};
+ghost use Rattle.code_tables.specs.declared.macroblock.MbClass.{MbClass};
+ghost use Rattle.code_tables.specs.declared.macroblock.Mcbpc.TheVariants.{Word};
+ghost use Rattle.code_tables.specs.Mcbpc.{IsInTable};
+ghost use Rattle.code_tables.specs.Tables.{bit_of, cbpy_text};
+ghost use Rattle.block_layer.specs.Text.{none_left, is_coded, intra_text, inter_text};
+ghost use Rattle.macroblock_layer.specs.Text.{wrapped, IsMbText};
+ghost use Rattle.macroblock_layer.specs.Written.{levels_at, has_levels, cbpy_of, cbpc_of, class_of, cod_text, class_text, step_text, head_text, vector_text, blocks_text, intra_mb_text, inter_mb_text, mb_text, IsNear, IsStepped, IsReached, AreWhole};
+
+use crate::reading::wrapped;
+use block_layer::{is_inter_coded, is_intra_coded, write_inter, write_intra};
+use code_tables::{MbClass, Mcbpc, write_cbpy, write_dquant, write_mcbpc, write_mvd};
+use h263_bits::BitWriter;
+use h263_types::{Block, Kind, Mb, Vector};
+
+// Which of the six blocks are coded.
+#[derive(Clone, Copy)]
+struct Pattern {
+    cbpy: u8,
+    cbpc: u8,
+}
+
+fn cbpy(a: bool, b: bool, c: bool, d: bool) -> u8
+    ensures value { result ≡ 8 * bit_of a + 4 * bit_of b + 2 * bit_of c + bit_of d }
+    ensures below { result < 16 }
+{
+    8 * a as u8 + 4 * b as u8 + 2 * c as u8 + d as u8
+}
+
+fn cbpc(a: bool, b: bool) -> u8
+    ensures value { result ≡ 2 * bit_of a + bit_of b }
+    ensures below { result < 4 }
+{
+    2 * a as u8 + b as u8
+}
+
+fn intra_pattern(blocks: &[Block; 6]) -> Pattern
+    ensures cbpy { result.cbpy ≡ cbpy_of is_coded blocks.now }
+    ensures cbpc { result.cbpc ≡ cbpc_of is_coded blocks.now }
+    ensures cbpy_below { result.cbpy < 16 }
+    ensures cbpc_below { result.cbpc < 4 }
+    ensures whole { AreWhole blocks.now }
+{
+    let a = is_intra_coded(&blocks[0]);
+    let b = is_intra_coded(&blocks[1]);
+    let c = is_intra_coded(&blocks[2]);
+    let d = is_intra_coded(&blocks[3]);
+    let e = is_intra_coded(&blocks[4]);
+    let f = is_intra_coded(&blocks[5]);
+    Pattern {
+        cbpy: cbpy(a, b, c, d),
+        cbpc: cbpc(e, f),
+    }
+}
+
+fn inter_pattern(blocks: &[Block; 6]) -> Pattern
+    ensures cbpy { result.cbpy ≡ cbpy_of has_levels blocks.now }
+    ensures cbpc { result.cbpc ≡ cbpc_of has_levels blocks.now }
+    ensures cbpy_below { result.cbpy < 16 }
+    ensures cbpc_below { result.cbpc < 4 }
+    ensures whole { AreWhole blocks.now }
+{
+    let a = is_inter_coded(&blocks[0]);
+    let b = is_inter_coded(&blocks[1]);
+    let c = is_inter_coded(&blocks[2]);
+    let d = is_inter_coded(&blocks[3]);
+    let e = is_inter_coded(&blocks[4]);
+    let f = is_inter_coded(&blocks[5]);
+    Pattern {
+        cbpy: cbpy(a, b, c, d),
+        cbpc: cbpc(e, f),
+    }
+}
+
+// The plain class where the quantiser is as before, and the Q class else.
+fn class(intra: bool, same: bool) -> MbClass
+    ensures { result ≡ class_of intra same }
+{
+    match (intra, same) {
+        (true, true) => MbClass::Intra,
+        (true, false) => MbClass::IntraQ,
+        (false, true) => MbClass::Inter,
+        (false, false) => MbClass::InterQ,
+    }
+}
+
+// COD of a macroblock that is coded.
+#[tactic(auto, unfolding(h263_bits::specs::Bits::spelled))]
+fn write_cod(writer: &mut BitWriter<'_>, kind: Kind)
+    requires room { len_of writer.old + length (cod_text kind) ≤ room_of writer.old }
+    ensures bits { Appends writer.old writer.new (cod_text kind) }
+    ensures len { len_of writer.new ≡ len_of writer.old + length (cod_text kind) }
+{
+    match kind {
+        Kind::I => {}
+        Kind::P => writer.put(0, 1),
+    }
+}
+
+#[tactic(auto, unfolding(crate::specs::Written::class_text))]
+fn write_class(writer: &mut BitWriter<'_>, kind: Kind, class: MbClass, cbpc: u8)
+    requires table { IsInTable kind (Word class cbpc) }
+    requires room { len_of writer.old + length (class_text kind class cbpc) ≤ room_of writer.old }
+    ensures bits { Appends writer.old writer.new (class_text kind class cbpc) }
+    ensures len { len_of writer.new ≡ len_of writer.old + length (class_text kind class cbpc) }
+{
+    write_cod(writer, kind);
+    write_mcbpc(writer, kind, &Mcbpc::Word { class, cbpc });
+}
+
+// DQUANT, where the quantiser changes.
+#[tactic(auto, unfolding(crate::specs::Written::step_text))]
+fn write_step(writer: &mut BitWriter<'_>, quant: u8, new: u8)
+    requires quant { quant ≤ 31 }
+    requires new { new ≤ 31 }
+    requires near { IsNear quant new }
+    requires room { len_of writer.old + length (step_text quant new) ≤ room_of writer.old }
+    ensures bits { Appends writer.old writer.new (step_text quant new) }
+    ensures len { len_of writer.new ≡ len_of writer.old + length (step_text quant new) }
+{
+    if new != quant {
+        write_dquant(writer, new as i8 - quant as i8);
+    }
+}
+
+#[tactic(auto, unfolding(crate::specs::Written::head_text))]
+fn write_head(
+    writer: &mut BitWriter<'_>,
+    kind: Kind,
+    quant: u8,
+    new: u8,
+    intra: bool,
+    pattern: Pattern,
+)
+    requires quant { quant ≤ 31 }
+    requires new { new ≤ 31 }
+    requires near { IsNear quant new }
+    requires table { IsInTable kind (Word (class_of intra (new == quant)) pattern.cbpc) }
+    requires cbpy { pattern.cbpy < 16 }
+    requires room { len_of writer.old + length (head_text kind quant new intra pattern.cbpy pattern.cbpc) ≤ room_of writer.old }
+    ensures bits { Appends writer.old writer.new (head_text kind quant new intra pattern.cbpy pattern.cbpc) }
+    ensures len { len_of writer.new ≡ len_of writer.old + length (head_text kind quant new intra pattern.cbpy pattern.cbpc) }
+{
+    write_class(writer, kind, class(intra, new == quant), pattern.cbpc);
+    write_cbpy(writer, intra, pattern.cbpy);
+    write_step(writer, quant, new);
+}
+
+fn difference_across(vector: Vector, predictor: Vector) -> i8
+    ensures wrapped { result ≡ wrapped (vector.x -ℤ predictor.x) }
+    ensures low { negsuc 31 ≤ℤ result }
+    ensures high { result ≤ℤ pos 31 }
+{
+    wrapped(vector.x as i16 - predictor.x as i16)
+}
+
+fn difference_along(vector: Vector, predictor: Vector) -> i8
+    ensures wrapped { result ≡ wrapped (vector.y -ℤ predictor.y) }
+    ensures low { negsuc 31 ≤ℤ result }
+    ensures high { result ≤ℤ pos 31 }
+{
+    wrapped(vector.y as i16 - predictor.y as i16)
+}
+
+// The vector, by its difference to the predictor.
+#[tactic(auto, unfolding(crate::specs::Written::vector_text))]
+fn write_vector(writer: &mut BitWriter<'_>, predictor: Vector, vector: Vector)
+    requires room { len_of writer.old + length (vector_text predictor vector) ≤ room_of writer.old }
+    ensures bits { Appends writer.old writer.new (vector_text predictor vector) }
+    ensures len { len_of writer.new ≡ len_of writer.old + length (vector_text predictor vector) }
+{
+    write_mvd(writer, difference_across(vector, predictor));
+    write_mvd(writer, difference_along(vector, predictor));
+}
+
+fn write_intra_blocks(writer: &mut BitWriter<'_>, blocks: &[Block; 6])
+    requires blocks { All (λ (b : Block). IsIntraBlock b) blocks.now }
+    requires room { len_of writer.old + length (blocks_text intra_text blocks.now) ≤ room_of writer.old }
+    ensures bits { Appends writer.old writer.new (blocks_text intra_text blocks.now) }
+    ensures len { len_of writer.new ≡ len_of writer.old + length (blocks_text intra_text blocks.now) }
+{
+    'all: for block in blocks {
+        write_intra(writer, block);
+    }
+}
+
+fn write_inter_block(writer: &mut BitWriter<'_>, block: &Block)
+    requires block { IsInterBlock block.now }
+    requires room { len_of writer.old + length (inter_text block.now.levels) ≤ room_of writer.old }
+    ensures bits { Appends writer.old writer.new (inter_text block.now.levels) }
+    ensures len { len_of writer.new ≡ len_of writer.old + length (inter_text block.now.levels) }
+{
+    if is_inter_coded(block) {
+        write_inter(writer, block);
+    }
+}
+
+fn write_inter_blocks(writer: &mut BitWriter<'_>, blocks: &[Block; 6])
+    requires blocks { All (λ (b : Block). IsInterBlock b) blocks.now }
+    requires room { len_of writer.old + length (blocks_text inter_text blocks.now) ≤ room_of writer.old }
+    ensures bits { Appends writer.old writer.new (blocks_text inter_text blocks.now) }
+    ensures len { len_of writer.new ≡ len_of writer.old + length (blocks_text inter_text blocks.now) }
+{
+    'all: for block in blocks {
+        write_inter_block(writer, block);
+    }
+}
+
+// The longest text of a macroblock has at most so many bits: 18 before the vector, 26 of the vector, and 1,408 of each block.
+#[tactic(auto, unfolding(crate::specs::Written::intra_mb_text))]
+fn write_intra_mb(writer: &mut BitWriter<'_>, kind: Kind, quant: u8, new: u8, blocks: &[Block; 6])
+    requires quant { quant ≤ 31 }
+    requires mb { IsIntraMb new blocks.now }
+    requires near { IsNear quant new }
+    requires room { len_of writer.old + 8492 ≤ room_of writer.old }
+    ensures bits { Appends writer.old writer.new (intra_mb_text kind quant new blocks.now) }
+    ensures len { len_of writer.new ≡ len_of writer.old + length (intra_mb_text kind quant new blocks.now) }
+    ensures whole { AreWhole blocks.now }
+{
+    let pattern = intra_pattern(blocks);
+    write_head(writer, kind, quant, new, true, pattern);
+    write_intra_blocks(writer, blocks);
+}
+
+#[tactic(auto, unfolding(crate::specs::Written::inter_mb_text))]
+fn write_inter_mb(
+    writer: &mut BitWriter<'_>,
+    quant: u8,
+    predictor: Vector,
+    new: u8,
+    vector: Vector,
+    blocks: &[Block; 6],
+)
+    requires quant { quant ≤ 31 }
+    requires mb { IsInterMb new vector blocks.now }
+    requires near { IsNear quant new }
+    requires room { len_of writer.old + 8492 ≤ room_of writer.old }
+    ensures bits { Appends writer.old writer.new (inter_mb_text quant predictor new vector blocks.now) }
+    ensures len { len_of writer.new ≡ len_of writer.old + length (inter_mb_text quant predictor new vector blocks.now) }
+    ensures whole { AreWhole blocks.now }
+{
+    let pattern = inter_pattern(blocks);
+    write_head(writer, Kind::P, quant, new, false, pattern);
+    write_vector(writer, predictor, vector);
+    write_inter_blocks(writer, blocks);
+}
+
+/// Writes a macroblock of a picture of this kind (H.263, 5.3), whose quantiser is within 2 of `quant`, the one before it;
+/// `predictor` predicts its vector. There is room for 8,492 bits, which no text of a macroblock passes.
+pub fn write_mb(writer: &mut BitWriter<'_>, kind: Kind, quant: u8, predictor: Vector, mb: &Mb)
+    requires quant { IsQuant quant }
+    requires mb { IsMb mb.now }
+    requires kind { IsOfKind kind mb.now }
+    requires step { IsStepped quant mb.now }
+    requires room { len_of writer.old + 8492 ≤ room_of writer.old }
+    ensures bits { Appends writer.old writer.new (mb_text kind quant predictor mb.now) }
+    ensures len { len_of writer.new ≡ len_of writer.old + length (mb_text kind quant predictor mb.now) }
+    ensures short { length (mb_text kind quant predictor mb.now) ≤ 8492 }
+    // It is a text of the macroblock, where its vector, if it has one, is in reach.
+    ensures spells { (reach : Reach) → IsReached reach mb.now → IsMbText kind quant reach predictor mb.now (mb_text kind quant predictor mb.now) }
+{
+    match mb {
+        Mb::Skip => writer.put(1, 1),
+        Mb::Intra { quant: new, blocks } => write_intra_mb(writer, kind, quant, *new, blocks),
+        Mb::Inter {
+            quant: new,
+            vector,
+            blocks,
+        } => write_inter_mb(writer, quant, predictor, *new, *vector, blocks),
+    }
+}
