@@ -30,6 +30,7 @@ impl<'a> PictureRef<'a> {
         PictureRef { format, bytes }
     }
 
+    /// The format of the picture.
     pub fn format(&self) -> Format
         ensures format { result ≡ (picture self.now).format }
         ensures whole { IsPicture (picture self.now) }

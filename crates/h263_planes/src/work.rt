@@ -34,6 +34,7 @@ impl<'a> PictureMut<'a> {
         PictureMut { format, bytes }
     }
 
+    /// The format of the picture.
     pub fn format(&self) -> Format
         ensures format { result ≡ (work self.now).format }
         ensures whole { IsPicture (work self.now) }

@@ -28,7 +28,8 @@ const PAYLOAD_TYPE: u8 = 96;
 fn header_end(bytes: &[u8]) -> Option<u32>
     requires fixed { 12 ≤ length bytes.now }
     requires short { length bytes.now ≤ 65535 }
-    ensures end { (h : Head) (b : Bits) → reading head (from_byte 0 bytes.now) ≡ Ok (h, b) → result ≡ end_of (reading (behind h) b) }
+    ensures end { (h : Head) (b : Bits) → reading head (from_byte 0 bytes.now) ≡ Ok (h, b)
+        → result ≡ end_of (reading (behind h) b) }
     ensures within { IfSome result (λ end. end ≤ length bytes.now) }
 {
     let sources_end = 12 + 4 * (bytes[0] % 16) as usize;
@@ -54,7 +55,8 @@ fn payload_end(bytes: &[u8], from: u32) -> Option<u32>
     requires fixed { 12 ≤ length bytes.now }
     requires short { length bytes.now ≤ 65535 }
     requires within { from ≤ length bytes.now }
-    ensures { (h : Head) (b : Bits) → reading head (from_byte 0 bytes.now) ≡ Ok (h, b) → result ≡ payload_end_of h bytes.now from }
+    ensures { (h : Head) (b : Bits) → reading head (from_byte 0 bytes.now) ≡ Ok (h, b)
+        → result ≡ payload_end_of h bytes.now from }
 {
     let len = bytes.len() as u32;
     if bytes[0] / 32 % 2 == 0 {
@@ -70,7 +72,8 @@ fn payload_end(bytes: &[u8], from: u32) -> Option<u32>
 /// The header, where payload type and source are ours.
 fn accepted(bytes: &[u8], from: u32, to: u32) -> Result<Rtp, Fault>
     requires { 12 ≤ length bytes.now }
-    ensures { (h : Head) (b : Bits) → reading head (from_byte 0 bytes.now) ≡ Ok (h, b) → result ≡ accepted_of h from to }
+    ensures { (h : Head) (b : Bits) → reading head (from_byte 0 bytes.now) ≡ Ok (h, b)
+        → result ≡ accepted_of h from to }
 {
     if bytes[1] % 128 != PAYLOAD_TYPE {
         return Err(Fault {
@@ -147,7 +150,13 @@ pub fn write(marker: bool, sequence: u16, timestamp: u32) -> [u8; 12]
     ensures text { bits_of result ≡ fields (rtp_fields marker sequence timestamp) }
     // It is read again, whatever payload follows.
     ensures again { (payload : List ℕ) → length payload ≤ 65523
-        → rtp_in (result ++ payload) ≡ Ok (record { marker = marker; sequence = sequence; timestamp = timestamp; from = 12; to = 12 + length payload }) }
+        → rtp_in (result ++ payload) ≡ Ok (record {
+          marker = marker;
+          sequence = sequence;
+          timestamp = timestamp;
+          from = 12;
+          to = 12 + length payload;
+        }) }
 {
     let mut bytes = [0; 12];
     bytes[0] = 0x80;
