@@ -8,6 +8,8 @@ pub mod laws;
 mod prediction;
 mod reading;
 #[cfg(test)]
+mod sent_tests;
+#[cfg(test)]
 mod tests;
 mod writing;
 

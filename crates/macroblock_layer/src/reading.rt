@@ -66,7 +66,7 @@ fn read_difference(reader: &mut BitReader<'_>) -> Result<Vector, Fault>
     Ok(Vector { x, y })
 }
 
-// Modulo 64, into -32 to 31.
+/// Modulo 64, into -32 to 31 (H.263, 6.1.1).
 pub fn wrapped(sum: i16) -> i8
     requires low { negsuc 999 ≤ℤ sum }
     requires high { sum ≤ℤ pos 999 }
