@@ -96,44 +96,50 @@ fn four_messages_and_psupp(rt: HostRuntime) -> Result<(), Fail> {
     Ok(())
 }
 
+// Bits that stand in place of those of a header of P from a place on, and the first fault.
+const FAULTS: [(u32, &str, FaultKind, u32); 28] = [
+    (0, "100001", FaultKind::NoStart, 0),
+    (14, "11", FaultKind::PictureType, 14),
+    (19, "110", FaultKind::PictureType, 19),
+    (22, "000", FaultKind::Ufep, 22),
+    (25, "000", FaultKind::SourceFormat, 25),
+    (25, "100", FaultKind::SourceFormat, 25),
+    (25, "011", FaultKind::OtherFormat, 25),
+    (28, "1", FaultKind::CustomClock, 28),
+    (29, "0000011001", FaultKind::Modes, 29),
+    (39, "1001", FaultKind::Marker, 39),
+    (43, "010", FaultKind::PictureKind, 43),
+    (46, "10", FaultKind::Resampling, 46),
+    (49, "000", FaultKind::Marker, 49),
+    (52, "1", FaultKind::Cpm, 52),
+    (53, "01", FaultKind::SliceMode, 53),
+    (55, "011", FaultKind::Rpsmf, 55),
+    (58, "0", FaultKind::NoReference, 58),
+    (43, "000 00 1 001 0 00 111 1", FaultKind::IntraReference, 58),
+    (59, "0100000000", FaultKind::HighBits, 59),
+    (69, "00", FaultKind::Bci, 69),
+    (
+        69,
+        "1 11 0 0000000011 1 0000000010",
+        FaultKind::Messages,
+        70,
+    ),
+    (71, "00000", FaultKind::Quant, 71),
+    (0, "", FaultKind::Ended, 0),
+    (29, "000001100", FaultKind::Ended, 29),
+    (69, "0", FaultKind::Ended, 69),
+    (69, "1 11 0 0000000011 1 000000001", FaultKind::Ended, 70),
+    (76, "1 1111111", FaultKind::Ended, 77),
+    (76, "1 11111111", FaultKind::Ended, 85),
+];
+
+// Four messages, each behind its BCI `1`, and a fifth `1`.
+const MESSAGES: &str =
+    "1 11 0 0000000000 1 0000000000 1 11 0 0000000001 1 0000000001 1 11 0 0000000010 1 0000000010 1 11 0 0000000011 1 0000000011 1";
+
 #[test]
 fn first_faults(rt: HostRuntime) {
-    let table = [
-        (0, "100001", FaultKind::NoStart, 0),
-        (14, "11", FaultKind::PictureType, 14),
-        (19, "110", FaultKind::PictureType, 19),
-        (22, "000", FaultKind::Ufep, 22),
-        (25, "000", FaultKind::SourceFormat, 25),
-        (25, "100", FaultKind::SourceFormat, 25),
-        (25, "011", FaultKind::OtherFormat, 25),
-        (28, "1", FaultKind::CustomClock, 28),
-        (29, "0000011001", FaultKind::Modes, 29),
-        (39, "1001", FaultKind::Marker, 39),
-        (43, "010", FaultKind::PictureKind, 43),
-        (46, "10", FaultKind::Resampling, 46),
-        (49, "000", FaultKind::Marker, 49),
-        (52, "1", FaultKind::Cpm, 52),
-        (53, "01", FaultKind::SliceMode, 53),
-        (55, "011", FaultKind::Rpsmf, 55),
-        (58, "0", FaultKind::NoReference, 58),
-        (43, "000 00 1 001 0 00 111 1", FaultKind::IntraReference, 58),
-        (59, "0100000000", FaultKind::HighBits, 59),
-        (69, "00", FaultKind::Bci, 69),
-        (
-            69,
-            "1 11 0 0000000011 1 0000000010",
-            FaultKind::Messages,
-            70,
-        ),
-        (71, "00000", FaultKind::Quant, 71),
-        (0, "", FaultKind::Ended, 0),
-        (29, "000001100", FaultKind::Ended, 29),
-        (69, "0", FaultKind::Ended, 69),
-        (69, "1 11 0 0000000011 1 000000001", FaultKind::Ended, 70),
-        (76, "1 1111111", FaultKind::Ended, 77),
-        (76, "1 11111111", FaultKind::Ended, 85),
-    ];
-    for (keep, text, kind, at) in table {
+    for (keep, text, kind, at) in FAULTS {
         let fault = Fault { kind, at };
         assert_eq!(rt;
             read_changed(Format::Qcif, keep, text),
@@ -141,11 +147,13 @@ fn first_faults(rt: HostRuntime) {
             "{text} at place {keep}"
         );
     }
-    let five =
-        "1 11 0 0000000000 1 0000000000 1 11 0 0000000001 1 0000000001 1 11 0 0000000010 1 0000000010 1 11 0 0000000011 1 0000000011 1";
+}
+
+#[test]
+fn four_messages_at_most(rt: HostRuntime) {
     let many = Fault {
         kind: FaultKind::ManyMessages,
         at: 169,
     };
-    assert_eq!(rt; read_changed(Format::Qcif, 69, five), Err(many));
+    assert_eq!(rt; read_changed(Format::Qcif, 69, MESSAGES), Err(many));
 }
