@@ -5,3 +5,4 @@ pub mod InverseRows
 pub mod ForwardRows
 pub mod Steps
 pub mod Results
+pub mod Zeros

@@ -2,6 +2,7 @@
 //! by from a prediction; the forward one gives coefficients. Both are exact: a double sum with one rounding.
 #![tactic(auto)]
 
+pub mod laws;
 mod passes;
 mod terms;
 mod two_passes;
