@@ -1,9 +1,13 @@
 -- The steps of the loops that fill a block, a macroblock and a slice.
-use Rattle.std.proofs.Common.{◌≡◌, ◌≢◌, ℕ, ◌+◌, ◌*◌, ◌-◌, ◌%◌, ◌<◌, ◌≤◌, List, length, get_or, drop, slice_set, slice_range, Bool, true, false, cond, ◌&&◌, nat_eq, nat_le, nat_lt, ap, subst, sym, ◌∙◌, arith, lit<, below_more, get_or-set_same, get_or-set_other, get_or-take, get_or-drop}
+use Rattle.std.proofs.Common.{◌≡◌, ◌≢◌, ℕ, zero, suc, ◌+◌, ◌*◌, ◌-◌, ◌%◌, ◌<◌, ◌≤◌, ℤ, pos, List, length, get_or, drop, slice_set, slice_range, map, Bool, true, false, cond, ◌&&◌, nat_eq, nat_le, nat_lt, refl, ap, subst, sym, ◌∙◌, arith, lit<, below_more, length-set, get_or-set_same, get_or-set_other, get_or-take, get_or-drop}
+use Rattle.std.specs.List.{range_with_len}
+use Rattle.std.proofs.lemmas.List.FromFn.{fill_by_all}
 use Rattle.std.proofs.lemmas.Bool.Decides.{nat_tests}
 use Rattle.h263_planes.specs.declared.Plane.{Plane}
 use Rattle.h263_planes.specs.declared.Plane.TheVariants.{Y, Cb, Cr}
 use Rattle.h263_planes.specs.Blocks.{block_of}
+use Rattle.h263_planes.specs.Picture.{Picture}
+use Rattle.h263_planes.specs.Samples.{sample_at, same_plane}
 
 -- one more element of a list
 pub one_more : {X : Type 0} (P : ℕ → X → Type 0) (xs : List X) (at : ℕ) (v d : X) → at < length xs → P at v →
@@ -13,21 +17,47 @@ one_more P xs at v d room now before =
     (λ k h. let other : k ≢ at = omega arith in subst (P k) (sym (get_or-set_other xs at k v d other)) (before k h))
     (subst (P at) (sym (get_or-set_same xs at v d room)) now)
 
-inside_rows : (x y k i j now blk old before run : ℕ) →
-    now ≡ cond (nat_eq j (y + k) && (nat_le x i && nat_lt i (x + 8))) run before →
-    before ≡ cond ((nat_le y j && nat_lt j (y + k)) && (nat_le x i && nat_lt i (x + 8))) blk old →
-    (j ≡ y + k → x ≤ i → i < x + 8 → run ≡ blk) →
-    now ≡ cond ((nat_le y j && nat_lt j (y + (k + 1))) && (nat_le x i && nat_lt i (x + 8))) blk old
-inside_rows x y k i j now blk old before run h1 h2 h3 = grind (arith, nat_tests)
+-- a block whose first value is put in last
+with_first : (f : ℕ → ℤ) (xs : List ℤ) (v : ℤ) → length xs ≡ 64 → v ≡ f 0 →
+    ((k : ℕ) → 1 ≤ k → k < 64 → get_or xs k (pos 0) ≡ f k) → (k : ℕ) → k < 64 → get_or (slice_set xs 0 v) k (pos 0) ≡ f k
+with_first f xs v long first others zero h = get_or-set_same xs 0 v (pos 0) (omega arith) ∙ first
+with_first f xs v long first others (suc k) h =
+    let other : suc k ≢ 0 = omega arith in
+    get_or-set_other xs 0 (suc k) v (pos 0) other ∙ others (suc k) (omega arith) h
 
--- one more row of a block
-pub more_rows : (s : Bool) (x y k i j now blk old before run : ℕ) →
-    now ≡ cond (s && (nat_eq j (y + k) && (nat_le x i && nat_lt i (x + 8)))) run before →
-    before ≡ cond (s && ((nat_le y j && nat_lt j (y + k)) && (nat_le x i && nat_lt i (x + 8)))) blk old →
-    (j ≡ y + k → x ≤ i → i < x + 8 → run ≡ blk) →
-    now ≡ cond (s && ((nat_le y j && nat_lt j (y + (k + 1))) && (nat_le x i && nat_lt i (x + 8)))) blk old
-more_rows true x y k i j now blk old before run h1 h2 h3 = inside_rows x y k i j now blk old before run h1 h2 h3
-more_rows false x y k i j now blk old before run h1 h2 h3 = h1 ∙ h2
+pub first_put : (f : ℕ → ℤ) (xs : List ℤ) (v : ℤ) → length xs ≡ 64 → v ≡ f 0 →
+    ((k : ℕ) → 1 ≤ k → k < 64 → get_or xs k (pos 0) ≡ f k) → slice_set xs 0 v ≡ map f (range_with_len 0 64)
+first_put f xs v long first others =
+    fill_by_all f (slice_set xs 0 v) 64 (pos 0) (length-set xs 0 v ∙ long) (with_first f xs v long first others)
+
+inside_rows : (x y w k i j now blk old before run : ℕ) →
+    now ≡ cond (nat_eq j (y + k) && (nat_le x i && nat_lt i (x + w))) run before →
+    before ≡ cond ((nat_le y j && nat_lt j (y + k)) && (nat_le x i && nat_lt i (x + w))) blk old →
+    (j ≡ y + k → x ≤ i → i < x + w → run ≡ blk) →
+    now ≡ cond ((nat_le y j && nat_lt j (y + (k + 1))) && (nat_le x i && nat_lt i (x + w))) blk old
+inside_rows x y w k i j now blk old before run h1 h2 h3 = grind (arith, nat_tests)
+
+-- one more row of a block of w columns
+pub more_rows : (s : Bool) (x y w k i j now blk old before run : ℕ) →
+    now ≡ cond (s && (nat_eq j (y + k) && (nat_le x i && nat_lt i (x + w)))) run before →
+    before ≡ cond (s && ((nat_le y j && nat_lt j (y + k)) && (nat_le x i && nat_lt i (x + w)))) blk old →
+    (s ≡ true → j ≡ y + k → x ≤ i → i < x + w → run ≡ blk) →
+    now ≡ cond (s && ((nat_le y j && nat_lt j (y + (k + 1))) && (nat_le x i && nat_lt i (x + w)))) blk old
+more_rows true x y w k i j now blk old before run h1 h2 h3 = inside_rows x y w k i j now blk old before run h1 h2 (h3 refl)
+more_rows false x y w k i j now blk old before run h1 h2 h3 = h1 ∙ h2
+
+-- a sample by its plane, column and row
+pub same_sample : (p : Picture) (plane other : Plane) (i j x y : ℕ) → same_plane plane other ≡ true → i ≡ x → j ≡ y →
+    sample_at p plane i j ≡ sample_at p other x y
+same_sample p Y Y i j x y s ei ej = cc
+same_sample p Cb Cb i j x y s ei ej = cc
+same_sample p Cr Cr i j x y s ei ej = cc
+same_sample p Y Cb i j x y s ei ej = cc
+same_sample p Y Cr i j x y s ei ej = cc
+same_sample p Cb Y i j x y s ei ej = cc
+same_sample p Cb Cr i j x y s ei ej = cc
+same_sample p Cr Y i j x y s ei ej = cc
+same_sample p Cr Cb i j x y s ei ej = cc
 
 -- a place in row k of the block whose corner is at multiples of 8
 pub in_row : (block : List ℕ) (x y k i j : ℕ) → x % 8 ≡ 0 → y % 8 ≡ 0 → k < 8 → j ≡ y + k → x ≤ i → i < x + 8 →

@@ -1,1 +1,3 @@
 pub mod Samples
+pub mod References
+pub mod Squares

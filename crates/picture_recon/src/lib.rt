@@ -5,6 +5,8 @@
 mod blocks;
 pub mod laws;
 mod macroblocks;
+mod predicted;
+mod skipped;
 mod values;
 
 pub use macroblocks::{recon_mb, recon_slice};

@@ -1,7 +1,6 @@
 //! Reconstruction of macroblocks in their picture.
 ghost use Rattle.std.specs.Prelude.{◌≡◌, ℕ, ◌+◌, ◌<◌, ◌≤◌, ◌&&◌, length, nat_eq, nat_le, nat_lt, if◌then◌else◌, Option};
 ghost use Rattle.std.specs.Option.{option_map};
-ghost use Rattle.h263_types.specs.declared.Kind.TheVariants.{I};
 ghost use Rattle.h263_types.specs.Blocks.{IsHeadOf, IsIntraMb, IsMb, IsOfKind};
 ghost use Rattle.h263_types.specs.Sizes.{mbs_of};
 ghost use Rattle.h263_types.specs.declared.blocks.Mb.TheVariants.{Intra};
@@ -11,16 +10,19 @@ ghost use Rattle.h263_planes.specs.Lent.{picture};
 ghost use Rattle.h263_planes.specs.Picture.{Picture};
 ghost use Rattle.h263_planes.specs.Samples.{Inside, IsPicture, sample_at};
 ghost use Rattle.h263_planes.specs.Work.{loan_of, work};
+ghost use Rattle.picture_recon.specs.References.{HasReference, ReachesInside};
 ghost use Rattle.picture_recon.specs.Samples.{mb_in, sample_in};
 
 use crate::blocks::put_block;
+use crate::predicted::put_inter;
+use crate::skipped::put_skipped;
 use crate::values::intra_samples;
 use h263_planes::{PictureMut, PictureRef};
 use h263_types::{Block, Format, Mb, SliceHead};
 use picture_header::Header;
 
-/// Sets the samples of macroblock `at` in `out`, a picture of the header's format. The header is that of an I picture;
-/// all other samples stay (H.263, 6.2).
+/// Sets the samples of macroblock `at` in `out`, a picture of the header's format; all other samples stay. A P picture
+/// has a reference, and in it a macroblock may be skipped or predicted (H.263, 6.1 to 6.3).
 pub fn recon_mb(
     mb: &Mb,
     at: u32,
@@ -28,18 +30,43 @@ pub fn recon_mb(
     reference: Option<PictureRef<'_>>,
     out: &mut PictureMut<'_>,
 )
-    requires kind { header.now.kind ≡ I }
+    requires reference { HasReference header.now.kind header.now.format (option_map picture reference) }
+    requires rounding { header.now.rounding ≤ 1 }
     requires format { (work out.old).format ≡ header.now.format }
     requires at { at < mbs_of header.now.format }
     requires of_kind { IsOfKind header.now.kind mb.now }
     requires in_range { IsMb mb.now }
+    requires reach { ReachesInside header.now.format at mb.now }
     ensures same_loan { loan_of out.new ≡ loan_of out.old }
     ensures format { (work out.new).format ≡ header.now.format }
     ensures whole { IsPicture (work out.new) }
     ensures samples { (plane : Plane) (x y : ℕ) → Inside header.now.format plane x y 1 → sample_at (work out.new) plane x y ≡ (if nat_eq (mb_of header.now.format plane x y) at then sample_in header.now.rounding (option_map picture reference.entry) mb.now plane x y else sample_at (work out.old) plane x y) }
 {
-    if let Mb::Intra { quant, blocks } = mb {
-        put_intra(*quant, blocks, at, header.format, out);
+    match mb {
+        Mb::Skip => {
+            if let Some(picture) = reference {
+                put_skipped(picture, at, header.format, out);
+            }
+        }
+        Mb::Intra { quant, blocks } => put_intra(*quant, blocks, at, header.format, out),
+        Mb::Inter {
+            quant,
+            vector,
+            blocks,
+        } => {
+            if let Some(picture) = reference {
+                put_inter(
+                    picture,
+                    header.rounding,
+                    *quant,
+                    *vector,
+                    blocks,
+                    at,
+                    header.format,
+                    out,
+                );
+            }
+        }
     }
 }
 
@@ -60,7 +87,7 @@ fn put_intra(quant: u8, blocks: &[Block; 6], at: u32, format: Format, out: &mut 
 }
 
 /// Sets the samples of the macroblocks of a slice in `out`, a picture of the header's format. `mbs` are those of a whole
-/// picture, of which only the slice's are used; all other samples stay. The header is that of an I picture.
+/// picture, of which only the slice's are used; all other samples stay. A P picture has a reference.
 pub fn recon_slice(
     mbs: &[Mb],
     head: SliceHead,
@@ -68,12 +95,14 @@ pub fn recon_slice(
     reference: Option<PictureRef<'_>>,
     out: &mut PictureMut<'_>,
 )
-    requires kind { header.now.kind ≡ I }
+    requires reference { HasReference header.now.kind header.now.format (option_map picture reference) }
+    requires rounding { header.now.rounding ≤ 1 }
     requires format { (work out.old).format ≡ header.now.format }
     requires mbs { length mbs.now ≡ mbs_of header.now.format }
     requires head { IsHeadOf header.now.format head }
     requires of_kind { (k : ℕ) → head.first ≤ k → k < head.first + head.count → IsOfKind header.now.kind (mb_in mbs.now k) }
     requires in_range { (k : ℕ) → head.first ≤ k → k < head.first + head.count → IsMb (mb_in mbs.now k) }
+    requires reach { (k : ℕ) → head.first ≤ k → k < head.first + head.count → ReachesInside header.now.format k (mb_in mbs.now k) }
     ensures same_loan { loan_of out.new ≡ loan_of out.old }
     ensures format { (work out.new).format ≡ header.now.format }
     ensures whole { IsPicture (work out.new) }

@@ -1,11 +1,13 @@
 //! The values and the samples of one block.
-ghost use Rattle.std.specs.Prelude.{◌≡◌, ℕ, ◌+◌, ◌*◌, ◌<◌, pos, All, slice_index, slice_index_or};
-ghost use Rattle.h263_types.specs.Blocks.{IsIntraBlock, IsQuant, IsValue};
+ghost use Rattle.std.specs.Prelude.{◌≡◌, ℕ, ◌+◌, ◌*◌, ◌^◌, ◌<◌, ◌≤◌, ◌↔◌, IsTrue, pos, ◌+ℤ◌, All, length, slice_index, slice_index_or};
+ghost use Rattle.h263_types.specs.Blocks.{IsInterBlock, IsIntraBlock, IsLevel, IsQuant, IsValue, level_at};
+ghost use Rattle.idct8.specs.Ranges.{Within};
 ghost use Rattle.idct8.specs.Transform.{inverse_at};
-ghost use Rattle.picture_recon.specs.Samples.{intra_value, intra_values, limited};
+ghost use Rattle.picture_recon.specs.Samples.{inter_value, inter_values, intra_values, limited};
 
 use h263_types::Block;
 use idct8::inverse;
+use idct8::laws::zeros_give_zeros;
 use quantiser::{value, zigzag_place};
 
 // The samples of a block of an intra macroblock, by rows.
@@ -14,36 +16,78 @@ pub(crate) fn intra_samples(quant: u8, block: &Block) -> [u8; 64]
     requires block { IsIntraBlock block.now }
     ensures { (y x : ℕ) → y < 8 → x < 8 → slice_index result (8 * y + x) ≡ limited (inverse_at (intra_values quant block.now) y x) }
 {
-    limited_samples(&inverse(&dequantised(quant, block)))
+    limited_samples(&inverse(&values_of_intra(quant, block)))
 }
 
-// The values of a block of an intra macroblock, by rows.
-fn dequantised(quant: u8, block: &Block) -> [i16; 64]
+// The samples of a block of an inter macroblock, by rows, from the predicted ones: these themselves where the block has
+// no level.
+pub(crate) fn inter_samples(quant: u8, block: &Block, predicted: &[u8; 64]) -> [u8; 64]
+    requires quant { IsQuant quant }
+    requires block { IsInterBlock block.now }
+    ensures { (y x : ℕ) → y < 8 → x < 8 → slice_index result (8 * y + x) ≡ limited (pos (slice_index predicted.now (8 * y + x)) +ℤ inverse_at (inter_values quant block.now) y x) }
+{
+    if is_without_levels(block) {
+        zeros_give_zeros();
+        return *predicted;
+    }
+    limited_sums(predicted, &inverse(&values_of_inter(quant, block)))
+}
+
+fn is_without_levels(block: &Block) -> bool
+    ensures { IsTrue result → (at : ℕ) → level_at block.now at ≡ pos 0 }
+{
+    block.levels.iter().all(|level| *level == 0)
+}
+
+// The values of a block of an intra macroblock, by rows: 8 times INTRADC, and those of the other levels.
+fn values_of_intra(quant: u8, block: &Block) -> [i16; 64]
     requires quant { IsQuant quant }
     requires block { IsIntraBlock block.now }
     ensures values { result ≡ intra_values quant block.now }
     ensures range { All IsValue result }
 {
+    let mut values = values_but_first(quant, block);
+    values[0] = 8 * block.levels[0];
+    values
+}
+
+// The values of a block of an inter macroblock, by rows.
+fn values_of_inter(quant: u8, block: &Block) -> [i16; 64]
+    requires quant { IsQuant quant }
+    requires block { IsInterBlock block.now }
+    ensures values { result ≡ inter_values quant block.now }
+    ensures range { All IsValue result }
+{
+    let mut values = values_but_first(quant, block);
+    values[0] = value(quant, block.levels[0]);
+    values
+}
+
+// The values of a block's levels, by rows, but for the first.
+fn values_but_first(quant: u8, block: &Block) -> [i16; 64]
+    requires quant { IsQuant quant }
+    requires levels { (k : ℕ) → 1 ≤ k → k < 64 → IsLevel (level_at block.now k) }
+    ensures long { length result ≡ 64 }
+    ensures values { (at : ℕ) → 1 ≤ at → at < 64 → slice_index_or result at (pos 0) ≡ inter_value quant block.now at }
+    ensures range { All IsValue result }
+{
     let mut values = [0; 64];
-    for at in 0..64 {
+    for at in 1..64 {
         values[at] = value_at(quant, block, at);
     }
     values
 }
 
-// The value at place `at` of the block: 8 times INTRADC, or that of the level.
+// The value of the level at place `at` of the block, which isn't its first.
 fn value_at(quant: u8, block: &Block, at: usize) -> i16
     requires quant { IsQuant quant }
-    requires block { IsIntraBlock block.now }
+    requires levels { (k : ℕ) → 1 ≤ k → k < 64 → IsLevel (level_at block.now k) }
+    requires some { 1 ≤ at }
     requires at { at < 64 }
-    ensures value { result ≡ intra_value quant block.now at }
+    ensures value { result ≡ inter_value quant block.now at }
     ensures range { IsValue result }
 {
-    if at == 0 {
-        8 * block.levels[0]
-    } else {
-        value(quant, block.levels[zigzag_place(at)])
-    }
+    value(quant, block.levels[zigzag_place(at)])
 }
 
 // Each number limited to 0 to 255.
@@ -55,6 +99,25 @@ fn limited_samples(numbers: &[i32; 64]) -> [u8; 64]
         samples[at] = limited_sample(numbers[at]);
     }
     samples
+}
+
+// The sum of each sample and the number at its place, limited to 0 to 255.
+fn limited_sums(predicted: &[u8; 64], numbers: &[i32; 64]) -> [u8; 64]
+    requires numbers { (at : ℕ) → at < 64 → Within (2 ^ 15) (slice_index_or numbers.now at (pos 0)) }
+    ensures { (at : ℕ) → at < 64 → slice_index result at ≡ limited (pos (slice_index predicted.now at) +ℤ slice_index_or numbers.now at (pos 0)) }
+{
+    let mut samples = [0; 64];
+    for at in 0..64 {
+        samples[at] = limited_sum(predicted[at], numbers[at]);
+    }
+    samples
+}
+
+fn limited_sum(sample: u8, number: i32) -> u8
+    requires { Within (2 ^ 15) number }
+    ensures { result ≡ limited (pos sample +ℤ number) }
+{
+    limited_sample(i32::from(sample) + number)
 }
 
 fn limited_sample(number: i32) -> u8
