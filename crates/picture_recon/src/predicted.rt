@@ -68,7 +68,14 @@ fn predicted_blocks(
     luma(reference, at, vector, rounding, &mut y);
     chroma(reference, Plane::Cb, at, vector, rounding, &mut cb);
     chroma(reference, Plane::Cr, at, vector, rounding, &mut cr);
-    [quarter(&y, 0), quarter(&y, 1), quarter(&y, 2), quarter(&y, 3), cb, cr]
+    [
+        quarter(&y, 0),
+        quarter(&y, 1),
+        quarter(&y, 2),
+        quarter(&y, 3),
+        cb,
+        cr,
+    ]
 }
 
 // Block `block` of the four blocks of 16 x 16 samples, in reading order.

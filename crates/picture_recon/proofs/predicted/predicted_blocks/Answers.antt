@@ -1,4 +1,4 @@
-use Rattle.std.proofs.Common.{◌≡◌, ℕ, ◌+◌, ◌*◌, ◌%◌, List, [], ◌∷◌, get_or, subst}
+use Rattle.std.proofs.Common.{◌≡◌, ℕ, ◌+◌, ◌*◌, ◌%◌, [], ◌∷◌, get_or, subst}
 use Rattle.h263_types.specs.declared.format.Format.{Format}
 use Rattle.h263_planes.specs.declared.Plane.{Plane}
 use Rattle.h263_planes.specs.Blocks.{block_of, mb_of}

@@ -1,4 +1,4 @@
-use Rattle.std.proofs.Common.{◌≡◌, ℕ, ◌+◌, ◌*◌, ◌/◌, ◌%◌, ◌^◌, ◌<◌, pos, get_or, arith, subst}
+use Rattle.std.proofs.Common.{◌≡◌, ℕ, ◌+◌, ◌*◌, ◌/◌, ◌%◌, ◌^◌, pos, get_or, arith, subst}
 use Rattle.idct8.specs.Ranges.{Within}
 use Rattle.idct8.specs.Transform.{inverse_at}
 use Rattle.picture_recon.specs.Samples.{inter_values}
