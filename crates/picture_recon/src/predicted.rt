@@ -85,8 +85,9 @@ fn quarter(samples: &[u8; 256], block: usize) -> [u8; 64]
 {
     let from = 128 * (block / 2) + 8 * (block % 2);
     let mut quarter = [0; 64];
-    for k in 0..64 {
-        quarter[k] = samples[from + 16 * (k / 8) + k % 8];
+    for j in 0..8 {
+        let row = &samples[from + 16 * j..from + 16 * j + 8];
+        quarter[8 * j..8 * j + 8].copy_from_slice(row);
     }
     quarter
 }

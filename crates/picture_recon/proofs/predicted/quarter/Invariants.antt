@@ -1,8 +1,8 @@
-use Rattle.std.proofs.Common.{◌≡◌, ℕ, ◌+◌, ◌*◌, ◌/◌, ◌%◌, ◌<◌, length, get_or}
+use Rattle.std.proofs.Common.{◌≡◌, ℕ, ◌+◌, ◌*◌, ◌<◌, length, get_or}
 use Rattle.picture_recon.proofs.predicted.quarter.Given as goal
 
--- the samples before k are taken
-abbrev pub invariant-loop-k : goal.invariant-loop-k
-invariant-loop-k l =
+-- the rows above j are taken
+abbrev pub invariant-loop-j : goal.invariant-loop-j
+invariant-loop-j l =
     (length l.quarter ≡ 64)
-    × ((n : ℕ) → n < l.k → get_or l.quarter n 0 ≡ get_or l.samples (l.from + 16 * (n / 8) + n % 8) 0)
+    × ((k i : ℕ) → k < l.j → i < 8 → get_or l.quarter (8 * k + i) 0 ≡ get_or l.samples (l.from + 16 * k + i) 0)
