@@ -1,14 +1,9 @@
 pub mod Attached
-pub mod BlockSums
 pub mod Buffers
+pub mod Choices
 pub mod Ends
-pub mod Filled
-pub mod FlatPictures
 pub mod Frames
-pub mod PacketBytes
-pub mod PacketSpelt
+pub mod PacketRead
 pub mod PacketTexts
-pub mod PacketTurns
-pub mod Paint
 pub mod Plays
 pub mod Whole

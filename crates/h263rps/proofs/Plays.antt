@@ -13,7 +13,7 @@ use Rattle.h263rps.specs.declared.y4m.VideoStop.TheVariants.{Read, Refused}
 use Rattle.h263rps.specs.declared.y4m.TheConstants.{EXACT_LINE, OUT_HEAD}
 use Rattle.h263rps.specs.declared.status.Status.{Status}
 use Rattle.h263rps.specs.declared.status.Status.TheVariants.{Ok as Fine, OutOfMemory, Usage, ReadFault, WriteFault, VideoRefused, OpenFault}
-use Rattle.h263rps.specs.Flat.{coded}
+use Rattle.h263rps.specs.Coded.{coded}
 use Rattle.h263rps.specs.Y4m.{head_fault, frame_of, frames_of, fault_of, fault_behind, frames_behind, video_fault, video_frames}
 use Rattle.h263rps.specs.Status.{stop_status, status_of}
 use Rattle.h263rps.specs.Out.{Output, call_output, frames_text, pictures_text, ended}

@@ -1,9 +1,7 @@
-pub mod Flat
+pub mod Coded
 pub mod Out
-pub mod Packet
 pub mod PacketText
 pub mod Play
 pub mod Run
 pub mod Status
-pub mod Values
 pub mod Y4m

@@ -9,7 +9,7 @@ use Rattle.h263rps.specs.declared.status.Status.{Status}
 use Rattle.h263rps.specs.declared.status.Status.TheVariants.{Ok as Fine, Usage, VideoRefused}
 use Rattle.h263rps.specs.declared.y4m.Y4mFault.{Y4mFault}
 use Rattle.h263rps.specs.declared.y4m.TheConstants.{EXACT_LINE, OUT_HEAD}
-use Rattle.h263rps.specs.Flat.{coded}
+use Rattle.h263rps.specs.Coded.{coded}
 use Rattle.h263rps.specs.Y4m.{head_fault, video_fault, video_frames}
 
 -- how a run is to end, and the text of each output

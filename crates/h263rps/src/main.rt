@@ -7,7 +7,6 @@ ghost use Rattle.std.specs.String.{string_bytes};
 
 mod call;
 mod coding;
-mod flat_blocks;
 #[cfg(test)]
 mod host_tests;
 pub mod laws;

@@ -1,7 +1,12 @@
 // The packet of a flat picture, byte for byte. The bytes were packed by another program from the formats.
+ghost use Rattle.std.specs.Prelude.{◌≡◌, ◌<◌, length};
+ghost use Rattle.h263_types.specs.Blocks.{IsDc, IsIntraBlock, IsLevel};
+ghost use Rattle.h263rps.specs.PacketText.{IsSent};
+
 use crate::packet_reader::read_packet;
-use crate::packet_writer::write_packet;
+use crate::packet_writer::{PACKET_ROOM, write_packet};
 use h263_bits::{Fault, FaultKind};
+use h263_types::{Block, Mb};
 use std::test::Fail;
 
 // Picture 0, flat 100.
@@ -30,12 +35,38 @@ const FLAT_100: [u8; 342] = [
     0x8C, 0x8C, 0x8C, 0x8C, 0x8C, 0x80,
 ];
 
+// A block with INTRADC `dc` and one level more, at a place of the zigzag order.
+fn block(dc: i16, place: usize, level: i16) -> Block
+    requires dc { IsDc dc }
+    requires place { place < 63 }
+    requires level { IsLevel level }
+    ensures in_range { IsIntraBlock result }
+    ensures whole { length result.levels ≡ 64 }
+{
+    let mut levels = [0; 64];
+    levels[place + 1] = level;
+    levels[0] = dc;
+    Block { levels }
+}
+
+// A macroblock whose six blocks have one value each.
+fn flat(value: i16) -> Mb
+    requires { IsDc value }
+    ensures { IsSent result }
+{
+    let block = block(value, 0, 0);
+    Mb::Intra {
+        quant: 8,
+        blocks: [block; 6],
+    }
+}
+
 #[test]
 fn one_flat_picture_has_342_bytes(rt: HostRuntime) {
-    let mut packet = [0; 342];
-    write_packet(&mut packet, 0, &[[100; 6]; 48]);
-    assert!(rt; packet == FLAT_100);
-    write_packet(&mut packet, 300, &[[128; 6]; 48]);
+    let mut packet = [0; PACKET_ROOM];
+    assert_eq!(rt; write_packet(&mut packet, 0, &[flat(100); 48]), 342);
+    assert_eq!(rt; &packet[..342], FLAT_100.as_slice());
+    assert_eq!(rt; write_packet(&mut packet, 300, &[flat(128); 48]), 342);
     assert_eq!(rt;
         &packet[..12],
         [
@@ -51,24 +82,22 @@ fn one_flat_picture_has_342_bytes(rt: HostRuntime) {
 
 #[test]
 fn a_flat_picture_is_read_from_its_bytes(rt: HostRuntime) -> Result<(), Fail> {
-    assert!(rt; read_packet(&FLAT_100)? == [[100; 6]; 48]);
-    let mut other = FLAT_100;
-    other[14] = 0;
-    assert_eq!(rt;
-        read_packet(&other),
-        Err(Fault {
-            kind: FaultKind::NoStart,
-            at: 112
-        })
-    );
-    other = FLAT_100;
-    other[341] = 0x81;
-    assert_eq!(rt;
-        read_packet(&other),
-        Err(Fault {
-            kind: FaultKind::Trailing,
-            at: 2731
-        })
-    );
+    assert!(rt; read_packet(&FLAT_100)?.mbs == [flat(100); 48]);
+    // a bit of the start code, one of the padding, and the last byte left out
+    let mut start = FLAT_100;
+    start[14] = 0;
+    let mut padding = FLAT_100;
+    padding[341] = 0x81;
+    let table = [
+        (start.as_slice(), FaultKind::NoStart, 112),
+        (padding.as_slice(), FaultKind::Trailing, 2731),
+        (&FLAT_100[..341], FaultKind::Ended, 2723),
+    ];
+    for (bytes, kind, at) in table {
+        assert!(rt;
+            read_packet(bytes).err() == Some(Fault { kind, at }),
+            "{at}"
+        );
+    }
     Ok(())
 }

@@ -1,65 +1,44 @@
-// Writes the packet of a flat picture.
-ghost use Rattle.std.specs.Prelude.{◌≡◌, ℕ, ◌+◌, ◌*◌, ◌<◌, ◌≤◌, ◌++◌, length};
-ghost use Rattle.h263_bits.specs.Bits.{bits_of, spelled, fields};
+// Writes the packet of a picture.
+ghost use Rattle.std.specs.Prelude.{◌≡◌, ◌+◌, ◌*◌, ◌≤◌, ◌++◌, length, take, drop};
+ghost use Rattle.h263_bits.specs.Bits.{fields};
 ghost use Rattle.h263_bits.specs.Written.{Appends, len_of, room_of};
-ghost use Rattle.h263rps.specs.PacketText.{rtp_fields, opening_fields, plus_fields, end_fields, slice_fields, code_of, macroblock_fields, macroblocks_text, packet_text};
+ghost use Rattle.picture_header.specs.Ranges.{IsHeader};
+ghost use Rattle.h263rps.specs.PacketText.{header_of, slice_fields, mbs_text, AreSent, IsPacket, IsPayloadText};
 
 use h263_bits::BitWriter;
+use h263_payload::write_payload;
+use h263_types::{Format, Kind, Mb, Vector};
+use macroblock_layer::write_mb;
+use picture_header::{Header, write_header};
 
-fn write_rtp(writer: &mut BitWriter<'_>, number: u32)
-    requires room { len_of writer.old + 96 ≤ room_of writer.old }
-    ensures bits { Appends writer.old writer.new (fields (rtp_fields number)) }
-    ensures len { len_of writer.new ≡ len_of writer.old + 96 }
+/// More bytes than a packet has: 48 macroblocks of at most 8,492 bits, and at most 51 bytes in front of them.
+pub const PACKET_ROOM: usize = 51_004;
+
+/// The quantiser of every picture.
+pub const QUANT: u8 = 8;
+
+/// No macroblock of an intra picture has a vector.
+pub const NO_VECTOR: Vector = Vector { x: 0, y: 0 };
+
+/// The header of picture `number`: it refers to no other, and carries no messages.
+pub fn header_of(number: u32) -> Header
+    ensures header { result ≡ header_of number }
+    ensures in_range { IsHeader result }
 {
-    writer.put(0x80, 8);
-    writer.put(0xE0, 8);
-    writer.put(number % (1 << 16), 16);
-    writer.put((3003 * number as u64 % (1 << 32)) as u32, 32);
-    writer.put(0x4832_3633, 32);
+    Header {
+        tr: (number % 256) as u16,
+        format: Format::SubQcif,
+        kind: Kind::I,
+        rounding: 0,
+        channel: 3,
+        trp: None,
+        quant: QUANT,
+        back: [None; 4],
+    }
 }
 
-fn write_opening(writer: &mut BitWriter<'_>, number: u32)
-    requires room { len_of writer.old + 38 ≤ room_of writer.old }
-    ensures bits { Appends writer.old writer.new (fields (opening_fields number)) }
-    ensures len { len_of writer.new ≡ len_of writer.old + 38 }
-{
-    writer.put(0x0400, 16);
-    writer.put(0b100000, 6);
-    writer.put(number % (1 << 8), 8);
-    writer.put(0b10000111, 8);
-}
-
-fn write_plus_type(writer: &mut BitWriter<'_>)
-    requires room { len_of writer.old + 30 ≤ room_of writer.old }
-    ensures bits { Appends writer.old writer.new (fields plus_fields) }
-    ensures len { len_of writer.new ≡ len_of writer.old + 30 }
-{
-    writer.put(0b001, 3);
-    writer.put(0b001, 3);
-    writer.put(0, 1);
-    writer.put(0b0000011000, 10);
-    writer.put(0b1000, 4);
-    writer.put(0b000, 3);
-    writer.put(0b00, 2);
-    writer.put(0, 1);
-    writer.put(0b001, 3);
-}
-
-fn write_header_end(writer: &mut BitWriter<'_>)
-    requires room { len_of writer.old + 15 ≤ room_of writer.old }
-    ensures bits { Appends writer.old writer.new (fields end_fields) }
-    ensures len { len_of writer.new ≡ len_of writer.old + 15 }
-{
-    writer.put(0, 1);
-    writer.put(0b00, 2);
-    writer.put(0b111, 3);
-    writer.put(0, 1);
-    writer.put(0b01, 2);
-    writer.put(8, 5);
-    writer.put(0, 1);
-}
-
-fn write_slice_start(writer: &mut BitWriter<'_>)
+// The header of the slice that begins with the picture's first macroblock.
+fn write_slice_head(writer: &mut BitWriter<'_>)
     requires room { len_of writer.old + 8 ≤ room_of writer.old }
     ensures bits { Appends writer.old writer.new (fields slice_fields) }
     ensures len { len_of writer.new ≡ len_of writer.old + 8 }
@@ -69,57 +48,42 @@ fn write_slice_start(writer: &mut BitWriter<'_>)
     writer.put(1, 1);
 }
 
-fn dc_code(dc: u8) -> u32
-    ensures code { result ≡ code_of dc }
-    ensures below { result < 256 }
+fn write_mbs(writer: &mut BitWriter<'_>, mbs: &[Mb; 48])
+    requires sent { AreSent mbs.now }
+    requires room { len_of writer.old + 48 * 8492 ≤ room_of writer.old }
+    ensures bits { Appends writer.old writer.new (mbs_text mbs.now) }
+    ensures len { len_of writer.new ≤ len_of writer.old + 48 * 8492 }
 {
-    if dc == 128 { 255 } else { dc as u32 }
-}
-
-fn write_dc(writer: &mut BitWriter<'_>, dc: u8)
-    requires room { len_of writer.old + 8 ≤ room_of writer.old }
-    ensures bits { Appends writer.old writer.new (spelled 8 (code_of dc)) }
-    ensures len { len_of writer.new ≡ len_of writer.old + 8 }
-{
-    writer.put(dc_code(dc), 8);
-}
-
-fn write_macroblock(writer: &mut BitWriter<'_>, six: &[u8; 6])
-    requires room { len_of writer.old + 53 ≤ room_of writer.old }
-    ensures bits { Appends writer.old writer.new (fields (macroblock_fields six.now)) }
-    ensures len { len_of writer.new ≡ len_of writer.old + 53 }
-{
-    writer.put(1, 1);
-    writer.put(0b0011, 4);
-    write_dc(writer, six[0]);
-    write_dc(writer, six[1]);
-    write_dc(writer, six[2]);
-    write_dc(writer, six[3]);
-    write_dc(writer, six[4]);
-    write_dc(writer, six[5]);
-}
-
-fn write_macroblocks(writer: &mut BitWriter<'_>, values: &[[u8; 6]; 48])
-    requires room { len_of writer.old + 2544 ≤ room_of writer.old }
-    ensures bits { Appends writer.old writer.new (macroblocks_text values.now) }
-    ensures len { len_of writer.new ≡ len_of writer.old + 2544 }
-{
-    'turns: for six in values {
-        write_macroblock(writer, six);
+    'turns: for mb in mbs {
+        write_mb(writer, Kind::I, QUANT, NO_VECTOR, mb);
     }
 }
 
-/// Writes the packet of picture `number`: 342 bytes.
-#[tactic(auto, unfolding(crate::specs::PacketText::packet_text))]
-pub fn write_packet(bytes: &mut [u8; 342], number: u32, values: &[[u8; 6]; 48])
-    ensures { bits_of bytes.new ≡ packet_text number values.now }
+// Writes the payload, and gives the number of its bytes.
+fn write_data(bytes: &mut [u8], number: u32, mbs: &[Mb; 48]) -> u32
+    requires room { length bytes.old ≡ 50992 }
+    requires sent { AreSent mbs.now }
+    ensures fits { result ≤ length bytes.new }
+    ensures text { IsPayloadText number mbs.now (take result bytes.new) }
 {
     let mut writer = BitWriter::new(bytes);
-    write_rtp(&mut writer, number);
-    write_opening(&mut writer, number);
-    write_plus_type(&mut writer);
-    write_header_end(&mut writer);
-    write_slice_start(&mut writer);
-    write_macroblocks(&mut writer, values);
-    writer.put(0, 5);
+    write_payload(&mut writer, None);
+    write_header(&mut writer, &header_of(number));
+    write_slice_head(&mut writer);
+    write_mbs(&mut writer, mbs);
+    writer.align();
+    writer.len() / 8
+}
+
+/// Writes the packet of picture `number`, and gives the number of its bytes.
+pub fn write_packet(bytes: &mut [u8; PACKET_ROOM], number: u32, mbs: &[Mb; 48]) -> u32
+    requires sent { AreSent mbs.now }
+    ensures fits { result ≤ 51004 }
+    ensures packet { IsPacket number mbs.now (take result bytes.new) }
+{
+    let (head, data) = bytes.split_at_mut(12);
+    let sequence = (number % (1 << 16)) as u16;
+    let timestamp = (3003 * number as u64 % (1 << 32)) as u32;
+    head.copy_from_slice(&rtp_header::write(true, sequence, timestamp));
+    12 + write_data(data, number, mbs)
 }

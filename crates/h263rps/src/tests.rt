@@ -102,6 +102,58 @@ fn the_head_alone_and_a_flat_picture(rt: HostRuntime) -> Result<(), Fail> {
     Ok(())
 }
 
+// A textured picture, by its bytes in order.
+fn textured() -> [u8; 18_432] {
+    let mut picture = [0; 18_432];
+    for k in 0..18_432u32 {
+        picture[k as usize] = ((k * k / 64 + 5 * (k / 128)) % 251) as u8;
+    }
+    picture
+}
+
+// The two sums of Adler-32 (RFC 1950).
+fn sums(bytes: &[u8]) -> (u32, u32)
+    ensures { (result.0 < 65521) × (result.1 < 65521) }
+{
+    let mut a = 1;
+    let mut b = 0;
+    for byte in bytes {
+        a = (a + *byte as u32) % 65_521;
+        b = (b + a) % 65_521;
+    }
+    (a, b)
+}
+
+// What is shown for it, by another program's double sums: single bytes, and the sums over all.
+#[test]
+fn a_textured_picture(rt: HostRuntime) -> Result<(), Fail> {
+    let picture = textured();
+    let video: &[&[u8]] = &[HEAD_LINE, FRAME_LINE, &picture];
+    let (status, written) = match called(rt.alloc(), video, 4096, NONE) {
+        Ok(run) => run,
+        Err(OutOfMemory) => called(rt.alloc(), video, 4096, NONE)?,
+    };
+    assert_eq!(rt; status, Status::Ok);
+    let front = OUT_HEAD.len() + EXACT_LINE.len();
+    assert!(rt; written.len() == front + 18_432);
+    let shown = &written[front..];
+    let table = [
+        (127, 2),
+        (200, 120),
+        (5000, 20),
+        (12_287, 230),
+        (12_288, 122),
+        (15_360, 59),
+        (18_431, 154),
+    ];
+    for (at, want) in table {
+        assert!(rt; at < 18_432);
+        assert_eq!(rt; shown[at], want, "at {at}");
+    }
+    assert_eq!(rt; sums(shown), (5544, 40_035));
+    Ok(())
+}
+
 const BLACK: &[u8] = &[0; 18_432];
 
 const GREY: &[u8] = &[128; 18_432];

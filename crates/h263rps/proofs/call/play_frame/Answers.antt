@@ -2,7 +2,7 @@ use Rattle.std.proofs.Common.{◌+◌, ◌*◌, ap, ◌∙◌, true, false, List
 use Rattle.h263_outside.specs.declared.desk.Role.{Role}
 use Rattle.h263_outside.specs.declared.desk.Role.TheVariants.{Video}
 use Rattle.h263_outside.proofs.Fronts.{rest_all}
-use Rattle.h263rps.specs.Flat.{coded}
+use Rattle.h263rps.specs.Coded.{coded}
 use Rattle.h263rps.proofs.Plays.{gave, frame_stops, frames_end, frame_stopped, frame_played}
 use Rattle.h263rps.proofs.call.play_frame.Goals as goal
 

@@ -1,11 +1,18 @@
-use Rattle.std.proofs.Common.{◌∙◌, ap}
+use Rattle.std.proofs.Common.{ap, ◌∙◌}
+use Rattle.h263_bits.proofs.SyntaxLaws.{err_not_ok, ok_is}
 use Rattle.h263_bits.specs.Reading.{Bits}
-use Rattle.h263_bits.specs.Syntax.{reading}
-use Rattle.h263rps.specs.Packet.{packet, value_of}
-use Rattle.h263rps.proofs.PacketBytes.{reader_is, gives_value}
+use Rattle.h263_payload.specs.declared.payload.Payload.{Payload}
+use Rattle.h263rps.proofs.PacketRead.{payload_of, picture_behind}
 use Rattle.h263rps.proofs.packet_reader.read_packet.Goals as goal
 
+pub returns-in_err-payload : goal.returns-in_err-payload
+returns-in_err-payload c = λ number mbs s p.
+    absurd (err_not_ok _ _ (c.in_err-payload.ensures.exact ∙ (payload_of number mbs c.args.bytes.now c.in_ok-rtp.rtp p c.in_ok-rtp.ensures.exact).1))
+
 pub returns : goal.returns
-returns c =
-    gives_value c.read_values.result c.read_values.new.reader (reading packet c.new-reader.result) c.read_values.ensures
-    ∙ ap (λ (b : Bits). value_of (reading packet b)) (c.new-reader.ensures.bits ∙ reader_is c.args.bytes.now 342 c.told-bytes)
+returns c = λ number mbs s p.
+    let found = payload_of number mbs c.args.bytes.now c.in_ok-rtp.rtp p c.in_ok-rtp.ensures.exact in
+    let payload = ok_is _ _ (c.in_ok-payload.ensures.exact ∙ found.1) in
+    c.read_picture.ensures number p.body.padding mbs s p.body.few
+    (ap (λ (b : Bits). b.bits) c.new-reader.ensures.bits
+    ∙ picture_behind number mbs c.args.bytes.now c.in_ok-payload.payload.from c.in_ok-rtp.rtp.to p (ap (λ (x : Payload). x.from) payload) found.0)
