@@ -1,0 +1,4 @@
+pub mod Around
+pub mod Head
+pub mod Text
+pub mod Written
