@@ -1,4 +1,5 @@
 pub mod Around
+pub mod Filled
 pub mod Head
 pub mod Text
 pub mod Written

@@ -1,2 +1,10 @@
 //! Slices, read and written (H.263, Annex K, with the fields of Annex N).
+//!
+//! `specs/Head` gives the syntax of a slice's header, and `specs/Text` the text of a slice and what a reader of any bits
+//! finds: a slice ends where fewer than 8 zero bits are left.
 #![tactic(auto)]
+
+mod head;
+mod reading;
+
+pub use reading::read_slice;
