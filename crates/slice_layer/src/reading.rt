@@ -1,9 +1,10 @@
 //! Reads slices.
-ghost use Rattle.std.specs.Prelude.{◌≡◌, ℕ, true, ◌+◌, ◌-◌, ◌<◌, ◌≤◌, List, length, IfOk, IsOkAnd};
+ghost use Rattle.std.specs.Prelude.{◌≡◌, ℕ, true, ◌+◌, ◌-◌, ◌<◌, ◌≤◌, ◌↔◌, ℤ, List, length, IfOk, IsOkAnd};
 ghost use Rattle.h263_bits.specs.Reading.{Gives, first_fault};
 ghost use Rattle.h263_bits.specs.Syntax.{reading};
 ghost use Rattle.h263_types.specs.Blocks.{IsQuant};
 ghost use Rattle.h263_types.specs.Sizes.{columns_of, mbs_of};
+ghost use Rattle.h263_types.specs.Vectors.{InReach, IsWithin};
 ghost use Rattle.h263_types.specs.declared.blocks.Mb.{Mb};
 ghost use Rattle.picture_header.specs.Ranges.{IsHeader};
 ghost use Rattle.macroblock_layer.specs.Prediction.{predictor_of};
@@ -14,7 +15,7 @@ ghost use Rattle.slice_layer.specs.Filled.{Fills, IsMbAt, IsSliceIn, AreOthersSa
 
 use crate::head::read_head;
 use h263_bits::{BitReader, Fault, FaultKind};
-use h263_types::{Mb, SliceHead, Vector, reach};
+use h263_types::{Format, Mb, Reach, SliceHead, Vector, reach};
 use macroblock_layer::{predictor, read_mb};
 use picture_header::Header;
 
@@ -51,6 +52,15 @@ fn vector_of(mb: &Mb) -> Vector
     }
 }
 
+/// How far the vector of macroblock `at` reaches.
+fn reach_of(format: Format, at: u32) -> Reach
+    requires { at < mbs_of format }
+    ensures value { result ≡ reach_of format at }
+    ensures within { (x y : ℤ) → InReach format at x y ↔ IsWithin result x y }
+{
+    reach(format, at)
+}
+
 // Macroblock `at` of the picture, in a slice that begins with macroblock `first`; the vectors are those before it.
 fn read_next(
     reader: &mut BitReader<'_>,
@@ -69,7 +79,7 @@ fn read_next(
     ensures range { IfOk result (λ _. IsMbAt header.now at out.new) }
 {
     let predictor = predictor(vectors, first, at, header.format.columns());
-    let reach = reach(header.format, at);
+    let reach = reach_of(header.format, at);
     read_mb(reader, header.kind, quant, predictor, reach, out)
 }
 

@@ -1,0 +1,6 @@
+pub mod Heads
+pub mod Marked
+pub mod Padding
+pub mod Ranges
+pub mod Reach
+pub mod Steps
