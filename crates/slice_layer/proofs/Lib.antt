@@ -1,3 +1,4 @@
+pub mod Bodies
 pub mod Heads
 pub mod Marked
 pub mod Padding

@@ -15,7 +15,6 @@ use Rattle.h263_bits.specs.Reading.{Bits, Takes}
 use Rattle.h263_bits.specs.Syntax.{either, Spells}
 use Rattle.h263_bits.proofs.SyntaxLaws.{and_both}
 use Rattle.picture_header.specs.declared.header.Header.{Header}
-use Rattle.code_tables.specs.declared.macroblock.MbClass.{MbClass}
 use Rattle.macroblock_layer.specs.declared.reading.Lead.{Lead}
 use Rattle.macroblock_layer.specs.declared.reading.Lead.TheVariants.{Skipped, Coded}
 use Rattle.macroblock_layer.specs.Text.{is_within_across, is_within_along, is_within, moved, in_reach, is_intra, vector, intra_mb, inter_mb, coded_mb, behind, mb, IsMbText}

@@ -1,6 +1,6 @@
 -- The reach of a macroblock, in its closed form.
-use Rattle.std.proofs.Common.{◌≡◌, ℕ, suc, ◌+◌, ◌*◌, ◌-◌, ◌/◌, ◌%◌, ◌<◌, ◌≤◌, refl, ℤ, pos, negsuc, ◌≤ℤ◌, ◌+ℤ◌, neg_ℤ, ◌↔◌, unsigned_abs, arith, sym, subst}
-use Rattle.std.specs.Int.{int_shr, int_min, int_max}
+use Rattle.std.proofs.Common.{◌≡◌, ℕ, ◌+◌, ◌*◌, ◌-◌, ◌/◌, ◌%◌, ◌<◌, ◌≤◌, refl, ℤ, pos, negsuc, ◌≤ℤ◌, ◌+ℤ◌, neg_ℤ, ◌↔◌, unsigned_abs, arith}
+use Rattle.std.specs.Int.{int_shr}
 use Rattle.std.specs.Int.Signed.{≤ℤ_refl}
 use Rattle.std.proofs.lemmas.Int.{ints, int_max_is, int_min_is}
 use Rattle.h263_types.specs.declared.format.Format.{Format}

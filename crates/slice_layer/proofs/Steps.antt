@@ -1,5 +1,5 @@
 -- Macroblock after macroblock, into their places.
-use Rattle.std.proofs.Common.{◌≡◌, ◌≢◌, ℕ, zero, suc, ◌+◌, ◌-◌, ◌<◌, ◌≤◌, Bool, true, false, cond, List, [], ◌∷◌, ◌++◌, length, take, drop, set, get_or, replicate, map, Result, Ok, Err, refl, sym, ap, subst, ◌∙◌, append_assoc, add-one, drop-cons, arith, inl, inr}
+use Rattle.std.proofs.Common.{◌≡◌, ◌≢◌, ℕ, zero, suc, ◌+◌, ◌-◌, ◌<◌, ◌≤◌, true, false, List, [], ◌∷◌, ◌++◌, length, take, drop, set, get_or, replicate, map, Result, Ok, Err, refl, sym, ap, subst, ◌∙◌, append_assoc, add-one, drop-cons, arith, inl, inr}
 use Rattle.std.proofs.lemmas.Bool.{cases_lt}
 use Rattle.std.proofs.lemmas.List.{append-nil, map-append, length-append, length-set, length-replicate, length-take-le, take-append-drop, take-replicate, take_at, drop_at, take_more_set, set_at, get_or_append_left, get_or-append_right, get_or-append-add}
 use Rattle.h263_types.specs.declared.format.Format.{Format}
@@ -11,7 +11,7 @@ use Rattle.h263_types.specs.Blocks.{IsQuant, IsMb}
 use Rattle.h263_types.specs.Sizes.{columns_of, mbs_of}
 use Rattle.h263_bits.specs.declared.fault.Fault.{Fault}
 use Rattle.h263_bits.specs.declared.fault.FaultKind.TheVariants as faults
-use Rattle.h263_bits.specs.Reading.{Bits, ◌>>=◌}
+use Rattle.h263_bits.specs.Reading.{Bits}
 use Rattle.h263_bits.specs.Syntax.{Syntax, reading}
 use Rattle.picture_header.specs.declared.header.Header.{Header}
 use Rattle.macroblock_layer.specs.Prediction.{no_vector, predictor_of}
@@ -180,9 +180,9 @@ module _ (h : Header) (first : ℕ) (old : List Mb) (whole : Result (List Mb) Fa
   slice_in some = record {
     head = record { some = omega (arith, so.at-is); within = omega (arith, so.at-is, so.within) };
     each = λ k low high.
-      let inside : k < at = omega (arith, so.at-is) in
-      let e : first + (k - first) ≡ k = omega arith in
-      subst (λ (m : Mb). IsMbAt h k m) (sym (there k low inside)) (subst (λ (j : ℕ). IsMbAt h j (mb_in so.mbs (k - first))) e (so.each (k - first) (omega (arith, so.at-is))));
+        let inside : k < at = omega (arith, so.at-is) in
+        let e : first + (k - first) ≡ k = omega arith in
+        subst (λ (m : Mb). IsMbAt h k m) (sym (there k low inside)) (subst (λ (j : ℕ). IsMbAt h j (mb_in so.mbs (k - first))) e (so.each (k - first) (omega (arith, so.at-is))));
   }
 
   pub others : AreOthersSame old out (record { first = first; count = at - first })

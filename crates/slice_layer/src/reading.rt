@@ -128,6 +128,7 @@ fn read_body(
     })
 }
 
+#[tactic(auto, unfolding(crate::specs::Text::slice_at))]
 fn slice_at(
     reader: &mut BitReader<'_>,
     header: &Header,
