@@ -7,5 +7,7 @@
 mod head;
 pub mod laws;
 mod reading;
+#[cfg(test)]
+mod tests;
 
 pub use reading::read_slice;
