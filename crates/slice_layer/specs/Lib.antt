@@ -2,3 +2,4 @@ pub mod Around
 pub mod Head
 pub mod Text
 pub mod Written
+pub mod Writer

@@ -1,2 +1,8 @@
 //! Slices, read and written (H.263, Annex K, with the fields of Annex N).
 #![tactic(auto)]
+
+mod writing;
+mod writing_head;
+mod writing_text;
+
+pub use writing::{Added, SliceWriter};
