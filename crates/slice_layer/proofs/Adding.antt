@@ -38,11 +38,10 @@ mbs_text-append a quant before (n ∷ mbs) m =
     ap (λ (t : List Bool). front ++ t) (more ∙ ap (λ (l : List Mb). behind ++ last l) e) ∙ sym (append_assoc front behind (last (before ++ n ∷ mbs)))
 
 -- the text of the next macroblock
-pub next_text : Header → ℕ → List Mb → Mb → List Bool
+abbrev pub next_text : Header → ℕ → List Mb → Mb → List Bool
 next_text h first mbs m = mb_text h.kind (quant_behind h.quant mbs) (next_predictor h.format first mbs) m
 
 pub slice_text-append : (h : Header) (begins : Bool) (first : ℕ) (mbs : List Mb) (m : Mb) → slice_text h begins first (mbs ++ m ∷ []) ≡ slice_text h begins first mbs ++ next_text h first mbs m
-unfolding next_text
 slice_text-append h begins first mbs m =
     let opening = opening_text h begins first in
     let text = mbs_text (around h first) h.quant [] mbs in

@@ -1,3 +1,4 @@
 pub mod Openings
 pub mod Adding
 pub mod Fronts
+pub mod Holding

@@ -10,7 +10,7 @@ ghost use Rattle.macroblock_layer.specs.Prediction.{predictor_of};
 ghost use Rattle.macroblock_layer.specs.Written.{mb_text, IsStepped};
 ghost use Rattle.slice_layer.specs.Around.{vector_of, quant_after};
 
-use crate::writing_text::{write_apart, write_front};
+use crate::writing_text::{paste, write_apart, write_front};
 use h263_bits::BitReader;
 use h263_types::{Format, Kind, Mb, Vector};
 use macroblock_layer::predictor;
@@ -130,7 +130,8 @@ impl<'a> SliceWriter<'a> {
     fn keep(&mut self, mb: &Mb)
         requires mb { IsMb mb.now }
         requires left { next_of self.old < 396 }
-        ensures bytes { self.new.bytes ≡ self.old.bytes }
+        ensures bytes { bytes_in self.new ≡ bytes_in self.old }
+        ensures loan { loan_of self.new ≡ loan_of self.old }
         ensures len { self.new.len ≡ self.old.len }
         ensures kind { kind_of self.new ≡ kind_of self.old }
         ensures format { format_of self.new ≡ format_of self.old }
@@ -172,7 +173,7 @@ impl<'a> SliceWriter<'a> {
         if self.bytes.len() < at + size {
             return Added::Full;
         }
-        self.bytes[at..at + size].copy_from_slice(&apart[..size]);
+        paste(self.bytes, at, &apart[..size]);
         self.len += len - count;
         self.keep(mb);
         Added::Fits

@@ -58,3 +58,11 @@ pub fn write_apart(
     writer.align();
     len
 }
+
+/// Puts bytes into others, from place `at` on.
+pub fn paste(bytes: &mut [u8], at: usize, text: &[u8])
+    requires room { at + length text.now ≤ length bytes.old }
+    ensures front { take (at + length text.now) bytes.new ≡ take at bytes.old ++ text.now }
+{
+    bytes[at..at + text.len()].copy_from_slice(text);
+}
