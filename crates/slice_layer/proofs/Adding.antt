@@ -7,7 +7,10 @@ use Rattle.h263_types.specs.declared.blocks.Mb.{Mb}
 use Rattle.h263_bits.specs.Written.{to_byte}
 use Rattle.picture_header.specs.declared.header.Header.{Header}
 use Rattle.macroblock_layer.specs.Prediction.{no_vector}
-use Rattle.macroblock_layer.specs.Written.{mb_text}
+use Rattle.picture_header.specs.Ranges.{IsHeader}
+use Rattle.macroblock_layer.specs.Written.{mb_text, IsWhole}
+use Rattle.macroblock_layer.proofs.Lengths.{mb_short}
+use Rattle.slice_layer.proofs.Openings.{opening_short}
 use Rattle.slice_layer.specs.Around.{Around, around, vector_of, vectors_of, next_predictor, quant_after}
 use Rattle.slice_layer.specs.Written.{opening_text, mbs_text, slice_text, bytes_of, quant_behind}
 use Rattle.slice_layer.specs.declared.writing.Added.{Added}
@@ -47,6 +50,10 @@ slice_text-append h begins first mbs m =
     let text = mbs_text (around h first) h.quant [] mbs in
     ap (λ (t : List Bool). opening ++ t) (mbs_text-append (around h first) h.quant [] mbs m) ∙ sym (append_assoc opening text (next_text h first mbs m))
 
+pub no_text : (h : Header) (begins : Bool) (first : ℕ) → slice_text h begins first [] ≡ opening_text h begins first
+unfolding mbs_text
+no_text h begins first = append-nil (opening_text h begins first)
+
 -- ---- bytes
 
 to_byte_below : (n : ℕ) → to_byte n < 8
@@ -64,3 +71,17 @@ answer_fits room text h = rw (le-ltb room (bytes_of text) (bytes_within room tex
 
 pub answer_full : (room : ℕ) (text : List Bool) → 8 * room < length text → Full ≡ answer room (bytes_of text)
 answer_full room text h = rw (lt-ltb room (bytes_of text) (bytes_past room text h)) refl
+
+-- a slice of one macroblock
+pub one_short : (h : Header) (begins : Bool) (first : ℕ) (m : Mb) → IsHeader h → IsWhole m → bytes_of (slice_text h begins first (m ∷ [])) ≤ 1085
+one_short h begins first m is whole =
+    let bits : length (slice_text h begins first (m ∷ [])) ≤ 8680 =
+    omega (
+      arith,
+      ap length (slice_text-append h begins first [] m),
+      length-append (slice_text h begins first []) (next_text h first [] m),
+      ap length (no_text h begins first),
+      opening_short h begins first is,
+      mb_short h.kind (quant_behind h.quant []) (next_predictor h.format first []) m whole,
+    ) in
+    bytes_within 1085 (slice_text h begins first (m ∷ [])) (omega (arith, bits))

@@ -12,12 +12,8 @@ use Rattle.macroblock_layer.specs.Written.{mb_text}
 use Rattle.slice_layer.specs.Around.{vector_of, vectors_of, next_predictor, quant_after}
 use Rattle.slice_layer.specs.Written.{opening_text, mbs_text, slice_text, quant_behind, bytes_of, padded, IsFront}
 use Rattle.slice_layer.specs.declared.writing.SliceWriter.{SliceWriter}
-use Rattle.slice_layer.proofs.Adding.{next_text, slice_text-append, quant_behind-append, vectors_of-append}
+use Rattle.slice_layer.proofs.Adding.{no_text, next_text, slice_text-append, quant_behind-append, vectors_of-append}
 use Rattle.slice_layer.specs.Writer.{kind_of, format_of, first_of, next_of, quant_of, bytes_in, Holds}
-
-no_text : (h : Header) (begins : Bool) (first : ℕ) → slice_text h begins first [] ≡ opening_text h begins first
-unfolding mbs_text
-no_text h begins first = append-nil (opening_text h begins first)
 
 no_step : (quant : ℕ) → quant ≡ quant_behind quant []
 unfolding quant_behind

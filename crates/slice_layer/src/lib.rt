@@ -1,6 +1,7 @@
 //! Slices, read and written (H.263, Annex K, with the fields of Annex N).
 #![tactic(auto)]
 
+pub mod writer_laws;
 mod writing;
 mod writing_head;
 mod writing_text;

@@ -7,7 +7,7 @@ ghost use Rattle.h263_types.specs.declared.blocks.Mb.{Mb};
 ghost use Rattle.picture_header.specs.declared.header.Header.{Header};
 ghost use Rattle.picture_header.specs.Ranges.{IsHeader};
 ghost use Rattle.macroblock_layer.specs.Prediction.{predictor_of};
-ghost use Rattle.macroblock_layer.specs.Written.{mb_text, IsStepped};
+ghost use Rattle.macroblock_layer.specs.Written.{IsStepped, IsWhole};
 ghost use Rattle.slice_layer.specs.Around.{vector_of, quant_after};
 
 use crate::writing_text::{paste, write_apart, write_front};
@@ -158,6 +158,10 @@ impl<'a> SliceWriter<'a> {
             → result ≡ Added.Fits → Holds self.new h begins first (mbs ++ mb.now ∷ []) }
         ensures full { (h : Header) (begins : Bool) (first : ℕ) (mbs : List Mb) → Holds self.old h begins first mbs
             → result ≡ Added.Full → Holds self.new h begins first mbs }
+        // There is room for the first macroblock.
+        ensures first { (h : Header) (begins : Bool) (first : ℕ) → IsHeader h → 1150 ≤ length (bytes_in self.old)
+            → Holds self.old h begins first [] → result ≡ Added.Fits }
+        ensures whole { IsWhole mb.now }
         ensures loan { loan_of self.new ≡ loan_of self.old }
         ensures room { length (bytes_in self.new) ≡ length (bytes_in self.old) }
     {

@@ -5,7 +5,8 @@ use Rattle.h263_bits.proofs.BitLists.{length-spelled}
 use Rattle.macroblock_layer.specs.Written.{mb_text}
 use Rattle.slice_layer.specs.Written.{slice_text, bytes_of, IsFront}
 use Rattle.slice_layer.specs.Writer.{kind_of, quant_of, bytes_in}
-use Rattle.slice_layer.proofs.Adding.{next_text, answer_fits, answer_full}
+use Rattle.slice_layer.proofs.Adding.{no_text, next_text, answer_fits, answer_full}
+use Rattle.slice_layer.proofs.Openings.{opening_short}
 use Rattle.slice_layer.proofs.Fronts.{grown}
 use Rattle.slice_layer.proofs.Holding.{next_is, next_length, held}
 use Rattle.slice_layer.proofs.writing.SliceWriter.add.Goals as goal
@@ -14,6 +15,10 @@ pub returns-then-self-at-clause-answer : goal.returns-then-self-at-clause-answer
 returns-then-self-at-clause-answer c h begins first mbs holds =
     let len = next_length c.args.self.now h begins first mbs c.args.mb.now c.predictor-predictor.result holds c.predictor-predictor.ensures in
     answer_full (length (bytes_in c.args.self.now)) _ (omega (arith, len, c.write_apart-len.ensures.len, c.if-self-at.true))
+
+pub returns-then-self-at-clause-first : goal.returns-then-self-at-clause-first
+returns-then-self-at-clause-first c h begins first is room holds =
+    absurd (omega (arith, holds.len, ap length (no_text h begins first), opening_short h begins first is, room, c.write_apart-len.ensures.short, c.if-self-at.true))
 
 pub returns-clause-answer : goal.returns-clause-answer
 returns-clause-answer c h begins first mbs holds =
