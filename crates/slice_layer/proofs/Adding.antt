@@ -18,7 +18,6 @@ use Rattle.slice_layer.specs.declared.writing.Added.TheVariants.{Fits, Full}
 use Rattle.slice_layer.specs.Writer.{answer}
 
 pub quant_behind-append : (quant : ℕ) (mbs : List Mb) (m : Mb) → quant_behind quant (mbs ++ m ∷ []) ≡ quant_after (quant_behind quant mbs) m
-unfolding quant_behind
 quant_behind-append quant [] m = refl
 quant_behind-append quant (n ∷ mbs) m = quant_behind-append (quant_after quant n) mbs m
 
@@ -28,7 +27,7 @@ vectors_of-append first mbs m =
 
 pub mbs_text-append : (a : Around) (quant : ℕ) (before mbs : List Mb) (m : Mb)
     → mbs_text a quant before (mbs ++ m ∷ []) ≡ mbs_text a quant before mbs ++ mb_text a.kind (quant_behind quant mbs) (a.predictor (before ++ mbs)) m
-unfolding mbs_text quant_behind
+unfolding mbs_text
 mbs_text-append a quant before [] m =
     let e : before ++ [] ≡ before = append-nil before in
     append-nil _ ∙ ap (λ (l : List Mb). mb_text a.kind quant (a.predictor l) m) (sym e)

@@ -16,7 +16,6 @@ use Rattle.slice_layer.proofs.Adding.{no_text, next_text, slice_text-append, qua
 use Rattle.slice_layer.specs.Writer.{kind_of, format_of, first_of, next_of, quant_of, bytes_in, Holds}
 
 no_step : (quant : ℕ) → quant ≡ quant_behind quant []
-unfolding quant_behind
 no_step quant = refl
 
 pub begun : (w : SliceWriter) (h : Header) (begins : Bool) (first : ℕ) → IsFront (opening_text h begins first) (bytes_in w) → w.len ≡ length (opening_text h begins first)

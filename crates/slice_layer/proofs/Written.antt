@@ -164,7 +164,7 @@ none_writable h first = tt
 
 more_writable : (a : Around) (quant : ℕ) (before mbs : List Mb) (m : Mb) → AreWritable a quant before mbs
     → IsWritable a.kind (quant_behind quant mbs) (a.reaches (a.first + length (before ++ mbs))) m → AreWritable a quant before (mbs ++ m ∷ [])
-unfolding AreWritable quant_behind
+unfolding AreWritable
 more_writable a quant before [] m w one = (subst (λ (l : List Mb). IsWritable a.kind quant (a.reaches (a.first + length l)) m) (append-nil before) one, tt)
 more_writable a quant before (n ∷ mbs) m w one =
     let e : before ++ n ∷ mbs ≡ (before ++ n ∷ []) ++ mbs = sym (append_assoc before (n ∷ []) mbs) in

@@ -60,7 +60,7 @@ abbrev pub IsFront : List Bool → List ℕ → Type 0
 IsFront text bytes = bits_of (take (bytes_of text) bytes) ≡ padded text
 
 -- the quantiser after macroblocks
-unfoldable pub quant_behind : ℕ → List Mb → ℕ
+abbrev pub quant_behind : ℕ → List Mb → ℕ
 quant_behind quant [] = quant
 quant_behind quant (m ∷ mbs) = quant_behind (quant_after quant m) mbs
 

@@ -146,7 +146,7 @@ impl<'a> SliceWriter<'a> {
     }
 
     /// Adds the next macroblock. Where the slice with it, up to a whole byte, would have more bytes than were lent, it answers
-    /// `Full`, and the writer holds what it held before.
+    /// `Full`, and nothing changes.
     pub fn add(&mut self, mb: &Mb) -> Added
         requires mb { IsMb mb.now }
         requires kind { IsOfKind (kind_of self.old) mb.now }
@@ -156,11 +156,15 @@ impl<'a> SliceWriter<'a> {
             → result ≡ answer (length (bytes_in self.old)) (bytes_of (slice_text h begins first (mbs ++ mb.now ∷ []))) }
         ensures fits { (h : Header) (begins : Bool) (first : ℕ) (mbs : List Mb) → Holds self.old h begins first mbs
             → result ≡ Added.Fits → Holds self.new h begins first (mbs ++ mb.now ∷ []) }
-        ensures full { (h : Header) (begins : Bool) (first : ℕ) (mbs : List Mb) → Holds self.old h begins first mbs
-            → result ≡ Added.Full → Holds self.new h begins first mbs }
+        ensures full { result ≡ Added.Full → self.new ≡ self.old }
         // There is room for the first macroblock.
         ensures first { (h : Header) (begins : Bool) (first : ℕ) → IsHeader h → 1150 ≤ length (bytes_in self.old)
             → Holds self.old h begins first [] → result ≡ Added.Fits }
+        ensures kind { kind_of self.new ≡ kind_of self.old }
+        ensures format { format_of self.new ≡ format_of self.old }
+        ensures from { first_of self.new ≡ first_of self.old }
+        ensures next { result ≡ Added.Fits → next_of self.new ≡ next_of self.old + 1 }
+        ensures quant { result ≡ Added.Fits → quant_of self.new ≡ quant_after (quant_of self.old) mb.now }
         ensures whole { IsWhole mb.now }
         ensures loan { loan_of self.new ≡ loan_of self.old }
         ensures room { length (bytes_in self.new) ≡ length (bytes_in self.old) }
