@@ -2,6 +2,8 @@
 #![tactic(auto)]
 
 pub mod writer_laws;
+#[cfg(test)]
+mod writer_tests;
 mod writing;
 mod writing_head;
 mod writing_text;
