@@ -5,3 +5,8 @@ pub mod Padding
 pub mod Ranges
 pub mod Reach
 pub mod Steps
+pub mod Openings
+pub mod Adding
+pub mod Fronts
+pub mod Holding
+pub mod Written

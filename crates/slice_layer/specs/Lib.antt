@@ -3,3 +3,4 @@ pub mod Filled
 pub mod Head
 pub mod Text
 pub mod Written
+pub mod Writer

@@ -1,11 +1,15 @@
 -- The text that is written of a slice: behind the picture header or by itself.
-use Rattle.std.specs.Prelude.{ℕ, ◌+◌, ◌*◌, ◌/◌, List, [], ◌∷◌, ◌++◌, length, Bool, true, false}
+use Rattle.std.specs.Prelude.{◌≡◌, ℕ, ◌+◌, ◌*◌, ◌/◌, ◌<◌, ◌==◌, List, [], ◌∷◌, ◌++◌, length, take, Bool, true, false}
+use Rattle.h263_types.specs.declared.Kind.{Kind}
+use Rattle.h263_types.specs.declared.vector.Reach.{Reach}
 use Rattle.h263_types.specs.declared.blocks.Mb.{Mb}
-use Rattle.h263_bits.specs.Bits.{spelled, fields}
+use Rattle.h263_types.specs.Blocks.{IsMb, IsOfKind}
+use Rattle.h263_types.specs.Sizes.{mbs_of}
+use Rattle.h263_bits.specs.Bits.{bits_of, spelled, fields}
 use Rattle.h263_bits.specs.Written.{to_byte}
 use Rattle.picture_header.specs.declared.header.Header.{Header}
 use Rattle.picture_header.specs.Written.{written_header, kind_code, reference_fields}
-use Rattle.macroblock_layer.specs.Written.{mb_text}
+use Rattle.macroblock_layer.specs.Written.{mb_text, IsStepped, IsReached, IsWhole}
 use Rattle.slice_layer.specs.Around.{Around, around, quant_after}
 use Rattle.slice_layer.specs.Head.{address_bits}
 
@@ -50,3 +54,31 @@ padded text = text ++ spelled (to_byte (length text)) 0
 -- how many bytes a text takes
 abbrev pub bytes_of : List Bool → ℕ
 bytes_of text = (length text + to_byte (length text)) / 8
+
+-- bytes begin with a text, padded up to a whole byte
+abbrev pub IsFront : List Bool → List ℕ → Type 0
+IsFront text bytes = bits_of (take (bytes_of text) bytes) ≡ padded text
+
+-- the quantiser after macroblocks
+abbrev pub quant_behind : ℕ → List Mb → ℕ
+quant_behind quant [] = quant
+quant_behind quant (m ∷ mbs) = quant_behind (quant_after quant m) mbs
+
+-- where a slice may begin: with the picture's first macroblock behind the picture header, and with a later one by itself
+pub record IsPlace (h : Header) (begins : Bool) (first : ℕ) : Type 0 where
+  pub within : first < mbs_of h.format
+  pub at_zero : (first == 0) ≡ begins
+
+-- a macroblock that may be written in a picture of this kind, where its quantiser before it and its reach are these
+pub record IsWritable (kind : Kind) (quant : ℕ) (reach : Reach) (m : Mb) : Type 0 where
+  pub in_range : IsMb m
+  pub of_kind : IsOfKind kind m
+  pub step : IsStepped quant m
+  pub whole : IsWhole m
+  pub reached : IsReached reach m
+
+-- macroblocks that may be written one after the other, behind earlier ones
+unfoldable pub AreWritable : Around → ℕ → List Mb → List Mb → Type 0
+AreWritable a quant before [] = Unit {0}
+AreWritable a quant before (m ∷ mbs) =
+    IsWritable a.kind quant (a.reaches (a.first + length before)) m × AreWritable a (quant_after quant m) (before ++ m ∷ []) mbs

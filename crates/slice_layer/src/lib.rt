@@ -9,5 +9,12 @@ pub mod laws;
 mod reading;
 #[cfg(test)]
 mod tests;
+pub mod writer_laws;
+#[cfg(test)]
+mod writer_tests;
+mod writing;
+mod writing_head;
+mod writing_text;
 
 pub use reading::read_slice;
+pub use writing::{Added, SliceWriter};
