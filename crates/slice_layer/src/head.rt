@@ -24,7 +24,7 @@ fn fixed(reader: &mut BitReader<'_>, n: u32, value: u32, kind: FaultKind) -> Res
     Ok(())
 }
 
-/// The bits of a macroblock's number (MBA, K.2.5).
+// The bits of a macroblock's number (MBA, K.2.5).
 fn address_bits(format: Format) -> u32
     ensures bits { result ≡ address_bits format }
     ensures few { result ≤ 9 }

@@ -52,7 +52,7 @@ fn vector_of(mb: &Mb) -> Vector
     }
 }
 
-/// How far the vector of macroblock `at` reaches.
+// How far the vector of macroblock `at` reaches.
 fn reach_of(format: Format, at: u32) -> Reach
     requires { at < mbs_of format }
     ensures value { result ≡ reach_of format at }
@@ -83,7 +83,7 @@ fn read_next(
     read_mb(reader, header.kind, quant, predictor, reach, out)
 }
 
-// The macroblocks of a slice from number `first` on, up to the padding; how many they are.
+// The macroblocks of a slice from number `first` on, up to the padding, into their places.
 fn read_body(
     reader: &mut BitReader<'_>,
     header: &Header,
