@@ -1,5 +1,5 @@
 -- What is written of a slice is a text of it.
-use Rattle.std.proofs.Common.{◌≡◌, ℕ, zero, suc, ◌+◌, ◌-◌, ◌*◌, ◌/◌, ◌%◌, ◌^◌, ◌<◌, ◌≤◌, Bool, true, false, not, cond, ◌&&◌, List, [], ◌∷◌, ◌++◌, length, Option, Some, None, nat_lt, refl, sym, ap, subst, ◌∙◌, append_assoc, arith}
+use Rattle.std.proofs.Common.{◌≡◌, ℕ, zero, suc, ◌+◌, ◌/◌, ◌%◌, ◌^◌, ◌<◌, ◌≤◌, Bool, true, false, not, cond, List, [], ◌∷◌, ◌++◌, length, Option, Some, None, refl, sym, ap, subst, append_assoc, arith}
 use Rattle.std.specs.Prelude.{◌==◌}
 use Rattle.std.specs.List.{list_all}
 use Rattle.std.proofs.Common.{eq-eqb}
@@ -14,7 +14,7 @@ use Rattle.h263_types.specs.Sizes.{mbs_of}
 use Rattle.h263_bits.specs.declared.fault.FaultKind.TheVariants as faults
 use Rattle.h263_bits.specs.Bits.{is_set, spelled, fields}
 use Rattle.h263_bits.specs.Written.{to_byte}
-use Rattle.h263_bits.specs.Syntax.{any, only, done, Spells}
+use Rattle.h263_bits.specs.Syntax.{any, only, Spells}
 use Rattle.h263_bits.proofs.BitLists.{length-spelled}
 use Rattle.h263_bits.proofs.SyntaxLaws.{spells_field, spells_part, spells_done, spells_whole}
 use Rattle.picture_header.specs.declared.header.Header.{Header}
@@ -22,9 +22,9 @@ use Rattle.picture_header.specs.Ranges.{IsReference, IsHeader}
 use Rattle.picture_header.specs.Written.{kind_code, reference_fields}
 use Rattle.macroblock_layer.specs.Written.{mb_text}
 use Rattle.macroblock_layer.proofs.Spelt.{mb_written}
-use Rattle.slice_layer.specs.Around.{Around, around, quant_after, next_mb, reach_of}
+use Rattle.slice_layer.specs.Around.{Around, around, quant_after, reach_of}
 use Rattle.slice_layer.specs.Head.{address_bits, is_later, is_quant, reference, first_head, place, tail, later_head, head}
-use Rattle.slice_layer.specs.Text.{is_padding, AreTexts, IsBody, IsSliceText}
+use Rattle.slice_layer.specs.Text.{is_padding, AreTexts, IsSliceText}
 use Rattle.slice_layer.specs.Written.{gfid, place_fields, tail_text, head_text, mbs_text, quant_behind, IsPlace, IsWritable, AreWritable}
 
 -- ---- the header
