@@ -1,5 +1,5 @@
 -- What one more macroblock makes of a slice's text, of its vectors and of its quantiser.
-use Rattle.std.proofs.Common.{◌≡◌, ℕ, ◌+◌, ◌-◌, ◌*◌, ◌/◌, ◌%◌, ◌<◌, ◌≤◌, Bool, true, false, cond, List, [], ◌∷◌, ◌++◌, length, map, replicate, refl, sym, ap, subst, ◌∙◌, append_assoc, arith}
+use Rattle.std.proofs.Common.{◌≡◌, ℕ, ◌*◌, ◌<◌, ◌≤◌, Bool, List, [], ◌∷◌, ◌++◌, length, map, replicate, refl, sym, ap, ◌∙◌, append_assoc, arith}
 use Rattle.std.proofs.lemmas.List.{length-append, append-nil, map-append}
 use Rattle.std.proofs.lemmas.Bool.{lt-ltb, le-ltb}
 use Rattle.h263_types.specs.declared.vector.Vector.{Vector}
@@ -13,7 +13,6 @@ use Rattle.macroblock_layer.proofs.Lengths.{mb_short}
 use Rattle.slice_layer.proofs.Openings.{opening_short}
 use Rattle.slice_layer.specs.Around.{Around, around, vector_of, vectors_of, next_predictor, quant_after}
 use Rattle.slice_layer.specs.Written.{opening_text, mbs_text, slice_text, bytes_of, quant_behind}
-use Rattle.slice_layer.specs.declared.writing.Added.{Added}
 use Rattle.slice_layer.specs.declared.writing.Added.TheVariants.{Fits, Full}
 use Rattle.slice_layer.specs.Writer.{answer}
 

@@ -1,9 +1,9 @@
 -- Bytes that begin with a text, padded up to a whole byte, and a text that goes on behind it.
-use Rattle.std.proofs.Common.{◌≡◌, ℕ, ◌+◌, ◌-◌, ◌*◌, ◌/◌, ◌%◌, ◌<◌, ◌≤◌, Bool, List, ◌++◌, length, take, drop, refl, sym, ap, ◌∙◌, append_assoc, arith}
+use Rattle.std.proofs.Common.{◌≡◌, ℕ, ◌+◌, ◌-◌, ◌*◌, ◌/◌, ◌%◌, ◌≤◌, Bool, List, ◌++◌, length, take, drop, refl, sym, ap, ◌∙◌, append_assoc, arith}
 use Rattle.std.proofs.Math.Seq.{take-add}
-use Rattle.std.proofs.lemmas.List.{length-append, length-take, length-drop, take-append-drop, take_all, take_at}
+use Rattle.std.proofs.lemmas.List.{length-append, length-take, length-drop, take_all, take_at}
 use Rattle.h263_bits.specs.Bits.{spelled, number, bits_of}
-use Rattle.h263_bits.specs.Reading.{Bits, bits_between}
+use Rattle.h263_bits.specs.Reading.{bits_between}
 use Rattle.h263_bits.specs.Written.{to_byte}
 use Rattle.h263_bits.proofs.BitLists.{spelled-number, length-bits_of, bits_of-take, bits_of-append, take-take}
 use Rattle.slice_layer.specs.Written.{bytes_of, padded, IsFront}

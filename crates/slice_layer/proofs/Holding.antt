@@ -1,5 +1,5 @@
 -- What a writer holds, as it begins, and behind one more macroblock.
-use Rattle.std.proofs.Common.{◌≡◌, ℕ, ◌+◌, ◌-◌, ◌*◌, ◌/◌, ◌%◌, ◌<◌, ◌≤◌, Bool, List, [], ◌∷◌, ◌++◌, length, take, drop, map, replicate, refl, sym, ap, subst, ◌∙◌, append_assoc, arith}
+use Rattle.std.proofs.Common.{◌≡◌, ℕ, ◌+◌, Bool, List, [], ◌∷◌, ◌++◌, length, take, replicate, refl, sym, ap, subst, ◌∙◌, arith}
 use Rattle.std.proofs.lemmas.List.{length-append, append-nil, take-replicate}
 use Rattle.h263_types.specs.declared.Kind.{Kind}
 use Rattle.h263_types.specs.declared.format.Format.{Format}
@@ -10,7 +10,7 @@ use Rattle.picture_header.specs.declared.header.Header.{Header}
 use Rattle.macroblock_layer.specs.Prediction.{no_vector, predictor_of}
 use Rattle.macroblock_layer.specs.Written.{mb_text}
 use Rattle.slice_layer.specs.Around.{vector_of, vectors_of, next_predictor, quant_after}
-use Rattle.slice_layer.specs.Written.{opening_text, mbs_text, slice_text, quant_behind, bytes_of, padded, IsFront}
+use Rattle.slice_layer.specs.Written.{opening_text, slice_text, quant_behind, IsFront}
 use Rattle.slice_layer.specs.declared.writing.SliceWriter.{SliceWriter}
 use Rattle.slice_layer.proofs.Adding.{no_text, next_text, slice_text-append, quant_behind-append, vectors_of-append}
 use Rattle.slice_layer.specs.Writer.{kind_of, format_of, first_of, next_of, quant_of, bytes_in, Holds}

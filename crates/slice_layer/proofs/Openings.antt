@@ -1,16 +1,16 @@
 -- How long it is, what stands before a slice's macroblocks.
-use Rattle.std.proofs.Common.{◌≡◌, ℕ, ◌+◌, ◌*◌, ◌<◌, ◌≤◌, Bool, true, false, List, [], ◌∷◌, ◌++◌, length, Option, Some, None, refl, arith}
+use Rattle.std.proofs.Common.{◌≡◌, ℕ, ◌+◌, ◌≤◌, Bool, true, false, [], ◌∷◌, ◌++◌, length, Option, Some, None, arith}
 use Rattle.std.proofs.lemmas.List.{length-append}
 use Rattle.h263_types.specs.declared.format.Format.{Format}
 use Rattle.h263_types.specs.declared.format.Format.TheVariants.{SubQcif, Qcif, Cif}
 use Rattle.h263_bits.specs.Bits.{fields}
 use Rattle.h263_bits.proofs.SyntaxLaws.{length-fields}
 use Rattle.picture_header.specs.declared.header.Header.{Header}
-use Rattle.picture_header.specs.Ranges.{IsHeader, messages_in}
+use Rattle.picture_header.specs.Ranges.{IsHeader}
 use Rattle.picture_header.specs.Written.{reference_fields, reference_bits, written_header, written_bits}
 use Rattle.picture_header.proofs.Texts.{length-written_header}
 use Rattle.slice_layer.specs.Head.{address_bits}
-use Rattle.slice_layer.specs.Written.{gfid, first_fields, place_fields, tail_text, head_text, opening_text}
+use Rattle.slice_layer.specs.Written.{gfid, first_fields, place_fields, tail_text, opening_text}
 
 address_short : (f : Format) → address_bits f ≤ 9
 address_short SubQcif = omega arith

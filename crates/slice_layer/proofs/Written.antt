@@ -1,5 +1,5 @@
 -- What is written of a slice is a text of it.
-use Rattle.std.proofs.Common.{◌≡◌, ℕ, zero, suc, ◌+◌, ◌-◌, ◌*◌, ◌/◌, ◌%◌, ◌^◌, ◌<◌, ◌≤◌, Bool, true, false, not, cond, ◌&&◌, List, [], ◌∷◌, ◌++◌, length, Option, Some, None, nat_lt, refl, sym, ap, subst, ◌∙◌, append_assoc, arith}
+use Rattle.std.proofs.Common.{◌≡◌, ℕ, zero, suc, ◌+◌, ◌/◌, ◌%◌, ◌^◌, ◌<◌, ◌≤◌, Bool, true, false, not, cond, List, [], ◌∷◌, ◌++◌, length, Option, Some, None, refl, sym, ap, subst, append_assoc, arith}
 use Rattle.std.specs.Prelude.{◌==◌}
 use Rattle.std.specs.List.{list_all}
 use Rattle.std.proofs.Common.{eq-eqb}
@@ -14,18 +14,18 @@ use Rattle.h263_types.specs.Sizes.{mbs_of}
 use Rattle.h263_bits.specs.declared.fault.FaultKind.TheVariants as faults
 use Rattle.h263_bits.specs.Bits.{is_set, spelled, fields}
 use Rattle.h263_bits.specs.Written.{to_byte}
-use Rattle.h263_bits.specs.Syntax.{any, only, done, Spells}
+use Rattle.h263_bits.specs.Syntax.{any, only, Spells}
 use Rattle.h263_bits.proofs.BitLists.{length-spelled}
 use Rattle.h263_bits.proofs.SyntaxLaws.{spells_field, spells_part, spells_done, spells_whole}
 use Rattle.picture_header.specs.declared.header.Header.{Header}
 use Rattle.picture_header.specs.Ranges.{IsReference, IsHeader}
-use Rattle.picture_header.specs.Written.{kind_code, reference_fields}
+use Rattle.picture_header.specs.Written.{kind_code, reference_fields, written_header}
 use Rattle.macroblock_layer.specs.Written.{mb_text}
 use Rattle.macroblock_layer.proofs.Spelt.{mb_written}
-use Rattle.slice_layer.specs.Around.{Around, around, quant_after, next_mb, reach_of}
+use Rattle.slice_layer.specs.Around.{Around, around, quant_after, reach_of}
 use Rattle.slice_layer.specs.Head.{address_bits, is_later, is_quant, reference, first_head, place, tail, later_head, head}
-use Rattle.slice_layer.specs.Text.{is_padding, AreTexts, IsBody, IsSliceText}
-use Rattle.slice_layer.specs.Written.{gfid, place_fields, tail_text, head_text, mbs_text, quant_behind, IsPlace, IsWritable, AreWritable}
+use Rattle.slice_layer.specs.Text.{is_padding, AreTexts, IsSliceText}
+use Rattle.slice_layer.specs.Written.{gfid, place_fields, tail_text, head_text, mbs_text, slice_text, padded, quant_behind, IsPlace, IsWritable, AreWritable}
 
 -- ---- the header
 
@@ -155,6 +155,30 @@ all_zero (suc n) = rw (zero_bit n, all_zero n) refl
 
 pub zeros_are_padding : (n : ℕ) → is_padding (spelled (to_byte n) 0) ≡ true
 zeros_are_padding n = rw (lt-ltb (length (spelled (to_byte n) 0)) 8 (omega (arith, length-spelled (to_byte n) 0)), all_zero (to_byte n)) refl
+
+-- ---- as a writer leaves it
+
+pub later_padded : (h : Header) (first : ℕ) (mbs : List Mb) → IsHeader h → IsPlace h false first
+    → 0 < length mbs → first + length mbs ≤ mbs_of h.format → AreWritable (around h first) h.quant [] mbs
+    → IsSliceText h false first mbs (padded (slice_text h false first mbs))
+later_padded h first mbs is at some within each =
+    let n = length (slice_text h false first mbs) in
+    let zeros : List Bool = spelled (to_byte n) 0 in
+    let text = mbs_text (around h first) h.quant [] mbs in
+    subst (λ (t : List Bool). IsSliceText h false first mbs t) (sym (append_assoc (head_text h false first) text zeros))
+    (slice_spelt h false first mbs zeros is at some within each (zeros_are_padding n))
+
+pub first_padded : (h : Header) (first : ℕ) (mbs : List Mb) → IsHeader h → IsPlace h true first
+    → 0 < length mbs → first + length mbs ≤ mbs_of h.format → AreWritable (around h first) h.quant [] mbs
+    → (text : List Bool) × (padded (slice_text h true first mbs) ≡ written_header h ++ text) × IsSliceText h true first mbs text
+first_padded h first mbs is at some within each =
+    let n = length (slice_text h true first mbs) in
+    let zeros : List Bool = spelled (to_byte n) 0 in
+    let text = mbs_text (around h first) h.quant [] mbs in
+    (head_text h true first ++ (text ++ zeros), regroup (written_header h) (head_text h true first) text zeros, slice_spelt h true first mbs zeros is at some within each (zeros_are_padding n))
+  where
+    regroup : (a b c d : List Bool) → ((a ++ b) ++ c) ++ d ≡ a ++ (b ++ (c ++ d))
+    regroup a b c d = simp (append_assoc)
 
 -- ---- one macroblock more
 

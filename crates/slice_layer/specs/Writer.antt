@@ -1,5 +1,5 @@
 -- What a slice's writer holds: the slice's text up to its last macroblock, and what the next one depends on.
-use Rattle.std.specs.Prelude.{◌≡◌, ℕ, ◌+◌, List, ◌∷◌, length, take, Bool, nat_lt, if◌then◌else◌}
+use Rattle.std.specs.Prelude.{◌≡◌, ℕ, ◌+◌, List, length, take, Bool, nat_lt, if◌then◌else◌}
 use Rattle.std.specs.Borrow.{GName}
 use Rattle.h263_types.specs.declared.Kind.{Kind}
 use Rattle.h263_types.specs.declared.format.Format.{Format}

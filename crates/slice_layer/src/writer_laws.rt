@@ -6,10 +6,11 @@ ghost use Rattle.h263_bits.specs.Bits.{spelled};
 ghost use Rattle.h263_bits.specs.Written.{to_byte};
 ghost use Rattle.picture_header.specs.declared.header.Header.{Header};
 ghost use Rattle.picture_header.specs.Ranges.{IsHeader};
+ghost use Rattle.picture_header.specs.Written.{written_header};
 ghost use Rattle.macroblock_layer.specs.Written.{IsWhole};
 ghost use Rattle.slice_layer.specs.Around.{around, reach_of};
 ghost use Rattle.slice_layer.specs.Text.{is_padding, IsSliceText};
-ghost use Rattle.slice_layer.specs.Written.{head_text, opening_text, mbs_text, slice_text, bytes_of, quant_behind, IsPlace, IsWritable, AreWritable};
+ghost use Rattle.slice_layer.specs.Written.{head_text, opening_text, mbs_text, slice_text, padded, bytes_of, quant_behind, IsPlace, IsWritable, AreWritable};
 
 /// What is written of a slice, with fewer than 8 zero bits behind it, is a text of it, where its macroblocks are one at least,
 /// all in the picture, and each may be written behind those before it. Zero bits up to a whole byte are fewer than 8.
@@ -17,6 +18,13 @@ pub fn written_is_text()
     ensures text { (h : Header) (begins : Bool) (first : ℕ) (mbs : List Mb) (padding : List Bool) → IsHeader h → IsPlace h begins first
         → 0 < length mbs → first + length mbs ≤ mbs_of h.format → AreWritable (around h first) h.quant [] mbs → is_padding padding ≡ true
         → IsSliceText h begins first mbs (head_text h begins first ++ (mbs_text (around h first) h.quant [] mbs ++ padding)) }
+    // So is what a writer leaves of a later slice, and of the first one, behind the picture header.
+    ensures later { (h : Header) (first : ℕ) (mbs : List Mb) → IsHeader h → IsPlace h false first
+        → 0 < length mbs → first + length mbs ≤ mbs_of h.format → AreWritable (around h first) h.quant [] mbs
+        → IsSliceText h false first mbs (padded (slice_text h false first mbs)) }
+    ensures first { (h : Header) (first : ℕ) (mbs : List Mb) → IsHeader h → IsPlace h true first
+        → 0 < length mbs → first + length mbs ≤ mbs_of h.format → AreWritable (around h first) h.quant [] mbs
+        → (text : List Bool) × (padded (slice_text h true first mbs) ≡ written_header h ++ text) × IsSliceText h true first mbs text }
     ensures padding { (n : ℕ) → is_padding (spelled (to_byte n) 0) ≡ true }
 {}
 

@@ -1,8 +1,13 @@
 //! Slices that are written, byte for byte. The bytes were packed by another program from the tables.
-ghost use Rattle.std.specs.Prelude.{◌≡◌, ◌+◌, ◌≤◌, IsTrue, IfOk};
+ghost use Rattle.std.specs.Prelude.{◌≡◌, ◌+◌, ◌≤◌, ◌∷◌, [], length, take, IsTrue, IfOk};
+ghost use Rattle.h263_bits.specs.Bits.{bits_of};
+ghost use Rattle.h263_types.specs.declared.Kind.TheVariants as kinds;
+ghost use Rattle.h263_types.specs.declared.blocks.Mb.TheVariants as mbs;
+ghost use Rattle.picture_header.specs.Ranges.{IsHeader};
+ghost use Rattle.slice_layer.specs.Written.{slice_text, padded, IsPlace};
 ghost use Rattle.h263_types.specs.Blocks.{IsMb, IsOfKind};
 ghost use Rattle.h263_types.specs.Sizes.{mbs_of};
-ghost use Rattle.macroblock_layer.specs.Written.{IsStepped};
+ghost use Rattle.macroblock_layer.specs.Written.{IsStepped, IsNear};
 ghost use Rattle.slice_layer.specs.Around.{quant_after};
 ghost use Rattle.slice_layer.specs.Writer.{kind_of, format_of, first_of, next_of, quant_of};
 
@@ -116,34 +121,32 @@ fn read_text(kind: Kind, text: &str) -> Result<Mb, Fault>
     Ok(mb)
 }
 
-/// Whether the quantiser stays 8.
-fn is_steady(mb: &Mb) -> bool
-    ensures step { IsTrue result → IsStepped 8 mb.now }
-    ensures same { IsTrue result → quant_after 8 mb.now ≡ 8 }
+/// Whether a quantiser is within 2 of another one, and is the one that is wanted.
+fn is_step(from: u8, to: u8, quant: u8) -> bool
+    requires { from ≤ 31 }
+    ensures near { IsTrue result → IsNear from quant }
+    ensures to { IsTrue result → quant ≡ to }
 {
-    match mb {
-        Mb::Skip => true,
-        Mb::Intra { quant, blocks: _ } => *quant == 8,
-        Mb::Inter {
-            quant,
-            vector: _,
-            blocks: _,
-        } => *quant == 8,
+    if quant != to {
+        return false;
     }
+    from <= to.saturating_add(2) && to <= from + 2
 }
 
-/// Whether the quantiser is within 2 of 8.
-fn is_near(mb: &Mb) -> bool
-    ensures { IsTrue result → IsStepped 8 mb.now }
+/// Whether the macroblock may stand behind a quantiser, and changes it to another one.
+fn steps(from: u8, to: u8, mb: &Mb) -> bool
+    requires { from ≤ 31 }
+    ensures near { IsTrue result → IsStepped from mb.now }
+    ensures to { IsTrue result → quant_after from mb.now ≡ to }
 {
     match mb {
-        Mb::Skip => true,
-        Mb::Intra { quant, blocks: _ } => 6 <= *quant && *quant <= 10,
+        Mb::Skip => from == to,
+        Mb::Intra { quant, blocks: _ } => is_step(from, to, *quant),
         Mb::Inter {
             quant,
             vector: _,
             blocks: _,
-        } => 6 <= *quant && *quant <= 10,
+        } => is_step(from, to, *quant),
     }
 }
 
@@ -189,7 +192,7 @@ fn flat_picture(rt: HostRuntime) -> Result<(), Fail> {
         Kind::I,
         "1 0011 01100100 01100100 01100100 01100100 01100100 01100100",
     )?;
-    assert!(rt; is_steady(&mb));
+    assert!(rt; steps(8, 8, &mb));
     let mut bytes = [0xFF; 1150];
     let mut writer = SliceWriter::start(&mut bytes, &FLAT, true, 0);
     let fits = add_times(&mut writer, &mb, 48);
@@ -207,7 +210,7 @@ fn slice_headers(rt: HostRuntime) -> Result<(), Fail> {
         Kind::I,
         "1 0011 01100100 01100100 01100100 01100100 01100100 01100100",
     )?;
-    assert!(rt; is_steady(&mb));
+    assert!(rt; steps(8, 8, &mb));
     let mut bytes = [0xFF; 1150];
     let mut writer = SliceWriter::start(&mut bytes, &INTRA, false, 207);
     let fits = add_times(&mut writer, &mb, 1);
@@ -234,7 +237,7 @@ fn full_at_the_room(rt: HostRuntime) -> Result<(), Fail> {
         Kind::P,
         "0 00011 0011 01100100 01100100 01100100 01100100 01100100 01100100",
     )?;
-    assert!(rt; is_steady(&mb));
+    assert!(rt; steps(8, 8, &mb));
     let mut bytes = [0xFF; 1150];
     let mut writer = SliceWriter::start(&mut bytes, &PREDICTED, false, 1);
     let large = add_times(&mut writer, &mb, 160);
@@ -260,9 +263,9 @@ fn nothing_changes_where_it_is_full(rt: HostRuntime) -> Result<(), Fail> {
         "0 011 0011 11 0000110 0010 0000011 1 000000 01111111 0000011 1 000000 01111111 0000011 1 000000 01111111 0000011 1 000000 01111111",
     )?;
     let small = read_text(Kind::P, "0 1 11 1 1")?;
-    assert!(rt; is_steady(&mb));
-    assert!(rt; is_near(&large));
-    assert!(rt; is_steady(&small));
+    assert!(rt; steps(8, 8, &mb));
+    assert!(rt; steps(8, 10, &large));
+    assert!(rt; steps(8, 8, &small));
     let mut bytes = [0xFF; 1150];
     let mut writer = SliceWriter::start(&mut bytes, &PREDICTED, false, 1);
     let fits = add_times(&mut writer, &mb, 157);
@@ -273,4 +276,57 @@ fn nothing_changes_where_it_is_full(rt: HostRuntime) -> Result<(), Fail> {
     assert_eq!(rt; size, 1144);
     assert_eq!(rt; &bytes[1142..1144], [0x8F, 0x80].as_slice());
     Ok(())
+}
+
+/// From macroblock 207 on: a vector (4, 2), the same one with quantiser 10, Skip, and an intra macroblock.
+#[test]
+fn predicted_vector_and_quantiser(rt: HostRuntime) -> Result<(), Fail> {
+    let first = read_text(Kind::P, "0 1 11 0000110 0010")?;
+    let second = read_text(Kind::P, "0 011 11 11 0000110 0010")?;
+    let last = read_text(
+        Kind::P,
+        "0 000100 0011 11 01100100 01100100 01100100 01100100 01100100 01100100",
+    )?;
+    assert!(rt; steps(8, 8, &first));
+    assert!(rt; steps(8, 10, &second));
+    assert!(rt; steps(10, 10, &last));
+    let mut bytes = [0xFF; 1150];
+    let mut writer = SliceWriter::start(&mut bytes, &PREDICTED, false, 207);
+    assert_eq!(rt; writer.add(&first), Added::Fits);
+    assert_eq!(rt; writer.add(&second), Added::Fits);
+    assert_eq!(rt; writer.add(&Mb::Skip), Added::Fits);
+    assert_eq!(rt; writer.add(&last), Added::Fits);
+    let size = writer.finish();
+    assert_eq!(rt; size, 15);
+    assert_eq!(rt;
+        &bytes[..15],
+        [
+            0xD9, 0xE8, 0xE8, 0x00, 0xB8, 0x62, 0x3F, 0xE1, 0x9B, 0x23, 0x23, 0x23, 0x23, 0x23,
+            0x20
+        ]
+        .as_slice()
+    );
+    Ok(())
+}
+
+/// What a caller knows of its bytes once the writer is gone.
+fn write_skip(bytes: &mut [u8], header: &Header, begins: bool, first: u32) -> u32
+    requires room { 1150 ≤ length bytes.old }
+    requires short { length bytes.old ≤ 65535 }
+    requires header { IsHeader header.now }
+    requires place { IsPlace header.now begins first }
+    requires kind { header.now.kind ≡ kinds.P }
+    ensures { bits_of (take result bytes.new) ≡ padded (slice_text header.now begins first (mbs.Skip ∷ [])) }
+{
+    let mut writer = SliceWriter::start(bytes, header, begins, first);
+    let _added = writer.add(&Mb::Skip);
+    writer.finish()
+}
+
+#[test]
+fn one_skip(rt: HostRuntime) {
+    let mut bytes = [0xFF; 1150];
+    let size = write_skip(&mut bytes, &PREDICTED, false, 207);
+    assert_eq!(rt; size, 5);
+    assert_eq!(rt; &bytes[..5], [0xD9, 0xE8, 0xE8, 0x00, 0xC0].as_slice());
 }

@@ -195,6 +195,7 @@ impl<'a> SliceWriter<'a> {
         ensures text { (h : Header) (begins : Bool) (first : ℕ) (mbs : List Mb) → Holds self.entry h begins first mbs
             → bits_of (take result self.exit.0.now) ≡ padded (slice_text h begins first mbs) }
         ensures same { self.exit.0.now ≡ bytes_in self.entry }
+        ensures within { result ≤ length (bytes_in self.entry) }
     {
         (self.len + 7) / 8
     }

@@ -1,6 +1,7 @@
 //! Texts at the front of bytes, padded with zero bits up to a whole byte.
 ghost use Rattle.std.specs.Prelude.{◌≡◌, ℕ, ◌+◌, ◌*◌, ◌<◌, ◌≤◌, ◌^◌, ◌++◌, length, take};
 ghost use Rattle.h263_bits.specs.Bits.{spelled};
+ghost use Rattle.h263_bits.specs.Written.{Appends, len_of, to_byte};
 ghost use Rattle.h263_types.specs.Blocks.{IsQuant, IsMb, IsOfKind};
 ghost use Rattle.picture_header.specs.Ranges.{IsHeader};
 ghost use Rattle.macroblock_layer.specs.Written.{mb_text, IsStepped, AreWhole, IsWhole};
@@ -12,8 +13,19 @@ use h263_types::{Block, Kind, Mb, Vector};
 use macroblock_layer::write_mb;
 use picture_header::Header;
 
-#[tactic(auto, using(crate::proofs::Fronts::front_is))]
+// Appends zero bits up to a byte. Answers how many bits were there before.
+fn pad(writer: &mut BitWriter<'_>) -> u32
+    ensures bits { Appends writer.old writer.new (spelled (to_byte (len_of writer.old)) 0) }
+    ensures len { len_of writer.new ≡ len_of writer.old + to_byte (len_of writer.old) }
+    ensures before { result ≡ len_of writer.old }
+{
+    let len = writer.len();
+    writer.align();
+    len
+}
+
 /// Writes what stands before a slice's macroblocks. Answers how many bits it has.
+#[tactic(auto, using(crate::proofs::Fronts::front_is))]
 pub fn write_front(bytes: &mut [u8], header: &Header, begins: bool, first: u32) -> u32
     requires room { 1150 ≤ length bytes.old }
     requires short { length bytes.old ≤ 65535 }
@@ -25,12 +37,9 @@ pub fn write_front(bytes: &mut [u8], header: &Header, begins: bool, first: u32) 
 {
     let mut writer = BitWriter::new(bytes);
     write_opening(&mut writer, header, begins, first);
-    let len = writer.len();
-    writer.align();
-    len
+    pad(&mut writer)
 }
 
-#[tactic(auto, using(crate::proofs::Fronts::front_is))]
 /// Writes a macroblock's text behind the `count` bits of a number. Answers how many bits that are together.
 pub fn write_apart(
     bytes: &mut [u8; 1063],
@@ -56,9 +65,7 @@ pub fn write_apart(
     let mut writer = BitWriter::new(bytes);
     writer.put(front, count);
     write_mb(&mut writer, kind, quant, predictor, mb);
-    let len = writer.len();
-    writer.align();
-    len
+    pad(&mut writer)
 }
 
 /// Puts bytes into others, from place `at` on.

@@ -18,7 +18,7 @@ returns-clause-text c =
     let len : length whole ≡ c.args.count + length text = omega (arith, length-append front text, length-spelled c.args.count c.args.front) in
     let all : len_of c.write_mb.new.writer ≡ length whole = omega (arith, len, c.write_mb.ensures.len, c.put.ensures.len, c.new-writer.ensures.len) in
     let pad : List Bool = spelled (to_byte (len_of c.write_mb.new.writer)) 0 in
-    let text_is : written c.align.new.self ≡ padded whole =
-    c.align.ensures.bits.text ∙ ap (λ (t : List Bool). t ++ pad) second ∙ ap (λ (k : ℕ). whole ++ spelled (to_byte k) 0) all in
-    let end : len_of c.align.new.self ≡ length whole + to_byte (length whole) = c.align.ensures.len ∙ ap (λ (k : ℕ). k + to_byte k) all in
-    front_is whole c.align.new.self.bytes.now c.align.new.self.len text_is end c.align.new.self.within
+    let text_is : written c.pad.new.writer ≡ padded whole =
+    c.pad.ensures.bits.text ∙ ap (λ (t : List Bool). t ++ pad) second ∙ ap (λ (k : ℕ). whole ++ spelled (to_byte k) 0) all in
+    let end : len_of c.pad.new.writer ≡ length whole + to_byte (length whole) = c.pad.ensures.len ∙ ap (λ (k : ℕ). k + to_byte k) all in
+    front_is whole c.pad.new.writer.bytes.now c.pad.new.writer.len text_is end c.pad.new.writer.within

@@ -1,7 +1,6 @@
-use Rattle.std.proofs.Common.{arith}
 use Rattle.h263_bits.specs.Reading.{Bits}
 use Rattle.h263_bits.specs.Bits.{number}
-use Rattle.std.proofs.Common.{ℕ, ◌%◌, ◌∙◌, ap, take}
+use Rattle.std.proofs.Common.{◌%◌, ◌∙◌, ap, take}
 use Rattle.slice_layer.proofs.Fronts.{last_again}
 use Rattle.slice_layer.proofs.writing.SliceWriter.last_bits.Goals as goal
 
