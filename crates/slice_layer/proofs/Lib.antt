@@ -1,0 +1,12 @@
+pub mod Bodies
+pub mod Heads
+pub mod Marked
+pub mod Padding
+pub mod Ranges
+pub mod Reach
+pub mod Steps
+pub mod Openings
+pub mod Adding
+pub mod Fronts
+pub mod Holding
+pub mod Written

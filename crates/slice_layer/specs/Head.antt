@@ -1,0 +1,68 @@
+-- The slice header (H.263, K.2, with the fields of Annex N behind it): behind the picture header, and of a later slice.
+use Rattle.std.specs.Prelude.{ℕ, Bool, true, false, Option, Some, None, nat_lt, ◌==◌, if◌then◌else◌}
+use Rattle.h263_types.specs.declared.format.Format.{Format}
+use Rattle.h263_types.specs.declared.format.Format.TheVariants.{SubQcif, Qcif, Cif}
+use Rattle.h263_types.specs.Sizes.{mbs_of}
+use Rattle.h263_bits.specs.declared.fault.FaultKind.TheVariants as faults
+use Rattle.h263_bits.specs.Syntax.{Syntax, Allowed, any, only, done, field, part}
+use Rattle.picture_header.specs.declared.header.Header.{Header}
+
+-- the bits of a macroblock's number (MBA, K.2.5)
+abbrev pub address_bits : Format → ℕ
+address_bits SubQcif = 6
+address_bits Qcif = 7
+address_bits Cif = 9
+
+-- a later slice begins with a macroblock of the picture, and not with its first
+abbrev pub is_later : Format → Allowed ℕ
+is_later f n = if n == 0 then Some faults.Address else (if nat_lt n (mbs_of f) then None else Some faults.Address)
+
+-- a quantiser (SQUANT, K.2.7)
+abbrev pub is_quant : Allowed ℕ
+is_quant n = if n == 0 then Some faults.Quant else None
+
+-- TRPI, and in P the picture header's TRP again (Annex N)
+unfoldable pub reference : Option ℕ → Syntax (Unit {0})
+reference None = field 1 (only 0 faults.SliceReference) λ refers. done tt
+reference (Some trp) =
+    field 1 (only 1 faults.SliceReference) λ refers.
+    field 10 (only trp faults.SliceReference) λ again.
+    done tt
+
+-- what begins behind the picture header: its first macroblock, which is the picture's first, and the picture's quantiser
+unfoldable pub first_head : Header → Syntax (ℕ × ℕ)
+first_head h =
+    field 1 (only 1 faults.Marker) λ sepb1.
+    field (address_bits h.format) (only 0 faults.Address) λ mba.
+    field 1 (only 1 faults.Marker) λ sepb3.
+    done (mba, h.quant)
+
+-- MBA and SQUANT of a later slice, behind the last bit of its start code
+unfoldable pub place : Format → Syntax (ℕ × ℕ)
+place f =
+    field 1 (only 1 faults.NoStart) λ start.
+    field 1 (only 1 faults.Marker) λ sepb1.
+    field (address_bits f) (is_later f) λ mba.
+    field 5 is_quant λ squant.
+    field 1 (only 1 faults.Marker) λ sepb3.
+    done (mba, squant)
+
+-- GFID, TRI, TRPI and TRP, BCI
+unfoldable pub tail : Option ℕ → Syntax (Unit {0})
+tail trp =
+    field 2 any λ gfid.
+    field 1 (only 0 faults.SliceReference) λ tri.
+    part (reference trp) any λ again.
+    field 2 (only 1 faults.Bci) λ bci.
+    done tt
+
+unfoldable pub later_head : Header → Syntax (ℕ × ℕ)
+later_head h =
+    part (place h.format) any λ at.
+    part (tail h.trp) any λ end.
+    done at
+
+-- the first macroblock and the quantiser of a slice of the picture with this header, which stands just before or doesn't
+abbrev pub head : Header → Bool → Syntax (ℕ × ℕ)
+head h true = first_head h
+head h false = later_head h

@@ -1,0 +1,6 @@
+pub mod Around
+pub mod Filled
+pub mod Head
+pub mod Text
+pub mod Written
+pub mod Writer

@@ -1,0 +1,52 @@
+-- What a slice's writer holds: the slice's text up to its last macroblock, and what the next one depends on.
+use Rattle.std.specs.Prelude.{◌≡◌, ℕ, ◌+◌, List, length, take, Bool, nat_lt, if◌then◌else◌}
+use Rattle.std.specs.Borrow.{GName}
+use Rattle.h263_types.specs.declared.Kind.{Kind}
+use Rattle.h263_types.specs.declared.format.Format.{Format}
+use Rattle.h263_types.specs.declared.blocks.Mb.{Mb}
+use Rattle.picture_header.specs.declared.header.Header.{Header}
+use Rattle.slice_layer.specs.declared.writing.SliceWriter.{SliceWriter}
+use Rattle.slice_layer.specs.declared.writing.Added.{Added}
+use Rattle.slice_layer.specs.declared.writing.Added.TheVariants.{Fits, Full}
+use Rattle.slice_layer.specs.Around.{vectors_of}
+use Rattle.slice_layer.specs.Written.{slice_text, quant_behind, IsFront}
+
+-- the kind and the format of the picture
+abbrev pub kind_of : SliceWriter → Kind
+kind_of w = w.kind
+
+abbrev pub format_of : SliceWriter → Format
+format_of w = w.format
+
+-- the numbers of the slice's first macroblock and of the next one
+abbrev pub first_of : SliceWriter → ℕ
+first_of w = w.first
+
+abbrev pub next_of : SliceWriter → ℕ
+next_of w = w.next
+
+-- the quantiser in force
+abbrev pub quant_of : SliceWriter → ℕ
+quant_of w = w.quant
+
+-- the bytes that were lent, as they are now, and the name of their loan
+abbrev pub bytes_in : SliceWriter → List ℕ
+bytes_in w = w.bytes.now
+
+abbrev pub loan_of : SliceWriter → GName
+loan_of w = w.bytes.ghost_name
+
+-- the writer holds these macroblocks of the slice that begins with macroblock `first`: the bytes begin with their text
+pub record Holds (w : SliceWriter) (h : Header) (begins : Bool) (first : ℕ) (mbs : List Mb) : Type 0 where
+  pub text : IsFront (slice_text h begins first mbs) (bytes_in w)
+  pub len : w.len ≡ length (slice_text h begins first mbs)
+  pub kind : kind_of w ≡ h.kind
+  pub format : format_of w ≡ h.format
+  pub from : first_of w ≡ first
+  pub next : next_of w ≡ first + length mbs
+  pub quant : quant_of w ≡ quant_behind h.quant mbs
+  pub vectors : take (next_of w) w.vectors ≡ vectors_of first mbs
+
+-- whether a text of so many bytes fits
+abbrev pub answer : ℕ → ℕ → Added
+answer room bytes = if nat_lt room bytes then Full else Fits

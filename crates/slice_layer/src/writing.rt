@@ -1,0 +1,202 @@
+//! Writes slices.
+ghost use Rattle.std.specs.Prelude.{◌≡◌, ℕ, ◌+◌, ◌*◌, ◌/◌, ◌%◌, ◌<◌, ◌≤◌, ◌^◌, ◌++◌, [], ◌∷◌, length, take, drop, List, Bool};
+ghost use Rattle.h263_bits.specs.Bits.{bits_of, spelled};
+ghost use Rattle.h263_types.specs.Blocks.{IsQuant, IsMb, IsOfKind};
+ghost use Rattle.h263_types.specs.Sizes.{mbs_of, columns_of};
+ghost use Rattle.h263_types.specs.declared.blocks.Mb.{Mb};
+ghost use Rattle.picture_header.specs.declared.header.Header.{Header};
+ghost use Rattle.picture_header.specs.Ranges.{IsHeader};
+ghost use Rattle.macroblock_layer.specs.Prediction.{predictor_of};
+ghost use Rattle.macroblock_layer.specs.Written.{IsStepped, IsWhole};
+ghost use Rattle.slice_layer.specs.Around.{vector_of, quant_after};
+
+use crate::writing_text::{paste, write_apart, write_front};
+use h263_bits::BitReader;
+use h263_types::{Format, Kind, Mb, Vector};
+use macroblock_layer::predictor;
+use picture_header::Header;
+
+const NO_VECTOR: Vector = Vector { x: 0, y: 0 };
+
+/// Whether a macroblock was added.
+#[derive(Clone, Copy, Debug, PartialEq, Eq)]
+pub enum Added {
+    Fits,
+    /// With it the slice would have more bytes than there is room for; it was not added.
+    Full,
+}
+
+/// Writes a slice, macroblock after macroblock, into bytes that it was lent (H.263, Annex K). At each time they begin with the
+/// text so far, padded with zero bits up to a whole byte.
+#[derive(Drop)]
+pub struct SliceWriter<'a> {
+    bytes: &'a mut [u8],
+    // How many bits are written.
+    len: u32,
+    kind: Kind,
+    format: Format,
+    quant: u8,
+    first: u32,
+    next: u32,
+    // The vector of each macroblock at its number: none before the slice.
+    vectors: [Vector; 396],
+    ghost short: { length bytes.now ≤ 65535 },
+    ghost inside: { len ≤ 8 * length bytes.now },
+    ghost force: { IsQuant quant },
+    ghost order: { first ≤ next },
+    ghost within: { next ≤ 396 },
+}
+
+fn vector_of(mb: &Mb) -> Vector
+    ensures { result ≡ vector_of mb.now }
+{
+    match mb {
+        Mb::Inter {
+            quant: _,
+            vector,
+            blocks: _,
+        } => *vector,
+        _ => NO_VECTOR,
+    }
+}
+
+fn quant_after(quant: u8, mb: &Mb) -> u8
+    requires quant { IsQuant quant }
+    requires mb { IsMb mb.now }
+    ensures quant { result ≡ quant_after quant mb.now }
+    ensures range { IsQuant result }
+{
+    match mb {
+        Mb::Skip => quant,
+        Mb::Intra { quant, blocks: _ } => *quant,
+        Mb::Inter {
+            quant,
+            vector: _,
+            blocks: _,
+        } => *quant,
+    }
+}
+
+impl<'a> SliceWriter<'a> {
+    ghost use Rattle.slice_layer.specs.Written.{slice_text, padded, bytes_of, IsPlace, IsFront};
+    ghost use Rattle.slice_layer.specs.Writer.{kind_of, format_of, first_of, next_of, quant_of, bytes_in, loan_of, Holds, answer};
+
+    /// A writer of the slice that begins with macroblock `first`. It writes the slice header, behind the picture header where
+    /// the slice begins a picture.
+    pub fn start(bytes: &'a mut [u8], header: &Header, begins: bool, first: u32) -> SliceWriter<'a>
+        requires room { 1150 ≤ length bytes.old }
+        requires short { length bytes.old ≤ 65535 }
+        requires header { IsHeader header.now }
+        requires place { IsPlace header.now begins first }
+        ensures holds { Holds result header.now begins first [] }
+        ensures loan { loan_of result ≡ bytes.entry.ghost_name }
+        ensures room { length (bytes_in result) ≡ length bytes.old }
+    {
+        let len = write_front(bytes, header, begins, first);
+        SliceWriter {
+            bytes,
+            len,
+            kind: header.kind,
+            format: header.format,
+            quant: header.quant,
+            first,
+            next: first,
+            vectors: [NO_VECTOR; 396],
+        }
+    }
+
+    // The prediction of the next macroblock's vector.
+    fn predictor(&self) -> Vector
+        ensures { result ≡ predictor_of (take (next_of self.now) self.now.vectors) (first_of self.now) (next_of self.now) (columns_of (format_of self.now)) }
+    {
+        predictor(
+            &self.vectors[..self.next as usize],
+            self.first,
+            self.next,
+            self.format.columns(),
+        )
+    }
+
+    // The bits behind the last whole byte.
+    fn last_bits(&self) -> u32
+        ensures bits { take (8 * (self.now.len / 8)) (bits_of (bytes_in self.now)) ++ spelled (self.now.len % 8) result ≡ take self.now.len (bits_of (bytes_in self.now)) }
+        ensures below { result < 2 ^ (self.now.len % 8) }
+    {
+        let from = self.len - self.len % 8;
+        BitReader::new(self.bytes, from, self.len).peek(self.len % 8)
+    }
+
+    // What the macroblocks behind this one depend on.
+    fn keep(&mut self, mb: &Mb)
+        requires mb { IsMb mb.now }
+        requires left { next_of self.old < 396 }
+        ensures bytes { bytes_in self.new ≡ bytes_in self.old }
+        ensures loan { loan_of self.new ≡ loan_of self.old }
+        ensures len { self.new.len ≡ self.old.len }
+        ensures kind { kind_of self.new ≡ kind_of self.old }
+        ensures format { format_of self.new ≡ format_of self.old }
+        ensures first { first_of self.new ≡ first_of self.old }
+        ensures next { next_of self.new ≡ next_of self.old + 1 }
+        ensures quant { quant_of self.new ≡ quant_after (quant_of self.old) mb.now }
+        ensures vectors { take (next_of self.new) self.new.vectors ≡ take (next_of self.old) self.old.vectors ++ vector_of mb.now ∷ [] }
+    {
+        self.vectors[self.next as usize] = vector_of(mb);
+        self.quant = quant_after(self.quant, mb);
+        self.next += 1;
+    }
+
+    /// Adds the next macroblock. Where the slice with it, up to a whole byte, would have more bytes than were lent, it answers
+    /// `Full`, and nothing changes.
+    pub fn add(&mut self, mb: &Mb) -> Added
+        requires mb { IsMb mb.now }
+        requires kind { IsOfKind (kind_of self.old) mb.now }
+        requires step { IsStepped (quant_of self.old) mb.now }
+        requires left { next_of self.old < mbs_of (format_of self.old) }
+        ensures answer { (h : Header) (begins : Bool) (first : ℕ) (mbs : List Mb) → Holds self.old h begins first mbs
+            → result ≡ answer (length (bytes_in self.old)) (bytes_of (slice_text h begins first (mbs ++ mb.now ∷ []))) }
+        ensures fits { (h : Header) (begins : Bool) (first : ℕ) (mbs : List Mb) → Holds self.old h begins first mbs
+            → result ≡ Added.Fits → Holds self.new h begins first (mbs ++ mb.now ∷ []) }
+        ensures full { result ≡ Added.Full → self.new ≡ self.old }
+        // There is room for the first macroblock.
+        ensures first { (h : Header) (begins : Bool) (first : ℕ) → IsHeader h → 1150 ≤ length (bytes_in self.old)
+            → Holds self.old h begins first [] → result ≡ Added.Fits }
+        ensures kind { kind_of self.new ≡ kind_of self.old }
+        ensures format { format_of self.new ≡ format_of self.old }
+        ensures from { first_of self.new ≡ first_of self.old }
+        ensures next { result ≡ Added.Fits → next_of self.new ≡ next_of self.old + 1 }
+        ensures quant { result ≡ Added.Fits → quant_of self.new ≡ quant_after (quant_of self.old) mb.now }
+        ensures whole { IsWhole mb.now }
+        ensures loan { loan_of self.new ≡ loan_of self.old }
+        ensures room { length (bytes_in self.new) ≡ length (bytes_in self.old) }
+    {
+        let predictor = self.predictor();
+        let front = self.last_bits();
+        let count = self.len % 8;
+        let mut apart = [0; 1063];
+        let len = write_apart(
+            &mut apart, front, count, self.kind, self.quant, predictor, mb,
+        );
+        let at = (self.len / 8) as usize;
+        let size = ((len + 7) / 8) as usize;
+        if self.bytes.len() < at + size {
+            return Added::Full;
+        }
+        paste(self.bytes, at, &apart[..size]);
+        self.len += len - count;
+        self.keep(mb);
+        Added::Fits
+    }
+
+    /// Ends the slice with zero bits up to a whole byte. Answers how many bytes it has: the first ones of those that were lent.
+    pub fn finish(self) -> u32
+        requires some { first_of self < next_of self }
+        ensures bytes { (h : Header) (begins : Bool) (first : ℕ) (mbs : List Mb) → Holds self.entry h begins first mbs
+            → result ≡ bytes_of (slice_text h begins first mbs) }
+        ensures text { (h : Header) (begins : Bool) (first : ℕ) (mbs : List Mb) → Holds self.entry h begins first mbs
+            → bits_of (take result self.exit.0.now) ≡ padded (slice_text h begins first mbs) }
+        ensures same { self.exit.0.now ≡ bytes_in self.entry }
+        ensures within { result ≤ length (bytes_in self.entry) }
+    {
+        (self.len + 7) / 8
+    }
+}

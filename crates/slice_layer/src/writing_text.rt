@@ -1,0 +1,110 @@
+//! Texts at the front of bytes, padded with zero bits up to a whole byte.
+ghost use Rattle.std.specs.Prelude.{◌≡◌, ℕ, ◌+◌, ◌*◌, ◌<◌, ◌≤◌, ◌^◌, ◌++◌, length, take};
+ghost use Rattle.h263_bits.specs.Bits.{spelled};
+ghost use Rattle.h263_bits.specs.Written.{Appends, len_of, to_byte};
+ghost use Rattle.h263_types.specs.Blocks.{IsQuant, IsMb, IsOfKind};
+ghost use Rattle.picture_header.specs.Ranges.{IsHeader};
+ghost use Rattle.macroblock_layer.specs.Written.{mb_text, IsStepped, AreWhole, IsWhole};
+ghost use Rattle.slice_layer.specs.Written.{opening_text, IsPlace, IsFront};
+
+use crate::writing_head::write_opening;
+use h263_bits::BitWriter;
+use h263_types::{Block, Kind, Mb, Vector};
+use macroblock_layer::write_mb;
+use picture_header::Header;
+
+// Appends zero bits up to a byte. Answers how many bits were there before.
+fn pad(writer: &mut BitWriter<'_>) -> u32
+    ensures bits { Appends writer.old writer.new (spelled (to_byte (len_of writer.old)) 0) }
+    ensures len { len_of writer.new ≡ len_of writer.old + to_byte (len_of writer.old) }
+    ensures before { result ≡ len_of writer.old }
+{
+    let len = writer.len();
+    writer.align();
+    len
+}
+
+/// Writes what stands before a slice's macroblocks. Answers how many bits it has.
+#[tactic(auto, using(crate::proofs::Fronts::front_is))]
+pub fn write_front(bytes: &mut [u8], header: &Header, begins: bool, first: u32) -> u32
+    requires room { 1150 ≤ length bytes.old }
+    requires short { length bytes.old ≤ 65535 }
+    requires header { IsHeader header.now }
+    requires place { IsPlace header.now begins first }
+    ensures text { IsFront (opening_text header.now begins first) bytes.new }
+    ensures len { result ≡ length (opening_text header.now begins first) }
+    ensures few { result ≤ 188 }
+{
+    let mut writer = BitWriter::new(bytes);
+    write_opening(&mut writer, header, begins, first);
+    pad(&mut writer)
+}
+
+/// Writes a macroblock's text behind the `count` bits of a number. Answers how many bits that are together.
+pub fn write_apart(
+    bytes: &mut [u8; 1063],
+    front: u32,
+    count: u32,
+    kind: Kind,
+    quant: u8,
+    predictor: Vector,
+    mb: &Mb,
+) -> u32
+    requires few { count < 8 }
+    requires fits { front < 2 ^ count }
+    requires quant { IsQuant quant }
+    requires mb { IsMb mb.now }
+    requires kind { IsOfKind kind mb.now }
+    requires step { IsStepped quant mb.now }
+    ensures text { IsFront (spelled count front ++ mb_text kind quant predictor mb.now) bytes.new }
+    ensures len { result ≡ count + length (mb_text kind quant predictor mb.now) }
+    ensures short { result ≤ 8499 }
+    ensures whole { IsWhole mb.now }
+{
+    see_mb(mb);
+    let mut writer = BitWriter::new(bytes);
+    writer.put(front, count);
+    write_mb(&mut writer, kind, quant, predictor, mb);
+    pad(&mut writer)
+}
+
+/// Puts bytes into others, from place `at` on.
+pub fn paste(bytes: &mut [u8], at: usize, text: &[u8])
+    requires room { at + length text.now ≤ length bytes.old }
+    ensures front { take (at + length text.now) bytes.new ≡ take at bytes.old ++ text.now }
+{
+    bytes[at..at + text.len()].copy_from_slice(text);
+}
+
+// A block has 64 levels. This is known of the array once it is seen as a slice.
+fn see_block(block: &Block)
+    ensures { length block.now.levels ≡ 64 }
+{
+    let levels: &[i16] = &block.levels;
+    let _count = levels.len();
+}
+
+fn see_blocks(blocks: &[Block; 6])
+    ensures { AreWhole blocks.now }
+{
+    see_block(&blocks[0]);
+    see_block(&blocks[1]);
+    see_block(&blocks[2]);
+    see_block(&blocks[3]);
+    see_block(&blocks[4]);
+    see_block(&blocks[5]);
+}
+
+fn see_mb(mb: &Mb)
+    ensures { IsWhole mb.now }
+{
+    match mb {
+        Mb::Skip => {}
+        Mb::Intra { quant: _, blocks } => see_blocks(blocks),
+        Mb::Inter {
+            quant: _,
+            vector: _,
+            blocks,
+        } => see_blocks(blocks),
+    }
+}
