@@ -57,3 +57,6 @@ fn samples(frame: PictureRef<'_>, mb: u32) -> [u8; 256]
     luma(frame, mb, Vector { x: 0, y: 0 }, 0, &mut block);
     block
 }
+
+#[cfg(test)]
+mod tests;
