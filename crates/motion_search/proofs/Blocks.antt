@@ -13,7 +13,9 @@ use Rattle.h263_planes.specs.Picture.{Picture}
 use Rattle.h263_planes.specs.declared.Plane.TheVariants.{Y}
 use Rattle.half_sample.specs.Prediction.{predicted_sample}
 use Rattle.motion_search.specs.declared.candidate.Candidate.{Candidate}
-use Rattle.motion_search.specs.Cost.{square, difference_of, lead_of}
+use Rattle.h263_planes.specs.Samples.{sample_at}
+use Rattle.std.proofs.Math.ListN.{drop_of_length-le}
+use Rattle.motion_search.specs.Cost.{square, differences_from, difference_of, lead_of}
 
 -- ---- the 256 numbers of a block
 
@@ -113,3 +115,21 @@ row_small block row j hj hb hr fb fr =
     let long : length (chunk (16 * j) 16 block) ≡ 16 = length-chunk (16 * j) 16 block (omega arith) in
     subst (λ (l : List ℕ). differences l row ≤ 4080) (sym e)
     (differences_below (chunk (16 * j) 16 block) row 16 long hr (below_from_Fits w8 (chunk (16 * j) 16 block) (chunk-fits w8 (16 * j) 16 block (λ k. record { fits = fb k }))) (bytes row fr))
+
+pub one_row_of : (p : Picture) (block row : List ℕ) (x y j : ℕ) →
+    ((xs ys us vs : List ℕ) → length xs ≡ length us → differences (xs ++ ys) (us ++ vs) ≡ differences xs us + differences ys vs) →
+    j < 16 → length block ≡ 256 → length row ≡ 16 → ((i : ℕ) → i < 16 → get_or row i 0 ≡ sample_at p Y (x + i) (y + j)) →
+    differences (slice_range block (16 * j) (16 * j + 16)) row + differences_from block p x y (j + 1) ≡ differences_from block p x y j
+unfolding differences_from
+one_row_of p block row x y j add hj hb hr same = sym (one_row_more (λ i k. sample_at p Y (x + i) (y + k)) block row j add hj hb hr same)
+
+-- all rows, and none
+pub all_rows : (block : List ℕ) (p : Picture) (x y : ℕ) → differences_from block p x y 0 ≡ differences block (square (λ i j. sample_at p Y (x + i) (y + j)))
+unfolding differences_from
+all_rows block p x y = refl
+
+pub no_rows : (block : List ℕ) (p : Picture) (x y j : ℕ) → length block ≡ 256 → 16 ≤ j → differences_from block p x y j ≡ 0
+unfolding differences_from
+no_rows block p x y j long end =
+    let past : length block ≤ 16 * j = omega arith in
+    ap (λ (l : List ℕ). differences l (drop (16 * j) (square (λ a b. sample_at p Y (x + a) (y + b))))) (drop_of_length-le block past)

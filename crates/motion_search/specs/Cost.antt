@@ -1,5 +1,5 @@
 -- What a vector costs.
-use Rattle.std.specs.Prelude.{ℕ, ◌+◌, ◌*◌, ◌/◌, ◌%◌, ℤ, pos, ◌-ℤ◌, ◌≤ℤ◌, neg_ℤ, List, map, ◌&&◌, if◌then◌else◌}
+use Rattle.std.specs.Prelude.{ℕ, ◌+◌, ◌*◌, ◌/◌, ◌%◌, ℤ, pos, ◌-ℤ◌, ◌≤ℤ◌, neg_ℤ, List, map, drop, ◌&&◌, if◌then◌else◌}
 use Rattle.std.specs.List.{range_with_len}
 use Rattle.std.specs.Ordering.{int_eq}
 use Rattle.h263_types.specs.declared.vector.Vector.{Vector}
@@ -23,6 +23,11 @@ samples_of p mb = square (λ i j. sample_at p Y (16 * (mb % columns_of p.format)
 abbrev pub predicted_of : Picture → ℕ → ℕ → Vector → List ℕ
 predicted_of reference mb rounding v =
     square (λ i j. predicted_sample reference Y (16 * (mb % columns_of reference.format) + i) (16 * (mb / columns_of reference.format) + j) v rounding)
+
+-- the differences of the rows from row j on of a block from those of the block at column x of row y
+unfoldable pub differences_from : List ℕ → Picture → ℕ → ℕ → ℕ → ℕ
+differences_from block p x y j =
+    differences (drop (16 * j) block) (drop (16 * j) (square (λ a b. sample_at p Y (x + a) (y + b))))
 
 -- the differences of a block of samples from what a vector predicts
 unfoldable pub difference_of : List ℕ → Picture → ℕ → ℕ → Vector → ℕ

@@ -3,11 +3,11 @@ ghost use Rattle.std.specs.Prelude.{◌≡◌, ℕ, ◌+◌, ◌*◌, ◌%◌, �
 ghost use Rattle.h263_types.specs.Sizes.{columns_of, mbs_of};
 ghost use Rattle.h263_types.specs.Vectors.{InReach, whole_place};
 ghost use Rattle.h263_planes.specs.Lent.{picture};
-ghost use Rattle.h263_planes.specs.Samples.{Inside, sample_at};
+ghost use Rattle.h263_planes.specs.Samples.{Inside};
 ghost use Rattle.h263_planes.specs.declared.Plane.TheVariants.{Y};
 ghost use Rattle.sad_kernel.specs.Differences.{differences};
 ghost use Rattle.motion_search.specs.Order.{first_of};
-ghost use Rattle.motion_search.specs.Cost.{candidate_of, square, IsCost};
+ghost use Rattle.motion_search.specs.Cost.{candidate_of, differences_from, IsCost};
 ghost use Rattle.motion_search.specs.Vectors.{IsEven};
 
 use crate::candidate::{Candidate, better, enough};
@@ -16,7 +16,7 @@ use h263_types::Vector;
 use sad_kernel::laws::parts_add;
 use sad_kernel::sad;
 
-// The differences of a row of sixteen samples.
+// The differences of row `j` of a block from the sixteen samples of Y below column `x` of row `y`.
 #[inline(always)]
 fn row_differences(block: &[u8; 256], row: &[u8], j: u32) -> u32
     requires row { length row.now ≡ 16 }
@@ -28,8 +28,39 @@ fn row_differences(block: &[u8; 256], row: &[u8], j: u32) -> u32
     sad(&block[at..at + 16], row)
 }
 
-// The differences of a block from the 16 x 16 samples of Y from column `x` of row `y` on, or `None` where they are at
-// least `enough`: it asks after each row, and reads no further once the sum has come to it.
+// The differences of row `j` of a block from the same row of the block at column `x` of row `y`: by them those of the
+// rows from `j` on are more than those of the rows after it.
+#[inline(always)]
+fn lent_row(block: &[u8; 256], reference: PictureRef<'_>, x: u32, y: u32, j: u32) -> u32
+    requires inside { Inside (picture reference).format Y x (y + 15) 16 }
+    requires x { x < 65536 }
+    requires y { y < 60000 }
+    requires j { j < 16 }
+    ensures value { result + differences_from block.now (picture reference.entry) x y (j + 1) ≡ differences_from block.now (picture reference.entry) x y j }
+    ensures most { result ≤ 4080 }
+{
+    parts_add();
+    row_differences(block, reference.row(Plane::Y, x, y + j, 16), j)
+}
+
+// The differences of four rows from `j` on.
+#[inline(always)]
+fn four_rows(block: &[u8; 256], reference: PictureRef<'_>, x: u32, y: u32, j: u32) -> u32
+    requires inside { Inside (picture reference).format Y x (y + 15) 16 }
+    requires x { x < 65536 }
+    requires y { y < 60000 }
+    requires j { j ≤ 12 }
+    ensures value { result + differences_from block.now (picture reference.entry) x y (j + 4) ≡ differences_from block.now (picture reference.entry) x y j }
+    ensures most { result ≤ 16320 }
+{
+    lent_row(block, reference, x, y, j)
+        + lent_row(block, reference, x, y, j + 1)
+        + lent_row(block, reference, x, y, j + 2)
+        + lent_row(block, reference, x, y, j + 3)
+}
+
+// The differences of a block from the one at column `x` of row `y`, or `None` where they are at least `enough`: it asks
+// after each four rows, and reads no further once the sum has come to it.
 #[inline(always)]
 fn differences_until(
     block: &[u8; 256],
@@ -41,14 +72,13 @@ fn differences_until(
     requires inside { Inside (picture reference).format Y x (y + 15) 16 }
     requires x { x < 65536 }
     requires y { y < 60000 }
-    ensures none { IsNone result ↔ (enough ≤ differences block.now (square (λ i j. sample_at (picture reference.entry) Y (x + i) (y + j)))) }
-    ensures some { IfSome result (λ sum. sum ≡ differences block.now (square (λ i j. sample_at (picture reference.entry) Y (x + i) (y + j)))) }
+    ensures none { IsNone result ↔ (enough ≤ differences_from block.now (picture reference.entry) x y 0) }
+    ensures some { IfSome result (λ sum. sum ≡ differences_from block.now (picture reference.entry) x y 0) }
     ensures most { IfSome result (λ sum. sum ≤ 65280) }
 {
-    parts_add();
     let mut so_far = 0;
-    for j in 0..16u32 {
-        so_far += row_differences(block, reference.row(Plane::Y, x, y + j, 16), j);
+    for k in 0..4u32 {
+        so_far += four_rows(block, reference, x, y, 4 * k);
         if so_far >= enough {
             return None;
         }

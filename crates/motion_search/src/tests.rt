@@ -6,7 +6,9 @@ use std::process::Abort;
 
 // The bytes of a sub-QCIF picture: 128 x 96 of Y, 64 x 48 of Cb, 64 x 48 of Cr.
 const SIZE: usize = 18_432;
+
 const WIDTH: usize = 128;
+
 const HEIGHT: usize = 96;
 
 // The search in pictures of these bytes: the vector's components and its cost.

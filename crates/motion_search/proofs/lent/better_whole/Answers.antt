@@ -5,8 +5,8 @@ use Rattle.h263_planes.specs.Samples.{sample_at}
 use Rattle.h263_planes.specs.declared.Plane.TheVariants.{Y}
 use Rattle.sad_kernel.specs.Differences.{differences}
 use Rattle.motion_search.specs.Order.{first_of}
-use Rattle.motion_search.specs.Cost.{square}
-use Rattle.motion_search.proofs.Blocks.{costing, stopped}
+use Rattle.motion_search.specs.Cost.{differences_from}
+use Rattle.motion_search.proofs.Blocks.{all_rows, costing, stopped}
 use Rattle.motion_search.proofs.Places.{whole_predicts}
 use Rattle.motion_search.proofs.lent.better_whole.Goals as goal
 
@@ -16,10 +16,11 @@ returns-clause-first c =
     let v = c.args.vector in
     let x = c.column-x.result in
     let y = c.row-y.result in
-    let n = differences c.args.block.now (square (λ (i j : ℕ). sample_at reference Y (x + i) (y + j))) in
+    let n = differences_from c.args.block.now reference x y 0 in
     c.better.ensures.first n
     (stopped c.differences_until-sum.result n c.enough.result v c.args.best.cost c.differences_until-sum.ensures.none c.enough.ensures)
     c.differences_until-sum.ensures.some
     ∙ ap (λ k. first_of c.args.best (costing v k))
-    (whole_predicts c.args.block.now reference c.args.mb 0 x y v c.requires.whole
+    (all_rows c.args.block.now reference x y
+    ∙ whole_predicts c.args.block.now reference c.args.mb 0 x y v c.requires.whole
     (c.column-x.ensures ∙ ap (λ (k : ℕ). whole_place k v.x) c.requires.left) (c.row-y.ensures ∙ ap (λ (k : ℕ). whole_place k v.y) c.requires.top))
