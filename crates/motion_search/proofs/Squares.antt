@@ -1,9 +1,10 @@
 -- The vectors among which the search chooses, as lists and by what is true of them.
-use Rattle.std.proofs.Common.{◌≡◌, refl, sym, ap, subst, ◌∙◌, arith, true≢false, ℕ, suc, ◌+◌, ◌*◌, ◌/◌, ◌%◌, ◌<◌, ◌≤◌, List, [], ◌∷◌, map, length, Bool, true, false, cond, ◌&&◌, ℤ, pos, negsuc, ◌+ℤ◌, ◌-ℤ◌, ◌≤ℤ◌, neg_ℤ, unsigned_abs, int_le, lit≤, lit<, zero}
+use Rattle.std.proofs.Common.{◌≡◌, refl, sym, ap, subst, ◌∙◌, arith, true≢false, ℕ, suc, ◌+◌, ◌*◌, ◌/◌, ◌%◌, ◌<◌, ◌≤◌, List, [], ◌∷◌, map, length, Bool, true, false, cond, ◌&&◌, ℤ, pos, negsuc, ◌+ℤ◌, ◌-ℤ◌, ◌≤ℤ◌, neg_ℤ, unsigned_abs, int_le, lit≤, lit<, zero, ◌⊎◌, inl, inr, ◌-◌}
 use Rattle.std.proofs.lemmas.Int.{ints}
 use Rattle.std.specs.List.{All, filter}
 use Rattle.std.proofs.lemmas.Bool.Decides.{Decides-and}
 use Rattle.std.specs.Bool.{Decides}
+use Rattle.std.proofs.lemmas.Bool.{cases_order}
 use Rattle.std.proofs.lemmas.List.Elements.{All-nil, All-cons, All-head, All-tail, All-filter, filter_passes, All-get_or, All-from_get_or, All-from_recursion}
 use Rattle.std.proofs.Math.Nat.{mod-lt, div-lt_iff_lt-mul}
 use Rattle.std.proofs.lemmas.Nat.{mul-add-lt, div-mul-add, mod-mul-add}
@@ -224,3 +225,15 @@ whole_from_places P radius v h all =
     subst P
     (same_vectors (whole_component radius (place_of radius v.x)) v.x (whole_component radius (place_of radius v.y)) v.y (place_leads radius v.x h.even.x h.x) (place_leads radius v.y h.even.y h.y))
     (all (place_of radius v.x) (place_of radius v.y) (place_small radius v.x h.x) (place_small radius v.y h.y))
+
+-- rows from the middle outwards: what was less far away, and the two at this distance
+pub rows_outwards : (P : ℕ → Type 0) (middle distance m : ℕ) → m < middle + (distance + 1) → middle < m + (distance + 1) →
+    (m < middle + distance → middle < m + distance → P m) → P (middle - distance) → P (middle + distance) → P m
+rows_outwards P middle distance m above below nearer up down = by (cases_order m (middle + distance)) (cases_order (m + distance) middle)
+  where
+    by : (m ≡ middle + distance) ⊎ ((m < middle + distance) ⊎ (middle + distance < m)) → (m + distance ≡ middle) ⊎ ((m + distance < middle) ⊎ (middle < m + distance)) → P m
+    by (inl e) side = subst P (sym e) down
+    by (inr (inr far)) side = absurd (omega arith)
+    by (inr (inl near)) (inl e) = let k : middle - distance ≡ m = omega arith in subst P k up
+    by (inr (inl near)) (inr (inl far)) = absurd (omega arith)
+    by (inr (inl near)) (inr (inr h)) = nearer near h

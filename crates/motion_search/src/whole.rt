@@ -1,5 +1,5 @@
 //! The vectors of whole samples within the radius.
-ghost use Rattle.std.specs.Prelude.{◌≡◌, ℕ, ◌+◌, ◌*◌, ◌%◌, ◌/◌, ◌<◌, ◌≤◌, ◌↔◌, ℤ, false, if◌then◌else◌};
+ghost use Rattle.std.specs.Prelude.{◌≡◌, ℕ, ◌+◌, ◌-◌, ◌*◌, ◌%◌, ◌/◌, ◌<◌, ◌≤◌, ◌↔◌, ℤ, false, if◌then◌else◌};
 ghost use Rattle.h263_types.specs.Sizes.{columns_of, mbs_of};
 ghost use Rattle.h263_types.specs.Vectors.{InReach, IsWithin};
 ghost use Rattle.h263_planes.specs.Lent.{picture};
@@ -92,7 +92,42 @@ fn best_of_row(
     first
 }
 
+// The first of the best one and the vectors in the two rows of the square that are `distance` away from its middle.
+fn best_of_two_rows(
+    block: &[u8; 256],
+    reference: PictureRef<'_>,
+    mb: u32,
+    left: u32,
+    top: u32,
+    reach: Reach,
+    radius: u8,
+    distance: u32,
+    best: Candidate,
+) -> Candidate
+    requires mb { mb < mbs_of (picture reference).format }
+    requires left { left ≡ 16 * (mb % columns_of (picture reference).format) }
+    requires top { top ≡ 16 * (mb / columns_of (picture reference).format) }
+    requires reach { (x y : ℤ) → InReach (picture reference).format mb x y ↔ IsWithin reach x y }
+    requires radius { radius ≤ 15 }
+    requires distance { distance ≤ radius }
+    requires candidate { IsWholeCandidate block.now (picture reference) mb radius 0 best }
+    requires cost { IsCost best.cost }
+    ensures candidate { IsWholeCandidate block.now (picture reference.entry) mb radius 0 result }
+    ensures kept { (d : Candidate) → before d best ≡ false → before d result ≡ false }
+    ensures above { (n : ℕ) → n < 2 * radius + 1 → InReach (picture reference.entry).format mb (whole_at radius n (radius - distance)).x (whole_at radius n (radius - distance)).y → before (candidate_of block.now (picture reference.entry) mb 0 (whole_at radius n (radius - distance))) result ≡ false }
+    ensures below { (n : ℕ) → n < 2 * radius + 1 → InReach (picture reference.entry).format mb (whole_at radius n (radius + distance)).x (whole_at radius n (radius + distance)).y → before (candidate_of block.now (picture reference.entry) mb 0 (whole_at radius n (radius + distance))) result ≡ false }
+    ensures cost { IsCost result.cost }
+{
+    let middle = radius as u32;
+    let row = middle - distance;
+    let first = best_of_row(block, reference, mb, left, top, reach, radius, row, best);
+    let row = middle + distance;
+    best_of_row(block, reference, mb, left, top, reach, radius, row, first)
+}
+
 /// The first of the vectors of whole samples within the radius, 0 to 15. Their costs don't depend on the rounding.
+/// Rows are visited from the middle outwards, since a small motion is the likely one, and a low cost that is found
+/// early lets the sums of the others stop early.
 pub(crate) fn best_of_whole(
     block: &[u8; 256],
     reference: PictureRef<'_>,
@@ -108,9 +143,13 @@ pub(crate) fn best_of_whole(
     let left = 16 * (mb % format.columns());
     let top = 16 * (mb / format.columns());
     let reach = reach(format, mb);
-    let mut first = zero(block, reference, mb);
-    for row in 0..2 * u32::from(radius) + 1 {
-        first = best_of_row(block, reference, mb, left, top, reach, radius, row, first);
+    let middle = radius as u32;
+    let zero = zero(block, reference, mb);
+    let mut first = best_of_row(block, reference, mb, left, top, reach, radius, middle, zero);
+    for distance in 1..middle + 1 {
+        first = best_of_two_rows(
+            block, reference, mb, left, top, reach, radius, distance, first,
+        );
     }
     first
 }

@@ -1,9 +1,6 @@
-use Rattle.std.proofs.Common.{ℕ, ◌+◌, ap, ◌∙◌}
+use Rattle.std.proofs.Common.{ℕ, ap, ◌∙◌}
 use Rattle.h263_types.specs.Vectors.{whole_place}
 use Rattle.h263_planes.specs.Lent.{picture}
-use Rattle.h263_planes.specs.Samples.{sample_at}
-use Rattle.h263_planes.specs.declared.Plane.TheVariants.{Y}
-use Rattle.sad_kernel.specs.Differences.{differences}
 use Rattle.motion_search.specs.Order.{first_of}
 use Rattle.motion_search.specs.Cost.{differences_from}
 use Rattle.motion_search.proofs.Blocks.{all_rows, costing, stopped}
