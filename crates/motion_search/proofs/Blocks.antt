@@ -72,9 +72,9 @@ abbrev pub costing : Vector → ℕ → Candidate
 costing v n = record { vector = v; cost = pos n -ℤ pos (lead_of v) }
 
 -- what a sum that stops early says of the whole one
-pub stopped : (r : Option ℕ) (n enough : ℕ) (v : Vector) (best : ℤ) → IsNone r ↔ (enough ≤ n) → ((k : ℕ) → enough ≤ k → best <ℤ (pos k -ℤ pos (lead_of v))) →
+pub stopped : (r : Option ℕ) (n enough : ℕ) (v : Vector) (best : ℤ) → IsNone r ↔ (enough ≤ n) → ((k : ℕ) → (enough ≤ k) ↔ (best <ℤ (pos k -ℤ pos (lead_of v)))) →
     IfNone r (best <ℤ (pos n -ℤ pos (lead_of v)))
-stopped None n enough v best h more = more n (h.0 refl)
+stopped None n enough v best h more = (more n).0 (h.0 refl)
 stopped (Some k) n enough v best h more = tt
 
 pub some_small : (r : Option ℕ) (n most : ℕ) → IfSome r (λ k. k ≡ n) → n ≤ most → IfSome r (λ k. k ≤ most)

@@ -1,5 +1,5 @@
 //! Vectors with their costs, and which of them comes first.
-ghost use Rattle.std.specs.Prelude.{◌≡◌, ℕ, ◌≤◌, pos, ◌-ℤ◌, ◌<ℤ◌, IfNone, IfSome, Option};
+ghost use Rattle.std.specs.Prelude.{◌≡◌, ℕ, ◌≤◌, ◌↔◌, pos, ◌-ℤ◌, ◌<ℤ◌, IfNone, IfSome, Option};
 ghost use Rattle.motion_search.specs.Order.{length_of, compared, first_of};
 ghost use Rattle.motion_search.specs.Cost.{lead_of, IsCost};
 
@@ -66,10 +66,10 @@ pub(crate) fn with_differences(vector: Vector, sum: u32) -> Candidate
     }
 }
 
-// The differences from which on a vector comes after the best one.
+// The least differences by which a vector costs more than the best one.
 pub(crate) fn enough(best: Candidate, vector: Vector) -> u32
     requires cost { IsCost best.cost }
-    ensures { (sum : ℕ) → result ≤ sum → best.cost <ℤ (pos sum -ℤ pos (lead_of vector)) }
+    ensures { (sum : ℕ) → (result ≤ sum) ↔ (best.cost <ℤ (pos sum -ℤ pos (lead_of vector))) }
 {
     let more = best.cost + 1 + lead(vector) as i32;
     if more < 0 { 0 } else { more as u32 }

@@ -16,7 +16,7 @@ use h263_types::Vector;
 use sad_kernel::laws::parts_add;
 use sad_kernel::sad;
 
-// The differences of row `j` of a block from the sixteen samples of Y below column `x` of row `y`.
+// The differences of row `j` of a block from a row of sixteen samples.
 #[inline(always)]
 fn row_differences(block: &[u8; 256], row: &[u8], j: u32) -> u32
     requires row { length row.now ≡ 16 }
@@ -28,8 +28,7 @@ fn row_differences(block: &[u8; 256], row: &[u8], j: u32) -> u32
     sad(&block[at..at + 16], row)
 }
 
-// The differences of row `j` of a block from the same row of the block at column `x` of row `y`: by them those of the
-// rows from `j` on are more than those of the rows after it.
+// The differences of row `j` of a block from that of the 16 x 16 samples of Y at column `x` of row `y`.
 #[inline(always)]
 fn lent_row(block: &[u8; 256], reference: PictureRef<'_>, x: u32, y: u32, j: u32) -> u32
     requires inside { Inside (picture reference).format Y x (y + 15) 16 }
@@ -43,7 +42,7 @@ fn lent_row(block: &[u8; 256], reference: PictureRef<'_>, x: u32, y: u32, j: u32
     row_differences(block, reference.row(Plane::Y, x, y + j, 16), j)
 }
 
-// The differences of four rows from `j` on.
+// The differences of the four rows from `j` on.
 #[inline(always)]
 fn four_rows(block: &[u8; 256], reference: PictureRef<'_>, x: u32, y: u32, j: u32) -> u32
     requires inside { Inside (picture reference).format Y x (y + 15) 16 }
@@ -59,8 +58,8 @@ fn four_rows(block: &[u8; 256], reference: PictureRef<'_>, x: u32, y: u32, j: u3
         + lent_row(block, reference, x, y, j + 3)
 }
 
-// The differences of a block from the one at column `x` of row `y`, or `None` where they are at least `enough`: it asks
-// after each four rows, and reads no further once the sum has come to it.
+// The differences of a block from the 16 x 16 samples of Y at column `x` of row `y`, or `None` where they are at least
+// `enough`: it asks after each four rows, and reads no further once the sum has come to it.
 #[inline(always)]
 fn differences_until(
     block: &[u8; 256],

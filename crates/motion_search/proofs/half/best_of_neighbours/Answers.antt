@@ -31,7 +31,7 @@ loop-k-preserved c =
     record {
       candidate = subst (IsCandidate block p mb r) (sym e) (step_has block p mb r (IsCandidate block p mb r) v now inv.candidate (is_candidate block p mb r v));
       near = subst (λ (d : Candidate). IsNear c.args.best.vector d.vector) (sym e)
-          (step_has block p mb r (λ (d : Candidate). IsNear c.args.best.vector d.vector) v now inv.near (λ _. around_is_near c.args.best.vector k c.loop-k-test.true));
+          (step_has block p mb r (λ (d : Candidate). IsNear c.args.best.vector d.vector) v now inv.near (λ _. around_is_near c.args.best.vector k (omega arith)));
       none = below_more (λ n. InReach p.format mb (around c.args.best.vector n).x (around c.args.best.vector n).y → before (candidate_of block p mb r (around c.args.best.vector n)) c.better_in_reach-first.result ≡ false) k
           (λ n hn reaches. let d = candidate_of block p mb r (around c.args.best.vector n) in
           subst (λ (b : Candidate). before d b ≡ false) (sym e) (step_kept block p mb r d v now (inv.none n hn reaches)))
