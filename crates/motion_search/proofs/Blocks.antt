@@ -1,0 +1,135 @@
+-- Blocks of 16 x 16 samples and their differences.
+use Rattle.std.proofs.Common.{◌≡◌, refl, sym, ap, subst, ◌∙◌, arith, ℕ, ◌+◌, ◌-◌, ◌*◌, ◌/◌, ◌%◌, ◌<◌, ◌≤◌, List, [], ◌∷◌, ◌++◌, length, get_or, drop, take, slice_range, w8, ℤ, pos, ◌-ℤ◌, ◌<ℤ◌, Option, None, Some, IsNone, IfNone, IfSome, ◌↔◌}
+use lib.Lanes.{zip2, Each1, chunk}
+use Rattle.std.specs.Int.{abs_diff}
+use Rattle.std.proofs.lemmas.Simd.{sum_bound, length-zip2, length-chunk, chunk-drop, chunk-fits, below_from_Fits, Each1-from_get_or}
+use Rattle.std.proofs.lemmas.Grind.{same_number_lists}
+use Rattle.std.proofs.lemmas.List.FromFn.{length-map-range_with_len, get_or-map-range_with_len}
+use Rattle.std.proofs.lemmas.List.{get_or-take, get_or-drop}
+use Rattle.sad_kernel.specs.Differences.{differences}
+use Rattle.h263_types.specs.declared.vector.Vector.{Vector}
+use Rattle.h263_types.specs.Sizes.{columns_of}
+use Rattle.h263_planes.specs.Picture.{Picture}
+use Rattle.h263_planes.specs.declared.Plane.TheVariants.{Y}
+use Rattle.half_sample.specs.Prediction.{predicted_sample}
+use Rattle.motion_search.specs.declared.candidate.Candidate.{Candidate}
+use Rattle.h263_planes.specs.Samples.{sample_at}
+use Rattle.std.proofs.Math.ListN.{drop_of_length-le}
+use Rattle.motion_search.specs.Cost.{square, differences_from, difference_of, lead_of}
+
+-- ---- the 256 numbers of a block
+
+pub length-square : (f : ℕ → ℕ → ℕ) → length (square f) ≡ 256
+unfolding square
+length-square f = length-map-range_with_len (λ k. f (k % 16) (k / 16)) 0 256
+
+pub get_or-square : (f : ℕ → ℕ → ℕ) (j i : ℕ) → j < 16 → i < 16 → get_or (square f) (16 * j + i) 0 ≡ f i j
+unfolding square
+get_or-square f j i hj hi =
+    let column : (16 * j + i) % 16 ≡ i = omega arith in
+    let row : (16 * j + i) / 16 ≡ j = omega arith in
+    get_or-map-range_with_len (λ k. f (k % 16) (k / 16)) 0 256 (16 * j + i) (16 * j + i) 0 (omega arith) (omega arith)
+    ∙ ap (λ (m : ℕ). f m ((16 * j + i) / 16)) column ∙ ap (f i) row
+
+pub is_square : (xs : List ℕ) (f : ℕ → ℕ → ℕ) → length xs ≡ 256 → ((j i : ℕ) → j < 16 → i < 16 → get_or xs (16 * j + i) 0 ≡ f i j) → xs ≡ square f
+is_square xs f long same =
+    same_number_lists xs (square f) (long ∙ sym (length-square f))
+    (λ k hk.
+    let place : 16 * (k / 16) + k % 16 ≡ k = omega arith in
+    let row : k / 16 < 16 = omega arith in
+    subst (λ (m : ℕ). get_or xs m 0 ≡ get_or (square f) m 0) place
+    (same (k / 16) (k % 16) row (omega arith) ∙ sym (get_or-square f (k / 16) (k % 16) row (omega arith))))
+
+-- ---- differences of bytes
+
+each_small : (xs ys : List ℕ) → Each1 (λ x. x < 256) xs → Each1 (λ x. x < 256) ys → Each1 (λ d. d ≤ 255) (zip2 abs_diff xs ys)
+each_small [] ys hx hy = tt
+each_small (x ∷ xs) [] hx hy = tt
+each_small (x ∷ xs) (y ∷ ys) hx hy = (omega (arith, hx.0, hy.0), each_small xs ys hx.1 hy.1)
+
+bytes : (xs : List ℕ) → ((i : ℕ) → get_or xs i 0 < 256) → Each1 (λ x. x < 256) xs
+bytes xs h = Each1-from_get_or (λ x. x < 256) xs 0 (λ i hi. h i)
+
+differences_below : (xs ys : List ℕ) (n : ℕ) → length xs ≡ n → length ys ≡ n → Each1 (λ x. x < 256) xs → Each1 (λ x. x < 256) ys → differences xs ys ≤ 255 * n
+differences_below xs ys n ex ey hx hy =
+    let long : length (zip2 abs_diff xs ys) ≡ n = length-zip2 abs_diff xs ys (ex ∙ sym ey) ∙ ex in
+    subst (λ k. differences xs ys ≤ 255 * k) long (sum_bound 255 (zip2 abs_diff xs ys) (each_small xs ys hx hy))
+
+pub differences_small : (xs ys : List ℕ) (n : ℕ) → length xs ≡ n → length ys ≡ n → ((i : ℕ) → get_or xs i 0 < 256) → ((i : ℕ) → get_or ys i 0 < 256) → differences xs ys ≤ 255 * n
+differences_small xs ys n ex ey hx hy = differences_below xs ys n ex ey (bytes xs hx) (bytes ys hy)
+
+-- ---- the differences that a vector leaves
+
+pub out_predicts : (out block : List ℕ) (reference : Picture) (mb rounding : ℕ) (v : Vector) → length out ≡ 256 →
+    ((j i : ℕ) → j < 16 → i < 16 → get_or out (16 * j + i) 0 ≡ predicted_sample reference Y (16 * (mb % columns_of reference.format) + i) (16 * (mb / columns_of reference.format) + j) v rounding) →
+    differences block out ≡ difference_of block reference mb rounding v
+unfolding difference_of
+out_predicts out block reference mb rounding v long same =
+    ap (differences block)
+    (is_square out (λ i j. predicted_sample reference Y (16 * (mb % columns_of reference.format) + i) (16 * (mb / columns_of reference.format) + j) v rounding) long same)
+
+abbrev pub costing : Vector → ℕ → Candidate
+costing v n = record { vector = v; cost = pos n -ℤ pos (lead_of v) }
+
+-- what a sum that stops early says of the whole one
+pub stopped : (r : Option ℕ) (n enough : ℕ) (v : Vector) (best : ℤ) → IsNone r ↔ (enough ≤ n) → ((k : ℕ) → (enough ≤ k) ↔ (best <ℤ (pos k -ℤ pos (lead_of v)))) →
+    IfNone r (best <ℤ (pos n -ℤ pos (lead_of v)))
+stopped None n enough v best h more = (more n).0 (h.0 refl)
+stopped (Some k) n enough v best h more = tt
+
+pub some_small : (r : Option ℕ) (n most : ℕ) → IfSome r (λ k. k ≡ n) → n ≤ most → IfSome r (λ k. k ≤ most)
+some_small None n most h l = tt
+some_small (Some k) n most h l = omega arith
+
+-- ---- one more row
+
+part_is : (xs : List ℕ) (i n : ℕ) → slice_range xs i (i + n) ≡ chunk i n xs
+part_is xs i n = let e : i + n - i ≡ n = omega arith in ap (λ (k : ℕ). take k (drop i xs)) e
+
+row_is : (f : ℕ → ℕ → ℕ) (row : List ℕ) (j : ℕ) → j < 16 → length row ≡ 16 → ((i : ℕ) → i < 16 → get_or row i 0 ≡ f i j) → chunk (16 * j) 16 (square f) ≡ row
+row_is f row j hj long same =
+    let there : length (chunk (16 * j) 16 (square f)) ≡ 16 = length-chunk (16 * j) 16 (square f) (omega (arith, length-square f)) in
+    same_number_lists (chunk (16 * j) 16 (square f)) row (there ∙ sym long)
+    (λ i hi. let h : i < 16 = omega arith in
+    get_or-take 16 (drop (16 * j) (square f)) i 0 h ∙ get_or-drop (16 * j) (square f) i 0 ∙ get_or-square f j i hj h ∙ sym (same i h))
+
+pub one_row_more : (f : ℕ → ℕ → ℕ) (block row : List ℕ) (j : ℕ) →
+    ((xs ys us vs : List ℕ) → length xs ≡ length us → differences (xs ++ ys) (us ++ vs) ≡ differences xs us + differences ys vs) →
+    j < 16 → length block ≡ 256 → length row ≡ 16 → ((i : ℕ) → i < 16 → get_or row i 0 ≡ f i j) →
+    differences (drop (16 * j) block) (drop (16 * j) (square f)) ≡ differences (slice_range block (16 * j) (16 * j + 16)) row + differences (drop (16 * (j + 1)) block) (drop (16 * (j + 1)) (square f))
+one_row_more f block row j add hj hb hr same =
+    let next : 16 * j + 16 ≡ 16 * (j + 1) = omega arith in
+    let long : length (chunk (16 * j) 16 block) ≡ length (chunk (16 * j) 16 (square f)) =
+    length-chunk (16 * j) 16 block (omega arith) ∙ sym (length-chunk (16 * j) 16 (square f) (omega (arith, length-square f))) in
+    let cut : differences (drop (16 * j) block) (drop (16 * j) (square f)) ≡ differences (chunk (16 * j) 16 block ++ drop (16 * j + 16) block) (chunk (16 * j) 16 (square f) ++ drop (16 * j + 16) (square f)) =
+    cc (chunk-drop (16 * j) 16 block, chunk-drop (16 * j) 16 (square f)) in
+    cut ∙ add (chunk (16 * j) 16 block) (drop (16 * j + 16) block) (chunk (16 * j) 16 (square f)) (drop (16 * j + 16) (square f)) long
+    ∙ ap (λ (r : List ℕ). differences (chunk (16 * j) 16 block) r + differences (drop (16 * j + 16) block) (drop (16 * j + 16) (square f))) (row_is f row j hj hr same)
+    ∙ ap (λ (b : List ℕ). differences b row + differences (drop (16 * j + 16) block) (drop (16 * j + 16) (square f))) (sym (part_is block (16 * j) 16))
+    ∙ ap (λ (k : ℕ). differences (slice_range block (16 * j) (16 * j + 16)) row + differences (drop k block) (drop k (square f))) next
+
+pub row_small : (block row : List ℕ) (j : ℕ) → j < 16 → length block ≡ 256 → length row ≡ 16 → ((i : ℕ) → get_or block i 0 < 256) → ((i : ℕ) → get_or row i 0 < 256) →
+    differences (slice_range block (16 * j) (16 * j + 16)) row ≤ 4080
+row_small block row j hj hb hr fb fr =
+    let e : slice_range block (16 * j) (16 * j + 16) ≡ chunk (16 * j) 16 block = part_is block (16 * j) 16 in
+    let long : length (chunk (16 * j) 16 block) ≡ 16 = length-chunk (16 * j) 16 block (omega arith) in
+    subst (λ (l : List ℕ). differences l row ≤ 4080) (sym e)
+    (differences_below (chunk (16 * j) 16 block) row 16 long hr (below_from_Fits w8 (chunk (16 * j) 16 block) (chunk-fits w8 (16 * j) 16 block (λ k. record { fits = fb k }))) (bytes row fr))
+
+pub one_row_of : (p : Picture) (block row : List ℕ) (x y j : ℕ) →
+    ((xs ys us vs : List ℕ) → length xs ≡ length us → differences (xs ++ ys) (us ++ vs) ≡ differences xs us + differences ys vs) →
+    j < 16 → length block ≡ 256 → length row ≡ 16 → ((i : ℕ) → i < 16 → get_or row i 0 ≡ sample_at p Y (x + i) (y + j)) →
+    differences (slice_range block (16 * j) (16 * j + 16)) row + differences_from block p x y (j + 1) ≡ differences_from block p x y j
+unfolding differences_from
+one_row_of p block row x y j add hj hb hr same = sym (one_row_more (λ i k. sample_at p Y (x + i) (y + k)) block row j add hj hb hr same)
+
+-- all rows, and none
+pub all_rows : (block : List ℕ) (p : Picture) (x y : ℕ) → differences_from block p x y 0 ≡ differences block (square (λ i j. sample_at p Y (x + i) (y + j)))
+unfolding differences_from
+all_rows block p x y = refl
+
+pub no_rows : (block : List ℕ) (p : Picture) (x y j : ℕ) → length block ≡ 256 → 16 ≤ j → differences_from block p x y j ≡ 0
+unfolding differences_from
+no_rows block p x y j long end =
+    let past : length block ≤ 16 * j = omega arith in
+    ap (λ (l : List ℕ). differences l (drop (16 * j) (square (λ a b. sample_at p Y (x + a) (y + b))))) (drop_of_length-le block past)

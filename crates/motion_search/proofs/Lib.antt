@@ -1,0 +1,5 @@
+pub mod Orders
+pub mod Squares
+pub mod Bests
+pub mod Blocks
+pub mod Places

@@ -1,0 +1,50 @@
+use Rattle.std.proofs.Common.{◌≡◌, ◌∙◌, sym, subst, ap, arith, below_more, ℤ, ◌↔◌, false}
+use Rattle.h263_types.specs.declared.format.Format.{Format}
+use Rattle.h263_types.specs.declared.vector.Vector.{Vector}
+use Rattle.h263_types.specs.Vectors.{InReach, IsWithin}
+use Rattle.h263_planes.specs.Lent.{picture}
+use Rattle.motion_search.specs.declared.candidate.Candidate.{Candidate}
+use Rattle.motion_search.specs.Order.{before}
+use Rattle.motion_search.specs.Cost.{candidate_of}
+use Rattle.motion_search.specs.Vectors.{around, IsNear}
+use Rattle.motion_search.specs.Best.{IsCandidate}
+use Rattle.motion_search.proofs.Squares.{near_around, around_is_near}
+use Rattle.motion_search.proofs.Bests.{step_of, step_has, step_kept, step_none, is_candidate, is_best_near}
+use Rattle.motion_search.proofs.half.best_of_neighbours.Goals as goal
+
+pub better_in_reach-first-requires-clause-reach : goal.better_in_reach-first-requires-clause-reach
+better_in_reach-first-requires-clause-reach c =
+    subst (λ (f : Format). (x y : ℤ) → InReach f c.args.mb x y ↔ IsWithin c.reach-reach.result x y) c.format.ensures.format c.reach-reach.ensures
+
+pub loop-k-preserved : goal.loop-k-preserved
+loop-k-preserved c =
+    let block = c.args.block.now in
+    let p = picture c.args.reference in
+    let mb = c.args.mb in
+    let r = c.args.rounding in
+    let k = c.loop-k.k in
+    let now = c.loop-k.first in
+    let v = around c.args.best.vector k in
+    let e : c.better_in_reach-first.result ≡ step_of block p mb r v now =
+    c.better_in_reach-first.ensures.first ∙ ap (λ (w : Vector). step_of block p mb r w now) c.neighbour-vector.ensures in
+    let inv = c.loop-k.invariant in
+    record {
+      candidate = subst (IsCandidate block p mb r) (sym e) (step_has block p mb r (IsCandidate block p mb r) v now inv.candidate (is_candidate block p mb r v));
+      near = subst (λ (d : Candidate). IsNear c.args.best.vector d.vector) (sym e)
+          (step_has block p mb r (λ (d : Candidate). IsNear c.args.best.vector d.vector) v now inv.near (λ _. around_is_near c.args.best.vector k (omega arith)));
+      none = below_more (λ n. InReach p.format mb (around c.args.best.vector n).x (around c.args.best.vector n).y → before (candidate_of block p mb r (around c.args.best.vector n)) c.better_in_reach-first.result ≡ false) k
+          (λ n hn reaches. let d = candidate_of block p mb r (around c.args.best.vector n) in
+          subst (λ (b : Candidate). before d b ≡ false) (sym e) (step_kept block p mb r d v now (inv.none n hn reaches)))
+          (λ reaches. let d = candidate_of block p mb r v in
+          subst (λ (b : Candidate). before d b ≡ false) (sym e) (step_none block p mb r v now reaches));
+      cost = c.better_in_reach-first.ensures.cost;
+    }
+
+pub returns-clause-best : goal.returns-clause-best
+returns-clause-best c =
+    let block = c.args.block.now in
+    let p = picture c.args.reference in
+    let inv = c.loop-k.invariant in
+    is_best_near block p c.args.mb c.args.rounding c.args.best c.loop-k.first c.requires.candidate inv.candidate inv.near
+    (λ v near. near_around (λ w. InReach p.format c.args.mb w.x w.y → before (candidate_of block p c.args.mb c.args.rounding w) c.loop-k.first ≡ false) c.args.best.vector v near
+    (λ k hk. inv.none k (omega arith)))

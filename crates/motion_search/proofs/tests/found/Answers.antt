@@ -1,0 +1,11 @@
+use Rattle.std.proofs.Common.{◌∙◌, sym, ap, subst, arith, ◌<◌}
+use Rattle.h263_types.specs.declared.format.Format.{Format}
+use Rattle.h263_types.specs.Sizes.{mbs_of}
+use Rattle.h263_planes.specs.Picture.{Picture}
+use Rattle.motion_search.proofs.tests.found.Goals as goal
+
+pub search-cost-requires-clause-format : goal.search-cost-requires-clause-format
+search-cost-requires-clause-format g c = ap (λ (p : Picture). p.format) c.new.ensures.picture ∙ sym (ap (λ (p : Picture). p.format) c.new-2.ensures.picture)
+
+pub search-cost-requires-clause-mb : goal.search-cost-requires-clause-mb
+search-cost-requires-clause-mb g c = subst (λ (f : Format). c.args.mb < mbs_of f) (sym (ap (λ (p : Picture). p.format) c.new-2.ensures.picture)) (omega arith)

@@ -1,0 +1,16 @@
+use Rattle.std.proofs.Common.{◌≡◌, ℕ, ◌<◌, ◌+◌, ◌*◌, false}
+use Rattle.h263_types.specs.Vectors.{InReach}
+use Rattle.h263_planes.specs.Lent.{picture}
+use Rattle.motion_search.specs.Order.{before}
+use Rattle.motion_search.specs.Cost.{candidate_of, IsCost}
+use Rattle.motion_search.specs.Vectors.{whole_at}
+use Rattle.motion_search.specs.Best.{IsWholeCandidate}
+use Rattle.motion_search.proofs.whole.best_of_whole.Given as goal
+
+-- none of the rows seen, less than `distance` away from the middle, comes before the first one
+abbrev pub invariant-loop-distance : goal.invariant-loop-distance
+invariant-loop-distance l = record {
+  candidate : IsWholeCandidate l.block (picture l.reference) l.mb l.radius 0 l.first;
+  none : (m n : ℕ) → m < l.radius + l.distance → l.radius < m + l.distance → n < 2 * l.radius + 1 → InReach l.reference.format l.mb (whole_at l.radius n m).x (whole_at l.radius n m).y → before (candidate_of l.block (picture l.reference) l.mb 0 (whole_at l.radius n m)) l.first ≡ false;
+  cost : IsCost l.first.cost;
+}

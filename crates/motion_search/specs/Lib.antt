@@ -1,0 +1,4 @@
+pub mod Order
+pub mod Cost
+pub mod Vectors
+pub mod Best

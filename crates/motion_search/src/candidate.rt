@@ -1,0 +1,89 @@
+//! Vectors with their costs, and which of them comes first.
+ghost use Rattle.std.specs.Prelude.{◌≡◌, ℕ, ◌≤◌, ◌↔◌, pos, ◌-ℤ◌, ◌<ℤ◌, IfNone, IfSome, Option};
+ghost use Rattle.motion_search.specs.Order.{length_of, compared, first_of};
+ghost use Rattle.motion_search.specs.Cost.{lead_of, IsCost};
+
+use h263_types::Vector;
+use std::cmp::Ordering;
+
+/// A vector and its cost.
+#[derive(Clone, Copy, Debug, PartialEq, Eq)]
+pub(crate) struct Candidate {
+    pub(crate) vector: Vector,
+    pub(crate) cost: i32,
+}
+
+// How far a vector leads, across and down.
+fn length(vector: Vector) -> u16
+    ensures { result ≡ length_of vector }
+{
+    u16::from(vector.x.unsigned_abs()) + u16::from(vector.y.unsigned_abs())
+}
+
+// By the cost, then by how far the vector leads, then by its vertical and its horizontal component.
+fn compare(a: Candidate, b: Candidate) -> Ordering
+    ensures { result ≡ compared a b }
+{
+    let by_cost = a.cost.cmp(&b.cost);
+    let by_length = length(a.vector).cmp(&length(b.vector));
+    let by_row = a.vector.y.cmp(&b.vector.y);
+    let by_column = a.vector.x.cmp(&b.vector.x);
+    by_cost.then(by_length.then(by_row.then(by_column)))
+}
+
+// The one of two candidates that comes first.
+fn first(best: Candidate, other: Candidate) -> Candidate
+    ensures { result ≡ first_of best other }
+{
+    if compare(other, best).is_lt() {
+        other
+    } else {
+        best
+    }
+}
+
+// What the zero vector has ahead of all others.
+fn lead(vector: Vector) -> u32
+    ensures value { result ≡ lead_of vector }
+    ensures most { result ≤ 100 }
+{
+    if vector.x == 0 && vector.y == 0 {
+        100
+    } else {
+        0
+    }
+}
+
+// A vector whose differences are `sum`.
+pub(crate) fn with_differences(vector: Vector, sum: u32) -> Candidate
+    requires sum { sum ≤ 65280 }
+    ensures candidate { result ≡ record { vector = vector; cost = pos sum -ℤ pos (lead_of vector) } }
+    ensures cost { IsCost result.cost }
+{
+    Candidate {
+        vector,
+        cost: sum as i32 - lead(vector) as i32,
+    }
+}
+
+// The least differences by which a vector costs more than the best one.
+pub(crate) fn enough(best: Candidate, vector: Vector) -> u32
+    requires cost { IsCost best.cost }
+    ensures { (sum : ℕ) → (result ≤ sum) ↔ (best.cost <ℤ (pos sum -ℤ pos (lead_of vector))) }
+{
+    let more = best.cost + 1 + lead(vector) as i32;
+    if more < 0 { 0 } else { more as u32 }
+}
+
+// The first of the best one and a vector whose differences were summed up, or are `enough`.
+pub(crate) fn better(best: Candidate, vector: Vector, sum: Option<u32>) -> Candidate
+    requires cost { IsCost best.cost }
+    requires sum { IfSome sum (λ n. n ≤ 65280) }
+    ensures first { (n : ℕ) → IfNone sum (best.cost <ℤ (pos n -ℤ pos (lead_of vector))) → IfSome sum (λ s. s ≡ n) → result ≡ first_of best (record { vector = vector; cost = pos n -ℤ pos (lead_of vector) }) }
+    ensures cost { IsCost result.cost }
+{
+    match sum {
+        None => best,
+        Some(sum) => first(best, with_differences(vector, sum)),
+    }
+}

@@ -1,0 +1,76 @@
+//! The neighbours half a sample away.
+ghost use Rattle.std.specs.Prelude.{◌≡◌, ℕ, ◌<◌, ◌≤◌, ◌↔◌, ℤ, if◌then◌else◌};
+ghost use Rattle.h263_types.specs.Sizes.{mbs_of};
+ghost use Rattle.h263_types.specs.Vectors.{InReach, IsWithin};
+ghost use Rattle.h263_types.specs.Blocks.{IsVector};
+ghost use Rattle.h263_planes.specs.Lent.{picture};
+ghost use Rattle.motion_search.specs.Order.{first_of};
+ghost use Rattle.motion_search.specs.Cost.{candidate_of, IsCost};
+ghost use Rattle.motion_search.specs.Vectors.{around, in_reach};
+ghost use Rattle.motion_search.specs.Best.{best_near, IsCandidate};
+
+use crate::candidate::Candidate;
+use crate::predicted::better_predicted;
+use crate::within::is_within;
+use h263_planes::PictureRef;
+use h263_types::{Reach, Vector, reach};
+
+// The vector in place `k` of the nine around a vector, by rows from the top.
+fn neighbour(vector: Vector, k: u32) -> Vector
+    requires vector { IsVector vector }
+    requires k { k < 9 }
+    ensures { result ≡ around vector k }
+{
+    Vector {
+        x: vector.x + (k % 3) as i8 - 1,
+        y: vector.y + (k / 3) as i8 - 1,
+    }
+}
+
+// The first of the best one and a vector, where that is in reach.
+fn better_in_reach(
+    block: &[u8; 256],
+    reference: PictureRef<'_>,
+    mb: u32,
+    rounding: u8,
+    reach: Reach,
+    vector: Vector,
+    best: Candidate,
+) -> Candidate
+    requires mb { mb < mbs_of (picture reference).format }
+    requires reach { (x y : ℤ) → InReach (picture reference).format mb x y ↔ IsWithin reach x y }
+    requires rounding { rounding ≤ 1 }
+    requires cost { IsCost best.cost }
+    ensures first { result ≡ (if in_reach (picture reference.entry).format mb vector then first_of best (candidate_of block.now (picture reference.entry) mb rounding vector) else best) }
+    ensures cost { IsCost result.cost }
+{
+    if is_within(reach, vector) {
+        better_predicted(block, reference, mb, rounding, vector, best)
+    } else {
+        best
+    }
+}
+
+/// The first of a candidate and its neighbours.
+pub(crate) fn best_of_neighbours(
+    block: &[u8; 256],
+    reference: PictureRef<'_>,
+    mb: u32,
+    rounding: u8,
+    best: Candidate,
+) -> Candidate
+    requires mb { mb < mbs_of (picture reference).format }
+    requires rounding { rounding ≤ 1 }
+    requires candidate { IsCandidate block.now (picture reference) mb rounding best }
+    requires cost { IsCost best.cost }
+    ensures best { result ≡ best_near block.now (picture reference.entry) mb rounding best }
+    ensures cost { IsCost result.cost }
+{
+    let reach = reach(reference.format(), mb);
+    let mut first = best;
+    for k in 0..9u32 {
+        let vector = neighbour(best.vector, k);
+        first = better_in_reach(block, reference, mb, rounding, reach, vector, first);
+    }
+    first
+}
