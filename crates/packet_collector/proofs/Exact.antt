@@ -4,7 +4,7 @@ use Rattle.std.specs.Prelude.{IfOk, IsOkAnd}
 use Rattle.std.proofs.lemmas.List.{length-take-le, length-drop}
 use Rattle.h263_bits.specs.declared.fault.Fault.{Fault}
 use Rattle.h263_bits.specs.Reading.{Bits, Takes, first_fault, ◌>>=◌}
-use Rattle.h263_bits.specs.Syntax.{reading, Spells}
+use Rattle.h263_bits.specs.Syntax.{Spells}
 use Rattle.h263_bits.proofs.SyntaxLaws.{bind_ok, ok_is, err_not_ok, sound, complete}
 use Rattle.h263_types.specs.declared.format.Format.{Format}
 use Rattle.h263_types.specs.declared.blocks.Mb.{Mb}
@@ -12,11 +12,10 @@ use Rattle.h263_types.specs.Sizes.{mbs_of}
 use Rattle.picture_header.specs.declared.header.Header.{Header}
 use Rattle.picture_header.specs.Text.{header, IsHeaderText}
 use Rattle.picture_header.proofs.Loops.{header_productive}
-use Rattle.rtp_header.specs.declared.rtp.Rtp.{Rtp}
 use Rattle.rtp_header.specs.Faults.{rtp_in}
 use Rattle.rtp_header.proofs.Exact as rtp
 use Rattle.h263_payload.specs.declared.payload.Payload.{Payload}
-use Rattle.h263_payload.specs.Text.{IsPayload, IsExtra}
+use Rattle.h263_payload.specs.Text.{IsExtra}
 use Rattle.h263_payload.specs.Faults.{payload_at, payload_bits_of}
 use Rattle.h263_payload.proofs.Exact as payload
 use Rattle.slice_layer.specs.Text.{IsSliceText, slice_at}
