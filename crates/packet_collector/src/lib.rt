@@ -7,6 +7,8 @@ mod marks;
 mod piece;
 mod reading;
 mod same;
+#[cfg(test)]
+mod tests;
 
 pub use collector::Collector;
 pub use piece::{Piece, Place};
