@@ -1,0 +1,165 @@
+-- Bytes are read as a packet exactly where they are one.
+use Rattle.std.proofs.Common.{◌≡◌, ℕ, ◌+◌, List, [], ◌++◌, length, drop, Option, Some, None, Bool, Result, Ok, Err, refl, sym, ap, subst, ◌∙◌, arith}
+use Rattle.std.specs.Prelude.{IfOk, IsOkAnd}
+use Rattle.std.proofs.lemmas.List.{length-take-le, length-drop}
+use Rattle.h263_bits.specs.declared.fault.Fault.{Fault}
+use Rattle.h263_bits.specs.Reading.{Bits, Takes, first_fault, ◌>>=◌}
+use Rattle.h263_bits.specs.Syntax.{Spells}
+use Rattle.h263_bits.proofs.SyntaxLaws.{bind_ok, ok_is, err_not_ok, sound, complete}
+use Rattle.h263_types.specs.declared.format.Format.{Format}
+use Rattle.h263_types.specs.declared.blocks.Mb.{Mb}
+use Rattle.h263_types.specs.Sizes.{mbs_of}
+use Rattle.picture_header.specs.declared.header.Header.{Header}
+use Rattle.picture_header.specs.Text.{header, IsHeaderText}
+use Rattle.picture_header.proofs.Loops.{header_productive}
+use Rattle.rtp_header.specs.Faults.{rtp_in}
+use Rattle.rtp_header.proofs.Exact as rtp
+use Rattle.h263_payload.specs.declared.payload.Payload.{Payload}
+use Rattle.h263_payload.specs.Text.{IsExtra}
+use Rattle.h263_payload.specs.Faults.{payload_at, payload_bits_of}
+use Rattle.h263_payload.proofs.Exact as payload
+use Rattle.slice_layer.specs.Text.{IsSliceText, slice_at}
+use Rattle.slice_layer.specs.Filled.{mbs_from}
+use Rattle.slice_layer.proofs.Bodies.{slice_sound, slice_complete}
+use Rattle.packet_collector.specs.declared.piece.Piece.{Piece}
+use Rattle.packet_collector.specs.Packet.{Slice, IsHeaded, data_of, IsPacket, headed_at, with_header, slice_behind, packet_at, packet_fault}
+use Rattle.packet_collector.specs.Filled.{slice_in, FillsPacket, IsExtraOf, IsPieceIn}
+
+-- ---- the format of a header
+
+pub header_format : (format : Format) (h : Header) (bits : List Bool) → IsHeaderText format h bits → h.format ≡ format
+unfolding header Spells
+header_format format h bits t = ap (λ (x : Header). x.format) t.6.6.6.6.6.6.6.0
+
+pub extra_format : (format : Format) (plen pebit : ℕ) (extra : Option Header) (bits : List Bool) → IsExtra format plen pebit extra bits → IsExtraOf format extra
+extra_format format plen pebit None bits t = tt
+extra_format format plen pebit (Some h) bits t = header_format format h t.0 t.6
+
+-- a header that was read has the format that was expected
+pub read_format : (format : Format) (r : Result Header Fault) (old new : Bits) → IfOk r (λ h. Takes old new (IsHeaderText format h)) → IfOk r (λ h. h.format ≡ format)
+read_format format (Ok h) old new t = header_format format h t.0 t.3
+read_format format (Err fault) old new t = tt
+
+-- ---- what was read is spelled
+
+headed_sound : (format : Format) (extra : Option Header) (h : Header) (b c : Bits) → headed_at format extra b ≡ Ok (h, c) → (front : List Bool) × (b.bits ≡ front ++ c.bits) × IsHeaded format extra h front
+headed_sound format None h b c e = let t = sound (header format) b c h e in (t.0, t.1.parts, t.2)
+headed_sound format (Some x) h b c e =
+    let same = ok_is (x, b) (h, c) e in
+    ([], ap (λ (y : Header × Bits). y.1.bits) same, (ap (λ (y : Header × Bits). y.0) same, refl))
+
+record IsWith (h : Header) (r : Result (ℕ × List Mb) Fault) (s : Slice) : Type 0 where
+  read : r ≡ Ok (s.first, s.mbs)
+  header : s.header ≡ h
+
+with_ok : (h : Header) (r : Result (ℕ × List Mb) Fault) (s : Slice) → with_header h r ≡ Ok s → IsWith h r s
+with_ok h (Ok x) s e =
+    let same = ok_is (record { header = h; first = x.0; mbs = x.1 }) s e in
+    record { read = ap (λ (t : Slice). Ok (t.first, t.mbs)) same; header = ap (λ (t : Slice). t.header) (sym same) }
+with_ok h (Err fault) s e = absurd cc
+
+record IsBehindText (format : Format) (p : Payload) (s : Slice) (bits : List Bool) : Type 0 where
+  front : List Bool
+  behind : List Bool
+  parts : bits ≡ front ++ behind
+  headed : IsHeaded format p.extra s.header front
+  text : IsSliceText s.header p.begins s.first s.mbs behind
+
+behind_sound : (format : Format) (p : Payload) (s : Slice) (b : Bits) → slice_behind format p b ≡ Ok s → IsBehindText format p s b.bits
+unfolding slice_behind
+behind_sound format p s b e =
+    let one = bind_ok (headed_at format p.extra b) (λ x. with_header x.0 (slice_at x.0 p.begins x.1)) s e in
+    let h = one.0.0 in
+    let c = one.0.1 in
+    let front = headed_sound format p.extra h b c one.1 in
+    let w = with_ok h (slice_at h p.begins c) s one.2 in
+    record {
+      front = front.0;
+      behind = c.bits;
+      parts = front.1;
+      headed = subst (λ (x : Header). IsHeaded format p.extra x front.0) (sym w.header) front.2;
+      text = subst (λ (x : Header). IsSliceText x p.begins s.first s.mbs c.bits) (sym w.header) (slice_sound h p.begins s.first s.mbs c w.read);
+    }
+
+pub packet_sound : (format : Format) (s : Slice) (bytes : List ℕ) → packet_at format bytes ≡ Ok s → IsPacket format s bytes
+unfolding packet_at
+packet_sound format s bytes e =
+    let one = bind_ok (rtp_in bytes) (λ r. payload_at format (payload_bits_of bytes r) >>= λ p. slice_behind format p (data_of bytes r p)) s e in
+    let r = one.0 in
+    let two = bind_ok (payload_at format (payload_bits_of bytes r)) (λ p. slice_behind format p (data_of bytes r p)) s one.2 in
+    let p = two.0 in
+    let t = behind_sound format p s (data_of bytes r p) two.2 in
+    record {
+      rtp = r;
+      payload = p;
+      front = t.front;
+      behind = t.behind;
+      is_rtp = rtp.read_text r bytes one.1;
+      is_payload = payload.read_text format p (payload_bits_of bytes r) two.1;
+      parts = t.parts;
+      headed = t.headed;
+      text = t.text;
+    }
+
+-- ---- what is spelled is read
+
+record IsHeadedAgain (format : Format) (extra : Option Header) (h : Header) (at : ℕ) (front rest : List Bool) : Type 0 where
+  left : Bits
+  read : headed_at format extra (record { at = at; bits = front ++ rest }) ≡ Ok (h, left)
+  bits : left.bits ≡ rest
+
+headed_again : (format : Format) (extra : Option Header) (h : Header) (at : ℕ) (front rest : List Bool) → IsHeaded format extra h front → IsHeadedAgain format extra h at front rest
+headed_again format None h at front rest t =
+    record { left = record { at = at + length front; bits = rest }; read = complete (header format) h front rest at (header_productive format) t; bits = refl }
+headed_again format (Some x) h at front rest t = record {
+  left = record { at = at; bits = front ++ rest };
+  read = ap (λ (y : Header). Ok (y, record { at = at; bits = front ++ rest })) t.0;
+  bits = ap (λ (l : List Bool). l ++ rest) t.1;
+}
+
+pub packet_complete : (format : Format) (s : Slice) (bytes : List ℕ) → IsPacket format s bytes → packet_at format bytes ≡ Ok s
+unfolding packet_at slice_behind
+packet_complete format s bytes t =
+    let r = t.rtp in
+    let p = t.payload in
+    let one : rtp_in bytes ≡ Ok r = rtp.text_read r bytes t.is_rtp in
+    let two : payload_at format (payload_bits_of bytes r) ≡ Ok p = payload.text_read format p (payload_bits_of bytes r) t.is_payload in
+    let again = headed_again format p.extra s.header p.from t.front t.behind t.headed in
+    let three : headed_at format p.extra (data_of bytes r p) ≡ Ok (s.header, again.left) =
+    ap (λ (bits : List Bool). headed_at format p.extra (record { at = p.from; bits = bits })) t.parts ∙ again.read in
+    let four : slice_at s.header p.begins again.left ≡ Ok (s.first, s.mbs) =
+    slice_complete s.header p.begins s.first s.mbs again.left (subst (λ (bits : List Bool). IsSliceText s.header p.begins s.first s.mbs bits) (sym again.bits) t.text) in
+    rw (one, two, three, four) refl
+
+-- ---- what a call leaves
+
+pub fills_packet : (r : Result Piece Fault) (out : List Mb) (format : Format) (bytes : List ℕ) → FillsPacket r out (packet_at format bytes) → IfOk r (λ piece. IsPacket format (slice_in piece out) bytes)
+fills_packet (Ok piece) out format bytes g = packet_sound format (slice_in piece out) bytes g
+fills_packet (Err fault) out format bytes g = tt
+
+pub packet_fills : (r : Result Piece Fault) (out : List Mb) (format : Format) (bytes : List ℕ) → IfOk r (IsPieceIn format out) → length out ≡ mbs_of format → FillsPacket r out (packet_at format bytes)
+    → (s : Slice) → IsPacket format s bytes → IsOkAnd r (λ piece. (piece.head.count ≡ length s.mbs) × (slice_in piece out ≡ s))
+packet_fills (Ok piece) out format bytes range size g s is =
+    let same = ok_is (slice_in piece out) s (sym g ∙ packet_complete format s bytes is) in
+    let first = piece.head.first in
+    let count = piece.head.count in
+    let sized : length out ≡ mbs_of piece.header.format = size ∙ ap mbs_of (sym range.of-format) in
+    let long : length (mbs_from first count out) ≡ count = length-take-le count (drop first out) (omega (arith, sized, length-drop first out, range.slice.head.within)) in
+    (sym long ∙ ap (λ (x : Slice). length x.mbs) same, same)
+packet_fills (Err fault) out format bytes range size g s is = absurd (err_not_ok fault s (sym g ∙ packet_complete format s bytes is))
+
+pub fault_is : (r : Result Piece Fault) (out : List Mb) (read : Result Slice Fault) → FillsPacket r out read → first_fault r ≡ first_fault read
+fault_is (Ok piece) out read g = ap first_fault (sym g)
+fault_is (Err fault) out read g = ap first_fault (sym g)
+
+-- ---- laws
+
+pub no_fault : (format : Format) (bytes : List ℕ) → packet_fault format bytes ≡ None → (s : Slice) × IsPacket format s bytes
+no_fault format bytes e = at (packet_at format bytes) refl e
+  where
+    at : (r : Result Slice Fault) → packet_at format bytes ≡ r → first_fault r ≡ None → (s : Slice) × IsPacket format s bytes
+    at (Ok s) is e = (s, packet_sound format s bytes is)
+    at (Err fault) is e = absurd cc
+
+pub one_packet : (format : Format) (s other : Slice) (bytes : List ℕ) → IsPacket format s bytes → IsPacket format other bytes → s ≡ other
+one_packet format s other bytes p q = ok_is s other (sym (packet_complete format s bytes p) ∙ packet_complete format other bytes q)

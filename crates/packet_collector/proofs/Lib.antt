@@ -1,0 +1,5 @@
+mod Exact
+mod AllMarks
+mod Pieces
+mod Rows
+mod Places

@@ -1,0 +1,5 @@
+use Rattle.packet_collector.proofs.Exact.{one_packet}
+use Rattle.packet_collector.proofs.laws.one_reading.Goals as goal
+
+pub returns : goal.returns
+returns c = λ format s other bytes p q. one_packet format s other bytes p q

@@ -1,0 +1,4 @@
+pub mod Packet
+pub mod Filled
+pub mod Taken
+pub mod Collected

@@ -1,0 +1,16 @@
+//! Laws about packets, over the definitions alone.
+ghost use Rattle.std.specs.Prelude.{◌≡◌, ◌↔◌, ℕ, List, Ok, None};
+ghost use Rattle.h263_types.specs.declared.format.Format.{Format};
+ghost use Rattle.packet_collector.specs.Packet.{Slice, IsPacket, packet_at, packet_fault};
+
+/// Bytes are read as a packet exactly where they are one, and there is no first fault exactly where they are a packet of
+/// some slice.
+pub fn exact_text()
+    ensures read { (format : Format) (s : Slice) (bytes : List ℕ) → (packet_at format bytes ≡ Ok s) ↔ IsPacket format s bytes }
+    ensures no_fault { (format : Format) (bytes : List ℕ) → (packet_fault format bytes ≡ None) ↔ ((s : Slice) × IsPacket format s bytes) }
+{}
+
+/// A whole packet spells one slice: its header, its first macroblock and its macroblocks.
+pub fn one_reading()
+    ensures { (format : Format) (s other : Slice) (bytes : List ℕ) → IsPacket format s bytes → IsPacket format other bytes → s ≡ other }
+{}

@@ -1,0 +1,5 @@
+//! Packets read, each fault at its place, and pieces collected.
+mod collected;
+mod faults;
+mod packets;
+mod read;
