@@ -32,3 +32,13 @@ unfoldable pub IsCut : Header → ℕ → ℕ → List Mb → List (List Mb) →
 IsCut h limit first mbs [] = mbs ≡ []
 IsCut h limit first mbs (run ∷ runs) =
     (rest : List Mb) × (mbs ≡ run ++ rest) × IsLongest h limit first run rest × IsCut h limit (first + length run) rest runs
+
+-- the macroblocks of slices, one slice after the other
+abbrev pub joined : List (List Mb) → List Mb
+joined [] = []
+joined (run ∷ runs) = run ++ joined runs
+
+-- slices, the first of which begins with macroblock `first`: none is empty, and each keeps its packet within the limit
+unfoldable pub Fit : Header → ℕ → ℕ → List (List Mb) → Type 0
+Fit h limit first [] = Unit {0}
+Fit h limit first (run ∷ runs) = (0 < length run) × (packet_bytes h first run ≤ limit) × Fit h limit (first + length run) runs

@@ -1,2 +1,4 @@
 pub mod Cut
 pub mod Packets
+pub mod Styles
+pub mod Again
