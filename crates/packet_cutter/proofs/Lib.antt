@@ -3,3 +3,6 @@ pub mod Cuts
 pub mod Styled
 pub mod Counted
 pub mod Reread
+pub mod Packed
+pub mod Places
+pub mod Turns

@@ -3,4 +3,9 @@
 //! `specs/Cut` says where a picture is cut, and `specs/Packets` gives each packet's bits.
 #![tactic(auto)]
 
+mod cutter;
+mod filling;
 pub mod laws;
+mod packets;
+
+pub use cutter::Cutter;
