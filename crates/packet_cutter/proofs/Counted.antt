@@ -1,5 +1,5 @@
 -- How many packets there are, and how many bytes each has.
-use Rattle.std.proofs.Common.{◌≡◌, ℕ, ◌+◌, ◌*◌, ◌/◌, ◌%◌, ◌<◌, ◌≤◌, Bool, List, [], ◌∷◌, ◌++◌, length, refl, sym, ap, subst, ◌∙◌, arith}
+use Rattle.std.proofs.Common.{◌≡◌, ℕ, ◌+◌, ◌*◌, ◌%◌, ◌≤◌, Bool, List, [], ◌∷◌, ◌++◌, length, sym, ap, subst, arith}
 use Rattle.std.specs.Prelude.{All}
 use Rattle.std.proofs.lemmas.List.{length-append}
 use Rattle.std.proofs.lemmas.List.Elements.{All-nil, All-cons}
@@ -10,10 +10,10 @@ use Rattle.h263_bits.proofs.BitLists.{length-spelled, length-bits_of}
 use Rattle.h263_bits.proofs.SyntaxLaws.{length-fields}
 use Rattle.picture_header.specs.declared.header.Header.{Header}
 use Rattle.rtp_header.specs.Written.{rtp_fields}
-use Rattle.h263_payload.specs.Written.{written_payload, payload_bits}
+use Rattle.h263_payload.specs.Written.{written_payload}
 use Rattle.h263_payload.proofs.Written.{length-written_payload}
 use Rattle.slice_layer.specs.Written.{slice_text, padded, bytes_of}
-use Rattle.packet_cutter.specs.Cut.{begins_at, extra_of, front_bytes, packet_bytes, IsCut}
+use Rattle.packet_cutter.specs.Cut.{begins_at, extra_of, packet_bytes, IsCut}
 use Rattle.packet_cutter.specs.Packets.{timestamp_of, packet_text, is_last, ArePackets}
 use Rattle.packet_cutter.proofs.Fronts.{front_whole}
 

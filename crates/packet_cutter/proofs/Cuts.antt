@@ -1,20 +1,19 @@
 -- The laws of the cut: there is one, and one only.
-use Rattle.std.proofs.Common.{◌≡◌, ℕ, zero, suc, ◌+◌, ◌-◌, ◌*◌, ◌/◌, ◌%◌, ◌<◌, ◌≤◌, Bool, true, false, List, [], ◌∷◌, ◌++◌, length, drop, refl, sym, ap, subst, ◌∙◌, append_assoc, arith, inl, inr}
+use Rattle.std.proofs.Common.{◌≡◌, ℕ, zero, suc, ◌+◌, ◌/◌, ◌<◌, ◌≤◌, Bool, List, [], ◌∷◌, ◌++◌, length, refl, sym, ap, subst, ◌∙◌, append_assoc, arith, inl, inr}
 use Rattle.std.specs.Prelude.{◌⊎◌, All}
 use Rattle.std.proofs.Math.Seq.{drop-append_seam}
 use Rattle.std.proofs.lemmas.Bool.{cases_lt}
 use Rattle.std.proofs.lemmas.List.{append-nil, length-append}
-use Rattle.std.proofs.lemmas.List.Elements.{All-nil, All-cons, All-drop, All-get_or}
+use Rattle.std.proofs.lemmas.List.Elements.{All-drop}
 use Rattle.h263_types.specs.declared.blocks.Mb.{Mb}
 use Rattle.h263_bits.specs.Written.{to_byte}
 use Rattle.picture_header.specs.declared.header.Header.{Header}
 use Rattle.picture_header.specs.Ranges.{IsHeader}
 use Rattle.macroblock_layer.specs.Written.{mb_text, IsWhole}
-use Rattle.h263_payload.specs.Written.{payload_bits}
 use Rattle.slice_layer.specs.Around.{Around, around, quant_after}
-use Rattle.slice_layer.specs.Written.{opening_text, mbs_text, slice_text, bytes_of}
+use Rattle.slice_layer.specs.Written.{opening_text, mbs_text}
 use Rattle.slice_layer.proofs.Adding.{one_short}
-use Rattle.packet_cutter.specs.Cut.{begins_at, extra_of, front_bytes, packet_bytes, IsLongest, IsCut, joined, Fit}
+use Rattle.packet_cutter.specs.Cut.{begins_at, packet_bytes, IsLongest, IsCut, joined, Fit}
 use Rattle.packet_cutter.proofs.Fronts.{front_short}
 
 -- ---- a longer slice has no shorter packet
@@ -72,8 +71,8 @@ divided (x ∷ a) b (y ∷ c) d e =
     let same : x ≡ y = cc in
     let tails : a ++ b ≡ c ++ d = cc in
     elim (divided a b c d tails) [
-      inl w ↦ inl (record { more = w.more; front = ap (λ (t : List Mb). y ∷ t) w.front ∙ ap (λ (z : Mb). z ∷ (a ++ w.more)) (sym same); behind = w.behind })
-    | inr w ↦ inr (record { more = w.more; front = ap (λ (t : List Mb). x ∷ t) w.front ∙ ap (λ (z : Mb). z ∷ (c ++ w.more)) same; behind = w.behind })
+      | inl w ↦ inl (record { more = w.more; front = ap (λ (t : List Mb). y ∷ t) w.front ∙ ap (λ (z : Mb). z ∷ (a ++ w.more)) (sym same); behind = w.behind })
+      | inr w ↦ inr (record { more = w.more; front = ap (λ (t : List Mb). x ∷ t) w.front ∙ ap (λ (z : Mb). z ∷ (c ++ w.more)) same; behind = w.behind })
     ]
 
 no_further : (h : Header) (limit first : ℕ) (run rest other left : List Mb) → IsLongest h limit first run rest → IsLongest h limit first other left → IsFurther run rest other left → (run ≡ other) × (rest ≡ left)
@@ -87,8 +86,8 @@ no_further h limit first run rest other left a b w = at_more w.more w.front w.be
 same_run : (h : Header) (limit first : ℕ) (run rest other left : List Mb) → IsLongest h limit first run rest → IsLongest h limit first other left → run ++ rest ≡ other ++ left → (run ≡ other) × (rest ≡ left)
 same_run h limit first run rest other left a b e =
     elim (divided run rest other left e) [
-      inl w ↦ no_further h limit first run rest other left a b w
-    | inr w ↦ let p = no_further h limit first other left run rest b a w in (sym p.0, sym p.1)
+      | inl w ↦ no_further h limit first run rest other left a b w
+      | inr w ↦ let p = no_further h limit first other left run rest b a w in (sym p.0, sym p.1)
     ]
 
 no_slice : (mbs run rest : List Mb) → mbs ≡ [] → mbs ≡ run ++ rest → 0 < length run → ⊥
@@ -135,17 +134,18 @@ grown h limit first run [] some fits = record {
 }
 grown h limit first run (m ∷ rest) some fits =
     elim (cases_lt limit (packet_bytes h first (run ++ m ∷ []))) [
-      inl past ↦ record {
+      | inl past ↦ record {
         more = [];
         others = m ∷ rest;
         parts = refl;
         longest = subst (λ (l : List Mb). IsLongest h limit first l (m ∷ rest)) (sym (append-nil run)) (longest_by_next h limit first run (m ∷ rest) some fits (λ n others e. here n others e past));
       }
-    | inr within ↦ one_further (grown h limit first (run ++ m ∷ []) rest (omega (arith, length-append run (m ∷ []))) within)
+      | inr within ↦ one_further (grown h limit first (run ++ m ∷ []) rest (omega (arith, length-append run (m ∷ []))) within)
     ]
   where
     here : (n : Mb) (others : List Mb) → m ∷ rest ≡ n ∷ others → limit < packet_bytes h first (run ++ m ∷ []) → limit < packet_bytes h first (run ++ n ∷ [])
     here n others e past = let same : m ≡ n = cc in subst (λ (k : Mb). limit < packet_bytes h first (run ++ k ∷ [])) same past
+
     one_further : IsGrown h limit first (run ++ m ∷ []) rest → IsGrown h limit first run (m ∷ rest)
     one_further g = record {
       more = m ∷ g.more;

@@ -1,10 +1,9 @@
 -- How many bytes stand in front of a packet's data.
-use Rattle.std.proofs.Common.{◌≡◌, ℕ, ◌+◌, ◌*◌, ◌/◌, ◌%◌, ◌<◌, ◌≤◌, Bool, true, false, Option, Some, None, List, length, refl, ap, ◌∙◌, arith}
-use Rattle.h263_bits.specs.Written.{to_byte}
+use Rattle.std.proofs.Common.{◌≡◌, ℕ, ◌+◌, ◌*◌, ◌/◌, ◌≤◌, Bool, true, false, Option, Some, None, arith}
 use Rattle.picture_header.specs.declared.header.Header.{Header}
 use Rattle.picture_header.specs.Ranges.{IsHeader}
-use Rattle.picture_header.specs.Written.{written_bits, reference_bits}
-use Rattle.h263_payload.specs.Written.{payload_bits, bytes_of, padding_of}
+use Rattle.picture_header.specs.Written.{reference_bits}
+use Rattle.h263_payload.specs.Written.{payload_bits, bytes_of}
 use Rattle.packet_cutter.specs.Cut.{begins_at, extra_of, front_bytes}
 
 pub trp_short : (trp : Option ℕ) → reference_bits trp ≤ 10

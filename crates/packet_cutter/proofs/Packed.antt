@@ -1,9 +1,9 @@
 -- What is written in the bytes of one packet.
-use Rattle.std.proofs.Common.{◌≡◌, ℕ, suc, ◌+◌, ◌*◌, ◌/◌, ◌%◌, ◌<◌, ◌≤◌, Bool, List, [], ◌∷◌, ◌++◌, length, take, drop, get_or, refl, sym, ap, subst, ◌∙◌, append_assoc, arith}
+use Rattle.std.proofs.Common.{◌≡◌, ℕ, suc, ◌+◌, ◌*◌, ◌%◌, ◌<◌, ◌≤◌, Bool, List, [], ◌∷◌, ◌++◌, length, take, drop, get_or, sym, ap, subst, ◌∙◌, append_assoc, arith}
 use Rattle.std.specs.Prelude.{◌==◌}
 use Rattle.std.proofs.Math.Nat.{mod-eq_of_lt}
 use Rattle.std.proofs.Math.Seq.{drop-cons, take-append-add}
-use Rattle.std.proofs.lemmas.List.{length-append, length-drop, length-take-le, take_all, take_more}
+use Rattle.std.proofs.lemmas.List.{length-drop, length-take-le, take_all, take_more}
 use Rattle.h263_types.specs.declared.blocks.Mb.{Mb}
 use Rattle.h263_bits.specs.Bits.{bits_of, fields}
 use Rattle.h263_bits.proofs.BitLists.{length-bits_of, bits_of-append}
@@ -12,7 +12,7 @@ use Rattle.rtp_header.specs.Written.{rtp_fields}
 use Rattle.h263_payload.specs.Written.{written_payload}
 use Rattle.slice_layer.specs.Written.{slice_text, padded, bytes_of}
 use Rattle.packet_cutter.specs.Cut.{begins_at, extra_of, front_bytes, packet_bytes, IsLongest}
-use Rattle.packet_cutter.specs.Packets.{timestamp_of, packet_text, BeginsWith}
+use Rattle.packet_cutter.specs.Packets.{timestamp_of, BeginsWith}
 use Rattle.packet_cutter.proofs.Cuts.{longest_by_next}
 
 -- bytes whose bits were all written

@@ -1,6 +1,6 @@
 -- The packets that are kept: as many as there are places, each between its place and the next.
-use Rattle.std.proofs.Common.{◌≡◌, ◌≢◌, ℕ, zero, suc, ◌+◌, ◌-◌, ◌*◌, ◌<◌, ◌≤◌, List, [], ◌∷◌, ◌++◌, length, take, drop, get_or, set, length-set, refl, sym, ap, subst, ◌∙◌, arith, add-one, get_or-set_other, get_or-set_same, inl, inr}
-use Rattle.std.specs.Prelude.{slice_range, ◌⊎◌}
+use Rattle.std.proofs.Common.{◌≡◌, ◌≢◌, ℕ, zero, suc, ◌+◌, ◌-◌, ◌*◌, ◌<◌, ◌≤◌, List, [], ◌∷◌, ◌++◌, length, take, drop, get_or, set, length-set, refl, sym, ap, ◌∙◌, arith, add-one, get_or-set_other, get_or-set_same, inl, inr}
+use Rattle.std.specs.Prelude.{slice_range}
 use Rattle.std.proofs.lemmas.Bool.{cases_lt}
 use Rattle.std.proofs.lemmas.List.{length-append, length-take, length-take-le, length-drop, drop-take, take_at, drop_at, take-append-le}
 use Rattle.std.proofs.Math.ListN.{get_or-append}
@@ -22,13 +22,13 @@ unfolding packets_in
 packet_is bytes places zero i lt = absurd (omega arith)
 packet_is bytes places (suc n) i lt =
     elim (cases_lt i n) [
-      inl below ↦
-        let low : i < length (packets_in bytes places n) = omega (arith, below, length-packets bytes places n) in
-        get_or-append (packets_in bytes places n) (packet_at bytes places n ∷ []) [] i low ∙ packet_is bytes places n i below
-    | inr last ↦
-        let e : i ≡ length (packets_in bytes places n) = omega (arith, lt, last, length-packets bytes places n) in
-        let m : n ≡ i = omega (arith, lt, last) in
-        ap (λ (k : ℕ). get_or (packets_in bytes places n ++ packet_at bytes places n ∷ []) k []) e ∙ get_or-append_seam (packets_in bytes places n) (packet_at bytes places n) [] [] ∙ ap (packet_at bytes places) m
+      | inl below ↦
+          let low : i < length (packets_in bytes places n) = omega (arith, below, length-packets bytes places n) in
+          get_or-append (packets_in bytes places n) (packet_at bytes places n ∷ []) [] i low ∙ packet_is bytes places n i below
+      | inr last ↦
+          let e : i ≡ length (packets_in bytes places n) = omega (arith, lt, last, length-packets bytes places n) in
+          let m : n ≡ i = omega (arith, lt, last) in
+          ap (λ (k : ℕ). get_or (packets_in bytes places n ++ packet_at bytes places n ∷ []) k []) e ∙ get_or-append_seam (packets_in bytes places n) (packet_at bytes places n) [] [] ∙ ap (packet_at bytes places) m
     ]
 
 -- a window within the first bytes
@@ -83,22 +83,27 @@ placed_more places limit n size p room few = record { whole = length-set places 
   where
     at : ℕ
     at = get_or places n 0
+
     last : get_or (set places (n + 1) (get_or places n 0 + size)) (n + 1) 0 ≡ get_or places n 0 + size
     last = new_place places n (get_or places n 0 + size) (omega (arith, p.whole))
+
     kept : (i : ℕ) → i ≤ n → get_or (set places (n + 1) (get_or places n 0 + size)) i 0 ≡ get_or places i 0
     kept i le = other_place places n (get_or places n 0 + size) i le
+
     order : (i : ℕ) → i < n + 1 → get_or (set places (n + 1) (get_or places n 0 + size)) i 0 ≤ get_or (set places (n + 1) (get_or places n 0 + size)) (i + 1) 0
     order i lt =
         elim (cases_lt i n) [
-          inl below ↦ omega (arith, kept i (omega arith), kept (i + 1) (omega arith), p.order i below)
-        | inr same ↦ let e : i ≡ n = omega arith in rw e (omega (arith, kept n (omega arith), last))
+          | inl below ↦ omega (arith, kept i (omega arith), kept (i + 1) (omega arith), p.order i below)
+          | inr same ↦ let e : i ≡ n = omega arith in rw e (omega (arith, kept n (omega arith), last))
         ]
+
     within : (i : ℕ) → i < n + 1 → get_or (set places (n + 1) (get_or places n 0 + size)) (i + 1) 0 ≤ get_or (set places (n + 1) (get_or places n 0 + size)) (n + 1) 0
     within i lt =
         elim (cases_lt i n) [
-          inl below ↦ omega (arith, kept (i + 1) (omega arith), last, p.within i below)
-        | inr same ↦ let e : i ≡ n = omega arith in rw e (omega arith)
+          | inl below ↦ omega (arith, kept (i + 1) (omega arith), last, p.within i below)
+          | inr same ↦ let e : i ≡ n = omega arith in rw e (omega arith)
         ]
+
     end : get_or (set places (n + 1) (get_or places n 0 + size)) (n + 1) 0 ≤ limit * (n + 1)
     end = omega (arith, last, p.end)
 

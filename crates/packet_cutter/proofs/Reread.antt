@@ -1,8 +1,6 @@
 -- What is written of a packet is read as its header and its slice.
-use Rattle.std.proofs.Common.{◌≡◌, ℕ, ◌+◌, ◌-◌, ◌*◌, ◌/◌, ◌%◌, ◌^◌, ◌<◌, ◌≤◌, Bool, true, false, not, Option, Some, None, List, [], ◌∷◌, ◌++◌, length, take, drop, Result, Ok, refl, sym, ap, subst, ◌∙◌, append_assoc, arith}
-use Rattle.std.specs.Prelude.{◌==◌}
+use Rattle.std.proofs.Common.{◌≡◌, ℕ, ◌+◌, ◌-◌, ◌*◌, ◌%◌, ◌<◌, ◌≤◌, Bool, true, false, Some, None, List, [], ◌++◌, length, take, drop, Result, Ok, refl, sym, ap, ◌∙◌, append_assoc, arith}
 use Rattle.std.proofs.lemmas.List.{length-append, length-drop, take-append-drop, take_at, drop_at, take_all}
-use Rattle.h263_types.specs.declared.format.Format.{Format}
 use Rattle.h263_types.specs.declared.blocks.Mb.{Mb}
 use Rattle.h263_types.specs.Sizes.{mbs_of}
 use Rattle.h263_bits.specs.declared.fault.Fault.{Fault}
@@ -20,18 +18,17 @@ use Rattle.rtp_header.specs.Written.{rtp_fields}
 use Rattle.rtp_header.proofs.Writing.{written_again}
 use Rattle.h263_payload.specs.declared.payload.Payload.{Payload}
 use Rattle.h263_payload.specs.Text.{IsBegun}
-use Rattle.h263_payload.specs.Faults.{payload_at, payload_bits_of}
-use Rattle.h263_payload.specs.Written.{written_payload, payload_bits}
+use Rattle.h263_payload.specs.Faults.{payload_at}
+use Rattle.h263_payload.specs.Written.{written_payload}
 use Rattle.h263_payload.proofs.Written.{picture_again, slice_again, length-written_payload}
 use Rattle.slice_layer.specs.Around.{around}
-use Rattle.slice_layer.specs.Text.{IsSliceText}
-use Rattle.slice_layer.specs.Written.{head_text, opening_text, mbs_text, slice_text, padded, bytes_of, IsPlace, AreWritable}
+use Rattle.slice_layer.specs.Written.{head_text, opening_text, mbs_text, slice_text, padded, AreWritable}
 use Rattle.slice_layer.proofs.Written.{slice_spelt, zeros_are_padding}
-use Rattle.packet_cutter.specs.Cut.{begins_at, extra_of, front_bytes, packet_bytes}
+use Rattle.packet_cutter.specs.Cut.{begins_at, extra_of, front_bytes}
 use Rattle.packet_cutter.specs.Packets.{timestamp_of, packet_text}
-use Rattle.packet_cutter.specs.Again.{IsHeaded, rtp_of, payload_of, IsReadAs}
+use Rattle.packet_cutter.specs.Again.{IsHeaded, rtp_of, IsReadAs}
 use Rattle.packet_cutter.proofs.Fronts.{front_whole}
-use Rattle.packet_cutter.proofs.Counted.{length-padded, length-rtp}
+use Rattle.packet_cutter.proofs.Counted.{length-rtp}
 
 -- ---- windows of bytes whose bits are known
 

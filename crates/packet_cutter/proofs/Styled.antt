@@ -1,5 +1,5 @@
 -- The cut depends on the header's style alone.
-use Rattle.std.proofs.Common.{◌≡◌, ℕ, ◌+◌, ◌*◌, ◌/◌, ◌%◌, ◌<◌, ◌≤◌, Bool, true, false, Option, Some, None, List, [], ◌∷◌, ◌++◌, length, refl, sym, ap, subst, ◌∙◌, arith}
+use Rattle.std.proofs.Common.{◌≡◌, ℕ, ◌+◌, ◌*◌, ◌/◌, ◌<◌, Bool, true, false, Option, Some, None, List, [], ◌∷◌, ◌++◌, length, refl, ap, subst, ◌∙◌, arith}
 use Rattle.std.specs.Prelude.{is_some}
 use Rattle.std.proofs.lemmas.List.{length-append}
 use Rattle.h263_types.specs.declared.Kind.{Kind}
@@ -7,10 +7,9 @@ use Rattle.h263_types.specs.declared.format.Format.{Format}
 use Rattle.h263_types.specs.declared.blocks.Mb.{Mb}
 use Rattle.h263_bits.specs.Written.{to_byte}
 use Rattle.picture_header.specs.declared.header.Header.{Header}
-use Rattle.picture_header.specs.Ranges.{messages_in}
 use Rattle.picture_header.specs.Written.{written_bits, reference_bits}
 use Rattle.h263_payload.specs.Written.{payload_bits}
-use Rattle.slice_layer.specs.Around.{Around, around}
+use Rattle.slice_layer.specs.Around.{around}
 use Rattle.slice_layer.specs.Head.{address_bits}
 use Rattle.slice_layer.specs.Written.{opening_text, mbs_text, slice_text, bytes_of}
 use Rattle.slice_layer.proofs.Openings.{length-begins, length-later}

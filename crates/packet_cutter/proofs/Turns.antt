@@ -1,5 +1,5 @@
 -- A picture is cut packet after packet.
-use Rattle.std.proofs.Common.{◌≡◌, ℕ, zero, suc, ◌+◌, ◌*◌, ◌%◌, ◌<◌, ◌≤◌, Bool, true, false, List, [], ◌∷◌, ◌++◌, length, take, drop, refl, sym, ap, subst, ◌∙◌, append_assoc, arith}
+use Rattle.std.proofs.Common.{◌≡◌, ℕ, ◌+◌, ◌%◌, ◌<◌, ◌≤◌, Bool, true, false, List, [], ◌∷◌, ◌++◌, length, take, drop, refl, sym, ap, subst, ◌∙◌, append_assoc, arith}
 use Rattle.std.specs.Prelude.{◌==◌}
 use Rattle.std.proofs.lemmas.Bool.{eq-eqb, ne_eqb}
 use Rattle.std.proofs.lemmas.List.{length-append, length-drop, length-take-le, take-append-drop, drop-drop, drop_all}
@@ -52,20 +52,26 @@ turned number sequence s h limit mbs first n packets packet u lt same next = rec
   where
     left_is : drop n (drop first mbs) ≡ drop (first + n) mbs
     left_is = drop-drop n first mbs
+
     parts : drop first mbs ≡ take n (drop first mbs) ++ drop (first + n) mbs
     parts = sym (take-append-drop n (drop first mbs)) ∙ ap (λ (t : List Mb). take n (drop first mbs) ++ t) left_is
+
     len : length (take n (drop first mbs)) ≡ n
     len = length-take-le n (drop first mbs) next.few
+
     longest : IsLongest h limit first (take n (drop first mbs)) (drop (first + n) mbs)
     longest = subst (λ (t : List Mb). IsLongest h limit first (take n (drop first mbs)) t) left_is next.longest
+
     text : (last : Bool) → (n == length (drop first mbs)) ≡ last → bits_of packet ≡ packet_text number (sequence + length packets) last h first (take n (drop first mbs))
     text last e = next.text ∙ ap (λ (b : Bool). packet_text number s b h first (take n (drop first mbs))) e ∙ same_text number s (sequence + length packets) last h first (take n (drop first mbs)) same
+
     ends : first + n ≡ length mbs → ArePacketsOf number sequence h limit mbs (packets ++ packet ∷ [])
     ends e =
         let none : drop (first + n) mbs ≡ [] = drop_all (first + n) mbs (omega (arith, e)) in
         let all : n ≡ length (drop first mbs) = omega (arith, e, length-drop first mbs) in
         let last = text true (eq-eqb n (length (drop first mbs)) all) in
         u.goes lt (take n (drop first mbs) ∷ []) (packet ∷ []) (omega arith) (drop (first + n) mbs, parts, longest, none) (packet, [], refl, last, refl)
+
     goes : first + n < length mbs → Goes number sequence h limit mbs (first + n) (packets ++ packet ∷ [])
     goes further others more some cut each =
         let part : (n == length (drop first mbs)) ≡ false = ne_eqb n (length (drop first mbs)) (λ e. omega (arith, e, further, length-drop first mbs)) in

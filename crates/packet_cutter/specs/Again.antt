@@ -1,5 +1,5 @@
 -- What a packet is read as that was written.
-use Rattle.std.specs.Prelude.{◌≡◌, ℕ, ◌+◌, ◌*◌, ◌%◌, Bool, List, [], ◌++◌, length, Option, Some, None, Ok}
+use Rattle.std.specs.Prelude.{◌≡◌, ℕ, ◌*◌, ◌%◌, Bool, List, [], ◌++◌, length, Option, Some, None, Ok}
 use Rattle.h263_types.specs.declared.format.Format.{Format}
 use Rattle.h263_types.specs.declared.blocks.Mb.{Mb}
 use Rattle.h263_bits.specs.Reading.{bits_between}

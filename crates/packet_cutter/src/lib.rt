@@ -7,5 +7,7 @@ mod cutter;
 mod filling;
 pub mod laws;
 mod packets;
+#[cfg(test)]
+mod tests;
 
 pub use cutter::Cutter;

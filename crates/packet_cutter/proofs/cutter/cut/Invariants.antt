@@ -1,4 +1,4 @@
-use Rattle.std.proofs.Common.{◌≡◌, ℕ, ◌-◌, ◌≤◌, length}
+use Rattle.std.proofs.Common.{◌≡◌, ◌-◌, ◌≤◌, length}
 use Rattle.packet_cutter.specs.Kept.{most_bytes, room_of, count_of, kept_packets}
 use Rattle.packet_cutter.proofs.Turns.{IsUnderWay}
 use Rattle.packet_cutter.proofs.cutter.cut.Given as goal

@@ -1,4 +1,4 @@
-use Rattle.std.proofs.Common.{◌≡◌, ℕ, ◌+◌, ◌≤◌, Bool, [], take, length}
+use Rattle.std.proofs.Common.{◌≡◌, ℕ, ◌+◌, Bool, [], take, length}
 use Rattle.picture_header.specs.declared.header.Header.{Header}
 use Rattle.slice_layer.specs.Writer.{kind_of, format_of, first_of, next_of, quant_of, bytes_in, loan_of, Holds}
 use Rattle.packet_cutter.proofs.filling.fill.Given as goal

@@ -1,4 +1,4 @@
-use Rattle.std.proofs.Common.{◌≡◌, ℕ, ◌+◌, ◌<◌, ◌≤◌, ◌++◌, length, subst, sym, arith}
+use Rattle.std.proofs.Common.{◌≡◌, ℕ, ◌+◌, ◌<◌, ◌++◌, length, subst, sym, arith}
 use Rattle.packet_cutter.specs.Cut.{front_bytes}
 use Rattle.packet_cutter.specs.Packets.{BeginsWith}
 use Rattle.packet_cutter.proofs.Packed.{packet_begun}

@@ -1,6 +1,5 @@
-use Rattle.std.proofs.Common.{◌≡◌, ◌+◌, ◌*◌, ◌≤◌, List, Bool, ◌++◌, length, take, sym, ap, ◌∙◌, arith}
+use Rattle.std.proofs.Common.{List, Bool, ◌++◌, sym, ap, ◌∙◌, arith}
 use Rattle.h263_bits.specs.Bits.{bits_of}
-use Rattle.h263_bits.specs.Written.{len_of}
 use Rattle.h263_payload.specs.Written.{written_payload}
 use Rattle.packet_cutter.specs.Cut.{extra_of}
 use Rattle.packet_cutter.proofs.Packed.{written_whole}

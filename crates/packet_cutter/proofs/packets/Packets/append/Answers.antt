@@ -1,4 +1,4 @@
-use Rattle.std.proofs.Common.{◌≡◌, ℕ, ◌+◌, ◌-◌, ◌*◌, ◌<◌, ◌≤◌, List, length, take, drop, get_or, set, subst, sym, ap, ◌∙◌, arith}
+use Rattle.std.proofs.Common.{◌≡◌, ℕ, ◌+◌, ◌-◌, ◌≤◌, List, length, take, drop, get_or, set, subst, sym, ap, ◌∙◌, arith}
 use borrow.Rule.Slice.PartMut.{post_of, put_mid, same_len_mid}
 use Rattle.std.proofs.lemmas.List.{with_items_is}
 use Rattle.packet_cutter.specs.Packets.{BeginsWith}
