@@ -1,0 +1,47 @@
+-- What the cutter holds: a picture so far, and the packets of the one that was finished last.
+use Rattle.std.specs.Prelude.{◌≡◌, ℕ, List, take, All}
+use Rattle.h263_types.specs.declared.Kind.{Kind}
+use Rattle.h263_types.specs.declared.format.Format.{Format}
+use Rattle.h263_types.specs.declared.blocks.Mb.{Mb}
+use Rattle.picture_header.specs.declared.header.Header.{Header}
+use Rattle.packet_cutter.specs.declared.cutter.Cutter.{Cutter}
+use Rattle.picture_header.specs.Ranges.{IsHeader}
+use Rattle.packet_cutter.specs.Taken.{IsTaken}
+use Rattle.packet_cutter.specs.Kept.{most_bytes, kept_packets}
+
+-- the format of its pictures, and the most bytes of a packet
+abbrev pub format_of : Cutter → Format
+format_of c = c.header.format
+
+abbrev pub limit_of : Cutter → ℕ
+limit_of c = most_bytes c.packets
+
+-- the kind and the quantiser of the picture
+abbrev pub kind_of : Cutter → Kind
+kind_of c = c.header.kind
+
+abbrev pub quant_of : Cutter → ℕ
+quant_of c = c.header.quant
+
+-- how many of the picture's macroblocks were added
+abbrev pub added_of : Cutter → ℕ
+added_of c = c.added
+
+-- the sequence number of the next packet
+abbrev pub sequence_of : Cutter → ℕ
+sequence_of c = c.sequence
+
+-- the packets of the picture that was finished last
+abbrev pub packets_of : Cutter → List (List ℕ)
+packets_of c = kept_packets c.packets
+
+-- a picture is begun, and its macroblocks so far are of its kind and have its quantiser
+pub record IsBegun (c : Cutter) : Type 0 where
+  pub header : IsHeader c.header
+  pub each : All (IsTaken (kind_of c) (quant_of c)) (take c.added c.mbs.items)
+
+-- this picture was begun, and these are its macroblocks so far
+pub record Holds (c : Cutter) (number : ℕ) (h : Header) (mbs : List Mb) : Type 0 where
+  pub number_is : c.number ≡ number
+  pub header_is : c.header ≡ h
+  pub mbs_are : take c.added c.mbs.items ≡ mbs

@@ -1,0 +1,7 @@
+pub mod Cut
+pub mod Packets
+pub mod Styles
+pub mod Again
+pub mod Taken
+pub mod Kept
+pub mod Cutting

@@ -1,0 +1,34 @@
+-- What the cutter takes, and where it keeps the packets.
+use Rattle.std.specs.Prelude.{◌≡◌, ℕ, zero, suc, ◌+◌, ◌*◌, ◌<◌, ◌≤◌, List, [], ◌∷◌, ◌++◌, length, slice_index, slice_range}
+use Rattle.h263_types.specs.declared.Kind.{Kind}
+use Rattle.h263_types.specs.declared.blocks.Mb.{Mb}
+use Rattle.h263_types.specs.declared.blocks.Mb.TheVariants.{Skip, Intra, Inter}
+use Rattle.h263_types.specs.Blocks.{IsMb, IsOfKind}
+
+-- the macroblock's quantiser, if it has one, is this one
+abbrev pub HasQuant : ℕ → Mb → Type 0
+HasQuant quant Skip = Unit {0}
+HasQuant quant (Intra q blocks) = q ≡ quant
+HasQuant quant (Inter q vector blocks) = q ≡ quant
+
+-- a macroblock of a picture of this kind and with this quantiser
+pub record IsTaken (kind : Kind) (quant : ℕ) (m : Mb) : Type 0 where
+  pub in_range : IsMb m
+  pub of_kind : IsOfKind kind m
+  pub steady : HasQuant quant m
+
+-- packet i, where each begins at its place and ends at the next one
+abbrev pub packet_at : List ℕ → List ℕ → ℕ → List ℕ
+packet_at bytes places i = slice_range bytes (slice_index places i) (slice_index places (i + 1))
+
+-- the first so many packets
+unfoldable pub packets_in : List ℕ → List ℕ → ℕ → List (List ℕ)
+packets_in bytes places zero = []
+packets_in bytes places (suc n) = packets_in bytes places n ++ packet_at bytes places n ∷ []
+
+-- the places stand in order, and so many packets end within as many times the limit
+pub record ArePlaced (limit : ℕ) (places : List ℕ) (count : ℕ) : Type 0 where
+  pub whole : length places ≡ 397
+  pub order : (i : ℕ) → i < count → slice_index places i ≤ slice_index places (i + 1)
+  pub within : (i : ℕ) → i < count → slice_index places (i + 1) ≤ slice_index places count
+  pub end : slice_index places count ≤ limit * count

@@ -1,0 +1,171 @@
+//! Takes a picture's macroblocks and cuts them into packets.
+ghost use Rattle.std.specs.Prelude.{◌≡◌, ℕ, ◌+◌, ◌*◌, ◌%◌, ◌<◌, ◌≤◌, ◌++◌, ◌∷◌, [], List, length, take, slice_index_or, All, IfOk};
+ghost use Rattle.h263_types.specs.declared.blocks.Mb.{Mb};
+ghost use Rattle.h263_types.specs.Blocks.{IsMb, IsOfKind};
+ghost use Rattle.h263_types.specs.Params.{IsParams};
+ghost use Rattle.h263_types.specs.Sizes.{mbs_of};
+ghost use Rattle.picture_header.specs.declared.header.Header.{Header};
+ghost use Rattle.picture_header.specs.Ranges.{IsHeader};
+ghost use Rattle.packet_cutter.specs.Kept.{most_bytes, room_of, kept_packets};
+ghost use Rattle.packet_cutter.specs.Packets.{ArePacketsOf};
+ghost use Rattle.packet_cutter.specs.Taken.{HasQuant, IsTaken};
+
+use crate::packets::Packets;
+use h263_outside::OutOfMemory;
+use h263_types::{Format, Kind, Mb, Params};
+use picture_header::Header;
+use std::alloc::Global;
+
+// Cuts a picture: packet after packet.
+fn cut(packets: &mut Packets, header: &Header, mbs: &[Mb], number: u32, sequence: u16)
+    requires room { most_bytes packets.old * length mbs.now ≤ room_of packets.old }
+    requires header { IsHeader header.now }
+    requires whole { length mbs.now ≡ mbs_of header.now.format }
+    requires each { All (IsTaken header.now.kind header.now.quant) mbs.now }
+    ensures packets { ArePacketsOf number sequence header.now (most_bytes packets.old) mbs.now (kept_packets packets.new) }
+    ensures limit { most_bytes packets.new ≡ most_bytes packets.old }
+    ensures room { room_of packets.new ≡ room_of packets.old }
+{
+    packets.clear();
+    let mut first = 0;
+    'packets: while (first as usize) < mbs.len() {
+        let next = sequence.wrapping_add(packets.count() as u16);
+        first += packets.append(header, first, &mbs[first as usize..], number, next);
+    }
+}
+
+/// Cuts pictures into packets, each with the longest slice that keeps it within a limit of bytes (RFC 4629). It has all its
+/// memory from the start.
+#[derive(Drop)]
+pub struct Cutter {
+    number: u32,
+    header: Header,
+    // The picture's macroblocks: the first `added` ones are there.
+    mbs: Vec<Mb>,
+    added: u32,
+    // The number of the next packet.
+    sequence: u16,
+    packets: Packets,
+    ghost whole: { length mbs.items ≡ mbs_of header.format },
+    ghost within: { added ≤ length mbs.items },
+    ghost room: { most_bytes packets * length mbs.items ≤ room_of packets },
+}
+
+// What stands in the header's place before the first picture is begun.
+fn no_header(format: Format) -> Header
+    ensures { result.format ≡ format }
+{
+    Header {
+        tr: 0,
+        format,
+        kind: Kind::I,
+        rounding: 0,
+        channel: 0,
+        trp: None,
+        quant: 1,
+        back: [None; 4],
+    }
+}
+
+impl Cutter {
+    ghost use Rattle.packet_cutter.specs.Cutting.{format_of, limit_of, kind_of, quant_of, added_of, sequence_of, packets_of, IsBegun, Holds};
+
+    /// A cutter of pictures of the parameters' format into packets of `limit` bytes at most.
+    pub fn start(alloc: Global, params: &Params) -> Result<Cutter, OutOfMemory>
+        requires { IsParams params.now }
+        ensures format { IfOk result (λ c. format_of c ≡ params.now.format) }
+        ensures limit { IfOk result (λ c. limit_of c ≡ params.now.limit) }
+        ensures none { IfOk result (λ c. packets_of c ≡ []) }
+        ensures sequence { IfOk result (λ c. sequence_of c ≡ 0) }
+        ensures added { IfOk result (λ c. added_of c ≡ 0) }
+    {
+        let count = params.format.mbs();
+        Ok(Cutter {
+            number: 0,
+            header: no_header(params.format),
+            mbs: vec![in alloc; Mb::Skip; count as usize]?,
+            added: 0,
+            sequence: 0,
+            packets: Packets::start(alloc, params.limit, count)?,
+        })
+    }
+
+    /// Begins picture `number`, which has no macroblock yet. One that was begun before and not finished is dropped.
+    pub fn begin(&mut self, number: u32, header: &Header)
+        requires header { IsHeader header.now }
+        requires format { header.now.format ≡ format_of self.old }
+        ensures begun { IsBegun self.new }
+        ensures holds { Holds self.new number header.now [] }
+        ensures added { added_of self.new ≡ 0 }
+        ensures kind { kind_of self.new ≡ header.now.kind }
+        ensures quant { quant_of self.new ≡ header.now.quant }
+        ensures format { format_of self.new ≡ format_of self.old }
+        ensures limit { limit_of self.new ≡ limit_of self.old }
+        ensures sequence { sequence_of self.new ≡ sequence_of self.old }
+        ensures packets { packets_of self.new ≡ packets_of self.old }
+    {
+        self.added = 0;
+        self.number = number;
+        self.header = *header;
+    }
+
+    /// Adds the picture's next macroblock.
+    pub fn add(&mut self, mb: &Mb)
+        requires begun { IsBegun self.old }
+        requires mb { IsMb mb.now }
+        requires kind { IsOfKind (kind_of self.old) mb.now }
+        requires quant { HasQuant (quant_of self.old) mb.now }
+        requires left { added_of self.old < mbs_of (format_of self.old) }
+        ensures begun { IsBegun self.new }
+        ensures holds { (number : ℕ) (h : Header) (mbs : List Mb) → Holds self.old number h mbs → Holds self.new number h (mbs ++ mb.now ∷ []) }
+        ensures added { added_of self.new ≡ added_of self.old + 1 }
+        ensures kind { kind_of self.new ≡ kind_of self.old }
+        ensures quant { quant_of self.new ≡ quant_of self.old }
+        ensures format { format_of self.new ≡ format_of self.old }
+        ensures limit { limit_of self.new ≡ limit_of self.old }
+        ensures sequence { sequence_of self.new ≡ sequence_of self.old }
+        ensures packets { packets_of self.new ≡ packets_of self.old }
+    {
+        self.mbs[self.added as usize] = *mb;
+        self.added += 1;
+    }
+
+    /// Cuts the picture, all of whose macroblocks were added, into its packets, which take the place of the earlier ones.
+    pub fn finish(&mut self)
+        requires begun { IsBegun self.old }
+        requires all { added_of self.old ≡ mbs_of (format_of self.old) }
+        ensures packets { (number : ℕ) (h : Header) (mbs : List Mb) → Holds self.old number h mbs
+            → ArePacketsOf number (sequence_of self.old) h (limit_of self.old) mbs (packets_of self.new) }
+        // The numbers count on from picture to picture.
+        ensures sequence { sequence_of self.new ≡ (sequence_of self.old + length (packets_of self.new)) % 65536 }
+        ensures holds { (number : ℕ) (h : Header) (mbs : List Mb) → Holds self.old number h mbs → Holds self.new number h mbs }
+        ensures added { added_of self.new ≡ added_of self.old }
+        ensures format { format_of self.new ≡ format_of self.old }
+        ensures limit { limit_of self.new ≡ limit_of self.old }
+    {
+        cut(
+            &mut self.packets,
+            &self.header,
+            &self.mbs,
+            self.number,
+            self.sequence,
+        );
+        self.sequence = self.sequence.wrapping_add(self.packets.count() as u16);
+    }
+
+    /// How many packets the picture has that was finished last: 0 before the first.
+    pub fn count(&self) -> u32
+        ensures count { result ≡ length (packets_of self.now) }
+        ensures few { result ≤ 396 }
+    {
+        self.packets.count()
+    }
+
+    /// Packet i of the picture that was finished last.
+    pub fn packet(&self, i: u32) -> &[u8]
+        requires { i < length (packets_of self.now) }
+        ensures { result.now ≡ slice_index_or (packets_of self.now) i [] }
+    {
+        self.packets.packet(i)
+    }
+}
