@@ -3,7 +3,8 @@ pub mod Buffers
 pub mod Choices
 pub mod Ends
 pub mod Frames
-pub mod PacketRead
-pub mod PacketTexts
+pub mod Packets
 pub mod Plays
+pub mod Runs
+pub mod Shown
 pub mod Whole

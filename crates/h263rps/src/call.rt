@@ -10,6 +10,7 @@ ghost use Rattle.h263rps.specs.Play.{GainsPictures, StopsInPictures, IsPlaying, 
 
 use crate::Status;
 use crate::coding::code_frame;
+use crate::sending::Coder;
 use crate::y4m::{
     EXACT_LINE, FRAME_LINE, FRAME_SIZE, HEAD_LINE, MAX_FRAMES, OUT_HEAD, PICTURE_SIZE, read_end,
     read_frame, read_head,
@@ -59,6 +60,7 @@ fn write_frame<D: Desk>(desk: &mut D, picture: &[u8]) -> Result<(), Status>
 // Plays one frame: reads it, codes it and writes its reconstruction. False at the end of the video.
 fn play_frame<D: Desk>(
     desk: &mut D,
+    coder: &mut Coder,
     number: u32,
     frame: &mut [u8],
     picture: &mut [u8],
@@ -76,13 +78,18 @@ fn play_frame<D: Desk>(
     if !read_frame(desk, at, frame)? {
         return Ok(false);
     }
-    code_frame(number, &frame[FRAME_LINE.len()..], picture);
+    code_frame(coder, number, &frame[FRAME_LINE.len()..], picture);
     write_frame(desk, picture)?;
     Ok(true)
 }
 
 // Plays the frames, and sees that no more come than may.
-fn play_frames<D: Desk>(desk: &mut D, frame: &mut [u8], picture: &mut [u8]) -> Result<(), Status>
+fn play_frames<D: Desk>(
+    desk: &mut D,
+    coder: &mut Coder,
+    frame: &mut [u8],
+    picture: &mut [u8],
+) -> Result<(), Status>
     requires video { (D.outside desk.old).attached Video ≡ true }
     requires pictures { (D.outside desk.old).attached Pictures ≡ true }
     requires frame { length frame.old ≡ 18438 }
@@ -93,7 +100,7 @@ fn play_frames<D: Desk>(desk: &mut D, frame: &mut [u8], picture: &mut [u8]) -> R
     ensures rest { KeepsRoles (D.outside desk.old) (D.outside desk.new) }
 {
     for number in 0..MAX_FRAMES {
-        if !play_frame(desk, number, frame, picture)? {
+        if !play_frame(desk, coder, number, frame, picture)? {
             return Ok(());
         }
     }
@@ -112,8 +119,9 @@ pub fn play<D: Desk>(alloc: Global, desk: &mut D) -> Result<(), Status>
     ensures rest { KeepsRoles (D.outside desk.old) (D.outside desk.new) }
 {
     read_head(desk)?;
+    let mut coder = Coder::start(alloc)?;
     let mut frame = vec![in alloc; 0; FRAME_SIZE]?;
     let mut picture = vec![in alloc; 0; PICTURE_SIZE]?;
     write(desk, OUT_HEAD)?;
-    play_frames(desk, &mut frame, &mut picture)
+    play_frames(desk, &mut coder, &mut frame, &mut picture)
 }

@@ -10,11 +10,9 @@ mod coding;
 #[cfg(test)]
 mod host_tests;
 pub mod laws;
-mod packet_reader;
-#[cfg(test)]
-mod packet_tests;
-mod packet_writer;
 mod program;
+mod receiving;
+mod sending;
 mod status;
 #[cfg(test)]
 mod tests;

@@ -9,6 +9,11 @@ returns-in_err-read_head-clause-plays g c = λ video told.
     let outside = g.D.Desk.outside in
     head_stops video (outside c.args.desk.now) (outside c.read_head.new.desk) c.read_head.ensures.rest.written c.from_residual.result c.in_err-read_head.field-0.0 c.from_residual.ensures.1 (c.in_err-read_head.ensures.gives video told)
 
+pub returns-in_err-coder-clause-plays : goal.returns-in_err-coder-clause-plays
+returns-in_err-coder-clause-plays g c = λ video told.
+    let outside = g.D.Desk.outside in
+    no_memory video (outside c.args.desk.now) (outside c.read_head.new.desk) c.read_head.ensures.rest.written c.from_residual-in_err-coder.result c.from_residual-in_err-coder.ensures.1
+
 pub returns-in_err-frame-clause-plays : goal.returns-in_err-frame-clause-plays
 returns-in_err-frame-clause-plays g c = λ video told.
     let outside = g.D.Desk.outside in

@@ -1,0 +1,99 @@
+-- The picture's samples, packet after packet.
+use Rattle.std.proofs.Common.{◌≡◌, ℕ, ◌+◌, ◌-◌, ◌<◌, ◌≤◌, Bool, true, false, List, length, take, drop, get_or, refl, sym, ap, subst, ◌∙◌, arith}
+use Rattle.std.specs.Prelude.{◌&&◌, nat_le, nat_lt, if◌then◌else◌, None}
+use Rattle.std.proofs.lemmas.Bool.{lt-ltb, leb-true, leb-false, ltb-true}
+use Rattle.std.proofs.lemmas.List.{get_or-take, get_or-drop}
+use Rattle.h263_types.specs.declared.format.Format.{Format}
+use Rattle.h263_types.specs.declared.format.Format.TheVariants.{SubQcif}
+use Rattle.h263_types.specs.declared.blocks.Mb.{Mb}
+use Rattle.h263_types.specs.declared.blocks.Mb.TheVariants.{Skip}
+use Rattle.h263_planes.specs.declared.Plane.{Plane}
+use Rattle.h263_planes.specs.Picture.{Picture}
+use Rattle.h263_planes.specs.Blocks.{mb_of}
+use Rattle.h263_planes.specs.Samples.{Inside, sample_at}
+use Rattle.picture_header.specs.declared.header.Header.{Header}
+use Rattle.slice_layer.specs.Filled.{mbs_from}
+use Rattle.packet_collector.specs.declared.piece.Piece.{Piece}
+use Rattle.packet_collector.specs.Packet.{Slice}
+use Rattle.packet_collector.specs.Filled.{slice_in}
+use Rattle.picture_recon.specs.Samples.{mb_in, sample_in}
+use Rattle.packet_cutter.specs.Packets.{ArePacketsOf}
+use Rattle.h263rps.specs.Sent.{header_of, AreSent}
+use Rattle.h263rps.specs.Received.{SetsSlice, ShowsFirst}
+use Rattle.h263rps.proofs.Runs.{place_of, run_at, place_next, place_all, at_place}
+use Rattle.h263rps.proofs.Packets.{as_many, all_runs}
+
+-- the value of a choice by the place k, where both sides give v
+by_place : (low n k a b v : ℕ) → (k < low → b ≡ v) → (low ≤ k → a ≡ v) → k < low + n → (if nat_le low k && nat_lt k (low + n) then a else b) ≡ v
+by_place low n k a b v before there below = at_test (nat_le low k) refl
+  where
+    at_test : (t : Bool) → nat_le low k ≡ t → (if t && nat_lt k (low + n) then a else b) ≡ v
+    at_test true e = rw (lt-ltb k (low + n) below) (there (leb-true low k e))
+    at_test false e = before (leb-false low k e)
+
+-- two choices by the same place are equal where what is chosen there is
+pub same_there : (low n k a c b : ℕ) → (low ≤ k → k < low + n → a ≡ c) → (if nat_le low k && nat_lt k (low + n) then a else b) ≡ (if nat_le low k && nat_lt k (low + n) then c else b)
+same_there low n k a c b same = at_low (nat_le low k) refl (nat_lt k (low + n)) refl
+  where
+    at_low : (t : Bool) → nat_le low k ≡ t → (u : Bool) → nat_lt k (low + n) ≡ u → (if t && u then a else b) ≡ (if t && u then c else b)
+    at_low true e true f = same (leb-true low k e) (ltb-true k (low + n) f)
+    at_low true e false f = refl
+    at_low false e u f = refl
+
+pub more_shown : (number sequence : ℕ) (mbs : List Mb) (packets : List (List ℕ)) (p : ArePacketsOf number sequence (header_of number) 1400 mbs packets) (i : ℕ) (old new : Picture) → i < length packets
+    → ShowsFirst mbs (place_of p.runs i) old → SetsSlice 0 (place_of p.runs i) (run_at p.runs i) old new → ShowsFirst mbs (place_of p.runs (i + 1)) new
+more_shown number sequence mbs packets p i old new below shows sets = λ plane x y inside under.
+    let k = mb_of SubQcif plane x y in
+    let low = place_of p.runs i in
+    let in_list : i < length p.runs = omega (arith, below, as_many number sequence mbs packets p) in
+    let high : k < low + length (run_at p.runs i) = omega (arith, under, place_next p.runs i in_list) in
+    sets plane x y inside
+    ∙ by_place low (length (run_at p.runs i)) k _ _ (sample_in 0 None (mb_in mbs k) plane x y)
+        (λ before. shows plane x y inside before)
+        (λ there. ap (λ (m : Mb). sample_in 0 None m plane x y) (at_place p.runs i k in_list there high ∙ ap (λ (l : List Mb). get_or l k Skip) (all_runs number sequence mbs packets p)))
+        high
+
+pub all_shown : (number sequence : ℕ) (mbs : List Mb) (packets : List (List ℕ)) (p : ArePacketsOf number sequence (header_of number) 1400 mbs packets) (i : ℕ) (new : Picture) → AreSent mbs → length packets ≤ i
+    → ShowsFirst mbs (place_of p.runs i) new → ShowsFirst mbs 48 new
+all_shown number sequence mbs packets p i new s end shows = λ plane x y inside under.
+    let all : place_of p.runs i ≡ 48 = place_all p.runs i (omega (arith, end, as_many number sequence mbs packets p)) ∙ ap (λ (l : List Mb). length l) (all_runs number sequence mbs packets p) ∙ s.count in
+    shows plane x y inside (omega (arith, under, all))
+
+pub none_shown : (mbs : List Mb) (new : Picture) → ShowsFirst mbs 0 new
+none_shown mbs new = λ plane x y inside under. absurd (omega (arith, under))
+
+-- ---- what one packet sets
+
+-- macroblock k of a slice that was read into its place
+in_place : (mbs run : List Mb) (first from count k : ℕ) → from ≡ first → count ≡ length run → mbs_from from count mbs ≡ run → first ≤ k → k < first + length run → get_or mbs k Skip ≡ get_or run (k - first) Skip
+in_place mbs run first from count k begins many is low high =
+    let sum : from + (k - first) ≡ k = omega (arith, begins, low) in
+    ap (λ (n : ℕ). get_or mbs n Skip) (sym sum)
+    ∙ sym (get_or-drop from mbs (k - first) Skip)
+    ∙ sym (get_or-take count (drop from mbs) (k - first) Skip (omega (arith, many, low, high)))
+    ∙ ap (λ (l : List Mb). get_or l (k - first) Skip) is
+
+-- the samples that a slice's reconstruction sets
+abbrev pub SliceSamples : Piece → List Mb → Picture → Picture → Type 0
+SliceSamples piece mbs old new =
+    (plane : Plane) (x y : ℕ) → Inside piece.header.format plane x y 1
+    → sample_at new plane x y
+    ≡ (if nat_le piece.head.first (mb_of piece.header.format plane x y) && nat_lt (mb_of piece.header.format plane x y) (piece.head.first + piece.head.count)
+      then sample_in piece.header.rounding None (mb_in mbs (mb_of piece.header.format plane x y)) plane x y
+      else sample_at old plane x y)
+
+pub slice_is_set : (h : Header) (first : ℕ) (run mbs : List Mb) (piece : Piece) (old new : Picture) → piece.head.count ≡ length run
+    → slice_in piece mbs ≡ record { header = h; first = first; mbs = run } → piece.header.format ≡ SubQcif → SliceSamples piece mbs old new → SetsSlice h.rounding first run old new
+slice_is_set h first run mbs piece old new many is format samples = λ plane x y inside.
+    let value : Format → ℕ → ℕ → ℕ → ℕ = λ g f n r.
+        if nat_le f (mb_of g plane x y) && nat_lt (mb_of g plane x y) (f + n) then sample_in r None (mb_in mbs (mb_of g plane x y)) plane x y else sample_at old plane x y in
+    let head = ap (λ (s : Slice). s.header) is in
+    let begins = ap (λ (s : Slice). s.first) is in
+    let run_is = ap (λ (s : Slice). s.mbs) is in
+    let k = mb_of SubQcif plane x y in
+    samples plane x y (subst (λ (g : Format). Inside g plane x y 1) (sym format) inside)
+    ∙ ap (λ (g : Format). value g piece.head.first piece.head.count piece.header.rounding) format
+    ∙ ap (λ (f : ℕ). value SubQcif f piece.head.count piece.header.rounding) begins
+    ∙ ap (λ (n : ℕ). value SubQcif first n piece.header.rounding) many
+    ∙ ap (λ (x' : Header). value SubQcif first (length run) x'.rounding) head
+    ∙ same_there first (length run) k _ _ (sample_at old plane x y) (λ low high. ap (λ (m : Mb). sample_in h.rounding None m plane x y) (in_place mbs run first piece.head.first piece.head.count k begins many run_is low high))
