@@ -3,3 +3,4 @@ mod AllMarks
 mod Pieces
 mod Rows
 mod Places
+mod Forgetting

@@ -1,5 +1,6 @@
 -- What a collector keeps: of each picture in a row the header of its slices, and which macroblocks were taken.
-use Rattle.std.specs.Prelude.{◌≡◌, ℕ, ◌+◌, ◌*◌, ◌%◌, ◌<◌, ◌≤◌, Bool, true, false, List, length, slice_index_or, Option, Some, None}
+use Rattle.std.specs.Prelude.{◌≡◌, ℕ, ◌+◌, ◌*◌, ◌%◌, ◌<◌, ◌≤◌, Bool, true, false, nat_le, List, length, slice_index_or, Option, Some, None}
+use Rattle.std.specs.List.{filter}
 use Rattle.h263_bits.specs.Syntax.{IsIn}
 use Rattle.h263_types.specs.declared.format.Format.{Format}
 use Rattle.h263_types.specs.Sizes.{mbs_of}
@@ -49,6 +50,10 @@ pub record Collects (c : Collector) (first : ℕ) (taken : List Taken) : Type 0 
   pub below : (t : Taken) → IsIn t taken → t.number < first + row_of c
   pub headers : (n : ℕ) → IsInRow c n → IsKept taken n (header_in c n)
   pub marks : (n k : ℕ) → IsInRow c n → k < mbs_of (format_of c) → has_in c n k ≡ has_taken taken n k
+
+-- the slices of the pictures from a number on
+abbrev pub from_number : ℕ → List Taken → List Taken
+from_number first taken = filter (λ t. nat_le first t.number) taken
 
 -- a header that may stand beside one that is kept
 abbrev pub FitsKept : Option Header → Header → Type 0

@@ -1,7 +1,12 @@
 //! Laws about packets, over the definitions alone.
 ghost use Rattle.std.specs.Prelude.{◌≡◌, ◌↔◌, ℕ, List, Ok, None};
 ghost use Rattle.h263_types.specs.declared.format.Format.{Format};
+ghost use Rattle.packet_collector.specs.declared.collector.Collector.{Collector};
+ghost use Rattle.packet_collector.specs.declared.piece.Piece.{Piece};
+ghost use Rattle.packet_collector.specs.declared.piece.Place.{Place};
+ghost use Rattle.packet_collector.specs.Collected.{Collects, from_number};
 ghost use Rattle.packet_collector.specs.Packet.{Slice, IsPacket, packet_at, packet_fault};
+ghost use Rattle.packet_collector.specs.Taken.{Taken, IsPlace};
 
 /// Bytes are read as a packet exactly where they are one, and there is no first fault exactly where they are a packet of
 /// some slice.
@@ -13,4 +18,14 @@ pub fn exact_text()
 /// A whole packet spells one slice: its header, its first macroblock and its macroblocks.
 pub fn one_reading()
     ensures { (format : Format) (s other : Slice) (bytes : List ℕ) → IsPacket format s bytes → IsPacket format other bytes → s ≡ other }
+{}
+
+/// A slice stands at one place to those that were taken.
+pub fn one_place()
+    ensures { (taken : List Taken) (n : ℕ) (piece : Piece) (p q : Place) → IsPlace taken n piece p → IsPlace taken n piece q → p ≡ q }
+{}
+
+/// What was taken of the pictures before the row is forgotten: a collector stands for the others alone as well.
+pub fn forgets()
+    ensures { (c : Collector) (first : ℕ) (taken : List Taken) → Collects c first taken → Collects c first (from_number first taken) }
 {}
