@@ -1,5 +1,5 @@
 -- The packets of a picture are read as its slices.
-use Rattle.std.proofs.Common.{◌≡◌, ℕ, zero, suc, ◌+◌, ◌*◌, ◌<◌, ◌≤◌, Bool, List, [], ◌∷◌, ◌++◌, length, get_or, take, All, Option, Some, None, refl, sym, ap, subst, ◌∙◌, arith}
+use Rattle.std.proofs.Common.{◌≡◌, ℕ, zero, suc, ◌+◌, ◌<◌, ◌≤◌, Bool, List, [], ◌∷◌, ◌++◌, length, get_or, take, All, Option, Some, None, refl, sym, ap, subst, ◌∙◌, arith}
 use Rattle.std.proofs.lemmas.List.{length-append}
 use Rattle.std.proofs.lemmas.List.Elements.{All-get_or, All-head, All-tail}
 use Rattle.h263_types.specs.declared.format.Format.{Format}
@@ -15,7 +15,7 @@ use Rattle.slice_layer.specs.Around.{around}
 use Rattle.slice_layer.specs.Written.{AreWritable}
 use Rattle.rtp_header.proofs.Exact as rtp
 use Rattle.h263_payload.proofs.Exact as payload
-use Rattle.packet_cutter.specs.Cut.{joined, IsCut, Fit, extra_of, begins_at}
+use Rattle.packet_cutter.specs.Cut.{joined, Fit, extra_of, begins_at}
 use Rattle.packet_cutter.specs.Packets.{packet_text, is_last, ArePackets, ArePacketsOf}
 use Rattle.packet_cutter.specs.Again.{IsReadAs, rtp_of, payload_of}
 use Rattle.packet_cutter.specs.Again as again

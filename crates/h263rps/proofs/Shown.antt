@@ -1,5 +1,5 @@
 -- The picture's samples, packet after packet.
-use Rattle.std.proofs.Common.{◌≡◌, ℕ, ◌+◌, ◌-◌, ◌<◌, ◌≤◌, Bool, true, false, List, length, take, drop, get_or, refl, sym, ap, subst, ◌∙◌, arith}
+use Rattle.std.proofs.Common.{◌≡◌, ℕ, ◌+◌, ◌-◌, ◌<◌, ◌≤◌, Bool, true, false, List, length, drop, get_or, refl, sym, ap, subst, ◌∙◌, arith}
 use Rattle.std.specs.Prelude.{◌&&◌, nat_le, nat_lt, if◌then◌else◌, None}
 use Rattle.std.proofs.lemmas.Bool.{lt-ltb, leb-true, leb-false, ltb-true}
 use Rattle.std.proofs.lemmas.List.{get_or-take, get_or-drop}

@@ -1,4 +1,4 @@
-use Rattle.std.proofs.Common.{rules, ◌≡◌, ℕ, List, refl, sym, ap, subst, ◌∙◌}
+use Rattle.std.proofs.Common.{rules, refl, ap, subst, ◌∙◌}
 use Rattle.h263_types.specs.declared.format.Format.TheVariants.{SubQcif}
 use Rattle.h263_types.specs.Sizes.{size_of_picture}
 use Rattle.h263_planes.specs.Picture.{Picture}

@@ -1,9 +1,8 @@
-use Rattle.std.proofs.Common.{◌≡◌, sym, ap, ◌∙◌}
+use Rattle.std.proofs.Common.{◌≡◌, ap, ◌∙◌}
 use Rattle.h263_types.specs.declared.Kind.{Kind}
 use Rattle.h263_types.specs.declared.Kind.TheVariants.{I, P}
 use Rattle.h263_planes.specs.Work.{work}
 use Rattle.h263_planes.proofs.Wholes.{whole_picture}
-use Rattle.picture_header.specs.declared.header.Header.{Header}
 use Rattle.packet_collector.specs.Packet.{Slice}
 use Rattle.h263rps.proofs.Shown.{slice_is_set}
 use Rattle.h263rps.proofs.receiving.take_packet.Goals as goal

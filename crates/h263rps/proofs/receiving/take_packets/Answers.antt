@@ -1,4 +1,4 @@
-use Rattle.std.proofs.Common.{◌≡◌, ◌<◌, ℕ, List, length, sym, refl, subst, ◌∙◌, arith}
+use Rattle.std.proofs.Common.{◌<◌, ℕ, List, length, sym, refl, subst, ◌∙◌, arith}
 use Rattle.h263_types.specs.declared.format.Format.TheVariants.{SubQcif}
 use Rattle.h263_planes.specs.Work.{work}
 use Rattle.packet_cutter.specs.Cutting.{packets_of}

@@ -1,7 +1,6 @@
 use Rattle.std.proofs.Common.{◌≡◌, ℕ, List}
 use Rattle.h263_types.specs.declared.format.Format.TheVariants.{SubQcif}
 use Rattle.h263_types.specs.declared.blocks.Mb.{Mb}
-use Rattle.h263_planes.specs.Samples.{IsPicture}
 use Rattle.h263_planes.specs.Work.{loan_of, work}
 use Rattle.packet_cutter.specs.Cutting.{packets_of}
 use Rattle.packet_cutter.specs.Packets.{ArePacketsOf}

@@ -1,4 +1,4 @@
-use Rattle.std.proofs.Common.{◌≡◌, ℕ, List, [], take}
+use Rattle.std.proofs.Common.{◌≡◌, ℕ, [], take}
 use Rattle.h263_types.specs.declared.Kind.TheVariants.{I}
 use Rattle.h263_types.specs.declared.format.Format.TheVariants.{SubQcif}
 use Rattle.h263_planes.specs.Lent.{picture}

@@ -1,10 +1,9 @@
-use Rattle.std.proofs.Common.{◌≡◌, ℕ, sym, ap, subst, ◌∙◌}
+use Rattle.std.proofs.Common.{◌≡◌, ℕ, subst, ◌∙◌}
 use Rattle.picture_header.specs.declared.header.Header.{Header}
 use Rattle.h263_planes.specs.Lent.{picture}
 use Rattle.mode_choice.specs.Choice.{choices_of}
 use Rattle.packet_cutter.specs.Cutting.{limit_of, sequence_of, packets_of}
 use Rattle.packet_cutter.specs.Packets.{ArePacketsOf}
-use Rattle.h263rps.specs.Sent.{header_of}
 use Rattle.h263rps.proofs.sending.Coder.code.Goals as goal
 
 pub returns : goal.returns
