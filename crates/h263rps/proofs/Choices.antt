@@ -85,7 +85,7 @@ unfolding coded
 coded_is frame bytes f now long whole shows =
     let mbs = choices_of (picture_of SubQcif frame) 8 64 in
     let each : (plane : Plane) (x y : ℕ) → Inside SubQcif plane x y 1 → sample_at (picture_of SubQcif bytes) plane x y ≡ sample_in 0 None (mb_in mbs (mb_of SubQcif plane x y)) plane x y = λ plane x y inside.
-        ap (λ (g : Format). sample_at (picture_of g bytes) plane x y) (sym now) ∙ shows plane x y inside (in_picture plane x y inside)
+    ap (λ (g : Format). sample_at (picture_of g bytes) plane x y) (sym now) ∙ shows plane x y inside (in_picture plane x y inside)
     in
     sym (bytes_of_picture SubQcif bytes long)
     ∙ ap bytes_of (only_with (picture_of SubQcif bytes) (λ plane x y. sample_in 0 None (mb_in mbs (mb_of SubQcif plane x y)) plane x y) (subst (λ (g : Format). IsPicture (picture_of g bytes)) now whole) each)

@@ -65,9 +65,10 @@ writable : (number first : ℕ) (before run : List Mb) → All IsSent run → Ar
 unfolding AreWritable
 writable number first before [] s = tt
 writable number first before (m ∷ run) s =
-    let one = All-head IsSent m run s in
-    (record { in_range = one.in_range; of_kind = one.of_kind; step = one.stepped; whole = one.whole; reached = reached m _ one },
-    subst (λ (q : ℕ). AreWritable (around (header_of number) first) q (before ++ m ∷ []) run) (sym one.plain) (writable number first (before ++ m ∷ []) run (All-tail IsSent m run s)))
+    let one = All-head IsSent m run s in (
+      record { in_range = one.in_range; of_kind = one.of_kind; step = one.stepped; whole = one.whole; reached = reached m _ one },
+      subst (λ (q : ℕ). AreWritable (around (header_of number) first) q (before ++ m ∷ []) run) (sym one.plain) (writable number first (before ++ m ∷ []) run (All-tail IsSent m run s)),
+    )
 
 -- ---- what was written is a packet
 
@@ -116,7 +117,7 @@ packet_is number sequence mbs packets p i s below =
     let t = subst (λ (n : ℕ). HasText number h n (run_at p.runs i) (get_or packets i [])) zero_first (text_at number sequence h 0 p.runs packets i p.each inside) in
     let short : length (get_or packets i []) ≤ 1400 = All-get_or (λ (l : List ℕ). length l ≤ 1400) packets i [] below (within number sequence h 1400 0 mbs p.runs packets p.cut p.each) in
     let end : place_of p.runs i + length (run_at p.runs i) ≤ 48 =
-        omega (arith, place_next p.runs i inside, place_within p.runs (i + 1), ap (λ (l : List Mb). length l) whole, s.count) in
+    omega (arith, place_next p.runs i inside, place_within p.runs (i + 1), ap (λ (l : List Mb). length l) whole, s.count) in
     let sent = all_in_run IsSent p.runs i inside (subst (All IsSent) (sym whole) s.each) in
     read_packet_is number t.sequence (place_of p.runs i) t.marker (run_at p.runs i) (get_or packets i [])
     (read_as number t.sequence t.marker h (place_of p.runs i) (run_at p.runs i) (get_or packets i []) (header_in_range number)

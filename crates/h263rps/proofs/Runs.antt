@@ -38,9 +38,9 @@ place_all runs i le = ap (λ (l : List (List Mb)). length (joined l)) (take_all 
 pub place_within : (runs : List (List Mb)) (i : ℕ) → place_of runs i ≤ length (joined runs)
 place_within runs i =
     let all : length (joined runs) ≡ place_of runs i + length (joined (drop i runs)) =
-        ap (λ (l : List (List Mb)). length (joined l)) (sym (take-append-drop i runs))
-        ∙ ap (λ (l : List Mb). length l) (joined-append (take i runs) (drop i runs))
-        ∙ length-append (joined (take i runs)) (joined (drop i runs)) in
+    ap (λ (l : List (List Mb)). length (joined l)) (sym (take-append-drop i runs))
+    ∙ ap (λ (l : List Mb). length l) (joined-append (take i runs) (drop i runs))
+    ∙ length-append (joined (take i runs)) (joined (drop i runs)) in
     omega (arith, all)
 
 -- macroblock j of slice i

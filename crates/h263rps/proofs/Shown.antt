@@ -49,9 +49,9 @@ more_shown number sequence mbs packets p i old new below shows sets = λ plane x
     let high : k < low + length (run_at p.runs i) = omega (arith, under, place_next p.runs i in_list) in
     sets plane x y inside
     ∙ by_place low (length (run_at p.runs i)) k _ _ (sample_in 0 None (mb_in mbs k) plane x y)
-        (λ before. shows plane x y inside before)
-        (λ there. ap (λ (m : Mb). sample_in 0 None m plane x y) (at_place p.runs i k in_list there high ∙ ap (λ (l : List Mb). get_or l k Skip) (all_runs number sequence mbs packets p)))
-        high
+    (λ before. shows plane x y inside before)
+    (λ there. ap (λ (m : Mb). sample_in 0 None m plane x y) (at_place p.runs i k in_list there high ∙ ap (λ (l : List Mb). get_or l k Skip) (all_runs number sequence mbs packets p)))
+    high
 
 pub all_shown : (number sequence : ℕ) (mbs : List Mb) (packets : List (List ℕ)) (p : ArePacketsOf number sequence (header_of number) 1400 mbs packets) (i : ℕ) (new : Picture) → AreSent mbs → length packets ≤ i
     → ShowsFirst mbs (place_of p.runs i) new → ShowsFirst mbs 48 new
@@ -79,14 +79,14 @@ SliceSamples piece mbs old new =
     (plane : Plane) (x y : ℕ) → Inside piece.header.format plane x y 1
     → sample_at new plane x y
     ≡ (if nat_le piece.head.first (mb_of piece.header.format plane x y) && nat_lt (mb_of piece.header.format plane x y) (piece.head.first + piece.head.count)
-      then sample_in piece.header.rounding None (mb_in mbs (mb_of piece.header.format plane x y)) plane x y
-      else sample_at old plane x y)
+    then sample_in piece.header.rounding None (mb_in mbs (mb_of piece.header.format plane x y)) plane x y
+    else sample_at old plane x y)
 
 pub slice_is_set : (h : Header) (first : ℕ) (run mbs : List Mb) (piece : Piece) (old new : Picture) → piece.head.count ≡ length run
     → slice_in piece mbs ≡ record { header = h; first = first; mbs = run } → piece.header.format ≡ SubQcif → SliceSamples piece mbs old new → SetsSlice h.rounding first run old new
 slice_is_set h first run mbs piece old new many is format samples = λ plane x y inside.
     let value : Format → ℕ → ℕ → ℕ → ℕ = λ g f n r.
-        if nat_le f (mb_of g plane x y) && nat_lt (mb_of g plane x y) (f + n) then sample_in r None (mb_in mbs (mb_of g plane x y)) plane x y else sample_at old plane x y in
+    if nat_le f (mb_of g plane x y) && nat_lt (mb_of g plane x y) (f + n) then sample_in r None (mb_in mbs (mb_of g plane x y)) plane x y else sample_at old plane x y in
     let head = ap (λ (s : Slice). s.header) is in
     let begins = ap (λ (s : Slice). s.first) is in
     let run_is = ap (λ (s : Slice). s.mbs) is in

@@ -15,8 +15,8 @@ SetsSlice rounding first run old new =
     (plane : Plane) (x y : ℕ) → Inside SubQcif plane x y 1
     → sample_at new plane x y
     ≡ (if nat_le first (mb_of SubQcif plane x y) && nat_lt (mb_of SubQcif plane x y) (first + length run)
-      then sample_in rounding None (slice_index_or run (mb_of SubQcif plane x y - first) Skip) plane x y
-      else sample_at old plane x y)
+    then sample_in rounding None (slice_index_or run (mb_of SubQcif plane x y - first) Skip) plane x y
+    else sample_at old plane x y)
 
 -- the samples of the picture's first so many macroblocks are those of these
 abbrev pub ShowsFirst : List Mb → ℕ → Picture → Type 0
