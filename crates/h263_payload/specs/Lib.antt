@@ -2,3 +2,4 @@ pub mod Text
 pub mod Faults
 pub mod Ranges
 pub mod Written
+pub mod Headed

@@ -2,3 +2,4 @@ pub mod Sizes
 pub mod Vectors
 pub mod Blocks
 pub mod Params
+pub mod References

@@ -29,11 +29,6 @@ use Rattle.h263rps.specs.Coded.{coded}
 use Rattle.h263rps.specs.Received.{ShowsFirst}
 use Rattle.h263rps.specs.Sent.{IsSent, AreSent}
 
-pub are_choices : (p : Picture) (mbs : List Mb) → p.format ≡ SubQcif → length mbs ≡ 48 → ((k : ℕ) → k < 48 → get_or mbs k Skip ≡ choice_of p 8 64 k) → mbs ≡ choices_of p 8 64
-unfolding choices_of
-are_choices p mbs format long each =
-    fill_by_all (choice_of p 8 64) mbs 48 Skip long each ∙ ap (λ (f : Format). map (choice_of p 8 64) (range_with_len 0 (mbs_of f))) (sym format)
-
 choices_long : (p : Picture) → p.format ≡ SubQcif → length (choices_of p 8 64) ≡ 48
 unfolding choices_of
 choices_long p format = length-map-range_with_len (choice_of p 8 64) 0 (mbs_of p.format) ∙ ap mbs_of format

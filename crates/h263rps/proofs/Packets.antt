@@ -18,12 +18,10 @@ use Rattle.h263_payload.proofs.Exact as payload
 use Rattle.packet_cutter.specs.Cut.{joined, Fit, extra_of, begins_at}
 use Rattle.packet_cutter.specs.Packets.{packet_text, is_last, ArePackets, ArePacketsOf}
 use Rattle.packet_cutter.specs.Again.{IsReadAs, rtp_of, payload_of}
-use Rattle.packet_cutter.specs.Again as again
 use Rattle.packet_cutter.proofs.Cuts.{covers, fit}
 use Rattle.packet_cutter.proofs.Counted.{count, within}
 use Rattle.packet_cutter.proofs.Reread.{read_as}
 use Rattle.packet_collector.specs.Packet.{IsPacket}
-use Rattle.packet_collector.specs.Packet as packets
 use Rattle.h263rps.specs.Sent.{header_of, IsSent, AreSent}
 use Rattle.h263rps.proofs.Runs.{place_of, run_at, place_next, place_within, all_in_run}
 
@@ -83,10 +81,6 @@ header_in_range number = record {
   back = record { first = refl; few = omega arith; each = tt };
 }
 
-headed_same : (f : Format) (extra : Option Header) (h : Header) (bits : List Bool) → again.IsHeaded f extra h bits → packets.IsHeaded f extra h bits
-headed_same f None h bits is = is
-headed_same f (Some e) h bits is = is
-
 read_packet_is : (number sequence first : ℕ) (marker : Bool) (run : List Mb) (bytes : List ℕ) → IsReadAs number sequence marker (header_of number) first run bytes
     → IsPacket SubQcif (record { header = header_of number; first = first; mbs = run }) bytes
 read_packet_is number sequence first marker run bytes r = record {
@@ -97,7 +91,7 @@ read_packet_is number sequence first marker run bytes r = record {
   is_rtp = rtp.read_text _ bytes r.rtp;
   is_payload = payload.read_text SubQcif _ _ r.payload;
   parts = r.parts;
-  headed = headed_same SubQcif (extra_of (header_of number) (begins_at first)) (header_of number) r.front r.headed;
+  headed = r.headed;
   text = r.text;
 }
 

@@ -22,7 +22,8 @@ use Rattle.slice_layer.specs.Text.{IsSliceText, slice_at}
 use Rattle.slice_layer.specs.Filled.{mbs_from}
 use Rattle.slice_layer.proofs.Bodies.{slice_sound, slice_complete}
 use Rattle.packet_collector.specs.declared.piece.Piece.{Piece}
-use Rattle.packet_collector.specs.Packet.{Slice, IsHeaded, data_of, IsPacket, headed_at, with_header, slice_behind, packet_at, packet_fault}
+use Rattle.h263_payload.specs.Headed.{IsHeaded}
+use Rattle.packet_collector.specs.Packet.{Slice, data_of, IsPacket, headed_at, with_header, slice_behind, packet_at, packet_fault}
 use Rattle.packet_collector.specs.Filled.{slice_in, FillsPacket, IsExtraOf, IsPieceIn}
 
 -- ---- the format of a header

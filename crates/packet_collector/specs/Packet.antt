@@ -13,6 +13,7 @@ use Rattle.rtp_header.specs.Text.{IsRtp}
 use Rattle.rtp_header.specs.Faults.{rtp_in}
 use Rattle.h263_payload.specs.declared.payload.Payload.{Payload}
 use Rattle.h263_payload.specs.Text.{IsPayload}
+use Rattle.h263_payload.specs.Headed.{IsHeaded}
 use Rattle.h263_payload.specs.Faults.{payload_at, payload_bits_of}
 use Rattle.slice_layer.specs.Text.{IsSliceText, slice_at}
 
@@ -23,11 +24,6 @@ pub record Slice : Type 0 where
   pub mbs : List Mb
 
 -- ---- the text
-
--- the bits are the picture header, or none where there was an extra one
-abbrev pub IsHeaded : Format → Option Header → Header → List Bool → Type 0
-IsHeaded format None h bits = IsHeaderText format h bits
-IsHeaded format (Some extra) h bits = (extra ≡ h) × (bits ≡ [])
 
 -- the data behind the payload's header, up to the padding
 abbrev pub data_of : List ℕ → Rtp → Payload → Bits

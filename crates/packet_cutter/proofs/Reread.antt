@@ -26,7 +26,8 @@ use Rattle.slice_layer.specs.Written.{head_text, opening_text, mbs_text, slice_t
 use Rattle.slice_layer.proofs.Written.{slice_spelt, zeros_are_padding}
 use Rattle.packet_cutter.specs.Cut.{begins_at, extra_of, front_bytes}
 use Rattle.packet_cutter.specs.Packets.{timestamp_of, packet_text}
-use Rattle.packet_cutter.specs.Again.{IsHeaded, rtp_of, IsReadAs}
+use Rattle.h263_payload.specs.Headed.{IsHeaded}
+use Rattle.packet_cutter.specs.Again.{rtp_of, IsReadAs}
 use Rattle.packet_cutter.proofs.Fronts.{front_whole}
 use Rattle.packet_cutter.proofs.Counted.{length-rtp}
 

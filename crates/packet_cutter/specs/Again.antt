@@ -8,15 +8,11 @@ use Rattle.picture_header.specs.Text.{IsHeaderText}
 use Rattle.rtp_header.specs.declared.rtp.Rtp.{Rtp}
 use Rattle.rtp_header.specs.Faults.{rtp_in}
 use Rattle.h263_payload.specs.declared.payload.Payload.{Payload}
+use Rattle.h263_payload.specs.Headed.{IsHeaded}
 use Rattle.h263_payload.specs.Faults.{payload_at, payload_bits_of}
 use Rattle.slice_layer.specs.Text.{IsSliceText}
 use Rattle.packet_cutter.specs.Cut.{begins_at, extra_of, front_bytes}
 use Rattle.packet_cutter.specs.Packets.{timestamp_of}
-
--- the bits are the picture header, or none where there is an extra one
-abbrev pub IsHeaded : Format → Option Header → Header → List Bool → Type 0
-IsHeaded format None h bits = IsHeaderText format h bits
-IsHeaded format (Some extra) h bits = (extra ≡ h) × (bits ≡ [])
 
 -- the RTP header of a packet of picture `number` that has so many bytes
 abbrev pub rtp_of : ℕ → ℕ → Bool → ℕ → Rtp

@@ -2,15 +2,16 @@
 ghost use Rattle.std.specs.Prelude.{◌≡◌, ℕ, ◌+◌, ◌<◌, ◌≤◌, ◌&&◌, length, nat_eq, nat_le, nat_lt, if◌then◌else◌, Option};
 ghost use Rattle.std.specs.Option.{option_map};
 ghost use Rattle.h263_types.specs.Blocks.{IsHeadOf, IsIntraMb, IsMb, IsOfKind};
+ghost use Rattle.h263_types.specs.References.{ReachesInside};
 ghost use Rattle.h263_types.specs.Sizes.{mbs_of};
 ghost use Rattle.h263_types.specs.declared.blocks.Mb.TheVariants.{Intra};
 ghost use Rattle.h263_planes.specs.declared.Plane.{Plane};
 ghost use Rattle.h263_planes.specs.Blocks.{mb_of};
 ghost use Rattle.h263_planes.specs.Lent.{picture};
 ghost use Rattle.h263_planes.specs.Picture.{Picture};
+ghost use Rattle.h263_planes.specs.References.{HasReference};
 ghost use Rattle.h263_planes.specs.Samples.{Inside, IsPicture, sample_at};
 ghost use Rattle.h263_planes.specs.Work.{loan_of, work};
-ghost use Rattle.picture_recon.specs.References.{HasReference, ReachesInside};
 ghost use Rattle.picture_recon.specs.Samples.{mb_in, sample_in};
 
 use crate::blocks::put_block;

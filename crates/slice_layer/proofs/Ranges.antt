@@ -8,6 +8,7 @@ use Rattle.h263_types.specs.declared.vector.Reach.{Reach}
 use Rattle.h263_types.specs.declared.blocks.Mb.{Mb}
 use Rattle.h263_types.specs.declared.blocks.Mb.TheVariants as mbs
 use Rattle.h263_types.specs.Blocks.{IsMb, IsOfKind}
+use Rattle.h263_types.specs.References.{ReachesInside}
 use Rattle.h263_types.specs.Vectors.{InReach, IsWithin}
 use Rattle.h263_bits.specs.declared.fault.Fault.{Fault}
 use Rattle.h263_bits.specs.declared.fault.FaultKind.TheVariants as faults
@@ -19,7 +20,7 @@ use Rattle.macroblock_layer.specs.declared.reading.Lead.{Lead}
 use Rattle.macroblock_layer.specs.declared.reading.Lead.TheVariants.{Skipped, Coded}
 use Rattle.macroblock_layer.specs.Text.{is_within_across, is_within_along, is_within, moved, in_reach, is_intra, vector, intra_mb, inter_mb, coded_mb, behind, mb, IsMbText}
 use Rattle.macroblock_layer.specs.Written.{IsReached}
-use Rattle.slice_layer.specs.Filled.{ReachesInside, IsMbAt}
+use Rattle.slice_layer.specs.Filled.{IsMbAt}
 
 le_true : (a b : ℤ) → int_le a b ≡ true → a ≤ℤ b
 le_true a b e = record { le = T_from_true (int_le a b) e }

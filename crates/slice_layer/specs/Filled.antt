@@ -2,10 +2,10 @@
 use Rattle.std.specs.Prelude.{◌≡◌, ℕ, ◌+◌, ◌<◌, ◌≤◌, List, take, drop, slice_index_or, Result, Ok, Err}
 use Rattle.h263_types.specs.declared.format.Format.{Format}
 use Rattle.h263_types.specs.declared.blocks.Mb.{Mb}
-use Rattle.h263_types.specs.declared.blocks.Mb.TheVariants.{Skip, Intra, Inter}
+use Rattle.h263_types.specs.declared.blocks.Mb.TheVariants.{Skip}
 use Rattle.h263_types.specs.declared.blocks.SliceHead.{SliceHead}
 use Rattle.h263_types.specs.Blocks.{IsMb, IsOfKind, IsHeadOf}
-use Rattle.h263_types.specs.Vectors.{InReach}
+use Rattle.h263_types.specs.References.{ReachesInside}
 use Rattle.h263_bits.specs.declared.fault.Fault.{Fault}
 use Rattle.picture_header.specs.declared.header.Header.{Header}
 
@@ -21,12 +21,6 @@ mbs_from first count out = take count (drop first out)
 abbrev pub Fills : Result SliceHead Fault → List Mb → Result (ℕ × List Mb) Fault → Type 0
 Fills (Ok head) out read = read ≡ Ok (head.first, mbs_from head.first head.count out)
 Fills (Err fault) out read = read ≡ Err fault
-
--- the samples that the vector of macroblock k refers to, if it has one, lie in the picture
-abbrev pub ReachesInside : Format → ℕ → Mb → Type 0
-ReachesInside f k Skip = Unit {0}
-ReachesInside f k (Intra quant blocks) = Unit {0}
-ReachesInside f k (Inter quant vector blocks) = InReach f k vector.x vector.y
 
 -- what macroblock k of a picture may be
 pub record IsMbAt (h : Header) (k : ℕ) (m : Mb) : Type 0 where
