@@ -1,5 +1,5 @@
 -- What the blocks, macroblocks and slices of a picture may hold.
-use Rattle.std.specs.Prelude.{ℕ, ◌+◌, ◌<◌, ◌≤◌, ℤ, pos, ◌≤ℤ◌, neg_ℤ, List, All, slice_index_or}
+use Rattle.std.specs.Prelude.{ℕ, ◌+◌, ◌≡◌, ◌<◌, ◌≤◌, ℤ, pos, ◌≤ℤ◌, neg_ℤ, List, All, slice_index_or}
 use Rattle.h263_types.specs.declared.Kind.{Kind}
 use Rattle.h263_types.specs.declared.Kind.TheVariants.{I, P}
 use Rattle.h263_types.specs.declared.format.Format.{Format}
@@ -78,6 +78,12 @@ IsOfKind P mb = Unit {0}
 IsOfKind I Skip = ⊥
 IsOfKind I (Intra quant blocks) = Unit {0}
 IsOfKind I (Inter quant vector blocks) = ⊥
+
+-- the macroblock's quantiser, if it has one, is this one
+abbrev pub HasQuant : ℕ → Mb → Type 0
+HasQuant quant Skip = Unit {0}
+HasQuant quant (Intra q blocks) = q ≡ quant
+HasQuant quant (Inter q vector blocks) = q ≡ quant
 
 -- one macroblock at least, and all of them in a picture of the format
 pub record IsHeadOf (f : Format) (head : SliceHead) : Type 0 where

@@ -24,7 +24,7 @@ use Rattle.picture_recon.specs.Samples.{mb_in, sample_in}
 use Rattle.mode_choice.specs.Choice.{samples_of, levels_of, blocks_of, choice_of, choices_of, level_of, coefficient_at}
 use Rattle.mode_choice.proofs.Levels.{blocks_in_range}
 use Rattle.macroblock_layer.specs.Written.{AreWhole}
-use Rattle.packet_cutter.specs.Taken.{HasQuant}
+use Rattle.h263_types.specs.Blocks.{HasQuant}
 use Rattle.h263rps.specs.Coded.{coded}
 use Rattle.h263rps.specs.Received.{ShowsFirst}
 use Rattle.h263rps.specs.Sent.{IsSent, AreSent}

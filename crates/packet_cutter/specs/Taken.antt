@@ -2,14 +2,7 @@
 use Rattle.std.specs.Prelude.{◌≡◌, ℕ, zero, suc, ◌+◌, ◌*◌, ◌<◌, ◌≤◌, List, [], ◌∷◌, ◌++◌, length, slice_index, slice_range}
 use Rattle.h263_types.specs.declared.Kind.{Kind}
 use Rattle.h263_types.specs.declared.blocks.Mb.{Mb}
-use Rattle.h263_types.specs.declared.blocks.Mb.TheVariants.{Skip, Intra, Inter}
-use Rattle.h263_types.specs.Blocks.{IsMb, IsOfKind}
-
--- the macroblock's quantiser, if it has one, is this one
-abbrev pub HasQuant : ℕ → Mb → Type 0
-HasQuant quant Skip = Unit {0}
-HasQuant quant (Intra q blocks) = q ≡ quant
-HasQuant quant (Inter q vector blocks) = q ≡ quant
+use Rattle.h263_types.specs.Blocks.{HasQuant, IsMb, IsOfKind}
 
 -- a macroblock of a picture of this kind and with this quantiser
 pub record IsTaken (kind : Kind) (quant : ℕ) (m : Mb) : Type 0 where

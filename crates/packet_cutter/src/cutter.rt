@@ -1,14 +1,14 @@
 //! Takes a picture's macroblocks and cuts them into packets.
 ghost use Rattle.std.specs.Prelude.{◌≡◌, ℕ, ◌+◌, ◌*◌, ◌%◌, ◌<◌, ◌≤◌, ◌++◌, ◌∷◌, [], List, length, take, slice_index_or, All, IfOk};
 ghost use Rattle.h263_types.specs.declared.blocks.Mb.{Mb};
-ghost use Rattle.h263_types.specs.Blocks.{IsMb, IsOfKind};
+ghost use Rattle.h263_types.specs.Blocks.{HasQuant, IsMb, IsOfKind};
 ghost use Rattle.h263_types.specs.Params.{IsParams};
 ghost use Rattle.h263_types.specs.Sizes.{mbs_of};
 ghost use Rattle.picture_header.specs.declared.header.Header.{Header};
 ghost use Rattle.picture_header.specs.Ranges.{IsHeader};
 ghost use Rattle.packet_cutter.specs.Kept.{most_bytes, room_of, kept_packets};
 ghost use Rattle.packet_cutter.specs.Packets.{ArePacketsOf};
-ghost use Rattle.packet_cutter.specs.Taken.{HasQuant, IsTaken};
+ghost use Rattle.packet_cutter.specs.Taken.{IsTaken};
 
 use crate::packets::Packets;
 use h263_outside::OutOfMemory;

@@ -1,11 +1,10 @@
 //! Pictures cut into packets, byte for byte. The bytes were packed by another program from the formats.
 ghost use Rattle.std.specs.Prelude.{◌≡◌, ◌+◌, ◌≤◌, [], length, IsTrue, IfOk};
-ghost use Rattle.h263_types.specs.Blocks.{IsMb, IsOfKind};
+ghost use Rattle.h263_types.specs.Blocks.{HasQuant, IsMb, IsOfKind};
 ghost use Rattle.h263_types.specs.Params.{IsParams};
 ghost use Rattle.h263_types.specs.Sizes.{mbs_of};
 ghost use Rattle.h263_types.specs.declared.Kind.TheVariants as kinds;
 ghost use Rattle.picture_header.specs.Ranges.{IsHeader};
-ghost use Rattle.packet_cutter.specs.Taken.{HasQuant};
 ghost use Rattle.packet_cutter.specs.Cutting.{format_of, kind_of, quant_of, added_of, IsBegun};
 
 use super::*;

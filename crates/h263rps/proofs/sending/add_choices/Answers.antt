@@ -5,7 +5,7 @@ use Rattle.h263_types.specs.Sizes.{mbs_of}
 use Rattle.h263_planes.specs.Lent.{picture}
 use Rattle.mode_choice.specs.Choice.{choice_of, choices_of}
 use Rattle.packet_cutter.specs.Cutting.{quant_of, Holds}
-use Rattle.packet_cutter.specs.Taken.{HasQuant}
+use Rattle.h263_types.specs.Blocks.{HasQuant}
 use Rattle.h263rps.proofs.Choices.{one_choice_more, all_choices, plain_choice}
 use Rattle.h263rps.proofs.sending.add_choices.Goals as goal
 
