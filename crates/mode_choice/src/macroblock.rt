@@ -12,8 +12,9 @@ use h263_planes::PictureRef;
 use h263_types::{Block, Mb, Params};
 use picture_header::Header;
 
-/// The macroblock at place `mb` of `frame`, as it is coded in an I picture: intra, with the quantiser of the header
-/// and with the first `keep` places of each block's zigzag order.
+/// The macroblock that is coded at place `mb` of `frame`, with the quantiser of the header and with the first `keep`
+/// places of each block's zigzag order. Without a reference, which only a P picture has, it is coded by itself; else the
+/// motion search of `radius` whole samples decides whether it is predicted, coded by itself, or not coded at all.
 pub fn choose(
     frame: PictureRef<'_>,
     reference: Option<PictureRef<'_>>,
@@ -21,14 +22,21 @@ pub fn choose(
     header: &Header,
     params: &Params,
 ) -> Mb
-    requires kind { header.now.kind ≡ I }
+    requires reference { HasReferenceOnlyInP header.now.kind (picture frame).format (option_map picture reference) }
     requires quant { IsQuant header.now.quant }
+    requires rounding { header.now.rounding ≤ 1 }
+    requires radius { params.now.radius ≤ 15 }
     requires mb { mb < mbs_of (picture frame).format }
-    ensures choice { result ≡ choice_of (picture frame.entry) header.now.quant params.now.keep mb }
+    ensures choice { result ≡ choice_of (picture frame.entry) (option_map picture reference.entry) header.now params.now mb }
     ensures in_range { IsMb result }
     ensures of_kind { IsOfKind header.now.kind result }
+    ensures reach { ReachesInside (picture frame.entry).format mb result }
+    ensures plain { HasQuant header.now.quant result }
 {
-    intra_macroblock(frame, mb, header.quant, params.keep)
+    match reference {
+        None => intra_macroblock(frame, mb, header.quant, params.keep),
+        Some(reference) => predicted_macroblock(frame, reference, mb, header, params),
+    }
 }
 
 // The macroblock coded by itself.
