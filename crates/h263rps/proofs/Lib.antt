@@ -1,6 +1,7 @@
 pub mod Attached
 pub mod Buffers
 pub mod Choices
+pub mod Collecting
 pub mod Ends
 pub mod Frames
 pub mod Packets

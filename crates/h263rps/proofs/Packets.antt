@@ -1,17 +1,18 @@
 -- The packets of a picture are read as its slices.
 use Rattle.std.proofs.Common.{◌≡◌, ℕ, zero, suc, ◌+◌, ◌<◌, ◌≤◌, Bool, List, [], ◌∷◌, ◌++◌, length, get_or, take, All, Option, Some, None, refl, sym, ap, subst, ◌∙◌, arith}
 use Rattle.std.proofs.lemmas.List.{length-append}
-use Rattle.std.proofs.lemmas.List.Elements.{All-get_or, All-head, All-tail}
-use Rattle.h263_types.specs.declared.format.Format.{Format}
-use Rattle.h263_types.specs.declared.format.Format.TheVariants.{SubQcif}
-use Rattle.h263_types.specs.declared.vector.Reach.{Reach}
+use Rattle.std.proofs.lemmas.List.Elements.{All-get_or}
 use Rattle.h263_types.specs.declared.blocks.Mb.{Mb}
 use Rattle.h263_types.specs.declared.blocks.Mb.TheVariants.{Skip, Intra, Inter}
+use Rattle.h263_types.specs.Blocks.{HasQuant}
+use Rattle.h263_types.specs.References.{ReachesInside}
+use Rattle.h263_types.specs.Sizes.{mbs_of}
 use Rattle.h263_bits.specs.Bits.{bits_of}
 use Rattle.picture_header.specs.declared.header.Header.{Header}
 use Rattle.picture_header.specs.Ranges.{IsHeader}
-use Rattle.macroblock_layer.specs.Written.{IsReached}
-use Rattle.slice_layer.specs.Around.{around}
+use Rattle.macroblock_layer.specs.Written.{IsNear, IsReached, IsStepped}
+use Rattle.slice_layer.specs.Around.{around, quant_after, reach_of}
+use Rattle.slice_layer.proofs.Reach.{reach_within}
 use Rattle.slice_layer.specs.Written.{AreWritable}
 use Rattle.rtp_header.proofs.Exact as rtp
 use Rattle.h263_payload.proofs.Exact as payload
@@ -22,8 +23,9 @@ use Rattle.packet_cutter.proofs.Cuts.{covers, fit}
 use Rattle.packet_cutter.proofs.Counted.{count, within}
 use Rattle.packet_cutter.proofs.Reread.{read_as}
 use Rattle.packet_collector.specs.Packet.{IsPacket}
-use Rattle.h263rps.specs.Sent.{header_of, IsSent, AreSent}
-use Rattle.h263rps.proofs.Runs.{place_of, run_at, place_next, place_within, all_in_run}
+use Rattle.picture_recon.specs.Samples.{mb_in}
+use Rattle.h263rps.specs.Sent.{IsSentAt, AreSent}
+use Rattle.h263rps.proofs.Runs.{place_of, run_at, place_next, place_within, in_run}
 
 -- ---- each packet has its slice's text
 
@@ -54,65 +56,87 @@ some_at h limit first (run ∷ runs) (suc i) f some = some_at h limit (first + l
 
 -- ---- its macroblocks may be written
 
-reached : (m : Mb) (reach : Reach) → IsSent m → IsReached reach m
-reached Skip reach s = absurd s.of_kind
-reached (Intra quant blocks) reach s = tt
-reached (Inter quant vector blocks) reach s = absurd s.of_kind
+quant_stays : (q : ℕ) (m : Mb) → HasQuant q m → quant_after q m ≡ q
+quant_stays q Skip is = refl
+quant_stays q (Intra n blocks) is = is
+quant_stays q (Inter n v blocks) is = is
 
-writable : (number first : ℕ) (before run : List Mb) → All IsSent run → AreWritable (around (header_of number) first) 8 before run
+near_itself : (q n : ℕ) → n ≡ q → IsNear q n
+near_itself q n is = record { up = omega (arith, is); down = omega (arith, is) }
+
+stepped : (q : ℕ) (m : Mb) → HasQuant q m → IsStepped q m
+stepped q Skip is = tt
+stepped q (Intra n blocks) is = near_itself q n is
+stepped q (Inter n v blocks) is = near_itself q n is
+
+reached : (h : Header) (k : ℕ) (m : Mb) → k < mbs_of h.format → ReachesInside h.format k m → IsReached (reach_of h.format k) m
+reached h k Skip below is = tt
+reached h k (Intra quant blocks) below is = tt
+reached h k (Inter quant v blocks) below is = (reach_within h.format k v.x v.y below).0 is
+
+-- the macroblocks of a slice, behind earlier ones of it
+abbrev pub AreSentFrom : Header → ℕ → List Mb → Type 0
+AreSentFrom h first run = (j : ℕ) → j < length run → IsSentAt h (first + j) (get_or run j Skip)
+
+writable : (h : Header) (first : ℕ) (before run : List Mb) → first + length before + length run ≤ mbs_of h.format → AreSentFrom h (first + length before) run → AreWritable (around h first) h.quant before run
 unfolding AreWritable
-writable number first before [] s = tt
-writable number first before (m ∷ run) s =
-    let one = All-head IsSent m run s in (
-      record { in_range = one.in_range; of_kind = one.of_kind; step = one.stepped; whole = one.whole; reached = reached m _ one },
-      subst (λ (q : ℕ). AreWritable (around (header_of number) first) q (before ++ m ∷ []) run) (sym one.plain) (writable number first (before ++ m ∷ []) run (All-tail IsSent m run s)),
+writable h first before [] within s = tt
+writable h first before (m ∷ run) within s =
+    let at : first + length before + 0 ≡ first + length before = omega arith in
+    let one = subst (λ (k : ℕ). IsSentAt h k m) at (s 0 (omega arith)) in
+    let longer : length (before ++ m ∷ []) ≡ length before + 1 = length-append before (m ∷ []) in
+    let more : AreSentFrom h (first + length (before ++ m ∷ [])) run = λ j below.
+        let next : first + length before + suc j ≡ first + length (before ++ m ∷ []) + j = omega (arith, longer) in
+        subst (λ (k : ℕ). IsSentAt h k (get_or run j Skip)) next (s (suc j) (omega (arith, below)))
+    in (
+      record { in_range = one.in_range; of_kind = one.of_kind; step = stepped h.quant m one.plain; whole = one.whole; reached = reached h (first + length before) m (omega (arith, within)) one.reach },
+      subst (λ (q : ℕ). AreWritable (around h first) q (before ++ m ∷ []) run) (sym (quant_stays h.quant m one.plain)) (writable h first (before ++ m ∷ []) run (omega (arith, within, longer)) more),
     )
 
 -- ---- what was written is a packet
 
-pub header_in_range : (number : ℕ) → IsHeader (header_of number)
-header_in_range number = record {
-  tr = omega arith;
-  rounding = omega arith;
-  channel = omega arith;
-  trp = tt;
-  quant_some = omega arith;
-  quant_low = omega arith;
-  back = record { first = refl; few = omega arith; each = tt };
-}
-
-read_packet_is : (number sequence first : ℕ) (marker : Bool) (run : List Mb) (bytes : List ℕ) → IsReadAs number sequence marker (header_of number) first run bytes
-    → IsPacket SubQcif (record { header = header_of number; first = first; mbs = run }) bytes
-read_packet_is number sequence first marker run bytes r = record {
+read_packet_is : (number sequence : ℕ) (h : Header) (first : ℕ) (marker : Bool) (run : List Mb) (bytes : List ℕ) → IsReadAs number sequence marker h first run bytes
+    → IsPacket h.format (record { header = h; first = first; mbs = run }) bytes
+read_packet_is number sequence h first marker run bytes r = record {
   rtp = rtp_of number sequence marker (length bytes);
-  payload = payload_of (header_of number) first;
+  payload = payload_of h first;
   front = r.front;
   behind = r.behind;
   is_rtp = rtp.read_text _ bytes r.rtp;
-  is_payload = payload.read_text SubQcif _ _ r.payload;
+  is_payload = payload.read_text h.format _ _ r.payload;
   parts = r.parts;
   headed = r.headed;
   text = r.text;
 }
 
-pub as_many : (number sequence : ℕ) (mbs : List Mb) (packets : List (List ℕ)) (p : ArePacketsOf number sequence (header_of number) 1400 mbs packets) → length packets ≡ length p.runs
-as_many number sequence mbs packets p = count number sequence (header_of number) 0 p.runs packets p.each
+pub as_many : (number sequence limit : ℕ) (h : Header) (mbs : List Mb) (packets : List (List ℕ)) (p : ArePacketsOf number sequence h limit mbs packets) → length packets ≡ length p.runs
+as_many number sequence limit h mbs packets p = count number sequence h 0 p.runs packets p.each
 
-pub all_runs : (number sequence : ℕ) (mbs : List Mb) (packets : List (List ℕ)) (p : ArePacketsOf number sequence (header_of number) 1400 mbs packets) → joined p.runs ≡ mbs
-all_runs number sequence mbs packets p = covers (header_of number) 1400 0 mbs p.runs p.cut
+pub all_runs : (number sequence limit : ℕ) (h : Header) (mbs : List Mb) (packets : List (List ℕ)) (p : ArePacketsOf number sequence h limit mbs packets) → joined p.runs ≡ mbs
+all_runs number sequence limit h mbs packets p = covers h limit 0 mbs p.runs p.cut
 
-pub packet_is : (number sequence : ℕ) (mbs : List Mb) (packets : List (List ℕ)) (p : ArePacketsOf number sequence (header_of number) 1400 mbs packets) (i : ℕ) → AreSent mbs → i < length packets
-    → IsPacket SubQcif (record { header = header_of number; first = place_of p.runs i; mbs = run_at p.runs i }) (get_or packets i [])
-packet_is number sequence mbs packets p i s below =
-    let h = header_of number in
-    let inside : i < length p.runs = omega (arith, below, as_many number sequence mbs packets p) in
-    let whole = all_runs number sequence mbs packets p in
+pub packet_is : (number sequence limit : ℕ) (h : Header) (mbs : List Mb) (packets : List (List ℕ)) (p : ArePacketsOf number sequence h limit mbs packets) (i : ℕ)
+    → IsHeader h → AreSent h mbs → limit < 65536 → i < length packets
+    → IsPacket h.format (record { header = h; first = place_of p.runs i; mbs = run_at p.runs i }) (get_or packets i [])
+packet_is number sequence limit h mbs packets p i is s few below =
+    let inside : i < length p.runs = omega (arith, below, as_many number sequence limit h mbs packets p) in
+    let whole = all_runs number sequence limit h mbs packets p in
     let zero_first : 0 + place_of p.runs i ≡ place_of p.runs i = omega arith in
     let t = subst (λ (n : ℕ). HasText number h n (run_at p.runs i) (get_or packets i [])) zero_first (text_at number sequence h 0 p.runs packets i p.each inside) in
-    let short : length (get_or packets i []) ≤ 1400 = All-get_or (λ (l : List ℕ). length l ≤ 1400) packets i [] below (within number sequence h 1400 0 mbs p.runs packets p.cut p.each) in
-    let end : place_of p.runs i + length (run_at p.runs i) ≤ 48 =
-    omega (arith, place_next p.runs i inside, place_within p.runs (i + 1), ap (λ (l : List Mb). length l) whole, s.count) in
-    let sent = all_in_run IsSent p.runs i inside (subst (All IsSent) (sym whole) s.each) in
-    read_packet_is number t.sequence (place_of p.runs i) t.marker (run_at p.runs i) (get_or packets i [])
-    (read_as number t.sequence t.marker h (place_of p.runs i) (run_at p.runs i) (get_or packets i []) (header_in_range number)
-    (some_at h 1400 0 p.runs i (fit h 1400 0 mbs p.runs p.cut) inside) end (writable number (place_of p.runs i) [] (run_at p.runs i) sent) t.text (omega (arith, short)))
+    let short : length (get_or packets i []) ≤ limit = All-get_or (λ (l : List ℕ). length l ≤ limit) packets i [] below (within number sequence h limit 0 mbs p.runs packets p.cut p.each) in
+    let next = place_next p.runs i inside in
+    let last = place_within p.runs (i + 1) in
+    let long : length (joined p.runs) ≡ mbs_of h.format = ap (λ (l : List Mb). length l) whole ∙ s.count in
+    let end : place_of p.runs i + length (run_at p.runs i) ≤ mbs_of h.format = omega (arith, next, last, long) in
+    let sent : AreSentFrom h (place_of p.runs i + 0) (run_at p.runs i) = λ j in_slice.
+        let k = place_of p.runs i + j in
+        let at : k ≡ place_of p.runs i + 0 + j = omega arith in
+        let is_k = in_run p.runs i j inside in_slice ∙ refl in
+        let m : get_or mbs k Skip ≡ get_or (run_at p.runs i) j Skip = ap (λ (l : List Mb). get_or l k Skip) (sym whole) ∙ is_k in
+        subst (λ (n : ℕ). IsSentAt h n (get_or (run_at p.runs i) j Skip)) at
+        (subst (IsSentAt h k) m (s.each k (omega (arith, in_slice, end))))
+    in
+    let end_at : place_of p.runs i + 0 + length (run_at p.runs i) ≤ mbs_of h.format = omega (arith, end) in
+    read_packet_is number t.sequence h (place_of p.runs i) t.marker (run_at p.runs i) (get_or packets i [])
+    (read_as number t.sequence t.marker h (place_of p.runs i) (run_at p.runs i) (get_or packets i []) is
+    (some_at h limit 0 p.runs i (fit h limit 0 mbs p.runs p.cut) inside) end (writable h (place_of p.runs i) [] (run_at p.runs i) end_at sent) t.text (omega (arith, short, few)))

@@ -4,7 +4,7 @@ use Rattle.std.specs.Prelude.{◌&&◌, nat_le, nat_lt, if◌then◌else◌, Non
 use Rattle.std.proofs.lemmas.Bool.{lt-ltb, leb-true, leb-false, ltb-true}
 use Rattle.std.proofs.lemmas.List.{get_or-take, get_or-drop}
 use Rattle.h263_types.specs.declared.format.Format.{Format}
-use Rattle.h263_types.specs.declared.format.Format.TheVariants.{SubQcif}
+use Rattle.h263_types.specs.Sizes.{mbs_of}
 use Rattle.h263_types.specs.declared.blocks.Mb.{Mb}
 use Rattle.h263_types.specs.declared.blocks.Mb.TheVariants.{Skip}
 use Rattle.h263_planes.specs.declared.Plane.{Plane}
@@ -18,7 +18,7 @@ use Rattle.packet_collector.specs.Packet.{Slice}
 use Rattle.packet_collector.specs.Filled.{slice_in}
 use Rattle.picture_recon.specs.Samples.{mb_in, sample_in}
 use Rattle.packet_cutter.specs.Packets.{ArePacketsOf}
-use Rattle.h263rps.specs.Sent.{header_of, AreSent}
+use Rattle.h263rps.specs.Sent.{AreSent}
 use Rattle.h263rps.specs.Received.{SetsSlice, ShowsFirst}
 use Rattle.h263rps.proofs.Runs.{place_of, run_at, place_next, place_all, at_place}
 use Rattle.h263rps.proofs.Packets.{as_many, all_runs}
@@ -40,27 +40,27 @@ same_there low n k a c b same = at_low (nat_le low k) refl (nat_lt k (low + n)) 
     at_low true e false f = refl
     at_low false e u f = refl
 
-pub more_shown : (number sequence : ℕ) (mbs : List Mb) (packets : List (List ℕ)) (p : ArePacketsOf number sequence (header_of number) 1400 mbs packets) (i : ℕ) (old new : Picture) → i < length packets
-    → ShowsFirst mbs (place_of p.runs i) old → SetsSlice 0 (place_of p.runs i) (run_at p.runs i) old new → ShowsFirst mbs (place_of p.runs (i + 1)) new
-more_shown number sequence mbs packets p i old new below shows sets = λ plane x y inside under.
-    let k = mb_of SubQcif plane x y in
+pub more_shown : (number sequence limit : ℕ) (h : Header) (mbs : List Mb) (packets : List (List ℕ)) (p : ArePacketsOf number sequence h limit mbs packets) (i : ℕ) (old new : Picture) → i < length packets
+    → ShowsFirst h.format h.rounding mbs (place_of p.runs i) old → SetsSlice h.format h.rounding (place_of p.runs i) (run_at p.runs i) old new → ShowsFirst h.format h.rounding mbs (place_of p.runs (i + 1)) new
+more_shown number sequence limit h mbs packets p i old new below shows sets = λ plane x y inside under.
+    let k = mb_of h.format plane x y in
     let low = place_of p.runs i in
-    let in_list : i < length p.runs = omega (arith, below, as_many number sequence mbs packets p) in
+    let in_list : i < length p.runs = omega (arith, below, as_many number sequence limit h mbs packets p) in
     let high : k < low + length (run_at p.runs i) = omega (arith, under, place_next p.runs i in_list) in
     sets plane x y inside
-    ∙ by_place low (length (run_at p.runs i)) k _ _ (sample_in 0 None (mb_in mbs k) plane x y)
+    ∙ by_place low (length (run_at p.runs i)) k _ _ (sample_in h.rounding None (mb_in mbs k) plane x y)
     (λ before. shows plane x y inside before)
-    (λ there. ap (λ (m : Mb). sample_in 0 None m plane x y) (at_place p.runs i k in_list there high ∙ ap (λ (l : List Mb). get_or l k Skip) (all_runs number sequence mbs packets p)))
+    (λ there. ap (λ (m : Mb). sample_in h.rounding None m plane x y) (at_place p.runs i k in_list there high ∙ ap (λ (l : List Mb). get_or l k Skip) (all_runs number sequence limit h mbs packets p)))
     high
 
-pub all_shown : (number sequence : ℕ) (mbs : List Mb) (packets : List (List ℕ)) (p : ArePacketsOf number sequence (header_of number) 1400 mbs packets) (i : ℕ) (new : Picture) → AreSent mbs → length packets ≤ i
-    → ShowsFirst mbs (place_of p.runs i) new → ShowsFirst mbs 48 new
-all_shown number sequence mbs packets p i new s end shows = λ plane x y inside under.
-    let all : place_of p.runs i ≡ 48 = place_all p.runs i (omega (arith, end, as_many number sequence mbs packets p)) ∙ ap (λ (l : List Mb). length l) (all_runs number sequence mbs packets p) ∙ s.count in
+pub all_shown : (number sequence limit : ℕ) (h : Header) (mbs : List Mb) (packets : List (List ℕ)) (p : ArePacketsOf number sequence h limit mbs packets) (i : ℕ) (new : Picture) → AreSent h mbs → length packets ≤ i
+    → ShowsFirst h.format h.rounding mbs (place_of p.runs i) new → ShowsFirst h.format h.rounding mbs (mbs_of h.format) new
+all_shown number sequence limit h mbs packets p i new s end shows = λ plane x y inside under.
+    let all : place_of p.runs i ≡ mbs_of h.format = place_all p.runs i (omega (arith, end, as_many number sequence limit h mbs packets p)) ∙ ap (λ (l : List Mb). length l) (all_runs number sequence limit h mbs packets p) ∙ s.count in
     shows plane x y inside (omega (arith, under, all))
 
-pub none_shown : (mbs : List Mb) (new : Picture) → ShowsFirst mbs 0 new
-none_shown mbs new = λ plane x y inside under. absurd (omega (arith, under))
+pub none_shown : (f : Format) (rounding : ℕ) (mbs : List Mb) (new : Picture) → ShowsFirst f rounding mbs 0 new
+none_shown f rounding mbs new = λ plane x y inside under. absurd (omega (arith, under))
 
 -- ---- what one packet sets
 
@@ -82,18 +82,18 @@ SliceSamples piece mbs old new =
     then sample_in piece.header.rounding None (mb_in mbs (mb_of piece.header.format plane x y)) plane x y
     else sample_at old plane x y)
 
-pub slice_is_set : (h : Header) (first : ℕ) (run mbs : List Mb) (piece : Piece) (old new : Picture) → piece.head.count ≡ length run
-    → slice_in piece mbs ≡ record { header = h; first = first; mbs = run } → piece.header.format ≡ SubQcif → SliceSamples piece mbs old new → SetsSlice h.rounding first run old new
-slice_is_set h first run mbs piece old new many is format samples = λ plane x y inside.
-    let value : Format → ℕ → ℕ → ℕ → ℕ = λ g f n r.
-    if nat_le f (mb_of g plane x y) && nat_lt (mb_of g plane x y) (f + n) then sample_in r None (mb_in mbs (mb_of g plane x y)) plane x y else sample_at old plane x y in
+pub slice_is_set : (f : Format) (h : Header) (first : ℕ) (run mbs : List Mb) (piece : Piece) (old new : Picture) → piece.head.count ≡ length run
+    → slice_in piece mbs ≡ record { header = h; first = first; mbs = run } → piece.header.format ≡ f → SliceSamples piece mbs old new → SetsSlice f h.rounding first run old new
+slice_is_set f h first run mbs piece old new many is format samples = λ plane x y inside.
+    let value : Format → ℕ → ℕ → ℕ → ℕ = λ g l n r.
+    if nat_le l (mb_of g plane x y) && nat_lt (mb_of g plane x y) (l + n) then sample_in r None (mb_in mbs (mb_of g plane x y)) plane x y else sample_at old plane x y in
     let head = ap (λ (s : Slice). s.header) is in
     let begins = ap (λ (s : Slice). s.first) is in
     let run_is = ap (λ (s : Slice). s.mbs) is in
-    let k = mb_of SubQcif plane x y in
+    let k = mb_of f plane x y in
     samples plane x y (subst (λ (g : Format). Inside g plane x y 1) (sym format) inside)
     ∙ ap (λ (g : Format). value g piece.head.first piece.head.count piece.header.rounding) format
-    ∙ ap (λ (f : ℕ). value SubQcif f piece.head.count piece.header.rounding) begins
-    ∙ ap (λ (n : ℕ). value SubQcif first n piece.header.rounding) many
-    ∙ ap (λ (x' : Header). value SubQcif first (length run) x'.rounding) head
+    ∙ ap (λ (l : ℕ). value f l piece.head.count piece.header.rounding) begins
+    ∙ ap (λ (n : ℕ). value f first n piece.header.rounding) many
+    ∙ ap (λ (x' : Header). value f first (length run) x'.rounding) head
     ∙ same_there first (length run) k _ _ (sample_at old plane x y) (λ low high. ap (λ (m : Mb). sample_in h.rounding None m plane x y) (in_place mbs run first piece.head.first piece.head.count k begins many run_is low high))

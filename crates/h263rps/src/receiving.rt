@@ -1,50 +1,85 @@
 // The receiver's side: packets become a picture.
-ghost use Rattle.std.specs.Prelude.{◌≡◌, ℕ, List, length};
+ghost use Rattle.std.specs.Prelude.{◌≡◌, ℕ, ◌+◌, ◌<◌, List, length, true};
 ghost use Rattle.h263_types.specs.declared.Kind.TheVariants.{I};
-ghost use Rattle.h263_types.specs.declared.format.Format.TheVariants.{SubQcif};
+ghost use Rattle.h263_types.specs.declared.format.Format.{Format};
 ghost use Rattle.h263_types.specs.declared.blocks.Mb.{Mb};
+ghost use Rattle.h263_types.specs.Sizes.{mbs_of};
 ghost use Rattle.h263_planes.specs.Samples.{IsPicture};
 ghost use Rattle.h263_planes.specs.Work.{loan_of, work};
 ghost use Rattle.picture_header.specs.declared.header.Header.{Header};
+ghost use Rattle.picture_header.specs.Ranges.{IsHeader};
+ghost use Rattle.packet_collector.specs.Collected.{IsInRow, IsRowFrom, first_of, format_of};
 ghost use Rattle.packet_collector.specs.Packet.{IsPacket};
 ghost use Rattle.packet_cutter.specs.Cutting.{packets_of};
 ghost use Rattle.packet_cutter.specs.Packets.{ArePacketsOf};
-ghost use Rattle.h263rps.specs.Sent.{header_of, AreSent};
-ghost use Rattle.h263rps.specs.Received.{SetsSlice, ShowsFirst};
+ghost use Rattle.h263rps.specs.Sent.{AreSent};
+ghost use Rattle.h263rps.specs.Received.{HasFirst, IsReady, SetsSlice, ShowsFirst};
 
 use h263_planes::PictureMut;
-use h263_types::{Format, Kind, Mb};
-use packet_collector::read_packet;
+use h263_types::{Kind, Mb};
+use packet_collector::{Collector, Place, read_packet};
 use packet_cutter::Cutter;
 use picture_recon::recon_slice;
 
-// Sets the samples of a packet's slice. A packet that can't be read, or that refers to another picture, is passed over.
-fn take_packet(bytes: &[u8], mbs: &mut [Mb; 48], out: &mut PictureMut<'_>)
-    requires { (work out.old).format ≡ SubQcif }
+// Sets the samples of a packet's slice, where nothing of it was taken before. A packet that can't be read, or that refers
+// to another picture, is passed over.
+fn take_packet(
+    collector: &mut Collector,
+    mbs: &mut [Mb],
+    number: u32,
+    bytes: &[u8],
+    out: &mut PictureMut<'_>,
+)
+    requires format { (work out.old).format ≡ format_of collector.old }
+    requires mbs { length mbs.old ≡ mbs_of (format_of collector.old) }
+    requires row { IsInRow collector.old number }
     ensures same_loan { loan_of out.new ≡ loan_of out.old }
-    ensures format { (work out.new).format ≡ SubQcif }
+    ensures format { (work out.new).format ≡ (work out.old).format }
     ensures whole { IsPicture (work out.new) }
-    ensures samples { (h : Header) (first : ℕ) (run : List Mb) → h.kind ≡ I
-        → IsPacket SubQcif (record { header = h; first = first; mbs = run }) bytes.now → SetsSlice h.rounding first run (work out.old) (work out.new) }
+    ensures mbs { length mbs.new ≡ length mbs.old }
+    ensures row { IsRowFrom (first_of collector.old) collector.old collector.new }
+    ensures takes { (h : Header) (first : ℕ) (run : List Mb) → h.kind ≡ I
+        → IsPacket (format_of collector.old) (record { header = h; first = first; mbs = run }) bytes.now
+        → HasFirst collector.old number h first
+        → HasFirst collector.new number h (first + length run) × SetsSlice (format_of collector.old) h.rounding first run (work out.old) (work out.new) }
 {
-    if let Ok(piece) = read_packet(bytes, Format::SubQcif, mbs) {
-        if let Kind::I = piece.header.kind {
+    let Ok(piece) = read_packet(bytes, out.format(), mbs) else {
+        return;
+    };
+    if let Kind::I = piece.header.kind {
+        if let Place::Fresh = collector.place(number, &piece) {
             recon_slice(mbs, piece.head, &piece.header, None, out);
+            collector.add(number, &piece);
         }
     }
 }
 
-/// Sets the samples of a picture by its packets.
-pub fn take_packets(cutter: &Cutter, out: &mut PictureMut<'_>)
-    requires { (work out.old).format ≡ SubQcif }
+/// Sets the samples of picture `number` by its packets, and tells whether all its macroblocks were taken. `mbs` is room
+/// for a picture's macroblocks. Then the collector goes on to the next picture.
+pub fn take_packets(
+    collector: &mut Collector,
+    mbs: &mut [Mb],
+    number: u32,
+    cutter: &Cutter,
+    out: &mut PictureMut<'_>,
+) -> bool
+    requires format { (work out.old).format ≡ format_of collector.old }
+    requires mbs { length mbs.old ≡ mbs_of (format_of collector.old) }
+    requires ready { IsReady collector.old number }
+    requires number { number < 1048576 }
     ensures same_loan { loan_of out.new ≡ loan_of out.old }
-    ensures format { (work out.new).format ≡ SubQcif }
+    ensures format { (work out.new).format ≡ (work out.old).format }
     ensures whole { IsPicture (work out.new) }
-    ensures samples { (number sequence : ℕ) (mbs : List Mb) → AreSent mbs → ArePacketsOf number sequence (header_of number) 1400 mbs (packets_of cutter.now)
-        → ShowsFirst mbs 48 (work out.new) }
+    ensures mbs { length mbs.new ≡ length mbs.old }
+    ensures row { format_of collector.new ≡ format_of collector.old }
+    ensures shows { (sequence limit : ℕ) (h : Header) (all : List Mb) → h.kind ≡ I → h.format ≡ format_of collector.old
+        → IsHeader h → AreSent h all → limit < 65536 → ArePacketsOf number sequence h limit all (packets_of cutter.now)
+        → (result ≡ true) × IsReady collector.new (number + 1) × ShowsFirst (format_of collector.old) h.rounding all (mbs_of h.format) (work out.new) }
 {
-    let mut mbs = [Mb::Skip; 48];
     'turns: for i in 0..cutter.count() {
-        take_packet(cutter.packet(i), &mut mbs, out);
+        take_packet(collector, mbs, number, cutter.packet(i), out);
     }
+    let whole = collector.whole(number);
+    collector.advance();
+    whole
 }

@@ -1,6 +1,6 @@
 mod Exact
 mod AllMarks
-mod Pieces
+pub mod Pieces
 mod Rows
 mod Places
 mod Forgetting

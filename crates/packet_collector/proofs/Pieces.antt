@@ -14,7 +14,7 @@ pub record IsMember (taken : List Taken) (n : ℕ) : Type 0 where
   pub in-list : IsIn one taken
   pub number : one.number ≡ n
 
-member : (taken : List Taken) (n : ℕ) → has_any taken n ≡ true → IsMember taken n
+pub member : (taken : List Taken) (n : ℕ) → has_any taken n ≡ true → IsMember taken n
 unfolding has_any
 member [] n e = absurd cc
 member (t ∷ ts) n e = at (t.number == n) refl e (λ f. member ts n f)

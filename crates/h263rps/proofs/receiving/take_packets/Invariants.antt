@@ -1,11 +1,14 @@
-use Rattle.std.proofs.Common.{◌≡◌, ℕ, List}
-use Rattle.h263_types.specs.declared.format.Format.TheVariants.{SubQcif}
+use Rattle.std.proofs.Common.{◌≡◌, ◌<◌, ℕ, List, length}
+use Rattle.h263_types.specs.declared.Kind.TheVariants.{I}
 use Rattle.h263_types.specs.declared.blocks.Mb.{Mb}
 use Rattle.h263_planes.specs.Work.{loan_of, work}
+use Rattle.picture_header.specs.declared.header.Header.{Header}
+use Rattle.picture_header.specs.Ranges.{IsHeader}
+use Rattle.packet_collector.specs.Collected.{IsRowFrom, first_of, format_of}
 use Rattle.packet_cutter.specs.Cutting.{packets_of}
 use Rattle.packet_cutter.specs.Packets.{ArePacketsOf}
-use Rattle.h263rps.specs.Sent.{header_of, AreSent}
-use Rattle.h263rps.specs.Received.{ShowsFirst}
+use Rattle.h263rps.specs.Sent.{AreSent}
+use Rattle.h263rps.specs.Received.{HasFirst, ShowsFirst}
 use Rattle.h263rps.proofs.Runs.{place_of}
 use Rattle.h263rps.proofs.receiving.take_packets.Given as goal
 
@@ -13,6 +16,9 @@ use Rattle.h263rps.proofs.receiving.take_packets.Given as goal
 abbrev pub invariant-turns : goal.invariant-turns
 invariant-turns l = record {
   loan : loan_of l.out ≡ loan_of l.fn.out;
-  format : (work l.out).format ≡ SubQcif;
-  shows : (number sequence : ℕ) (mbs : List Mb) (p : ArePacketsOf number sequence (header_of number) 1400 mbs (packets_of l.fn.cutter)) → AreSent mbs → ShowsFirst mbs (place_of p.runs l.i) (work l.out);
+  format : (work l.out).format ≡ (work l.fn.out).format;
+  mbs : length l.mbs ≡ length l.fn.mbs;
+  row : IsRowFrom (first_of l.fn.collector) l.fn.collector l.collector;
+  has : (sequence limit : ℕ) (h : Header) (all : List Mb) (p : ArePacketsOf l.fn.number sequence h limit all (packets_of l.fn.cutter)) → h.kind ≡ I → h.format ≡ format_of l.fn.collector → IsHeader h → AreSent h all → limit < 65536
+      → HasFirst l.collector l.fn.number h (place_of p.runs l.i) × ShowsFirst h.format h.rounding all (place_of p.runs l.i) (work l.out);
 }
