@@ -1,0 +1,7 @@
+pub mod Line
+pub mod Head
+pub mod Frame
+pub mod Planes
+pub mod Video
+pub mod Reader
+pub mod Text

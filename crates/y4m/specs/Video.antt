@@ -1,0 +1,46 @@
+-- A whole video: its head and its frames.
+use Rattle.std.specs.Prelude.{ℕ, zero, suc, ◌+◌, List, [], ◌∷◌, drop, Option, Some, None, Result, Ok, Err}
+use Rattle.h263_types.specs.declared.format.Format.{Format}
+use Rattle.y4m.specs.declared.fault.Y4mFault.{Y4mFault}
+use Rattle.y4m.specs.declared.fault.Y4mFault.TheVariants.{TooMany}
+use Rattle.y4m.specs.Head.{head_of, head_size}
+use Rattle.y4m.specs.Frame.{frame_of, frame_size}
+
+-- a frame, and those behind it
+abbrev pub frames_from : Result (List ℕ) Y4mFault → List (List ℕ) → List (List ℕ)
+frames_from (Ok frame) more = frame ∷ more
+frames_from (Err fault) more = []
+
+abbrev pub fault_from : Result (List ℕ) Y4mFault → Option Y4mFault → Option Y4mFault
+fault_from (Ok frame) more = more
+fault_from (Err fault) more = Some fault
+
+-- the frames of the rest, where so many may still come, up to the first fault
+unfoldable pub frames_of : Format → ℕ → ℕ → List ℕ → List (List ℕ)
+frames_of f zero at rest = []
+frames_of f (suc n) at [] = []
+frames_of f (suc n) at (b ∷ rest) =
+    frames_from (frame_of f at (b ∷ rest)) (frames_of f n (at + frame_size f (b ∷ rest)) (drop (frame_size f (b ∷ rest)) (b ∷ rest)))
+
+-- the first fault of the rest
+unfoldable pub fault_of : Format → ℕ → ℕ → List ℕ → Option Y4mFault
+fault_of f n at [] = None
+fault_of f zero at (b ∷ rest) = Some (TooMany at)
+fault_of f (suc n) at (b ∷ rest) =
+    fault_from (frame_of f at (b ∷ rest)) (fault_of f n (at + frame_size f (b ∷ rest)) (drop (frame_size f (b ∷ rest)) (b ∷ rest)))
+
+-- behind a head
+abbrev pub fault_behind : Result Format Y4mFault → ℕ → List ℕ → Option Y4mFault
+fault_behind (Err fault) at body = Some fault
+fault_behind (Ok f) at body = fault_of f 1048576 at body
+
+abbrev pub frames_behind : Result Format Y4mFault → ℕ → List ℕ → List (List ℕ)
+frames_behind (Err fault) at body = []
+frames_behind (Ok f) at body = frames_of f 1048576 at body
+
+-- the first fault of a video, and its frames up to there
+unfoldable pub video_fault : List ℕ → Option Y4mFault
+video_fault video = fault_behind (head_of video) (head_size video) (drop (head_size video) video)
+
+unfoldable pub video_frames : List ℕ → List (List ℕ)
+video_frames video = frames_behind (head_of video) (head_size video) (drop (head_size video) video)

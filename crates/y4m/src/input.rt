@@ -1,0 +1,78 @@
+// Bytes and lines of the video, from a desk.
+ghost use Rattle.std.specs.Prelude.{◌≡◌, ◌<◌, ◌≤◌, ◌^◌, ◌∷◌, ℕ, List, [], length, true, take, drop, MatchOption, OnErr, IfOk, IfErr, IsErrOf, Some};
+ghost use Rattle.h263_outside.specs.Desk.{FillsFront, Rose, OnlyReads};
+ghost use Rattle.h263_outside.specs.declared.desk.Role.TheVariants.{Video};
+ghost use Rattle.y4m.specs.Line.{line_within};
+ghost use Rattle.y4m.specs.Planes.{PlanesGive};
+
+use crate::{VideoStop, Y4mFault};
+use h263_outside::{Desk, Role, read_full};
+
+/// Reads until the buffer is full or the video ends, and answers how many bytes came to its front.
+pub fn read<D: Desk>(desk: &mut D, buf: &mut [u8]) -> Result<usize, VideoStop>
+    requires { (D.outside desk.old).attached Video ≡ true }
+    ensures count { IfOk result (λ k. k ≤ length buf.old) }
+    ensures told { (left : List ℕ) → (D.outside desk.old).left Video ≡ Some left → IfOk result (λ k. FillsFront left buf.new k × ((D.outside desk.new).left Video ≡ Some (drop k left))) }
+    ensures err { IfErr result (λ stop. stop ≡ VideoStop.Read) }
+    ensures cause { OnErr result (Rose (D.outside desk.old).faults.read (D.outside desk.new).faults.read) }
+    ensures rest { OnlyReads (D.outside desk.old) (D.outside desk.new) }
+{
+    match read_full(desk, Role::Video, buf) {
+        Ok(count) => Ok(count),
+        Err(_) => Err(VideoStop::Read),
+    }
+}
+
+// Reads one byte, or finds the end.
+fn read_byte<D: Desk>(desk: &mut D) -> Result<Option<u8>, VideoStop>
+    requires { (D.outside desk.old).attached Video ≡ true }
+    ensures told { (left : List ℕ) → (D.outside desk.old).left Video ≡ Some left → IfOk result (λ byte. MatchOption byte (left ≡ []) (λ b. left ≡ b ∷ drop 1 left) × ((D.outside desk.new).left Video ≡ Some (drop 1 left))) }
+    ensures err { IfErr result (λ stop. stop ≡ VideoStop.Read) }
+    ensures cause { OnErr result (Rose (D.outside desk.old).faults.read (D.outside desk.new).faults.read) }
+    ensures rest { OnlyReads (D.outside desk.old) (D.outside desk.new) }
+{
+    let mut byte = [0; 1];
+    if read(desk, &mut byte)? == 0 {
+        return Ok(None);
+    }
+    Ok(Some(byte[0]))
+}
+
+/// Reads a line with its newline to the front of the buffer, or what there is of it, and answers its length.
+pub fn read_line<D: Desk>(desk: &mut D, line: &mut [u8]) -> Result<usize, VideoStop>
+    requires { (D.outside desk.old).attached Video ≡ true }
+    ensures within { IfOk result (λ k. k ≤ length line.old) }
+    ensures told { (left : List ℕ) → (D.outside desk.old).left Video ≡ Some left → IfOk result (λ k. (take k line.new ≡ line_within (length line.old) left) × ((D.outside desk.new).left Video ≡ Some (drop k left))) }
+    ensures err { IfErr result (λ stop. stop ≡ VideoStop.Read) }
+    ensures cause { OnErr result (Rose (D.outside desk.old).faults.read (D.outside desk.new).faults.read) }
+    ensures rest { OnlyReads (D.outside desk.old) (D.outside desk.new) }
+{
+    for i in 0..line.len() {
+        let Some(byte) = read_byte(desk)? else {
+            return Ok(i);
+        };
+        line[i] = byte;
+        if byte == b'\n' {
+            return Ok(i + 1);
+        }
+    }
+    Ok(line.len())
+}
+
+/// Fills the buffer with the planes of a frame, which begin at this byte of the video.
+pub fn read_planes<D: Desk>(desk: &mut D, at: u64, out: &mut [u8]) -> Result<(), VideoStop>
+    requires attached { (D.outside desk.old).attached Video ≡ true }
+    requires place { at < 2 ^ 62 }
+    requires size { length out.old < 2 ^ 62 }
+    ensures gives { (left : List ℕ) → (D.outside desk.old).left Video ≡ Some left → PlanesGive result at left out.new ((D.outside desk.new).left Video) }
+    ensures cause { IsErrOf result VideoStop.Read → Rose (D.outside desk.old).faults.read (D.outside desk.new).faults.read }
+    ensures rest { OnlyReads (D.outside desk.old) (D.outside desk.new) }
+{
+    let count = read(desk, out)?;
+    if count < out.len() {
+        return Err(VideoStop::Refused(Y4mFault::ShortFrame {
+            at: at + count as u64,
+        }));
+    }
+    Ok(())
+}

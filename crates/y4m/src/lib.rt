@@ -1,0 +1,14 @@
+//! Y4M text: a video is read from a desk frame by frame, and pictures are written to one.
+#![tactic(auto)]
+
+mod fault;
+mod frame;
+mod head;
+mod input;
+mod line;
+mod reader;
+mod writer;
+
+pub use fault::{VideoStop, Y4mFault};
+pub use reader::Y4mReader;
+pub use writer::{write_frame, write_head};
