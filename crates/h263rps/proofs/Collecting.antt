@@ -13,7 +13,8 @@ use Rattle.packet_collector.specs.declared.piece.Piece.{Piece}
 use Rattle.packet_collector.specs.Taken.{Taken, holds, has_any, has_taken, is_whole, HasNoOther}
 use Rattle.packet_collector.specs.Collected.{Collects, IsFreshIn, IsInRow, IsKept, FitsKept, format_of, header_in, has_in}
 use Rattle.packet_collector.proofs.Pieces.{absent, member, never, any_other, taken_held, taken_not_held}
-use Rattle.h263rps.specs.Received.{HasFirst, IsReady}
+use Rattle.h263_types.specs.declared.Mark.TheVariants.{Exact}
+use Rattle.h263rps.specs.Received.{HasFirst, IsReady, mark_of}
 
 all_true : (n : ℕ) (f : ℕ → Bool) → ((i : ℕ) → i < n → f i ≡ true) → all_below n f ≡ true
 all_true zero f each = refl
@@ -80,8 +81,10 @@ at_first c n h ready = record {
   later = λ m after. ready.none m (omega (arith, after));
 }
 
-pub all_taken : (c : Collector) (n : ℕ) (h : Header) (count : ℕ) (has : HasFirst c n h count) → mbs_of (format_of c) ≤ count → is_whole (format_of c) has.taken n ≡ true
-all_taken c n h count has all = all_true (mbs_of (format_of c)) (has_taken has.taken n) (λ k below. has.marks k ∙ lt-ltb k count (omega (arith, below, all)))
+pub all_taken : (c : Collector) (n : ℕ) (h : Header) (count : ℕ) (has : HasFirst c n h count) → mbs_of (format_of c) ≤ count → mark_of (format_of c) has.taken n ≡ Exact
+all_taken c n h count has all =
+    let whole : is_whole (format_of c) has.taken n ≡ true = all_true (mbs_of (format_of c)) (has_taken has.taken n) (λ k below. has.marks k ∙ lt-ltb k count (omega (arith, below, all))) in
+    rw whole refl
 
 pub next_ready : (c new : Collector) (n : ℕ) (h : Header) (count : ℕ) → HasFirst c n h count → ((at : ℕ) (taken : List Taken) → Collects c at taken → Collects new (at + 1) taken) → IsReady new (n + 1)
 next_ready c new n h count has advances = record { taken = has.taken; collects = advances n has.taken has.collects; none = λ m after. has.later m (omega (arith, after)) }

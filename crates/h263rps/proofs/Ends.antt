@@ -2,11 +2,11 @@
 use Rattle.std.proofs.Common.{◌≡◌, ◌⊎◌, inl, inr, ℕ, List, Option, Some, None, Result, IsErrAnd, refl, sym, ap, subst}
 use Rattle.h263_outside.specs.Desk.{Outside, Faults, SomeRose}
 use Rattle.h263_outside.specs.declared.desk.Role.{Role}
-use Rattle.h263rps.specs.declared.y4m.Y4mFault.{Y4mFault}
+use Rattle.y4m.specs.declared.fault.Y4mFault.{Y4mFault}
 use Rattle.h263rps.specs.declared.status.Status.{Status}
 use Rattle.h263rps.specs.declared.status.Status.TheVariants.{Ok as Fine, OutOfMemory, Usage, ReadFault, WriteFault, VideoRefused, OpenFault}
 use Rattle.h263rps.specs.Status.{status_of}
-use Rattle.h263rps.specs.Y4m.{video_fault}
+use Rattle.y4m.specs.Video.{video_fault}
 use Rattle.h263rps.specs.Out.{Output, Command, call_output, command_output, ended}
 use Rattle.h263rps.specs.Out.Command.{Call}
 use Rattle.h263rps.specs.Run.{IsExactly, IsCutOff, Gives, HasCause, IsSettled, IsStopped}

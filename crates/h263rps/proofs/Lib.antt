@@ -1,5 +1,4 @@
 pub mod Attached
-pub mod Buffers
 pub mod Choices
 pub mod Collecting
 pub mod Ends
@@ -8,4 +7,3 @@ pub mod Packets
 pub mod Plays
 pub mod Runs
 pub mod Shown
-pub mod Whole

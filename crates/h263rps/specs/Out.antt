@@ -1,5 +1,5 @@
 -- What a run is to give, by its words and the bytes of its inputs.
-use Rattle.std.specs.Prelude.{ℕ, ◌==◌, ◌&&◌, not, Bool, true, List, [], ◌∷◌, ◌++◌, map, codes, Option, Some, None, if◌then◌else◌}
+use Rattle.std.specs.Prelude.{ℕ, ◌==◌, ◌&&◌, not, Bool, true, List, [], ◌∷◌, ◌++◌, map, codes, Option, Some, None, Result, Ok, Err, if◌then◌else◌}
 use Rattle.std.specs.List.{flat_map}
 use Rattle.std.specs.Borrow.{Bor}
 use Rattle.std.specs.Str.{bytes_eq}
@@ -7,10 +7,13 @@ use Rattle.h263_outside.specs.declared.desk.Role.{Role}
 use Rattle.h263_outside.specs.declared.desk.Role.TheVariants.{Video, Pictures}
 use Rattle.h263rps.specs.declared.status.Status.{Status}
 use Rattle.h263rps.specs.declared.status.Status.TheVariants.{Ok as Fine, Usage, VideoRefused}
-use Rattle.h263rps.specs.declared.y4m.Y4mFault.{Y4mFault}
-use Rattle.h263rps.specs.declared.y4m.TheConstants.{EXACT_LINE, OUT_HEAD}
+use Rattle.h263_types.specs.declared.Mark.TheVariants.{Exact}
+use Rattle.h263_types.specs.declared.format.Format.{Format}
+use Rattle.y4m.specs.declared.fault.Y4mFault.{Y4mFault}
+use Rattle.y4m.specs.Head.{head_of}
+use Rattle.y4m.specs.Text.{head_text, frame_text}
+use Rattle.y4m.specs.Video.{video_fault, video_frames}
 use Rattle.h263rps.specs.Coded.{coded}
-use Rattle.h263rps.specs.Y4m.{head_fault, video_fault, video_frames}
 
 -- how a run is to end, and the text of each output
 pub record Output : Type 0 where
@@ -45,17 +48,17 @@ abbrev pub order_from : Option Command → List (Role × List ℕ)
 order_from None = []
 order_from (Some command) = order_of command
 
--- a picture as it is shown: its line, and the reconstruction of its frame
-abbrev pub frame_text : List ℕ → List ℕ
-frame_text frame = EXACT_LINE.now ++ coded frame
+-- what is shown of a frame: its reconstruction, which is exact
+abbrev pub shown_text : Format → List ℕ → List ℕ
+shown_text f frame = frame_text Exact (coded f frame)
 
-abbrev pub frames_text : List (List ℕ) → List ℕ
-frames_text frames = flat_map frame_text frames
+abbrev pub frames_text : Format → List (List ℕ) → List ℕ
+frames_text f frames = flat_map (shown_text f) frames
 
 -- the pictures that are shown of a video: none where its head has a fault
-abbrev pub pictures_text : Option Y4mFault → List (List ℕ) → List ℕ
-pictures_text (Some fault) frames = []
-pictures_text None frames = OUT_HEAD.now ++ frames_text frames
+abbrev pub pictures_text : Result Format Y4mFault → List (List ℕ) → List ℕ
+pictures_text (Err fault) frames = []
+pictures_text (Ok f) frames = head_text f ++ frames_text f frames
 
 -- how a run ends that meets this fault, or none
 abbrev pub ended : Option Y4mFault → Status
@@ -64,7 +67,7 @@ ended (Some fault) = VideoRefused fault
 
 -- what `call` gives for a video
 unfoldable pub call_output : List ℕ → Output
-call_output video = record { status = ended (video_fault video); pictures = pictures_text (head_fault video) (video_frames video); wire = []; report = [] }
+call_output video = record { status = ended (video_fault video); pictures = pictures_text (head_of video) (video_frames video); wire = []; report = [] }
 
 abbrev pub command_output : Option Command → List ℕ → List ℕ → Output
 command_output None video events = record { status = Usage; pictures = []; wire = []; report = [] }
@@ -75,5 +78,5 @@ abbrev pub output_of : List (List ℕ) → List ℕ → List ℕ → Output
 output_of words video events = command_output (command_of words) video events
 
 -- the output of a call whose video has these frames: the head, and each frame's reconstruction with its line
-abbrev pub shown : List (List ℕ) → Output
-shown frames = record { status = Fine; pictures = OUT_HEAD.now ++ flat_map (λ frame. EXACT_LINE.now ++ coded frame) frames; wire = []; report = [] }
+abbrev pub shown : Format → List (List ℕ) → Output
+shown f frames = record { status = Fine; pictures = head_text f ++ frames_text f frames; wire = []; report = [] }

@@ -1,5 +1,7 @@
 -- What packets do to the picture that the receiver makes, and what it keeps of them.
 use Rattle.std.specs.Prelude.{◌≡◌, ℕ, ◌+◌, ◌-◌, ◌<◌, ◌≤◌, ◌&&◌, false, nat_le, nat_lt, if◌then◌else◌, List, length, slice_index_or, None}
+use Rattle.h263_types.specs.declared.Mark.{Mark}
+use Rattle.h263_types.specs.declared.Mark.TheVariants.{Exact, Patched, Held}
 use Rattle.h263_types.specs.declared.format.Format.{Format}
 use Rattle.h263_types.specs.declared.blocks.Mb.{Mb}
 use Rattle.h263_types.specs.declared.blocks.Mb.TheVariants.{Skip}
@@ -11,7 +13,7 @@ use Rattle.picture_header.specs.declared.header.Header.{Header}
 use Rattle.picture_recon.specs.Samples.{mb_in, sample_in}
 use Rattle.packet_collector.specs.declared.collector.Collector.{Collector}
 use Rattle.packet_collector.specs.Collected.{Collects}
-use Rattle.packet_collector.specs.Taken.{Taken, has_any, has_taken, HasNoOther}
+use Rattle.packet_collector.specs.Taken.{Taken, has_any, has_taken, is_whole, HasNoOther}
 
 -- the samples of a slice's macroblocks, the first of which is number `first`, were set, and no others
 abbrev pub SetsSlice : Format → ℕ → ℕ → List Mb → Picture → Picture → Type 0
@@ -41,3 +43,7 @@ pub record HasFirst (c : Collector) (n : ℕ) (h : Header) (count : ℕ) : Type 
   pub header : HasNoOther taken n h
   pub marks : (k : ℕ) → has_taken taken n k ≡ nat_lt k count
   pub later : (m : ℕ) → n < m → has_any taken m ≡ false
+
+-- how much of a picture was taken
+abbrev pub mark_of : Format → List Taken → ℕ → Mark
+mark_of f taken n = if is_whole f taken n then Exact else if has_any taken n then Patched else Held

@@ -2,8 +2,8 @@
 use Rattle.std.specs.Prelude.{ℕ, Result, Ok, Err}
 use Rattle.h263rps.specs.declared.status.Status.{Status}
 use Rattle.h263rps.specs.declared.status.Status.TheVariants.{Ok as Fine, OutOfMemory, Usage, ReadFault, WriteFault, VideoRefused, OpenFault}
-use Rattle.h263rps.specs.declared.y4m.VideoStop.{VideoStop}
-use Rattle.h263rps.specs.declared.y4m.VideoStop.TheVariants.{Read, Refused}
+use Rattle.y4m.specs.declared.fault.VideoStop.{VideoStop}
+use Rattle.y4m.specs.declared.fault.VideoStop.TheVariants.{Read, Refused}
 
 -- what the process ends with
 abbrev pub code_of : Status → ℕ

@@ -6,10 +6,10 @@ ghost use Rattle.h263rps.specs.Out.{command_of, texts};
 ghost use Rattle.std.specs.String.{string_bytes};
 
 mod call;
-mod coding;
 #[cfg(test)]
 mod host_tests;
 pub mod laws;
+mod link;
 mod program;
 mod receiving;
 mod sending;
@@ -17,7 +17,6 @@ mod status;
 #[cfg(test)]
 mod tests;
 mod words;
-mod y4m;
 
 use h263_outside::HostDesk;
 pub use program::run;
@@ -25,7 +24,6 @@ pub use status::Status;
 use std::alloc::{AllocError, Global};
 use std::process::ExitCode;
 use std::{env, io};
-pub use y4m::Y4mFault;
 
 // The words as texts.
 fn texts_of(alloc: Global, words: &[String]) -> Result<Vec<&str>, AllocError>

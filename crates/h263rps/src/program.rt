@@ -3,8 +3,8 @@ ghost use Rattle.std.specs.Prelude.{◌≡◌, ◌⊎◌, ◌↔◌, ℕ, List, 
 ghost use Rattle.h263_outside.specs.Desk.{SomeRose, OnlyAttaches, NoneAttached, with_role};
 ghost use Rattle.h263_outside.specs.declared.desk.Role.{Role};
 ghost use Rattle.h263_outside.specs.declared.desk.Role.TheVariants.{Video};
-ghost use Rattle.h263rps.specs.declared.y4m.Y4mFault.{Y4mFault};
-ghost use Rattle.h263rps.specs.Y4m.{video_fault};
+ghost use Rattle.y4m.specs.declared.fault.Y4mFault.{Y4mFault};
+ghost use Rattle.y4m.specs.Video.{video_fault};
 ghost use Rattle.h263rps.specs.Status.{status_of};
 ghost use Rattle.h263rps.specs.Out.{output_of, order_of, order_from, command_of, texts};
 ghost use Rattle.h263rps.specs.Out.Command.{Call};

@@ -1,6 +1,7 @@
 // The receiver's side: packets become a picture.
-ghost use Rattle.std.specs.Prelude.{◌≡◌, ℕ, ◌+◌, ◌<◌, List, length, true};
+ghost use Rattle.std.specs.Prelude.{◌≡◌, ℕ, ◌+◌, ◌<◌, List, length};
 ghost use Rattle.h263_types.specs.declared.Kind.TheVariants.{I};
+ghost use Rattle.h263_types.specs.declared.Mark.TheVariants.{Exact};
 ghost use Rattle.h263_types.specs.declared.format.Format.{Format};
 ghost use Rattle.h263_types.specs.declared.blocks.Mb.{Mb};
 ghost use Rattle.h263_types.specs.Sizes.{mbs_of};
@@ -8,15 +9,16 @@ ghost use Rattle.h263_planes.specs.Samples.{IsPicture};
 ghost use Rattle.h263_planes.specs.Work.{loan_of, work};
 ghost use Rattle.picture_header.specs.declared.header.Header.{Header};
 ghost use Rattle.picture_header.specs.Ranges.{IsHeader};
-ghost use Rattle.packet_collector.specs.Collected.{IsInRow, IsRowFrom, first_of, format_of};
+ghost use Rattle.packet_collector.specs.Collected.{Collects, IsInRow, IsRowFrom, first_of, format_of};
 ghost use Rattle.packet_collector.specs.Packet.{IsPacket};
+ghost use Rattle.packet_collector.specs.Taken.{Taken};
 ghost use Rattle.packet_cutter.specs.Cutting.{packets_of};
 ghost use Rattle.packet_cutter.specs.Packets.{ArePacketsOf};
 ghost use Rattle.h263rps.specs.Sent.{AreSent};
-ghost use Rattle.h263rps.specs.Received.{HasFirst, IsReady, SetsSlice, ShowsFirst};
+ghost use Rattle.h263rps.specs.Received.{HasFirst, IsReady, SetsSlice, ShowsFirst, mark_of};
 
 use h263_planes::PictureMut;
-use h263_types::{Kind, Mb};
+use h263_types::{Kind, Mark, Mb};
 use packet_collector::{Collector, Place, read_packet};
 use packet_cutter::Cutter;
 use picture_recon::recon_slice;
@@ -54,15 +56,29 @@ fn take_packet(
     }
 }
 
-/// Sets the samples of picture `number` by its packets, and tells whether all its macroblocks were taken. `mbs` is room
-/// for a picture's macroblocks. Then the collector goes on to the next picture.
+// How much of picture `number` was taken.
+fn mark_of(collector: &Collector, number: u32) -> Mark
+    requires { IsInRow collector.now number }
+    ensures { (first : ℕ) (taken : List Taken) → Collects collector.now first taken → result ≡ mark_of (format_of collector.now) taken number }
+{
+    if collector.whole(number) {
+        return Mark::Exact;
+    }
+    if collector.any(number) {
+        return Mark::Patched;
+    }
+    Mark::Held
+}
+
+/// Sets the samples of picture `number` by its packets, and tells how much of it was taken; all other samples stay. `mbs`
+/// is room for a picture's macroblocks. Then the collector goes on to the next picture.
 pub fn take_packets(
     collector: &mut Collector,
     mbs: &mut [Mb],
     number: u32,
     cutter: &Cutter,
     out: &mut PictureMut<'_>,
-) -> bool
+) -> Mark
     requires format { (work out.old).format ≡ format_of collector.old }
     requires mbs { length mbs.old ≡ mbs_of (format_of collector.old) }
     requires ready { IsReady collector.old number }
@@ -74,12 +90,12 @@ pub fn take_packets(
     ensures row { format_of collector.new ≡ format_of collector.old }
     ensures shows { (sequence limit : ℕ) (h : Header) (all : List Mb) → h.kind ≡ I → h.format ≡ format_of collector.old
         → IsHeader h → AreSent h all → limit < 65536 → ArePacketsOf number sequence h limit all (packets_of cutter.now)
-        → (result ≡ true) × IsReady collector.new (number + 1) × ShowsFirst (format_of collector.old) h.rounding all (mbs_of h.format) (work out.new) }
+        → (result ≡ Exact) × IsReady collector.new (number + 1) × ShowsFirst (format_of collector.old) h.rounding all (mbs_of h.format) (work out.new) }
 {
     'turns: for i in 0..cutter.count() {
         take_packet(collector, mbs, number, cutter.packet(i), out);
     }
-    let whole = collector.whole(number);
+    let mark = mark_of(collector, number);
     collector.advance();
-    whole
+    mark
 }

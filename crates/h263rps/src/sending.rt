@@ -1,96 +1,74 @@
 // The sender's side: a frame becomes packets.
-ghost use Rattle.std.specs.Prelude.{◌≡◌, ℕ, []};
-ghost use Rattle.h263_types.specs.declared.Kind.TheVariants.{I};
-ghost use Rattle.h263_types.specs.declared.format.Format.TheVariants.{SubQcif};
+ghost use Rattle.std.specs.Prelude.{◌≡◌, ℕ, length, None};
+ghost use Rattle.h263_types.specs.Params.{IsParams};
+ghost use Rattle.h263_types.specs.Sizes.{size_of_picture};
 ghost use Rattle.h263_planes.specs.Lent.{picture};
-ghost use Rattle.picture_header.specs.declared.header.Header.{Header};
 ghost use Rattle.picture_header.specs.Ranges.{IsHeader};
 ghost use Rattle.mode_choice.specs.Choice.{choices_of};
-ghost use Rattle.packet_cutter.specs.Cutting.{format_of, limit_of, kind_of, quant_of, added_of, packets_of, IsBegun, Holds};
+ghost use Rattle.packet_cutter.specs.Cutting.{format_of, limit_of, packets_of};
 ghost use Rattle.packet_cutter.specs.Packets.{ArePacketsOf};
-ghost use Rattle.h263rps.specs.Sent.{header_of};
+ghost use Rattle.h263rps.specs.Sent.{header_of, params_of};
 
-use h263_outside::OutOfMemory;
-use h263_planes::PictureRef;
+use h263_planes::{PictureMut, PictureRef};
 use h263_types::{Format, Kind, Params};
-use mode_choice::choose;
 use packet_cutter::Cutter;
+use picture_coder::code_picture;
 use picture_header::Header;
-use std::alloc::Global;
 
-const PARAMS: Params = Params {
-    format: Format::SubQcif,
-    quant: 8,
-    keep: 64,
-    radius: 7,
-    limit: 1400,
-    slots: 16,
-    lead: 3,
-};
+/// The parameters of a call.
+pub fn params_of(format: Format) -> Params
+    ensures params { result ≡ params_of format }
+    ensures in_range { IsParams result }
+{
+    Params {
+        format,
+        quant: 8,
+        keep: 64,
+        radius: 7,
+        limit: 1400,
+        slots: 16,
+        lead: 3,
+    }
+}
 
 // The header of picture `number`: it refers to no other, and carries no messages.
-fn header_of(number: u32) -> Header
-    ensures header { result ≡ header_of number }
+fn header_of(params: &Params, number: u32) -> Header
+    requires { params.now ≡ params_of params.now.format }
+    ensures header { result ≡ header_of params.now.format number }
     ensures in_range { IsHeader result }
 {
     Header {
         tr: (number % 256) as u16,
-        format: Format::SubQcif,
+        format: params.format,
         kind: Kind::I,
         rounding: 0,
         channel: 3,
         trp: None,
-        quant: PARAMS.quant,
+        quant: params.quant,
         back: [None; 4],
     }
 }
 
-// Adds the macroblocks that are chosen for a frame.
-fn add_choices(cutter: &mut Cutter, frame: PictureRef<'_>, header: &Header)
-    requires frame { (picture frame).format ≡ SubQcif }
-    requires kind { header.now.kind ≡ I }
-    requires quant { header.now.quant ≡ 8 }
-    requires begun { IsBegun cutter.old }
-    requires none { added_of cutter.old ≡ 0 }
-    requires format { format_of cutter.old ≡ SubQcif }
-    requires of_kind { kind_of cutter.old ≡ I }
-    requires plain { quant_of cutter.old ≡ 8 }
-    ensures begun { IsBegun cutter.new }
-    ensures all { added_of cutter.new ≡ 48 }
-    ensures format { format_of cutter.new ≡ SubQcif }
-    ensures limit { limit_of cutter.new ≡ limit_of cutter.old }
-    ensures holds { (number : ℕ) (h : Header) → Holds cutter.old number h [] → Holds cutter.new number h (choices_of (picture frame.entry) 8 64) }
+/// Codes a frame as picture `number` into packets; `work` is room for its reconstruction.
+pub fn send(
+    params: &Params,
+    cutter: &mut Cutter,
+    work: &mut [u8],
+    number: u32,
+    frame: PictureRef<'_>,
+)
+    requires params { params.now ≡ params_of params.now.format }
+    requires format { format_of cutter.old ≡ params.now.format }
+    requires limit { limit_of cutter.old ≡ 1400 }
+    requires work { length work.old ≡ size_of_picture params.now.format }
+    requires frame { (picture frame).format ≡ params.now.format }
+    ensures packets { (sequence : ℕ) × ArePacketsOf number sequence (header_of params.now.format number) 1400
+        (choices_of (picture frame.entry) None (header_of params.now.format number) params.now) (packets_of cutter.new) }
+    ensures format { format_of cutter.new ≡ params.now.format }
+    ensures limit { limit_of cutter.new ≡ 1400 }
+    ensures work { length work.new ≡ length work.old }
 {
-    'turns: for at in 0..48u32 {
-        let mb = choose(frame, None, at, header, &PARAMS);
-        cutter.add(&mb);
-    }
-}
-
-/// Codes frames of 128 x 96 as intra pictures, and cuts them into packets.
-#[derive(Drop)]
-pub struct Coder {
-    pub cutter: Cutter,
-    ghost format: { format_of cutter ≡ SubQcif },
-    ghost limit: { limit_of cutter ≡ 1400 },
-}
-
-impl Coder {
-    /// A coder with all its memory.
-    pub fn start(alloc: Global) -> Result<Coder, OutOfMemory> {
-        Ok(Coder {
-            cutter: Cutter::start(alloc, &PARAMS)?,
-        })
-    }
-
-    /// Codes picture `number` into its packets.
-    pub fn code(&mut self, number: u32, frame: PictureRef<'_>)
-        requires { (picture frame).format ≡ SubQcif }
-        ensures { (sequence : ℕ) × ArePacketsOf number sequence (header_of number) 1400 (choices_of (picture frame.entry) 8 64) (packets_of self.new.cutter) }
-    {
-        let header = header_of(number);
-        self.cutter.begin(number, &header);
-        add_choices(&mut self.cutter, frame, &header);
-        self.cutter.finish();
-    }
+    let header = header_of(params, number);
+    let mut work = PictureMut::new(params.format, work);
+    code_picture(frame, None, number, &header, params, cutter, &mut work);
 }

@@ -1,9 +1,9 @@
 // How a run ends.
 ghost use Rattle.std.specs.Prelude.{◌≡◌};
 
-use crate::y4m::{VideoStop, Y4mFault};
 use h263_outside::{OutOfMemory, Role};
 use std::alloc::AllocError;
+use y4m::{VideoStop, Y4mFault};
 
 /// How a run ends.
 #[derive(Clone, Copy, Debug, PartialEq, Eq)]

@@ -75,7 +75,7 @@ returns-clause-shows c = λ sequence limit h all kind format is s few p.
     place_all p.runs i (omega (arith, end, as_many n sequence limit h all packets p)) ∙ ap (λ (l : List Mb). length l) (all_runs n sequence limit h all packets p) ∙ s.count in
     let same : h.format ≡ format_of c.turns.collector = format ∙ sym c.turns.invariant.row.format in
     let enough : mbs_of (format_of c.turns.collector) ≤ place_of p.runs i = omega (arith, reached, ap mbs_of same) in (
-      c.whole-whole.ensures n last.0.taken last.0.collects ∙ all_taken c.turns.collector n h (place_of p.runs i) last.0 enough,
+      c.mark_of-mark.ensures n last.0.taken last.0.collects ∙ all_taken c.turns.collector n h (place_of p.runs i) last.0 enough,
       next_ready c.turns.collector c.advance.new.self n h (place_of p.runs i) last.0 c.advance.ensures.taken,
       subst (λ (f : Format). ShowsFirst f h.rounding all (mbs_of h.format) (work c.turns.out)) format (all_shown n sequence limit h all packets p i (work c.turns.out) s end last.1),
     )
