@@ -1,7 +1,7 @@
 -- The samples of a macroblock by its six blocks, and by its square of luma.
-use Rattle.std.proofs.Common.{◌≡◌, ℕ, zero, suc, ◌+◌, ◌*◌, ◌/◌, ◌%◌, ◌<◌, List, [], ◌∷◌, get_or, length, refl, lit<, arith, ap, sym, subst, ◌∙◌, pos}
+use Rattle.std.proofs.Common.{◌≡◌, ℕ, zero, suc, ◌+◌, ◌*◌, ◌/◌, ◌%◌, ◌<◌, List, [], ◌∷◌, get_or, length, lit<, arith, ap, ◌∙◌, ℤ, pos, ◌-ℤ◌}
 use Rattle.std.proofs.lemmas.Int.{ints}
-use Rattle.std.proofs.lemmas.List.FromFn.{fill_by_all}
+use Rattle.std.proofs.lemmas.List.FromFn.{fill_by_all, get_or-map-range_with_len, length-map-range_with_len}
 use Rattle.h263_types.specs.declared.vector.Vector.{Vector}
 use Rattle.h263_types.specs.Sizes.{columns_of}
 use Rattle.h263_planes.specs.declared.Plane.{Plane}
@@ -10,7 +10,7 @@ use Rattle.h263_planes.specs.Picture.{Picture}
 use Rattle.h263_planes.specs.Samples.{sample_at}
 use Rattle.half_sample.specs.Prediction.{predicted_sample, moved, whole_part}
 use Rattle.motion_search.specs.Cost as luma
-use Rattle.mode_choice.specs.Choice.{predicted_in_block}
+use Rattle.mode_choice.specs.Choice.{predicted_in_block, residuals_of, sample_in_block, samples_of}
 
 -- block b of the four of 16 x 16 samples
 abbrev pub IsQuarter : List ℕ → ℕ → List ℕ → Type 0
@@ -49,6 +49,24 @@ six_predicted p mb r v luma q0 q1 q2 q3 cb cr hy hcb hcr h0 h1 h2 h3 (suc (suc (
 six_predicted p mb r v luma q0 q1 q2 q3 cb cr hy hcb hcr h0 h1 h2 h3 (suc (suc (suc (suc zero)))) k hb hk = sample_of_colour p Cb mb r v cb hcb k hk
 six_predicted p mb r v luma q0 q1 q2 q3 cb cr hy hcb hcr h0 h1 h2 h3 (suc (suc (suc (suc (suc zero))))) k hb hk = sample_of_colour p Cr mb r v cr hcr k hk
 six_predicted p mb r v luma q0 q1 q2 q3 cb cr hy hcb hcr h0 h1 h2 h3 (suc (suc (suc (suc (suc (suc b)))))) k hb hk = absurd (omega arith)
+
+-- the samples of a block, as a list and at each place
+pub samples_long : (p : Picture) (mb b : ℕ) → length (samples_of p mb b) ≡ 64
+unfolding samples_of
+samples_long p mb b = length-map-range_with_len (λ (k : ℕ). pos (sample_in_block p mb b k)) 0 64
+
+pub sample_of : (p : Picture) (mb b k : ℕ) → k < 64 → get_or (samples_of p mb b) k (pos 0) ≡ pos (sample_in_block p mb b k)
+unfolding samples_of
+sample_of p mb b k h = get_or-map-range_with_len (λ (k : ℕ). pos (sample_in_block p mb b k)) 0 64 k k (pos 0) h (omega arith)
+
+-- what is left of a block at each place is the list of its residuals
+pub residuals_are : (p q : Picture) (r mb : ℕ) (v : Vector) (b : ℕ) (residuals : List ℤ) (predicted : List ℕ) → length residuals ≡ 64 →
+    ((k : ℕ) → k < 64 → get_or residuals k (pos 0) ≡ (pos (sample_in_block p mb b k) -ℤ pos (get_or predicted k 0))) →
+    ((k : ℕ) → k < 64 → get_or predicted k 0 ≡ predicted_in_block q r mb v b k) → residuals ≡ residuals_of p q r mb v b
+unfolding residuals_of
+residuals_are p q r mb v b residuals predicted long each from =
+    fill_by_all (λ (k : ℕ). pos (sample_in_block p mb b k) -ℤ pos (predicted_in_block q r mb v b k)) residuals 64 (pos 0) long
+    (λ k h. each k h ∙ ap (λ (n : ℕ). pos (sample_in_block p mb b k) -ℤ pos n) (from k h))
 
 -- ---- luma
 

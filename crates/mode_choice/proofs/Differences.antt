@@ -1,5 +1,5 @@
 -- The differences of samples from one number.
-use Rattle.std.proofs.Common.{◌≡◌, ◌∙◌, sym, subst, arith, ap, ℕ, zero, suc, ◌+◌, ◌*◌, ◌<◌, ◌≤◌, List, [], ◌∷◌, length, get_or, replicate, refl}
+use Rattle.std.proofs.Common.{◌≡◌, ◌∙◌, sym, subst, arith, ℕ, zero, suc, ◌*◌, ◌<◌, ◌≤◌, List, [], ◌∷◌, length, get_or, replicate, refl}
 use Rattle.std.proofs.lemmas.List.{length-replicate}
 use lib.Lanes.{zip2, Each1, sum_l}
 use Rattle.std.specs.Int.{abs_diff}

@@ -2,3 +2,4 @@ pub mod Steps
 pub mod Levels
 pub mod Blocks
 pub mod Differences
+pub mod Choices

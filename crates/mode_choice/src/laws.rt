@@ -10,7 +10,7 @@ ghost use Rattle.h263_planes.specs.References.{HasReferenceOnlyInP};
 ghost use Rattle.picture_header.specs.declared.header.Header.{Header};
 ghost use Rattle.mode_choice.specs.Choice.{choice_of, choices_of};
 
-use motion_search::laws::{best_is_a_candidate, reach_is_tested};
+use motion_search::laws::{best_is_a_candidate, none_before_the_least, reach_is_tested};
 
 /// What is chosen has its numbers in the ranges that the texts of macroblocks have, may stand in a picture of the header's
 /// kind, has its quantiser, and refers to samples of the reference.
@@ -20,8 +20,9 @@ pub fn chosen_is_in_range()
     ensures plain { (frame : Picture) (reference : Option Picture) (h : Header) (params : Params) (mb : ℕ) → HasQuant h.quant (choice_of frame reference h params mb) }
     ensures reach { (frame : Picture) (reference : Option Picture) (h : Header) (params : Params) (mb : ℕ) → HasReferenceOnlyInP h.kind frame.format reference → mb < mbs_of frame.format → ReachesInside frame.format mb (choice_of frame reference h params mb) }
 {
-    best_is_a_candidate();
     reach_is_tested();
+    none_before_the_least();
+    best_is_a_candidate();
 }
 
 /// The macroblocks that are chosen for a frame are those of a whole picture.

@@ -1,5 +1,4 @@
-use Rattle.std.proofs.Common.{◌≡◌, ℕ, ◌<◌, ◌≤◌, length, get_or, pos}
-use Rattle.h263_types.specs.Blocks.{IsLevel}
+use Rattle.std.proofs.Common.{◌≡◌, ℕ, ◌<◌, length, get_or, pos}
 use Rattle.mode_choice.specs.Choice.{coefficient_at, residual_level_of}
 use Rattle.mode_choice.proofs.residual.residual_block.Given as goal
 
