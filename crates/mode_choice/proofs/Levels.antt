@@ -1,5 +1,5 @@
 -- The levels of a block are in the ranges of its text.
-use Rattle.std.proofs.Common.{◌≡◌, ℕ, ◌+◌, ◌*◌, ◌/◌, ◌%◌, ◌≤◌, List, get_or, Bool, true, false, cond, nat_eq, nat_lt, ap, subst, sym, arith, ℤ, pos, negsuc, map, refl, lit<}
+use Rattle.std.proofs.Common.{◌≡◌, ℕ, ◌+◌, ◌*◌, ◌/◌, ◌%◌, ◌≤◌, ◌<◌, List, get_or, Bool, true, false, cond, nat_eq, nat_lt, ap, subst, sym, arith, ℤ, pos, negsuc, map, refl, lit<, ◌∙◌, to_z, of_z, w16, w32}
 use Rattle.std.specs.List.{range_with_len}
 use Rattle.std.proofs.lemmas.Int.{ints}
 use Rattle.std.proofs.lemmas.List.FromFn.{get_or-map-range_with_len, length-map-range_with_len}
@@ -7,11 +7,13 @@ use Rattle.std.proofs.lemmas.List.Elements.{All-from_get_or}
 use Rattle.std.specs.Prelude.{All}
 use Rattle.std.proofs.lemmas.Bool.Decides.{nat_tests}
 use Rattle.h263_types.specs.declared.blocks.Block.{Block}
-use Rattle.h263_types.specs.Blocks.{IsDc, IsLevel, IsIntraBlock, IsIntraMb, IsQuant}
+use Rattle.h263_types.specs.declared.vector.Vector.{Vector}
+use Rattle.h263_types.specs.Blocks.{IsCoefficient, IsDc, IsInterBlock, IsInterMb, IsIntraBlock, IsIntraMb, IsLevel, IsQuant, IsVector}
 use Rattle.h263_planes.specs.Picture.{Picture}
-use Rattle.quantiser.specs.Levels.{intra_level}
-use Rattle.idct8.specs.Transform.{entry}
-use Rattle.mode_choice.specs.Choice.{limited_dc, level_of, coefficient_at, levels_of, blocks_of, samples_of}
+use Rattle.quantiser.specs.Levels.{inter_level, intra_level}
+use Rattle.quantiser.specs.Zigzag.{block_place_of}
+use Rattle.idct8.specs.Transform.{entry, forward_at}
+use Rattle.mode_choice.specs.Choice.{limited_dc, level_of, coefficient_at, levels_of, blocks_of, samples_of, residual_level_of, residual_levels_of, residual_blocks_of, residuals_of}
 
 -- a place of the block by its row and column
 pub at_place : (block : List ℤ) (at : ℕ) → entry block (at / 8) (at % 8) ≡ get_or block at (pos 0)
@@ -50,13 +52,59 @@ block_in_range quant keep samples =
           subst IsLevel (sym (get_or-map-range_with_len f 0 64 k k (pos 0) below (omega arith))) (level_in_range quant keep k (coefficient_at samples k) some);
     }
 
-each_block : (f : ℕ → Block) → ((b : ℕ) → IsIntraBlock (f b)) → All IsIntraBlock (map f (range_with_len 0 6))
-each_block f h =
+each_block : (P : Block → Type 0) (f : ℕ → Block) → ((b : ℕ) → P (f b)) → All P (map f (range_with_len 0 6))
+each_block P f h =
     let long = length-map-range_with_len f 0 6 in
-    All-from_get_or IsIntraBlock (map f (range_with_len 0 6)) (f 0) (λ b below.
-    subst IsIntraBlock (sym (get_or-map-range_with_len f 0 6 b b (f 0) (omega arith) (omega arith))) (h b))
+    All-from_get_or P (map f (range_with_len 0 6)) (f 0) (λ b below.
+    subst P (sym (get_or-map-range_with_len f 0 6 b b (f 0) (omega arith) (omega arith))) (h b))
 
 pub blocks_in_range : (frame : Picture) (quant keep mb : ℕ) → IsQuant quant → IsIntraMb quant (blocks_of frame quant keep mb)
 unfolding blocks_of
 blocks_in_range frame quant keep mb h =
-    record { quant_in_range = h; each = each_block (λ b. levels_of quant keep (samples_of frame mb b)) (λ b. block_in_range quant keep (samples_of frame mb b)) }
+    record { quant_in_range = h; each = each_block IsIntraBlock (λ b. levels_of quant keep (samples_of frame mb b)) (λ b. block_in_range quant keep (samples_of frame mb b)) }
+
+-- ---- residuals
+
+residual_small : (quant : ℕ) (f : ℤ) → IsLevel (inter_level quant f)
+residual_small quant (pos n) = record { low = omega (arith, ints); high = omega (arith, ints) }
+residual_small quant (negsuc n) = record { low = omega (arith, ints); high = omega (arith, ints) }
+
+residuals_in_range : (quant keep : ℕ) (residuals : List ℤ) → IsInterBlock (residual_levels_of quant keep residuals)
+unfolding residual_levels_of
+residuals_in_range quant keep residuals =
+    let f : ℕ → ℤ = λ k. residual_level_of quant keep k (coefficient_at residuals k) in
+    record {
+      levels = λ k below.
+          subst IsLevel (sym (get_or-map-range_with_len f 0 64 k k (pos 0) below (omega arith)))
+          (kept_or_zero (nat_lt k keep) (inter_level quant (coefficient_at residuals k)) (residual_small quant (coefficient_at residuals k)));
+    }
+
+pub residual_blocks_in_range : (frame reference : Picture) (quant keep r mb : ℕ) (v : Vector) → IsQuant quant → IsVector v →
+    IsInterMb quant v (residual_blocks_of frame reference quant keep r mb v)
+unfolding residual_blocks_of
+residual_blocks_in_range frame reference quant keep r mb v hq hv =
+    let residuals : ℕ → List ℤ = λ b. residuals_of frame reference r mb v b in
+    record {
+      quant_in_range = hq;
+      vector_in_range = hv;
+      each = each_block IsInterBlock (λ b. residual_levels_of quant keep (residuals b)) (λ b. residuals_in_range quant keep (residuals b));
+    }
+
+-- ---- what a transform gives
+
+-- a coefficient at a place of its block
+pub is_coefficient : (coefficients : List ℤ) (at : ℕ) → at < 64 → ((v u : ℕ) → v < 8 → u < 8 → IsCoefficient (entry coefficients v u)) → IsCoefficient (get_or coefficients at (pos 0))
+is_coefficient coefficients at h each = subst IsCoefficient (at_place coefficients at) (each (at / 8) (at % 8) (omega arith) (omega arith))
+
+-- numbers are kept as they are
+pub coefficient_kept : (z : ℤ) → IsCoefficient z → to_z w32 (of_z w32 z) ≡ z
+coefficient_kept z h = omega (arith, ints)
+
+pub level_kept : (z : ℤ) → IsLevel z → to_z w16 (of_z w16 z) ≡ z
+level_kept z h = omega (arith, ints)
+
+-- the transform's coefficient at place k of the zigzag order
+pub is_forward : (coefficients block : List ℤ) (at k : ℕ) → at ≡ block_place_of k → at < 64 → ((v u : ℕ) → v < 8 → u < 8 → entry coefficients v u ≡ forward_at block v u) →
+    get_or coefficients at (pos 0) ≡ coefficient_at block k
+is_forward coefficients block at k e h each =
+    sym (at_place coefficients at) ∙ each (at / 8) (at % 8) (omega arith) (omega arith) ∙ ap (λ (n : ℕ). forward_at block (n / 8) (n % 8)) e

@@ -1,2 +1,5 @@
 pub mod Steps
 pub mod Levels
+pub mod Blocks
+pub mod Differences
+pub mod Choices

@@ -1,7 +1,9 @@
 -- The choice of a macroblock. H.263 leaves it to the encoder: these rules are this project's own.
-use Rattle.std.specs.Prelude.{ℕ, ◌+◌, ◌/◌, ◌%◌, ℤ, pos, negsuc, ◌+ℤ◌, ◌-ℤ◌, Bool, ◌&&◌, List, map, max, min, nat_lt, ◌==◌, Option, Some, None, if◌then◌else◌}
+use Rattle.std.specs.Prelude.{ℕ, ◌+◌, ◌/◌, ◌%◌, ℤ, pos, negsuc, ◌+ℤ◌, ◌-ℤ◌, int_lt, Bool, ◌&&◌, List, map, max, min, nat_lt, replicate, ◌==◌, Option, Some, None, if◌then◌else◌}
 use Rattle.std.specs.Int.{int_shr}
-use Rattle.std.specs.List.{range_with_len}
+use Rattle.std.specs.List.{list_all, range_with_len}
+use Rattle.std.specs.Ordering.{int_eq}
+use Rattle.std.specs.Simd.Lanes.{sum_l}
 use Rattle.h263_types.specs.declared.blocks.Block.{Block}
 use Rattle.h263_types.specs.declared.blocks.Mb.{Mb}
 use Rattle.h263_types.specs.declared.blocks.Mb.TheVariants.{Skip, Intra, Inter}
@@ -17,22 +19,31 @@ use Rattle.quantiser.specs.Zigzag.{block_place_of}
 use Rattle.idct8.specs.Transform.{forward_at}
 use Rattle.motion_search.specs.Best.{best_vector}
 use Rattle.motion_search.specs.Cost as luma
+use Rattle.sad_kernel.specs.Differences.{differences}
 use Rattle.picture_header.specs.declared.header.Header.{Header}
 
 -- ---- what is transformed
 
+-- the sample in column k % 8 of row k / 8 of block b of macroblock mb
+abbrev pub sample_in_block : Picture → ℕ → ℕ → ℕ → ℕ
+sample_in_block p mb b k =
+    let corner = corner_of p.format mb b in
+    sample_at p corner.plane (corner.x + k % 8) (corner.y + k / 8)
+
+-- and the one that a vector predicts for this place from a reference (H.263, 6.1); r is the rounding bit
+abbrev pub predicted_in_block : Picture → ℕ → ℕ → Vector → ℕ → ℕ → ℕ
+predicted_in_block reference r mb v b k =
+    let corner = corner_of reference.format mb b in
+    predicted_sample reference corner.plane (corner.x + k % 8) (corner.y + k / 8) v r
+
 -- the samples of block b of macroblock mb, by rows
 unfoldable pub samples_of : Picture → ℕ → ℕ → List ℤ
-samples_of p mb b =
-    let corner = corner_of p.format mb b in
-    map (λ k. pos (sample_at p corner.plane (corner.x + k % 8) (corner.y + k / 8))) (range_with_len 0 64)
+samples_of p mb b = map (λ k. pos (sample_in_block p mb b k)) (range_with_len 0 64)
 
--- these samples less those that a vector predicts from the reference (H.263, 6.1); r is the rounding bit
+-- these samples less the predicted ones
 unfoldable pub residuals_of : Picture → Picture → ℕ → ℕ → Vector → ℕ → List ℤ
 residuals_of p reference r mb v b =
-    let corner = corner_of p.format mb b in
-    map (λ k. pos (sample_at p corner.plane (corner.x + k % 8) (corner.y + k / 8))
-        -ℤ pos (predicted_sample reference corner.plane (corner.x + k % 8) (corner.y + k / 8) v r)) (range_with_len 0 64)
+    map (λ k. pos (sample_in_block p mb b k) -ℤ pos (predicted_in_block reference r mb v b k)) (range_with_len 0 64)
 
 -- the coefficient at place k of the zigzag order
 abbrev pub coefficient_at : List ℤ → ℕ → ℤ
@@ -80,9 +91,12 @@ unfoldable pub residual_blocks_of : Picture → Picture → ℕ → ℕ → ℕ 
 residual_blocks_of frame reference quant keep r mb v =
     map (λ b. residual_levels_of quant keep (residuals_of frame reference r mb v b)) (range_with_len 0 6)
 
--- whether no level of some blocks is left
+-- whether no level is left of a block, and of some blocks
+abbrev pub is_empty : Block → Bool
+is_empty b = list_all (λ l. int_eq l (pos 0)) b.levels
+
 abbrev pub are_empty : List Block → Bool
-are_empty blocks = all (λ (b : Block). all (λ l. int_eq l (pos 0)) b.levels) blocks
+are_empty blocks = list_all is_empty blocks
 
 -- a macroblock with this vector and these blocks of residuals: it isn't coded where the vector is zero and no level is left
 abbrev pub predicted_by : ℕ → Vector → List Block → Mb
@@ -98,19 +112,19 @@ inter_of frame reference quant keep r mb v = predicted_by quant v (residual_bloc
 abbrev pub mean_of : List ℕ → ℕ
 mean_of samples = sum_l samples / 256
 
--- how far they lie from it, all together
+-- the sum of their absolute differences from it
 abbrev pub deviation_of : List ℕ → ℕ
-deviation_of samples = sum_l (map (λ s. abs_diff s (mean_of samples)) samples)
+deviation_of samples = differences samples (replicate 256 (mean_of samples))
 
 -- whether a macroblock is coded by itself: where its samples lie nearer to their mean than to what the vector predicts, by more than 500
-abbrev pub is_intra : List ℕ → ℤ → Bool
-is_intra samples cost = int_lt (pos (deviation_of samples)) (cost -ℤ pos 500)
+abbrev pub is_intra : ℕ → ℤ → Bool
+is_intra deviation cost = int_lt (pos deviation) (cost -ℤ pos 500)
 
 -- the choice at place mb where there is a reference
 abbrev pub choice_in_p : Picture → Picture → Header → Params → ℕ → Mb
 choice_in_p frame reference h params mb =
     let best = best_vector frame reference mb params.radius h.rounding in
-    if is_intra (luma.samples_of frame mb) best.cost
+    if is_intra (deviation_of (luma.samples_of frame mb)) best.cost
     then intra_of frame h.quant params.keep mb
     else inter_of frame reference h.quant params.keep h.rounding mb best.vector
 

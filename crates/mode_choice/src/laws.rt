@@ -1,4 +1,4 @@
-//! What is chosen can be coded. Each law is the contract of a function that does nothing.
+//! What is chosen can be coded. Each law is the contract of a function that does nothing, or calls laws of the crates below.
 ghost use Rattle.std.specs.Prelude.{◌≡◌, ℕ, ◌<◌, ◌≤◌, length, slice_index_or, Option};
 ghost use Rattle.h263_types.specs.declared.blocks.Mb.TheVariants.{Skip};
 ghost use Rattle.h263_types.specs.declared.params.Params.{Params};
@@ -10,6 +10,8 @@ ghost use Rattle.h263_planes.specs.References.{HasReferenceOnlyInP};
 ghost use Rattle.picture_header.specs.declared.header.Header.{Header};
 ghost use Rattle.mode_choice.specs.Choice.{choice_of, choices_of};
 
+use motion_search::laws::{best_is_a_candidate, none_before_the_least, reach_is_tested};
+
 /// What is chosen has its numbers in the ranges that the texts of macroblocks have, may stand in a picture of the header's
 /// kind, has its quantiser, and refers to samples of the reference.
 pub fn chosen_is_in_range()
@@ -17,7 +19,11 @@ pub fn chosen_is_in_range()
     ensures of_kind { (frame : Picture) (reference : Option Picture) (h : Header) (params : Params) (mb : ℕ) → HasReferenceOnlyInP h.kind frame.format reference → IsOfKind h.kind (choice_of frame reference h params mb) }
     ensures plain { (frame : Picture) (reference : Option Picture) (h : Header) (params : Params) (mb : ℕ) → HasQuant h.quant (choice_of frame reference h params mb) }
     ensures reach { (frame : Picture) (reference : Option Picture) (h : Header) (params : Params) (mb : ℕ) → HasReferenceOnlyInP h.kind frame.format reference → mb < mbs_of frame.format → ReachesInside frame.format mb (choice_of frame reference h params mb) }
-{}
+{
+    reach_is_tested();
+    none_before_the_least();
+    best_is_a_candidate();
+}
 
 /// The macroblocks that are chosen for a frame are those of a whole picture.
 pub fn one_for_each_place()

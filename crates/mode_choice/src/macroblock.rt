@@ -1,15 +1,24 @@
 //! The choice of a macroblock.
-ghost use Rattle.std.specs.Prelude.{◌≡◌, ◌<◌};
-ghost use Rattle.h263_types.specs.declared.Kind.TheVariants.{I};
-ghost use Rattle.h263_types.specs.Blocks.{IsMb, IsOfKind, IsQuant};
+ghost use Rattle.std.specs.Prelude.{◌≡◌, ◌<◌, ◌≤◌};
+ghost use Rattle.std.specs.Option.{option_map};
+ghost use Rattle.h263_types.specs.Blocks.{HasQuant, IsMb, IsOfKind, IsQuant};
+ghost use Rattle.h263_types.specs.References.{ReachesInside};
 ghost use Rattle.h263_types.specs.Sizes.{mbs_of};
+ghost use Rattle.h263_types.specs.Vectors.{InReach};
 ghost use Rattle.h263_planes.specs.Lent.{picture};
-ghost use Rattle.mode_choice.specs.Choice.{choice_of};
+ghost use Rattle.h263_planes.specs.References.{HasReferenceOnlyInP};
+ghost use Rattle.motion_search.specs.Cost.{IsCost};
+ghost use Rattle.mode_choice.specs.Choice as choice;
 
+use crate::deviation::deviation;
 use crate::intra::intra_block;
-use crate::samples::block_samples;
+use crate::laws::chosen_is_in_range;
+use crate::predicted::predicted_blocks;
+use crate::residual::{are_empty, residual_block};
+use crate::samples::{block_residuals, block_samples};
 use h263_planes::PictureRef;
-use h263_types::{Block, Mb, Params};
+use h263_types::{Block, Mb, Params, Vector};
+use motion_search::search;
 use picture_header::Header;
 
 /// The macroblock that is coded at place `mb` of `frame`, with the quantiser of the header and with the first `keep`
@@ -27,25 +36,110 @@ pub fn choose(
     requires rounding { header.now.rounding ≤ 1 }
     requires radius { params.now.radius ≤ 15 }
     requires mb { mb < mbs_of (picture frame).format }
-    ensures choice { result ≡ choice_of (picture frame.entry) (option_map picture reference.entry) header.now params.now mb }
+    ensures choice { result ≡ choice.choice_of (picture frame.entry) (option_map picture reference.entry) header.now params.now mb }
     ensures in_range { IsMb result }
     ensures of_kind { IsOfKind header.now.kind result }
     ensures reach { ReachesInside (picture frame.entry).format mb result }
     ensures plain { HasQuant header.now.quant result }
 {
+    chosen_is_in_range();
     match reference {
         None => intra_macroblock(frame, mb, header.quant, params.keep),
-        Some(reference) => predicted_macroblock(frame, reference, mb, header, params),
+        Some(reference) => macroblock_in_p(frame, reference, mb, header, params),
     }
+}
+
+// The choice where there is a reference: by itself where the macroblock's samples lie nearer to their mean than to what the
+// best vector predicts.
+fn macroblock_in_p(
+    frame: PictureRef<'_>,
+    reference: PictureRef<'_>,
+    mb: u32,
+    header: &Header,
+    params: &Params,
+) -> Mb
+    requires format { (picture frame).format ≡ (picture reference).format }
+    requires quant { IsQuant header.now.quant }
+    requires rounding { header.now.rounding ≤ 1 }
+    requires radius { params.now.radius ≤ 15 }
+    requires mb { mb < mbs_of (picture frame).format }
+    ensures { result ≡ choice.choice_in_p (picture frame.entry) (picture reference.entry) header.now params.now mb }
+{
+    let (vector, cost) = search(frame, reference, mb, params.radius, header.rounding);
+    if is_intra(deviation(frame, mb), cost) {
+        intra_macroblock(frame, mb, header.quant, params.keep)
+    } else {
+        inter_macroblock(frame, reference, mb, vector, header, params.keep)
+    }
+}
+
+// Whether a macroblock is coded by itself.
+fn is_intra(deviation: u32, cost: i32) -> bool
+    requires deviation { deviation ≤ 65280 }
+    requires cost { IsCost cost }
+    ensures { result ≡ choice.is_intra deviation cost }
+{
+    (deviation as i32) < cost - 500
+}
+
+// The macroblock predicted by a vector: it isn't coded where the vector is zero and no level is left.
+fn inter_macroblock(
+    frame: PictureRef<'_>,
+    reference: PictureRef<'_>,
+    mb: u32,
+    vector: Vector,
+    header: &Header,
+    keep: u8,
+) -> Mb
+    requires format { (picture frame).format ≡ (picture reference).format }
+    requires quant { IsQuant header.now.quant }
+    requires rounding { header.now.rounding ≤ 1 }
+    requires mb { mb < mbs_of (picture reference).format }
+    requires reach { InReach (picture reference).format mb vector.x vector.y }
+    ensures { result ≡ choice.inter_of (picture frame.entry) (picture reference.entry) header.now.quant keep header.now.rounding mb vector }
+{
+    let blocks = inter_blocks(frame, reference, mb, vector, header, keep);
+    if vector.x == 0 && vector.y == 0 && are_empty(&blocks) {
+        return Mb::Skip;
+    }
+    Mb::Inter {
+        quant: header.quant,
+        vector,
+        blocks,
+    }
+}
+
+// The levels of what a vector leaves of a macroblock's six blocks.
+fn inter_blocks(
+    frame: PictureRef<'_>,
+    reference: PictureRef<'_>,
+    mb: u32,
+    vector: Vector,
+    header: &Header,
+    keep: u8,
+) -> [Block; 6]
+    requires format { (picture frame).format ≡ (picture reference).format }
+    requires quant { IsQuant header.now.quant }
+    requires rounding { header.now.rounding ≤ 1 }
+    requires mb { mb < mbs_of (picture reference).format }
+    requires reach { InReach (picture reference).format mb vector.x vector.y }
+    ensures { result ≡ choice.residual_blocks_of (picture frame.entry) (picture reference.entry) header.now.quant keep header.now.rounding mb vector }
+{
+    let predicted = predicted_blocks(reference, mb, vector, header.rounding);
+    let mut coded = [Block { levels: [0; 64] }; 6];
+    for block in 0..6u32 {
+        let number = block as usize;
+        let residuals = block_residuals(frame, mb, block, &predicted[number]);
+        coded[number] = residual_block(header.quant, keep, &residuals);
+    }
+    coded
 }
 
 // The macroblock coded by itself.
 fn intra_macroblock(frame: PictureRef<'_>, mb: u32, quant: u8, keep: u8) -> Mb
     requires quant { IsQuant quant }
     requires mb { mb < mbs_of (picture frame).format }
-    ensures choice { result ≡ choice_of (picture frame.entry) quant keep mb }
-    ensures in_range { IsMb result }
-    ensures of_kind { IsOfKind I result }
+    ensures { result ≡ choice.intra_of (picture frame.entry) quant keep mb }
 {
     let mut coded = [Block { levels: [0; 64] }; 6];
     for block in 0..6u32 {

@@ -7,9 +7,9 @@ use Rattle.mode_choice.proofs.laws.one_for_each_place.Goals as goal
 
 pub returns-clause-count : goal.returns-clause-count
 unfolding choices_of
-returns-clause-count c = λ frame quant keep. length-map-range_with_len (choice_of frame quant keep) 0 (mbs_of frame.format)
+returns-clause-count c = λ frame reference h params. length-map-range_with_len (choice_of frame reference h params) 0 (mbs_of frame.format)
 
 pub returns-clause-each : goal.returns-clause-each
 unfolding choices_of
-returns-clause-each c = λ frame quant keep mb h.
-    get_or-map-range_with_len (choice_of frame quant keep) 0 (mbs_of frame.format) mb mb Skip h (omega arith)
+returns-clause-each c = λ frame reference h params mb here.
+    get_or-map-range_with_len (choice_of frame reference h params) 0 (mbs_of frame.format) mb mb Skip here (omega arith)

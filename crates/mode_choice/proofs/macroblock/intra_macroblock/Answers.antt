@@ -7,9 +7,9 @@ use Rattle.h263_planes.specs.Lent.{picture}
 use Rattle.mode_choice.specs.Choice.{blocks_of, levels_of, samples_of}
 use Rattle.mode_choice.proofs.macroblock.intra_macroblock.Goals as goal
 
-pub returns-clause-choice : goal.returns-clause-choice
+pub returns : goal.returns
 unfolding blocks_of
-returns-clause-choice c =
+returns c =
     let block : ℕ → Block = λ b. levels_of c.args.quant c.args.keep (samples_of (picture c.args.frame) c.args.mb b) in
     let made : List Block → Mb = λ blocks. Intra c.args.quant blocks in
     ap made (fill_by_all block c.loop-block.coded 6 (block 0) c.loop-block.invariant.0 (λ b h. c.loop-block.invariant.1 (block 0) b (omega arith)))

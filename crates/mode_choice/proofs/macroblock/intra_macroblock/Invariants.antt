@@ -1,6 +1,5 @@
 use Rattle.std.proofs.Common.{◌≡◌, ℕ, ◌<◌, length, get_or}
 use Rattle.h263_types.specs.declared.blocks.Block.{Block}
-use Rattle.h263_types.specs.Blocks.{IsIntraBlock}
 use Rattle.h263_planes.specs.Lent.{picture}
 use Rattle.mode_choice.specs.Choice.{levels_of, samples_of}
 use Rattle.mode_choice.proofs.macroblock.intra_macroblock.Given as goal
@@ -10,4 +9,3 @@ abbrev pub invariant-loop-block : goal.invariant-loop-block
 invariant-loop-block l =
     (length l.coded ≡ 6)
     × ((d : Block) (b : ℕ) → b < l.block → get_or l.coded b d ≡ levels_of l.quant l.keep (samples_of (picture l.frame) l.mb b))
-    × ((d : Block) (b : ℕ) → b < l.block → IsIntraBlock (get_or l.coded b d))

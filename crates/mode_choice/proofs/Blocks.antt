@@ -1,0 +1,90 @@
+-- The samples of a macroblock by its six blocks, and by its square of luma.
+use Rattle.std.proofs.Common.{◌≡◌, ℕ, zero, suc, ◌+◌, ◌*◌, ◌/◌, ◌%◌, ◌<◌, List, [], ◌∷◌, get_or, length, lit<, arith, ap, ◌∙◌, ℤ, pos, ◌-ℤ◌}
+use Rattle.std.proofs.lemmas.Int.{ints}
+use Rattle.std.proofs.lemmas.List.FromFn.{fill_by_all, get_or-map-range_with_len, length-map-range_with_len}
+use Rattle.h263_types.specs.declared.vector.Vector.{Vector}
+use Rattle.h263_types.specs.Sizes.{columns_of}
+use Rattle.h263_planes.specs.declared.Plane.{Plane}
+use Rattle.h263_planes.specs.declared.Plane.TheVariants.{Y, Cb, Cr}
+use Rattle.h263_planes.specs.Picture.{Picture}
+use Rattle.h263_planes.specs.Samples.{sample_at}
+use Rattle.half_sample.specs.Prediction.{predicted_sample, moved, whole_part}
+use Rattle.motion_search.specs.Cost as luma
+use Rattle.mode_choice.specs.Choice.{predicted_in_block, residuals_of, sample_in_block, samples_of}
+
+-- block b of the four of 16 x 16 samples
+abbrev pub IsQuarter : List ℕ → ℕ → List ℕ → Type 0
+IsQuarter luma b q = (j i : ℕ) → j < 8 → i < 8 → get_or q (8 * j + i) 0 ≡ get_or luma (16 * (8 * (b / 2) + j) + (8 * (b % 2) + i)) 0
+
+-- the samples of a macroblock in one plane, by rows of n, are predicted
+abbrev pub ArePredicted : ℕ → Picture → Plane → ℕ → Vector → ℕ → List ℕ → Type 0
+ArePredicted n p plane mb v r samples =
+    (j i : ℕ) → j < n → i < n → get_or samples (n * j + i) 0 ≡ predicted_sample p plane (n * (mb % columns_of p.format) + i) (n * (mb / columns_of p.format) + j) v r
+
+-- the sample at a place of a block, by the place's row and column
+by_rows : (block : List ℕ) (k : ℕ) → get_or block k 0 ≡ get_or block (8 * (k / 8) + k % 8) 0
+by_rows block k = let e : k ≡ 8 * (k / 8) + k % 8 = omega arith in ap (λ (m : ℕ). get_or block m 0) e
+
+sample_of_quarter : (p : Picture) (mb r : ℕ) (v : Vector) (luma q : List ℕ) (b : ℕ) → b < 4 → ArePredicted 16 p Y mb v r luma → IsQuarter luma b q → (k : ℕ) → k < 64 →
+    get_or q k 0 ≡ predicted_sample p Y (16 * (mb % columns_of p.format) + 8 * (b % 2) + k % 8) (16 * (mb / columns_of p.format) + 8 * (b / 2) + k / 8) v r
+sample_of_quarter p mb r v luma q b four predicted quarter k hk =
+    let column : 16 * (mb % columns_of p.format) + (8 * (b % 2) + k % 8) ≡ 16 * (mb % columns_of p.format) + 8 * (b % 2) + k % 8 = omega arith in
+    let row : 16 * (mb / columns_of p.format) + (8 * (b / 2) + k / 8) ≡ 16 * (mb / columns_of p.format) + 8 * (b / 2) + k / 8 = omega arith in
+    by_rows q k ∙ quarter (k / 8) (k % 8) (omega arith) (omega arith) ∙ predicted (8 * (b / 2) + k / 8) (8 * (b % 2) + k % 8) (omega arith) (omega arith)
+    ∙ ap (λ (x : ℕ). predicted_sample p Y x (16 * (mb / columns_of p.format) + (8 * (b / 2) + k / 8)) v r) column
+    ∙ ap (λ (y : ℕ). predicted_sample p Y (16 * (mb % columns_of p.format) + 8 * (b % 2) + k % 8) y v r) row
+
+sample_of_colour : (p : Picture) (plane : Plane) (mb r : ℕ) (v : Vector) (block : List ℕ) → ArePredicted 8 p plane mb v r block → (k : ℕ) → k < 64 →
+    get_or block k 0 ≡ predicted_sample p plane (8 * (mb % columns_of p.format) + k % 8) (8 * (mb / columns_of p.format) + k / 8) v r
+sample_of_colour p plane mb r v block predicted k hk = by_rows block k ∙ predicted (k / 8) (k % 8) (omega arith) (omega arith)
+
+pub six_predicted : (p : Picture) (mb r : ℕ) (v : Vector) (luma q0 q1 q2 q3 cb cr : List ℕ) →
+    ArePredicted 16 p Y mb v r luma → ArePredicted 8 p Cb mb v r cb → ArePredicted 8 p Cr mb v r cr →
+    IsQuarter luma 0 q0 → IsQuarter luma 1 q1 → IsQuarter luma 2 q2 → IsQuarter luma 3 q3 →
+    (b k : ℕ) → b < 6 → k < 64 → get_or (get_or (q0 ∷ q1 ∷ q2 ∷ q3 ∷ cb ∷ cr ∷ []) b []) k 0 ≡ predicted_in_block p r mb v b k
+six_predicted p mb r v luma q0 q1 q2 q3 cb cr hy hcb hcr h0 h1 h2 h3 zero k hb hk = sample_of_quarter p mb r v luma q0 0 (lit< tt) hy h0 k hk
+six_predicted p mb r v luma q0 q1 q2 q3 cb cr hy hcb hcr h0 h1 h2 h3 (suc zero) k hb hk = sample_of_quarter p mb r v luma q1 1 (lit< tt) hy h1 k hk
+six_predicted p mb r v luma q0 q1 q2 q3 cb cr hy hcb hcr h0 h1 h2 h3 (suc (suc zero)) k hb hk = sample_of_quarter p mb r v luma q2 2 (lit< tt) hy h2 k hk
+six_predicted p mb r v luma q0 q1 q2 q3 cb cr hy hcb hcr h0 h1 h2 h3 (suc (suc (suc zero))) k hb hk = sample_of_quarter p mb r v luma q3 3 (lit< tt) hy h3 k hk
+six_predicted p mb r v luma q0 q1 q2 q3 cb cr hy hcb hcr h0 h1 h2 h3 (suc (suc (suc (suc zero)))) k hb hk = sample_of_colour p Cb mb r v cb hcb k hk
+six_predicted p mb r v luma q0 q1 q2 q3 cb cr hy hcb hcr h0 h1 h2 h3 (suc (suc (suc (suc (suc zero))))) k hb hk = sample_of_colour p Cr mb r v cr hcr k hk
+six_predicted p mb r v luma q0 q1 q2 q3 cb cr hy hcb hcr h0 h1 h2 h3 (suc (suc (suc (suc (suc (suc b)))))) k hb hk = absurd (omega arith)
+
+-- the samples of a block, as a list and at each place
+pub samples_long : (p : Picture) (mb b : ℕ) → length (samples_of p mb b) ≡ 64
+unfolding samples_of
+samples_long p mb b = length-map-range_with_len (λ (k : ℕ). pos (sample_in_block p mb b k)) 0 64
+
+pub sample_of : (p : Picture) (mb b k : ℕ) → k < 64 → get_or (samples_of p mb b) k (pos 0) ≡ pos (sample_in_block p mb b k)
+unfolding samples_of
+sample_of p mb b k h = get_or-map-range_with_len (λ (k : ℕ). pos (sample_in_block p mb b k)) 0 64 k k (pos 0) h (omega arith)
+
+-- what is left of a block at each place is the list of its residuals
+pub residuals_are : (p q : Picture) (r mb : ℕ) (v : Vector) (b : ℕ) (residuals : List ℤ) (predicted : List ℕ) → length residuals ≡ 64 →
+    ((k : ℕ) → k < 64 → get_or residuals k (pos 0) ≡ (pos (sample_in_block p mb b k) -ℤ pos (get_or predicted k 0))) →
+    ((k : ℕ) → k < 64 → get_or predicted k 0 ≡ predicted_in_block q r mb v b k) → residuals ≡ residuals_of p q r mb v b
+unfolding residuals_of
+residuals_are p q r mb v b residuals predicted long each from =
+    fill_by_all (λ (k : ℕ). pos (sample_in_block p mb b k) -ℤ pos (predicted_in_block q r mb v b k)) residuals 64 (pos 0) long
+    (λ k h. each k h ∙ ap (λ (n : ℕ). pos (sample_in_block p mb b k) -ℤ pos n) (from k h))
+
+-- ---- luma
+
+-- the zero vector stays
+stays : (x : ℕ) → moved x (whole_part Y (pos 0)) ≡ x
+stays x = omega (arith, ints)
+
+-- the zero vector predicts a picture's own samples
+own_sample : (p : Picture) (x y : ℕ) → predicted_sample p Y x y (record { x = pos 0; y = pos 0 }) 0 ≡ sample_at p Y x y
+own_sample p x y = ap (λ (i : ℕ). sample_at p Y i (moved y (whole_part Y (pos 0)))) (stays x) ∙ ap (λ (j : ℕ). sample_at p Y x j) (stays y)
+
+pub own_luma : (p : Picture) (mb : ℕ) (samples : List ℕ) → length samples ≡ 256 → ArePredicted 16 p Y mb (record { x = pos 0; y = pos 0 }) 0 samples →
+    samples ≡ luma.samples_of p mb
+unfolding luma.square
+own_luma p mb samples long predicted =
+    let left = 16 * (mb % columns_of p.format) in
+    let top = 16 * (mb / columns_of p.format) in
+    fill_by_all (λ (k : ℕ). sample_at p Y (left + k % 16) (top + k / 16)) samples 256 0 long
+    (λ k h.
+    let place : k ≡ 16 * (k / 16) + k % 16 = omega arith in
+    ap (λ (m : ℕ). get_or samples m 0) place ∙ predicted (k / 16) (k % 16) (omega arith) (omega arith) ∙ own_sample p (left + k % 16) (top + k / 16))

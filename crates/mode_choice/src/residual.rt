@@ -1,0 +1,50 @@
+//! The levels of what a prediction leaves of a block.
+ghost use Rattle.std.specs.Prelude.{◌≡◌, All};
+ghost use Rattle.h263_types.specs.Blocks.{IsCoefficient, IsLevel, IsQuant};
+ghost use Rattle.idct8.specs.Ranges.{IsSample};
+ghost use Rattle.mode_choice.specs.Choice as choice;
+
+use h263_types::Block;
+use idct8::forward;
+use quantiser::{block_place, level_inter};
+
+// The levels of a block of residuals.
+pub(crate) fn residual_block(quant: u8, keep: u8, residuals: &[i16; 64]) -> Block
+    requires quant { IsQuant quant }
+    requires residuals { All IsSample residuals.now }
+    ensures { result ≡ choice.residual_levels_of quant keep residuals.now }
+{
+    let coefficients = forward(residuals);
+    let mut levels = [0; 64];
+    for k in 0..64 {
+        levels[k] = residual_level(quant, keep, k, coefficients[block_place(k)]);
+    }
+    Block { levels }
+}
+
+// The level of a coefficient at place `k` of the zigzag order.
+fn residual_level(quant: u8, keep: u8, k: usize, coefficient: i32) -> i16
+    requires quant { IsQuant quant }
+    requires coefficient { IsCoefficient coefficient }
+    ensures level { result ≡ choice.residual_level_of quant keep k coefficient }
+    ensures range { IsLevel result }
+{
+    if k < usize::from(keep) {
+        level_inter(quant, coefficient)
+    } else {
+        0
+    }
+}
+
+// Whether no level of the blocks is left.
+pub(crate) fn are_empty(blocks: &[Block; 6]) -> bool
+    ensures { result ≡ choice.are_empty blocks.now }
+{
+    blocks.iter().all(is_empty)
+}
+
+fn is_empty(block: &Block) -> bool
+    ensures { result ≡ choice.is_empty block.now }
+{
+    block.levels.iter().all(|level| *level == 0)
+}

@@ -1,0 +1,66 @@
+//! The way of a picture's macroblocks: chosen, added to the cutter, reconstructed.
+ghost use Rattle.std.specs.Prelude.{◌≡◌, ◌+◌, ◌%◌, length};
+ghost use Rattle.std.specs.Option.{option_map};
+ghost use Rattle.h263_types.specs.Params.{IsParams};
+ghost use Rattle.h263_planes.specs.Lent.{picture};
+ghost use Rattle.h263_planes.specs.References.{HasReferenceOnlyInP};
+ghost use Rattle.h263_planes.specs.Samples.{IsPicture};
+ghost use Rattle.h263_planes.specs.Work.{loan_of};
+ghost use Rattle.h263_planes.specs.Work as lent;
+ghost use Rattle.picture_header.specs.Ranges.{IsHeader};
+ghost use Rattle.mode_choice.specs.Choice.{choices_of};
+ghost use Rattle.picture_recon.specs.Samples.{reconstruction};
+ghost use Rattle.packet_cutter.specs.Cutting.{format_of, limit_of, packets_of, sequence_of};
+ghost use Rattle.packet_cutter.specs.Packets.{ArePacketsOf};
+
+use h263_planes::{PictureMut, PictureRef};
+use h263_types::Params;
+use mode_choice::choose;
+use packet_cutter::Cutter;
+use picture_header::Header;
+use picture_recon::laws::samples_are_reconstruction;
+use picture_recon::recon_mb;
+
+/// Codes `frame` as picture `number` with this header. `cutter`, which was started with these parameters, then holds the
+/// picture's packets of at most `params.limit` bytes, one slice each, and `work` the picture that a decoder makes of them
+/// (H.263, 6). A P picture, and no other, has a reference, in which vectors of up to `params.radius` whole samples are
+/// searched. All pictures have the header's format; what `work` held before doesn't count.
+pub fn code_picture(
+    frame: PictureRef<'_>,
+    reference: Option<PictureRef<'_>>,
+    number: u32,
+    header: &Header,
+    params: &Params,
+    cutter: &mut Cutter,
+    work: &mut PictureMut<'_>,
+)
+    requires header { IsHeader header.now }
+    requires params { IsParams params.now }
+    requires params_format { params.now.format ≡ header.now.format }
+    requires frame_format { (picture frame).format ≡ header.now.format }
+    requires reference { HasReferenceOnlyInP header.now.kind header.now.format (option_map picture reference) }
+    requires cutter_format { format_of cutter.old ≡ params.now.format }
+    requires cutter_limit { limit_of cutter.old ≡ params.now.limit }
+    requires work_format { (lent.work work.old).format ≡ header.now.format }
+
+    ensures packets { ArePacketsOf number (sequence_of cutter.old) header.now params.now.limit
+        (choices_of (picture frame.entry) (option_map picture reference.entry) header.now params.now) (packets_of cutter.new) }
+    ensures sequence { sequence_of cutter.new ≡ (sequence_of cutter.old + length (packets_of cutter.new)) % 65536 }
+    ensures cutter_format { format_of cutter.new ≡ params.now.format }
+    ensures cutter_limit { limit_of cutter.new ≡ params.now.limit }
+
+    ensures reconstruction { lent.work work.new ≡ reconstruction header.now.format header.now.rounding (option_map picture reference.entry)
+        (choices_of (picture frame.entry) (option_map picture reference.entry) header.now params.now) }
+    ensures same_loan { loan_of work.new ≡ loan_of work.old }
+    ensures format { (lent.work work.new).format ≡ header.now.format }
+    ensures whole { IsPicture (lent.work work.new) }
+{
+    samples_are_reconstruction();
+    cutter.begin(number, header);
+    for at in 0..header.format.mbs() {
+        let mb = choose(frame, reference, at, header, params);
+        cutter.add(&mb);
+        recon_mb(&mb, at, header, reference, work);
+    }
+    cutter.finish();
+}
