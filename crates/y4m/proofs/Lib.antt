@@ -4,5 +4,6 @@ pub mod Inputs
 pub mod Lines
 pub mod Readers
 pub mod Results
+pub mod Spelling
 pub mod Tags
 pub mod Writes

@@ -12,3 +12,6 @@ mod writer;
 pub use fault::{VideoStop, Y4mFault};
 pub use reader::Y4mReader;
 pub use writer::{write_frame, write_head};
+
+#[cfg(test)]
+mod tests;

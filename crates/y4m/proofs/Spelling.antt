@@ -1,0 +1,109 @@
+-- A whole line is found where it stands, and what was found is a whole line.
+use Rattle.std.proofs.Common.{◌≡◌, ◌≢◌, ℕ, zero, suc, ◌+◌, ◌-◌, ◌<◌, ◌≤◌, ◌==◌, ◌&&◌, nat_le, Bool, true, false, cond, inl, inr, List, [], ◌∷◌, ◌++◌, length, take, drop, get_or, All, refl, sym, ap, subst, ◌∙◌, arith, append_assoc, length-append, length-drop, length-take, take-append-drop}
+use Rattle.std.proofs.lemmas.Bool.{cases_eq}
+use Rattle.std.proofs.lemmas.Bool.Decides.{nat_tests}
+use Rattle.std.proofs.lemmas.List.Elements.{All-nil, All-cons, All-head, All-tail, All-append, All-drop}
+use Rattle.std.proofs.Math.Seq.{take-append_seam, drop-append_seam, get_or-append_seam}
+use Rattle.std.proofs.lemmas.List.{take-append-le}
+use Rattle.y4m.specs.Line.{is_gap, agreement, through_newline, line_within, is_whole}
+use Rattle.y4m.specs.Spelled.{StandsApart, NoNewline, IsLine}
+
+abbrev Other : ℕ → Type 0
+Other b = b ≢ 10
+
+through_other : (b : ℕ) (bytes : List ℕ) → b ≢ 10 → through_newline (b ∷ bytes) ≡ b ∷ through_newline bytes
+through_other b bytes other = grind (arith, nat_tests)
+
+-- the line is found
+through_found : (n : ℕ) (xs more : List ℕ) → NoNewline xs → length xs < n → through_newline (take n (xs ++ 10 ∷ more)) ≡ xs ++ 10 ∷ []
+through_found zero xs more none lt = absurd (omega arith)
+through_found (suc n) [] more none lt = refl
+through_found (suc n) (b ∷ xs) more none lt =
+    through_other b (take n (xs ++ 10 ∷ more)) (All-head Other b xs none)
+    ∙ ap (λ (l : List ℕ). b ∷ l) (through_found n xs more (All-tail Other b xs none) (omega arith))
+
+pub line_found : (n : ℕ) (word line more : List ℕ) → NoNewline word → IsLine word line → length line ≤ n → line_within n (line ++ more) ≡ line
+line_found n word line more none l le =
+    let whole : line ++ more ≡ (word ++ l.tail) ++ 10 ∷ more = ap (λ (x : List ℕ). x ++ more) l.text ∙ append_assoc (word ++ l.tail) (10 ∷ []) more in
+    let size : length line ≡ length (word ++ l.tail) + 1 = ap (λ (x : List ℕ). length x) l.text ∙ length-append (word ++ l.tail) (10 ∷ []) in
+    ap (λ (x : List ℕ). line_within n x) whole
+    ∙ through_found n (word ++ l.tail) more (All-append Other word l.tail none l.one) (omega arith)
+    ∙ sym l.text
+
+same_heads : (a : ℕ) (word line : List ℕ) → agreement (a ∷ word) (a ∷ line) ≡ suc (agreement word line)
+same_heads a word line = grind (arith, nat_tests)
+
+agreement-append : (word tail : List ℕ) → agreement word (word ++ tail) ≡ length word + agreement [] tail
+agreement-append [] tail = omega arith
+agreement-append (a ∷ word) tail = same_heads a word (word ++ tail) ∙ ap (λ (n : ℕ). suc n) (agreement-append word tail) ∙ omega arith
+
+gap_first : (tail : List ℕ) → StandsApart tail → agreement [] (tail ++ 10 ∷ []) ≡ 1
+gap_first [] apart = refl
+gap_first (b ∷ tail) apart = ap (λ (b : ℕ). agreement [] (b ∷ (tail ++ 10 ∷ []))) apart
+
+pub line_agrees : (word line : List ℕ) → IsLine word line → agreement word line ≡ length word + 1
+line_agrees word line l =
+    ap (λ (x : List ℕ). agreement word x) (l.text ∙ append_assoc word l.tail (10 ∷ []))
+    ∙ agreement-append word (l.tail ++ 10 ∷ [])
+    ∙ ap (λ (n : ℕ). length word + n) (gap_first l.tail l.apart)
+
+whole_if : (n b : ℕ) → n ≤ 256 → b ≡ 10 → (nat_le n 256 && b == 10) ≡ true
+whole_if n b le is = grind (arith, nat_tests)
+
+pub line_whole : (word line : List ℕ) → IsLine word line → is_whole line ≡ true
+line_whole word line l =
+    let size : length line - 1 ≡ length (word ++ l.tail) = omega (arith, ap (λ (x : List ℕ). length x) l.text, length-append (word ++ l.tail) (10 ∷ [])) in
+    whole_if (length line) (get_or line (length line - 1) 0) l.short
+    (ap (λ (n : ℕ). get_or line n 0) size ∙ ap (λ (x : List ℕ). get_or x (length (word ++ l.tail)) 0) l.text ∙ get_or-append_seam (word ++ l.tail) 10 [] 0)
+
+-- what was found
+pub line_front : (n : ℕ) (bytes : List ℕ) → bytes ≡ line_within n bytes ++ drop (length (line_within n bytes)) bytes
+line_front zero bytes = refl
+line_front (suc n) [] = refl
+line_front (suc n) (b ∷ bytes) = elim (cases_eq b 10) [
+  | inl ten ↦ front_ten b n bytes ten
+  | inr other ↦ front_other b n bytes other (line_front n bytes)
+]
+  where
+    front_ten : (b n : ℕ) (bytes : List ℕ) → b ≡ 10 → b ∷ bytes ≡ line_within (suc n) (b ∷ bytes) ++ drop (length (line_within (suc n) (b ∷ bytes))) (b ∷ bytes)
+    front_ten b n bytes ten = let one : line_within (suc n) (b ∷ bytes) ≡ b ∷ [] = grind (arith, nat_tests) in ap (λ (l : List ℕ). l ++ drop (length l) (b ∷ bytes)) (sym one)
+
+    front_other : (b n : ℕ) (bytes : List ℕ) → b ≢ 10 → bytes ≡ line_within n bytes ++ drop (length (line_within n bytes)) bytes → b ∷ bytes ≡ line_within (suc n) (b ∷ bytes) ++ drop (length (line_within (suc n) (b ∷ bytes))) (b ∷ bytes)
+    front_other b n bytes other is = ap (λ (l : List ℕ). b ∷ l) is ∙ ap (λ (l : List ℕ). l ++ drop (length l) (b ∷ bytes)) (sym (through_other b (take n bytes) other))
+
+-- a text up to its newline, which stands at its end and nowhere else
+pub record Ended (line : List ℕ) : Type 0 where
+  pub front : List ℕ
+  pub text : line ≡ front ++ 10 ∷ []
+  pub one : NoNewline front
+
+last_cons : (b : ℕ) (ys : List ℕ) → 0 < length ys → get_or (b ∷ ys) (length (b ∷ ys) - 1) 0 ≡ get_or ys (length ys - 1) 0
+last_cons b [] some = absurd (omega arith)
+last_cons b (y ∷ ys) some = ?
+
+ended_cons : (b : ℕ) (line : List ℕ) → b ≢ 10 → Ended line → Ended (b ∷ line)
+ended_cons b line other e = record { front = b ∷ e.front; text = ap (λ (l : List ℕ). b ∷ l) e.text; one = All-cons Other b e.front other e.one }
+
+ended_through : (bytes : List ℕ) → get_or (through_newline bytes) (length (through_newline bytes) - 1) 0 ≡ 10 → Ended (through_newline bytes)
+ended_through [] ten = absurd (omega (arith, ten))
+ended_through (b ∷ bytes) ten = elim (cases_eq b 10) [
+  | inl is ↦ ended_here b bytes is
+  | inr other ↦ ended_later b bytes other ten (ended_through bytes)
+]
+  where
+    ended_here : (b : ℕ) (bytes : List ℕ) → b ≡ 10 → Ended (through_newline (b ∷ bytes))
+    ended_here b bytes is =
+        let one : through_newline (b ∷ bytes) ≡ [] ++ 10 ∷ [] = grind (arith, nat_tests) in
+        record { front = []; text = one; one = All-nil Other }
+
+    ended_later : (b : ℕ) (bytes : List ℕ) → b ≢ 10 → get_or (through_newline (b ∷ bytes)) (length (through_newline (b ∷ bytes)) - 1) 0 ≡ 10 → (get_or (through_newline bytes) (length (through_newline bytes) - 1) 0 ≡ 10 → Ended (through_newline bytes)) → Ended (through_newline (b ∷ bytes))
+    ended_later b bytes other ten more = ?
+
+whole_is : (n b : ℕ) → (nat_le n 256 && b == 10) ≡ true → (n ≤ 256) × (b ≡ 10)
+whole_is n b is = ?
+
+begins : (word line : List ℕ) → length word < agreement word line → line ≡ word ++ drop (length word) line
+begins word line lt = ?
+
+pub line_is : (n : ℕ) (word bytes : List ℕ) → length word < agreement word (line_within n bytes) → is_whole (line_within n bytes) ≡ true → IsLine word (line_within n bytes)
+line_is n word bytes agrees whole = ?

@@ -1,0 +1,49 @@
+-- What a video is, as a text that is put together: a line of a head, then frames, each a line and planes.
+use Rattle.std.specs.Prelude.{ℕ, ◌≡◌, ◌≢◌, ◌≤◌, List, [], ◌∷◌, ◌++◌, length, map, All, codes, Some, None}
+use Rattle.std.specs.List.{flat_map}
+use Rattle.h263_types.specs.declared.format.Format.{Format}
+use Rattle.h263_types.specs.Sizes.{size_of_picture}
+use Rattle.y4m.specs.Line.{tags_of}
+use Rattle.y4m.specs.Head.{tag_fault, format_in}
+
+-- nothing, or something that a space stands before
+abbrev pub StandsApart : List ℕ → Type 0
+StandsApart [] = Unit {0}
+StandsApart (b ∷ tail) = b ≡ 32
+
+abbrev pub NoNewline : List ℕ → Type 0
+NoNewline bytes = All (λ b. b ≢ 10) bytes
+
+-- a whole line: a word, nothing or a space with anything behind it, and a newline; 256 bytes at most
+pub record IsLine (word line : List ℕ) : Type 0 where
+  pub tail : List ℕ
+  pub text : line ≡ word ++ tail ++ 10 ∷ []
+  pub apart : StandsApart tail
+  pub one : NoNewline tail
+  pub short : length line ≤ 256
+
+-- the line of a head: its tags are of the accepted forms, and the last W and the last H are those of the format
+pub record IsHead (line : List ℕ) (f : Format) : Type 0 where
+  pub spelled : IsLine (codes "YUV4MPEG2") line
+  pub accepted : All (λ tag. tag_fault tag ≡ None) (tags_of line)
+  pub sized : format_in (tags_of line) ≡ Some f
+
+-- a frame in its text
+pub record Frame : Type 0 where
+  pub line : List ℕ
+  pub planes : List ℕ
+
+-- a frame of a format, with any tags
+pub record IsFrame (f : Format) (frame : Frame) : Type 0 where
+  pub spelled : IsLine (codes "FRAME") frame.line
+  pub size : length frame.planes ≡ size_of_picture f
+
+-- the text of a video in a format whose frames have these planes, 1,048,576 frames at most
+pub record IsVideo (video : List ℕ) (f : Format) (planes : List (List ℕ)) : Type 0 where
+  pub head : List ℕ
+  pub frames : List Frame
+  pub text : video ≡ head ++ flat_map (λ frame. frame.line ++ frame.planes) frames
+  pub of_head : IsHead head f
+  pub of_frames : All (IsFrame f) frames
+  pub of_planes : planes ≡ map (λ frame. frame.planes) frames
+  pub count : length frames ≤ 1048576
