@@ -6,4 +6,5 @@ pub mod Readers
 pub mod Results
 pub mod Spelling
 pub mod Tags
+pub mod Videos
 pub mod Writes

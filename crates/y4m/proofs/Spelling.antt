@@ -1,10 +1,10 @@
 -- A whole line is found where it stands, and what was found is a whole line.
-use Rattle.std.proofs.Common.{◌≡◌, ◌≢◌, ℕ, zero, suc, ◌+◌, ◌-◌, ◌<◌, ◌≤◌, ◌==◌, ◌&&◌, nat_le, Bool, true, false, cond, inl, inr, List, [], ◌∷◌, ◌++◌, length, take, drop, get_or, All, refl, sym, ap, subst, ◌∙◌, arith, append_assoc, length-append, length-drop, length-take, take-append-drop}
+use Rattle.std.proofs.Common.{◌≡◌, ◌≢◌, ℕ, zero, suc, ◌+◌, ◌-◌, ◌<◌, ◌≤◌, ◌==◌, ◌&&◌, nat_le, Bool, true, false, cond, inl, inr, List, [], ◌∷◌, ◌++◌, length, take, drop, get_or, refl, sym, ap, subst, ◌∙◌, arith, append_assoc, length-append, take-append-drop}
 use Rattle.std.proofs.lemmas.Bool.{cases_eq}
 use Rattle.std.proofs.lemmas.Bool.Decides.{nat_tests}
 use Rattle.std.proofs.lemmas.List.Elements.{All-nil, All-cons, All-head, All-tail, All-append, All-drop}
-use Rattle.std.proofs.Math.Seq.{take-append_seam, drop-append_seam, get_or-append_seam}
-use Rattle.std.proofs.lemmas.List.{take-append-le}
+use Rattle.std.proofs.Math.Seq.{take-append_seam, get_or-append_seam}
+use Rattle.std.proofs.lemmas.List.{take-append-le, get_or-append-add}
 use Rattle.y4m.specs.Line.{is_gap, agreement, through_newline, line_within, is_whole}
 use Rattle.y4m.specs.Spelled.{StandsApart, NoNewline, IsLine}
 
@@ -79,10 +79,17 @@ pub record Ended (line : List ℕ) : Type 0 where
 
 last_cons : (b : ℕ) (ys : List ℕ) → 0 < length ys → get_or (b ∷ ys) (length (b ∷ ys) - 1) 0 ≡ get_or ys (length ys - 1) 0
 last_cons b [] some = absurd (omega arith)
-last_cons b (y ∷ ys) some = ?
+last_cons b (y ∷ ys) some =
+    let one : suc (suc (length ys)) - 1 ≡ suc (length ys) = omega arith in
+    let two : suc (length ys) - 1 ≡ length ys = omega arith in
+    ap (λ (n : ℕ). get_or (b ∷ y ∷ ys) n 0) one ∙ ap (λ (n : ℕ). get_or (y ∷ ys) n 0) (sym two)
 
 ended_cons : (b : ℕ) (line : List ℕ) → b ≢ 10 → Ended line → Ended (b ∷ line)
 ended_cons b line other e = record { front = b ∷ e.front; text = ap (λ (l : List ℕ). b ∷ l) e.text; one = All-cons Other b e.front other e.one }
+
+ended_at : (b : ℕ) (line : List ℕ) → b ≢ 10 → get_or (b ∷ line) (length (b ∷ line) - 1) 0 ≡ 10 → (get_or line (length line - 1) 0 ≡ 10 → Ended line) → Ended (b ∷ line)
+ended_at b [] other ten more = absurd (other ten)
+ended_at b (y ∷ line) other ten more = ended_cons b (y ∷ line) other (more (sym (last_cons b (y ∷ line) (omega arith)) ∙ ten))
 
 ended_through : (bytes : List ℕ) → get_or (through_newline bytes) (length (through_newline bytes) - 1) 0 ≡ 10 → Ended (through_newline bytes)
 ended_through [] ten = absurd (omega (arith, ten))
@@ -97,13 +104,78 @@ ended_through (b ∷ bytes) ten = elim (cases_eq b 10) [
         record { front = []; text = one; one = All-nil Other }
 
     ended_later : (b : ℕ) (bytes : List ℕ) → b ≢ 10 → get_or (through_newline (b ∷ bytes)) (length (through_newline (b ∷ bytes)) - 1) 0 ≡ 10 → (get_or (through_newline bytes) (length (through_newline bytes) - 1) 0 ≡ 10 → Ended (through_newline bytes)) → Ended (through_newline (b ∷ bytes))
-    ended_later b bytes other ten more = ?
+    ended_later b bytes other ten more =
+        let e : through_newline (b ∷ bytes) ≡ b ∷ through_newline bytes = through_other b bytes other in
+        subst (λ (l : List ℕ). Ended l) (sym e)
+        (ended_at b (through_newline bytes) other (sym (ap (λ (l : List ℕ). get_or l (length l - 1) 0) e) ∙ ten) more)
 
-whole_is : (n b : ℕ) → (nat_le n 256 && b == 10) ≡ true → (n ≤ 256) × (b ≡ 10)
-whole_is n b is = ?
+whole_short : (n b : ℕ) → (nat_le n 256 && b == 10) ≡ true → n ≤ 256
+whole_short n b is = grind (arith, nat_tests)
+
+whole_ends : (n b : ℕ) → (nat_le n 256 && b == 10) ≡ true → b ≡ 10
+whole_ends n b is = grind (arith, nat_tests)
+
+other_heads : (a b : ℕ) (word line : List ℕ) → (a ≡ b → ⊥) → agreement (a ∷ word) (b ∷ line) ≡ 0
+other_heads a b word line other = grind (arith, nat_tests)
+
+same_heads_as : (a b : ℕ) (word line : List ℕ) → a ≡ b → agreement (a ∷ word) (b ∷ line) ≡ suc (agreement word line)
+same_heads_as a b word line same = grind (arith, nat_tests)
 
 begins : (word line : List ℕ) → length word < agreement word line → line ≡ word ++ drop (length word) line
-begins word line lt = ?
+begins [] line lt = refl
+begins (a ∷ word) [] lt = absurd (omega arith)
+begins (a ∷ word) (b ∷ line) lt = elim (cases_eq a b) [
+  | inl same ↦ (λ i. sym same i ∷ begins word line (omega (arith, same_heads_as a b word line same)) i)
+  | inr other ↦ absurd (omega (arith, other_heads a b word line other))
+]
+
+gap_of : (gap : Bool) → 0 < cond gap 1 0 → gap ≡ true
+gap_of true lt = refl
+gap_of false lt = absurd (omega arith)
+
+gap_at : (word line : List ℕ) → length word < agreement word line → (length word < length line) × (is_gap (get_or line (length word) 0) ≡ true)
+gap_at [] [] lt = absurd (omega arith)
+gap_at [] (b ∷ line) lt = (omega arith, gap_of (is_gap b) lt)
+gap_at (a ∷ word) [] lt = absurd (omega arith)
+gap_at (a ∷ word) (b ∷ line) lt = elim (cases_eq a b) [
+  | inl same ↦ (let more = gap_at word line (omega (arith, same_heads_as a b word line same)) in (omega (arith, more.0), more.1))
+  | inr other ↦ absurd (omega (arith, other_heads a b word line other))
+]
+
+apart_of : (tail : List ℕ) → is_gap (get_or (tail ++ 10 ∷ []) 0 0) ≡ true → NoNewline tail → StandsApart tail
+apart_of [] gap one = tt
+apart_of (b ∷ tail) gap one = space b gap (All-head Other b tail one)
+  where
+    space : (b : ℕ) → is_gap b ≡ true → b ≢ 10 → b ≡ 32
+    space b gap other = grind (arith, nat_tests)
 
 pub line_is : (n : ℕ) (word bytes : List ℕ) → length word < agreement word (line_within n bytes) → is_whole (line_within n bytes) ≡ true → IsLine word (line_within n bytes)
-line_is n word bytes agrees whole = ?
+line_is n word bytes agrees whole =
+    let line = line_within n bytes in
+    let last = get_or line (length line - 1) 0 in
+    let e : Ended line = ended_through (take n bytes) (whole_ends (length line) last whole) in
+    let gap = gap_at word line agrees in
+    let size : length line ≡ length e.front + 1 = ap (λ (l : List ℕ). length l) e.text ∙ length-append e.front (10 ∷ []) in
+    let tail = drop (length word) e.front in
+    let le : length word ≤ length e.front = omega (arith, gap.0, size) in
+    let front : take (length word) e.front ≡ word =
+        sym (take-append-le (length word) e.front (10 ∷ []) le)
+        ∙ ap (λ (l : List ℕ). take (length word) l) (sym e.text ∙ begins word line agrees)
+        ∙ take-append_seam word (drop (length word) line) in
+    let text : line ≡ (word ++ tail) ++ 10 ∷ [] =
+        e.text ∙ ap (λ (l : List ℕ). l ++ 10 ∷ []) (sym (take-append-drop (length word) e.front) ∙ ap (λ (l : List ℕ). l ++ tail) front) in
+    let there : get_or line (length word) 0 ≡ get_or (tail ++ 10 ∷ []) 0 0 =
+        ap (λ (l : List ℕ). get_or l (length word) 0) (text ∙ append_assoc word tail (10 ∷ []))
+        ∙ ap (λ (k : ℕ). get_or (word ++ (tail ++ 10 ∷ [])) k 0) (add-zero (length word))
+        ∙ get_or-append-add word (tail ++ 10 ∷ []) 0 0 in
+    let one : NoNewline tail = All-drop Other (length word) e.front e.one in
+    record {
+      tail = tail;
+      text = text;
+      apart = apart_of tail (ap is_gap (sym there) ∙ gap.1) one;
+      one = one;
+      short = whole_short (length line) last whole;
+    }
+  where
+    add-zero : (n : ℕ) → n ≡ n + 0
+    add-zero n = omega arith

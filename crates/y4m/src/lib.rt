@@ -5,6 +5,7 @@ mod fault;
 mod frame;
 mod head;
 mod input;
+pub mod laws;
 mod line;
 mod reader;
 mod writer;
