@@ -1,8 +1,14 @@
 -- The macroblocks that are chosen for a frame: they can be sent, and are those that the receiver reconstructs.
-use Rattle.std.proofs.Common.{◌≡◌, ℕ, ◌<◌, List, map, get_or, length, [], None, refl, sym, ap, subst, ◌∙◌, arith}
+use Rattle.std.proofs.Common.{◌≡◌, ℕ, ◌+◌, ◌<◌, List, map, get_or, length, [], None, refl, sym, ap, subst, ◌∙◌, arith}
 use Rattle.std.specs.Prelude.{ℤ}
 use Rattle.std.specs.List.{range_with_len}
+use Rattle.std.proofs.lemmas.List.{with_items_is}
 use Rattle.std.proofs.lemmas.List.Elements.{All-from_get_or}
+use Rattle.std.specs.Vec.{with_items}
+use Rattle.std.specs.declared.vec.Vec.{Vec}
+use Rattle.h263_types.specs.declared.Kind.TheVariants.{I}
+use Rattle.h263_types.specs.declared.Mark.{Mark}
+use Rattle.h263_types.specs.declared.Mark.TheVariants.{Exact}
 use Rattle.std.proofs.lemmas.List.FromFn.{get_or-map-range_with_len, length-map-range_with_len}
 use Rattle.h263_types.specs.declared.format.Format.{Format}
 use Rattle.h263_types.specs.declared.format.Format.TheVariants.{SubQcif, Qcif, Cif}
@@ -25,8 +31,10 @@ use Rattle.picture_recon.specs.Samples.{mb_in, sample_in}
 use Rattle.mode_choice.specs.Choice.{samples_of, levels_of, blocks_of, intra_of, choice_of, choices_of, level_of, coefficient_at}
 use Rattle.mode_choice.proofs.Levels.{blocks_in_range}
 use Rattle.macroblock_layer.specs.Written.{AreWhole}
+use Rattle.packet_cutter.specs.Packets.{ArePacketsOf}
+use Rattle.packet_collector.specs.declared.collector.Collector.{Collector}
 use Rattle.h263rps.specs.Coded.{coded, chosen}
-use Rattle.h263rps.specs.Received.{ShowsFirst}
+use Rattle.h263rps.specs.Received.{IsReady, ShowsFirst}
 use Rattle.h263rps.specs.Sent.{IsSentAt, AreSent, header_of, params_of}
 
 choices_long : (p : Picture) (h : Header) (params : Params) → length (choices_of p None h params) ≡ mbs_of p.format
@@ -96,9 +104,47 @@ in_picture Cif Y x y h = omega (arith, h.in_row, h.in_plane)
 in_picture Cif Cb x y h = omega (arith, h.in_row, h.in_plane)
 in_picture Cif Cr x y h = omega (arith, h.in_row, h.in_plane)
 
-pub coded_is : (f : Format) (frame out : List ℕ) → length out ≡ size_of_picture f → IsPicture (picture_of f out) → ShowsFirst f 0 (chosen f frame) (mbs_of f) (picture_of f out) → out ≡ bytes_of (coded f frame)
+pub coded_is : (f g : Format) (frame out : List ℕ) → g ≡ f → length out ≡ size_of_picture f → IsPicture (picture_of g out) → ShowsFirst f 0 (chosen f frame) (mbs_of f) (picture_of g out) → out ≡ bytes_of (coded f frame)
 unfolding coded
-coded_is f frame out long whole shows =
+coded_is f g frame out same long whole shows =
     let mbs = chosen f frame in
+    let each : (plane : Plane) (x y : ℕ) → Inside f plane x y 1 → sample_at (picture_of f out) plane x y ≡ sample_in 0 None (mb_in mbs (mb_of f plane x y)) plane x y = λ plane x y inside.
+    ap (λ (h : Format). sample_at (picture_of h out) plane x y) (sym same) ∙ shows plane x y inside (in_picture f plane x y inside)
+    in
     sym (bytes_of_picture f out long)
-    ∙ ap bytes_of (only_with (picture_of f out) (λ plane x y. sample_in 0 None (mb_in mbs (mb_of f plane x y)) plane x y) whole (λ plane x y inside. shows plane x y inside (in_picture f plane x y inside)))
+    ∙ ap bytes_of (only_with (picture_of f out) (λ plane x y. sample_in 0 None (mb_in mbs (mb_of f plane x y)) plane x y) (subst (λ (h : Format). IsPicture (picture_of h out)) same whole) each)
+
+pub shown_is : (out bytes shown : List ℕ) → out ≡ bytes → bytes ≡ shown → out ≡ shown
+shown_is out bytes shown same is = same ∙ is
+
+-- ---- what the receiver makes of the sender's packets
+
+-- what taking packets says of them
+abbrev pub Takes : ℕ → List (List ℕ) → Format → Mark → Collector → Picture → Type 0
+Takes number packets g mark new made =
+    (sequence limit : ℕ) (h : Header) (all : List Mb) → h.kind ≡ I → h.format ≡ g → IsHeader h → AreSent h all → limit < 65536 → ArePacketsOf number sequence h limit all packets
+    → (mark ≡ Exact) × IsReady new (number + 1) × ShowsFirst g h.rounding all (mbs_of h.format) made
+
+pub record Shows (f : Format) (number : ℕ) (frame : List ℕ) (mark : Mark) (new : Collector) (made : Picture) : Type 0 where
+  pub exact : mark ≡ Exact
+  pub ready : IsReady new (number + 1)
+  pub all : ShowsFirst f 0 (chosen f frame) (mbs_of f) made
+
+pub shows : (f g : Format) (number sequence : ℕ) (frame : List ℕ) (p : Picture) (params : Params) (packets : List (List ℕ)) (mark : Mark) (new : Collector) (made : Picture)
+    → p ≡ picture_of f frame → params ≡ params_of f → g ≡ f → ArePacketsOf number sequence (header_of f number) 1400 (choices_of p None (header_of f number) params) packets → Takes number packets g mark new made
+    → Shows f number frame mark new made
+shows f g number sequence frame p params packets mark new made is has same sent takes =
+    let h = header_of f number in
+    let all = choices_of (picture_of f frame) None h (params_of f) in
+    let these : ArePacketsOf number sequence h 1400 all packets =
+    subst (λ (x : Params). ArePacketsOf number sequence h 1400 (choices_of (picture_of f frame) None h x) packets) has (subst (λ (q : Picture). ArePacketsOf number sequence h 1400 (choices_of q None h params) packets) is sent) in
+    let t = takes sequence 1400 h all refl (sym same) (header_in_range f number) (choices_sent (picture_of f frame) f number refl) (omega arith) these in
+    record {
+      exact = t.0;
+      ready = t.1;
+      all = subst (λ (mbs : List Mb). ShowsFirst f 0 mbs (mbs_of f) made) (same_choices (picture_of f frame) f number) (subst (λ (x : Format). ShowsFirst x 0 all (mbs_of f) made) same t.2);
+    }
+
+-- as many elements as before in a Vec
+pub as_long : {A : Type 0} {Z : Type 0} (v : Vec A Z) (l : List A) (n : ℕ) → length l ≡ length v.items → length v.items ≡ n → length (with_items v l).items ≡ n
+as_long v l n same is = ap (λ (x : List _). length x) (with_items_is v l (omega (arith, same, v.ok.0))) ∙ same ∙ is

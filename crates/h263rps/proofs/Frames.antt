@@ -1,5 +1,5 @@
 -- How the frames of a video and its first fault go on.
-use Rattle.std.proofs.Common.{◌≡◌, ℕ, zero, suc, ◌+◌, ◌<◌, List, [], ◌∷◌, length, drop, Some, None, Result, Ok, Err, Option, refl, ap, arith}
+use Rattle.std.proofs.Common.{◌≡◌, ℕ, zero, suc, ◌+◌, ◌<◌, List, [], ◌∷◌, length, drop, Some, None, Result, Ok, Err, Option, refl, ap, ◌∙◌, arith}
 use Rattle.h263_types.specs.declared.format.Format.{Format}
 use Rattle.y4m.specs.declared.fault.Y4mFault.{Y4mFault}
 use Rattle.y4m.specs.Frame.{frame_size, next_frame}

@@ -33,9 +33,6 @@ stops_in_pictures bytes old new f = record { pictures = front_at Pictures bytes 
 
 -- a read leaves what was written
 module _ (video : List ℕ) (reader : Y4mReader) (start : Role → Option (List ℕ)) (old new : Outside) (same : new.written ≡ old.written) (p : IsPlaying video reader start old) where
-  f : Format
-  f = reader.format
-
   still : (r : Role) → new.written r ≡ old.written r
   still r = ap (λ (w : Role → Option (List ℕ)). w r) same
 
@@ -48,17 +45,17 @@ module _ (video : List ℕ) (reader : Y4mReader) (start : Role → Option (List 
   }
 
   -- a call with no frame more: all was written
-  stops_with : (found : Option Y4mFault) → frames_of f reader.more reader.at p.rest ≡ [] → fault_of f reader.more reader.at p.rest ≡ found → IsExactly (call_output video) (ended found) start new.written
+  stops_with : (found : Option Y4mFault) → frames_of reader.format reader.more reader.at p.rest ≡ [] → fault_of reader.format reader.more reader.at p.rest ≡ found → IsExactly (call_output video) (ended found) start new.written
   stops_with found none is = record {
     status = ap ended (sym is) ∙ p.ends;
-    pictures = all_gained (call_output video).pictures (start Pictures) (new.written Pictures) (before_stays [] _ _ _ _ (subst (λ (l : List (List ℕ)). Before (frames_text f l) (call_output video).pictures (start Pictures) (old.written Pictures)) none p.pictures) (still Pictures));
+    pictures = all_gained (call_output video).pictures (start Pictures) (new.written Pictures) (before_stays [] _ _ _ _ (subst (λ (l : List (List ℕ)). Before (frames_text reader.format l) (call_output video).pictures (start Pictures) (old.written Pictures)) none p.pictures) (still Pictures));
     wire = all_gained (call_output video).wire (start Wire) (new.written Wire) (before_stays [] _ _ _ _ p.wire (still Wire));
     report = all_gained (call_output video).report (start Report) (new.written Report) (before_stays [] _ _ _ _ p.report (still Report));
   }
 
-  frame_refused : (fault : Y4mFault) → 0 < length p.rest → next_frame reader.more f reader.at p.rest ≡ Err fault → HasEnded video (VideoRefused fault) start new
+  frame_refused : (fault : Y4mFault) → 0 < length p.rest → next_frame reader.more reader.format reader.at p.rest ≡ Err fault → HasEnded video (VideoRefused fault) start new
   frame_refused fault some is = record {
-    gives = stops_with (Some fault) (frames_stop f reader.more reader.at p.rest fault is) (fault_stop f reader.more reader.at p.rest fault some is);
+    gives = stops_with (Some fault) (frames_stop reader.format reader.more reader.at p.rest fault is) (fault_stop reader.format reader.more reader.at p.rest fault some is);
     left = λ fine. absurd (cc fine);
   }
 
@@ -74,55 +71,48 @@ module _ (video : List ℕ) (reader : Y4mReader) (start : Role → Option (List 
   -- the video has ended
   pub frames_end : p.rest ≡ [] → new.left Video ≡ Some [] → HasEnded video Fine start new
   frames_end none left = record {
-    gives = stops_with None (ap (λ (l : List ℕ). frames_of f reader.more reader.at l) none ∙ frames-nil f reader.more reader.at) (ap (λ (l : List ℕ). fault_of f reader.more reader.at l) none ∙ fault-nil f reader.more reader.at);
+    gives = stops_with None (ap (λ (l : List ℕ). frames_of reader.format reader.more reader.at l) none ∙ frames-nil reader.format reader.more reader.at) (ap (λ (l : List ℕ). fault_of reader.format reader.more reader.at l) none ∙ fault-nil reader.format reader.more reader.at);
     left = λ _. left;
   }
 
 -- a frame was read and coded, and its picture is written
-module _ (video : List ℕ) (reader after : Y4mReader) (start : Role → Option (List ℕ)) (old middle new : Outside) (frame : List ℕ) (same : middle.written ≡ old.written) (p : IsPlaying video reader start old) (some : 0 < length p.rest)
-(is : next_frame reader.more reader.format reader.at p.rest ≡ Ok frame) (format : after.format ≡ reader.format) (less : after.more + 1 ≡ reader.more) (at : after.at ≡ reader.at + frame_size reader.format p.rest) where
-  f : Format
-  f = reader.format
-
-  more : List ℕ
-  more = behind f p.rest
-
-  next_text : frames_text f (frames_of f reader.more reader.at p.rest) ≡ shown_text f frame ++ frames_text f (frames_of f after.more (reader.at + frame_size f p.rest) more)
-  next_text = ap (λ (l : List (List ℕ)). frames_text f l) (frames_step f reader.more after.more reader.at p.rest frame less some is)
+module _ (video : List ℕ) (reader after : Y4mReader) (start : Role → Option (List ℕ)) (old middle new : Outside) (frame : List ℕ) (same : middle.written ≡ old.written) (p : IsPlaying video reader start old) (some : 0 < length p.rest) (is : next_frame reader.more reader.format reader.at p.rest ≡ Ok frame) (format : after.format ≡ reader.format) (less : after.more + 1 ≡ reader.more) (at : after.at ≡ reader.at + frame_size reader.format p.rest) where
+  next_text : frames_text reader.format (frames_of reader.format reader.more reader.at p.rest) ≡ shown_text reader.format frame ++ frames_text reader.format (frames_of reader.format after.more (reader.at + frame_size reader.format p.rest) (behind reader.format p.rest))
+  next_text = ap (λ (l : List (List ℕ)). frames_text reader.format l) (frames_step reader.format reader.more after.more reader.at p.rest frame less some is)
 
   at_role : (r : Role) → middle.written r ≡ old.written r
   at_role r = ap (λ (w : Role → Option (List ℕ)). w r) same
 
-  before : Before (shown_text f frame ++ frames_text f (frames_of f after.more (reader.at + frame_size f p.rest) more)) (call_output video).pictures (start Pictures) (middle.written Pictures)
+  before : Before (shown_text reader.format frame ++ frames_text reader.format (frames_of reader.format after.more (reader.at + frame_size reader.format p.rest) (behind reader.format p.rest))) (call_output video).pictures (start Pictures) (middle.written Pictures)
   before = before_stays _ _ _ _ _ (subst (λ (l : List ℕ). Before l (call_output video).pictures (start Pictures) (old.written Pictures)) next_text p.pictures) (at_role Pictures)
 
-  there : frames_text f (frames_of f after.more (reader.at + frame_size f p.rest) more) ≡ frames_text after.format (frames_of after.format after.more after.at more)
-  there = ap (λ (g : Format). frames_text g (frames_of g after.more (reader.at + frame_size f p.rest) more)) (sym format) ∙ ap (λ (k : ℕ). frames_text after.format (frames_of after.format after.more k more)) (sym at)
+  there : frames_text reader.format (frames_of reader.format after.more (reader.at + frame_size reader.format p.rest) (behind reader.format p.rest)) ≡ frames_text after.format (frames_of after.format after.more after.at (behind reader.format p.rest))
+  there = ap (λ (g : Format). frames_text g (frames_of g after.more (reader.at + frame_size reader.format p.rest) (behind reader.format p.rest))) (sym format) ∙ ap (λ (k : ℕ). frames_text after.format (frames_of after.format after.more k (behind reader.format p.rest))) (sym at)
 
-  fault_there : fault_of f after.more (reader.at + frame_size f p.rest) more ≡ fault_of after.format after.more after.at more
-  fault_there = ap (λ (g : Format). fault_of g after.more (reader.at + frame_size f p.rest) more) (sym format) ∙ ap (λ (k : ℕ). fault_of after.format after.more k more) (sym at)
+  fault_there : fault_of reader.format after.more (reader.at + frame_size reader.format p.rest) (behind reader.format p.rest) ≡ fault_of after.format after.more after.at (behind reader.format p.rest)
+  fault_there = ap (λ (g : Format). fault_of g after.more (reader.at + frame_size reader.format p.rest) (behind reader.format p.rest)) (sym format) ∙ ap (λ (k : ℕ). fault_of after.format after.more k (behind reader.format p.rest)) (sym at)
 
-  pub frame_played : GainsPictures (shown_text f frame) middle.written new.written → new.left Video ≡ Some more → IsPlaying video after start new
+  pub frame_played : GainsPictures (shown_text reader.format frame) middle.written new.written → new.left Video ≡ Some (behind reader.format p.rest) → IsPlaying video after start new
   frame_played w left = record {
-    rest = more;
+    rest = behind reader.format p.rest;
     left = left;
-    pictures = subst (λ (l : List ℕ). Before l (call_output video).pictures (start Pictures) (new.written Pictures)) there (part_after (shown_text f frame) _ _ _ _ _ before w.pictures);
+    pictures = subst (λ (l : List ℕ). Before l (call_output video).pictures (start Pictures) (new.written Pictures)) there (part_after (shown_text reader.format frame) _ _ _ _ _ before w.pictures);
     wire = before_stays [] _ _ _ _ p.wire (w.wire ∙ at_role Wire);
     report = before_stays [] _ _ _ _ p.report (w.report ∙ at_role Report);
-    ends = ap ended (sym (fault_step f reader.more after.more reader.at p.rest frame less some is ∙ fault_there)) ∙ p.ends;
+    ends = ap ended (sym (fault_step reader.format reader.more after.more reader.at p.rest frame less some is ∙ fault_there)) ∙ p.ends;
   }
 
-  frame_cut : StopsInPictures (shown_text f frame) middle.written new.written → HasEnded video WriteFault start new
+  frame_cut : StopsInPictures (shown_text reader.format frame) middle.written new.written → HasEnded video WriteFault start new
   frame_cut w = record {
     gives = record {
-      pictures = front_after (shown_text f frame) _ _ _ _ _ before w.pictures;
+      pictures = front_after (shown_text reader.format frame) _ _ _ _ _ before w.pictures;
       wire = front_so_far _ _ _ _ (before_stays [] _ _ _ _ p.wire (w.wire ∙ at_role Wire));
       report = front_so_far _ _ _ _ (before_stays [] _ _ _ _ p.report (w.report ∙ at_role Report));
     };
     left = λ fine. absurd (cc fine);
   }
 
-  pub frame_stopped : (r : Result Bool Status) (s : Status) → IsErrAnd r (λ x. x ≡ s) → s ≡ WriteFault → StopsInPictures (shown_text f frame) middle.written new.written → FramePlays r video after start new
+  pub frame_stopped : (r : Result Bool Status) (s : Status) → IsErrAnd r (λ x. x ≡ s) → s ≡ WriteFault → StopsInPictures (shown_text reader.format frame) middle.written new.written → FramePlays r video after start new
   frame_stopped (Ok b) s gave is_write w = absurd gave
   frame_stopped (Err x) s gave is_write w = subst (λ (s : Status). HasEnded video s start new) (sym (gave ∙ is_write)) (frame_cut w)
 
@@ -145,17 +135,13 @@ nothing_cut out old new same = record {
 }
 
 -- the head
-module _ (video : List ℕ) (f : Format) (is : head_of video ≡ Ok f) where
-  body : List ℕ
-  body = drop (head_size video) video
+whole_text : (video : List ℕ) (f : Format) → head_of video ≡ Ok f → head_text f ++ frames_text f (frames_of f 1048576 (head_size video) (drop (head_size video) video)) ≡ (call_output video).pictures
+unfolding call_output video_frames
+whole_text video f is = sym (ap (λ (h : Result Format Y4mFault). pictures_text h (frames_behind h (head_size video) (drop (head_size video) video))) is)
 
-  whole_text : head_text f ++ frames_text f (frames_of f 1048576 (head_size video) body) ≡ (call_output video).pictures
-  unfolding call_output video_frames
-  whole_text = sym (ap (λ (h : Result Format Y4mFault). pictures_text h (frames_behind h (head_size video) body)) is)
-
-  whole_ends : ended (fault_of f 1048576 (head_size video) body) ≡ (call_output video).status
-  unfolding call_output video_fault
-  whole_ends = sym (ap (λ (h : Result Format Y4mFault). ended (fault_behind h (head_size video) body)) is)
+whole_ends : (video : List ℕ) (f : Format) → head_of video ≡ Ok f → ended (fault_of f 1048576 (head_size video) (drop (head_size video) video)) ≡ (call_output video).status
+unfolding call_output video_fault
+whole_ends video f is = sym (ap (λ (h : Result Format Y4mFault). ended (fault_behind h (head_size video) (drop (head_size video) video))) is)
 
 call_wire : (video : List ℕ) → [] ≡ (call_output video).wire
 unfolding call_output

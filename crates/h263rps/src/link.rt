@@ -1,7 +1,6 @@
 //! Both ends of a call, and the way between them: a frame becomes packets, and their bytes a picture.
-ghost use Rattle.std.specs.Prelude.{◌≡◌, ◌<◌, ℕ, length, IfOk};
+ghost use Rattle.std.specs.Prelude.{◌≡◌, ◌+◌, ◌<◌, length, IfOk};
 ghost use Rattle.h263_types.specs.declared.Mark.TheVariants.{Exact};
-ghost use Rattle.h263_types.specs.declared.format.Format.{Format};
 ghost use Rattle.h263_types.specs.Sizes.{size_of_picture};
 ghost use Rattle.h263_planes.specs.Samples.{bytes_of};
 ghost use Rattle.h263rps.specs.Coded.{coded};

@@ -1,48 +1,44 @@
-use Rattle.std.proofs.Common.{ap, ◌∙◌, List, ℕ, Option}
+use Rattle.std.proofs.Common.{ap, subst, ◌∙◌, ℕ, List, Option}
 use Rattle.h263_outside.specs.declared.desk.Role.{Role}
 use Rattle.h263_outside.specs.declared.desk.Role.TheVariants.{Video}
-use Rattle.h263rps.proofs.Plays.{head_stops, no_memory, head_stopped, head_played, cause_since, write_cause, falls_none}
+use Rattle.h263_types.specs.declared.format.Format.{Format}
+use Rattle.y4m.specs.Text.{head_text}
+use Rattle.h263rps.specs.Play.{GainsPictures, StopsInPictures}
+use Rattle.h263rps.proofs.Plays.{head_stops, no_memory, head_stopped, head_played}
 use Rattle.h263rps.proofs.call.play.Goals as goal
 
-pub returns-in_err-read_head-clause-plays : goal.returns-in_err-read_head-clause-plays
-returns-in_err-read_head-clause-plays g c = λ video told.
+pub returns-in_err-reader-clause-plays : goal.returns-in_err-reader-clause-plays
+returns-in_err-reader-clause-plays g c = λ video told.
     let outside = g.D.Desk.outside in
-    head_stops video (outside c.args.desk.now) (outside c.read_head.new.desk) c.read_head.ensures.rest.written c.from_residual.result c.in_err-read_head.field-0.0 c.from_residual.ensures.1 (c.in_err-read_head.ensures.gives video told)
+    head_stops video (outside c.args.desk.now) (outside c.head.new.desk) c.head.ensures.rest.written c.from_residual.result c.in_err-reader.field-0.0 c.from_residual.ensures.1 (c.in_err-reader.ensures.gives video told)
 
-pub returns-in_err-coder-clause-plays : goal.returns-in_err-coder-clause-plays
-returns-in_err-coder-clause-plays g c = λ video told.
+pub returns-in_err-link-clause-plays : goal.returns-in_err-link-clause-plays
+returns-in_err-link-clause-plays g c = λ video told.
     let outside = g.D.Desk.outside in
-    no_memory video (outside c.args.desk.now) (outside c.read_head.new.desk) c.read_head.ensures.rest.written c.from_residual-in_err-coder.result c.from_residual-in_err-coder.ensures.1
+    no_memory video (outside c.args.desk.now) (outside c.head.new.desk) c.head.ensures.rest.written c.from_residual-in_err-link.result c.from_residual-in_err-link.ensures.1
 
 pub returns-in_err-frame-clause-plays : goal.returns-in_err-frame-clause-plays
 returns-in_err-frame-clause-plays g c = λ video told.
     let outside = g.D.Desk.outside in
-    no_memory video (outside c.args.desk.now) (outside c.read_head.new.desk) c.read_head.ensures.rest.written c.from_residual-in_err-frame.result c.from_residual-in_err-frame.ensures.1
+    no_memory video (outside c.args.desk.now) (outside c.head.new.desk) c.head.ensures.rest.written c.from_residual-in_err-frame.result c.from_residual-in_err-frame.ensures.1
 
 pub returns-in_err-picture-clause-plays : goal.returns-in_err-picture-clause-plays
 returns-in_err-picture-clause-plays g c = λ video told.
     let outside = g.D.Desk.outside in
-    no_memory video (outside c.args.desk.now) (outside c.read_head.new.desk) c.read_head.ensures.rest.written c.from_residual-in_err-picture.result c.from_residual-in_err-picture.ensures.1
+    no_memory video (outside c.args.desk.now) (outside c.head.new.desk) c.head.ensures.rest.written c.from_residual-in_err-picture.result c.from_residual-in_err-picture.ensures.1
 
-pub returns-in_err-write-clause-plays : goal.returns-in_err-write-clause-plays
-returns-in_err-write-clause-plays g c = λ video told.
+pub returns-in_err-open-clause-plays : goal.returns-in_err-open-clause-plays
+returns-in_err-open-clause-plays g c = λ video told.
     let outside = g.D.Desk.outside in
-    let h = c.in_ok-read_head.ensures.gives video told in
-    head_stopped video (outside c.args.desk.now) (outside c.read_head.new.desk) (outside c.write.new.desk) c.read_head.ensures.rest.written h.0 c.from_residual-in_err-write.result c.in_err-write.field-0.0 c.from_residual-in_err-write.ensures.1 c.in_err-write.ensures.kind c.in_err-write.ensures.err
-
-pub returns-in_err-write-clause-cause : goal.returns-in_err-write-clause-cause
-returns-in_err-write-clause-cause g c =
-    let outside = g.D.Desk.outside in
-    write_cause c.from_residual-in_err-write.result c.in_err-write.field-0.0 (outside c.args.desk.now).faults (outside c.read_head.new.desk).faults (outside c.write.new.desk).faults c.from_residual-in_err-write.ensures.1 c.in_err-write.ensures.kind c.read_head.ensures.rest.faults c.in_err-write.ensures.cause
+    let h = c.in_ok-reader.ensures.gives video told in
+    head_stopped video c.in_ok-reader.reader (outside c.args.desk.now) (outside c.head.new.desk) (outside c.open.new.desk) c.head.ensures.rest.written h.0 c.from_residual-in_err-open.result c.in_err-open.field-0.0 c.from_residual-in_err-open.ensures.1 c.in_err-open.ensures.kind
+    (subst (λ (f : Format). StopsInPictures (head_text f) (outside c.head.new.desk).written (outside c.open.new.desk).written) c.format-format.ensures c.in_err-open.ensures.err)
 
 pub returns-clause-plays : goal.returns-clause-plays
 returns-clause-plays g c = λ video told.
     let outside = g.D.Desk.outside in
-    let h = c.in_ok-read_head.ensures.gives video told in
+    let h = c.in_ok-reader.ensures.gives video told in
     c.play_frames.ensures.plays video (outside c.args.desk.now).written
-    (head_played video (outside c.args.desk.now) (outside c.read_head.new.desk) (outside c.write.new.desk) c.read_head.ensures.rest.written h.0 c.in_ok-write.ensures.ok (ap (λ (l : Role → Option (List ℕ)). l Video) c.write.ensures.rest.left ∙ h.1))
-
-pub returns-clause-cause : goal.returns-clause-cause
-returns-clause-cause g c =
-    let outside = g.D.Desk.outside in
-    cause_since _ (outside c.args.desk.now).faults (outside c.write.new.desk).faults (outside c.play_frames.new.desk).faults (falls_none _ _ _ c.read_head.ensures.rest.faults c.write.ensures.rest.faults) c.play_frames.ensures.cause
+    (head_played video c.in_ok-reader.reader (outside c.args.desk.now) (outside c.head.new.desk) (outside c.open.new.desk) c.head.ensures.rest.written h.0 h.1 c.in_ok-reader.ensures.more
+    (subst (λ (f : Format). GainsPictures (head_text f) (outside c.head.new.desk).written (outside c.open.new.desk).written) c.format-format.ensures c.in_ok-open.ensures.ok)
+    (ap (λ (l : Role → Option (List ℕ)). l Video) c.open.ensures.rest.left ∙ h.2))
