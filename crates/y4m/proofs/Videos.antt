@@ -56,7 +56,7 @@ both_none : (a b : Option Y4mFault) → or_else a b ≡ None → (a ≡ None) ×
 both_none None b none = (refl, none)
 both_none (Some x) b none = absurd (cc none)
 
-tags_accepted : (tags : List Tag) → tags_fault tags ≡ None → All Accepted tags
+pub tags_accepted : (tags : List Tag) → tags_fault tags ≡ None → All Accepted tags
 tags_accepted [] none = All-nil Accepted
 tags_accepted (tag ∷ tags) none =
     let parts = both_none (tag_fault tag) (tags_fault tags) none in
@@ -190,8 +190,8 @@ frame_text f at rest planes is =
     let n = length (frame_line rest) in
     let there = planes_parts f at n rest planes (frame_parts f at rest planes is).1 in
     let behind : drop n rest ≡ planes ++ drop (frame_size f rest) rest =
-        sym (take-append-drop (size_of_picture f) (drop n rest))
-        ∙ (λ j. sym there.1 j ++ drop-drop (size_of_picture f) n rest j) in
+    sym (take-append-drop (size_of_picture f) (drop n rest))
+    ∙ (λ j. sym there.1 j ++ drop-drop (size_of_picture f) n rest j) in
     line_front 257 rest ∙ ap (λ (l : List ℕ). frame_line rest ++ l) behind ∙ sym (append_assoc (frame_line rest) planes (drop (frame_size f rest) rest))
 
 module _ (f : Format) (at : ℕ) (x : Frame) (more : List ℕ) (is : IsFrame f x) where
@@ -327,8 +327,7 @@ frames_by_head head video is = ap (λ (h : Result Format Y4mFault). frames_behin
 accepted_with : (head : Result Format Y4mFault) (video : List ℕ) → head_of video ≡ head → video_fault video ≡ None → (f : Format) × IsVideo video f (video_frames video)
 accepted_with (Err fault) video is none = absurd (cc (sym (by_head (Err fault) video is) ∙ none))
 accepted_with (Ok f) video is none =
-    let w = frames_whole f 1048576 (head_size video) (drop (head_size video) video) (sym (by_head (Ok f) video is) ∙ none) in
-    (
+    let w = frames_whole f 1048576 (head_size video) (drop (head_size video) video) (sym (by_head (Ok f) video is) ∙ none) in (
       f,
       record {
         head = head_line video;
@@ -338,7 +337,7 @@ accepted_with (Ok f) video is none =
         of_frames = w.of_frames;
         of_planes = frames_by_head (Ok f) video is ∙ w.of_planes;
         count = w.count;
-      }
+      },
     )
 
 pub accepted : (video : List ℕ) → video_fault video ≡ None → (f : Format) × IsVideo video f (video_frames video)
