@@ -6,8 +6,7 @@ use Rattle.std.proofs.lemmas.List.Elements.{All-nil, All-cons, All-head, All-tai
 use Rattle.h263_types.specs.declared.format.Format.{Format}
 use Rattle.h263_types.specs.Sizes.{size_of_picture}
 use Rattle.y4m.specs.declared.fault.Y4mFault.TheVariants.{NotY4m, ShortFrame}
-use Rattle.y4m.specs.Line.{agreement, through_newline, is_whole}
-use Rattle.y4m.specs.Spelled.{NoNewline}
+use Rattle.y4m.specs.Line.{NoNewline, agreement, through_newline, is_whole}
 use Rattle.y4m.specs.Frame.{frame_line, line_stop, stop_fault, planes_of, frame_behind, frame_of}
 use Rattle.y4m.proofs.Spelling.{last_cons, through_other, other_heads, same_heads_as}
 use Rattle.y4m.proofs.Videos.{free}

@@ -5,8 +5,8 @@ use Rattle.std.proofs.lemmas.Bool.Decides.{nat_tests}
 use Rattle.std.proofs.lemmas.List.Elements.{All-nil, All-cons, All-head, All-tail, All-append, All-drop}
 use Rattle.std.proofs.Math.Seq.{take-append_seam, get_or-append_seam}
 use Rattle.std.proofs.lemmas.List.{take-append-le, get_or-append-add}
-use Rattle.y4m.specs.Line.{is_gap, agreement, through_newline, line_within, is_whole}
-use Rattle.y4m.specs.Spelled.{StandsApart, NoNewline, IsLine}
+use Rattle.y4m.specs.Line.{NoNewline, is_gap, agreement, through_newline, line_within, is_whole}
+use Rattle.y4m.specs.Spelled.{StandsApart, IsLine}
 
 abbrev Other : ℕ → Type 0
 Other b = b ≢ 10

@@ -1,18 +1,15 @@
 -- What a video is, as a text that is put together: a line of a head, then frames, each a line and planes.
-use Rattle.std.specs.Prelude.{ℕ, zero, suc, ◌≡◌, ◌≢◌, ◌<◌, ◌≤◌, false, List, [], ◌∷◌, ◌++◌, length, map, All, codes, Some, None}
+use Rattle.std.specs.Prelude.{ℕ, zero, suc, ◌≡◌, ◌<◌, ◌≤◌, false, List, [], ◌∷◌, ◌++◌, length, map, All, codes, Some, None}
 use Rattle.std.specs.List.{flat_map}
 use Rattle.h263_types.specs.declared.format.Format.{Format}
 use Rattle.h263_types.specs.Sizes.{size_of_picture}
-use Rattle.y4m.specs.Line.{is_gap, tags_of}
+use Rattle.y4m.specs.Line.{NoNewline, is_gap, tags_of}
 use Rattle.y4m.specs.Head.{tag_fault, format_in}
 
 -- nothing, or something that a space stands before
 abbrev pub StandsApart : List ℕ → Type 0
 StandsApart [] = Unit {0}
 StandsApart (b ∷ tail) = b ≡ 32
-
-abbrev pub NoNewline : List ℕ → Type 0
-NoNewline bytes = All (λ b. b ≢ 10) bytes
 
 -- a whole line: a word, nothing or a space with anything behind it, and a newline; 256 bytes at most
 pub record IsLine (word line : List ℕ) : Type 0 where

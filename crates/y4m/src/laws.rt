@@ -1,14 +1,14 @@
 //! What ties the faults and frames of a text to the videos that are spelled. Each law is the contract of a function
 //! that does nothing.
-ghost use Rattle.std.specs.Prelude.{◌≡◌, ◌≤◌, ◌++◌, ◌+◌, ◌∷◌, [], ℕ, List, length, map, All, None, Ok, Err};
+ghost use Rattle.std.specs.Prelude.{◌≡◌, ◌≤◌, ◌++◌, ◌+◌, ◌∷◌, [], ℕ, List, length, take, map, All, None, Ok, Err};
 ghost use Rattle.std.specs.List.{flat_map};
 ghost use Rattle.h263_types.specs.declared.format.Format.{Format};
 ghost use Rattle.h263_types.specs.declared.Mark.{Mark};
 ghost use Rattle.h263_planes.specs.Picture.{Picture};
 ghost use Rattle.h263_planes.specs.Samples.{IsPicture, bytes_of};
-ghost use Rattle.y4m.specs.Head.{head_of};
+ghost use Rattle.y4m.specs.Head.{head_of, head_size};
 ghost use Rattle.y4m.specs.Video.{video_fault, video_frames};
-ghost use Rattle.y4m.specs.Frame.{frame_of};
+ghost use Rattle.y4m.specs.Frame.{frame_of, frame_size};
 ghost use Rattle.y4m.specs.Line.{tags_of};
 ghost use Rattle.y4m.specs.Spelled.{IsVideo, Word, IsWord, spaced};
 ghost use Rattle.y4m.specs.declared.fault.Y4mFault.TheVariants.{ShortFrame};
@@ -43,4 +43,10 @@ pub fn tags_are_words()
 /// A frame that is cut short has its fault where the input ends.
 pub fn short_at_the_end()
     ensures { (f : Format) (at place : ℕ) (rest : List ℕ) → frame_of f at rest ≡ Err (ShortFrame place) → place ≡ at + length rest }
+{}
+
+/// A whole head or frame stays what it is where the text behind it is cut.
+pub fn cut_behind()
+    ensures head { (video : List ℕ) (f : Format) (k : ℕ) → head_of video ≡ Ok f → head_size video ≤ k → (head_of (take k video) ≡ Ok f) × (head_size (take k video) ≡ head_size video) }
+    ensures frame { (f : Format) (at k : ℕ) (rest planes : List ℕ) → frame_of f at rest ≡ Ok planes → frame_size f rest ≤ k → (frame_of f at (take k rest) ≡ Ok planes) × (frame_size f (take k rest) ≡ frame_size f rest) }
 {}

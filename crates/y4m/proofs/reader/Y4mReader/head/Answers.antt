@@ -1,5 +1,6 @@
 use Rattle.std.proofs.Common.{◌≡◌, ℕ, List, length, drop, Some, sym, ap, ◌∙◌, arith, length-take}
 use Rattle.y4m.specs.Head.{format_of_line, head_size}
+use Rattle.y4m.proofs.Readers.{head_stopped}
 use Rattle.y4m.proofs.reader.Y4mReader.head.Goals as goal
 
 pub returns-in-Ok-clause-gives : goal.returns-in-Ok-clause-gives
@@ -13,3 +14,7 @@ pub returns-in-Err-clause-gives : goal.returns-in-Err-clause-gives
 returns-in-Err-clause-gives g c = λ video told.
     let h = c.in_ok-len.ensures.told video told in
     ap format_of_line (sym h.0) ∙ sym c.in-Err.ensures
+
+pub returns-in_err-len-clause-gives : goal.returns-in_err-len-clause-gives
+returns-in_err-len-clause-gives g c = λ video told.
+    head_stopped video _ c.from_residual.result c.in_err-len.field-0.0 c.from_residual.ensures.1 c.in_err-len.ensures.err (c.in_err-len.ensures.cut video told)
