@@ -7,6 +7,7 @@ use Rattle.y4m.specs.declared.fault.Y4mFault.TheVariants.{ShortFrame}
 use Rattle.y4m.specs.declared.fault.VideoStop.{VideoStop}
 use Rattle.y4m.specs.declared.fault.VideoStop.TheVariants.{Read, Refused}
 use Rattle.y4m.specs.declared.reader.Y4mReader.{Y4mReader}
+use Rattle.y4m.specs.Head.{head_of}
 use Rattle.y4m.specs.Frame.{frame_line, line_stop, frame_of, next_frame}
 use Rattle.y4m.specs.Planes.{PlanesGive, IsCut}
 use Rattle.y4m.specs.Reader.{HeadGives, FrameGives}
@@ -22,6 +23,13 @@ pub frame_stopped : (old new : Y4mReader) (rest out : List ℕ) (left : Option (
 frame_stopped old new rest out left r stop is read cut =
     subst (λ (r : Result Bool VideoStop). FrameGives r old rest out new left) (sym (err_is r stop is ∙ ap (λ (s : VideoStop). Err s) read))
     (cut.taken, cut.gone, frame_cut old.format old.at (take cut.taken rest) cut.free)
+
+-- the video has a fault
+pub head_refused : (video : List ℕ) (left : Option (List ℕ)) (r : Result Y4mReader VideoStop) (fault : Y4mFault) → IsErrAnd r (λ x. x ≡ Refused fault) → head_of video ≡ Err fault → HeadGives r video left
+head_refused video left r fault is found = subst (λ (r : Result Y4mReader VideoStop). HeadGives r video left) (sym (err_is r (Refused fault) is)) found
+
+pub frame_refused : (old new : Y4mReader) (rest out : List ℕ) (left : Option (List ℕ)) (r : Result Bool VideoStop) (fault : Y4mFault) → IsErrAnd r (λ x. x ≡ Refused fault) → 0 < length rest → next_frame old.more old.format old.at rest ≡ Err fault → FrameGives r old rest out new left
+frame_refused old new rest out left r fault is some found = subst (λ (r : Result Bool VideoStop). FrameGives r old rest out new left) (sym (err_is r (Refused fault) is)) (some, found)
 
 -- the planes were short, which is what the frame says, or a read failed within them; n bytes of the rest are the line
 module _ (old new : Y4mReader) (rest out : List ℕ) (n at : ℕ) (left : Option (List ℕ)) (some : 0 < length rest) (size : length out ≡ size_of_picture old.format) (line : n ≡ length (frame_line rest)) (whole : line_stop (frame_line rest) ≡ None) (short : length (drop n rest) < length out → next_frame old.more old.format old.at rest ≡ Err (ShortFrame (at + length (drop n rest)))) where
