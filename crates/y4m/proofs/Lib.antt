@@ -1,10 +1,14 @@
+pub mod Cuts
 pub mod Frames
 pub mod Heads
 pub mod Inputs
 pub mod Lines
+pub mod Places
 pub mod Readers
 pub mod Results
 pub mod Spelling
 pub mod Tags
 pub mod Videos
+pub mod Words
 pub mod Writes
+pub mod Written

@@ -5,13 +5,13 @@ use Rattle.std.proofs.lemmas.Bool.Decides.{nat_tests}
 use Rattle.std.proofs.lemmas.List.Elements.{All-nil, All-cons, All-head, All-tail, All-append, All-drop}
 use Rattle.std.proofs.Math.Seq.{take-append_seam, get_or-append_seam}
 use Rattle.std.proofs.lemmas.List.{take-append-le, get_or-append-add}
-use Rattle.y4m.specs.Line.{is_gap, agreement, through_newline, line_within, is_whole}
-use Rattle.y4m.specs.Spelled.{StandsApart, NoNewline, IsLine}
+use Rattle.y4m.specs.Line.{NoNewline, is_gap, agreement, through_newline, line_within, is_whole}
+use Rattle.y4m.specs.Spelled.{StandsApart, IsLine}
 
 abbrev Other : ℕ → Type 0
 Other b = b ≢ 10
 
-through_other : (b : ℕ) (bytes : List ℕ) → b ≢ 10 → through_newline (b ∷ bytes) ≡ b ∷ through_newline bytes
+pub through_other : (b : ℕ) (bytes : List ℕ) → b ≢ 10 → through_newline (b ∷ bytes) ≡ b ∷ through_newline bytes
 through_other b bytes other = grind (arith, nat_tests)
 
 -- the line is found
@@ -77,7 +77,7 @@ pub record Ended (line : List ℕ) : Type 0 where
   pub text : line ≡ front ++ 10 ∷ []
   pub one : NoNewline front
 
-last_cons : (b : ℕ) (ys : List ℕ) → 0 < length ys → get_or (b ∷ ys) (length (b ∷ ys) - 1) 0 ≡ get_or ys (length ys - 1) 0
+pub last_cons : (b : ℕ) (ys : List ℕ) → 0 < length ys → get_or (b ∷ ys) (length (b ∷ ys) - 1) 0 ≡ get_or ys (length ys - 1) 0
 last_cons b [] some = absurd (omega arith)
 last_cons b (y ∷ ys) some =
     let one : suc (suc (length ys)) - 1 ≡ suc (length ys) = omega arith in
@@ -115,10 +115,10 @@ whole_short n b is = grind (arith, nat_tests)
 whole_ends : (n b : ℕ) → (nat_le n 256 && b == 10) ≡ true → b ≡ 10
 whole_ends n b is = grind (arith, nat_tests)
 
-other_heads : (a b : ℕ) (word line : List ℕ) → (a ≡ b → ⊥) → agreement (a ∷ word) (b ∷ line) ≡ 0
+pub other_heads : (a b : ℕ) (word line : List ℕ) → (a ≡ b → ⊥) → agreement (a ∷ word) (b ∷ line) ≡ 0
 other_heads a b word line other = grind (arith, nat_tests)
 
-same_heads_as : (a b : ℕ) (word line : List ℕ) → a ≡ b → agreement (a ∷ word) (b ∷ line) ≡ suc (agreement word line)
+pub same_heads_as : (a b : ℕ) (word line : List ℕ) → a ≡ b → agreement (a ∷ word) (b ∷ line) ≡ suc (agreement word line)
 same_heads_as a b word line same = grind (arith, nat_tests)
 
 begins : (word line : List ℕ) → length word < agreement word line → line ≡ word ++ drop (length word) line
@@ -159,15 +159,15 @@ line_is n word bytes agrees whole =
     let tail = drop (length word) e.front in
     let le : length word ≤ length e.front = omega (arith, gap.0, size) in
     let front : take (length word) e.front ≡ word =
-        sym (take-append-le (length word) e.front (10 ∷ []) le)
-        ∙ ap (λ (l : List ℕ). take (length word) l) (sym e.text ∙ begins word line agrees)
-        ∙ take-append_seam word (drop (length word) line) in
+    sym (take-append-le (length word) e.front (10 ∷ []) le)
+    ∙ ap (λ (l : List ℕ). take (length word) l) (sym e.text ∙ begins word line agrees)
+    ∙ take-append_seam word (drop (length word) line) in
     let text : line ≡ (word ++ tail) ++ 10 ∷ [] =
-        e.text ∙ ap (λ (l : List ℕ). l ++ 10 ∷ []) (sym (take-append-drop (length word) e.front) ∙ ap (λ (l : List ℕ). l ++ tail) front) in
+    e.text ∙ ap (λ (l : List ℕ). l ++ 10 ∷ []) (sym (take-append-drop (length word) e.front) ∙ ap (λ (l : List ℕ). l ++ tail) front) in
     let there : get_or line (length word) 0 ≡ get_or (tail ++ 10 ∷ []) 0 0 =
-        ap (λ (l : List ℕ). get_or l (length word) 0) (text ∙ append_assoc word tail (10 ∷ []))
-        ∙ ap (λ (k : ℕ). get_or (word ++ (tail ++ 10 ∷ [])) k 0) (add-zero (length word))
-        ∙ get_or-append-add word (tail ++ 10 ∷ []) 0 0 in
+    ap (λ (l : List ℕ). get_or l (length word) 0) (text ∙ append_assoc word tail (10 ∷ []))
+    ∙ ap (λ (k : ℕ). get_or (word ++ (tail ++ 10 ∷ [])) k 0) (add-zero (length word))
+    ∙ get_or-append-add word (tail ++ 10 ∷ []) 0 0 in
     let one : NoNewline tail = All-drop Other (length word) e.front e.one in
     record {
       tail = tail;

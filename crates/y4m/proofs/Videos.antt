@@ -10,11 +10,11 @@ use Rattle.h263_types.specs.declared.format.Format.{Format}
 use Rattle.h263_types.specs.Sizes.{size_of_picture}
 use Rattle.y4m.specs.declared.fault.Y4mFault.{Y4mFault}
 use Rattle.y4m.specs.declared.fault.Y4mFault.TheVariants.{NotY4m, ShortFrame}
-use Rattle.y4m.specs.Line.{Tag, agreement, is_whole, tags_of}
+use Rattle.y4m.specs.Line.{NoNewline, Tag, agreement, is_whole, tags_of}
 use Rattle.y4m.specs.Head.{or_else, tag_fault, tags_fault, format_in, sized, unless, format_of_line, head_line, head_size, head_of}
 use Rattle.y4m.specs.Frame.{frame_line, frame_size, line_stop, planes_of, frame_behind, frame_of}
 use Rattle.y4m.specs.Video.{frames_from, fault_from, frames_of, fault_of, fault_behind, frames_behind, video_fault, video_frames}
-use Rattle.y4m.specs.Spelled.{NoNewline, IsLine, IsHead, Frame, IsFrame, IsVideo}
+use Rattle.y4m.specs.Spelled.{IsLine, IsHead, Frame, IsFrame, IsVideo}
 use Rattle.y4m.proofs.Frames.{planes_there, size_is}
 use Rattle.y4m.proofs.Heads.{whole_head}
 use Rattle.y4m.proofs.Spelling.{line_found, line_agrees, line_whole, line_front, line_is}
@@ -23,7 +23,7 @@ abbrev Other : ℕ → Type 0
 Other b = b ≢ 10
 
 -- a text without a newline, by looking
-abbrev is_free : List ℕ → Bool
+abbrev pub is_free : List ℕ → Bool
 is_free [] = true
 is_free (b ∷ bytes) = cond (b == 10) false (is_free bytes)
 
@@ -56,7 +56,7 @@ both_none : (a b : Option Y4mFault) → or_else a b ≡ None → (a ≡ None) ×
 both_none None b none = (refl, none)
 both_none (Some x) b none = absurd (cc none)
 
-tags_accepted : (tags : List Tag) → tags_fault tags ≡ None → All Accepted tags
+pub tags_accepted : (tags : List Tag) → tags_fault tags ≡ None → All Accepted tags
 tags_accepted [] none = All-nil Accepted
 tags_accepted (tag ∷ tags) none =
     let parts = both_none (tag_fault tag) (tags_fault tags) none in
@@ -68,7 +68,7 @@ no_fault (tag ∷ tags) all =
     ap (λ (o : Option Y4mFault). or_else o (tags_fault tags)) (All-head Accepted tag tags all) ∙ no_fault tags (All-tail Accepted tag tags all)
 
 -- the head
-head_found : (line more : List ℕ) (f : Format) → IsHead line f → head_of (line ++ more) ≡ Ok f
+pub head_found : (line more : List ℕ) (f : Format) → IsHead line f → head_of (line ++ more) ≡ Ok f
 head_found line more f h =
     let word = codes "YUV4MPEG2" in
     let agrees : 10 ≡ agreement word line = sym (line_agrees word line h.spelled) in
@@ -139,14 +139,14 @@ stop_parts k size whole is = elim (cases_lt k 6) [
     by_whole true is = refl
     by_whole false is = absurd (cc is)
 
-line_stops : (line : List ℕ) → line_stop line ≡ None → (5 < agreement (codes "FRAME") line) × (is_whole line ≡ true)
+pub line_stops : (line : List ℕ) → line_stop line ≡ None → (5 < agreement (codes "FRAME") line) × (is_whole line ≡ true)
 line_stops line is = stop_parts (agreement (codes "FRAME") line) (min (length line) 256) (is_whole line) is
 
 line_goes_on : (line : List ℕ) → IsLine (codes "FRAME") line → line_stop line ≡ None
 line_goes_on line l =
     stop_found (agreement (codes "FRAME") line) (min (length line) 256) (is_whole line) (omega (arith, line_agrees (codes "FRAME") line l)) (line_whole (codes "FRAME") line l)
 
-planes_parts : (f : Format) (at n : ℕ) (rest planes : List ℕ) → planes_of f at n rest ≡ Ok planes → (n + size_of_picture f ≤ length rest) × (planes ≡ take (size_of_picture f) (drop n rest))
+pub planes_parts : (f : Format) (at n : ℕ) (rest planes : List ℕ) → planes_of f at n rest ≡ Ok planes → (n + size_of_picture f ≤ length rest) × (planes ≡ take (size_of_picture f) (drop n rest))
 planes_parts f at n rest planes is = elim (cases_lt (length rest) (n + size_of_picture f)) [
   | inl lt ↦ absurd (short (test (length rest) (n + size_of_picture f) lt))
   | inr le ↦ (le, long (above (length rest) (n + size_of_picture f) le))
@@ -171,11 +171,11 @@ behind_parts : (stop : Option ℕ) (f : Format) (at n : ℕ) (rest planes : List
 behind_parts None f at n rest planes is = (refl, is)
 behind_parts (Some stop) f at n rest planes is = absurd (cc is)
 
-frame_parts : (f : Format) (at : ℕ) (rest planes : List ℕ) → frame_of f at rest ≡ Ok planes → (line_stop (frame_line rest) ≡ None) × (planes_of f at (length (frame_line rest)) rest ≡ Ok planes)
+pub frame_parts : (f : Format) (at : ℕ) (rest planes : List ℕ) → frame_of f at rest ≡ Ok planes → (line_stop (frame_line rest) ≡ None) × (planes_of f at (length (frame_line rest)) rest ≡ Ok planes)
 unfolding frame_of
 frame_parts f at rest planes is = behind_parts (line_stop (frame_line rest)) f at (length (frame_line rest)) rest planes is
 
-frame_is : (f : Format) (at : ℕ) (rest planes : List ℕ) → frame_of f at rest ≡ Ok planes → IsFrame f (record { line = frame_line rest; planes = planes })
+pub frame_is : (f : Format) (at : ℕ) (rest planes : List ℕ) → frame_of f at rest ≡ Ok planes → IsFrame f (record { line = frame_line rest; planes = planes })
 frame_is f at rest planes is =
     let parts = frame_parts f at rest planes is in
     let line = line_stops (frame_line rest) parts.0 in
@@ -185,20 +185,20 @@ frame_is f at rest planes is =
       size = ap (λ (l : List ℕ). length l) there.1 ∙ (omega (arith, length-take (size_of_picture f) (drop (length (frame_line rest)) rest), length-drop (length (frame_line rest)) rest, there.0));
     }
 
-frame_text : (f : Format) (at : ℕ) (rest planes : List ℕ) → frame_of f at rest ≡ Ok planes → rest ≡ (frame_line rest ++ planes) ++ drop (frame_size f rest) rest
+pub frame_text : (f : Format) (at : ℕ) (rest planes : List ℕ) → frame_of f at rest ≡ Ok planes → rest ≡ (frame_line rest ++ planes) ++ drop (frame_size f rest) rest
 frame_text f at rest planes is =
     let n = length (frame_line rest) in
     let there = planes_parts f at n rest planes (frame_parts f at rest planes is).1 in
     let behind : drop n rest ≡ planes ++ drop (frame_size f rest) rest =
-        sym (take-append-drop (size_of_picture f) (drop n rest))
-        ∙ (λ j. sym there.1 j ++ drop-drop (size_of_picture f) n rest j) in
+    sym (take-append-drop (size_of_picture f) (drop n rest))
+    ∙ (λ j. sym there.1 j ++ drop-drop (size_of_picture f) n rest j) in
     line_front 257 rest ∙ ap (λ (l : List ℕ). frame_line rest ++ l) behind ∙ sym (append_assoc (frame_line rest) planes (drop (frame_size f rest) rest))
 
 module _ (f : Format) (at : ℕ) (x : Frame) (more : List ℕ) (is : IsFrame f x) where
   abbrev rest : List ℕ
   rest = (x.line ++ x.planes) ++ more
 
-  line_there : x.line ≡ frame_line rest
+  pub line_there : x.line ≡ frame_line rest
   line_there =
       let short : length x.line ≤ 257 = omega (arith, is.spelled.short) in
       sym (ap (λ (l : List ℕ). frame_line l) (append_assoc x.line x.planes more) ∙ line_found 257 (codes "FRAME") x.line (x.planes ++ more) word_frame is.spelled short)
@@ -206,7 +206,7 @@ module _ (f : Format) (at : ℕ) (x : Frame) (more : List ℕ) (is : IsFrame f x
   behind_line : drop (length x.line) rest ≡ x.planes ++ more
   behind_line = ap (λ (l : List ℕ). drop (length x.line) l) (append_assoc x.line x.planes more) ∙ drop-append_seam x.line (x.planes ++ more)
 
-  frame_found : frame_of f at rest ≡ Ok x.planes
+  pub frame_found : frame_of f at rest ≡ Ok x.planes
   frame_found =
       let long : size_of_picture f ≤ length (drop (length x.line) rest) = omega (arith, ap (λ (l : List ℕ). length l) behind_line, length-append x.planes more, is.size) in
       planes_there f at rest x.line (length x.line) line_there refl (line_goes_on x.line is.spelled) long
@@ -327,8 +327,7 @@ frames_by_head head video is = ap (λ (h : Result Format Y4mFault). frames_behin
 accepted_with : (head : Result Format Y4mFault) (video : List ℕ) → head_of video ≡ head → video_fault video ≡ None → (f : Format) × IsVideo video f (video_frames video)
 accepted_with (Err fault) video is none = absurd (cc (sym (by_head (Err fault) video is) ∙ none))
 accepted_with (Ok f) video is none =
-    let w = frames_whole f 1048576 (head_size video) (drop (head_size video) video) (sym (by_head (Ok f) video is) ∙ none) in
-    (
+    let w = frames_whole f 1048576 (head_size video) (drop (head_size video) video) (sym (by_head (Ok f) video is) ∙ none) in (
       f,
       record {
         head = head_line video;
@@ -338,7 +337,7 @@ accepted_with (Ok f) video is none =
         of_frames = w.of_frames;
         of_planes = frames_by_head (Ok f) video is ∙ w.of_planes;
         count = w.count;
-      }
+      },
     )
 
 pub accepted : (video : List ℕ) → video_fault video ≡ None → (f : Format) × IsVideo video f (video_frames video)

@@ -1,5 +1,5 @@
 -- The line of a head or of a frame: a word, then tags, each behind one space or more, and a newline.
-use Rattle.std.specs.Prelude.{ℕ, suc, ◌+◌, ◌-◌, ◌==◌, ◌&&◌, ◌||◌, nat_lt, nat_le, slice_index, Bool, List, [], ◌∷◌, length, take, Option, Some, None, if◌then◌else◌}
+use Rattle.std.specs.Prelude.{ℕ, suc, ◌+◌, ◌-◌, ◌==◌, ◌&&◌, ◌||◌, nat_lt, nat_le, slice_index, Bool, List, [], ◌∷◌, length, take, Option, Some, None, if◌then◌else◌, All, ◌≢◌}
 
 -- what stands behind a tag: a space or a newline
 abbrev pub is_gap : ℕ → Bool
@@ -15,6 +15,9 @@ agreement (a ∷ word) (b ∷ line) = if a == b then suc (agreement word line) e
 abbrev pub through_newline : List ℕ → List ℕ
 through_newline [] = []
 through_newline (b ∷ bytes) = b ∷ (if b == 10 then [] else through_newline bytes)
+
+abbrev pub NoNewline : List ℕ → Type 0
+NoNewline bytes = All (λ b. b ≢ 10) bytes
 
 -- what there is of a line among the first n bytes
 abbrev pub line_within : ℕ → List ℕ → List ℕ

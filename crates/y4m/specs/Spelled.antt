@@ -1,18 +1,15 @@
 -- What a video is, as a text that is put together: a line of a head, then frames, each a line and planes.
-use Rattle.std.specs.Prelude.{ℕ, ◌≡◌, ◌≢◌, ◌≤◌, List, [], ◌∷◌, ◌++◌, length, map, All, codes, Some, None}
+use Rattle.std.specs.Prelude.{ℕ, zero, suc, ◌≡◌, ◌<◌, ◌≤◌, false, List, [], ◌∷◌, ◌++◌, length, map, All, codes, Some, None}
 use Rattle.std.specs.List.{flat_map}
 use Rattle.h263_types.specs.declared.format.Format.{Format}
 use Rattle.h263_types.specs.Sizes.{size_of_picture}
-use Rattle.y4m.specs.Line.{tags_of}
+use Rattle.y4m.specs.Line.{NoNewline, is_gap, tags_of}
 use Rattle.y4m.specs.Head.{tag_fault, format_in}
 
 -- nothing, or something that a space stands before
 abbrev pub StandsApart : List ℕ → Type 0
 StandsApart [] = Unit {0}
 StandsApart (b ∷ tail) = b ≡ 32
-
-abbrev pub NoNewline : List ℕ → Type 0
-NoNewline bytes = All (λ b. b ≢ 10) bytes
 
 -- a whole line: a word, nothing or a space with anything behind it, and a newline; 256 bytes at most
 pub record IsLine (word line : List ℕ) : Type 0 where
@@ -21,6 +18,25 @@ pub record IsLine (word line : List ℕ) : Type 0 where
   pub apart : StandsApart tail
   pub one : NoNewline tail
   pub short : length line ≤ 256
+
+-- one byte at least, and no gap
+pub record IsWord (text : List ℕ) : Type 0 where
+  pub some : 0 < length text
+  pub gapless : All (λ b. is_gap b ≡ false) text
+
+-- a word of a line, and how many spaces more than one stand before it
+pub record Word : Type 0 where
+  pub more : ℕ
+  pub text : List ℕ
+
+abbrev pub spaces : ℕ → List ℕ
+spaces zero = []
+spaces (suc n) = 32 ∷ spaces n
+
+-- words, each behind one space or more, and so many spaces behind the last
+abbrev pub spaced : List Word → ℕ → List ℕ
+spaced [] n = spaces n
+spaced (word ∷ words) n = 32 ∷ (spaces word.more ++ (word.text ++ spaced words n))
 
 -- the line of a head: its tags are of the accepted forms, and the last W and the last H are those of the format
 pub record IsHead (line : List ℕ) (f : Format) : Type 0 where

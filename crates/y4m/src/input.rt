@@ -3,7 +3,7 @@ ghost use Rattle.std.specs.Prelude.{◌≡◌, ◌<◌, ◌≤◌, ◌^◌, ◌�
 ghost use Rattle.h263_outside.specs.Desk.{FillsFront, Rose, OnlyReads};
 ghost use Rattle.h263_outside.specs.declared.desk.Role.TheVariants.{Video};
 ghost use Rattle.y4m.specs.Line.{line_within};
-ghost use Rattle.y4m.specs.Planes.{PlanesGive};
+ghost use Rattle.y4m.specs.Planes.{PlanesGive, IsCut};
 
 use crate::{VideoStop, Y4mFault};
 use h263_outside::{Desk, Role, read_full};
@@ -13,6 +13,7 @@ pub fn read<D: Desk>(desk: &mut D, buf: &mut [u8]) -> Result<usize, VideoStop>
     requires { (D.outside desk.old).attached Video ≡ true }
     ensures count { IfOk result (λ k. k ≤ length buf.old) }
     ensures told { (left : List ℕ) → (D.outside desk.old).left Video ≡ Some left → IfOk result (λ k. FillsFront left buf.new k × ((D.outside desk.new).left Video ≡ Some (drop k left))) }
+    ensures lost { (left : List ℕ) → (D.outside desk.old).left Video ≡ Some left → OnErr result ((k : ℕ) × (k < length buf.old) × ((D.outside desk.new).left Video ≡ Some (drop k left))) }
     ensures err { IfErr result (λ stop. stop ≡ VideoStop.Read) }
     ensures cause { OnErr result (Rose (D.outside desk.old).faults.read (D.outside desk.new).faults.read) }
     ensures rest { OnlyReads (D.outside desk.old) (D.outside desk.new) }
@@ -27,6 +28,7 @@ pub fn read<D: Desk>(desk: &mut D, buf: &mut [u8]) -> Result<usize, VideoStop>
 fn read_byte<D: Desk>(desk: &mut D) -> Result<Option<u8>, VideoStop>
     requires { (D.outside desk.old).attached Video ≡ true }
     ensures told { (left : List ℕ) → (D.outside desk.old).left Video ≡ Some left → IfOk result (λ byte. MatchOption byte (left ≡ []) (λ b. left ≡ b ∷ drop 1 left) × ((D.outside desk.new).left Video ≡ Some (drop 1 left))) }
+    ensures lost { (left : List ℕ) → (D.outside desk.old).left Video ≡ Some left → OnErr result ((D.outside desk.new).left Video ≡ Some left) }
     ensures err { IfErr result (λ stop. stop ≡ VideoStop.Read) }
     ensures cause { OnErr result (Rose (D.outside desk.old).faults.read (D.outside desk.new).faults.read) }
     ensures rest { OnlyReads (D.outside desk.old) (D.outside desk.new) }
@@ -43,6 +45,7 @@ pub fn read_line<D: Desk>(desk: &mut D, line: &mut [u8]) -> Result<usize, VideoS
     requires { (D.outside desk.old).attached Video ≡ true }
     ensures within { IfOk result (λ k. k ≤ length line.old) }
     ensures told { (left : List ℕ) → (D.outside desk.old).left Video ≡ Some left → IfOk result (λ k. (take k line.new ≡ line_within (length line.old) left) × ((D.outside desk.new).left Video ≡ Some (drop k left))) }
+    ensures cut { (left : List ℕ) → (D.outside desk.old).left Video ≡ Some left → OnErr result (IsCut left ((D.outside desk.new).left Video)) }
     ensures err { IfErr result (λ stop. stop ≡ VideoStop.Read) }
     ensures cause { OnErr result (Rose (D.outside desk.old).faults.read (D.outside desk.new).faults.read) }
     ensures rest { OnlyReads (D.outside desk.old) (D.outside desk.new) }

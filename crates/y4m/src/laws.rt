@@ -1,15 +1,20 @@
 //! What ties the faults and frames of a text to the videos that are spelled. Each law is the contract of a function
 //! that does nothing.
-ghost use Rattle.std.specs.Prelude.{◌≡◌, ◌≤◌, ◌++◌, ℕ, List, length, map, All, None, Ok};
+ghost use Rattle.std.specs.Prelude.{◌≡◌, ◌≤◌, ◌++◌, ◌+◌, ◌∷◌, [], ℕ, List, length, take, map, All, None, Ok, Err};
 ghost use Rattle.std.specs.List.{flat_map};
 ghost use Rattle.h263_types.specs.declared.format.Format.{Format};
 ghost use Rattle.h263_types.specs.declared.Mark.{Mark};
 ghost use Rattle.h263_planes.specs.Picture.{Picture};
 ghost use Rattle.h263_planes.specs.Samples.{IsPicture, bytes_of};
-ghost use Rattle.y4m.specs.Head.{head_of};
+ghost use Rattle.y4m.specs.Head.{head_of, head_size};
 ghost use Rattle.y4m.specs.Video.{video_fault, video_frames};
-ghost use Rattle.y4m.specs.Spelled.{IsVideo};
+ghost use Rattle.y4m.specs.Frame.{frame_of, frame_size};
+ghost use Rattle.y4m.specs.Line.{tags_of};
+ghost use Rattle.y4m.specs.Spelled.{IsVideo, Word, IsWord, spaced};
+ghost use Rattle.y4m.specs.declared.fault.Y4mFault.TheVariants.{ShortFrame};
 ghost use Rattle.y4m.specs.Text.{head_text, frame_text};
+
+use h263_planes::laws::planes_are_bytes;
 
 /// A text with no fault is a video of some format, with its frames.
 pub fn accepted_is_a_video()
@@ -21,4 +26,27 @@ pub fn a_video_is_accepted()
     ensures fault { (video : List ℕ) (f : Format) (frames : List (List ℕ)) → IsVideo video f frames → video_fault video ≡ None }
     ensures format { (video : List ℕ) (f : Format) (frames : List (List ℕ)) → IsVideo video f frames → head_of video ≡ Ok f }
     ensures frames { (video : List ℕ) (f : Format) (frames : List (List ℕ)) → IsVideo video f frames → video_frames video ≡ frames }
+{}
+
+/// What `write_head` and `write_frame` write is a video of the head's format, whose frames are those pictures.
+pub fn written_is_a_video()
+    ensures { (f : Format) (shown : List (Mark × Picture)) → All (λ s. IsPicture s.1 × (s.1.format ≡ f)) shown → length shown ≤ 1048576 → IsVideo (head_text f ++ flat_map (λ s. frame_text s.0 s.1) shown) f (map (λ s. bytes_of s.1) shown) }
+{
+    planes_are_bytes();
+}
+
+/// The tags of a line are its words behind the first one, in their order.
+pub fn tags_are_words()
+    ensures { (word : List ℕ) (words : List Word) (n : ℕ) → IsWord word → All (λ w. IsWord w.text) words → map (λ tag. tag.text) (tags_of (word ++ spaced words n ++ 10 ∷ [])) ≡ map (λ w. w.text) words }
+{}
+
+/// A frame that is cut short has its fault where the input ends.
+pub fn short_at_the_end()
+    ensures { (f : Format) (at place : ℕ) (rest : List ℕ) → frame_of f at rest ≡ Err (ShortFrame place) → place ≡ at + length rest }
+{}
+
+/// A whole head or frame stays what it is where the text behind it is cut.
+pub fn cut_behind()
+    ensures head { (video : List ℕ) (f : Format) (k : ℕ) → head_of video ≡ Ok f → head_size video ≤ k → (head_of (take k video) ≡ Ok f) × (head_size (take k video) ≡ head_size video) }
+    ensures frame { (f : Format) (at k : ℕ) (rest planes : List ℕ) → frame_of f at rest ≡ Ok planes → frame_size f rest ≤ k → (frame_of f at (take k rest) ≡ Ok planes) × (frame_size f (take k rest) ≡ frame_size f rest) }
 {}

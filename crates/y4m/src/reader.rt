@@ -38,14 +38,12 @@ impl Y4mReader {
     {
         let mut line = [0; 256];
         let len = read_line(desk, &mut line)?;
-        match read_format(&line[..len]) {
-            Ok(format) => Ok(Y4mReader {
-                format,
-                at: len as u64,
-                more: MAX_FRAMES,
-            }),
-            Err(fault) => Err(VideoStop::Refused(fault)),
-        }
+        let format = read_format(&line[..len])?;
+        Ok(Y4mReader {
+            format,
+            at: len as u64,
+            more: MAX_FRAMES,
+        })
     }
 
     /// The format of the frames.
@@ -74,9 +72,7 @@ impl Y4mReader {
         if self.more == 0 {
             return Err(VideoStop::Refused(Y4mFault::TooMany { at: self.at }));
         }
-        if let Err(fault) = check_line(self.at, &line[..len]) {
-            return Err(VideoStop::Refused(fault));
-        }
+        check_line(self.at, &line[..len])?;
         let at = self.at + len as u64;
         read_planes(desk, at, out)?;
         self.at = at + out.len() as u64;

@@ -1,0 +1,103 @@
+-- What was taken when a read failed has no whole head or frame.
+use Rattle.std.proofs.Common.{◌≡◌, ◌≢◌, ℕ, ◌+◌, ◌-◌, ◌<◌, ◌≤◌, List, [], ◌∷◌, ◌++◌, length, take, drop, codes, Option, Some, None, Result, Ok, Err, IsErr, refl, sym, ap, subst, ◌∙◌, arith, length-take, length-append}
+use Rattle.std.specs.Option.{option_map}
+use Rattle.std.proofs.lemmas.List.Elements.{All-nil, All-cons, All-head, All-tail, All-append}
+use Rattle.std.proofs.Math.Seq.{take-append-add, take-add}
+use Rattle.h263_types.specs.declared.format.Format.{Format}
+use Rattle.h263_types.specs.Sizes.{size_of_picture}
+use Rattle.y4m.specs.Line.{NoNewline, line_within}
+use Rattle.y4m.specs.Head.{head_line, head_size, head_of}
+use Rattle.y4m.specs.Frame.{frame_line, frame_size, line_stop, frame_of}
+use Rattle.y4m.specs.Spelled.{IsLine, IsHead, Frame, IsFrame}
+use Rattle.y4m.proofs.Frames.{size_is}
+use Rattle.y4m.proofs.Spelling.{line_found, line_front, line_is}
+use Rattle.y4m.proofs.Videos.{free, head_is, head_found, frame_is, frame_parts, planes_parts, line_stops, frame_text, frame_found, line_there}
+
+abbrev Other : ℕ → Type 0
+Other b = b ≢ 10
+
+err_unless : {A E : Type 0} (r : Result A E) → ((x : A) → r ≡ Ok x → ⊥) → IsErr r
+err_unless (Ok x) no_ok = absurd (no_ok x refl)
+err_unless (Err e) no_ok = refl
+
+newline_in : (front more : List ℕ) → NoNewline ((front ++ 10 ∷ []) ++ more) → ⊥
+newline_in [] more none = All-head Other 10 more none refl
+newline_in (b ∷ front) more none = newline_in front more (All-tail Other b ((front ++ 10 ∷ []) ++ more) none)
+
+-- a whole line has a newline
+no_line : (n : ℕ) (word xs : List ℕ) → NoNewline xs → IsLine word (line_within n xs) → ⊥
+no_line n word xs none l =
+    let rest = drop (length (line_within n xs)) xs in
+    newline_in (word ++ l.tail) rest (subst NoNewline (line_front n xs ∙ ap (λ (x : List ℕ). x ++ rest) l.text) none)
+
+pub head_cut : (xs : List ℕ) → NoNewline xs → IsErr (head_of xs)
+head_cut xs none = err_unless (head_of xs) (λ f is. no_line 256 (codes "YUV4MPEG2") xs none (head_is xs f is).spelled)
+
+pub frame_cut : (f : Format) (at : ℕ) (xs : List ℕ) → NoNewline xs → IsErr (frame_of f at xs)
+frame_cut f at xs none = err_unless (frame_of f at xs) (λ planes is. no_line 257 (codes "FRAME") xs none (frame_is f at xs planes is).spelled)
+
+-- the planes were cut
+module _ (f : Format) (at j : ℕ) (rest : List ℕ) (whole : line_stop (frame_line rest) ≡ None) (short : j < size_of_picture f) where
+  abbrev taken : List ℕ
+  taken = take (length (frame_line rest) + j) rest
+
+  spelled : IsLine (codes "FRAME") (frame_line rest)
+  spelled = let line = line_stops (frame_line rest) whole in line_is 257 (codes "FRAME") rest line.0 line.1
+
+  taken_is : taken ≡ frame_line rest ++ take j (drop (length (frame_line rest)) rest)
+  taken_is =
+      ap (λ (l : List ℕ). take (length (frame_line rest) + j) l) (line_front 257 rest)
+      ∙ take-append-add (frame_line rest) (drop (length (frame_line rest)) rest) j
+
+  same_line : frame_line taken ≡ frame_line rest
+  same_line =
+      let le : length (frame_line rest) ≤ 257 = omega (arith, spelled.short) in
+      ap (λ (l : List ℕ). frame_line l) taken_is
+      ∙ line_found 257 (codes "FRAME") (frame_line rest) (take j (drop (length (frame_line rest)) rest)) (free (codes "FRAME") refl) spelled le
+
+  too_short : (planes : List ℕ) → frame_of f at taken ≡ Ok planes → ⊥
+  too_short planes is =
+      let there = planes_parts f at (length (frame_line taken)) taken planes (frame_parts f at taken planes is).1 in
+      omega (arith, there.0, ap (λ (l : List ℕ). length l) same_line, length-take (length (frame_line rest) + j) rest)
+
+  pub planes_cut : IsErr (frame_of f at taken)
+  planes_cut = err_unless (frame_of f at taken) too_short
+
+-- what a read took that failed
+pub lost_of : (old : Option (List ℕ)) (left : List ℕ) (k : ℕ) (new : Option (List ℕ)) → new ≡ option_map (λ l. drop k l) old → old ≡ Some left → new ≡ Some (drop k left)
+lost_of old left k new lost is = lost ∙ ap (λ (o : Option (List ℕ)). option_map (λ l. drop k l) o) is
+
+-- a byte more without a newline
+pub free_more : (left : List ℕ) (i b : ℕ) → NoNewline (take i left) → drop i left ≡ b ∷ drop 1 (drop i left) → b ≢ 10 → NoNewline (take (i + 1) left)
+free_more left i b none there other =
+    let more : take (i + 1) left ≡ take i left ++ b ∷ [] = take-add i 1 left ∙ ap (λ (l : List ℕ). take i left ++ take 1 l) there in
+    subst NoNewline (sym more) (All-append Other (take i left) (b ∷ []) none (All-cons Other b [] other (All-nil Other)))
+
+-- a whole head or frame stays one where what follows is cut
+take_past : (xs ys : List ℕ) (k : ℕ) → length xs ≤ k → take k (xs ++ ys) ≡ xs ++ take (k - length xs) ys
+take_past xs ys k le =
+    let split : k ≡ length xs + (k - length xs) = omega arith in
+    ap (λ (n : ℕ). take n (xs ++ ys)) split ∙ take-append-add xs ys (k - length xs)
+
+pub head_stays : (video : List ℕ) (f : Format) (k : ℕ) → head_of video ≡ Ok f → head_size video ≤ k → (head_of (take k video) ≡ Ok f) × (head_size (take k video) ≡ head_size video)
+head_stays video f k is le =
+    let line = head_line video in
+    let h : IsHead line f = head_is video f is in
+    let more = take (k - length line) (drop (length line) video) in
+    let text : take k video ≡ line ++ more = ap (λ (l : List ℕ). take k l) (line_front 256 video) ∙ take_past line (drop (length line) video) k le in (
+      ap (λ (l : List ℕ). head_of l) text ∙ head_found line more f h,
+      ap (λ (l : List ℕ). head_size l) text ∙ ap (λ (l : List ℕ). length l) (line_found 256 (codes "YUV4MPEG2") line more (free (codes "YUV4MPEG2") refl) h.spelled h.spelled.short),
+    )
+
+pub frame_stays : (f : Format) (at k : ℕ) (rest planes : List ℕ) → frame_of f at rest ≡ Ok planes → frame_size f rest ≤ k → (frame_of f at (take k rest) ≡ Ok planes) × (frame_size f (take k rest) ≡ frame_size f rest)
+frame_stays f at k rest planes is le =
+    let line = frame_line rest in
+    let x : Frame = record { line = line; planes = planes } in
+    let whole : IsFrame f x = frame_is f at rest planes is in
+    let more = drop (frame_size f rest) rest in
+    let size : length (line ++ planes) ≡ frame_size f rest = length-append line planes ∙ ap (λ (n : ℕ). length line + n) whole.size in
+    let behind = take (k - length (line ++ planes)) more in
+    let text : take k rest ≡ (line ++ planes) ++ behind = ap (λ (l : List ℕ). take k l) (frame_text f at rest planes is) ∙ take_past (line ++ planes) more k (omega (arith, size, le)) in (
+      ap (λ (l : List ℕ). frame_of f at l) text ∙ frame_found f at x behind whole,
+      ap (λ (l : List ℕ). frame_size f l) text ∙ size_is f at ((line ++ planes) ++ behind) line (length line) (line_there f at x behind whole) refl,
+    )
