@@ -1,7 +1,8 @@
 -- The levels of a block are in the ranges of its text.
-use Rattle.std.proofs.Common.{◌≡◌, ℕ, ◌+◌, ◌*◌, ◌/◌, ◌%◌, ◌≤◌, ◌<◌, List, get_or, Bool, true, false, cond, nat_eq, nat_lt, ap, subst, sym, arith, ℤ, pos, negsuc, map, refl, lit<, ◌∙◌, to_z, of_z, w16, w32}
+use Rattle.std.proofs.Common.{◌≡◌, ℕ, suc, ◌+◌, ◌-◌, ◌*◌, min, unsigned_abs, neg_ℤ, ◌/◌, ◌%◌, ◌≤◌, ◌<◌, List, get_or, Bool, true, false, cond, nat_eq, nat_lt, ap, subst, sym, arith, ℤ, pos, negsuc, map, refl, lit<, ◌∙◌, to_z, of_z, w16, w32}
 use Rattle.std.specs.List.{range_with_len}
 use Rattle.std.proofs.lemmas.Int.{ints}
+use Rattle.std.proofs.Math.Nat.{div-eq_of_lt}
 use Rattle.std.proofs.lemmas.List.FromFn.{get_or-map-range_with_len, length-map-range_with_len}
 use Rattle.std.proofs.lemmas.List.Elements.{All-from_get_or}
 use Rattle.std.specs.Prelude.{All}
@@ -108,3 +109,8 @@ pub is_forward : (coefficients block : List ℤ) (at k : ℕ) → at ≡ block_p
     get_or coefficients at (pos 0) ≡ coefficient_at block k
 is_forward coefficients block at k e h each =
     sym (at_place coefficients at) ∙ each (at / 8) (at % 8) (omega arith) (omega arith) ∙ ap (λ (n : ℕ). forward_at block (n / 8) (n % 8)) e
+
+-- a coefficient that is smaller than a step and half a quantiser has no level
+pub no_level : (quant : ℕ) (f : ℤ) → IsQuant quant → unsigned_abs f < 2 * quant + quant / 2 → inter_level quant f ≡ pos 0
+no_level quant (pos n) h small = ap (λ (size : ℕ). pos (min size 127)) (div-eq_of_lt (let less : n - quant / 2 < 2 * quant = omega (arith, h.low) in less))
+no_level quant (negsuc n) h small = ap (λ (size : ℕ). neg_ℤ (pos (min size 127))) (div-eq_of_lt (let less : suc n - quant / 2 < 2 * quant = omega (arith, h.low) in less))

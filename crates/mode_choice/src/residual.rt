@@ -1,7 +1,8 @@
 //! The levels of what a prediction leaves of a block.
-ghost use Rattle.std.specs.Prelude.{◌≡◌, All};
+ghost use Rattle.std.specs.Prelude.{◌≡◌, All, IsTrue, pos};
 ghost use Rattle.h263_types.specs.Blocks.{IsCoefficient, IsLevel, IsQuant};
 ghost use Rattle.idct8.specs.Ranges.{IsSample};
+ghost use Rattle.quantiser.specs.Levels.{inter_level};
 ghost use Rattle.mode_choice.specs.Choice as choice;
 
 use h263_types::Block;
@@ -29,11 +30,21 @@ fn residual_level(quant: u8, keep: u8, k: usize, coefficient: i32) -> i16
     ensures level { result ≡ choice.residual_level_of quant keep k coefficient }
     ensures range { IsLevel result }
 {
-    if k < usize::from(keep) {
-        level_inter(quant, coefficient)
-    } else {
+    if k >= usize::from(keep) || is_small(quant, coefficient) {
         0
+    } else {
+        level_inter(quant, coefficient)
     }
+}
+
+// Whether a coefficient is too small for a level. Most are, and need no division.
+fn is_small(quant: u8, coefficient: i32) -> bool
+    requires quant { IsQuant quant }
+    requires coefficient { IsCoefficient coefficient }
+    ensures { IsTrue result → inter_level quant coefficient ≡ pos 0 }
+{
+    let quant = u32::from(quant);
+    coefficient.unsigned_abs() < 2 * quant + quant / 2
 }
 
 // Whether no level of the blocks is left.
