@@ -24,7 +24,7 @@ use picture_recon::recon_mb;
 /// Codes `frame` as picture `number` with this header. `cutter`, which was started with these parameters, then holds the
 /// picture's packets of at most `params.limit` bytes, one slice each, and `work` the picture that a decoder makes of them
 /// (H.263, 6). A P picture, and no other, has a reference, in which vectors of up to `params.radius` whole samples are
-/// searched. All pictures have the header's format; what `work` held before doesn't count.
+/// searched. All pictures have the parameters' format; what `work` held before doesn't count.
 pub fn code_picture(
     frame: PictureRef<'_>,
     reference: Option<PictureRef<'_>>,
@@ -36,12 +36,12 @@ pub fn code_picture(
 )
     requires header { IsHeader header.now }
     requires params { IsParams params.now }
-    requires params_format { params.now.format ≡ header.now.format }
-    requires frame_format { (picture frame).format ≡ header.now.format }
-    requires reference { HasReferenceOnlyInP header.now.kind header.now.format (option_map picture reference) }
+    requires header_format { header.now.format ≡ params.now.format }
+    requires frame_format { (picture frame).format ≡ params.now.format }
+    requires reference { HasReferenceOnlyInP header.now.kind params.now.format (option_map picture reference) }
     requires cutter_format { format_of cutter.old ≡ params.now.format }
     requires cutter_limit { limit_of cutter.old ≡ params.now.limit }
-    requires work_format { (lent.work work.old).format ≡ header.now.format }
+    requires work_format { (lent.work work.old).format ≡ params.now.format }
 
     ensures packets { ArePacketsOf number (sequence_of cutter.old) header.now params.now.limit
         (choices_of (picture frame.entry) (option_map picture reference.entry) header.now params.now) (packets_of cutter.new) }
@@ -49,15 +49,15 @@ pub fn code_picture(
     ensures cutter_format { format_of cutter.new ≡ params.now.format }
     ensures cutter_limit { limit_of cutter.new ≡ params.now.limit }
 
-    ensures reconstruction { lent.work work.new ≡ reconstruction header.now.format header.now.rounding (option_map picture reference.entry)
+    ensures reconstruction { lent.work work.new ≡ reconstruction params.now.format header.now.rounding (option_map picture reference.entry)
         (choices_of (picture frame.entry) (option_map picture reference.entry) header.now params.now) }
     ensures same_loan { loan_of work.new ≡ loan_of work.old }
-    ensures format { (lent.work work.new).format ≡ header.now.format }
+    ensures format { (lent.work work.new).format ≡ params.now.format }
     ensures whole { IsPicture (lent.work work.new) }
 {
     samples_are_reconstruction();
     cutter.begin(number, header);
-    for at in 0..header.format.mbs() {
+    for at in 0..params.format.mbs() {
         let mb = choose(frame, reference, at, header, params);
         cutter.add(&mb);
         recon_mb(&mb, at, header, reference, work);

@@ -43,7 +43,7 @@ loop-at-preserved c =
         samples = λ plane x y here under.
             one_more (mb_of h.format plane x y) at _ _ _ _ (c.recon_mb.ensures.samples plane x y here) (c.loop-at.invariant.shown.samples plane x y here)
             (λ e. ap (λ (m : Mb). sample_in h.rounding reference m plane x y)
-                (c.choose-mb.ensures.choice ∙ sym (choice_at frame reference h params at inside) ∙ ap (λ (k : ℕ). mb_in mbs k) (sym e)))
+            (c.choose-mb.ensures.choice ∙ sym (choice_at frame reference h params at inside) ∙ ap (λ (k : ℕ). mb_in mbs k) (sym e)))
             under;
       };
       same_loan = c.recon_mb.ensures.same_loan ∙ c.loop-at.invariant.same_loan;
@@ -69,6 +69,6 @@ returns-clause-reconstruction c =
     let mbs = choices_of (picture c.args.frame) reference h c.args.params.now in
     let p = lent.work c.loop-at.work in
     let shown = c.loop-at.invariant.shown in
-    let all : mbs_of h.format ≤ c.loop-at.at = omega (arith, c.mbs-at-end.ensures, c.loop-at-test.false) in
-    subst (λ (f : Format). p ≡ reconstruction f h.rounding reference mbs) shown.format
+    let all : mbs_of h.format ≤ c.loop-at.at = subst (λ (f : Format). mbs_of f ≤ c.loop-at.at) (sym c.requires.header_format) (omega (arith, c.mbs-at-end.ensures, c.loop-at-test.false)) in
+    subst (λ (f : Format). p ≡ reconstruction f h.rounding reference mbs) (shown.format ∙ c.requires.header_format)
     (c.samples_are_reconstruction.ensures.only p h.rounding reference mbs shown.whole (all_shown h reference mbs c.loop-at.at p all shown))
