@@ -7,3 +7,4 @@ pub mod Packets
 pub mod Plays
 pub mod Runs
 pub mod Shown
+pub mod Shows

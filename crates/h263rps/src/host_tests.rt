@@ -5,7 +5,14 @@ ghost use Rattle.h263_outside.specs.declared.desk.Role.TheVariants.{Video, Pictu
 use super::*;
 use h263_outside::{Desk, Failed, Role, Unattached, read_full, write_all};
 use std::test::Fail;
-use y4m::{EXACT_LINE, FRAME_LINE, HEAD_LINE, OUT_HEAD};
+
+const HEAD_LINE: &[u8] = b"YUV4MPEG2 W128 H96\n";
+
+const FRAME_LINE: &[u8] = b"FRAME\n";
+
+const OUT_HEAD: &[u8] = b"YUV4MPEG2 W128 H96 F30000:1001 Ip C420jpeg\n";
+
+const EXACT_LINE: &[u8] = b"FRAME XEXACT\n";
 
 const PICTURE: &[u8] = &[100; 18_432];
 

@@ -6,7 +6,15 @@ use super::*;
 use h263_outside::{MemoryDesk, OutOfMemory, Role};
 use std::process::Abort;
 use std::test::Fail;
-use y4m::{EXACT_LINE, FRAME_LINE, HEAD_LINE, OUT_HEAD};
+use y4m::Y4mFault;
+
+const HEAD_LINE: &[u8] = b"YUV4MPEG2 W128 H96\n";
+
+const FRAME_LINE: &[u8] = b"FRAME\n";
+
+const OUT_HEAD: &[u8] = b"YUV4MPEG2 W128 H96 F30000:1001 Ip C420jpeg\n";
+
+const EXACT_LINE: &[u8] = b"FRAME XEXACT\n";
 
 // Bytes of a plane of luma, and of a picture, flat 64.
 const LUMA: &[u8] = &[64; 12_288];
@@ -30,7 +38,7 @@ fn called(
 ) -> Result<(Status, Vec<u8>), OutOfMemory>
     requires { 0 < piece }
 {
-    let mut desk = MemoryDesk::new(alloc, piece, 60_000)?;
+    let mut desk = MemoryDesk::new(alloc, piece, 200_000)?;
     let video = joined(alloc, video)?;
     desk.put(Role::Video, &video)?;
     desk.fail(failing)?;
@@ -175,11 +183,59 @@ fn three_flat_pictures(rt: HostRuntime) -> Result<(), Fail> {
     Ok(())
 }
 
+// A user's head, with tags that are passed over and an aspect ratio that isn't 1; and a frame with a tag.
+const USER_HEAD: &[u8] =
+    b"YUV4MPEG2 W176 H144 F30000:1001 Ip A128:117 C420mpeg2 XYSCSS=420MPEG2\n";
+
+const TAGGED_LINE: &[u8] = b"FRAME Xanything\n";
+
+const QCIF_HEAD: &[u8] = b"YUV4MPEG2 W176 H144 F30000:1001 Ip C420jpeg\n";
+
+const CIF_HEAD: &[u8] = b"YUV4MPEG2 W352 H288 F30000:1001 Ip C420jpeg\n";
+
+const QCIF_PICTURE: &[u8] = &[100; 38_016];
+
+// Its packets are two.
+const CIF_PICTURE: &[u8] = &[100; 152_064];
+
+#[test]
+fn the_larger_formats(rt: HostRuntime) -> Result<(), Fail> {
+    let qcif: &[&[u8]] = &[USER_HEAD, TAGGED_LINE, QCIF_PICTURE];
+    let cif: &[&[u8]] = &[b"YUV4MPEG2 H288 W352\n", FRAME_LINE, CIF_PICTURE];
+    let cases: &[Case] = &[
+        (
+            &[b"YUV4MPEG2 W176 H144\n"],
+            NONE,
+            Status::Ok,
+            &[QCIF_HEAD],
+        ),
+        (
+            qcif,
+            NONE,
+            Status::Ok,
+            &[QCIF_HEAD, EXACT_LINE, QCIF_PICTURE],
+        ),
+        (cif, NONE, Status::Ok, &[CIF_HEAD, EXACT_LINE, CIF_PICTURE]),
+    ];
+    run_twice(&rt, rt.alloc(), 4096, cases)?;
+    run_twice(
+        &rt,
+        rt.alloc(),
+        1,
+        &[(&[USER_HEAD], NONE, Status::Ok, &[QCIF_HEAD])],
+    )?;
+    Ok(())
+}
+
 const RIFF: &[&[u8]] = &[b"RIFF"];
 
 const CUT_HEAD: &[&[u8]] = &[b"YUV4MPEG2 W128 H9"];
 
-const OTHER_SIZE: &[&[u8]] = &[b"YUV4MPEG2 W176 H144\n"];
+const OTHER_SIZE: &[&[u8]] = &[b"YUV4MPEG2 W128 H144\n"];
+
+const INTERLACED: &[&[u8]] = &[b"YUV4MPEG2 W128 H96 It\n"];
+
+const OTHER_COLOUR: &[&[u8]] = &[b"YUV4MPEG2 W128 H96 C422\n"];
 
 const OTHER_LINE: &[&[u8]] = &[HEAD_LINE, b"FRAMES"];
 
@@ -197,7 +253,9 @@ fn refused_videos(rt: HostRuntime) -> Result<(), Fail> {
     let cases: &[Refused] = &[
         (RIFF, Y4mFault::NotY4m { at: 0 }, &[]),
         (CUT_HEAD, Y4mFault::NotY4m { at: 17 }, &[]),
-        (OTHER_SIZE, Y4mFault::NotY4m { at: 12 }, &[]),
+        (OTHER_SIZE, Y4mFault::Size { at: 19 }, &[]),
+        (INTERLACED, Y4mFault::Interlaced { at: 19 }, &[]),
+        (OTHER_COLOUR, Y4mFault::Colour { at: 19 }, &[]),
         (OTHER_LINE, Y4mFault::NotY4m { at: 24 }, &[OUT_HEAD]),
         (CUT_LINE, Y4mFault::ShortFrame { at: 22 }, &[OUT_HEAD]),
         (CUT_FRAME, Y4mFault::ShortFrame { at: 30_751 }, shown),
@@ -209,10 +267,15 @@ fn refused_videos(rt: HostRuntime) -> Result<(), Fail> {
     Ok(())
 }
 
-// Calls 0 and 1 attach, 2 reads the head, 3 writes it, 4 to 8 read the frame in pieces of 4,096 bytes, and
-// the writes of its line and planes come after them.
+const TWO: &[&[u8]] = &[
+    HEAD_LINE, FRAME_LINE, PICTURE, FRAME_LINE, PICTURE,
+];
+
+// Calls 0 and 1 attach, 2 to 20 read the head byte by byte, 21 writes it, 22 to 27 read the frame's line, and 28 to 32 its
+// planes in pieces of 4,096 bytes; 33 writes the picture's line, and 34 to 225 its 192 rows. The next frame comes then.
 #[test]
 fn faults_of_the_desk(rt: HostRuntime) -> Result<(), Fail> {
+    let one: &[&[u8]] = &[OUT_HEAD, EXACT_LINE, PICTURE];
     let cases: &[Case] = &[
         (ONE, 0, Status::OpenFault { role: Role::Video }, &[]),
         (
@@ -224,10 +287,14 @@ fn faults_of_the_desk(rt: HostRuntime) -> Result<(), Fail> {
             &[],
         ),
         (ONE, 2, Status::ReadFault, &[]),
-        (ONE, 3, Status::WriteFault, &[]),
-        (ONE, 6, Status::ReadFault, &[OUT_HEAD]),
-        (ONE, 9, Status::WriteFault, &[OUT_HEAD]),
-        (ONE, 10, Status::WriteFault, &[OUT_HEAD, EXACT_LINE]),
+        (ONE, 20, Status::ReadFault, &[]),
+        (ONE, 21, Status::WriteFault, &[]),
+        (ONE, 22, Status::ReadFault, &[OUT_HEAD]),
+        (ONE, 30, Status::ReadFault, &[OUT_HEAD]),
+        (ONE, 33, Status::WriteFault, &[OUT_HEAD]),
+        (ONE, 34, Status::WriteFault, &[OUT_HEAD, EXACT_LINE]),
+        (TWO, 226, Status::ReadFault, one),
+        (TWO, 233, Status::ReadFault, one),
     ];
     run_twice(&rt, rt.alloc(), 4096, cases)?;
     Ok(())
