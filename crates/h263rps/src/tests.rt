@@ -267,6 +267,8 @@ fn refused_videos(rt: HostRuntime) -> Result<(), Fail> {
     Ok(())
 }
 
+const SHOWN: &[&[u8]] = &[OUT_HEAD, EXACT_LINE, PICTURE];
+
 const TWO: &[&[u8]] = &[
     HEAD_LINE, FRAME_LINE, PICTURE, FRAME_LINE, PICTURE,
 ];
@@ -275,7 +277,6 @@ const TWO: &[&[u8]] = &[
 // planes in pieces of 4,096 bytes; 33 writes the picture's line, and 34 to 225 its 192 rows. The next frame comes then.
 #[test]
 fn faults_of_the_desk(rt: HostRuntime) -> Result<(), Fail> {
-    let one: &[&[u8]] = &[OUT_HEAD, EXACT_LINE, PICTURE];
     let cases: &[Case] = &[
         (ONE, 0, Status::OpenFault { role: Role::Video }, &[]),
         (
@@ -293,8 +294,8 @@ fn faults_of_the_desk(rt: HostRuntime) -> Result<(), Fail> {
         (ONE, 30, Status::ReadFault, &[OUT_HEAD]),
         (ONE, 33, Status::WriteFault, &[OUT_HEAD]),
         (ONE, 34, Status::WriteFault, &[OUT_HEAD, EXACT_LINE]),
-        (TWO, 226, Status::ReadFault, one),
-        (TWO, 233, Status::ReadFault, one),
+        (TWO, 226, Status::ReadFault, SHOWN),
+        (TWO, 233, Status::ReadFault, SHOWN),
     ];
     run_twice(&rt, rt.alloc(), 4096, cases)?;
     Ok(())
