@@ -4,6 +4,10 @@ use Rattle.std.proofs.Math.Nat.{mul-le-mul_left}
 use Rattle.std.proofs.Math.Seq.{take-add}
 use Rattle.std.proofs.lemmas.List.{get_or-drop, get_or-take}
 use Rattle.std.proofs.lemmas.Grind.{same_number_lists}
+use Rattle.h263_planes.specs.Layout.{width_in, height_in}
+use Rattle.h263_planes.specs.Picture.{Picture}
+use Rattle.h263_planes.specs.Samples.{IsPicture, plane_of, sample_at}
+use Rattle.h263_planes.specs.declared.Plane.{Plane}
 use Rattle.h263_outside.specs.Desk.{appended, GainsFront}
 use Rattle.h263_outside.specs.declared.desk.Role.{Role}
 use Rattle.h263_outside.proofs.Gains.{gained_more}
@@ -59,3 +63,25 @@ module _ (plane row : List ℕ) (w y h : ℕ) (size : length plane ≡ w * h) (b
       let whole : (take (w * y) plane ++ row) ++ drop (w * (y + 1)) plane ≡ plane = ap (λ (l : List ℕ). l ++ drop (w * (y + 1)) plane) row_next ∙ take-append-drop (w * (y + 1)) plane in
       subst (λ (l : List ℕ). GainsFront role l old new) whole
       (front_first role (take (w * y) plane ++ row) (drop (w * (y + 1)) plane) old new (front_second role (take (w * y) plane) row old middle new so_far f))
+
+-- the same of a picture's plane, with its columns and rows as the code has them
+module _ (p : Picture) (plane : Plane) (columns rows y : ℕ) (row : List ℕ) (whole : IsPicture p) (has_columns : columns ≡ width_in p.format plane) (has_rows : rows ≡ height_in p.format plane) (below : y < rows) (full : length row ≡ columns) (samples : (i : ℕ) → i < columns → get_or row i 0 ≡ sample_at p plane (0 + i) y) (role : Role) (old middle new : Role → Option (List ℕ)) (so_far : middle ≡ appended old role (take (columns * y) (plane_of p plane))) where
+  abbrev w : ℕ
+  w = width_in p.format plane
+
+  within : y < height_in p.format plane
+  within = subst (λ (n : ℕ). y < n) has_rows below
+
+  all : (i : ℕ) → i < w → get_or row i 0 ≡ sample_at p plane (0 + i) y
+  all i lt = samples i (subst (λ (n : ℕ). i < n) (sym has_columns) lt)
+
+  rows_so_far : middle ≡ appended old role (take (w * y) (plane_of p plane))
+  rows_so_far = so_far ∙ ap (λ (n : ℕ). appended old role (take (n * y) (plane_of p plane))) has_columns
+
+  pub plane_more : new ≡ appended middle role row → new ≡ appended old role (take (columns * (y + 1)) (plane_of p plane))
+  plane_more more =
+      row_more (plane_of p plane) row w y (height_in p.format plane) (whole.lengths plane) within (full ∙ has_columns) all role old middle new rows_so_far more
+      ∙ ap (λ (n : ℕ). appended old role (take (n * (y + 1)) (plane_of p plane))) (sym has_columns)
+
+  pub plane_front : GainsFront role row middle new → GainsFront role (plane_of p plane) old new
+  plane_front f = row_front (plane_of p plane) row w y (height_in p.format plane) (whole.lengths plane) within (full ∙ has_columns) all role old middle new rows_so_far f
