@@ -3,7 +3,7 @@ use Rattle.std.proofs.Common.{◌≡◌, ℕ, suc, ◌+◌, ◌-◌, ◌*◌, mi
 use Rattle.std.specs.List.{range_with_len}
 use Rattle.std.proofs.lemmas.Int.{ints}
 use Rattle.std.proofs.lemmas.List.{get_or-replicate, length-replicate}
-use Rattle.std.proofs.Math.Nat.{div-eq_of_lt}
+use Rattle.std.proofs.Math.Nat.{div-eq_of_lt, div-lt_iff_lt-mul}
 use Rattle.std.proofs.lemmas.List.FromFn.{fill_by_all, get_or-map-range_with_len, length-map-range_with_len}
 use Rattle.std.proofs.lemmas.List.Elements.{All-from_get_or}
 use Rattle.std.specs.Prelude.{All}
@@ -115,6 +115,17 @@ is_forward coefficients block at k e h each =
 pub no_level : (quant : ℕ) (f : ℤ) → IsQuant quant → unsigned_abs f < 2 * quant + quant / 2 → inter_level quant f ≡ pos 0
 no_level quant (pos n) h small = ap (λ (size : ℕ). pos (min size 127)) (div-eq_of_lt (let less : n - quant / 2 < 2 * quant = omega (arith, h.low) in less))
 no_level quant (negsuc n) h small = ap (λ (size : ℕ). neg_ℤ (pos (min size 127))) (div-eq_of_lt (let less : suc n - quant / 2 < 2 * quant = omega (arith, h.low) in less))
+
+-- and another one has
+pub has_level : (quant : ℕ) (f : ℤ) → IsQuant quant → 2 * quant + quant / 2 ≤ unsigned_abs f → inter_level quant f ≡ pos 0 → ⊥
+has_level quant (pos n) h large none =
+    let size : (n - quant / 2) / (2 * quant) < 1 = omega (arith, ints, none) in
+    let less : n - quant / 2 < 1 * (2 * quant) = (div-lt_iff_lt-mul (let some : 0 < 2 * quant = omega (arith, h.low) in some)).0 size in
+    omega (arith, less, large)
+has_level quant (negsuc n) h large none =
+    let size : (suc n - quant / 2) / (2 * quant) < 1 = omega (arith, ints, none) in
+    let less : suc n - quant / 2 < 1 * (2 * quant) = (div-lt_iff_lt-mul (let some : 0 < 2 * quant = omega (arith, h.low) in some)).0 size in
+    omega (arith, less, large)
 
 kept_nothing : (b : Bool) (z : ℤ) → z ≡ pos 0 → pos 0 ≡ cond b z (pos 0)
 kept_nothing true z h = sym h

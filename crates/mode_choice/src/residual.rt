@@ -1,5 +1,5 @@
 //! The levels of what a prediction leaves of a block.
-ghost use Rattle.std.specs.Prelude.{◌≡◌, ℕ, ◌+◌, ◌*◌, ◌/◌, All, IsTrue, pos};
+ghost use Rattle.std.specs.Prelude.{◌≡◌, ◌↔◌, ℕ, ◌+◌, ◌*◌, ◌/◌, All, IsTrue, pos};
 ghost use Rattle.h263_types.specs.Blocks.{IsCoefficient, IsLevel, IsQuant};
 ghost use Rattle.idct8.specs.Ranges.{IsSample};
 ghost use Rattle.quantiser.specs.Levels.{inter_level};
@@ -58,7 +58,7 @@ fn are_small(quant: u8, residuals: &[i16; 64]) -> bool
 fn is_small(quant: u8, coefficient: i32) -> bool
     requires quant { IsQuant quant }
     requires coefficient { IsCoefficient coefficient }
-    ensures { IsTrue result → inter_level quant coefficient ≡ pos 0 }
+    ensures { IsTrue result ↔ (inter_level quant coefficient ≡ pos 0) }
 {
     coefficient.unsigned_abs() < least_size(quant)
 }

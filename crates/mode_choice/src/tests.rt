@@ -268,3 +268,22 @@ fn intra_at_its_limit(rt: HostRuntime) {
         );
     }
 }
+
+#[test]
+fn one_bright_sample(rt: HostRuntime) {
+    let grey = [100; SIZE];
+    // in the corner of a block, where the frequencies 1 across and 1 down take 0.2405 of it: 19.48 of 81, 19.72 of 82
+    let table = [
+        (78, (SKIP, 0, 0, 0)),
+        (81, (SKIP, 0, 0, 0)),
+        (82, (INTER, 0, 0, 2_660_201_311)),
+        (98, (INTER, 0, 0, 2_929_299_680)),
+        (155, (INTER, 0, 0, 912_437_024)),
+    ];
+    for (more, want) in table {
+        assert!(rt; more <= 155);
+        let mut frame = grey;
+        frame[128 * 16 + 16] = 100 + more;
+        assert_eq!(rt; chosen(&rt, &frame, &grey, 9, 64, 0), want, "{more}");
+    }
+}
