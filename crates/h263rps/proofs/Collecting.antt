@@ -1,16 +1,14 @@
 -- What the collector keeps of a picture whose slices come one after the other.
-use Rattle.std.proofs.Common.{◌≡◌, ℕ, zero, suc, ◌+◌, ◌<◌, ◌≤◌, Bool, true, false, not, List, [], ◌∷◌, length, Option, None, Some, refl, sym, ap, subst, ◌∙◌, ◌⊎◌, inl, inr, arith}
-use Rattle.std.specs.Prelude.{◌&&◌, nat_le, nat_lt}
-use Rattle.std.proofs.lemmas.Bool.{lt-ltb, le-ltb, leb-true, leb-false, ltb-true, ltb-false}
+use Rattle.std.proofs.Common.{◌≡◌, ℕ, zero, suc, ◌+◌, ◌<◌, ◌≤◌, Bool, true, false, not, List, [], ◌∷◌, Option, None, Some, refl, sym, ap, subst, ◌∙◌, ◌⊎◌, inl, inr, arith}
+use Rattle.std.specs.Prelude.{nat_le, nat_lt}
+use Rattle.std.proofs.lemmas.Bool.{lt-ltb, le-ltb, leb-false, ltb-true, ltb-false}
 use Rattle.call_model.specs.Numbers.{all_below}
 use Rattle.h263_bits.specs.Syntax.{IsIn}
-use Rattle.h263_types.specs.declared.format.Format.{Format}
-use Rattle.h263_types.specs.declared.blocks.SliceHead.{SliceHead}
 use Rattle.h263_types.specs.Sizes.{mbs_of}
 use Rattle.picture_header.specs.declared.header.Header.{Header}
 use Rattle.packet_collector.specs.declared.collector.Collector.{Collector}
 use Rattle.packet_collector.specs.declared.piece.Piece.{Piece}
-use Rattle.packet_collector.specs.Taken.{Taken, holds, has_any, has_taken, is_whole, HasNoOther}
+use Rattle.packet_collector.specs.Taken.{Taken, has_any, has_taken, is_whole, HasNoOther}
 use Rattle.packet_collector.specs.Collected.{Collects, IsFreshIn, IsInRow, IsKept, FitsKept, format_of, header_in, has_in}
 use Rattle.packet_collector.proofs.Pieces.{absent, member, never, any_other, taken_held, taken_not_held}
 use Rattle.h263_types.specs.declared.Mark.TheVariants.{Exact}

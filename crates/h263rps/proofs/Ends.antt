@@ -15,8 +15,8 @@ use Rattle.h263rps.proofs.Plays.{ended_err, nothing_cut}
 
 -- a role was not attached
 not_opened : (video : List ℕ) (role : Role) (s : Status) (old : Role → Option (List ℕ)) (new : Outside) → (s ≡ OpenFault role) ⊎ (s ≡ OutOfMemory) → new.written ≡ old → HasEnded video s old new
-not_opened video role s old new (inl is) same = subst (λ (s : Status). HasEnded video s old new) (sym is) (record { gives = same; left = λ fine. absurd (cc fine) })
-not_opened video role s old new (inr is) same = subst (λ (s : Status). HasEnded video s old new) (sym is) (record { gives = nothing_cut (call_output video) old new.written same; left = λ fine. absurd (cc fine) })
+not_opened video role s old new (inl is) same = subst (λ (s : Status). HasEnded video s old new) (sym is) (record { gives = same; left = λ fine. absurd (cc fine); taken = λ fault. absurd (cc fault) })
+not_opened video role s old new (inr is) same = subst (λ (s : Status). HasEnded video s old new) (sym is) (record { gives = nothing_cut (call_output video) old new.written same; left = λ fine. absurd (cc fine); taken = λ fault. absurd (cc fault) })
 
 pub unattached : (video : List ℕ) (r : Result (Unit {0}) Status) (role : Role) (s : Status) (old : Role → Option (List ℕ)) (new : Outside) → IsErrAnd r (λ x. x ≡ s) → (s ≡ OpenFault role) ⊎ (s ≡ OutOfMemory) → new.written ≡ old → HasEnded video (status_of r) old new
 unattached video r role s old new gave kind same = ended_err video r s old new gave (not_opened video role s old new kind same)

@@ -1,9 +1,13 @@
 -- How the frames of a video and its first fault go on.
-use Rattle.std.proofs.Common.{◌≡◌, ℕ, zero, suc, ◌+◌, ◌<◌, List, [], ◌∷◌, length, drop, Some, None, Result, Ok, Err, Option, refl, ap, ◌∙◌, arith}
+use Rattle.std.proofs.Common.{◌≡◌, ℕ, zero, suc, ◌+◌, ◌<◌, List, [], ◌∷◌, length, take, drop, Some, None, Result, Ok, Err, IsErr, refl, ap, ◌∙◌, arith, length-take}
+use Rattle.std.proofs.lemmas.List.{drop-take}
 use Rattle.h263_types.specs.declared.format.Format.{Format}
+use Rattle.h263_types.specs.declared.format.Format.TheVariants.{SubQcif, Qcif, Cif}
+use Rattle.h263_types.specs.Sizes.{size_of_picture}
 use Rattle.y4m.specs.declared.fault.Y4mFault.{Y4mFault}
-use Rattle.y4m.specs.Frame.{frame_size, next_frame}
+use Rattle.y4m.specs.Frame.{frame_of, frame_size, next_frame}
 use Rattle.y4m.specs.Video.{frames_from, frames_of, fault_from, fault_of}
+use Rattle.y4m.proofs.Cuts.{frame_stays}
 
 -- the bytes behind the frame that stands first
 abbrev pub behind : Format → List ℕ → List ℕ
@@ -51,3 +55,33 @@ pub fault-nil : (f : Format) (n at : ℕ) → fault_of f n at [] ≡ None
 unfolding fault_of
 fault-nil f zero at = refl
 fault-nil f (suc n) at = refl
+
+-- ---- where what follows is cut
+
+some_size : (f : Format) → 0 < size_of_picture f
+some_size SubQcif = omega arith
+some_size Qcif = omega arith
+some_size Cif = omega arith
+
+-- a whole frame, and those of the k bytes behind it
+pub frames_cut : (f : Format) (n m at k : ℕ) (rest frame : List ℕ) → m + 1 ≡ n → 0 < length rest → next_frame n f at rest ≡ Ok frame
+    → frames_of f n at (take (frame_size f rest + k) rest) ≡ frame ∷ frames_of f m (at + frame_size f rest) (take k (behind f rest))
+frames_cut f zero m at k rest frame less some is = absurd (omega (arith, less))
+frames_cut f (suc n) m at k rest frame less some is =
+    let size = frame_size f rest in
+    let cut = take (size + k) rest in
+    let stays = frame_stays f at (size + k) rest frame is (omega arith) in
+    frames_step f (suc n) m at cut frame less (omega (arith, some, some_size f, length-take (size + k) rest)) stays.0
+    ∙ ap (λ (s : ℕ). frame ∷ frames_of f m (at + s) (drop s cut)) stays.1
+    ∙ ap (λ (l : List ℕ). frame ∷ frames_of f m (at + size) l) (drop-take size k rest)
+
+none_from : (r : Result (List ℕ) Y4mFault) (more : List (List ℕ)) → IsErr r → frames_from r more ≡ []
+none_from (Ok frame) more lost = absurd (cc lost)
+none_from (Err fault) more lost = refl
+
+-- there are no frames where the first isn't whole
+pub frames_lost : (f : Format) (n at : ℕ) (rest : List ℕ) → IsErr (frame_of f at rest) → frames_of f n at rest ≡ []
+unfolding frames_of
+frames_lost f zero at rest lost = refl
+frames_lost f (suc n) at [] lost = refl
+frames_lost f (suc n) at (b ∷ rest) lost = none_from (frame_of f at (b ∷ rest)) (frames_of f n (at + frame_size f (b ∷ rest)) (behind f (b ∷ rest))) lost

@@ -1,5 +1,5 @@
 -- The packets of a picture are read as its slices.
-use Rattle.std.proofs.Common.{◌≡◌, ℕ, zero, suc, ◌+◌, ◌<◌, ◌≤◌, Bool, List, [], ◌∷◌, ◌++◌, length, get_or, take, All, Option, Some, None, refl, sym, ap, subst, ◌∙◌, arith}
+use Rattle.std.proofs.Common.{◌≡◌, ℕ, zero, suc, ◌+◌, ◌<◌, ◌≤◌, Bool, List, [], ◌∷◌, ◌++◌, length, get_or, take, refl, sym, ap, subst, ◌∙◌, arith}
 use Rattle.std.proofs.lemmas.List.{length-append}
 use Rattle.std.proofs.lemmas.List.Elements.{All-get_or}
 use Rattle.h263_types.specs.declared.blocks.Mb.{Mb}
@@ -16,14 +16,13 @@ use Rattle.slice_layer.proofs.Reach.{reach_within}
 use Rattle.slice_layer.specs.Written.{AreWritable}
 use Rattle.rtp_header.proofs.Exact as rtp
 use Rattle.h263_payload.proofs.Exact as payload
-use Rattle.packet_cutter.specs.Cut.{joined, Fit, extra_of, begins_at}
+use Rattle.packet_cutter.specs.Cut.{joined, Fit}
 use Rattle.packet_cutter.specs.Packets.{packet_text, is_last, ArePackets, ArePacketsOf}
 use Rattle.packet_cutter.specs.Again.{IsReadAs, rtp_of, payload_of}
 use Rattle.packet_cutter.proofs.Cuts.{covers, fit}
 use Rattle.packet_cutter.proofs.Counted.{count, within}
 use Rattle.packet_cutter.proofs.Reread.{read_as}
 use Rattle.packet_collector.specs.Packet.{IsPacket}
-use Rattle.picture_recon.specs.Samples.{mb_in}
 use Rattle.h263rps.specs.Sent.{IsSentAt, AreSent}
 use Rattle.h263rps.proofs.Runs.{place_of, run_at, place_next, place_within, in_run}
 
@@ -86,8 +85,8 @@ writable h first before (m ∷ run) within s =
     let one = subst (λ (k : ℕ). IsSentAt h k m) at (s 0 (omega arith)) in
     let longer : length (before ++ m ∷ []) ≡ length before + 1 = length-append before (m ∷ []) in
     let more : AreSentFrom h (first + length (before ++ m ∷ [])) run = λ j below.
-        let next : first + length before + suc j ≡ first + length (before ++ m ∷ []) + j = omega (arith, longer) in
-        subst (λ (k : ℕ). IsSentAt h k (get_or run j Skip)) next (s (suc j) (omega (arith, below)))
+    let next : first + length before + suc j ≡ first + length (before ++ m ∷ []) + j = omega (arith, longer) in
+    subst (λ (k : ℕ). IsSentAt h k (get_or run j Skip)) next (s (suc j) (omega (arith, below)))
     in (
       record { in_range = one.in_range; of_kind = one.of_kind; step = stepped h.quant m one.plain; whole = one.whole; reached = reached h (first + length before) m (omega (arith, within)) one.reach },
       subst (λ (q : ℕ). AreWritable (around h first) q (before ++ m ∷ []) run) (sym (quant_stays h.quant m one.plain)) (writable h first (before ++ m ∷ []) run (omega (arith, within, longer)) more),
@@ -129,12 +128,12 @@ packet_is number sequence limit h mbs packets p i is s few below =
     let long : length (joined p.runs) ≡ mbs_of h.format = ap (λ (l : List Mb). length l) whole ∙ s.count in
     let end : place_of p.runs i + length (run_at p.runs i) ≤ mbs_of h.format = omega (arith, next, last, long) in
     let sent : AreSentFrom h (place_of p.runs i + 0) (run_at p.runs i) = λ j in_slice.
-        let k = place_of p.runs i + j in
-        let at : k ≡ place_of p.runs i + 0 + j = omega arith in
-        let is_k = in_run p.runs i j inside in_slice ∙ refl in
-        let m : get_or mbs k Skip ≡ get_or (run_at p.runs i) j Skip = ap (λ (l : List Mb). get_or l k Skip) (sym whole) ∙ is_k in
-        subst (λ (n : ℕ). IsSentAt h n (get_or (run_at p.runs i) j Skip)) at
-        (subst (IsSentAt h k) m (s.each k (omega (arith, in_slice, end))))
+    let k = place_of p.runs i + j in
+    let at : k ≡ place_of p.runs i + 0 + j = omega arith in
+    let is_k = in_run p.runs i j inside in_slice ∙ refl in
+    let m : get_or mbs k Skip ≡ get_or (run_at p.runs i) j Skip = ap (λ (l : List Mb). get_or l k Skip) (sym whole) ∙ is_k in
+    subst (λ (n : ℕ). IsSentAt h n (get_or (run_at p.runs i) j Skip)) at
+    (subst (IsSentAt h k) m (s.each k (omega (arith, in_slice, end))))
     in
     let end_at : place_of p.runs i + 0 + length (run_at p.runs i) ≤ mbs_of h.format = omega (arith, end) in
     read_packet_is number t.sequence h (place_of p.runs i) t.marker (run_at p.runs i) (get_or packets i [])

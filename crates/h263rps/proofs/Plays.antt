@@ -1,5 +1,6 @@
 -- What a call has written so far, and what it is to give.
-use Rattle.std.proofs.Common.{◌≡◌, ℕ, ◌+◌, ◌<◌, Bool, true, List, [], ◌++◌, length, drop, Option, Some, None, Result, Ok, Err, IsErrAnd, refl, sym, ap, ◌∙◌, subst, arith}
+use Rattle.std.proofs.Common.{◌≡◌, ℕ, ◌+◌, ◌<◌, Bool, true, List, [], ◌++◌, length, take, drop, Option, Some, None, Result, Ok, Err, IsErr, IsErrAnd, refl, sym, ap, ◌∙◌, subst, arith}
+use Rattle.std.proofs.lemmas.List.{drop-drop, drop-take}
 use Rattle.h263_outside.specs.Desk.{Outside, Faults, NoneFalls, Rose, appended, GainsFront}
 use Rattle.h263_outside.specs.Gains.{Before}
 use Rattle.h263_outside.specs.declared.desk.Role.{Role}
@@ -11,18 +12,19 @@ use Rattle.y4m.specs.declared.fault.Y4mFault.{Y4mFault}
 use Rattle.y4m.specs.declared.fault.VideoStop.{VideoStop}
 use Rattle.y4m.specs.declared.fault.VideoStop.TheVariants.{Read, Refused}
 use Rattle.y4m.specs.declared.reader.Y4mReader.{Y4mReader}
-use Rattle.y4m.specs.Frame.{frame_size, next_frame}
+use Rattle.y4m.specs.Frame.{frame_of, frame_size, next_frame}
 use Rattle.y4m.specs.Head.{head_of, head_size}
 use Rattle.y4m.specs.Reader.{HeadGives, FrameGives, Moves}
 use Rattle.y4m.specs.Text.{head_text}
 use Rattle.y4m.specs.Video.{frames_of, fault_of, fault_behind, frames_behind, video_fault, video_frames}
+use Rattle.y4m.proofs.Cuts.{head_stays}
 use Rattle.h263rps.specs.declared.status.Status.{Status}
 use Rattle.h263rps.specs.declared.status.Status.TheVariants.{Ok as Fine, OutOfMemory, Usage, ReadFault, WriteFault, VideoRefused, OpenFault}
 use Rattle.h263rps.specs.Status.{stop_status, status_of}
 use Rattle.h263rps.specs.Out.{Output, call_output, shown_text, frames_text, pictures_text, ended}
-use Rattle.h263rps.specs.Run.{IsExactly, IsCutOff, HasCause, IsLater, KeepsRoles}
+use Rattle.h263rps.specs.Run.{IsExactly, IsCutOff, TakesInput, HasCause, IsLater, KeepsRoles}
 use Rattle.h263rps.specs.Play.{GainsPictures, StopsInPictures, IsPlaying, HasEnded, FramePlays, FrameMoves}
-use Rattle.h263rps.proofs.Frames.{behind, frames_step, fault_step, frames_stop, fault_stop, frames-nil, fault-nil}
+use Rattle.h263rps.proofs.Frames.{behind, frames_step, fault_step, frames_stop, fault_stop, frames-nil, fault-nil, frames_cut, frames_lost}
 
 -- a write on Pictures, role by role
 pub gains_pictures : (bytes : List ℕ) (old new : Role → Option (List ℕ)) → new ≡ appended old Pictures bytes → GainsPictures bytes old new
@@ -57,11 +59,24 @@ module _ (video : List ℕ) (reader : Y4mReader) (start : Role → Option (List 
   frame_refused fault some is = record {
     gives = stops_with (Some fault) (frames_stop reader.format reader.more reader.at p.rest fault is) (fault_stop reader.format reader.more reader.at p.rest fault some is);
     left = λ fine. absurd (cc fine);
+    taken = λ fault. absurd (cc fault);
+  }
+
+  -- a read failed, and what it took has no whole frame
+  frame_lost : (k : ℕ) → new.left Video ≡ Some (drop k p.rest) → IsErr (frame_of reader.format reader.at (take k p.rest)) → TakesInput video start new
+  frame_lost k left lost = record {
+    count = reader.at + k;
+    left = left ∙ ap (λ (l : List ℕ). Some (drop k l)) p.place ∙ ap (λ (l : List ℕ). Some l) (drop-drop k reader.at video);
+    pictures =
+        all_gained _ _ _
+        (before_stays [] _ _ _ _
+        (subst (λ (l : List (List ℕ)). Before (frames_text reader.format l) (call_output (take (reader.at + k) video)).pictures (start Pictures) (old.written Pictures)) (frames_lost reader.format reader.more reader.at (take k p.rest) lost) (p.cut k))
+        (still Pictures));
   }
 
   -- a stop of the reader: what a status ReadFault or VideoRefused says
   frame_stop : (stop : VideoStop) (out : List ℕ) (after : Y4mReader) → FrameGives (Err stop) reader p.rest out after (new.left Video) → HasEnded video (stop_status stop) start new
-  frame_stop Read out after gives = record { gives = cut_off; left = λ fine. absurd (cc fine) }
+  frame_stop Read out after gives = record { gives = cut_off; left = λ fine. absurd (cc fine); taken = λ fault. frame_lost gives.0 gives.1 gives.2 }
   frame_stop (Refused fault) out after gives = frame_refused fault gives.0 gives.1
 
   pub frame_stops : (r : Result Bool Status) (stop : VideoStop) (out : List ℕ) (after : Y4mReader) → IsErrAnd r (λ s. s ≡ stop_status stop) → FrameGives (Err stop) reader p.rest out after (new.left Video) → FramePlays r video after start new
@@ -73,21 +88,37 @@ module _ (video : List ℕ) (reader : Y4mReader) (start : Role → Option (List 
   frames_end none left = record {
     gives = stops_with None (ap (λ (l : List ℕ). frames_of reader.format reader.more reader.at l) none ∙ frames-nil reader.format reader.more reader.at) (ap (λ (l : List ℕ). fault_of reader.format reader.more reader.at l) none ∙ fault-nil reader.format reader.more reader.at);
     left = λ _. left;
+    taken = λ fault. absurd (cc fault);
   }
 
 -- a frame was read and coded, and its picture is written
 module _ (video : List ℕ) (reader after : Y4mReader) (start : Role → Option (List ℕ)) (old middle new : Outside) (frame : List ℕ) (same : middle.written ≡ old.written) (p : IsPlaying video reader start old) (some : 0 < length p.rest) (is : next_frame reader.more reader.format reader.at p.rest ≡ Ok frame) (format : after.format ≡ reader.format) (less : after.more + 1 ≡ reader.more) (at : after.at ≡ reader.at + frame_size reader.format p.rest) where
-  next_text : frames_text reader.format (frames_of reader.format reader.more reader.at p.rest) ≡ shown_text reader.format frame ++ frames_text reader.format (frames_of reader.format after.more (reader.at + frame_size reader.format p.rest) (behind reader.format p.rest))
-  next_text = ap (λ (l : List (List ℕ)). frames_text reader.format l) (frames_step reader.format reader.more after.more reader.at p.rest frame less some is)
+  -- what comes behind the frame, by the reader there
+  there : (l : List ℕ) → frames_text reader.format (frames_of reader.format after.more (reader.at + frame_size reader.format p.rest) l) ≡ frames_text after.format (frames_of after.format after.more after.at l)
+  there l = ap (λ (g : Format). frames_text g (frames_of g after.more (reader.at + frame_size reader.format p.rest) l)) (sym format) ∙ ap (λ (k : ℕ). frames_text after.format (frames_of after.format after.more k l)) (sym at)
+
+  next_text : frames_text reader.format (frames_of reader.format reader.more reader.at p.rest) ≡ shown_text reader.format frame ++ frames_text after.format (frames_of after.format after.more after.at (behind reader.format p.rest))
+  next_text = ap (λ (l : List (List ℕ)). frames_text reader.format l) (frames_step reader.format reader.more after.more reader.at p.rest frame less some is) ∙ ap (λ (l : List ℕ). shown_text reader.format frame ++ l) (there (behind reader.format p.rest))
+
+  -- the same where k bytes behind the frame are taken
+  next_cut : (k : ℕ) → frames_text reader.format (frames_of reader.format reader.more reader.at (take (frame_size reader.format p.rest + k) p.rest)) ≡ shown_text reader.format frame ++ frames_text after.format (frames_of after.format after.more after.at (take k (behind reader.format p.rest)))
+  next_cut k = ap (λ (l : List (List ℕ)). frames_text reader.format l) (frames_cut reader.format reader.more after.more reader.at k p.rest frame less some is) ∙ ap (λ (l : List ℕ). shown_text reader.format frame ++ l) (there (take k (behind reader.format p.rest)))
 
   at_role : (r : Role) → middle.written r ≡ old.written r
   at_role r = ap (λ (w : Role → Option (List ℕ)). w r) same
 
-  before : Before (shown_text reader.format frame ++ frames_text reader.format (frames_of reader.format after.more (reader.at + frame_size reader.format p.rest) (behind reader.format p.rest))) (call_output video).pictures (start Pictures) (middle.written Pictures)
-  before = before_stays _ _ _ _ _ (subst (λ (l : List ℕ). Before l (call_output video).pictures (start Pictures) (old.written Pictures)) next_text p.pictures) (at_role Pictures)
+  -- what is to come of a text, seen behind the read
+  seen : (text next all : List ℕ) → text ≡ next → Before text all (start Pictures) (old.written Pictures) → Before next all (start Pictures) (middle.written Pictures)
+  seen text next all e b = before_stays _ _ _ _ _ (subst (λ (l : List ℕ). Before l all (start Pictures) (old.written Pictures)) e b) (at_role Pictures)
 
-  there : frames_text reader.format (frames_of reader.format after.more (reader.at + frame_size reader.format p.rest) (behind reader.format p.rest)) ≡ frames_text after.format (frames_of after.format after.more after.at (behind reader.format p.rest))
-  there = ap (λ (g : Format). frames_text g (frames_of g after.more (reader.at + frame_size reader.format p.rest) (behind reader.format p.rest))) (sym format) ∙ ap (λ (k : ℕ). frames_text after.format (frames_of after.format after.more k (behind reader.format p.rest))) (sym at)
+  before : Before (shown_text reader.format frame ++ frames_text after.format (frames_of after.format after.more after.at (behind reader.format p.rest))) (call_output video).pictures (start Pictures) (middle.written Pictures)
+  before = seen _ _ _ next_text p.pictures
+
+  before_cut : (k : ℕ) → Before (shown_text reader.format frame ++ frames_text after.format (frames_of after.format after.more after.at (take k (behind reader.format p.rest)))) (call_output (take (after.at + k) video)).pictures (start Pictures) (middle.written Pictures)
+  before_cut k =
+      let sum : reader.at + (frame_size reader.format p.rest + k) ≡ after.at + k = omega (arith, at) in
+      let text = frames_text reader.format (frames_of reader.format reader.more reader.at (take (frame_size reader.format p.rest + k) p.rest)) in
+      seen text _ _ (next_cut k) (subst (λ (n : ℕ). Before text (call_output (take n video)).pictures (start Pictures) (old.written Pictures)) sum (p.cut (frame_size reader.format p.rest + k)))
 
   fault_there : fault_of reader.format after.more (reader.at + frame_size reader.format p.rest) (behind reader.format p.rest) ≡ fault_of after.format after.more after.at (behind reader.format p.rest)
   fault_there = ap (λ (g : Format). fault_of g after.more (reader.at + frame_size reader.format p.rest) (behind reader.format p.rest)) (sym format) ∙ ap (λ (k : ℕ). fault_of after.format after.more k (behind reader.format p.rest)) (sym at)
@@ -96,10 +127,12 @@ module _ (video : List ℕ) (reader after : Y4mReader) (start : Role → Option 
   frame_played w left = record {
     rest = behind reader.format p.rest;
     left = left;
-    pictures = subst (λ (l : List ℕ). Before l (call_output video).pictures (start Pictures) (new.written Pictures)) there (part_after (shown_text reader.format frame) _ _ _ _ _ before w.pictures);
+    place = ap (λ (l : List ℕ). drop (frame_size reader.format p.rest) l) p.place ∙ drop-drop (frame_size reader.format p.rest) reader.at video ∙ ap (λ (n : ℕ). drop n video) (sym at);
+    pictures = part_after (shown_text reader.format frame) _ _ _ _ _ before w.pictures;
     wire = before_stays [] _ _ _ _ p.wire (w.wire ∙ at_role Wire);
     report = before_stays [] _ _ _ _ p.report (w.report ∙ at_role Report);
     ends = ap ended (sym (fault_step reader.format reader.more after.more reader.at p.rest frame less some is ∙ fault_there)) ∙ p.ends;
+    cut = λ k. part_after (shown_text reader.format frame) _ _ _ _ _ (before_cut k) w.pictures;
   }
 
   frame_cut : StopsInPictures (shown_text reader.format frame) middle.written new.written → HasEnded video WriteFault start new
@@ -110,6 +143,7 @@ module _ (video : List ℕ) (reader after : Y4mReader) (start : Role → Option 
       report = front_so_far _ _ _ _ (before_stays [] _ _ _ _ p.report (w.report ∙ at_role Report));
     };
     left = λ fine. absurd (cc fine);
+    taken = λ fault. absurd (cc fault);
   }
 
   pub frame_stopped : (r : Result Bool Status) (s : Status) → IsErrAnd r (λ x. x ≡ s) → s ≡ WriteFault → StopsInPictures (shown_text reader.format frame) middle.written new.written → FramePlays r video after start new
@@ -139,6 +173,16 @@ whole_text : (video : List ℕ) (f : Format) → head_of video ≡ Ok f → head
 unfolding call_output video_frames
 whole_text video f is = sym (ap (λ (h : Result Format Y4mFault). pictures_text h (frames_behind h (head_size video) (drop (head_size video) video))) is)
 
+-- the same where k bytes behind the head are taken
+whole_cut : (video : List ℕ) (f : Format) (k : ℕ) → head_of video ≡ Ok f → head_text f ++ frames_text f (frames_of f 1048576 (head_size video) (take k (drop (head_size video) video))) ≡ (call_output (take (head_size video + k) video)).pictures
+whole_cut video f k is =
+    let size = head_size video in
+    let part = take (size + k) video in
+    let stays = head_stays video f (size + k) is (omega arith) in
+    ap (λ (l : List ℕ). head_text f ++ frames_text f (frames_of f 1048576 size l)) (sym (drop-take size k video))
+    ∙ ap (λ (n : ℕ). head_text f ++ frames_text f (frames_of f 1048576 n (drop n part))) (sym stays.1)
+    ∙ whole_text part f stays.0
+
 whole_ends : (video : List ℕ) (f : Format) → head_of video ≡ Ok f → ended (fault_of f 1048576 (head_size video) (drop (head_size video) video)) ≡ (call_output video).status
 unfolding call_output video_fault
 whole_ends video f is = sym (ap (λ (h : Result Format Y4mFault). ended (fault_behind h (head_size video) (drop (head_size video) video))) is)
@@ -151,44 +195,49 @@ call_report : (video : List ℕ) → [] ≡ (call_output video).report
 unfolding call_output
 call_report video = refl
 
--- a text that is empty was gained with nothing written
-empty_before : (all : List ℕ) (old new : Option (List ℕ)) → [] ≡ all → new ≡ old → Before [] all old new
-empty_before all old new is same = subst (λ (l : List ℕ). Before l all old new) (sym is) (nothing_gained all old new same)
-
-head_before : (video : List ℕ) (f : Format) (old new : Option (List ℕ)) → head_of video ≡ Ok f → new ≡ old → Before (head_text f ++ frames_text f (frames_of f 1048576 (head_size video) (drop (head_size video) video))) (call_output video).pictures old new
-head_before video f old new is same = subst (λ (l : List ℕ). Before l (call_output video).pictures old new) (sym (whole_text video f is)) (nothing_gained (call_output video).pictures old new same)
+-- before anything was gained of a text
+whole_before : (text all : List ℕ) (old new : Option (List ℕ)) → text ≡ all → new ≡ old → Before text all old new
+whole_before text all old new is same = subst (λ (l : List ℕ). Before l all old new) (sym is) (nothing_gained all old new same)
 
 module _ (video : List ℕ) (reader : Y4mReader) (old middle new : Outside) (same : middle.written ≡ old.written) (is : head_of video ≡ Ok reader.format) where
   same_at : (r : Role) → middle.written r ≡ old.written r
   same_at r = ap (λ (w : Role → Option (List ℕ)). w r) same
 
   all_before : Before (head_text reader.format ++ frames_text reader.format (frames_of reader.format 1048576 (head_size video) (drop (head_size video) video))) (call_output video).pictures (old.written Pictures) (middle.written Pictures)
-  all_before = head_before video reader.format (old.written Pictures) (middle.written Pictures) is (same_at Pictures)
+  all_before = whole_before _ _ _ _ (whole_text video reader.format is) (same_at Pictures)
+
+  cut_before : (k : ℕ) → reader.at ≡ head_size video → Before (head_text reader.format ++ frames_text reader.format (frames_of reader.format 1048576 (head_size video) (take k (drop (head_size video) video)))) (call_output (take (reader.at + k) video)).pictures (old.written Pictures) (middle.written Pictures)
+  cut_before k at = whole_before _ _ _ _ (whole_cut video reader.format k is ∙ ap (λ (n : ℕ). (call_output (take (n + k) video)).pictures) (sym at)) (same_at Pictures)
 
   pub head_played : reader.at ≡ head_size video → reader.more ≡ 1048576 → GainsPictures (head_text reader.format) middle.written new.written → new.left Video ≡ Some (drop (head_size video) video) → IsPlaying video reader old.written new
   head_played at more w left =
       let body = drop (head_size video) video in
-      let there : frames_of reader.format 1048576 (head_size video) body ≡ frames_of reader.format reader.more reader.at body =
-      ap (λ (n : ℕ). frames_of reader.format n (head_size video) body) (sym more) ∙ ap (λ (k : ℕ). frames_of reader.format reader.more k body) (sym at) in
+      let there : (l : List ℕ) → frames_of reader.format 1048576 (head_size video) l ≡ frames_of reader.format reader.more reader.at l = λ l.
+      ap (λ (n : ℕ). frames_of reader.format n (head_size video) l) (sym more) ∙ ap (λ (k : ℕ). frames_of reader.format reader.more k l) (sym at) in
       let fault_there : fault_of reader.format reader.more reader.at body ≡ fault_of reader.format 1048576 (head_size video) body =
       ap (λ (k : ℕ). fault_of reader.format reader.more k body) at ∙ ap (λ (n : ℕ). fault_of reader.format n (head_size video) body) more in
+      let gains : (l all : List ℕ) → Before (head_text reader.format ++ frames_text reader.format (frames_of reader.format 1048576 (head_size video) l)) all (old.written Pictures) (middle.written Pictures) → Before (frames_text reader.format (frames_of reader.format reader.more reader.at l)) all (old.written Pictures) (new.written Pictures) = λ l all b.
+      subst (λ (frames : List (List ℕ)). Before (frames_text reader.format frames) all (old.written Pictures) (new.written Pictures)) (there l) (part_after (head_text reader.format) _ _ _ _ _ b w.pictures) in
       record {
         rest = body;
         left = left;
-        pictures = subst (λ (l : List (List ℕ)). Before (frames_text reader.format l) (call_output video).pictures (old.written Pictures) (new.written Pictures)) there (part_after (head_text reader.format) _ _ _ _ _ all_before w.pictures);
-        wire = empty_before _ _ _ (call_wire video) (w.wire ∙ same_at Wire);
-        report = empty_before _ _ _ (call_report video) (w.report ∙ same_at Report);
+        place = ap (λ (n : ℕ). drop n video) (sym at);
+        pictures = gains body _ all_before;
+        wire = whole_before [] _ _ _ (call_wire video) (w.wire ∙ same_at Wire);
+        report = whole_before [] _ _ _ (call_report video) (w.report ∙ same_at Report);
         ends = ap ended fault_there ∙ whole_ends video reader.format is;
+        cut = λ k. gains (take k body) _ (cut_before k at);
       }
 
   head_cut : StopsInPictures (head_text reader.format) middle.written new.written → HasEnded video WriteFault old.written new
   head_cut w = record {
     gives = record {
       pictures = front_after (head_text reader.format) _ _ _ _ _ all_before w.pictures;
-      wire = front_so_far _ _ _ _ (empty_before _ _ _ (call_wire video) (w.wire ∙ same_at Wire));
-      report = front_so_far _ _ _ _ (empty_before _ _ _ (call_report video) (w.report ∙ same_at Report));
+      wire = front_so_far _ _ _ _ (whole_before [] _ _ _ (call_wire video) (w.wire ∙ same_at Wire));
+      report = front_so_far _ _ _ _ (whole_before [] _ _ _ (call_report video) (w.report ∙ same_at Report));
     };
     left = λ fine. absurd (cc fine);
+    taken = λ fault. absurd (cc fault);
   }
 
   pub head_stopped : (r : Result (Unit {0}) Status) (s : Status) → IsErrAnd r (λ x. x ≡ s) → s ≡ WriteFault → StopsInPictures (head_text reader.format) middle.written new.written → HasEnded video (status_of r) old.written new
@@ -202,27 +251,45 @@ refused_text : (video : List ℕ) (fault : Y4mFault) → head_of video ≡ Err f
 unfolding call_output
 refused_text video fault is = sym (ap (λ (h : Result Format Y4mFault). pictures_text h (video_frames video)) is)
 
+no_text : (head : Result Format Y4mFault) (frames : List (List ℕ)) → IsErr head → [] ≡ pictures_text head frames
+no_text (Ok f) frames lost = absurd (cc lost)
+no_text (Err fault) frames lost = refl
+
+-- nothing is shown of a video whose head isn't whole
+lost_text : (video : List ℕ) → IsErr (head_of video) → [] ≡ (call_output video).pictures
+unfolding call_output
+lost_text video lost = no_text (head_of video) (video_frames video) lost
+
 module _ (video : List ℕ) (old new : Outside) (same : new.written ≡ old.written) where
   kept_at : (r : Role) → new.written r ≡ old.written r
   kept_at r = ap (λ (w : Role → Option (List ℕ)). w r) same
 
   head_stop : (stop : VideoStop) → HeadGives (Err stop) video (new.left Video) → HasEnded video (stop_status stop) old.written new
-  head_stop Read gives = record { gives = nothing_cut (call_output video) old.written new.written same; left = λ fine. absurd (cc fine) }
+  head_stop Read gives = record {
+    gives = nothing_cut (call_output video) old.written new.written same;
+    left = λ fine. absurd (cc fine);
+    taken = λ fault. record {
+      count = gives.0;
+      left = gives.1;
+      pictures = all_gained _ _ _ (whole_before [] _ _ _ (lost_text (take gives.0 video) gives.2) (kept_at Pictures));
+    };
+  }
   head_stop (Refused fault) is = record {
     gives = record {
       status = refused_status video fault is;
-      pictures = all_gained _ _ _ (empty_before _ _ _ (refused_text video fault is) (kept_at Pictures));
-      wire = all_gained _ _ _ (empty_before _ _ _ (call_wire video) (kept_at Wire));
-      report = all_gained _ _ _ (empty_before _ _ _ (call_report video) (kept_at Report));
+      pictures = all_gained _ _ _ (whole_before [] _ _ _ (refused_text video fault is) (kept_at Pictures));
+      wire = all_gained _ _ _ (whole_before [] _ _ _ (call_wire video) (kept_at Wire));
+      report = all_gained _ _ _ (whole_before [] _ _ _ (call_report video) (kept_at Report));
     };
     left = λ fine. absurd (cc fine);
+    taken = λ fault. absurd (cc fault);
   }
 
   pub head_stops : (r : Result (Unit {0}) Status) (stop : VideoStop) → IsErrAnd r (λ s. s ≡ stop_status stop) → HeadGives (Err stop) video (new.left Video) → HasEnded video (status_of r) old.written new
   head_stops r stop is gives = ended_err video r (stop_status stop) old.written new is (head_stop stop gives)
 
   pub no_memory : (r : Result (Unit {0}) Status) → IsErrAnd r (λ s. s ≡ OutOfMemory) → HasEnded video (status_of r) old.written new
-  no_memory r is = ended_err video r OutOfMemory old.written new is (record { gives = nothing_cut (call_output video) old.written new.written same; left = λ fine. absurd (cc fine) })
+  no_memory r is = ended_err video r OutOfMemory old.written new is (record { gives = nothing_cut (call_output video) old.written new.written same; left = λ fine. absurd (cc fine); taken = λ fault. absurd (cc fault) })
 
 -- what the reader says, by what it answered
 pub gave : (b known : Bool) (reader after : Y4mReader) (rest out : List ℕ) (left : Option (List ℕ)) → b ≡ known → FrameGives (Ok b) reader rest out after left → FrameGives (Ok known) reader rest out after left

@@ -1,5 +1,5 @@
 -- A call in the middle of its video.
-use Rattle.std.specs.Prelude.{ℕ, ◌≡◌, ◌+◌, Bool, true, false, List, [], Option, Some, Result, Ok, Err}
+use Rattle.std.specs.Prelude.{ℕ, ◌≡◌, ◌+◌, Bool, true, false, List, [], take, drop, Option, Some, Result, Ok, Err}
 use Rattle.h263_outside.specs.Desk.{Outside}
 use Rattle.h263_outside.specs.Gains.{gained, Before, Front}
 use Rattle.h263_outside.specs.declared.desk.Role.{Role}
@@ -7,9 +7,9 @@ use Rattle.h263_outside.specs.declared.desk.Role.TheVariants.{Video, Pictures, W
 use Rattle.y4m.specs.declared.reader.Y4mReader.{Y4mReader}
 use Rattle.y4m.specs.Video.{frames_of, fault_of}
 use Rattle.h263rps.specs.declared.status.Status.{Status}
-use Rattle.h263rps.specs.declared.status.Status.TheVariants.{Ok as Fine}
+use Rattle.h263rps.specs.declared.status.Status.TheVariants.{Ok as Fine, ReadFault}
 use Rattle.h263rps.specs.Out.{call_output, frames_text, ended}
-use Rattle.h263rps.specs.Run.{Gives}
+use Rattle.h263rps.specs.Run.{Gives, TakesInput}
 
 -- the pictures have gained these bytes, and no other output has gained any
 pub record GainsPictures (bytes : List ℕ) (old new : Role → Option (List ℕ)) : Type 0 where
@@ -23,19 +23,23 @@ pub record StopsInPictures (bytes : List ℕ) (old new : Role → Option (List �
   pub wire : new Wire ≡ old Wire
   pub report : new Report ≡ old Report
 
--- so much of the video is left where the reader is: the texts so far, and those of what is left, are the whole texts
+-- so much of the video is left where the reader is: the texts so far, and those of what is left, are the whole texts;
+-- and where the video ends k bytes from there, the pictures so far, and those of these bytes, are all of its pictures
 pub record IsPlaying (video : List ℕ) (reader : Y4mReader) (start : Role → Option (List ℕ)) (now : Outside) : Type 0 where
   pub rest : List ℕ
   pub left : now.left Video ≡ Some rest
+  pub place : rest ≡ drop reader.at video
   pub pictures : Before (frames_text reader.format (frames_of reader.format reader.more reader.at rest)) (call_output video).pictures (start Pictures) (now.written Pictures)
   pub wire : Before [] (call_output video).wire (start Wire) (now.written Wire)
   pub report : Before [] (call_output video).report (start Report) (now.written Report)
   pub ends : ended (fault_of reader.format reader.more reader.at rest) ≡ (call_output video).status
+  pub cut : (k : ℕ) → Before (frames_text reader.format (frames_of reader.format reader.more reader.at (take k rest))) (call_output (take (reader.at + k) video)).pictures (start Pictures) (now.written Pictures)
 
 -- the video has ended
 pub record HasEnded (video : List ℕ) (status : Status) (start : Role → Option (List ℕ)) (now : Outside) : Type 0 where
   pub gives : Gives (call_output video) status start now.written
   pub left : status ≡ Fine → now.left Video ≡ Some []
+  pub taken : status ≡ ReadFault → TakesInput video start now
 
 -- what one frame makes of a call: it goes on behind the frame, or has ended
 abbrev pub FramePlays : Result Bool Status → List ℕ → Y4mReader → (Role → Option (List ℕ)) → Outside → Type 0

@@ -1,5 +1,5 @@
 -- How a run ends, against what it is to give.
-use Rattle.std.specs.Prelude.{ℕ, ◌≡◌, List, [], ◌∷◌, take, Option, Some, IsTrue, IfSome, if◌then◌else◌}
+use Rattle.std.specs.Prelude.{ℕ, ◌≡◌, List, [], ◌∷◌, take, drop, Option, Some, IsTrue, IfSome, if◌then◌else◌}
 use Rattle.std.specs.List.{AllByRecursion, list_any}
 use Rattle.h263_outside.specs.Desk.{Outside, Faults, NoneFalls, Rose, is_role}
 use Rattle.h263_outside.specs.Gains.{gained, Front}
@@ -7,7 +7,7 @@ use Rattle.h263_outside.specs.declared.desk.Role.{Role}
 use Rattle.h263_outside.specs.declared.desk.Role.TheVariants.{Video, Events, Pictures, Wire, Report}
 use Rattle.h263rps.specs.declared.status.Status.{Status}
 use Rattle.h263rps.specs.declared.status.Status.TheVariants.{Ok as Fine, OutOfMemory, Usage, ReadFault, WriteFault, VideoRefused, OpenFault}
-use Rattle.h263rps.specs.Out.{Output}
+use Rattle.h263rps.specs.Out.{Output, call_output}
 
 -- the desk tells what its inputs hold
 pub record Tells (outside : Outside) (video_bytes events_bytes : List ℕ) : Type 0 where
@@ -26,6 +26,12 @@ pub record IsCutOff (out : Output) (old new : Role → Option (List ℕ)) : Type
   pub pictures : Front out.pictures (old Pictures) (new Pictures)
   pub wire : Front out.wire (old Wire) (new Wire)
   pub report : Front out.report (old Report) (new Report)
+
+-- so many bytes of the video were taken, and the pictures that were written are those of a call whose video is these
+pub record TakesInput (video : List ℕ) (old : Role → Option (List ℕ)) (new : Outside) : Type 0 where
+  pub count : ℕ
+  pub left : new.left Video ≡ Some (drop count video)
+  pub pictures : new.written Pictures ≡ gained (old Pictures) (call_output (take count video)).pictures
 
 -- what a run has written when it ends with a status: all of the texts, nothing, or a front of each
 abbrev pub Gives : Output → Status → (Role → Option (List ℕ)) → (Role → Option (List ℕ)) → Type 0

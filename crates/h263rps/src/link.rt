@@ -59,7 +59,13 @@ impl Link {
     {
         let format = self.params.format;
         let frame = PictureRef::new(format, frame);
-        send(&self.params, &mut self.cutter, &mut self.work, number, frame);
+        send(
+            &self.params,
+            &mut self.cutter,
+            &mut self.work,
+            number,
+            frame,
+        );
         let mut picture = PictureMut::new(format, out);
         take_packets(
             &mut self.collector,

@@ -8,7 +8,7 @@ ghost use Rattle.y4m.specs.Video.{video_fault};
 ghost use Rattle.h263rps.specs.Status.{status_of};
 ghost use Rattle.h263rps.specs.Out.{output_of, order_of, order_from, command_of, texts};
 ghost use Rattle.h263rps.specs.Out.Command.{Call};
-ghost use Rattle.h263rps.specs.Run.{Tells, HasCause, IsExactly, IsCutOff, AttachedAt, IsSettled, IsStopped, IsUnopened, IsNotUsage};
+ghost use Rattle.h263rps.specs.Run.{Tells, HasCause, IsExactly, IsCutOff, AttachedAt, IsSettled, IsStopped, IsUnopened, IsNotUsage, TakesInput};
 ghost use Rattle.h263rps.specs.Play.{HasEnded};
 
 use crate::Status;
@@ -71,6 +71,10 @@ pub fn run<D: Desk>(alloc: Global, words: &[&str], desk: &mut D) -> Status
 
     // `Ok` says that the video was read to its end.
     ensures whole_input { (video events : List ℕ) → Tells (D.outside desk.old) video events → result ≡ Status.Ok → (D.outside desk.new).left Video ≡ Some [] }
+
+    // After `ReadFault` the pictures are exactly those of what was taken of the video: its whole frames, and nothing
+    // where its head was not taken whole.
+    ensures taken_input { (video events : List ℕ) → Tells (D.outside desk.old) video events → result ≡ Status.ReadFault → TakesInput video (D.outside desk.old).written (D.outside desk.new) }
 
     // `Usage` comes exactly where the words are no command, whatever the desk tells; then, and where a role
     // could not be attached, nothing was written. A video is refused by its own first fault.

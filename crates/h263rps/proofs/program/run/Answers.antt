@@ -31,6 +31,9 @@ returns-in-Err-clause-prefixes g c = λ video events told stopped.
 pub returns-in-Err-clause-whole_input : goal.returns-in-Err-clause-whole_input
 returns-in-Err-clause-whole_input g c = λ video events told fine. (c.in-Err.ensures.plays video told.video).left fine
 
+pub returns-in-Err-clause-taken_input : goal.returns-in-Err-clause-taken_input
+returns-in-Err-clause-taken_input g c = λ video events told fault. (c.in-Err.ensures.plays video told.video).taken fault
+
 pub returns-in-Err-clause-refused : goal.returns-in-Err-clause-refused
 returns-in-Err-clause-refused g c = λ video events told fault is.
     let outside = g.D.Desk.outside in

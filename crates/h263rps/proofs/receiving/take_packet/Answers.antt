@@ -1,11 +1,10 @@
-use Rattle.std.proofs.Common.{◌≡◌, ◌≤◌, ◌+◌, ℕ, length, refl, sym, ap, subst, ◌∙◌, arith}
+use Rattle.std.proofs.Common.{◌≡◌, ◌≤◌, ◌+◌, length, refl, sym, ap, subst, ◌∙◌, arith}
 use Rattle.h263_types.specs.declared.Kind.{Kind}
 use Rattle.h263_types.specs.declared.Kind.TheVariants.{I, P}
 use Rattle.h263_types.specs.declared.format.Format.{Format}
 use Rattle.h263_types.specs.Sizes.{mbs_of}
 use Rattle.h263_planes.specs.Work.{work}
 use Rattle.h263_planes.proofs.Wholes.{whole_picture}
-use Rattle.packet_collector.specs.declared.piece.Piece.{Piece}
 use Rattle.packet_collector.specs.Packet.{Slice, IsPacket}
 use Rattle.packet_collector.specs.Collected.{format_of}
 use Rattle.h263rps.proofs.Shown.{slice_is_set}

@@ -1,9 +1,8 @@
-use Rattle.std.proofs.Common.{◌≡◌, ◌<◌, ◌≤◌, ◌+◌, ℕ, List, [], length, get_or, sym, refl, ap, subst, ◌∙◌, arith}
+use Rattle.std.proofs.Common.{◌≡◌, ◌<◌, ◌≤◌, ℕ, List, [], length, get_or, sym, refl, ap, subst, ◌∙◌, arith}
 use Rattle.h263_types.specs.declared.format.Format.{Format}
 use Rattle.h263_types.specs.declared.blocks.Mb.{Mb}
 use Rattle.h263_types.specs.Sizes.{mbs_of}
 use Rattle.h263_planes.specs.Work.{work}
-use Rattle.picture_header.specs.declared.header.Header.{Header}
 use Rattle.packet_collector.specs.Packet.{IsPacket}
 use Rattle.packet_collector.specs.Collected.{format_of}
 use Rattle.packet_cutter.specs.Cutting.{packets_of}

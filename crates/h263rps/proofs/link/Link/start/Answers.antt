@@ -1,4 +1,4 @@
-use Rattle.std.proofs.Common.{◌≡◌, ℕ, ap, ◌∙◌, arith}
+use Rattle.std.proofs.Common.{ap, ◌∙◌, arith}
 use Rattle.h263_types.specs.declared.params.Params.{Params}
 use Rattle.h263rps.proofs.Collecting.{first_ready}
 use Rattle.h263rps.proofs.link.Link.start.Goals as goal
