@@ -1,8 +1,10 @@
 -- The levels of a block are in the ranges of its text.
-use Rattle.std.proofs.Common.{◌≡◌, ℕ, ◌+◌, ◌*◌, ◌/◌, ◌%◌, ◌≤◌, ◌<◌, List, get_or, Bool, true, false, cond, nat_eq, nat_lt, ap, subst, sym, arith, ℤ, pos, negsuc, map, refl, lit<, ◌∙◌, to_z, of_z, w16, w32}
+use Rattle.std.proofs.Common.{◌≡◌, ℕ, suc, ◌+◌, ◌-◌, ◌*◌, min, unsigned_abs, neg_ℤ, ◌/◌, ◌%◌, ◌≤◌, ◌<◌, List, get_or, Bool, true, false, cond, nat_eq, nat_lt, ap, subst, sym, arith, ℤ, pos, negsuc, map, replicate, refl, lit<, ◌∙◌, to_z, of_z, w16, w32}
 use Rattle.std.specs.List.{range_with_len}
 use Rattle.std.proofs.lemmas.Int.{ints}
-use Rattle.std.proofs.lemmas.List.FromFn.{get_or-map-range_with_len, length-map-range_with_len}
+use Rattle.std.proofs.lemmas.List.{get_or-replicate, length-replicate}
+use Rattle.std.proofs.Math.Nat.{div-eq_of_lt, div-lt_iff_lt-mul}
+use Rattle.std.proofs.lemmas.List.FromFn.{fill_by_all, get_or-map-range_with_len, length-map-range_with_len}
 use Rattle.std.proofs.lemmas.List.Elements.{All-from_get_or}
 use Rattle.std.specs.Prelude.{All}
 use Rattle.std.proofs.lemmas.Bool.Decides.{nat_tests}
@@ -108,3 +110,32 @@ pub is_forward : (coefficients block : List ℤ) (at k : ℕ) → at ≡ block_p
     get_or coefficients at (pos 0) ≡ coefficient_at block k
 is_forward coefficients block at k e h each =
     sym (at_place coefficients at) ∙ each (at / 8) (at % 8) (omega arith) (omega arith) ∙ ap (λ (n : ℕ). forward_at block (n / 8) (n % 8)) e
+
+-- a coefficient that is smaller than a step and half a quantiser has no level
+pub no_level : (quant : ℕ) (f : ℤ) → IsQuant quant → unsigned_abs f < 2 * quant + quant / 2 → inter_level quant f ≡ pos 0
+no_level quant (pos n) h small = ap (λ (size : ℕ). pos (min size 127)) (div-eq_of_lt (let less : n - quant / 2 < 2 * quant = omega (arith, h.low) in less))
+no_level quant (negsuc n) h small = ap (λ (size : ℕ). neg_ℤ (pos (min size 127))) (div-eq_of_lt (let less : suc n - quant / 2 < 2 * quant = omega (arith, h.low) in less))
+
+-- and another one has
+pub has_level : (quant : ℕ) (f : ℤ) → IsQuant quant → 2 * quant + quant / 2 ≤ unsigned_abs f → inter_level quant f ≡ pos 0 → ⊥
+has_level quant (pos n) h large none =
+    let size : (n - quant / 2) / (2 * quant) < 1 = omega (arith, ints, none) in
+    let less : n - quant / 2 < 1 * (2 * quant) = (div-lt_iff_lt-mul (let some : 0 < 2 * quant = omega (arith, h.low) in some)).0 size in
+    omega (arith, less, large)
+has_level quant (negsuc n) h large none =
+    let size : (suc n - quant / 2) / (2 * quant) < 1 = omega (arith, ints, none) in
+    let less : suc n - quant / 2 < 1 * (2 * quant) = (div-lt_iff_lt-mul (let some : 0 < 2 * quant = omega (arith, h.low) in some)).0 size in
+    omega (arith, less, large)
+
+kept_nothing : (b : Bool) (z : ℤ) → z ≡ pos 0 → pos 0 ≡ cond b z (pos 0)
+kept_nothing true z h = sym h
+kept_nothing false z h = refl
+
+-- a block of residuals whose coefficients have no level
+pub no_levels : (quant keep : ℕ) (residuals : List ℤ) → ((k : ℕ) → inter_level quant (coefficient_at residuals k) ≡ pos 0) →
+    record { levels = replicate 64 (pos 0) } ≡ residual_levels_of quant keep residuals
+unfolding residual_levels_of
+no_levels quant keep residuals none =
+    let block : List ℤ → Block = λ ls. record { levels = ls } in
+    ap block (fill_by_all (λ (k : ℕ). residual_level_of quant keep k (coefficient_at residuals k)) (replicate 64 (pos 0)) 64 (pos 0) (length-replicate 64 (pos 0))
+    (λ k h. get_or-replicate 64 k (pos 0) (pos 0) h ∙ kept_nothing (nat_lt k keep) (inter_level quant (coefficient_at residuals k)) (none k)))

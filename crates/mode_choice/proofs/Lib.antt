@@ -3,3 +3,4 @@ pub mod Levels
 pub mod Blocks
 pub mod Differences
 pub mod Choices
+pub mod Small

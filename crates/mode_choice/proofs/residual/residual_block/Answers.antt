@@ -3,7 +3,7 @@ use Rattle.std.proofs.lemmas.List.FromFn.{fill_by_all}
 use Rattle.h263_types.specs.declared.blocks.Block.{Block}
 use Rattle.h263_types.specs.Blocks.{IsCoefficient}
 use Rattle.mode_choice.specs.Choice.{coefficient_at, residual_level_of, residual_levels_of}
-use Rattle.mode_choice.proofs.Levels.{coefficient_kept, is_coefficient, is_forward, level_kept}
+use Rattle.mode_choice.proofs.Levels.{coefficient_kept, is_coefficient, is_forward, level_kept, no_levels}
 use Rattle.mode_choice.proofs.Steps.{one_more}
 use Rattle.mode_choice.proofs.residual.residual_block.Goals as goal
 
@@ -24,6 +24,9 @@ loop-k-preserved c =
       length-set c.loop-k.levels k _ ∙ c.loop-k.invariant.0,
       one_more (λ (j : ℕ) (z : ℤ). z ≡ residual_level_of c.args.quant c.args.keep j (coefficient_at c.args.residuals.now j)) c.loop-k.levels k (to_z w16 (of_z w16 c.residual_level.result)) (pos 0) room level c.loop-k.invariant.1,
     )
+
+pub returns-then-are_small : goal.returns-then-are_small
+returns-then-are_small c = no_levels c.args.quant c.args.keep c.args.residuals.now (c.are_small.ensures c.if-are_small.true)
 
 pub returns : goal.returns
 unfolding residual_levels_of
