@@ -184,8 +184,7 @@ fn three_flat_pictures(rt: HostRuntime) -> Result<(), Fail> {
 }
 
 // A user's head, with tags that are passed over and an aspect ratio that isn't 1; and a frame with a tag.
-const USER_HEAD: &[u8] =
-    b"YUV4MPEG2 W176 H144 F30000:1001 Ip A128:117 C420mpeg2 XYSCSS=420MPEG2\n";
+const USER_HEAD: &[u8] = b"YUV4MPEG2 W176 H144 F30000:1001 Ip A128:117 C420mpeg2 XYSCSS=420MPEG2\n";
 
 const TAGGED_LINE: &[u8] = b"FRAME Xanything\n";
 
@@ -203,12 +202,7 @@ fn the_larger_formats(rt: HostRuntime) -> Result<(), Fail> {
     let qcif: &[&[u8]] = &[USER_HEAD, TAGGED_LINE, QCIF_PICTURE];
     let cif: &[&[u8]] = &[b"YUV4MPEG2 H288 W352\n", FRAME_LINE, CIF_PICTURE];
     let cases: &[Case] = &[
-        (
-            &[b"YUV4MPEG2 W176 H144\n"],
-            NONE,
-            Status::Ok,
-            &[QCIF_HEAD],
-        ),
+        (&[b"YUV4MPEG2 W176 H144\n"], NONE, Status::Ok, &[QCIF_HEAD]),
         (
             qcif,
             NONE,
@@ -269,9 +263,7 @@ fn refused_videos(rt: HostRuntime) -> Result<(), Fail> {
 
 const SHOWN: &[&[u8]] = &[OUT_HEAD, EXACT_LINE, PICTURE];
 
-const TWO: &[&[u8]] = &[
-    HEAD_LINE, FRAME_LINE, PICTURE, FRAME_LINE, PICTURE,
-];
+const TWO: &[&[u8]] = &[HEAD_LINE, FRAME_LINE, PICTURE, FRAME_LINE, PICTURE];
 
 // Calls 0 and 1 attach, 2 to 20 read the head byte by byte, 21 writes it, 22 to 27 read the frame's line, and 28 to 32 its
 // planes in pieces of 4,096 bytes; 33 writes the picture's line, and 34 to 225 its 192 rows. The next frame comes then.
