@@ -1,15 +1,16 @@
 //! A predicted block at a whole place, or half a sample off it.
-ghost use Rattle.std.specs.Prelude.{◌≡◌, ℕ, ◌+◌, ◌*◌, ◌≤◌, ◌<◌, length, slice_index, cond};
+ghost use Rattle.std.specs.Prelude.{◌≡◌, ℕ, ◌+◌, ◌-◌, ◌*◌, ◌≤◌, ◌<◌, length, slice_index};
 ghost use Rattle.h263_planes.specs.Lent.{picture};
 ghost use Rattle.half_sample.specs.Prediction.{interpolated, ReadsInside};
 
 use crate::rows::{of_four, of_two};
 use h263_planes::{PictureRef, Plane};
+use std::simd::prelude::*;
 
-// One row of predicted samples.
+/// A row of `N` predicted samples, 8 or 16, from column `x` of row `y` on, or half a sample further right or down
+/// (H.263, 6.1.2).
 #[inline(always)]
-fn row(
-    out: &mut [u8],
+pub fn row<const N: usize>(
     reference: PictureRef<'_>,
     plane: Plane,
     x: u32,
@@ -17,46 +18,37 @@ fn row(
     half_x: bool,
     half_y: bool,
     rounding: u8,
-)
-    requires inside { ReadsInside (picture reference).format plane half_x half_y x y (length out.old) }
-    requires length { length out.old ≤ 16 }
+) -> [u8; N]
+    requires inside { ReadsInside (picture reference).format plane half_x half_y x y N }
+    requires length { N ≤ 16 }
     requires x { x < 65536 }
     requires y { y < 65536 }
     requires rounding { rounding ≤ 1 }
-    ensures { (i : ℕ) → i < length out.old → slice_index out.new i ≡ interpolated (picture reference.entry) plane half_x half_y rounding (x + i) y }
+    ensures { (i : ℕ) → i < N → slice_index result i ≡ interpolated (picture reference.entry) plane half_x half_y rounding (x + i) y }
 {
-    let n = out.len() as u32;
+    let n = N as u32;
     match (half_x, half_y) {
-        (false, false) => out.copy_from_slice(reference.row(plane, x, y, n)),
+        (false, false) => Simd::from_slice(reference.row(plane, x, y, n)).to_array(),
         (true, false) => {
             let row = reference.row(plane, x, y, n + 1);
-            of_two(out, &row[..row.len() - 1], &row[1..], rounding);
+            of_two(&row[..N], &row[1..], rounding)
         }
-        (false, true) => of_two(
-            out,
-            reference.row(plane, x, y, n),
-            reference.row(plane, x, y + 1, n),
-            rounding,
-        ),
+        (false, true) => {
+            let row = reference.row(plane, x, y, n);
+            let below = reference.row(plane, x, y + 1, n);
+            of_two(row, below, rounding)
+        }
         (true, true) => {
             let row = reference.row(plane, x, y, n + 1);
             let below = reference.row(plane, x, y + 1, n + 1);
-            of_four(
-                out,
-                &row[..row.len() - 1],
-                &row[1..],
-                &below[..below.len() - 1],
-                &below[1..],
-                rounding,
-            );
+            of_four(&row[..N], &row[1..], &below[..N], &below[1..], rounding)
         }
     }
 }
 
-// A block of 16 x 16 predicted samples, by runs of eight, two to a row: averages of eight samples are made at once, and
-// those of sixteen one by one.
+// A block of N x N predicted samples, row by row. Called with a case that is known, it has a loop for this case alone.
 #[inline(always)]
-pub(crate) fn of_sixteen(
+fn block_of<const N: usize>(
     reference: PictureRef<'_>,
     plane: Plane,
     x: u32,
@@ -64,32 +56,26 @@ pub(crate) fn of_sixteen(
     half_x: bool,
     half_y: bool,
     rounding: u8,
-    out: &mut [u8; 256],
+    out: &mut [u8],
 )
-    requires inside { ReadsInside (picture reference).format plane half_x half_y x (y + 15) 16 }
+    requires inside { ReadsInside (picture reference).format plane half_x half_y x (y + (N - 1)) N }
     requires x { x < 65536 }
     requires y { y < 60000 }
     requires rounding { rounding ≤ 1 }
-    ensures { (j i : ℕ) → j < 16 → i < 16 → slice_index out.new (16 * j + i) ≡ interpolated (picture reference.entry) plane half_x half_y rounding (x + i) (y + j) }
+    requires length { N ≤ 16 }
+    requires out { length out.old ≡ N * N }
+    ensures { (j i : ℕ) → j < N → i < N → slice_index out.new (N * j + i) ≡ interpolated (picture reference.entry) plane half_x half_y rounding (x + i) (y + j) }
 {
-    for k in 0..32u32 {
-        let start = 8 * k as usize;
-        row(
-            &mut out[start..start + 8],
-            reference,
-            plane,
-            x + 8 * (k % 2),
-            y + k / 2,
-            half_x,
-            half_y,
-            rounding,
-        );
+    for j in 0..N {
+        let at = N * j;
+        let samples = row::<N>(reference, plane, x, y + j as u32, half_x, half_y, rounding);
+        out[at..at + N].copy_from_slice(&samples);
     }
 }
 
-// A block of 8 x 8 predicted samples.
+// A block of N x N predicted samples, 8 x 8 or 16 x 16.
 #[inline(always)]
-pub(crate) fn of_eight(
+pub(crate) fn block<const N: usize>(
     reference: PictureRef<'_>,
     plane: Plane,
     x: u32,
@@ -97,25 +83,23 @@ pub(crate) fn of_eight(
     half_x: bool,
     half_y: bool,
     rounding: u8,
-    out: &mut [u8; 64],
+    out: &mut [u8],
 )
-    requires inside { ReadsInside (picture reference).format plane half_x half_y x (y + 7) 8 }
+    requires inside { ReadsInside (picture reference).format plane half_x half_y x (y + (N - 1)) N }
     requires x { x < 65536 }
     requires y { y < 60000 }
     requires rounding { rounding ≤ 1 }
-    ensures { (j i : ℕ) → j < 8 → i < 8 → slice_index out.new (8 * j + i) ≡ interpolated (picture reference.entry) plane half_x half_y rounding (x + i) (y + j) }
+    requires length { N ≤ 16 }
+    requires out { length out.old ≡ N * N }
+    ensures { (j i : ℕ) → j < N → i < N → slice_index out.new (N * j + i) ≡ interpolated (picture reference.entry) plane half_x half_y rounding (x + i) (y + j) }
 {
-    for j in 0..8u32 {
-        let start = 8 * j as usize;
-        row(
-            &mut out[start..start + 8],
-            reference,
-            plane,
-            x,
-            y + j,
-            half_x,
-            half_y,
-            rounding,
-        );
+    match (half_x, half_y, rounding) {
+        (false, false, _) => block_of::<N>(reference, plane, x, y, false, false, 0, out),
+        (true, false, 0) => block_of::<N>(reference, plane, x, y, true, false, 0, out),
+        (true, false, _) => block_of::<N>(reference, plane, x, y, true, false, 1, out),
+        (false, true, 0) => block_of::<N>(reference, plane, x, y, false, true, 0, out),
+        (false, true, _) => block_of::<N>(reference, plane, x, y, false, true, 1, out),
+        (true, true, 0) => block_of::<N>(reference, plane, x, y, true, true, 0, out),
+        (true, true, _) => block_of::<N>(reference, plane, x, y, true, true, 1, out),
     }
 }

@@ -6,7 +6,7 @@ ghost use Rattle.h263_planes.specs.Lent.{picture};
 ghost use Rattle.h263_planes.specs.declared.Plane.TheVariants.{Y};
 ghost use Rattle.half_sample.specs.Prediction.{predicted_sample, IsColour};
 
-use crate::block::{of_eight, of_sixteen};
+use crate::block::block;
 use crate::place::{chroma_place, is_chroma_half, is_luma_half, luma_place};
 use h263_planes::{PictureRef, Plane};
 use h263_types::Vector;
@@ -20,7 +20,7 @@ pub fn luma(reference: PictureRef<'_>, mb: u32, vector: Vector, rounding: u8, ou
     ensures { (j i : ℕ) → j < 16 → i < 16 → slice_index out.new (16 * j + i) ≡ predicted_sample (picture reference.entry) Y (16 * (mb % columns_of (picture reference.entry).format) + i) (16 * (mb / columns_of (picture reference.entry).format) + j) vector rounding }
 {
     let columns = reference.format().columns();
-    of_sixteen(
+    block::<16>(
         reference,
         Plane::Y,
         luma_place(16 * (mb % columns), vector.x),
@@ -49,7 +49,7 @@ pub fn chroma(
     ensures { (j i : ℕ) → j < 8 → i < 8 → slice_index out.new (8 * j + i) ≡ predicted_sample (picture reference.entry) plane (8 * (mb % columns_of (picture reference.entry).format) + i) (8 * (mb / columns_of (picture reference.entry).format) + j) vector rounding }
 {
     let columns = reference.format().columns();
-    of_eight(
+    block::<8>(
         reference,
         plane,
         chroma_place(8 * (mb % columns), vector.x),

@@ -159,3 +159,22 @@ fn both_as_a_plain_prediction(rt: HostRuntime) {
         }
     }
 }
+
+#[test]
+fn rows_of_eight_and_sixteen(rt: HostRuntime) {
+    // each sample is its place modulo 256, so one further right is 1 more, and one further down in Y 128
+    let mut bytes = [0; SIZE];
+    for i in 0..SIZE {
+        bytes[i] = (i % 256) as u8;
+    }
+    let picture = PictureRef::new(Format::SubQcif, &bytes);
+    let both = row::<16>(picture, Plane::Y, 3, 2, true, true, 1);
+    let right = row::<8>(picture, Plane::Y, 3, 2, true, false, 0);
+    let whole = row::<8>(picture, Plane::Cb, 56, 47, false, false, 0);
+    for i in 0..8u8 {
+        assert_eq!(rt; both[i as usize], 67 + i);
+        assert_eq!(rt; both[i as usize + 8], 75 + i);
+        assert_eq!(rt; right[i as usize], 4 + i);
+        assert_eq!(rt; whole[i as usize], 248 + i);
+    }
+}

@@ -7,8 +7,8 @@ use Rattle.half_sample.specs.Prediction.{whole_part, is_half}
 use Rattle.half_sample.proofs.Places.{block_sample, same_place, colour_inside, colour_part, colour_half}
 use Rattle.half_sample.proofs.macroblock.chroma.Goals as goal
 
-pub of_eight-requires-clause-inside : goal.of_eight-requires-clause-inside
-of_eight-requires-clause-inside c =
+pub block-requires-clause-inside : goal.block-requires-clause-inside
+block-requires-clause-inside c =
     let fx : FitsSigned w8 c.args.vector.x = omega (arith, ints, c.requires.reach) in
     let fy : FitsSigned w8 c.args.vector.y = omega (arith, ints, c.requires.reach) in
     let sx = to_z-of_z w8 c.args.vector.x fx in
@@ -28,7 +28,7 @@ returns c j i hj hi =
     let sy = to_z-of_z w8 c.args.vector.y fy in
     let n = c.columns-columns.ensures ∙ ap columns_of c.format.ensures.format in
     let columns = columns_of c.args.reference.format in
-    c.of_eight.ensures j i hj hi
+    c.block.ensures j i hj hi
     ∙ block_sample (picture c.args.reference) c.args.plane c.args.rounding (8 * (c.args.mb % columns)) (8 * (c.args.mb / columns)) i j c.args.vector
     (same_place (λ k. 8 * (c.args.mb % k)) (whole_part Cb) c.chroma_place.ensures n sx ∙ ap (λ (s : ℤ). pos (8 * (c.args.mb % columns)) +ℤ s) (colour_part c.args.plane c.args.vector.x c.requires.colour))
     (same_place (λ k. 8 * (c.args.mb / k)) (whole_part Cb) c.chroma_place-2.ensures n sy ∙ ap (λ (s : ℤ). pos (8 * (c.args.mb / columns)) +ℤ s) (colour_part c.args.plane c.args.vector.y c.requires.colour))

@@ -7,8 +7,8 @@ use Rattle.half_sample.specs.Prediction.{whole_part, is_half}
 use Rattle.half_sample.proofs.Places.{block_sample, same_place, luma_inside}
 use Rattle.half_sample.proofs.macroblock.luma.Goals as goal
 
-pub of_sixteen-requires-clause-inside : goal.of_sixteen-requires-clause-inside
-of_sixteen-requires-clause-inside c =
+pub block-requires-clause-inside : goal.block-requires-clause-inside
+block-requires-clause-inside c =
     let fx : FitsSigned w8 c.args.vector.x = omega (arith, ints, c.requires.reach) in
     let fy : FitsSigned w8 c.args.vector.y = omega (arith, ints, c.requires.reach) in
     let sx = to_z-of_z w8 c.args.vector.x fx in
@@ -28,7 +28,7 @@ returns c j i hj hi =
     let sy = to_z-of_z w8 c.args.vector.y fy in
     let n = c.columns-columns.ensures ∙ ap columns_of c.format.ensures.format in
     let columns = columns_of c.args.reference.format in
-    c.of_sixteen.ensures j i hj hi
+    c.block.ensures j i hj hi
     ∙ block_sample (picture c.args.reference) Y c.args.rounding (16 * (c.args.mb % columns)) (16 * (c.args.mb / columns)) i j c.args.vector
     (same_place (λ k. 16 * (c.args.mb % k)) (whole_part Y) c.luma_place.ensures n sx)
     (same_place (λ k. 16 * (c.args.mb / k)) (whole_part Y) c.luma_place-2.ensures n sy)
