@@ -54,7 +54,7 @@ impl Y4mReader {
     }
 
     /// Reads the next frame's line, and its planes to `out`, which has `format().size()` bytes. False at the end of
-    /// the video. After a stop the bytes of `out` and what is left of the video are left open.
+    /// the video. After a stop the bytes of `out` are left open, and after a refusal what is left of the video.
     pub fn frame<D: Desk>(&mut self, desk: &mut D, out: &mut [u8]) -> Result<bool, VideoStop>
         requires attached { (D.outside desk.old).attached Video ≡ true }
         requires size { length out.old ≡ size_of_picture self.old.format }
