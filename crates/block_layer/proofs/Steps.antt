@@ -1,6 +1,6 @@
 -- Level after level: what is written, and what is still to come.
-use Rattle.std.proofs.Common.{◌≡◌, ℕ, ◌+◌, ◌-◌, ◌<◌, ◌≤◌, Bool, true, false, cond, List, [], ◌∷◌, ◌++◌, length, drop, take, refl, sym, ap, ◌∙◌, subst, append_assoc, arith, add-one, length-append, length-drop}
-use Rattle.std.specs.Prelude.{ℤ, pos}
+use Rattle.std.proofs.Common.{◌≡◌, ℕ, suc, ◌+◌, ◌-◌, ◌<◌, ◌≤◌, Bool, true, false, cond, List, [], ◌∷◌, ◌++◌, length, drop, take, refl, sym, ap, ◌∙◌, subst, append_assoc, arith, add-one, length-append, length-drop}
+use Rattle.std.specs.Prelude.{ℤ, pos, ◌&&◌}
 use Rattle.std.proofs.Math.Seq.{drop-cons}
 use Rattle.std.proofs.lemmas.List.{take_all, drop_all, append-nil}
 use Rattle.block_layer.proofs.Written.{no_events, true_not_false}
@@ -85,6 +85,14 @@ text_is from levels = refl
 -- whether the level is the last one
 pub last_is : (last : Bool) (levels : List ℤ) (place : ℕ) → length levels ≡ 64 → last ≡ none_left (take (64 - place) (drop place levels)) → last ≡ none_left (drop place levels)
 last_is last levels place long is = is ∙ ap (λ (l : List ℤ). none_left l) (rest_is levels place long)
+
+-- a zero isn't the last level that isn't 0
+pub zero_before : (place : ℕ) (levels : List ℤ) → place < length levels → is_zero (level_at levels place) ≡ true → none_left (drop place levels) ≡ none_left (drop (place + 1) levels)
+zero_before place levels below zero =
+    let next : suc place ≡ place + 1 = omega arith in
+    ap (λ (l : List ℤ). none_left l) (drop-cons levels place (pos 0) below)
+    ∙ ap (λ (b : Bool). b && none_left (drop (suc place) levels)) zero
+    ∙ ap (λ (n : ℕ). none_left (drop n levels)) next
 
 -- the events behind INTRADC, where there are any
 pub coded_is : (levels : List ℤ) → none_left (drop 1 levels) ≡ false → coded_text levels ≡ levels_text 1 levels

@@ -77,6 +77,28 @@ pub fn is_inter_coded(block: &Block) -> bool
     !is_none_left(&block.levels)
 }
 
+// Whether the level at a place is 0.
+#[inline(always)]
+fn is_zero_at(levels: &[i16; 64], place: usize) -> bool
+    requires { place < 64 }
+    ensures { result ≡ is_zero (level_at levels.now place) }
+{
+    levels[place] == 0
+}
+
+// Whether the level at a place is the last that isn't 0, where it or one behind it isn't. So a run of zeros is walked
+// through once, and not from each of its places.
+fn is_last(levels: &[i16; 64], place: usize) -> bool
+    requires place { place < 64 }
+    requires some { none_left (drop place levels.now) ≡ false }
+    ensures { result ≡ none_left (drop (place + 1) levels.now) }
+{
+    if is_zero_at(levels, place) {
+        return false;
+    }
+    is_none_left(&levels[place + 1..])
+}
+
 // Writes the events of the levels from a place on; one at least of these isn't 0.
 fn write_levels(writer: &mut BitWriter<'_>, levels: &[i16; 64], from: usize)
     requires from { from < 64 }
@@ -88,7 +110,7 @@ fn write_levels(writer: &mut BitWriter<'_>, levels: &[i16; 64], from: usize)
 {
     let mut run = 0;
     'places: for place in from..64 {
-        let last = is_none_left(&levels[place + 1..]);
+        let last = is_last(levels, place);
         run = write_place(writer, levels, place, run, last);
         if last {
             return;

@@ -2,7 +2,7 @@ use Rattle.std.proofs.Common.{true, ◌≡◌, ◌+◌, ◌++◌, Bool, List, le
 use Rattle.h263_bits.specs.Written.{written}
 use Rattle.block_layer.specs.Text.{none_left}
 use Rattle.block_layer.specs.Step.{level_at, run_after}
-use Rattle.block_layer.proofs.Steps.{left_text, none_text, last_is, size_at, goes, lengths, ended, some_left, run_grows, text_is}
+use Rattle.block_layer.proofs.Steps.{left_text, none_text, size_at, goes, lengths, ended, some_left, run_grows, text_is}
 use Rattle.block_layer.proofs.writing.write_levels.Goals as goal
 
 pub places-init : goal.places-init
@@ -21,15 +21,15 @@ write_place-run-requires-clause-size c = size_at c.args.from c.places.place c.ar
 pub write_place-run-requires-clause-room : goal.write_place-run-requires-clause-room
 write_place-run-requires-clause-room c =
     let levels = c.args.levels.now in
-    let is = last_is c.is_none_left-last.result levels (c.places.place + 1) c.told-levels c.is_none_left-last.ensures in
-    let long = lengths c.places.run c.places.place levels (omega arith) c.is_none_left-last.result is in
+    let is = c.is_last-last.ensures in
+    let long = lengths c.places.run c.places.place levels (omega arith) c.is_last-last.result is in
     omega (arith, long)
 
 pub places-preserved : goal.places-preserved
 places-preserved c =
     let levels = c.args.levels.now in
-    let last = c.is_none_left-last.result in
-    let is = last_is last levels (c.places.place + 1) c.told-levels c.is_none_left-last.ensures in
+    let last = c.is_last-last.result in
+    let is = c.is_last-last.ensures in
     let run = run_after c.places.run (level_at levels c.places.place) in
     let grown = run_grows c.places.run (level_at levels c.places.place) in
     let long = lengths c.places.run c.places.place levels (omega arith) last is in
@@ -45,8 +45,8 @@ places-preserved c =
 pub returns-then-last-clause-bits : goal.returns-then-last-clause-bits
 returns-then-last-clause-bits c =
     let levels = c.args.levels.now in
-    let last = c.is_none_left-last.result in
-    let is = last_is last levels (c.places.place + 1) c.told-levels c.is_none_left-last.ensures in
+    let last = c.is_last-last.result in
+    let is = c.is_last-last.ensures in
     let none : none_left (drop (c.places.place + 1) levels) ≡ true = sym is ∙ c.if-last.true in
     record {
       buffer = c.write_place-run.ensures.bits.buffer ∙ c.places.invariant.buffer;
@@ -58,8 +58,8 @@ returns-then-last-clause-bits c =
 pub returns-then-last-clause-len : goal.returns-then-last-clause-len
 returns-then-last-clause-len c =
     let levels = c.args.levels.now in
-    let last = c.is_none_left-last.result in
-    let is = last_is last levels (c.places.place + 1) c.told-levels c.is_none_left-last.ensures in
+    let last = c.is_last-last.result in
+    let is = c.is_last-last.ensures in
     let none : none_left (drop (c.places.place + 1) levels) ≡ true = sym is ∙ c.if-last.true in
     let run = run_after c.places.run (level_at levels c.places.place) in
     let long = lengths c.places.run c.places.place levels (omega arith) last is in
