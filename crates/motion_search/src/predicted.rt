@@ -53,34 +53,11 @@ fn four_rows(
     ensures most { result ≤ 16320 }
 {
     parts_add();
-    let first = row::<16>(reference, Plane::Y, x, y + j, half_x, half_y, rounding);
-    let second = row::<16>(
-        reference,
-        Plane::Y,
-        x,
-        y + (j + 1),
-        half_x,
-        half_y,
-        rounding,
-    );
-    let third = row::<16>(
-        reference,
-        Plane::Y,
-        x,
-        y + (j + 2),
-        half_x,
-        half_y,
-        rounding,
-    );
-    let fourth = row::<16>(
-        reference,
-        Plane::Y,
-        x,
-        y + (j + 3),
-        half_x,
-        half_y,
-        rounding,
-    );
+    let r = reference;
+    let first = row::<16>(r, Plane::Y, x, y + j, half_x, half_y, rounding);
+    let second = row::<16>(r, Plane::Y, x, y + (j + 1), half_x, half_y, rounding);
+    let third = row::<16>(r, Plane::Y, x, y + (j + 2), half_x, half_y, rounding);
+    let fourth = row::<16>(r, Plane::Y, x, y + (j + 3), half_x, half_y, rounding);
     differences_of_four(block, j, &first, &second, &third, &fourth)
 }
 
