@@ -1,5 +1,5 @@
 -- Blocks of 16 x 16 samples and their differences.
-use Rattle.std.proofs.Common.{◌≡◌, refl, sym, ap, subst, ◌∙◌, arith, ℕ, ◌+◌, ◌-◌, ◌*◌, ◌/◌, ◌%◌, ◌<◌, ◌≤◌, List, [], ◌∷◌, ◌++◌, length, get_or, drop, take, slice_range, w8, ℤ, pos, ◌-ℤ◌, ◌<ℤ◌, Option, None, Some, IsNone, IfNone, IfSome, ◌↔◌}
+use Rattle.std.proofs.Common.{◌≡◌, refl, sym, ap, subst, ◌∙◌, arith, ℕ, ◌+◌, ◌-◌, ◌*◌, ◌/◌, ◌%◌, ◌<◌, ◌≤◌, Bool, List, [], ◌∷◌, ◌++◌, length, get_or, drop, take, slice_range, w8, ℤ, pos, ◌-ℤ◌, ◌<ℤ◌, Option, None, Some, IsNone, IfNone, IfSome, ◌↔◌}
 use lib.Lanes.{zip2, Each1, chunk}
 use Rattle.std.specs.Int.{abs_diff}
 use Rattle.std.proofs.lemmas.Simd.{sum_bound, length-zip2, length-chunk, chunk-drop, chunk-fits, below_from_Fits, Each1-from_get_or}
@@ -11,11 +11,11 @@ use Rattle.h263_types.specs.declared.vector.Vector.{Vector}
 use Rattle.h263_types.specs.Sizes.{columns_of}
 use Rattle.h263_planes.specs.Picture.{Picture}
 use Rattle.h263_planes.specs.declared.Plane.TheVariants.{Y}
-use Rattle.half_sample.specs.Prediction.{predicted_sample}
+use Rattle.half_sample.specs.Prediction.{interpolated, predicted_sample}
 use Rattle.motion_search.specs.declared.candidate.Candidate.{Candidate}
 use Rattle.h263_planes.specs.Samples.{sample_at}
 use Rattle.std.proofs.Math.ListN.{drop_of_length-le}
-use Rattle.motion_search.specs.Cost.{square, differences_from, difference_of, lead_of}
+use Rattle.motion_search.specs.Cost.{square, differences_from, differences_between, difference_of, lead_of}
 
 -- ---- the 256 numbers of a block
 
@@ -123,6 +123,15 @@ pub one_row_of : (p : Picture) (block row : List ℕ) (x y j : ℕ) →
 unfolding differences_from
 one_row_of p block row x y j add hj hb hr same = sym (one_row_more (λ i k. sample_at p Y (x + i) (y + k)) block row j add hj hb hr same)
 
+-- four rows, one after the other
+pub four_more : (left : ℕ → ℕ) (j a b c d : ℕ) → a + left (j + 1) ≡ left j → b + left (j + 1 + 1) ≡ left (j + 1) → c + left (j + 2 + 1) ≡ left (j + 2) → d + left (j + 3 + 1) ≡ left (j + 3) →
+    a + b + c + d + left (j + 4) ≡ left j
+four_more left j a b c d ha hb hc hd =
+    let two : left (j + 1 + 1) ≡ left (j + 2) = ap left (omega arith) in
+    let three : left (j + 2 + 1) ≡ left (j + 3) = ap left (omega arith) in
+    let four : left (j + 3 + 1) ≡ left (j + 4) = ap left (omega arith) in
+    omega (arith, ha, hb, hc, hd, two, three, four)
+
 -- all rows, and none
 pub all_rows : (block : List ℕ) (p : Picture) (x y : ℕ) → differences_from block p x y 0 ≡ differences block (square (λ i j. sample_at p Y (x + i) (y + j)))
 unfolding differences_from
@@ -133,3 +142,19 @@ unfolding differences_from
 no_rows block p x y j long end =
     let past : length block ≤ 16 * j = omega arith in
     ap (λ (l : List ℕ). differences l (drop (16 * j) (square (λ a b. sample_at p Y (x + a) (y + b))))) (drop_of_length-le block past)
+
+-- ---- the same half a sample off
+
+pub one_row_between : (p : Picture) (block row : List ℕ) (half_x half_y : Bool) (r x y j : ℕ) →
+    ((xs ys us vs : List ℕ) → length xs ≡ length us → differences (xs ++ ys) (us ++ vs) ≡ differences xs us + differences ys vs) →
+    j < 16 → length block ≡ 256 → length row ≡ 16 → ((i : ℕ) → i < 16 → get_or row i 0 ≡ interpolated p Y half_x half_y r (x + i) (y + j)) →
+    differences (slice_range block (16 * j) (16 * j + 16)) row + differences_between block p half_x half_y r x y (j + 1) ≡ differences_between block p half_x half_y r x y j
+unfolding differences_between
+one_row_between p block row half_x half_y r x y j add hj hb hr same =
+    sym (one_row_more (λ i k. interpolated p Y half_x half_y r (x + i) (y + k)) block row j add hj hb hr same)
+
+pub none_between : (block : List ℕ) (p : Picture) (half_x half_y : Bool) (r x y j : ℕ) → length block ≡ 256 → 16 ≤ j → differences_between block p half_x half_y r x y j ≡ 0
+unfolding differences_between
+none_between block p half_x half_y r x y j long end =
+    let past : length block ≤ 16 * j = omega arith in
+    ap (λ (l : List ℕ). differences l (drop (16 * j) (square (λ a b. interpolated p Y half_x half_y r (x + a) (y + b))))) (drop_of_length-le block past)

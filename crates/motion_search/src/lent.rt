@@ -14,35 +14,47 @@ use crate::candidate::{Candidate, better, enough};
 use h263_planes::{PictureRef, Plane};
 use h263_types::Vector;
 use sad_kernel::laws::parts_add;
-use sad_kernel::sad;
+use sad_kernel::sad_of_four;
 
-// The differences of row `j` of a block from a row of sixteen samples.
+// Row `j` of a block.
 #[inline(always)]
-fn row_differences(block: &[u8; 256], row: &[u8], j: u32) -> u32
-    requires row { length row.now ≡ 16 }
+fn block_row(block: &[u8; 256], j: u32) -> &[u8]
     requires j { j < 16 }
-    ensures value { result ≡ differences (slice_range block.now (16 * j) (16 * j + 16)) row.now }
-    ensures most { result ≤ 4080 }
+    ensures value { result.now ≡ slice_range block.now (16 * j) (16 * j + 16) }
+    ensures length { length result.now ≡ 16 }
 {
     let at = 16 * j as usize;
-    sad(&block[at..at + 16], row)
+    &block[at..at + 16]
 }
 
-// The differences of row `j` of a block from that of the 16 x 16 samples of Y at column `x` of row `y`.
+// The differences of the four rows of a block from row `j` on from four rows of sixteen samples.
 #[inline(always)]
-fn lent_row(block: &[u8; 256], reference: PictureRef<'_>, x: u32, y: u32, j: u32) -> u32
-    requires inside { Inside (picture reference).format Y x (y + 15) 16 }
-    requires x { x < 65536 }
-    requires y { y < 60000 }
-    requires j { j < 16 }
-    ensures value { result + differences_from block.now (picture reference.entry) x y (j + 1) ≡ differences_from block.now (picture reference.entry) x y j }
-    ensures most { result ≤ 4080 }
+pub(crate) fn differences_of_four(
+    block: &[u8; 256],
+    j: u32,
+    first: &[u8],
+    second: &[u8],
+    third: &[u8],
+    fourth: &[u8],
+) -> u32
+    requires j { j ≤ 12 }
+    requires first { length first.now ≡ 16 }
+    requires second { length second.now ≡ 16 }
+    requires third { length third.now ≡ 16 }
+    requires fourth { length fourth.now ≡ 16 }
+    ensures value { result ≡ differences (slice_range block.now (16 * j) (16 * j + 16)) first.now + differences (slice_range block.now (16 * (j + 1)) (16 * (j + 1) + 16)) second.now + differences (slice_range block.now (16 * (j + 2)) (16 * (j + 2) + 16)) third.now + differences (slice_range block.now (16 * (j + 3)) (16 * (j + 3) + 16)) fourth.now }
+    ensures most { result ≤ 16320 }
 {
-    parts_add();
-    row_differences(block, reference.row(Plane::Y, x, y + j, 16), j)
+    sad_of_four(
+        (block_row(block, j), first),
+        (block_row(block, j + 1), second),
+        (block_row(block, j + 2), third),
+        (block_row(block, j + 3), fourth),
+    )
 }
 
-// The differences of the four rows from `j` on.
+// The differences of the four rows of a block from row `j` on from those of the 16 x 16 samples of Y at column `x` of
+// row `y`.
 #[inline(always)]
 fn four_rows(block: &[u8; 256], reference: PictureRef<'_>, x: u32, y: u32, j: u32) -> u32
     requires inside { Inside (picture reference).format Y x (y + 15) 16 }
@@ -52,14 +64,16 @@ fn four_rows(block: &[u8; 256], reference: PictureRef<'_>, x: u32, y: u32, j: u3
     ensures value { result + differences_from block.now (picture reference.entry) x y (j + 4) ≡ differences_from block.now (picture reference.entry) x y j }
     ensures most { result ≤ 16320 }
 {
-    lent_row(block, reference, x, y, j)
-        + lent_row(block, reference, x, y, j + 1)
-        + lent_row(block, reference, x, y, j + 2)
-        + lent_row(block, reference, x, y, j + 3)
+    parts_add();
+    let first = reference.row(Plane::Y, x, y + j, 16);
+    let second = reference.row(Plane::Y, x, y + (j + 1), 16);
+    let third = reference.row(Plane::Y, x, y + (j + 2), 16);
+    let fourth = reference.row(Plane::Y, x, y + (j + 3), 16);
+    differences_of_four(block, j, first, second, third, fourth)
 }
 
 // The differences of a block from the 16 x 16 samples of Y at column `x` of row `y`, or `None` where they are at least
-// `enough`: it asks after each four rows, and reads no further once the sum has come to it.
+// `enough`: where the upper four rows come to it, it reads no further. To ask after each row costs more than it spares.
 #[inline(always)]
 fn differences_until(
     block: &[u8; 256],
@@ -75,19 +89,20 @@ fn differences_until(
     ensures some { IfSome result (λ sum. sum ≡ differences_from block.now (picture reference.entry) x y 0) }
     ensures most { IfSome result (λ sum. sum ≤ 65280) }
 {
-    let mut so_far = 0;
-    for k in 0..4u32 {
-        so_far += four_rows(block, reference, x, y, 4 * k);
-        if so_far >= enough {
-            return None;
-        }
+    let upper = four_rows(block, reference, x, y, 0);
+    if upper >= enough {
+        return None;
     }
-    Some(so_far)
+    let lower = four_rows(block, reference, x, y, 4)
+        + four_rows(block, reference, x, y, 8)
+        + four_rows(block, reference, x, y, 12);
+    let sum = upper + lower;
+    if sum >= enough { None } else { Some(sum) }
 }
 
 // The column that a vector leads to from `left` on.
 #[inline(always)]
-fn column(left: u32, vector: Vector) -> u32
+pub(crate) fn column(left: u32, vector: Vector) -> u32
     requires left { left < 65536 }
     requires inside { pos 0 ≤ℤ whole_place left vector.x }
     ensures { pos result ≡ whole_place left vector.x }
@@ -97,7 +112,7 @@ fn column(left: u32, vector: Vector) -> u32
 
 // The row that a vector leads to from `top` on.
 #[inline(always)]
-fn row(top: u32, vector: Vector) -> u32
+pub(crate) fn line(top: u32, vector: Vector) -> u32
     requires top { top < 60000 }
     requires inside { pos 0 ≤ℤ whole_place top vector.y }
     ensures { pos result ≡ whole_place top vector.y }
@@ -126,7 +141,7 @@ pub(crate) fn better_whole(
     ensures cost { IsCost result.cost }
 {
     let x = column(left, vector);
-    let y = row(top, vector);
+    let y = line(top, vector);
     let sum = differences_until(block, reference, x, y, enough(best, vector));
     better(best, vector, sum)
 }

@@ -14,6 +14,7 @@ mod half;
 pub mod laws;
 mod lent;
 mod predicted;
+mod start;
 mod whole;
 mod within;
 

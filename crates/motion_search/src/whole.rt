@@ -11,10 +11,10 @@ ghost use Rattle.motion_search.specs.Best.{best_whole, IsWholeCandidate};
 
 use crate::candidate::Candidate;
 use crate::lent::better_whole;
-use crate::predicted::zero;
+use crate::start::zero;
 use crate::within::is_within;
 use h263_planes::PictureRef;
-use h263_types::{Reach, Vector, reach};
+use h263_types::{Format, Reach, Vector, reach};
 
 // The vector in column `column` of row `row` of the square around zero.
 #[inline(always)]
@@ -59,8 +59,10 @@ fn better_in_reach(
     }
 }
 
-// The first of the best one and the vectors in a row of the square.
-fn best_of_row(
+// The first of the best one and the vectors in a row of the square. Called in a format that is known, it has code for this
+// format alone.
+#[inline(always)]
+fn best_in_format(
     block: &[u8; 256],
     reference: PictureRef<'_>,
     mb: u32,
@@ -90,6 +92,39 @@ fn best_of_row(
         first = better_in_reach(block, reference, mb, left, top, reach, vector, first);
     }
     first
+}
+
+// The first of the best one and the vectors in a row of the square.
+fn best_of_row(
+    block: &[u8; 256],
+    reference: PictureRef<'_>,
+    mb: u32,
+    left: u32,
+    top: u32,
+    reach: Reach,
+    radius: u8,
+    row: u32,
+    best: Candidate,
+) -> Candidate
+    requires mb { mb < mbs_of (picture reference).format }
+    requires left { left ≡ 16 * (mb % columns_of (picture reference).format) }
+    requires top { top ≡ 16 * (mb / columns_of (picture reference).format) }
+    requires reach { (x y : ℤ) → InReach (picture reference).format mb x y ↔ IsWithin reach x y }
+    requires radius { radius ≤ 15 }
+    requires row { row ≤ 2 * radius }
+    requires candidate { IsWholeCandidate block.now (picture reference) mb radius 0 best }
+    requires cost { IsCost best.cost }
+    ensures candidate { IsWholeCandidate block.now (picture reference.entry) mb radius 0 result }
+    ensures kept { (d : Candidate) → before d best ≡ false → before d result ≡ false }
+    ensures none { (n : ℕ) → n < 2 * radius + 1 → InReach (picture reference.entry).format mb (whole_at radius n row).x (whole_at radius n row).y → before (candidate_of block.now (picture reference.entry) mb 0 (whole_at radius n row)) result ≡ false }
+    ensures cost { IsCost result.cost }
+{
+    let r = reference;
+    match reference.format() {
+        Format::SubQcif => best_in_format(block, r, mb, left, top, reach, radius, row, best),
+        Format::Qcif => best_in_format(block, r, mb, left, top, reach, radius, row, best),
+        Format::Cif => best_in_format(block, r, mb, left, top, reach, radius, row, best),
+    }
 }
 
 // The first of the best one and the vectors in the two rows of the square that are `distance` away from its middle.

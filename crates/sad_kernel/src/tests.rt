@@ -46,3 +46,18 @@ fn lanes_and_the_rest(rt: HostRuntime) {
         assert_eq!(rt; sad_until(&a[..n], &b[..n], want), None, "of {n}");
     }
 }
+
+#[test]
+fn four_rows_are_summed_up(rt: HostRuntime) {
+    let dark = [3; 16];
+    let light = [250; 16];
+    let mut one_off = [3; 16];
+    one_off[15] = 5;
+    let same = (dark.as_slice(), dark.as_slice());
+    let up = (dark.as_slice(), light.as_slice());
+    let down = (light.as_slice(), dark.as_slice());
+    let near = (one_off.as_slice(), dark.as_slice());
+    assert_eq!(rt; sad_of_four(same, same, same, same), 0);
+    assert_eq!(rt; sad_of_four(up, same, near, down), 7906);
+    assert_eq!(rt; sad_of_four(near, near, near, near), 8);
+}

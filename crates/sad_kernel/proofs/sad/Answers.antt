@@ -1,5 +1,5 @@
 use Rattle.std.proofs.Common.{arith}
-use Rattle.sad_kernel.proofs.Lanes.{whole_small, differences-drop, differences-rest}
+use Rattle.sad_kernel.proofs.Sums.{whole_small, differences-drop, differences-rest}
 use Rattle.sad_kernel.proofs.sad.Goals as goal
 
 pub overflow_add-total : goal.overflow_add-total

@@ -1,5 +1,5 @@
 use Rattle.std.proofs.Common.{arith, refl}
-use Rattle.sad_kernel.proofs.Lanes.{whole_small, differences-drop, differences-rest}
+use Rattle.sad_kernel.proofs.Sums.{whole_small, differences-drop, differences-rest}
 use Rattle.sad_kernel.proofs.sad_until.Goals as goal
 
 pub overflow_add-so_far : goal.overflow_add-so_far

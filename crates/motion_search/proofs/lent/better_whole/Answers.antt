@@ -12,7 +12,7 @@ returns-clause-first c =
     let reference = picture c.args.reference in
     let v = c.args.vector in
     let x = c.column-x.result in
-    let y = c.row-y.result in
+    let y = c.line-y.result in
     let n = differences_from c.args.block.now reference x y 0 in
     c.better.ensures.first n
     (stopped c.differences_until-sum.result n c.enough.result v c.args.best.cost c.differences_until-sum.ensures.none c.enough.ensures)
@@ -20,4 +20,4 @@ returns-clause-first c =
     ∙ ap (λ k. first_of c.args.best (costing v k))
     (all_rows c.args.block.now reference x y
     ∙ whole_predicts c.args.block.now reference c.args.mb 0 x y v c.requires.whole
-    (c.column-x.ensures ∙ ap (λ (k : ℕ). whole_place k v.x) c.requires.left) (c.row-y.ensures ∙ ap (λ (k : ℕ). whole_place k v.y) c.requires.top))
+    (c.column-x.ensures ∙ ap (λ (k : ℕ). whole_place k v.x) c.requires.left) (c.line-y.ensures ∙ ap (λ (k : ℕ). whole_place k v.y) c.requires.top))

@@ -1,4 +1,4 @@
-use Rattle.sad_kernel.proofs.Lanes.{differences-append}
+use Rattle.sad_kernel.proofs.Sums.{differences-append}
 use Rattle.sad_kernel.proofs.laws.parts_add.Goals as goal
 
 pub returns : goal.returns

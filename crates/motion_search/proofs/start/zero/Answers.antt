@@ -2,7 +2,7 @@ use Rattle.std.proofs.Common.{ap, ◌∙◌}
 use Rattle.h263_planes.specs.Lent.{picture}
 use Rattle.motion_search.specs.Vectors.{zero_vector}
 use Rattle.motion_search.proofs.Blocks.{out_predicts, costing}
-use Rattle.motion_search.proofs.predicted.zero.Goals as goal
+use Rattle.motion_search.proofs.start.zero.Goals as goal
 
 pub returns-clause-candidate : goal.returns-clause-candidate
 returns-clause-candidate c =

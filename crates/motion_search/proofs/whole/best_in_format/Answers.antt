@@ -9,7 +9,7 @@ use Rattle.motion_search.specs.Vectors.{whole_at, IsEven}
 use Rattle.motion_search.specs.Best.{IsWholeCandidate}
 use Rattle.motion_search.proofs.Squares.{at_is_whole, at_is_even}
 use Rattle.motion_search.proofs.Bests.{step_of, step_is_whole, step_kept, step_none}
-use Rattle.motion_search.proofs.whole.best_of_row.Goals as goal
+use Rattle.motion_search.proofs.whole.best_in_format.Goals as goal
 
 pub better_in_reach-first-requires-clause-whole : goal.better_in_reach-first-requires-clause-whole
 better_in_reach-first-requires-clause-whole c = subst IsEven (sym c.whole_vector-vector.ensures) (at_is_even c.args.radius c.loop-column.column c.args.row)

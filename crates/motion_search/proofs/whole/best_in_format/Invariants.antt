@@ -6,7 +6,7 @@ use Rattle.motion_search.specs.Order.{before}
 use Rattle.motion_search.specs.Cost.{candidate_of, IsCost}
 use Rattle.motion_search.specs.Vectors.{whole_at}
 use Rattle.motion_search.specs.Best.{IsWholeCandidate}
-use Rattle.motion_search.proofs.whole.best_of_row.Given as goal
+use Rattle.motion_search.proofs.whole.best_in_format.Given as goal
 
 -- none of those seen comes before the first one
 abbrev pub invariant-loop-column : goal.invariant-loop-column

@@ -1,31 +1,39 @@
 -- The differences of two vectors, as the lanes compute them.
-use Rattle.std.proofs.Common.{◌≡◌, ℕ, suc, take, length-drop, ◌+◌, ◌-◌, ◌*◌, ◌%◌, ◌<◌, ◌≤◌, List, [], ◌∷◌, ◌++◌, length, map, drop, refl, ap, ◌∙◌, sym, subst, arith, cond, ltb, w8, Fits, get_or, drop-cons, add-one}
+use Rattle.std.proofs.Common.{◌≡◌, ℕ, suc, take, length-drop, ◌+◌, ◌-◌, ◌*◌, ◌%◌, ◌<◌, ◌≤◌, List, [], ◌∷◌, ◌++◌, length, map, drop, refl, ap, ◌∙◌, sym, subst, arith, Bool, true, false, cond, ltb, ltb-true, ltb-false, ◌^◌, w8, Fits, get_or, drop-cons, add-one}
 use Rattle.std.specs.Int.{abs_diff}
-use Rattle.std.proofs.lemmas.Bool.Decides.{nat_tests}
 use Rattle.std.proofs.Math.Seq.{take-length}
 use Rattle.std.proofs.Math.ListN.{drop_of_length-le}
-use lib.Lanes.{zip2, sel_l, top, Each1, chunk}
-use Rattle.std.proofs.lemmas.Simd.{sum_bound, length-zip2, length-chunk, chunk-drop, Each1-from_get_or}
+use lib.Lanes.{zip2, sel_l, top, Each1, chunk, sum_l}
+use Rattle.std.proofs.lemmas.Simd.{sum_bound, sum-zip2, length-zip2, length-chunk, chunk-drop, Each1-from_get_or}
 use Rattle.sad_kernel.specs.Differences.{differences}
 
+-- what the lanes of 32 bits do
+abbrev pub minus : ℕ → ℕ → ℕ
+minus a b = (a + (2 ^ 32 - b)) % 2 ^ 32
+
+abbrev pub below : ℕ → ℕ → Bool
+below a b = top 31 (cond (ltb a b) (2 ^ 32 - 1) 0)
+
+-- the smaller one of both differences, which wrap
 abbrev pub difference_l : List ℕ → List ℕ → List ℕ
 difference_l xs ys =
-    let less = map (top 7) (zip2 (λ a b. cond (ltb a b) 255 0) xs ys) in
-    zip2 (λ a b. (a + (256 - b)) % 256) (sel_l less ys xs) (sel_l less xs ys)
+    let there = zip2 minus (map (λ (k : ℕ). k) xs) (map (λ (k : ℕ). k) ys) in
+    let back = zip2 minus (map (λ (k : ℕ). k) ys) (map (λ (k : ℕ). k) xs) in
+    sel_l (map (top 31) (zip2 (λ a b. cond (ltb a b) (2 ^ 32 - 1) 0) there back)) there back
 
-one : (x y : ℕ) → x < 256 → y < 256 → (cond (top 7 (cond (ltb x y) 255 0)) y x + (256 - cond (top 7 (cond (ltb x y) 255 0)) x y)) % 256 ≡ abs_diff x y
-one x y hx hy = grind (arith, nat_tests)
+one : (x y : ℕ) → x < 256 → y < 256 → cond (below (minus x y) (minus y x)) (minus x y) (minus y x) ≡ abs_diff x y
+one x y hx hy = by (ltb (minus x y) (minus y x)) refl
+  where
+    by : (t : Bool) → ltb (minus x y) (minus y x) ≡ t → cond (top 31 (cond t (2 ^ 32 - 1) 0)) (minus x y) (minus y x) ≡ abs_diff x y
+    by true e = omega (arith, hx, hy, ltb-true _ _ e)
+    by false e = omega (arith, hx, hy, ltb-false _ _ e)
 
 pub lanes_differ : (xs ys : List ℕ) → Each1 (λ x. x < 256) xs → Each1 (λ x. x < 256) ys → difference_l xs ys ≡ zip2 abs_diff xs ys
 lanes_differ [] ys hx hy = refl
 lanes_differ (x ∷ xs) [] hx hy = refl
 lanes_differ (x ∷ xs) (y ∷ ys) hx hy = cc (one x y hx.0 hy.0, lanes_differ xs ys hx.1 hy.1)
 
-pub same_map : (xs : List ℕ) → map (λ x. x) xs ≡ xs
-same_map [] = refl
-same_map (x ∷ xs) = ap (λ l. x ∷ l) (same_map xs)
-
-small_difference : (xs ys : List ℕ) → Each1 (λ x. x < 256) xs → Each1 (λ x. x < 256) ys → Each1 (λ d. d ≤ 255) (zip2 abs_diff xs ys)
+pub small_difference : (xs ys : List ℕ) → Each1 (λ x. x < 256) xs → Each1 (λ x. x < 256) ys → Each1 (λ d. d ≤ 255) (zip2 abs_diff xs ys)
 small_difference [] ys hx hy = tt
 small_difference (x ∷ xs) [] hx hy = tt
 small_difference (x ∷ xs) (y ∷ ys) hx hy = (omega (arith, hx.0, hy.0), small_difference xs ys hx.1 hy.1)
@@ -34,10 +42,6 @@ pub differences_small : (xs ys : List ℕ) (n : ℕ) → length xs ≡ n → len
 differences_small xs ys n ex ey hx hy =
     let long : length (zip2 abs_diff xs ys) ≡ n = length-zip2 abs_diff xs ys (ex ∙ sym ey) ∙ ex in
     subst (λ k. differences xs ys ≤ 255 * k) long (sum_bound 255 (zip2 abs_diff xs ys) (small_difference xs ys hx hy))
-
--- the lanes' differences, as they are added
-pub cast_differs : (xs ys : List ℕ) → Each1 (λ x. x < 256) xs → Each1 (λ x. x < 256) ys → map (λ (k : ℕ). k) (difference_l xs ys) ≡ zip2 abs_diff xs ys
-cast_differs xs ys hx hy = same_map (difference_l xs ys) ∙ lanes_differ xs ys hx hy
 
 -- two parts, one after the other
 pub differences-append : (xs us ys vs : List ℕ) → length xs ≡ length us → differences (xs ++ ys) (us ++ vs) ≡ differences xs us + differences ys vs
@@ -77,3 +81,24 @@ take_rest xs i = subst (λ (n : ℕ). take n (drop i xs) ≡ drop i xs) (length-
 pub differences-rest : (xs ys : List ℕ) (i : ℕ) →
     differences (take (length xs - i) (drop i xs)) (take (length ys - i) (drop i ys)) ≡ differences (drop i xs) (drop i ys)
 differences-rest xs ys i = cc (take_rest xs i, take_rest ys i)
+
+-- ---- four rows of sixteen
+
+pub sum_small : (xs : List ℕ) → length xs ≡ 16 → Each1 (λ d. d ≤ 255) xs → sum_l xs ≤ 4080
+sum_small xs long h = omega (arith, sum_bound 255 xs h)
+
+pub whole_row : (xs : List ℕ) (n : ℕ) → length xs ≡ n → chunk 0 n xs ≡ xs
+whole_row xs n e = subst (λ (k : ℕ). take k xs ≡ xs) e (take-length xs)
+
+pub sum_of : (ls xs ys : List ℕ) → ls ≡ zip2 abs_diff (chunk 0 16 xs) (chunk 0 16 ys) → length xs ≡ 16 → length ys ≡ 16 → sum_l ls ≡ differences xs ys
+sum_of ls xs ys e hx hy = cc (e, whole_row xs 16 hx, whole_row ys 16 hy)
+
+abbrev pub sums : List ℕ → List ℕ → List ℕ
+sums xs ys = zip2 (λ a b. a + b) xs ys
+
+pub sum_of_four : (us vs xs ys : List ℕ) → length us ≡ 16 → length vs ≡ 16 → length xs ≡ 16 → length ys ≡ 16 →
+    sum_l (sums (sums us vs) (sums xs ys)) ≡ sum_l us + sum_l vs + sum_l xs + sum_l ys
+sum_of_four us vs xs ys hu hv hx hy =
+    let upper = length-zip2 (λ (a b : ℕ). a + b) us vs (hu ∙ sym hv) in
+    let lower = length-zip2 (λ (a b : ℕ). a + b) xs ys (hx ∙ sym hy) in
+    omega (arith, sum-zip2 (sums us vs) (sums xs ys) (upper ∙ hu ∙ sym (lower ∙ hx)), sum-zip2 us vs (hu ∙ sym hv), sum-zip2 xs ys (hx ∙ sym hy))
