@@ -55,6 +55,7 @@ pub fn code_picture(
     ensures format { (lent.work work.new).format ≡ params.now.format }
     ensures whole { IsPicture (lent.work work.new) }
 {
+    // A picture of these samples is the reconstruction, and no other.
     samples_are_reconstruction();
     cutter.begin(number, header);
     for at in 0..params.format.mbs() {

@@ -1,5 +1,5 @@
-//! Pictures coded, byte for byte. Where no bytes stand here, the sums over them are another program's, which works by the
-//! formulas of the formats: double sums, the whole search, bits as text.
+//! Pictures coded, byte for byte. Where sums stand for the bytes, another program made these, which works by the formulas of
+//! the formats: double sums, each candidate of the search, bits as text.
 ghost use Rattle.std.specs.Prelude.{◌≡◌, ◌<◌, ◌≤◌};
 ghost use Rattle.std.specs.Option.{option_map};
 ghost use Rattle.h263_types.specs.Params.{IsParams};
@@ -244,8 +244,8 @@ fn assert_three(
     Ok(())
 }
 
-// Macroblocks that are not coded, predicted (with vectors of whole and half samples) and coded by themselves, in pictures
-// of both roundings, and slices that begin inside a row.
+// Macroblocks that are not coded, predicted (by vectors of whole and half samples) and coded by themselves, in pictures of
+// both roundings; with the fine quantiser slices begin inside a row.
 #[test]
 fn moving_pictures(rt: HostRuntime) -> Result<(), Fail> {
     let fine = Params {
