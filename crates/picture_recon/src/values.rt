@@ -33,10 +33,15 @@ pub(crate) fn inter_samples(quant: u8, block: &Block, predicted: &[u8; 64]) -> [
     limited_sums(predicted, &inverse(&values_of_inter(quant, block)))
 }
 
+// Goes through all levels with no way out before the end, so that they are taken in lanes.
 fn is_without_levels(block: &Block) -> bool
     ensures { IsTrue result → (at : ℕ) → level_at block.now at ≡ pos 0 }
 {
-    block.levels.iter().all(|level| *level == 0)
+    let mut largest = 0;
+    for k in 0..64 {
+        largest = largest.max(block.levels[k].unsigned_abs());
+    }
+    largest == 0
 }
 
 // The values of a block of an intra macroblock, by rows: 8 times INTRADC, and those of the other levels.
