@@ -4,11 +4,13 @@ ghost use Rattle.h263_types.specs.Blocks.{IsInterBlock, IsIntraBlock, IsLevel, I
 ghost use Rattle.idct8.specs.Ranges.{Within};
 ghost use Rattle.idct8.specs.Transform.{inverse_at};
 ghost use Rattle.picture_recon.specs.Samples.{inter_value, inter_values, intra_values, limited};
+ghost use Rattle.picture_recon.specs.Walk.{IsWalked};
 
 use h263_types::Block;
 use idct8::inverse;
 use idct8::laws::zeros_give_zeros;
-use quantiser::{value, zigzag_place};
+use quantiser::laws::one_order;
+use quantiser::{block_place, value};
 
 // The samples of a block of an intra macroblock, by rows.
 pub(crate) fn intra_samples(quant: u8, block: &Block) -> [u8; 64]
@@ -68,7 +70,7 @@ fn values_of_inter(quant: u8, block: &Block) -> [i16; 64]
     values
 }
 
-// The values of a block's levels, by rows, but for the first.
+// The values of a block's levels, by rows, but for the first. Most groups of eight levels are zeros, and passed over.
 fn values_but_first(quant: u8, block: &Block) -> [i16; 64]
     requires quant { IsQuant quant }
     requires levels { (k : ℕ) → 1 ≤ k → k < 64 → IsLevel (level_at block.now k) }
@@ -76,23 +78,59 @@ fn values_but_first(quant: u8, block: &Block) -> [i16; 64]
     ensures values { (at : ℕ) → 1 ≤ at → at < 64 → slice_index_or result at (pos 0) ≡ inter_value quant block.now at }
     ensures range { All IsValue result }
 {
+    one_order();
     let mut values = [0; 64];
-    for at in 1..64 {
-        values[at] = value_at(quant, block, at);
+    put_values(quant, block, 1, 8, &mut values);
+    for group in 1..8 {
+        put_group(quant, block, 8 * group, &mut values);
     }
     values
 }
 
-// The value of the level at place `at` of the block, which isn't its first.
-fn value_at(quant: u8, block: &Block, at: usize) -> i16
+// Puts the values of the eight levels from place `from` of the zigzag order on.
+#[inline(always)]
+fn put_group(quant: u8, block: &Block, from: usize, values: &mut [i16; 64])
     requires quant { IsQuant quant }
     requires levels { (k : ℕ) → 1 ≤ k → k < 64 → IsLevel (level_at block.now k) }
-    requires some { 1 ≤ at }
-    requires at { at < 64 }
-    ensures value { result ≡ inter_value quant block.now at }
-    ensures range { IsValue result }
+    requires some { 1 ≤ from }
+    requires from { from ≤ 56 }
+    requires walked { IsWalked quant block.now from values.old }
+    ensures { IsWalked quant block.now (from + 8) values.new }
 {
-    value(quant, block.levels[zigzag_place(at)])
+    if !is_group_of_zeros(block, from) {
+        put_values(quant, block, from, from + 8, values);
+    }
+}
+
+#[inline(always)]
+fn is_group_of_zeros(block: &Block, from: usize) -> bool
+    requires from { from ≤ 56 }
+    requires levels { (k : ℕ) → from ≤ k → k < from + 8 → IsLevel (level_at block.now k) }
+    ensures { IsTrue result → (k : ℕ) → from ≤ k → k < from + 8 → level_at block.now k ≡ pos 0 }
+{
+    let mut bits = 0;
+    for k in from..from + 8 {
+        bits |= block.levels[k];
+    }
+    bits == 0
+}
+
+// Puts the values of the levels from place `from` of the zigzag order on to place `to`.
+fn put_values(quant: u8, block: &Block, from: usize, to: usize, values: &mut [i16; 64])
+    requires quant { IsQuant quant }
+    requires levels { (k : ℕ) → 1 ≤ k → k < 64 → IsLevel (level_at block.now k) }
+    requires some { 1 ≤ from }
+    requires order { from ≤ to }
+    requires to { to ≤ 64 }
+    requires walked { IsWalked quant block.now from values.old }
+    ensures { IsWalked quant block.now to values.new }
+{
+    one_order();
+    for k in from..to {
+        if block.levels[k] != 0 {
+            values[block_place(k)] = value(quant, block.levels[k]);
+        }
+    }
 }
 
 // Each number limited to 0 to 255.
