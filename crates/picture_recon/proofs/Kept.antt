@@ -24,6 +24,9 @@ level_bits z h = omega (arith, ints)
 pub no_bits : (n : ℕ) → n < 2 ^ 16 → to_z w16 n ≡ pos 0 → n ≡ 0
 no_bits n h e = sym (of_z-to_z w16 n h) ∙ ap (of_z w16) e
 
+pub same_dc : (z : ℤ) → IsDc z → to_z w16 (of_z w16 z) ≡ z
+same_dc z h = omega (arith, ints)
+
 pub kept_dc : (z : ℤ) → IsDc z → to_z w16 (of_z w16 (pos 8 *ℤ to_z w16 (of_z w16 z))) ≡ pos 8 *ℤ z
 kept_dc z h = omega (arith, ints)
 

@@ -17,7 +17,7 @@ pub record IsOneOrder : Type 0 where
   pub from_block : (at : ℕ) → at < 64 → block_place_of (zigzag_place_of at) ≡ at
 
 -- a place in the block that isn't the first is one of the order, and not its first
-later : (z at : ℕ) → block_place_of z ≡ at → 1 ≤ at → 1 ≤ z
+pub later : (z at : ℕ) → block_place_of z ≡ at → 1 ≤ at → 1 ≤ z
 unfolding block_place_of
 later zero at e some = absurd (omega (arith, e))
 later (suc z) at e some = omega arith
@@ -32,6 +32,9 @@ within_by false z at t e some =
     let h : 64 ≤ z = grind (arith, nat_tests) in
     let none : at ≡ 0 = past z at h e in
     absurd (omega arith)
+
+pub within : (z at : ℕ) → block_place_of z ≡ at → 1 ≤ at → z < 64
+within z at e some = within_by (nat_lt z 64) z at refl e some
 
 none_before : (z : ℕ) (v : ℤ) → 1 ≤ z → pos 0 ≡ cond (nat_lt z 1) v (pos 0)
 none_before z v h = grind (arith, nat_tests)
@@ -85,4 +88,4 @@ passed quant b k values none before = record {
 
 pub ends : (one : IsOneOrder) (quant : ℕ) (b : Block) (k : ℕ) (values : List ℤ) → k ≡ 64 → IsWalked quant b k values → (at : ℕ) → 1 ≤ at → at < 64 → get_or values at (pos 0) ≡ inter_value quant b at
 ends one quant b k values all before at some less =
-    all_before (zigzag_place_of at) k _ _ all (within_by (nat_lt (zigzag_place_of at) 64) (zigzag_place_of at) at refl (one.from_block at less) some) (before.stand at less some)
+    all_before (zigzag_place_of at) k _ _ all (within (zigzag_place_of at) at (one.from_block at less) some) (before.stand at less some)

@@ -1,6 +1,6 @@
 //! The values and the samples of one block.
 ghost use Rattle.std.specs.Prelude.{◌≡◌, ℕ, ◌+◌, ◌*◌, ◌^◌, ◌<◌, ◌≤◌, ◌↔◌, IsTrue, pos, ◌+ℤ◌, All, length, slice_index, slice_index_or};
-ghost use Rattle.h263_types.specs.Blocks.{IsInterBlock, IsIntraBlock, IsLevel, IsQuant, IsValue, level_at};
+ghost use Rattle.h263_types.specs.Blocks.{IsDc, IsInterBlock, IsIntraBlock, IsLevel, IsQuant, IsValue, level_at};
 ghost use Rattle.idct8.specs.Ranges.{Within};
 ghost use Rattle.idct8.specs.Transform.{inverse_at};
 ghost use Rattle.picture_recon.specs.Samples.{inter_value, inter_values, intra_values, limited};
@@ -12,13 +12,25 @@ use idct8::laws::zeros_give_zeros;
 use quantiser::laws::one_order;
 use quantiser::{block_place, value};
 
-// The samples of a block of an intra macroblock, by rows.
+// The samples of a block of an intra macroblock, by rows: INTRADC itself where the block has no other level.
 pub(crate) fn intra_samples(quant: u8, block: &Block) -> [u8; 64]
     requires quant { IsQuant quant }
     requires block { IsIntraBlock block.now }
     ensures { (y x : ℕ) → y < 8 → x < 8 → slice_index result (8 * y + x) ≡ limited (inverse_at (intra_values quant block.now) y x) }
 {
+    if are_zeros(block, 1, 64) {
+        one_order();
+        return flat(block.levels[0]);
+    }
     limited_samples(&inverse(&values_of_intra(quant, block)))
+}
+
+// A block of samples that are all INTRADC.
+fn flat(dc: i16) -> [u8; 64]
+    requires { IsDc dc }
+    ensures { (at : ℕ) → at < 64 → pos (slice_index result at) ≡ dc }
+{
+    [dc as u8; 64]
 }
 
 // The samples of a block of an inter macroblock, by rows, from the predicted ones: these themselves where the block has
@@ -97,19 +109,22 @@ fn put_group(quant: u8, block: &Block, from: usize, values: &mut [i16; 64])
     requires walked { IsWalked quant block.now from values.old }
     ensures { IsWalked quant block.now (from + 8) values.new }
 {
-    if !is_group_of_zeros(block, from) {
+    if !are_zeros(block, from, from + 8) {
         put_values(quant, block, from, from + 8, values);
     }
 }
 
+// Whether the levels from place `from` of the zigzag order on to place `to` are 0. Takes them together, with no way out
+// before the end.
 #[inline(always)]
-fn is_group_of_zeros(block: &Block, from: usize) -> bool
-    requires from { from ≤ 56 }
-    requires levels { (k : ℕ) → from ≤ k → k < from + 8 → IsLevel (level_at block.now k) }
-    ensures { IsTrue result → (k : ℕ) → from ≤ k → k < from + 8 → level_at block.now k ≡ pos 0 }
+fn are_zeros(block: &Block, from: usize, to: usize) -> bool
+    requires order { from ≤ to }
+    requires to { to ≤ 64 }
+    requires levels { (k : ℕ) → from ≤ k → k < to → IsLevel (level_at block.now k) }
+    ensures { IsTrue result → (k : ℕ) → from ≤ k → k < to → level_at block.now k ≡ pos 0 }
 {
     let mut bits = 0;
-    for k in from..from + 8 {
+    for k in from..to {
         bits |= block.levels[k];
     }
     bits == 0

@@ -2,7 +2,7 @@ use Rattle.std.proofs.Common.{◌≡◌, ℕ, ◌≤◌, pos, arith, ap, below_m
 use Rattle.std.proofs.lemmas.Nat.{le_or_l, le_or_r, or_of_16}
 use Rattle.h263_types.specs.Blocks.{level_at}
 use Rattle.picture_recon.proofs.Kept.{level_bits, no_bits, zero_level}
-use Rattle.picture_recon.proofs.values.is_group_of_zeros.Goals as goal
+use Rattle.picture_recon.proofs.values.are_zeros.Goals as goal
 
 pub loop-k-preserved : goal.loop-k-preserved
 loop-k-preserved c none =

@@ -1,6 +1,6 @@
 use Rattle.std.proofs.Common.{◌≡◌, ℕ, ◌<◌, ◌≤◌, pos}
 use Rattle.h263_types.specs.Blocks.{level_at}
-use Rattle.picture_recon.proofs.values.is_group_of_zeros.Given as goal
+use Rattle.picture_recon.proofs.values.are_zeros.Given as goal
 
 -- where no bit is set so far, the levels before `k` are 0
 abbrev pub invariant-loop-k : goal.invariant-loop-k
