@@ -1,6 +1,6 @@
 -- Numbers that are kept as they are, and a block's first value.
-use Rattle.std.proofs.Common.{◌≡◌, ℕ, ◌≤◌, ◌<◌, min, ℤ, pos, ◌+ℤ◌, ◌*ℤ◌, get_or, cond, nat_eq, ap, ◌∙◌, arith, to_z, of_z, w16}
-use Rattle.std.proofs.lemmas.Int.{ints}
+use Rattle.std.proofs.Common.{◌≡◌, ℕ, ◌^◌, ◌≤◌, ◌<◌, min, ℤ, pos, ◌+ℤ◌, ◌*ℤ◌, get_or, cond, nat_eq, ap, sym, ◌∙◌, arith, to_z, of_z, w16}
+use Rattle.std.proofs.lemmas.Int.{ints, of_z-to_z}
 use Rattle.std.proofs.lemmas.Bool.Decides.{nat_tests}
 use Rattle.std.proofs.lemmas.List.FromFn.{get_or-map-range_with_len}
 use Rattle.h263_types.specs.declared.blocks.Block.{Block}
@@ -14,6 +14,18 @@ kept z h = omega (arith, ints)
 
 pub kept_level : (z : ℤ) → IsLevel z → to_z w16 (of_z w16 z) ≡ z
 kept_level z h = omega (arith, ints)
+
+pub zero_level : (z : ℤ) → IsLevel z → of_z w16 z ≡ 0 → z ≡ pos 0
+zero_level z h e = sym (kept_level z h) ∙ ap (to_z w16) e
+
+pub level_bits : (z : ℤ) → IsLevel z → of_z w16 z < 2 ^ 16
+level_bits z h = omega (arith, ints)
+
+pub no_bits : (n : ℕ) → n < 2 ^ 16 → to_z w16 n ≡ pos 0 → n ≡ 0
+no_bits n h e = sym (of_z-to_z w16 n h) ∙ ap (of_z w16) e
+
+pub same_dc : (z : ℤ) → IsDc z → to_z w16 (of_z w16 z) ≡ z
+same_dc z h = omega (arith, ints)
 
 pub kept_dc : (z : ℤ) → IsDc z → to_z w16 (of_z w16 (pos 8 *ℤ to_z w16 (of_z w16 z))) ≡ pos 8 *ℤ z
 kept_dc z h = omega (arith, ints)

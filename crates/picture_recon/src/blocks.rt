@@ -10,6 +10,7 @@ use h263_planes::{Corner, PictureMut, block_corner};
 use h263_types::Format;
 
 // Writes the samples of block `block` of macroblock `at`.
+#[inline(always)]
 pub(crate) fn put_block(
     out: &mut PictureMut<'_>,
     format: Format,
@@ -29,6 +30,7 @@ pub(crate) fn put_block(
 }
 
 // Writes 8 x 8 samples from a corner on.
+#[inline(always)]
 fn put_samples(out: &mut PictureMut<'_>, corner: Corner, samples: &[u8; 64])
     requires { IsCorner (work out.old).format corner }
     ensures same_loan { loan_of out.new ≡ loan_of out.old }
