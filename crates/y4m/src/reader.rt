@@ -85,7 +85,7 @@ impl Y4mReader {
 impl Y4mReader {
     ghost use Rattle.std.specs.Prelude.{◌≡◌};
 
-    // The reader where one frame may still come, in place of reading a million.
+    /// The reader where one frame may still come, in place of reading a million.
     pub fn before_the_last(self) -> Y4mReader
         ensures { result.format ≡ self.format }
     {

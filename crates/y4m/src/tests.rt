@@ -224,71 +224,73 @@ fn frames_of(
     }
 }
 
+// What stands behind the head, each part so many times; how many frames that is, and its fault.
+const FRAMES: [(&[(&[u8], usize)], u32, Option<Y4mFault>); 19] = [
+    (&[], 0, None),
+    (&[(b"F", 1)], 0, Some(ShortFrame { at: 20 })),
+    (&[(b"X", 1)], 0, Some(NotY4m { at: 19 })),
+    (&[(b"FRAME", 1)], 0, Some(ShortFrame { at: 24 })),
+    (&[(b"FRAM\n", 1)], 0, Some(NotY4m { at: 23 })),
+    (&[(b"FRAMEX", 1)], 0, Some(NotY4m { at: 24 })),
+    (&[(b"FRAME ", 1)], 0, Some(ShortFrame { at: 25 })),
+    (&[(b"FRAME\n", 1)], 0, Some(ShortFrame { at: 25 })),
+    (
+        &[(b"FRAME\n", 1), (b"7", 18_431)],
+        0,
+        Some(ShortFrame { at: 18_456 }),
+    ),
+    (&[(b"FRAME\n", 1), (b"7", 18_432)], 1, None),
+    (
+        &[
+            (b"FRAME It  C422 W\n", 1),
+            (b"7", 18_432),
+            (b"FRAME \n", 1),
+            (b"8", 18_432),
+        ],
+        2,
+        None,
+    ),
+    (
+        &[(b"FRAME\n", 1), (b"7", 18_433)],
+        1,
+        Some(NotY4m { at: 18_457 }),
+    ),
+    (
+        &[(b"FRAME\n", 1), (b"7", 18_432), (b"FRAM", 1)],
+        1,
+        Some(ShortFrame { at: 18_461 }),
+    ),
+    (
+        &[(b"FRAME x\n", 1), (b"7", 18_432), (b"FRAME\n", 1)],
+        1,
+        Some(ShortFrame { at: 18_465 }),
+    ),
+    // Lines of 256 bytes and more.
+    (
+        &[(b"FRAME ", 1), (b"x", 249), (b"\n", 1), (b"7", 18_432)],
+        1,
+        None,
+    ),
+    (
+        &[(b"FRAME ", 1), (b"x", 249), (b"\n", 1)],
+        0,
+        Some(ShortFrame { at: 275 }),
+    ),
+    (
+        &[(b"FRAME ", 1), (b"x", 250)],
+        0,
+        Some(ShortFrame { at: 275 }),
+    ),
+    (&[(b"FRAME ", 1), (b"x", 251)], 0, Some(NotY4m { at: 275 })),
+    (
+        &[(b"FRAME ", 1), (b"x", 250), (b"\n", 1), (b"7", 18_432)],
+        0,
+        Some(NotY4m { at: 275 }),
+    ),
+];
+
 fn check_frames(rt: &impl Abort, alloc: Global) -> Result<(), OutOfMemory> {
-    let cases: [(&[(&[u8], usize)], u32, Option<Y4mFault>); 19] = [
-        (&[], 0, None),
-        (&[(b"F", 1)], 0, Some(ShortFrame { at: 20 })),
-        (&[(b"X", 1)], 0, Some(NotY4m { at: 19 })),
-        (&[(b"FRAME", 1)], 0, Some(ShortFrame { at: 24 })),
-        (&[(b"FRAM\n", 1)], 0, Some(NotY4m { at: 23 })),
-        (&[(b"FRAMEX", 1)], 0, Some(NotY4m { at: 24 })),
-        (&[(b"FRAME ", 1)], 0, Some(ShortFrame { at: 25 })),
-        (&[(b"FRAME\n", 1)], 0, Some(ShortFrame { at: 25 })),
-        (
-            &[(b"FRAME\n", 1), (b"7", 18_431)],
-            0,
-            Some(ShortFrame { at: 18_456 }),
-        ),
-        (&[(b"FRAME\n", 1), (b"7", 18_432)], 1, None),
-        (
-            &[
-                (b"FRAME It  C422 W\n", 1),
-                (b"7", 18_432),
-                (b"FRAME \n", 1),
-                (b"8", 18_432),
-            ],
-            2,
-            None,
-        ),
-        (
-            &[(b"FRAME\n", 1), (b"7", 18_433)],
-            1,
-            Some(NotY4m { at: 18_457 }),
-        ),
-        (
-            &[(b"FRAME\n", 1), (b"7", 18_432), (b"FRAM", 1)],
-            1,
-            Some(ShortFrame { at: 18_461 }),
-        ),
-        (
-            &[(b"FRAME x\n", 1), (b"7", 18_432), (b"FRAME\n", 1)],
-            1,
-            Some(ShortFrame { at: 18_465 }),
-        ),
-        // Lines of 256 bytes and more.
-        (
-            &[(b"FRAME ", 1), (b"x", 249), (b"\n", 1), (b"7", 18_432)],
-            1,
-            None,
-        ),
-        (
-            &[(b"FRAME ", 1), (b"x", 249), (b"\n", 1)],
-            0,
-            Some(ShortFrame { at: 275 }),
-        ),
-        (
-            &[(b"FRAME ", 1), (b"x", 250)],
-            0,
-            Some(ShortFrame { at: 275 }),
-        ),
-        (&[(b"FRAME ", 1), (b"x", 251)], 0, Some(NotY4m { at: 275 })),
-        (
-            &[(b"FRAME ", 1), (b"x", 250), (b"\n", 1), (b"7", 18_432)],
-            0,
-            Some(NotY4m { at: 275 }),
-        ),
-    ];
-    for (parts, count, fault) in cases {
+    for (parts, count, fault) in FRAMES {
         let body = joined(alloc, parts)?;
         let video = joined(alloc, &[(HEAD, 1), (&body, 1)])?;
         let stop = fault.map(VideoStop::Refused);
