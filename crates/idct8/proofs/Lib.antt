@@ -6,3 +6,4 @@ pub mod ForwardRows
 pub mod Steps
 pub mod Results
 pub mod Zeros
+pub mod Sizes
