@@ -25,7 +25,7 @@ dc_in_range : (z : ℤ) → IsDc (limited_dc z)
 dc_in_range (pos n) = record { low = omega (arith, ints); high = omega (arith, ints) }
 dc_in_range (negsuc n) = record { low = omega (arith, ints); high = omega (arith, ints) }
 
-level_small : (quant : ℕ) (f : ℤ) → IsLevel (intra_level quant f)
+pub level_small : (quant : ℕ) (f : ℤ) → IsLevel (intra_level quant f)
 level_small quant (pos n) = record { low = omega (arith, ints); high = omega (arith, ints) }
 level_small quant (negsuc n) = record { low = omega (arith, ints); high = omega (arith, ints) }
 
@@ -67,7 +67,7 @@ blocks_in_range frame quant keep mb h =
 
 -- ---- residuals
 
-residual_small : (quant : ℕ) (f : ℤ) → IsLevel (inter_level quant f)
+pub residual_small : (quant : ℕ) (f : ℤ) → IsLevel (inter_level quant f)
 residual_small quant (pos n) = record { low = omega (arith, ints); high = omega (arith, ints) }
 residual_small quant (negsuc n) = record { low = omega (arith, ints); high = omega (arith, ints) }
 

@@ -4,3 +4,5 @@ pub mod Blocks
 pub mod Differences
 pub mod Choices
 pub mod Small
+pub mod Walk
+pub mod Sparse

@@ -1,13 +1,13 @@
 //! The levels of an intra block.
-ghost use Rattle.std.specs.Prelude.{◌≡◌, ℕ, ◌<◌, All, pos, ◌+ℤ◌};
+ghost use Rattle.std.specs.Prelude.{◌≡◌, All, pos, ◌+ℤ◌};
 ghost use Rattle.std.specs.Int.{int_shr};
-ghost use Rattle.h263_types.specs.Blocks.{IsCoefficient, IsDc, IsIntraBlock, IsLevel, IsQuant};
+ghost use Rattle.h263_types.specs.Blocks.{IsCoefficient, IsDc, IsIntraBlock, IsQuant};
 ghost use Rattle.idct8.specs.Ranges.{IsSample};
-ghost use Rattle.mode_choice.specs.Choice.{level_of, levels_of, limited_dc};
+ghost use Rattle.mode_choice.specs.Choice.{levels_of, limited_dc};
 
+use crate::coefficients::{Coding, least_size, levels_in};
 use h263_types::Block;
-use idct8::forward;
-use quantiser::{block_place, level_intra};
+use idct8::forward_from;
 
 // The levels of a block of samples.
 pub(crate) fn intra_block(quant: u8, keep: u8, samples: &[i16; 64]) -> Block
@@ -16,29 +16,10 @@ pub(crate) fn intra_block(quant: u8, keep: u8, samples: &[i16; 64]) -> Block
     ensures levels { result ≡ levels_of quant keep samples.now }
     ensures range { IsIntraBlock result }
 {
-    let coefficients = forward(samples);
-    let mut levels = [0; 64];
-    for k in 0..64 {
-        levels[k] = intra_level(quant, keep, k, coefficients[block_place(k)]);
-    }
+    let coefficients = forward_from(samples, least_size(Coding::Intra, quant));
+    let mut levels = levels_in(Coding::Intra, quant, keep, &coefficients);
+    levels[0] = intra_dc(coefficients[0]);
     Block { levels }
-}
-
-// The level of a coefficient at place `k` of the zigzag order.
-fn intra_level(quant: u8, keep: u8, k: usize, coefficient: i32) -> i16
-    requires quant { IsQuant quant }
-    requires coefficient { IsCoefficient coefficient }
-    ensures level { result ≡ level_of quant keep k coefficient }
-    ensures dc { k ≡ 0 → IsDc result }
-    ensures others { 0 < k → IsLevel result }
-{
-    if k == 0 {
-        intra_dc(coefficient)
-    } else if k < usize::from(keep) {
-        level_intra(quant, coefficient)
-    } else {
-        0
-    }
 }
 
 // The INTRADC value of a block's first coefficient.

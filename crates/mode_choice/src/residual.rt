@@ -5,9 +5,9 @@ ghost use Rattle.idct8.specs.Ranges.{IsSample};
 ghost use Rattle.quantiser.specs.Levels.{inter_level};
 ghost use Rattle.mode_choice.specs.Choice as choice;
 
+use crate::coefficients::{Coding, least_size, levels_in};
 use h263_types::Block;
-use idct8::forward;
-use quantiser::{block_place, level_inter};
+use idct8::forward_from;
 
 // The levels of a block of residuals.
 pub(crate) fn residual_block(quant: u8, keep: u8, residuals: &[i16; 64]) -> Block
@@ -18,25 +18,9 @@ pub(crate) fn residual_block(quant: u8, keep: u8, residuals: &[i16; 64]) -> Bloc
     if are_small(quant, residuals) {
         return Block { levels: [0; 64] };
     }
-    let coefficients = forward(residuals);
-    let mut levels = [0; 64];
-    for k in 0..64 {
-        levels[k] = residual_level(quant, keep, k, coefficients[block_place(k)]);
-    }
-    Block { levels }
-}
-
-// The level of a coefficient at place `k` of the zigzag order.
-fn residual_level(quant: u8, keep: u8, k: usize, coefficient: i32) -> i16
-    requires quant { IsQuant quant }
-    requires coefficient { IsCoefficient coefficient }
-    ensures level { result ≡ choice.residual_level_of quant keep k coefficient }
-    ensures range { IsLevel result }
-{
-    if k >= usize::from(keep) || is_small(quant, coefficient) {
-        0
-    } else {
-        level_inter(quant, coefficient)
+    let coefficients = forward_from(residuals, least_size(Coding::Inter, quant));
+    Block {
+        levels: levels_in(Coding::Inter, quant, keep, &coefficients),
     }
 }
 
@@ -51,24 +35,7 @@ fn are_small(quant: u8, residuals: &[i16; 64]) -> bool
     for k in 0..64 {
         sum += residuals[k].unsigned_abs();
     }
-    u32::from(sum) + 2 <= 4 * least_size(quant)
-}
-
-// Whether a coefficient is too small for a level. Most are, and need no division.
-fn is_small(quant: u8, coefficient: i32) -> bool
-    requires quant { IsQuant quant }
-    requires coefficient { IsCoefficient coefficient }
-    ensures { IsTrue result ↔ (inter_level quant coefficient ≡ pos 0) }
-{
-    coefficient.unsigned_abs() < least_size(quant)
-}
-
-// The size from which on a coefficient has a level.
-fn least_size(quant: u8) -> u32
-    ensures { result ≡ 2 * quant + quant / 2 }
-{
-    let quant = u32::from(quant);
-    2 * quant + quant / 2
+    u32::from(sum) + 2 <= 4 * least_size(Coding::Inter, quant)
 }
 
 // Whether no level of the blocks is left.

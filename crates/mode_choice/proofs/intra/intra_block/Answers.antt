@@ -1,43 +1,52 @@
-use Rattle.std.proofs.Common.{◌≡◌, ℕ, zero, suc, refl, List, ◌<◌, ◌≤◌, arith, ap, sym, subst, ◌∙◌, length, length-set, get_or, ℤ, pos, to_z, of_z, w16}
+use Rattle.std.proofs.Common.{◌≡◌, ◌∙◌, ℕ, zero, suc, ℤ, pos, List, ap, arith, lit<, length, length-set, slice_set, ◌<◌, ◌≤◌, ◌+ℤ◌, nat_eq, get_or, get_or-set_same, get_or-set_other, cond, to_z, of_z, w16}
+use Rattle.std.specs.Int.{int_shr}
 use Rattle.std.proofs.lemmas.Int.{ints}
+use Rattle.std.proofs.lemmas.Bool.Decides.{nat_tests}
 use Rattle.std.proofs.lemmas.List.FromFn.{fill_by_all}
 use Rattle.h263_types.specs.declared.blocks.Block.{Block}
-use Rattle.h263_types.specs.Blocks.{IsCoefficient, IsDc, IsLevel}
-use Rattle.mode_choice.specs.Choice.{coefficient_at, level_of, levels_of}
-use Rattle.mode_choice.proofs.Levels.{coefficient_kept, is_coefficient, is_forward}
-use Rattle.mode_choice.proofs.Steps.{one_more}
+use Rattle.h263_types.specs.Blocks.{IsCoefficient, IsDc}
+use Rattle.mode_choice.specs.Choice.{coefficient_at, level_of, levels_of, limited_dc}
+use Rattle.quantiser.specs.Zigzag.{block_place_of}
+use Rattle.mode_choice.specs.declared.coefficients.Coding.TheVariants.{Intra}
+use Rattle.mode_choice.proofs.Levels.{coefficient_kept, is_coefficient}
+use Rattle.mode_choice.proofs.Sparse.{IsSparse, sparse_level}
 use Rattle.mode_choice.proofs.intra.intra_block.Goals as goal
 
-pub intra_level-requires-clause-coefficient : goal.intra_level-requires-clause-coefficient
-intra_level-requires-clause-coefficient c =
-    let ok = is_coefficient c.forward-coefficients.result c.block_place.result c.block_place.ensures.range c.forward-coefficients.ensures.range in
-    subst IsCoefficient (sym (coefficient_kept _ ok)) ok
+pub levels_in-levels-requires-clause-coefficients : goal.levels_in-levels-requires-clause-coefficients
+levels_in-levels-requires-clause-coefficients c at h = is_coefficient c.forward_from-coefficients.result at h c.forward_from-coefficients.ensures.range
 
--- a level of either kind is kept
-number_kept : (z : ℤ) (k : ℕ) → (k ≡ 0 → IsDc z) → (0 < k → IsLevel z) → to_z w16 (of_z w16 z) ≡ z
-number_kept z zero dc level = let h : IsDc z = dc refl in omega (arith, ints)
-number_kept z (suc k) dc level = let h : IsLevel z = level (omega arith) in omega (arith, ints)
+dc_kept : (z : ℤ) → IsDc z → to_z w16 (of_z w16 z) ≡ z
+dc_kept z h = omega (arith, ints)
 
-pub loop-k-preserved : goal.loop-k-preserved
-loop-k-preserved c =
-    let at : ℕ = c.block_place.result in
-    let k : ℕ = c.loop-k.k in
-    let f : ℤ = get_or c.forward-coefficients.result at (pos 0) in
-    let ok : IsCoefficient f = is_coefficient c.forward-coefficients.result at c.block_place.ensures.range c.forward-coefficients.ensures.range in
-    let value : f ≡ coefficient_at c.args.samples.now k = is_forward c.forward-coefficients.result c.args.samples.now at k c.block_place.ensures.place c.block_place.ensures.range c.forward-coefficients.ensures.coefficients in
-    let same = number_kept c.intra_level.result k c.intra_level.ensures.dc c.intra_level.ensures.others in
-    let level = same ∙ c.intra_level.ensures.level ∙ ap (λ (z : ℤ). level_of c.args.quant c.args.keep k z) (coefficient_kept f ok ∙ value) in
-    let room : k < length c.loop-k.levels = omega (arith, c.loop-k.invariant.0) in
-    let good : (k ≡ 0 → IsDc (to_z w16 (of_z w16 c.intra_level.result))) × (1 ≤ k → IsLevel (to_z w16 (of_z w16 c.intra_level.result))) =
-    (λ e. subst IsDc (sym same) (c.intra_level.ensures.dc e), λ h. subst IsLevel (sym same) (c.intra_level.ensures.others h)) in (
-      length-set c.loop-k.levels k _ ∙ c.loop-k.invariant.0,
-      one_more (λ (j : ℕ) (z : ℤ). z ≡ level_of c.args.quant c.args.keep j (coefficient_at c.args.samples.now j)) c.loop-k.levels k (to_z w16 (of_z w16 c.intra_level.result)) (pos 0) room level c.loop-k.invariant.1,
-      one_more (λ (j : ℕ) (z : ℤ). (j ≡ 0 → IsDc z) × (1 ≤ j → IsLevel z)) c.loop-k.levels k (to_z w16 (of_z w16 c.intra_level.result)) (pos 0) room good c.loop-k.invariant.2,
-    )
+-- INTRADC, and behind it the levels that stand already
+with_first : (quant keep : ℕ) (samples levels : List ℤ) (dc : ℤ) → length levels ≡ 64 → dc ≡ level_of quant keep 0 (coefficient_at samples 0) →
+    ((k : ℕ) → 1 ≤ k → k < 64 → get_or levels k (pos 0) ≡ level_of quant keep k (coefficient_at samples k)) →
+    (k : ℕ) → k < 64 → get_or (slice_set levels 0 dc) k (pos 0) ≡ level_of quant keep k (coefficient_at samples k)
+with_first quant keep samples levels dc long first others zero h = get_or-set_same levels 0 dc (pos 0) (omega (arith, long)) ∙ first
+with_first quant keep samples levels dc long first others (suc k) h = get_or-set_other levels 0 (suc k) dc (pos 0) (omega arith) ∙ others (suc k) (omega arith) h
+
+-- a level behind the first
+behind : (k : ℕ) (dc l : ℤ) → 1 ≤ k → l ≡ cond (nat_eq k 0) dc l
+behind k dc l h = grind (arith, nat_tests)
 
 pub returns-clause-levels : goal.returns-clause-levels
-unfolding levels_of
+unfolding levels_of block_place_of
 returns-clause-levels c =
-    let level : ℕ → ℤ = λ k. level_of c.args.quant c.args.keep k (coefficient_at c.args.samples.now k) in
+    let quant : ℕ = c.args.quant in
+    let keep : ℕ = c.args.keep in
+    let samples : List ℤ = c.args.samples.now in
+    let coefficients : List ℤ = c.forward_from-coefficients.result in
+    let sparse : IsSparse c.least_size.result samples coefficients = record {
+      kept = c.forward_from-coefficients.ensures.kept;
+      small = c.forward_from-coefficients.ensures.small;
+    } in
+    let dc : ℤ = to_z w16 (of_z w16 c.intra_dc.result) in
+    let ok : IsCoefficient (get_or coefficients 0 (pos 0)) = is_coefficient coefficients 0 (lit< tt) c.forward_from-coefficients.ensures.range in
+    let first : dc ≡ limited_dc (int_shr (coefficient_at samples 0 +ℤ pos 4) 3) =
+    dc_kept c.intra_dc.result c.intra_dc.ensures.range
+    ∙ c.intra_dc.ensures.value
+    ∙ ap (λ (f : ℤ). limited_dc (int_shr (f +ℤ pos 4) 3)) (coefficient_kept (get_or coefficients 0 (pos 0)) ok ∙ c.forward_from-coefficients.ensures.first) in
     let block : List ℤ → Block = λ ls. record { levels = ls } in
-    ap block (fill_by_all level c.loop-k.levels 64 (pos 0) c.loop-k.invariant.0 (λ k h. c.loop-k.invariant.1 k (omega arith)))
+    ap block (fill_by_all (λ (k : ℕ). level_of quant keep k (coefficient_at samples k)) (slice_set c.levels_in-levels.result 0 dc) 64 (pos 0) (length-set c.levels_in-levels.result 0 dc ∙ c.levels_in-levels.ensures.long)
+    (with_first quant keep samples c.levels_in-levels.result dc c.levels_in-levels.ensures.long first
+    (λ k some below. sparse_level Intra quant keep c.least_size.result samples coefficients k below c.requires.quant c.least_size.ensures.value sparse (c.levels_in-levels.ensures.levels k below) ∙ behind k _ _ some)))
