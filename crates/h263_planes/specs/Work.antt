@@ -5,7 +5,7 @@ use Rattle.h263_planes.specs.Layout.{picture_of}
 use Rattle.h263_planes.specs.Picture.{Picture}
 
 abbrev pub work : PictureMut → Picture
-work r = picture_of r.format r.bytes.now
+work r = picture_of r.layout.format r.bytes.now
 
 -- which loan of bytes it writes to: the one from which it was made
 abbrev pub loan_of : PictureMut → GName

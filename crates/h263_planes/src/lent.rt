@@ -3,15 +3,15 @@ ghost use Rattle.std.specs.Prelude.{◌≡◌, length};
 ghost use Rattle.h263_types.specs.Sizes.{size_of_picture};
 
 use crate::Plane;
-use crate::layout::place;
+use crate::layout::Layout;
 use h263_types::Format;
 
 /// A picture over bytes that hold its planes Y, Cb and Cr, each by rows from the top.
 #[derive(Clone, Copy)]
 pub struct PictureRef<'a> {
-    format: Format,
+    layout: Layout,
     bytes: &'a [u8],
-    ghost whole: { length bytes.now ≡ size_of_picture format },
+    ghost whole: { length bytes.now ≡ size_of_picture layout.format },
 }
 
 impl<'a> PictureRef<'a> {
@@ -27,7 +27,10 @@ impl<'a> PictureRef<'a> {
         ensures picture { picture result ≡ picture_of format bytes.now }
         ensures whole { IsPicture (picture result) }
     {
-        PictureRef { format, bytes }
+        PictureRef {
+            layout: Layout::new(format),
+            bytes,
+        }
     }
 
     /// The format of the picture.
@@ -35,7 +38,7 @@ impl<'a> PictureRef<'a> {
         ensures format { result ≡ (picture self.now).format }
         ensures whole { IsPicture (picture self.now) }
     {
-        self.format
+        self.layout.format
     }
 
     /// The sample in column `x` of row `y`, 0 to 255.
@@ -43,7 +46,7 @@ impl<'a> PictureRef<'a> {
         requires { Inside (picture self.now).format plane x y 1 }
         ensures { result ≡ sample_at (picture self.now) plane x y }
     {
-        self.bytes[place(self.format, plane, x, y)]
+        self.bytes[self.layout.place(plane, x, y)]
     }
 
     /// The `n` samples of row `y` from column `x` on, lent without a copy.
@@ -52,7 +55,7 @@ impl<'a> PictureRef<'a> {
         ensures length { length result.now ≡ n }
         ensures samples { (i : ℕ) → i < n → slice_index result.now i ≡ sample_at (picture self.now) plane (x + i) y }
     {
-        let at = place(self.format, plane, x, y);
+        let at = self.layout.place(plane, x, y);
         &self.bytes[at..at + n as usize]
     }
 }

@@ -3,16 +3,16 @@ ghost use Rattle.std.specs.Prelude.{◌≡◌, length};
 ghost use Rattle.h263_types.specs.Sizes.{size_of_picture};
 
 use crate::Plane;
-use crate::layout::place;
+use crate::layout::Layout;
 use crate::lent::PictureRef;
 use h263_types::Format;
 
 /// A picture over bytes that may be written: its planes Y, Cb and Cr, each by rows from the top.
 #[derive(Drop)]
 pub struct PictureMut<'a> {
-    format: Format,
+    layout: Layout,
     bytes: &'a mut [u8],
-    ghost whole: { length bytes.now ≡ size_of_picture format },
+    ghost whole: { length bytes.now ≡ size_of_picture layout.format },
 }
 
 impl<'a> PictureMut<'a> {
@@ -31,7 +31,10 @@ impl<'a> PictureMut<'a> {
         ensures picture { work result ≡ picture_of format bytes.old }
         ensures whole { IsPicture (work result) }
     {
-        PictureMut { format, bytes }
+        PictureMut {
+            layout: Layout::new(format),
+            bytes,
+        }
     }
 
     /// The format of the picture.
@@ -39,7 +42,7 @@ impl<'a> PictureMut<'a> {
         ensures format { result ≡ (work self.now).format }
         ensures whole { IsPicture (work self.now) }
     {
-        self.format
+        self.layout.format
     }
 
     /// Writes the sample in column `x` of row `y`.
@@ -51,7 +54,7 @@ impl<'a> PictureMut<'a> {
         ensures whole { IsPicture (work self.new) }
         ensures samples { (other : Plane) (i j : ℕ) → Inside (work self.old).format other i j 1 → sample_at (work self.new) other i j ≡ (if in_run plane x y 1 other i j then value else sample_at (work self.old) other i j) }
     {
-        let at = place(self.format, plane, x, y);
+        let at = self.layout.place(plane, x, y);
         self.bytes[at] = value;
     }
 
@@ -64,7 +67,7 @@ impl<'a> PictureMut<'a> {
         ensures whole { IsPicture (work self.new) }
         ensures samples { (other : Plane) (i j : ℕ) → Inside (work self.old).format other i j 1 → sample_at (work self.new) other i j ≡ (if in_run plane x y (length samples.now) other i j then slice_index samples.now (i - x) else sample_at (work self.old) other i j) }
     {
-        let from = place(self.format, plane, x, y);
+        let from = self.layout.place(plane, x, y);
         self.bytes[from..from + samples.len()].copy_from_slice(samples);
     }
 
@@ -73,6 +76,6 @@ impl<'a> PictureMut<'a> {
         ensures picture { picture result ≡ work self.now }
         ensures whole { IsPicture (picture result) }
     {
-        PictureRef::new(self.format, &*self.bytes)
+        PictureRef::new(self.layout.format, &*self.bytes)
     }
 }
