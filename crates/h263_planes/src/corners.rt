@@ -1,6 +1,6 @@
 //! The corners of a macroblock's blocks.
-ghost use Rattle.std.specs.Prelude.{◌≡◌, ℕ, ◌<◌, ◌&&◌, nat_eq};
-ghost use Rattle.h263_types.specs.Sizes.{mbs_of};
+ghost use Rattle.std.specs.Prelude.{◌≡◌, ℕ, ◌/◌, ◌%◌, ◌<◌, ◌&&◌, nat_eq};
+ghost use Rattle.h263_types.specs.Sizes.{columns_of, mbs_of};
 ghost use Rattle.h263_planes.specs.declared.Plane.{Plane};
 ghost use Rattle.h263_planes.specs.Samples.{Inside, in_block};
 ghost use Rattle.h263_planes.specs.Blocks.{IsCorner, block_of, corner_of, mb_of};
@@ -18,8 +18,7 @@ pub fn block_corner(format: Format, mb: u32, block: u32) -> Corner
     ensures inside { IsCorner format result }
     ensures samples { (plane : Plane) (i j : ℕ) → Inside format plane i j 1 → in_block result.plane result.x result.y 8 8 plane i j ≡ (nat_eq (mb_of format plane i j) mb && nat_eq (block_of plane i j) block) }
 {
-    let column = mb % format.columns();
-    let row = mb / format.columns();
+    let (column, row) = mb_place(format, mb);
     if block < 4 {
         Corner {
             plane: Plane::Y,
@@ -33,4 +32,27 @@ pub fn block_corner(format: Format, mb: u32, block: u32) -> Corner
             y: 8 * row,
         }
     }
+}
+
+/// The column and the row of macroblock `mb`, in macroblocks. Each format has a division by a number of its own, which needs
+/// no divider.
+pub fn mb_place(format: Format, mb: u32) -> (u32, u32)
+    ensures column { result.0 ≡ mb % columns_of format }
+    ensures row { result.1 ≡ mb / columns_of format }
+{
+    match format {
+        Format::SubQcif => divided(mb, Format::SubQcif.columns()),
+        Format::Qcif => divided(mb, Format::Qcif.columns()),
+        Format::Cif => divided(mb, Format::Cif.columns()),
+    }
+}
+
+// The remainder and the quotient.
+#[inline(always)]
+fn divided(mb: u32, columns: u32) -> (u32, u32)
+    requires { 0 < columns }
+    ensures column { result.0 ≡ mb % columns }
+    ensures row { result.1 ≡ mb / columns }
+{
+    (mb % columns, mb / columns)
 }

@@ -10,7 +10,7 @@ mod lent;
 mod work;
 
 pub use blocks::Corner;
-pub use corners::block_corner;
+pub use corners::{block_corner, mb_place};
 pub use lent::PictureRef;
 pub use work::PictureMut;
 

@@ -8,7 +8,7 @@ ghost use Rattle.half_sample.specs.Prediction.{predicted_sample, IsColour};
 
 use crate::block::block;
 use crate::place::{chroma_place, is_chroma_half, is_luma_half, luma_place};
-use h263_planes::{PictureRef, Plane};
+use h263_planes::{PictureRef, Plane, mb_place};
 use h263_types::Vector;
 
 /// The 16 x 16 luma samples that a vector predicts for macroblock `mb`, by rows from the top. `rounding` is the
@@ -19,12 +19,12 @@ pub fn luma(reference: PictureRef<'_>, mb: u32, vector: Vector, rounding: u8, ou
     requires rounding { rounding ≤ 1 }
     ensures { (j i : ℕ) → j < 16 → i < 16 → slice_index out.new (16 * j + i) ≡ predicted_sample (picture reference.entry) Y (16 * (mb % columns_of (picture reference.entry).format) + i) (16 * (mb / columns_of (picture reference.entry).format) + j) vector rounding }
 {
-    let columns = reference.format().columns();
+    let (column, row) = mb_place(reference.format(), mb);
     block::<16>(
         reference,
         Plane::Y,
-        luma_place(16 * (mb % columns), vector.x),
-        luma_place(16 * (mb / columns), vector.y),
+        luma_place(16 * column, vector.x),
+        luma_place(16 * row, vector.y),
         is_luma_half(vector.x),
         is_luma_half(vector.y),
         rounding,
@@ -48,12 +48,12 @@ pub fn chroma(
     requires rounding { rounding ≤ 1 }
     ensures { (j i : ℕ) → j < 8 → i < 8 → slice_index out.new (8 * j + i) ≡ predicted_sample (picture reference.entry) plane (8 * (mb % columns_of (picture reference.entry).format) + i) (8 * (mb / columns_of (picture reference.entry).format) + j) vector rounding }
 {
-    let columns = reference.format().columns();
+    let (column, row) = mb_place(reference.format(), mb);
     block::<8>(
         reference,
         plane,
-        chroma_place(8 * (mb % columns), vector.x),
-        chroma_place(8 * (mb / columns), vector.y),
+        chroma_place(8 * column, vector.x),
+        chroma_place(8 * row, vector.y),
         is_chroma_half(vector.x),
         is_chroma_half(vector.y),
         rounding,

@@ -13,10 +13,11 @@ block-requires-clause-inside c =
     let fy : FitsSigned w8 c.args.vector.y = omega (arith, ints, c.requires.reach) in
     let sx = to_z-of_z w8 c.args.vector.x fx in
     let sy = to_z-of_z w8 c.args.vector.y fy in
-    let n = c.columns-columns.ensures ∙ ap columns_of c.format.ensures.format in
-    luma_inside c.args.reference.format c.args.mb c.args.vector c.requires.reach
-    (same_place (λ k. 16 * (c.args.mb % k)) (whole_part Y) c.luma_place.ensures n sx)
-    (same_place (λ k. 16 * (c.args.mb / k)) (whole_part Y) c.luma_place-2.ensures n sy)
+    let column = c.mb_place-column.ensures.column ∙ ap (λ f. c.args.mb % columns_of f) c.format.ensures.format in
+    let row = c.mb_place-column.ensures.row ∙ ap (λ f. c.args.mb / columns_of f) c.format.ensures.format in
+    luma_inside (picture c.args.reference).format c.args.mb c.args.vector c.requires.reach
+    (same_place (λ k. 16 * k) (whole_part Y) c.luma_place.ensures column sx)
+    (same_place (λ k. 16 * k) (whole_part Y) c.luma_place-2.ensures row sy)
     (c.is_luma_half.ensures ∙ ap (is_half Y) sx)
     (c.is_luma_half-2.ensures ∙ ap (is_half Y) sy)
 
@@ -26,11 +27,12 @@ returns c j i hj hi =
     let fy : FitsSigned w8 c.args.vector.y = omega (arith, ints, c.requires.reach) in
     let sx = to_z-of_z w8 c.args.vector.x fx in
     let sy = to_z-of_z w8 c.args.vector.y fy in
-    let n = c.columns-columns.ensures ∙ ap columns_of c.format.ensures.format in
-    let columns = columns_of c.args.reference.format in
+    let column = c.mb_place-column.ensures.column ∙ ap (λ f. c.args.mb % columns_of f) c.format.ensures.format in
+    let row = c.mb_place-column.ensures.row ∙ ap (λ f. c.args.mb / columns_of f) c.format.ensures.format in
+    let columns = columns_of (picture c.args.reference).format in
     c.block.ensures j i hj hi
     ∙ block_sample (picture c.args.reference) Y c.args.rounding (16 * (c.args.mb % columns)) (16 * (c.args.mb / columns)) i j c.args.vector
-    (same_place (λ k. 16 * (c.args.mb % k)) (whole_part Y) c.luma_place.ensures n sx)
-    (same_place (λ k. 16 * (c.args.mb / k)) (whole_part Y) c.luma_place-2.ensures n sy)
+    (same_place (λ k. 16 * k) (whole_part Y) c.luma_place.ensures column sx)
+    (same_place (λ k. 16 * k) (whole_part Y) c.luma_place-2.ensures row sy)
     (c.is_luma_half.ensures ∙ ap (is_half Y) sx)
     (c.is_luma_half-2.ensures ∙ ap (is_half Y) sy)

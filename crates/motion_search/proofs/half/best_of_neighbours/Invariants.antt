@@ -12,6 +12,6 @@ abbrev pub invariant-loop-k : goal.invariant-loop-k
 invariant-loop-k l = record {
   candidate : IsCandidate l.block (picture l.reference) l.mb l.rounding l.first;
   near : IsNear l.best.vector l.first.vector;
-  none : (n : ℕ) → n < l.k → InReach l.reference.format l.mb (around l.best.vector n).x (around l.best.vector n).y → before (candidate_of l.block (picture l.reference) l.mb l.rounding (around l.best.vector n)) l.first ≡ false;
+  none : (n : ℕ) → n < l.k → InReach (picture l.reference).format l.mb (around l.best.vector n).x (around l.best.vector n).y → before (candidate_of l.block (picture l.reference) l.mb l.rounding (around l.best.vector n)) l.first ≡ false;
   cost : IsCost l.first.cost;
 }

@@ -11,6 +11,6 @@ use Rattle.motion_search.proofs.whole.best_of_whole.Given as goal
 abbrev pub invariant-loop-distance : goal.invariant-loop-distance
 invariant-loop-distance l = record {
   candidate : IsWholeCandidate l.block (picture l.reference) l.mb l.radius 0 l.first;
-  none : (m n : ℕ) → m < l.radius + l.distance → l.radius < m + l.distance → n < 2 * l.radius + 1 → InReach l.reference.format l.mb (whole_at l.radius n m).x (whole_at l.radius n m).y → before (candidate_of l.block (picture l.reference) l.mb 0 (whole_at l.radius n m)) l.first ≡ false;
+  none : (m n : ℕ) → m < l.radius + l.distance → l.radius < m + l.distance → n < 2 * l.radius + 1 → InReach (picture l.reference).format l.mb (whole_at l.radius n m).x (whole_at l.radius n m).y → before (candidate_of l.block (picture l.reference) l.mb 0 (whole_at l.radius n m)) l.first ≡ false;
   cost : IsCost l.first.cost;
 }

@@ -11,7 +11,7 @@ loop-k-preserved c = (
   c.set_row.ensures.format ∙ c.loop-k.invariant.1,
   λ plane x y h.
       let corner = c.args.corner in
-      let here : Inside c.loop-k.out.format plane x y 1 = subst (λ (f : Format). Inside f plane x y 1) (sym c.loop-k.invariant.1) h in
+      let here : Inside (work c.loop-k.out).format plane x y 1 = subst (λ (f : Format). Inside f plane x y 1) (sym c.loop-k.invariant.1) h in
       let long : length (slice_range c.args.samples.now (8 * c.loop-k.k) (8 * c.loop-k.k + 8)) ≡ 8 = search rules in
       let now = c.set_row.ensures.samples plane x y here in
       let now8 = subst (λ (n : ℕ). sample_at (work c.set_row.new.self) plane x y ≡ cond (in_run corner.plane corner.x (corner.y + c.loop-k.k) n plane x y) (get_or (slice_range c.args.samples.now (8 * c.loop-k.k) (8 * c.loop-k.k + 8)) (x - corner.x) 0) (sample_at (work c.loop-k.out) plane x y)) long now in
