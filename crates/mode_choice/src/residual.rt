@@ -1,6 +1,6 @@
 //! The levels of what a prediction leaves of a block.
-ghost use Rattle.std.specs.Prelude.{◌≡◌, ◌↔◌, ℕ, ◌+◌, ◌*◌, ◌/◌, All, IsTrue, pos};
-ghost use Rattle.h263_types.specs.Blocks.{IsCoefficient, IsLevel, IsQuant};
+ghost use Rattle.std.specs.Prelude.{◌≡◌, ℕ, ◌*◌, ◌≤◌, All, IsTrue, pos, unsigned_abs};
+ghost use Rattle.h263_types.specs.Blocks.{IsQuant};
 ghost use Rattle.idct8.specs.Ranges.{IsSample};
 ghost use Rattle.quantiser.specs.Levels.{inter_level};
 ghost use Rattle.mode_choice.specs.Choice as choice;
@@ -24,18 +24,30 @@ pub(crate) fn residual_block(quant: u8, keep: u8, residuals: &[i16; 64]) -> Bloc
     }
 }
 
-// Whether residuals are so small that they leave no level, which needs no transform: but for its rounding, a coefficient
-// is less than a quarter of the sum of their sizes. No number of the basis is above 2841, and 4 * 2841^2 is below 2^25.
+// Whether residuals are so small that they leave no level, which needs no transform: but for its rounding, the square of a
+// coefficient is at most the sum of their squares.
 fn are_small(quant: u8, residuals: &[i16; 64]) -> bool
     requires quant { IsQuant quant }
     requires residuals { All IsSample residuals.now }
     ensures { IsTrue result → (k : ℕ) → inter_level quant (choice.coefficient_at residuals.now k) ≡ pos 0 }
 {
-    let mut sum: u16 = 0;
+    let mut squares = 0;
     for k in 0..64 {
-        sum += residuals[k].unsigned_abs();
+        squares += square(residuals[k]);
     }
-    u32::from(sum) + 2 <= 4 * least_size(Coding::Inter, quant)
+    let least = least_size(Coding::Inter, quant);
+    squares + least + 1 < least * least
+}
+
+// The square of a residual.
+#[inline(always)]
+fn square(residual: i16) -> u32
+    requires { IsSample residual }
+    ensures square { result ≡ unsigned_abs residual * unsigned_abs residual }
+    ensures most { result ≤ 65025 }
+{
+    let residual = i32::from(residual);
+    (residual * residual) as u32
 }
 
 // Whether no level of the blocks is left.

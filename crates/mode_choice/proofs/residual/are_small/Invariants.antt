@@ -2,8 +2,8 @@ use Rattle.std.proofs.Common.{◌≡◌, ◌*◌, ◌≤◌, get_or, pos, unsign
 use Rattle.mode_choice.proofs.Small.{total}
 use Rattle.mode_choice.proofs.residual.are_small.Given as goal
 
--- the sum of the sizes before k
+-- the squares before k
 abbrev pub invariant-loop-k : goal.invariant-loop-k
 invariant-loop-k l =
-    (l.sum ≡ total l.k (λ j. unsigned_abs (get_or l.residuals j (pos 0))))
-    × (l.sum ≤ 255 * l.k)
+    (l.squares ≡ total l.k (λ j. unsigned_abs (get_or l.residuals j (pos 0)) * unsigned_abs (get_or l.residuals j (pos 0))))
+    × (l.squares ≤ 65025 * l.k)
