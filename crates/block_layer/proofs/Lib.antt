@@ -5,3 +5,4 @@ pub mod Productive
 pub mod Ranges
 pub mod Spelt
 pub mod Lengths
+pub mod Marks

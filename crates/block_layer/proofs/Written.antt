@@ -21,7 +21,7 @@ IsWritten z = size_of z < 128
 abbrev zeros : ℕ → List ℤ
 zeros n = replicate n (pos 0)
 
-some_size : (z : ℤ) → is_zero z ≡ false → 0 < size_of z
+pub some_size : (z : ℤ) → is_zero z ≡ false → 0 < size_of z
 some_size (pos zero) e = absurd (true_not_false e)
 some_size (pos (suc n)) e = omega arith
 some_size (negsuc n) e = omega arith
@@ -48,7 +48,7 @@ set_here : (front zs : List ℤ) (z x : ℤ) → slice_set (front ++ (x ∷ zs))
 set_here [] zs z x = refl
 set_here (f ∷ front) zs z x = ap (λ (l : List ℤ). f ∷ l) (set_here front zs z x)
 
-zero_is : (z : ℤ) → is_zero z ≡ true → z ≡ pos 0
+pub zero_is : (z : ℤ) → is_zero z ≡ true → z ≡ pos 0
 zero_is z e = (Decides-int_eq z (pos 0)).0 e
 
 -- no level is left but zeros

@@ -1,3 +1,4 @@
 pub mod Text
 pub mod Placed
 pub mod Step
+pub mod Marks

@@ -1,7 +1,6 @@
 -- The writing of a block's levels, one after the other.
-use Rattle.std.specs.Prelude.{ℕ, ◌+◌, ◌<◌, List, [], Bool, slice_index_or, ℤ, pos, if◌then◌else◌}
-use Rattle.code_tables.specs.Tables.{Coefficient, event_text, size_of}
-use Rattle.block_layer.specs.Text.{is_zero}
+use Rattle.std.specs.Prelude.{ℕ, ◌+◌, ◌<◌, List, Bool, slice_index_or, ℤ, pos}
+use Rattle.code_tables.specs.Tables.{Coefficient, size_of}
 
 -- the level at a place
 abbrev pub level_at : List ℤ → ℕ → ℤ
@@ -13,10 +12,3 @@ pub record AreWritten (from : ℕ) (levels : List ℤ) : Type 0 where
 
 abbrev pub one_event : Bool → ℕ → ℤ → Coefficient
 one_event last run level = record { last = last; run = run; level = level }
-
--- what is written of a level behind a run of zeros, and the run behind it
-unfoldable pub step_text : Bool → ℕ → ℤ → List Bool
-step_text last run level = if is_zero level then [] else event_text (one_event last run level)
-
-abbrev pub run_after : ℕ → ℤ → ℕ
-run_after run level = if is_zero level then run + 1 else 0

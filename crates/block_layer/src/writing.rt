@@ -6,11 +6,13 @@ ghost use Rattle.h263_types.specs.Blocks.{IsIntraBlock, IsInterBlock};
 ghost use Rattle.code_tables.specs.Events.{coefficient_of};
 ghost use Rattle.code_tables.specs.Tables.{size_of};
 ghost use Rattle.block_layer.specs.Text.{is_zero, none_left, events_of, events_text, dc_code, is_coded, levels_text, coded_text, intra_text, inter_text, IsIntraText, IsInterText};
-ghost use Rattle.block_layer.specs.Step.{AreWritten, level_at, step_text, run_after, one_event};
+ghost use Rattle.block_layer.specs.Step.{AreWritten, level_at, one_event};
+ghost use Rattle.block_layer.specs.Marks.{marks_of};
 
 use code_tables::{Coefficient, write_event};
 use h263_bits::BitWriter;
 use h263_types::Block;
+use std::simd::prelude::*;
 
 // The event of a level that isn't 0.
 fn event_at(levels: &[i16; 64], place: usize, run: u8, last: bool) -> Coefficient
@@ -25,40 +27,14 @@ fn event_at(levels: &[i16; 64], place: usize, run: u8, last: bool) -> Coefficien
     }
 }
 
-// Writes a level behind a run of zeros, and gives the run behind it.
-#[tactic(auto, unfolding(crate::specs::Step::step_text))]
-fn write_place(
-    writer: &mut BitWriter<'_>,
-    levels: &[i16; 64],
-    place: usize,
-    run: u8,
-    last: bool,
-) -> u8
-    requires place { place < 64 }
-    requires run { run < 64 }
-    requires size { size_of (level_at levels.now place) < 128 }
-    requires room { len_of writer.old + length (step_text last run (level_at levels.now place)) ≤ room_of writer.old }
-    ensures bits { Appends writer.old writer.new (step_text last run (level_at levels.now place)) }
-    ensures len { len_of writer.new ≡ len_of writer.old + length (step_text last run (level_at levels.now place)) }
-    ensures run { result ≡ run_after run (level_at levels.now place) }
+// A bit for each level that isn't 0, the lowest for the first. All levels are compared at once.
+#[inline(always)]
+fn marks(levels: [i16; 64]) -> u64
+    ensures marks { result ≡ marks_of levels }
+    ensures whole { length levels ≡ 64 }
 {
-    if levels[place] == 0 {
-        return run + 1;
-    }
-    write_event(writer, &event_at(levels, place, run, last));
-    0
-}
-
-// Whether each of these levels is 0.
-fn is_none_left(levels: &[i16]) -> bool
-    ensures { result ≡ none_left levels.now }
-{
-    for level in levels {
-        if *level != 0 {
-            return false;
-        }
-    }
-    true
+    let zeros = i16x64::splat(0);
+    i16x64::from_array(levels).simd_ne(zeros).to_bitmask()
 }
 
 /// Whether a block of an intra macroblock is coded: a level other than INTRADC isn't 0.
@@ -66,7 +42,7 @@ pub fn is_intra_coded(block: &Block) -> bool
     ensures coded { result ≡ is_coded block.now.levels }
     ensures whole { length block.now.levels ≡ 64 }
 {
-    !is_none_left(&block.levels[1..])
+    marks(block.levels) >> 1 != 0
 }
 
 /// Whether a block of an inter macroblock is coded: a level isn't 0.
@@ -74,47 +50,25 @@ pub fn is_inter_coded(block: &Block) -> bool
     ensures coded { result ≡ not (none_left block.now.levels) }
     ensures whole { length block.now.levels ≡ 64 }
 {
-    !is_none_left(&block.levels)
+    marks(block.levels) != 0
 }
 
-// Whether the level at a place is 0.
-#[inline(always)]
-fn is_zero_at(levels: &[i16; 64], place: usize) -> bool
-    requires { place < 64 }
-    ensures { result ≡ is_zero (level_at levels.now place) }
-{
-    levels[place] == 0
-}
-
-// Whether the level at a place is the last that isn't 0, where it or one behind it isn't. So a run of zeros is walked
-// through once, and not from each of its places.
-fn is_last(levels: &[i16; 64], place: usize) -> bool
-    requires place { place < 64 }
-    requires some { none_left (drop place levels.now) ≡ false }
-    ensures { result ≡ none_left (drop (place + 1) levels.now) }
-{
-    if is_zero_at(levels, place) {
-        return false;
-    }
-    is_none_left(&levels[place + 1..])
-}
-
-// Writes the events of the levels from a place on; one at least of these isn't 0.
+// Writes the events of the levels from a place on: one for each that isn't 0.
 fn write_levels(writer: &mut BitWriter<'_>, levels: &[i16; 64], from: usize)
     requires from { from < 64 }
     requires levels { AreWritten from levels.now }
-    requires some { none_left (drop from levels.now) ≡ false }
     requires room { len_of writer.old + length (levels_text from levels.now) ≤ room_of writer.old }
     ensures bits { Appends writer.old writer.new (levels_text from levels.now) }
     ensures len { len_of writer.new ≡ len_of writer.old + length (levels_text from levels.now) }
 {
-    let mut run = 0;
-    'places: for place in from..64 {
-        let last = is_last(levels, place);
-        run = write_place(writer, levels, place, run, last);
-        if last {
-            return;
-        }
+    let mut left = marks(*levels) >> from;
+    let mut place = from;
+    'events: while left != 0 {
+        let run = left.trailing_zeros();
+        place += run as usize;
+        left = left >> run >> 1;
+        write_event(writer, &event_at(levels, place, run as u8, left == 0));
+        place += 1;
     }
 }
 
@@ -142,20 +96,7 @@ pub fn write_intra(writer: &mut BitWriter<'_>, block: &Block)
     ensures len { len_of writer.new ≡ len_of writer.old + length (intra_text block.now.levels) }
 {
     writer.put(dc_bits(block), 8);
-    write_coded(writer, &block.levels);
-}
-
-// Writes the events behind INTRADC, where there are any.
-fn write_coded(writer: &mut BitWriter<'_>, levels: &[i16; 64])
-    requires levels { AreWritten 1 levels.now }
-    requires room { len_of writer.old + length (coded_text levels.now) ≤ room_of writer.old }
-    ensures bits { Appends writer.old writer.new (coded_text levels.now) }
-    ensures len { len_of writer.new ≡ len_of writer.old + length (coded_text levels.now) }
-{
-    if is_none_left(&levels[1..]) {
-        return;
-    }
-    write_levels(writer, levels, 1);
+    write_levels(writer, &block.levels, 1);
 }
 
 /// Writes a coded block of an inter macroblock: the events of its levels, of which one at least isn't 0

@@ -1,8 +1,10 @@
-use Rattle.std.proofs.Common.{◌≡◌, Bool, length, ap, not, arith}
-use Rattle.block_layer.proofs.Steps.{last_is}
+use Rattle.std.proofs.Common.{◌/◌, Bool, eqb, ap, ◌∙◌, not, drop}
+use Rattle.block_layer.proofs.Marks.{behind, none_marked}
 use Rattle.block_layer.proofs.writing.is_intra_coded.Goals as goal
 
 pub returns-clause-coded : goal.returns-clause-coded
 returns-clause-coded c =
-    let long : length c.args.block.now.levels ≡ 64 = omega arith in
-    ap (λ (b : Bool). not b) (last_is c.is_none_left.result c.args.block.now.levels 1 long c.is_none_left.ensures)
+    let levels = c.args.block.now.levels in
+    ap (λ n. not (eqb (n / 2) 0)) c.marks.ensures.marks
+    ∙ ap (λ n. not (eqb n 0)) (behind 1 levels)
+    ∙ ap (λ (b : Bool). not b) (none_marked (drop 1 levels))

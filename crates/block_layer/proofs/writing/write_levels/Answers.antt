@@ -1,70 +1,83 @@
-use Rattle.std.proofs.Common.{true, ◌≡◌, ◌+◌, ◌++◌, Bool, List, length, drop, ap, sym, ◌∙◌, arith, refl}
+use Rattle.std.proofs.Common.{◌≡◌, ◌+◌, ◌/◌, ◌^◌, ◌++◌, Bool, List, length, ap, sym, ◌∙◌, subst, arith, refl}
+use lib.Count.{count_trailing_zeros}
 use Rattle.h263_bits.specs.Written.{written}
-use Rattle.block_layer.specs.Text.{none_left}
-use Rattle.block_layer.specs.Step.{level_at, run_after}
-use Rattle.block_layer.proofs.Steps.{left_text, none_text, size_at, goes, lengths, ended, some_left, run_grows, text_is}
+use Rattle.code_tables.specs.Tables.{IsEvent}
+use Rattle.block_layer.specs.Step.{level_at}
+use Rattle.block_layer.proofs.Steps.{left_text, none_text, ended, text_is, size_at}
+use Rattle.block_layer.proofs.Written.{some_size}
+use Rattle.block_layer.proofs.Marks.{behind, next, goes, none_next}
 use Rattle.block_layer.proofs.writing.write_levels.Goals as goal
 
-pub places-init : goal.places-init
-places-init c = record {
+pub events-init : goal.events-init
+events-init c = record {
   buffer = refl;
   room = refl;
   text = ap (λ (l : List Bool). written c.args.writer.now ++ l) (text_is c.args.from c.args.levels.now);
   len = ap (λ (l : List Bool). c.args.writer.now.len + length l) (text_is c.args.from c.args.levels.now);
-  some = c.requires.some;
-  few = omega arith;
+  marked = ap (λ n. n / 2 ^ c.args.from) c.marks.ensures.marks ∙ behind c.args.from c.args.levels.now;
+  since = omega arith;
+  within = omega arith;
 }
 
-pub write_place-run-requires-clause-size : goal.write_place-run-requires-clause-size
-write_place-run-requires-clause-size c = size_at c.args.from c.places.place c.args.levels.now c.requires.levels (omega arith)
+pub event_at-requires-clause-place : goal.event_at-requires-clause-place
+event_at-requires-clause-place c =
+    let e = c.events in
+    (next e.place (count_trailing_zeros 64 e.left) e.left c.args.levels.now c.marks.ensures.whole e.invariant.marked c.events-test.true refl).inside
 
-pub write_place-run-requires-clause-room : goal.write_place-run-requires-clause-room
-write_place-run-requires-clause-room c =
-    let levels = c.args.levels.now in
-    let is = c.is_last-last.ensures in
-    let long = lengths c.places.run c.places.place levels (omega arith) c.is_last-last.result is in
-    omega (arith, long)
+pub event_at-requires-clause-size : goal.event_at-requires-clause-size
+event_at-requires-clause-size c = size_at c.args.from (c.events.place + count_trailing_zeros 64 c.events.left) c.args.levels.now c.requires.levels (omega arith)
 
-pub places-preserved : goal.places-preserved
-places-preserved c =
+pub write_event-requires-clause-event : goal.write_event-requires-clause-event
+write_event-requires-clause-event c =
+    let e = c.events in
     let levels = c.args.levels.now in
-    let last = c.is_last-last.result in
-    let is = c.is_last-last.ensures in
-    let run = run_after c.places.run (level_at levels c.places.place) in
-    let grown = run_grows c.places.run (level_at levels c.places.place) in
-    let long = lengths c.places.run c.places.place levels (omega arith) last is in
+    let run = count_trailing_zeros 64 e.left in
+    let n = next e.place run e.left levels c.marks.ensures.whole e.invariant.marked c.events-test.true refl in
+    subst IsEvent (sym c.event_at.ensures) (record {
+      run = omega (arith, n.inside);
+      some = some_size (level_at levels (e.place + run)) n.some;
+      level = size_at c.args.from (e.place + run) levels c.requires.levels (omega arith);
+    })
+
+pub write_event-requires-clause-room : goal.write_event-requires-clause-room
+write_event-requires-clause-room c =
+    let e = c.events in
+    let levels = c.args.levels.now in
+    let run = count_trailing_zeros 64 e.left in
+    let n = next e.place run e.left levels c.marks.ensures.whole e.invariant.marked c.events-test.true refl in
+    rw c.event_at.ensures (omega (arith, n.length))
+
+pub events-preserved : goal.events-preserved
+events-preserved c =
+    let e = c.events in
+    let levels = c.args.levels.now in
+    let run = count_trailing_zeros 64 e.left in
+    let n = next e.place run e.left levels c.marks.ensures.whole e.invariant.marked c.events-test.true refl in
+    let bits = c.write_event.ensures.bits in
+    let len = rw c.event_at.ensures at c.write_event.ensures.len in
     record {
-      buffer = c.write_place-run.ensures.bits.buffer ∙ c.places.invariant.buffer;
-      room = c.write_place-run.ensures.bits.room ∙ c.places.invariant.room;
-      text = rw c.write_place-run.ensures.run (goes c.places.run c.places.place levels (omega arith) (written c.places.writer) (written c.write_place-run.new.writer) _ last is c.write_place-run.ensures.bits.text c.places.invariant.text);
-      len = rw c.write_place-run.ensures.run (omega (arith, long));
-      some = sym is ∙ c.if-last.false;
-      few = omega (arith, grown);
+      buffer = bits.buffer ∙ e.invariant.buffer;
+      room = bits.room ∙ e.invariant.room;
+      text = goes e.place run e.left levels (written e.writer) (written c.write_event.new.writer) _ n (rw c.event_at.ensures at bits.text) e.invariant.text;
+      len = omega (arith, n.length, len);
+      marked = n.marked;
+      since = omega arith;
+      within = omega (arith, n.inside);
     }
 
-pub returns-then-last-clause-bits : goal.returns-then-last-clause-bits
-returns-then-last-clause-bits c =
-    let levels = c.args.levels.now in
-    let last = c.is_last-last.result in
-    let is = c.is_last-last.ensures in
-    let none : none_left (drop (c.places.place + 1) levels) ≡ true = sym is ∙ c.if-last.true in
+pub returns-clause-bits : goal.returns-clause-bits
+returns-clause-bits c =
+    let e = c.events in
+    let none = none_next e.place e.left c.args.levels.now e.invariant.marked c.events-test.false in
     record {
-      buffer = c.write_place-run.ensures.bits.buffer ∙ c.places.invariant.buffer;
-      room = c.write_place-run.ensures.bits.room ∙ c.places.invariant.room;
-      text = ended (run_after c.places.run (level_at levels c.places.place)) (c.places.place + 1) levels _ _ none
-          (goes c.places.run c.places.place levels (omega arith) (written c.places.writer) (written c.write_place-run.new.writer) _ last is c.write_place-run.ensures.bits.text c.places.invariant.text);
+      buffer = e.invariant.buffer;
+      room = e.invariant.room;
+      text = ended 0 e.place c.args.levels.now (written e.writer) _ none e.invariant.text;
     }
 
-pub returns-then-last-clause-len : goal.returns-then-last-clause-len
-returns-then-last-clause-len c =
-    let levels = c.args.levels.now in
-    let last = c.is_last-last.result in
-    let is = c.is_last-last.ensures in
-    let none : none_left (drop (c.places.place + 1) levels) ≡ true = sym is ∙ c.if-last.true in
-    let run = run_after c.places.run (level_at levels c.places.place) in
-    let long = lengths c.places.run c.places.place levels (omega arith) last is in
-    let nothing : length (left_text run (c.places.place + 1) levels) ≡ 0 = ap length (none_text run (c.places.place + 1) levels none) in
-    omega (arith, long, nothing)
-
-pub returns : goal.returns
-returns c = absurd (some_left c.places.place c.args.levels.now (omega arith) c.places.invariant.some)
+pub returns-clause-len : goal.returns-clause-len
+returns-clause-len c =
+    let e = c.events in
+    let none = none_next e.place e.left c.args.levels.now e.invariant.marked c.events-test.false in
+    let nothing : length (left_text 0 e.place c.args.levels.now) ≡ 0 = ap length (none_text 0 e.place c.args.levels.now none) in
+    omega (arith, nothing)

@@ -1,0 +1,186 @@
+-- The levels of a block as bits, and the events that these give.
+use Rattle.std.proofs.Common.{◌≡◌, ℕ, zero, suc, ◌+◌, ◌-◌, ◌*◌, ◌/◌, ◌^◌, ◌<◌, Bool, true, false, cond, List, [], ◌∷◌, ◌++◌, drop, length, refl, sym, ap, ◌∙◌, subst, arith, add-one, append_assoc, eqb, not, w16, of_z, length-drop, length-append}
+use Rattle.std.specs.Prelude.{ℤ, pos, negsuc, map, ◌&&◌}
+use Rattle.std.specs.Simd.Lanes.{mask_l}
+use Rattle.std.specs.List.{prefix_len}
+use Rattle.std.proofs.Math.Nat.{pow-succ', div-div-eq-div-mul, zero-div}
+use Rattle.std.proofs.lemmas.Bool.{ne_eqb}
+use Rattle.std.proofs.lemmas.List.{drop-drop, get_or-drop}
+use Rattle.std.proofs.lemmas.List.Sums.{prefix_len_stops}
+use Rattle.std.proofs.lemmas.Simd.{trailing_mask_l}
+use lib.Count.{count_trailing_zeros}
+use lib.Signed.{mag}
+use mir.Val.{Val}
+use denote.Signed.{SInt}
+use denote.Array.{each}
+use denote.Shadow.{shadow}
+use Rattle.code_tables.specs.Tables.{Coefficient, event_text}
+use Rattle.block_layer.specs.Text.{is_zero, none_left, events_of, events_text}
+use Rattle.block_layer.specs.Step.{level_at, one_event}
+use Rattle.block_layer.specs.Marks.{marks_of}
+use Rattle.block_layer.proofs.Written.{zero_is}
+use Rattle.block_layer.proofs.Steps.{left_text}
+
+-- ---- of an array
+
+not_zero : (n : ℕ) → is_zero (pos (suc n)) ≡ false
+not_zero n = at (is_zero (pos (suc n))) refl
+  where
+    at : (t : Bool) → is_zero (pos (suc n)) ≡ t → t ≡ false
+    at true e = let same : pos (suc n) ≡ pos 0 = zero_is (pos (suc n)) e in cc
+    at false e = refl
+
+-- a level of 16 bits is 0 exactly where its bits are
+zero_bits : (z : ℤ) → mag z < 2 ^ 15 → eqb (of_z w16 z) 0 ≡ is_zero z
+zero_bits (pos zero) small = refl
+zero_bits (pos (suc n)) small = ne_eqb (suc n) 0 (λ e. omega (arith, e)) ∙ sym (not_zero n)
+zero_bits (negsuc n) small = ne_eqb (2 ^ 16 - suc n) 0 (λ e. let k : n < 2 ^ 15 = small in omega (arith, e, k))
+
+-- so the bits of an array of levels have its marks
+pub marks_are : (levels : List ℤ) (us : List Val) → shadow (each ℤ (SInt w16).own_val levels us) → mask_l (map (λ x. not (eqb x 0)) (map (of_z w16) levels)) ≡ marks_of levels
+unfolding marks_of
+marks_are [] us h = refl
+marks_are (z ∷ levels) [] h = absurd h
+marks_are (z ∷ levels) (u ∷ us) h = rw (zero_bits z h.0.1) (ap (λ n. cond (not (is_zero z)) 1 0 + 2 * n) (marks_are levels us h.1))
+
+-- ---- behind the first ones
+
+one_behind : (b : Bool) (n : ℕ) → (cond b 1 0 + 2 * n) / 2 ≡ n
+one_behind true n = omega arith
+one_behind false n = omega arith
+
+pub behind_one : (z : ℤ) (levels : List ℤ) → marks_of (z ∷ levels) / 2 ≡ marks_of levels
+unfolding marks_of
+behind_one z levels = one_behind (not (is_zero z)) (marks_of levels)
+
+-- a shift leaves the marks of the levels behind
+pub behind : (k : ℕ) (levels : List ℤ) → marks_of levels / 2 ^ k ≡ marks_of (drop k levels)
+unfolding marks_of
+behind zero levels = omega arith
+behind (suc k) [] = zero-div (2 ^ suc k)
+behind (suc k) (z ∷ levels) =
+    ap (λ (n : ℕ). marks_of (z ∷ levels) / n) (pow-succ' 2 k)
+    ∙ sym (div-div-eq-div-mul (marks_of (z ∷ levels)) 2 (2 ^ k))
+    ∙ ap (λ (n : ℕ). n / 2 ^ k) (behind_one z levels)
+    ∙ behind k levels
+
+-- there is no mark where no level is left
+twice : (n : ℕ) → eqb (0 + 2 * n) 0 ≡ eqb n 0
+twice zero = refl
+twice (suc n) = ne_eqb (0 + 2 * suc n) 0 (λ e. omega (arith, e)) ∙ sym (ne_eqb (suc n) 0 (λ e. omega (arith, e)))
+
+pub none_marked : (levels : List ℤ) → eqb (marks_of levels) 0 ≡ none_left levels
+unfolding marks_of
+none_marked [] = refl
+none_marked (z ∷ levels) = at (is_zero z) (none_marked levels)
+  where
+    at : (t : Bool) → eqb (marks_of levels) 0 ≡ none_left levels → eqb (cond (not t) 1 0 + 2 * marks_of levels) 0 ≡ (t && none_left levels)
+    at true more = twice (marks_of levels) ∙ more
+    at false more = ne_eqb (1 + 2 * marks_of levels) 0 (λ e. omega (arith, e))
+
+-- ---- the first of them
+
+abbrev is_passed : ℤ → Bool
+is_passed z = not (not (is_zero z))
+
+-- behind k zeros the first event is that of the level there
+record First (run k : ℕ) (levels : List ℤ) : Type 0 where
+  inside : k < length levels
+  events : events_of run levels ≡ one_event (none_left (drop (suc k) levels)) (run + k) (level_at levels k) ∷ events_of 0 (drop (suc k) levels)
+
+first_event : (run k : ℕ) (levels : List ℤ) → none_left levels ≡ false → prefix_len is_passed levels ≡ k → First run k levels
+unfolding events_of
+first_event run k [] some e = absurd cc
+first_event run k (z ∷ levels) some e =
+    let first = at (is_zero z) k e some (λ k' some' e'. first_event (run + 1) k' levels some' e') in
+    record { inside = first.0; events = first.1 }
+  where
+    at : (t : Bool) → (k : ℕ) → cond (not (not t)) (1 + prefix_len is_passed levels) 0 ≡ k → (t && none_left levels) ≡ false
+        → ((k : ℕ) → none_left levels ≡ false → prefix_len is_passed levels ≡ k → First (run + 1) k levels)
+        → (k < suc (length levels)) × (cond t (events_of (run + 1) levels) (one_event (none_left levels) run z ∷ events_of 0 levels) ≡ one_event (none_left (drop k levels)) (run + k) (level_at (z ∷ levels) k) ∷ events_of 0 (drop k levels))
+    at true zero e some more = absurd (omega (arith, e))
+    at true (suc k) e some more =
+        let first = more k some (omega (arith, e)) in
+        (omega (arith, first.inside), first.events ∙ ap (λ (r : ℕ). one_event (none_left (drop (suc k) levels)) r (level_at levels k) ∷ events_of 0 (drop (suc k) levels)) (omega arith))
+    at false zero e some more = (omega arith, ap (λ (r : ℕ). one_event (none_left levels) r z ∷ events_of 0 levels) (omega arith))
+    at false (suc k) e some more = absurd (omega (arith, e))
+
+-- ---- the next level
+
+-- what stands behind `run` zeros from `place` on, where `left` has the marks of the levels from there on: a level that isn't 0,
+-- with its event
+pub record Next (place run left : ℕ) (levels : List ℤ) : Type 0 where
+  pub inside : place + run < 64
+  pub some : is_zero (level_at levels (place + run)) ≡ false
+  pub marked : left / 2 ^ run / 2 ≡ marks_of (drop (place + run + 1) levels)
+  pub last : eqb (left / 2 ^ run / 2) 0 ≡ none_left (drop (place + run + 1) levels)
+  pub text : left_text 0 place levels ≡ event_text (one_event (eqb (left / 2 ^ run / 2) 0) run (level_at levels (place + run))) ++ left_text 0 (place + run + 1) levels
+  pub length : length (left_text 0 place levels) ≡ length (event_text (one_event (eqb (left / 2 ^ run / 2) 0) run (level_at levels (place + run)))) + length (left_text 0 (place + run + 1) levels)
+
+not_passed : (b : Bool) → not (not b) ≡ false → b ≡ false
+not_passed false e = refl
+not_passed true e = e
+
+module _ (place run left : ℕ) (levels : List ℤ) (long : length levels ≡ 64) (marks : left ≡ marks_of (drop place levels)) (some : left ≡ 0 → ⊥) (zeros : run ≡ count_trailing_zeros 64 left) where
+  is_some : none_left (drop place levels) ≡ false
+  is_some = sym (none_marked (drop place levels)) ∙ ne_eqb (marks_of (drop place levels)) 0 (λ e. some (marks ∙ e))
+
+  prefix : prefix_len is_passed (drop place levels) ≡ run
+  unfolding marks_of
+  prefix =
+      sym (trailing_mask_l (λ z. not (is_zero z)) 64 (drop place levels) (omega (arith, length-drop place levels)) (subst (λ (n : ℕ). 0 < n) marks (omega (arith, some))))
+      ∙ ap (count_trailing_zeros 64) (sym marks)
+      ∙ sym zeros
+
+  first : First 0 run (drop place levels)
+  first = first_event 0 run (drop place levels) is_some prefix
+
+  rest_is : drop (suc run) (drop place levels) ≡ drop (place + run + 1) levels
+  rest_is = drop-drop (suc run) place levels ∙ ap (λ (n : ℕ). drop n levels) (omega arith)
+
+  there : is_zero (level_at levels (place + run)) ≡ false
+  there =
+      let inside : prefix_len is_passed (drop place levels) < length (drop place levels) = omega (arith, first.inside, prefix) in
+      not_passed (is_zero (level_at levels (place + run)))
+      (ap (λ (z : ℤ). is_passed z) (sym (get_or-drop place levels run (pos 0)))
+      ∙ ap (λ (n : ℕ). is_passed (level_at (drop place levels) n)) (sym prefix)
+      ∙ prefix_len_stops is_passed (drop place levels) (pos 0) inside)
+
+  marked : left / 2 ^ run / 2 ≡ marks_of (drop (place + run + 1) levels)
+  marked =
+      ap (λ (n : ℕ). n / 2 ^ run / 2) marks
+      ∙ ap (λ (n : ℕ). n / 2) (behind run (drop place levels))
+      ∙ behind 1 (drop run (drop place levels))
+      ∙ ap (λ (l : List ℤ). marks_of l) (drop-drop 1 run (drop place levels) ∙ ap (λ (n : ℕ). drop n (drop place levels)) (add-one run) ∙ rest_is)
+
+  last : eqb (left / 2 ^ run / 2) 0 ≡ none_left (drop (place + run + 1) levels)
+  last = ap (λ (n : ℕ). eqb n 0) marked ∙ none_marked (drop (place + run + 1) levels)
+
+  text : left_text 0 place levels ≡ event_text (one_event (eqb (left / 2 ^ run / 2) 0) run (level_at levels (place + run))) ++ left_text 0 (place + run + 1) levels
+  unfolding events_text
+  text =
+      ap events_text first.events
+      ∙ ap (λ (l : List ℤ). event_text (one_event (none_left l) (0 + run) (level_at (drop place levels) run)) ++ events_text (events_of 0 l)) rest_is
+      ∙ ap (λ (b : Bool). event_text (one_event b (0 + run) (level_at (drop place levels) run)) ++ left_text 0 (place + run + 1) levels) (sym last)
+      ∙ ap (λ (n : ℕ). event_text (one_event (eqb (left / 2 ^ run / 2) 0) n (level_at (drop place levels) run)) ++ left_text 0 (place + run + 1) levels) (omega arith)
+      ∙ ap (λ (z : ℤ). event_text (one_event (eqb (left / 2 ^ run / 2) 0) run z) ++ left_text 0 (place + run + 1) levels) (get_or-drop place levels run (pos 0))
+
+  one : Coefficient
+  one = one_event (eqb (left / 2 ^ run / 2) 0) run (level_at levels (place + run))
+
+  pub next : Next place run left levels
+  unfolding one
+  next = record { inside = omega (arith, first.inside, length-drop place levels); some = there; marked = marked; last = last; text = text; length = ap length text ∙ length-append (event_text one) (left_text 0 (place + run + 1) levels) }
+
+-- with the text of the others, all is written
+pub goes : (place run left : ℕ) (levels : List ℤ) (old new all : List Bool) → Next place run left levels
+    → new ≡ old ++ event_text (one_event (eqb (left / 2 ^ run / 2) 0) run (level_at levels (place + run))) → old ++ left_text 0 place levels ≡ all
+    → new ++ left_text 0 (place + run + 1) levels ≡ all
+goes place run left levels old new all is wrote before =
+    ap (λ (l : List Bool). l ++ left_text 0 (place + run + 1) levels) wrote
+    ∙ append_assoc old (event_text (one_event (eqb (left / 2 ^ run / 2) 0) run (level_at levels (place + run)))) (left_text 0 (place + run + 1) levels)
+    ∙ ap (λ (l : List Bool). old ++ l) (sym is.text)
+    ∙ before
+
+pub none_next : (place left : ℕ) (levels : List ℤ) → left ≡ marks_of (drop place levels) → left ≡ 0 → none_left (drop place levels) ≡ true
+none_next place left levels marked none = sym (none_marked (drop place levels)) ∙ ap (λ (n : ℕ). eqb n 0) (sym marked ∙ none)
