@@ -1,16 +1,16 @@
 //! Vectors of whole samples, compared on the lent rows of the reference.
-ghost use Rattle.std.specs.Prelude.{◌≡◌, ℕ, ◌+◌, ◌*◌, ◌%◌, ◌/◌, ◌<◌, ◌≤◌, ◌↔◌, pos, ◌≤ℤ◌, unsigned_abs, IsNone, IfSome, length, slice_range};
+ghost use Rattle.std.specs.Prelude.{◌≡◌, ℕ, ◌+◌, ◌*◌, ◌%◌, ◌/◌, ◌<◌, ◌≤◌, ◌↔◌, pos, ◌<ℤ◌, false, IsNone, IfSome, length, slice_range};
 ghost use Rattle.h263_types.specs.Sizes.{columns_of, mbs_of};
 ghost use Rattle.h263_types.specs.Vectors.{InReach, whole_place};
 ghost use Rattle.h263_planes.specs.Lent.{picture};
 ghost use Rattle.h263_planes.specs.Samples.{Inside};
 ghost use Rattle.h263_planes.specs.declared.Plane.TheVariants.{Y};
 ghost use Rattle.sad_kernel.specs.Differences.{differences};
-ghost use Rattle.motion_search.specs.Order.{first_of};
+ghost use Rattle.motion_search.specs.Order.{before, first_of};
 ghost use Rattle.motion_search.specs.Cost.{candidate_of, differences_from, IsCost};
-ghost use Rattle.motion_search.specs.Vectors.{IsEven};
+ghost use Rattle.motion_search.specs.Vectors.{zero_vector, IsEven};
 
-use crate::candidate::{Candidate, better, enough};
+use crate::candidate::{Candidate, better};
 use h263_planes::{PictureRef, Plane};
 use h263_types::Vector;
 use sad_kernel::laws::parts_add;
@@ -29,7 +29,7 @@ fn block_row(block: &[u8; 256], j: u32) -> &[u8]
 
 // The differences of the four rows of a block from row `j` on from four rows of sixteen samples.
 #[inline(always)]
-pub(crate) fn differences_of_four(
+fn differences_of_four(
     block: &[u8; 256],
     j: u32,
     first: &[u8],
@@ -72,76 +72,60 @@ fn four_rows(block: &[u8; 256], reference: PictureRef<'_>, x: u32, y: u32, j: u3
     differences_of_four(block, j, first, second, third, fourth)
 }
 
-// The differences of a block from the 16 x 16 samples of Y at column `x` of row `y`, or `None` where they are at least
-// `enough`: where the upper four rows come to it, it reads no further. To ask after each row costs more than it spares.
+// The differences of a block from the 16 x 16 samples of Y at column `x` of row `y`, or `None` where they are more than
+// the best one costs: where the upper four rows are more, it reads no further. To ask after each row costs more than it spares.
 #[inline(always)]
-fn differences_until(
+fn differences_within(
     block: &[u8; 256],
     reference: PictureRef<'_>,
     x: u32,
     y: u32,
-    enough: u32,
+    best: Candidate,
 ) -> Option<u32>
     requires inside { Inside (picture reference).format Y x (y + 15) 16 }
     requires x { x < 65536 }
     requires y { y < 60000 }
-    ensures none { IsNone result ↔ (enough ≤ differences_from block.now (picture reference.entry) x y 0) }
+    ensures none { IsNone result ↔ (best.cost <ℤ pos (differences_from block.now (picture reference.entry) x y 0)) }
     ensures some { IfSome result (λ sum. sum ≡ differences_from block.now (picture reference.entry) x y 0) }
     ensures most { IfSome result (λ sum. sum ≤ 65280) }
 {
     let upper = four_rows(block, reference, x, y, 0);
-    if upper >= enough {
+    if upper as i32 > best.cost {
         return None;
     }
     let lower = four_rows(block, reference, x, y, 4)
         + four_rows(block, reference, x, y, 8)
         + four_rows(block, reference, x, y, 12);
     let sum = upper + lower;
-    if sum >= enough { None } else { Some(sum) }
+    if sum as i32 > best.cost {
+        None
+    } else {
+        Some(sum)
+    }
 }
 
-// The column that a vector leads to from `left` on.
-#[inline(always)]
-pub(crate) fn column(left: u32, vector: Vector) -> u32
-    requires left { left < 65536 }
-    requires inside { pos 0 ≤ℤ whole_place left vector.x }
-    ensures { pos result ≡ whole_place left vector.x }
-{
-    (left as i32 + i32::from(vector.x >> 1)) as u32
-}
-
-// The row that a vector leads to from `top` on.
-#[inline(always)]
-pub(crate) fn line(top: u32, vector: Vector) -> u32
-    requires top { top < 60000 }
-    requires inside { pos 0 ≤ℤ whole_place top vector.y }
-    ensures { pos result ≡ whole_place top vector.y }
-{
-    (top as i32 + i32::from(vector.y >> 1)) as u32
-}
-
-// The first of the best one and a vector of whole samples, from the macroblock in column `left` of row `top`.
+// The first of the best one and a vector of whole samples, which leads to column `x` of row `y`. The zero vector has
+// been looked at, so what it has ahead needs no look here.
 #[inline(always)]
 pub(crate) fn better_whole(
     block: &[u8; 256],
     reference: PictureRef<'_>,
     mb: u32,
-    left: u32,
-    top: u32,
+    x: u32,
+    y: u32,
     vector: Vector,
     best: Candidate,
 ) -> Candidate
     requires mb { mb < mbs_of (picture reference).format }
-    requires left { left ≡ 16 * (mb % columns_of (picture reference).format) }
-    requires top { top ≡ 16 * (mb / columns_of (picture reference).format) }
     requires reach { InReach (picture reference).format mb vector.x vector.y }
     requires whole { IsEven vector }
+    requires x { pos x ≡ whole_place (16 * (mb % columns_of (picture reference).format)) vector.x }
+    requires y { pos y ≡ whole_place (16 * (mb / columns_of (picture reference).format)) vector.y }
+    requires zero { before (candidate_of block.now (picture reference) mb 0 zero_vector) best ≡ false }
     requires cost { IsCost best.cost }
     ensures first { result ≡ first_of best (candidate_of block.now (picture reference.entry) mb 0 vector) }
     ensures cost { IsCost result.cost }
 {
-    let x = column(left, vector);
-    let y = line(top, vector);
-    let sum = differences_until(block, reference, x, y, enough(best, vector));
+    let sum = differences_within(block, reference, x, y, best);
     better(best, vector, sum)
 }

@@ -3,7 +3,7 @@ use Rattle.h263_types.specs.Vectors.{InReach}
 use Rattle.h263_planes.specs.Lent.{picture}
 use Rattle.motion_search.specs.Order.{before}
 use Rattle.motion_search.specs.Cost.{candidate_of, IsCost}
-use Rattle.motion_search.specs.Vectors.{whole_at}
+use Rattle.motion_search.specs.Vectors.{whole_at, zero_vector}
 use Rattle.motion_search.specs.Best.{IsWholeCandidate}
 use Rattle.motion_search.proofs.whole.best_of_whole.Given as goal
 
@@ -12,5 +12,6 @@ abbrev pub invariant-loop-distance : goal.invariant-loop-distance
 invariant-loop-distance l = record {
   candidate : IsWholeCandidate l.block (picture l.reference) l.mb l.radius 0 l.first;
   none : (m n : ℕ) → m < l.radius + l.distance → l.radius < m + l.distance → n < 2 * l.radius + 1 → InReach l.reference.format l.mb (whole_at l.radius n m).x (whole_at l.radius n m).y → before (candidate_of l.block (picture l.reference) l.mb 0 (whole_at l.radius n m)) l.first ≡ false;
+  zero : before (candidate_of l.block (picture l.reference) l.mb 0 zero_vector) l.first ≡ false;
   cost : IsCost l.first.cost;
 }
