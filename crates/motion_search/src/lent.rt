@@ -27,9 +27,9 @@ fn block_row(block: &[u8; 256], j: u32) -> &[u8]
     &block[at..at + 16]
 }
 
-// The differences of the four rows of a block from row `j` on from four rows of sixteen samples.
+// The differences of rows `j`, `j + 4`, `j + 8` and `j + 12` of a block from four rows of sixteen samples.
 #[inline(always)]
-fn differences_of_four(
+pub(crate) fn differences_of_four(
     block: &[u8; 256],
     j: u32,
     first: &[u8],
@@ -37,66 +37,69 @@ fn differences_of_four(
     third: &[u8],
     fourth: &[u8],
 ) -> u32
-    requires j { j ≤ 12 }
+    requires j { j < 4 }
     requires first { length first.now ≡ 16 }
     requires second { length second.now ≡ 16 }
     requires third { length third.now ≡ 16 }
     requires fourth { length fourth.now ≡ 16 }
-    ensures value { result ≡ differences (slice_range block.now (16 * j) (16 * j + 16)) first.now + differences (slice_range block.now (16 * (j + 1)) (16 * (j + 1) + 16)) second.now + differences (slice_range block.now (16 * (j + 2)) (16 * (j + 2) + 16)) third.now + differences (slice_range block.now (16 * (j + 3)) (16 * (j + 3) + 16)) fourth.now }
+    ensures value { result ≡ differences (slice_range block.now (16 * j) (16 * j + 16)) first.now + differences (slice_range block.now (16 * (j + 4)) (16 * (j + 4) + 16)) second.now + differences (slice_range block.now (16 * (j + 8)) (16 * (j + 8) + 16)) third.now + differences (slice_range block.now (16 * (j + 12)) (16 * (j + 12) + 16)) fourth.now }
     ensures most { result ≤ 16320 }
 {
     sad_of_four(
         (block_row(block, j), first),
-        (block_row(block, j + 1), second),
-        (block_row(block, j + 2), third),
-        (block_row(block, j + 3), fourth),
+        (block_row(block, j + 4), second),
+        (block_row(block, j + 8), third),
+        (block_row(block, j + 12), fourth),
     )
 }
 
-// The differences of the four rows of a block from row `j` on from those of the 16 x 16 samples of Y at column `x` of
-// row `y`.
+// The differences of rows `j`, `j + 4`, `j + 8` and `j + 12` of a block from those of the 16 x 16 samples of Y at column
+// `x` of row `y`. Since `y` has sixteen bits, the compiler sees that the sums of rows don't wrap, and finds all rows of a
+// block at fixed distances from the first.
 #[inline(always)]
-fn four_rows(block: &[u8; 256], reference: PictureRef<'_>, x: u32, y: u32, j: u32) -> u32
+fn four_rows(block: &[u8; 256], reference: PictureRef<'_>, x: u32, y: u16, j: u32) -> u32
     requires inside { Inside (picture reference).format Y x (y + 15) 16 }
     requires x { x < 65536 }
-    requires y { y < 60000 }
-    requires j { j ≤ 12 }
-    ensures value { result + differences_from block.now (picture reference.entry) x y (j + 4) ≡ differences_from block.now (picture reference.entry) x y j }
+    requires j { j < 4 }
+    ensures value { result + (differences_from block.now (picture reference.entry) x y (j + 1) + differences_from block.now (picture reference.entry) x y (j + 5) + differences_from block.now (picture reference.entry) x y (j + 9) + differences_from block.now (picture reference.entry) x y (j + 13)) ≡ differences_from block.now (picture reference.entry) x y j + differences_from block.now (picture reference.entry) x y (j + 4) + differences_from block.now (picture reference.entry) x y (j + 8) + differences_from block.now (picture reference.entry) x y (j + 12) }
     ensures most { result ≤ 16320 }
 {
     parts_add();
+    let y = u32::from(y);
     let first = reference.row(Plane::Y, x, y + j, 16);
-    let second = reference.row(Plane::Y, x, y + (j + 1), 16);
-    let third = reference.row(Plane::Y, x, y + (j + 2), 16);
-    let fourth = reference.row(Plane::Y, x, y + (j + 3), 16);
+    let second = reference.row(Plane::Y, x, y + (j + 4), 16);
+    let third = reference.row(Plane::Y, x, y + (j + 8), 16);
+    let fourth = reference.row(Plane::Y, x, y + (j + 12), 16);
     differences_of_four(block, j, first, second, third, fourth)
 }
 
 // The differences of a block from the 16 x 16 samples of Y at column `x` of row `y`, or `None` where they are more than
-// the best one costs: where the upper four rows are more, it reads no further. To ask after each row costs more than it spares.
+// the best one costs. It sums up four rows that lie apart, since they tell more of the whole than four neighbours, and
+// asks; then four between these, and asks again. To ask after each row costs more than it spares.
 #[inline(always)]
 fn differences_within(
     block: &[u8; 256],
     reference: PictureRef<'_>,
     x: u32,
-    y: u32,
+    y: u16,
     best: Candidate,
 ) -> Option<u32>
     requires inside { Inside (picture reference).format Y x (y + 15) 16 }
     requires x { x < 65536 }
-    requires y { y < 60000 }
     ensures none { IsNone result ↔ (best.cost <ℤ pos (differences_from block.now (picture reference.entry) x y 0)) }
     ensures some { IfSome result (λ sum. sum ≡ differences_from block.now (picture reference.entry) x y 0) }
     ensures most { IfSome result (λ sum. sum ≤ 65280) }
 {
-    let upper = four_rows(block, reference, x, y, 0);
-    if upper as i32 > best.cost {
+    parts_add();
+    let quarter = four_rows(block, reference, x, y, 0);
+    if quarter as i32 > best.cost {
         return None;
     }
-    let lower = four_rows(block, reference, x, y, 4)
-        + four_rows(block, reference, x, y, 8)
-        + four_rows(block, reference, x, y, 12);
-    let sum = upper + lower;
+    let half = quarter + four_rows(block, reference, x, y, 2);
+    if half as i32 > best.cost {
+        return None;
+    }
+    let sum = half + four_rows(block, reference, x, y, 1) + four_rows(block, reference, x, y, 3);
     if sum as i32 > best.cost {
         None
     } else {
@@ -112,7 +115,7 @@ pub(crate) fn better_whole(
     reference: PictureRef<'_>,
     mb: u32,
     x: u32,
-    y: u32,
+    y: u16,
     vector: Vector,
     best: Candidate,
 ) -> Candidate

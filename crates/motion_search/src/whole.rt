@@ -69,7 +69,8 @@ fn place(at: u32, k: u32, radius: u8) -> u32
     requires k { k ≤ 2 * radius }
     requires radius { radius ≤ 15 }
     requires inside { pos 0 ≤ℤ whole_place at (whole_component radius k) }
-    ensures { pos result ≡ whole_place at (whole_component radius k) }
+    ensures place { pos result ≡ whole_place at (whole_component radius k) }
+    ensures most { result < 65536 }
 {
     at + k - u32::from(radius)
 }
@@ -103,7 +104,7 @@ fn best_in_format(
     ensures none { (n : ℕ) → n < 2 * radius + 1 → InReach (picture reference.entry).format mb (whole_at radius n row).x (whole_at radius n row).y → before (candidate_of block.now (picture reference.entry) mb 0 (whole_at radius n row)) result ≡ false }
     ensures cost { IsCost result.cost }
 {
-    let y = place(top, row, radius);
+    let y = place(top, row, radius) as u16;
     let mut first = best;
     for column in first_column(radius, reach)..end_column(radius, reach) {
         let vector = whole_vector(radius, column, row);
