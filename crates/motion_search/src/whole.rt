@@ -62,6 +62,24 @@ fn end_column(radius: u8, reach: Reach) -> u32
     }
 }
 
+// The row of the square that is visited after `k` others: first the middle one, and then by turns the next one above
+// and the next one below.
+#[inline(always)]
+fn row_at(radius: u8, k: u32) -> u32
+    requires radius { radius ≤ 15 }
+    requires k { k ≤ 2 * radius }
+    ensures below { k % 2 ≡ 0 → result ≡ radius + k / 2 }
+    ensures above { k % 2 ≡ 1 → result + (k + 1) / 2 ≡ radius }
+    ensures most { result ≤ 2 * radius }
+{
+    let middle = u32::from(radius);
+    if k % 2 == 0 {
+        middle + k / 2
+    } else {
+        middle - (k + 1) / 2
+    }
+}
+
 // Where the vectors in column or row `k` of the square lead to from `at` on.
 #[inline(always)]
 fn place(at: u32, k: u32, radius: u8) -> u32
@@ -75,10 +93,9 @@ fn place(at: u32, k: u32, radius: u8) -> u32
     at + k - u32::from(radius)
 }
 
-// The first of the best one and the vectors in a row of the square that reaches no further up or down than it may.
-// Called in a format that is known, it has code for this format alone.
+// The first of the best one and the vectors in a row of the square that leads no further up or down than the reach.
 #[inline(always)]
-fn best_in_format(
+fn best_in_row(
     block: &[u8; 256],
     reference: PictureRef<'_>,
     mb: u32,
@@ -115,6 +132,7 @@ fn best_in_format(
 }
 
 // The first of the best one and the vectors in a row of the square.
+#[inline(always)]
 fn best_of_row(
     block: &[u8; 256],
     reference: PictureRef<'_>,
@@ -140,54 +158,44 @@ fn best_of_row(
     ensures none { (n : ℕ) → n < 2 * radius + 1 → InReach (picture reference.entry).format mb (whole_at radius n row).x (whole_at radius n row).y → before (candidate_of block.now (picture reference.entry) mb 0 (whole_at radius n row)) result ≡ false }
     ensures cost { IsCost result.cost }
 {
-    if !is_down(reach, whole_vector(radius, 0, row)) {
-        return best;
-    }
-    let r = reference;
-    match reference.format() {
-        Format::SubQcif => best_in_format(block, r, mb, left, top, reach, radius, row, best),
-        Format::Qcif => best_in_format(block, r, mb, left, top, reach, radius, row, best),
-        Format::Cif => best_in_format(block, r, mb, left, top, reach, radius, row, best),
+    if is_down(reach, whole_vector(radius, 0, row)) {
+        best_in_row(block, reference, mb, left, top, reach, radius, row, best)
+    } else {
+        best
     }
 }
 
-// The first of the best one and the vectors in the two rows of the square that are `distance` away from its middle.
-fn best_of_two_rows(
+// The first of the vectors of whole samples within the radius. Rows are visited from the middle outwards, since a small
+// motion is the likely one, and a low cost that is found early lets the sums of the others stop early. Called in a format
+// that is known, it has code for this format alone.
+#[inline(always)]
+fn best_in_format(
     block: &[u8; 256],
     reference: PictureRef<'_>,
     mb: u32,
-    left: u32,
-    top: u32,
-    reach: Reach,
     radius: u8,
-    distance: u32,
-    best: Candidate,
+    zero: Candidate,
 ) -> Candidate
     requires mb { mb < mbs_of (picture reference).format }
-    requires left { left ≡ 16 * (mb % columns_of (picture reference).format) }
-    requires top { top ≡ 16 * (mb / columns_of (picture reference).format) }
-    requires reach { (x y : ℤ) → InReach (picture reference).format mb x y ↔ IsWithin reach x y }
     requires radius { radius ≤ 15 }
-    requires distance { distance ≤ radius }
-    requires zero { before (candidate_of block.now (picture reference) mb 0 zero_vector) best ≡ false }
-    requires candidate { IsWholeCandidate block.now (picture reference) mb radius 0 best }
-    requires cost { IsCost best.cost }
-    ensures candidate { IsWholeCandidate block.now (picture reference.entry) mb radius 0 result }
-    ensures kept { (d : Candidate) → before d best ≡ false → before d result ≡ false }
-    ensures above { (n : ℕ) → n < 2 * radius + 1 → InReach (picture reference.entry).format mb (whole_at radius n (radius - distance)).x (whole_at radius n (radius - distance)).y → before (candidate_of block.now (picture reference.entry) mb 0 (whole_at radius n (radius - distance))) result ≡ false }
-    ensures below { (n : ℕ) → n < 2 * radius + 1 → InReach (picture reference.entry).format mb (whole_at radius n (radius + distance)).x (whole_at radius n (radius + distance)).y → before (candidate_of block.now (picture reference.entry) mb 0 (whole_at radius n (radius + distance))) result ≡ false }
+    requires zero { zero ≡ candidate_of block.now (picture reference) mb 0 zero_vector }
+    requires cost { IsCost zero.cost }
+    ensures best { (rounding : ℕ) → result ≡ best_whole block.now (picture reference.entry) mb radius rounding }
     ensures cost { IsCost result.cost }
 {
-    let middle = radius as u32;
-    let row = middle - distance;
-    let first = best_of_row(block, reference, mb, left, top, reach, radius, row, best);
-    let row = middle + distance;
-    best_of_row(block, reference, mb, left, top, reach, radius, row, first)
+    let format = reference.format();
+    let left = 16 * (mb % format.columns());
+    let top = 16 * (mb / format.columns());
+    let reach = reach(format, mb);
+    let mut first = zero;
+    for k in 0..2 * u32::from(radius) + 1 {
+        let row = row_at(radius, k);
+        first = best_of_row(block, reference, mb, left, top, reach, radius, row, first);
+    }
+    first
 }
 
 /// The first of the vectors of whole samples within the radius, 0 to 15. Their costs don't depend on the rounding.
-/// Rows are visited from the middle outwards, since a small motion is the likely one, and a low cost that is found
-/// early lets the sums of the others stop early.
 pub(crate) fn best_of_whole(
     block: &[u8; 256],
     reference: PictureRef<'_>,
@@ -203,16 +211,9 @@ pub(crate) fn best_of_whole(
     if is_settled(zero) {
         return zero;
     }
-    let format = reference.format();
-    let left = 16 * (mb % format.columns());
-    let top = 16 * (mb / format.columns());
-    let reach = reach(format, mb);
-    let middle = radius as u32;
-    let mut first = best_of_row(block, reference, mb, left, top, reach, radius, middle, zero);
-    for distance in 1..middle + 1 {
-        first = best_of_two_rows(
-            block, reference, mb, left, top, reach, radius, distance, first,
-        );
+    match reference.format() {
+        Format::SubQcif => best_in_format(block, reference, mb, radius, zero),
+        Format::Qcif => best_in_format(block, reference, mb, radius, zero),
+        Format::Cif => best_in_format(block, reference, mb, radius, zero),
     }
-    first
 }

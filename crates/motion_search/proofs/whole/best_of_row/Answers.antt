@@ -4,8 +4,8 @@ use Rattle.h263_planes.specs.Lent.{picture}
 use Rattle.motion_search.proofs.Reaches.{in_rows}
 use Rattle.motion_search.proofs.whole.best_of_row.Goals as goal
 
-pub returns-then-not-is_down-clause-none : goal.returns-then-not-is_down-clause-none
-returns-then-not-is_down-clause-none c = λ n hn reaches.
+pub returns-else-is_down-clause-none : goal.returns-else-is_down-clause-none
+returns-else-is_down-clause-none c = λ n hn reaches.
     let rows = in_rows (picture c.args.reference).format c.args.mb c.args.radius c.args.reach c.requires.reach c.args.row n reaches in
     let here = subst (λ (v : Vector). (c.args.reach.up ≤ℤ v.y) × (v.y ≤ℤ c.args.reach.down)) (sym c.whole_vector.ensures) rows in
-    absurd (true≢false (sym (c.is_down.ensures.1 here) ∙ c.if-not-is_down.true))
+    absurd (true≢false (sym (c.is_down.ensures.1 here) ∙ c.if-is_down.false))
