@@ -1,5 +1,5 @@
 -- Both steps of the search, by what is true of their answers.
-use Rattle.std.proofs.Common.{◌≡◌, refl, sym, ap, subst, arith, ℕ, ◌<◌, List, Bool, true, false, cond, ℤ}
+use Rattle.std.proofs.Common.{◌≡◌, refl, sym, ap, subst, ◌∙◌, arith, ℕ, ◌<◌, List, Bool, true, false, cond, ℤ, pos, ◌-ℤ◌, ◌<ℤ◌, ◌≤ℤ◌, ◌⊎◌, inl, inr}
 use Rattle.std.proofs.lemmas.Int.{ints}
 use Rattle.std.specs.List.{All, filter}
 use Rattle.std.proofs.lemmas.List.Elements.{All-map}
@@ -9,10 +9,11 @@ use Rattle.h263_types.specs.Vectors.{InReach}
 use Rattle.h263_planes.specs.Picture.{Picture}
 use Rattle.motion_search.specs.declared.candidate.Candidate.{Candidate}
 use Rattle.motion_search.specs.Order.{before, least, first_of}
-use Rattle.motion_search.specs.Cost.{cost_of, candidate_of}
+use Rattle.motion_search.specs.Cost.{difference_of, lead_of, cost_of, candidate_of}
 use Rattle.motion_search.specs.Vectors.{in_reach, zero_vector, whole_vectors, neighbours, IsWhole, IsNear}
 use Rattle.motion_search.specs.Best.{candidates_of, best_whole, best_near, IsCandidate, IsWholeCandidate}
-use Rattle.motion_search.proofs.Orders.{first_has, other_not_before, still_not_before, least_has, first_not_before, none_before, is_least}
+use Rattle.motion_search.proofs.Orders.{first_has, other_not_before, still_not_before, least_has, first_not_before, none_before, is_least, not_itself, dearer_not_before}
+use Rattle.motion_search.proofs.Leads.{zero_or_behind}
 use Rattle.motion_search.proofs.Squares.{passed, from_passed, from_map, all_whole, whole_one, all_near, near_one, reach_is, zero_reaches, zero_is_whole}
 
 module _ (block : List ℕ) (reference : Picture) (mb rounding : ℕ) where
@@ -41,12 +42,15 @@ module _ (block : List ℕ) (reference : Picture) (mb rounding : ℕ) where
 
   -- ---- whole samples
 
+  pub zero_is_candidate : (radius : ℕ) → mb < mbs_of reference.format → IsWholeCandidate block reference mb radius rounding (candidate_of block reference mb rounding zero_vector)
+  zero_is_candidate radius h = record { whole = zero_is_whole radius; candidate = is_candidate zero_vector (zero_reaches reference.format mb h) }
+
   pub whole_is_candidate : (radius : ℕ) → mb < mbs_of reference.format → IsWholeCandidate block reference mb radius rounding (best_whole block reference mb radius rounding)
   unfolding best_whole
   whole_is_candidate radius h =
       let is = IsWholeCandidate block reference mb radius rounding in
       least_has is (candidate_of block reference mb rounding zero_vector) (candidates_of block reference mb rounding (whole_vectors radius))
-      (record { whole = zero_is_whole radius; candidate = is_candidate zero_vector (zero_reaches reference.format mb h) })
+      (zero_is_candidate radius h)
       (to_candidates is (whole_vectors radius)
       (all_whole (λ v. in_reach reference.format mb v ≡ true → is (candidate_of block reference mb rounding v)) radius
       (λ v whole reaches. record { whole = whole; candidate = is_candidate v ((reach_is reference.format mb v).0 reaches) })))
@@ -114,6 +118,24 @@ module _ (block : List ℕ) (reference : Picture) (mb rounding : ℕ) where
       (all_near (λ v. in_reach reference.format mb v ≡ true → before (candidate_of block reference mb rounding v) c ≡ false) best.vector
       (λ v by reaches. none v by ((reach_is reference.format mb v).0 reaches))))
       (subst (λ (d : Candidate). before d (least best cs) ≡ false) (candidate_is c of_c) (none_before_near best c.vector of_best near of_c.reach))
+
+  -- ---- a cost below 0
+
+  -- the cost of a vector that has nothing ahead
+  behind_costs : (v : Vector) → lead_of v ≡ 0 → pos 0 ≤ℤ cost_of block reference mb rounding v
+  behind_costs v e = subst (λ (k : ℕ). pos 0 ≤ℤ (pos (difference_of block reference mb rounding v) -ℤ pos k)) (sym e) (omega (arith, ints))
+
+  -- only the zero vector can cost so little, and no other one comes before it
+  pub none_before_settled : (c : Candidate) (v : Vector) → IsCandidate block reference mb rounding c → c.cost <ℤ pos 0 → before (candidate_of block reference mb rounding v) c ≡ false
+  none_before_settled c v is low = by (zero_or_behind v) (zero_or_behind c.vector)
+    where
+      by : (v ≡ zero_vector) ⊎ (lead_of v ≡ 0) → (c.vector ≡ zero_vector) ⊎ (lead_of c.vector ≡ 0) → before (candidate_of block reference mb rounding v) c ≡ false
+      by (inr e) w = dearer_not_before (candidate_of block reference mb rounding v) c (omega (arith, ints, low, behind_costs v e))
+      by (inl e) (inr k) = absurd (omega (arith, ints, low, is.cost, behind_costs c.vector k))
+      by (inl e) (inl k) = subst (λ (d : Candidate). before d c ≡ false) (sym (ap (candidate_of block reference mb rounding) (e ∙ sym k) ∙ candidate_is c is)) (not_itself c)
+
+  pub settled_is_best_near : (best : Candidate) → IsCandidate block reference mb rounding best → best.cost <ℤ pos 0 → best ≡ best_near block reference mb rounding best
+  settled_is_best_near best is low = is_best_near best best is is (itself best.vector) (λ v near reaches. none_before_settled best v is low)
 
   -- ---- one vector more
 

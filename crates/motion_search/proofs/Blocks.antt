@@ -1,5 +1,5 @@
 -- Blocks of 16 x 16 samples and their differences.
-use Rattle.std.proofs.Common.{◌≡◌, refl, sym, ap, subst, ◌∙◌, arith, ℕ, ◌+◌, ◌-◌, ◌*◌, ◌/◌, ◌%◌, ◌<◌, ◌≤◌, Bool, List, [], ◌∷◌, ◌++◌, length, get_or, drop, take, slice_range, w8, ℤ, pos, ◌-ℤ◌, ◌<ℤ◌, Option, None, Some, IsNone, IfNone, IfSome, ◌↔◌}
+use Rattle.std.proofs.Common.{◌≡◌, refl, sym, ap, subst, ◌∙◌, arith, ℕ, ◌+◌, ◌-◌, ◌*◌, ◌/◌, ◌%◌, ◌<◌, ◌≤◌, List, [], ◌∷◌, ◌++◌, length, get_or, drop, take, slice_range, w8, pos, ◌-ℤ◌, lit<}
 use lib.Lanes.{zip2, Each1, chunk}
 use Rattle.std.specs.Int.{abs_diff}
 use Rattle.std.proofs.lemmas.Simd.{sum_bound, length-zip2, length-chunk, chunk-drop, chunk-fits, below_from_Fits, Each1-from_get_or}
@@ -11,11 +11,11 @@ use Rattle.h263_types.specs.declared.vector.Vector.{Vector}
 use Rattle.h263_types.specs.Sizes.{columns_of}
 use Rattle.h263_planes.specs.Picture.{Picture}
 use Rattle.h263_planes.specs.declared.Plane.TheVariants.{Y}
-use Rattle.half_sample.specs.Prediction.{interpolated, predicted_sample}
+use Rattle.half_sample.specs.Prediction.{predicted_sample}
 use Rattle.motion_search.specs.declared.candidate.Candidate.{Candidate}
 use Rattle.h263_planes.specs.Samples.{sample_at}
 use Rattle.std.proofs.Math.ListN.{drop_of_length-le}
-use Rattle.motion_search.specs.Cost.{square, differences_from, differences_between, difference_of, lead_of}
+use Rattle.motion_search.specs.Cost.{square, differences_from, difference_of, lead_of}
 
 -- ---- the 256 numbers of a block
 
@@ -71,16 +71,6 @@ out_predicts out block reference mb rounding v long same =
 abbrev pub costing : Vector → ℕ → Candidate
 costing v n = record { vector = v; cost = pos n -ℤ pos (lead_of v) }
 
--- what a sum that stops early says of the whole one
-pub stopped : (r : Option ℕ) (n enough : ℕ) (v : Vector) (best : ℤ) → IsNone r ↔ (enough ≤ n) → ((k : ℕ) → (enough ≤ k) ↔ (best <ℤ (pos k -ℤ pos (lead_of v)))) →
-    IfNone r (best <ℤ (pos n -ℤ pos (lead_of v)))
-stopped None n enough v best h more = (more n).0 (h.0 refl)
-stopped (Some k) n enough v best h more = tt
-
-pub some_small : (r : Option ℕ) (n most : ℕ) → IfSome r (λ k. k ≡ n) → n ≤ most → IfSome r (λ k. k ≤ most)
-some_small None n most h l = tt
-some_small (Some k) n most h l = omega arith
-
 -- ---- one more row
 
 part_is : (xs : List ℕ) (i n : ℕ) → slice_range xs i (i + n) ≡ chunk i n xs
@@ -93,7 +83,7 @@ row_is f row j hj long same =
     (λ i hi. let h : i < 16 = omega arith in
     get_or-take 16 (drop (16 * j) (square f)) i 0 h ∙ get_or-drop (16 * j) (square f) i 0 ∙ get_or-square f j i hj h ∙ sym (same i h))
 
-pub one_row_more : (f : ℕ → ℕ → ℕ) (block row : List ℕ) (j : ℕ) →
+one_row_more : (f : ℕ → ℕ → ℕ) (block row : List ℕ) (j : ℕ) →
     ((xs ys us vs : List ℕ) → length xs ≡ length us → differences (xs ++ ys) (us ++ vs) ≡ differences xs us + differences ys vs) →
     j < 16 → length block ≡ 256 → length row ≡ 16 → ((i : ℕ) → i < 16 → get_or row i 0 ≡ f i j) →
     differences (drop (16 * j) block) (drop (16 * j) (square f)) ≡ differences (slice_range block (16 * j) (16 * j + 16)) row + differences (drop (16 * (j + 1)) block) (drop (16 * (j + 1)) (square f))
@@ -123,14 +113,50 @@ pub one_row_of : (p : Picture) (block row : List ℕ) (x y j : ℕ) →
 unfolding differences_from
 one_row_of p block row x y j add hj hb hr same = sym (one_row_more (λ i k. sample_at p Y (x + i) (y + k)) block row j add hj hb hr same)
 
--- four rows, one after the other
-pub four_more : (left : ℕ → ℕ) (j a b c d : ℕ) → a + left (j + 1) ≡ left j → b + left (j + 1 + 1) ≡ left (j + 1) → c + left (j + 2 + 1) ≡ left (j + 2) → d + left (j + 3 + 1) ≡ left (j + 3) →
-    a + b + c + d + left (j + 4) ≡ left j
-four_more left j a b c d ha hb hc hd =
-    let two : left (j + 1 + 1) ≡ left (j + 2) = ap left (omega arith) in
-    let three : left (j + 2 + 1) ≡ left (j + 3) = ap left (omega arith) in
-    let four : left (j + 3 + 1) ≡ left (j + 4) = ap left (omega arith) in
-    omega (arith, ha, hb, hc, hd, two, three, four)
+-- four rows, each four further down
+pub four_apart : (left : ℕ → ℕ) (j a b c d : ℕ) → a + left (j + 1) ≡ left j → b + left (j + 4 + 1) ≡ left (j + 4) → c + left (j + 8 + 1) ≡ left (j + 8) → d + left (j + 12 + 1) ≡ left (j + 12) →
+    a + b + c + d + (left (j + 1) + left (j + 5) + left (j + 9) + left (j + 13)) ≡ left j + left (j + 4) + left (j + 8) + left (j + 12)
+four_apart left j a b c d ha hb hc hd =
+    let five : left (j + 4 + 1) ≡ left (j + 5) = ap left (omega arith) in
+    let nine : left (j + 8 + 1) ≡ left (j + 9) = ap left (omega arith) in
+    let thirteen : left (j + 12 + 1) ≡ left (j + 13) = ap left (omega arith) in
+    omega (arith, ha, hb, hc, hd, five, nine, thirteen)
+
+-- the rows from the next one on have no more differences than those from a row on
+pub rows_fall : (p : Picture) (block : List ℕ) (x y j : ℕ) →
+    ((xs ys us vs : List ℕ) → length xs ≡ length us → differences (xs ++ ys) (us ++ vs) ≡ differences xs us + differences ys vs) →
+    j < 16 → length block ≡ 256 → differences_from block p x y (j + 1) ≤ differences_from block p x y j
+unfolding differences_from
+rows_fall p block x y j add hj hb =
+    let f = λ (i k : ℕ). sample_at p Y (x + i) (y + k) in
+    let row = chunk (16 * j) 16 (square f) in
+    let long : length row ≡ 16 = length-chunk (16 * j) 16 (square f) (omega (arith, length-square f)) in
+    let e = one_row_more f block row j add hj hb long (λ i hi. get_or-take 16 (drop (16 * j) (square f)) i 0 hi ∙ get_or-drop (16 * j) (square f) i 0 ∙ get_or-square f j i hj hi) in
+    omega (arith, e)
+
+-- each fourth row has no more differences than all of them, nor has each second one
+pub quarter_small : (left : ℕ → ℕ) (a : ℕ) → ((j : ℕ) → j < 16 → left (j + 1) ≤ left j) →
+    a + (left 1 + left 5 + left 9 + left 13) ≡ left 0 + left 4 + left 8 + left 12 → a ≤ left 0
+quarter_small left a fall e =
+    let one : left 4 ≤ left 1 = omega (arith, fall 1 (lit< tt), fall 2 (lit< tt), fall 3 (lit< tt)) in
+    let five : left 8 ≤ left 5 = omega (arith, fall 5 (lit< tt), fall 6 (lit< tt), fall 7 (lit< tt)) in
+    let nine : left 12 ≤ left 9 = omega (arith, fall 9 (lit< tt), fall 10 (lit< tt), fall 11 (lit< tt)) in
+    omega (arith, one, five, nine, e)
+
+pub half_small : (left : ℕ → ℕ) (a b : ℕ) → ((j : ℕ) → j < 16 → left (j + 1) ≤ left j) →
+    a + (left 1 + left 5 + left 9 + left 13) ≡ left 0 + left 4 + left 8 + left 12 →
+    b + (left 3 + left 7 + left 11 + left 15) ≡ left 2 + left 6 + left 10 + left 14 → a + b ≤ left 0
+half_small left a b fall ea eb =
+    omega (arith, ea, eb, fall 1 (lit< tt), fall 3 (lit< tt), fall 5 (lit< tt), fall 7 (lit< tt), fall 9 (lit< tt), fall 11 (lit< tt), fall 13 (lit< tt))
+
+-- the four quarters are all rows
+pub quarters_add : (left : ℕ → ℕ) (a b c d : ℕ) → left 16 ≡ 0 →
+    a + (left 1 + left 5 + left 9 + left 13) ≡ left 0 + left 4 + left 8 + left 12 →
+    b + (left 3 + left 7 + left 11 + left 15) ≡ left 2 + left 6 + left 10 + left 14 →
+    c + (left 2 + left 6 + left 10 + left 14) ≡ left 1 + left 5 + left 9 + left 13 →
+    d + (left 4 + left 8 + left 12 + left 16) ≡ left 3 + left 7 + left 11 + left 15 →
+    a + b + c + d ≡ left 0
+quarters_add left a b c d end ea eb ec ed = omega (arith, end, ea, eb, ec, ed)
 
 -- all rows, and none
 pub all_rows : (block : List ℕ) (p : Picture) (x y : ℕ) → differences_from block p x y 0 ≡ differences block (square (λ i j. sample_at p Y (x + i) (y + j)))
@@ -142,19 +168,3 @@ unfolding differences_from
 no_rows block p x y j long end =
     let past : length block ≤ 16 * j = omega arith in
     ap (λ (l : List ℕ). differences l (drop (16 * j) (square (λ a b. sample_at p Y (x + a) (y + b))))) (drop_of_length-le block past)
-
--- ---- the same half a sample off
-
-pub one_row_between : (p : Picture) (block row : List ℕ) (half_x half_y : Bool) (r x y j : ℕ) →
-    ((xs ys us vs : List ℕ) → length xs ≡ length us → differences (xs ++ ys) (us ++ vs) ≡ differences xs us + differences ys vs) →
-    j < 16 → length block ≡ 256 → length row ≡ 16 → ((i : ℕ) → i < 16 → get_or row i 0 ≡ interpolated p Y half_x half_y r (x + i) (y + j)) →
-    differences (slice_range block (16 * j) (16 * j + 16)) row + differences_between block p half_x half_y r x y (j + 1) ≡ differences_between block p half_x half_y r x y j
-unfolding differences_between
-one_row_between p block row half_x half_y r x y j add hj hb hr same =
-    sym (one_row_more (λ i k. interpolated p Y half_x half_y r (x + i) (y + k)) block row j add hj hb hr same)
-
-pub none_between : (block : List ℕ) (p : Picture) (half_x half_y : Bool) (r x y j : ℕ) → length block ≡ 256 → 16 ≤ j → differences_between block p half_x half_y r x y j ≡ 0
-unfolding differences_between
-none_between block p half_x half_y r x y j long end =
-    let past : length block ≤ 16 * j = omega arith in
-    ap (λ (l : List ℕ). differences l (drop (16 * j) (square (λ a b. interpolated p Y half_x half_y r (x + a) (y + b))))) (drop_of_length-le block past)

@@ -1,6 +1,6 @@
 -- The order of candidates is total, and `least` is the least by it.
-use Rattle.std.proofs.Common.{◌≡◌, refl, sym, ap, ◌∙◌, true≢false, List, [], ◌∷◌, Bool, true, false, cond, ℤ}
-use Rattle.std.specs.Cmp.{IsTotalOrder}
+use Rattle.std.proofs.Common.{◌≡◌, refl, sym, ap, ◌∙◌, true≢false, List, [], ◌∷◌, Bool, true, false, cond, ℤ, ◌<ℤ◌}
+use Rattle.std.specs.Cmp.{IsTotalOrder, int_cmp_is}
 use Rattle.std.proofs.lemmas.Cmp.{int_cmp_total, nat_cmp_total, on_total, then_total, upto, tied_itself}
 use Rattle.std.specs.List.{All}
 use Rattle.std.proofs.lemmas.List.Elements.{All-nil, All-cons, All-head, All-tail, All-weaker}
@@ -34,6 +34,12 @@ not_itself c = ap is_lt (tied_itself total c)
 -- what doesn't come before b doesn't come before what b doesn't come before
 pub not_before_first : (c b a : Candidate) → before c b ≡ false → before b a ≡ false → before c a ≡ false
 not_before_first c b a h k = before_is c a ∙ upto total a b c (sym (before_is b a) ∙ k) (sym (before_is c b) ∙ h)
+
+-- one that costs more doesn't come before
+pub dearer_not_before : (c d : Candidate) → d.cost <ℤ c.cost → before c d ≡ false
+dearer_not_before c d h =
+    ap (λ (r : Ordering). is_lt (ordering_then r (ordering_then (nat_cmp (length_of c.vector) (length_of d.vector)) (ordering_then (int_cmp c.vector.y d.vector.y) (int_cmp c.vector.x d.vector.x)))))
+    (sym (int_cmp_is c.cost d.cost Greater h))
 
 both_equal : (a b : Ordering) → ordering_then a b ≡ Equal → (a ≡ Equal) × (b ≡ Equal)
 both_equal Less b h = absurd (true≢false (sym (ap is_eq h)))

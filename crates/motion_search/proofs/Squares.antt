@@ -1,5 +1,5 @@
 -- The vectors among which the search chooses, as lists and by what is true of them.
-use Rattle.std.proofs.Common.{◌≡◌, refl, sym, ap, subst, ◌∙◌, arith, true≢false, ℕ, suc, ◌+◌, ◌*◌, ◌/◌, ◌%◌, ◌<◌, ◌≤◌, List, [], ◌∷◌, map, length, Bool, true, false, cond, ◌&&◌, ℤ, pos, negsuc, ◌+ℤ◌, ◌-ℤ◌, ◌≤ℤ◌, neg_ℤ, unsigned_abs, int_le, lit≤, lit<, zero, ◌⊎◌, inl, inr, ◌-◌}
+use Rattle.std.proofs.Common.{◌≡◌, refl, sym, ap, subst, ◌∙◌, arith, true≢false, ℕ, suc, ◌+◌, ◌*◌, ◌/◌, ◌%◌, ◌<◌, ◌≤◌, List, [], ◌∷◌, map, length, Bool, true, false, cond, ◌&&◌, ℤ, pos, negsuc, ◌+ℤ◌, ◌-ℤ◌, ◌≤ℤ◌, neg_ℤ, unsigned_abs, int_le, lit≤, lit<, zero, ◌⊎◌, inl, inr}
 use Rattle.std.proofs.lemmas.Int.{ints}
 use Rattle.std.specs.List.{All, filter}
 use Rattle.std.proofs.lemmas.Bool.Decides.{Decides-and}
@@ -226,14 +226,15 @@ whole_from_places P radius v h all =
     (same_vectors (whole_component radius (place_of radius v.x)) v.x (whole_component radius (place_of radius v.y)) v.y (place_leads radius v.x h.even.x h.x) (place_leads radius v.y h.even.y h.y))
     (all (place_of radius v.x) (place_of radius v.y) (place_small radius v.x h.x) (place_small radius v.y h.y))
 
--- rows from the middle outwards: what was less far away, and the two at this distance
-pub rows_outwards : (P : ℕ → Type 0) (middle distance m : ℕ) → m < middle + (distance + 1) → middle < m + (distance + 1) →
-    (m < middle + distance → middle < m + distance → P m) → P (middle - distance) → P (middle + distance) → P m
-rows_outwards P middle distance m above below nearer up down = by (cases_order m (middle + distance)) (cases_order (m + distance) middle)
+-- rows from the middle outwards, by turns below and above it: what was seen before, and the next one
+pub rows_by_turns : (P : ℕ → Type 0) (middle k row m : ℕ) → (k % 2 ≡ 0 → row ≡ middle + k / 2) → (k % 2 ≡ 1 → row + (k + 1) / 2 ≡ middle) →
+    m < middle + (k + 1 + 1) / 2 → middle < m + ((k + 1) / 2 + 1) → (m < middle + (k + 1) / 2 → middle < m + (k / 2 + 1) → P m) → P row → P m
+rows_by_turns P middle k row m below above low high seen next = by (cases_order m row) (cases_order (k % 2) 1)
   where
-    by : (m ≡ middle + distance) ⊎ ((m < middle + distance) ⊎ (middle + distance < m)) → (m + distance ≡ middle) ⊎ ((m + distance < middle) ⊎ (middle < m + distance)) → P m
-    by (inl e) side = subst P (sym e) down
-    by (inr (inr far)) side = absurd (omega arith)
-    by (inr (inl near)) (inl e) = let k : middle - distance ≡ m = omega arith in subst P k up
-    by (inr (inl near)) (inr (inl far)) = absurd (omega arith)
-    by (inr (inl near)) (inr (inr h)) = nearer near h
+    by : (m ≡ row) ⊎ ((m < row) ⊎ (row < m)) → (k % 2 ≡ 1) ⊎ ((k % 2 < 1) ⊎ (1 < k % 2)) → P m
+    by (inl e) turn = subst P (sym e) next
+    by (inr (inl h)) (inl odd) = let r = above odd in absurd (omega (arith, r, odd, h, low, high))
+    by (inr (inl h)) (inr (inl even)) = let r = below (omega (arith, even)) in seen (omega (arith, r, even, h, low, high)) (omega (arith, r, even, h, low, high))
+    by (inr (inr h)) (inl odd) = let r = above odd in seen (omega (arith, r, odd, h, low, high)) (omega (arith, r, odd, h, low, high))
+    by (inr (inr h)) (inr (inl even)) = let r = below (omega (arith, even)) in absurd (omega (arith, r, even, h, low, high))
+    by (inr t) (inr (inr more)) = absurd (omega (arith, more))

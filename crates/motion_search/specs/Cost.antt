@@ -1,5 +1,5 @@
 -- What a vector costs.
-use Rattle.std.specs.Prelude.{ℕ, Bool, ◌+◌, ◌*◌, ◌/◌, ◌%◌, ℤ, pos, ◌-ℤ◌, ◌≤ℤ◌, neg_ℤ, List, map, drop, ◌&&◌, if◌then◌else◌}
+use Rattle.std.specs.Prelude.{ℕ, ◌+◌, ◌*◌, ◌/◌, ◌%◌, ℤ, pos, ◌-ℤ◌, ◌≤ℤ◌, neg_ℤ, List, map, drop, ◌&&◌, if◌then◌else◌}
 use Rattle.std.specs.List.{range_with_len}
 use Rattle.std.specs.Ordering.{int_eq}
 use Rattle.h263_types.specs.declared.vector.Vector.{Vector}
@@ -7,7 +7,7 @@ use Rattle.h263_types.specs.Sizes.{columns_of}
 use Rattle.h263_planes.specs.Picture.{Picture}
 use Rattle.h263_planes.specs.Samples.{sample_at}
 use Rattle.h263_planes.specs.declared.Plane.TheVariants.{Y}
-use Rattle.half_sample.specs.Prediction.{interpolated, predicted_sample}
+use Rattle.half_sample.specs.Prediction.{predicted_sample}
 use Rattle.sad_kernel.specs.Differences.{differences}
 use Rattle.motion_search.specs.declared.candidate.Candidate.{Candidate}
 
@@ -28,11 +28,6 @@ predicted_of reference mb rounding v =
 unfoldable pub differences_from : List ℕ → Picture → ℕ → ℕ → ℕ → ℕ
 differences_from block p x y j =
     differences (drop (16 * j) block) (drop (16 * j) (square (λ a b. sample_at p Y (x + a) (y + b))))
-
--- the same of the block that begins half a sample further right and down where the tests say so
-unfoldable pub differences_between : List ℕ → Picture → Bool → Bool → ℕ → ℕ → ℕ → ℕ → ℕ
-differences_between block p half_x half_y rounding x y j =
-    differences (drop (16 * j) block) (drop (16 * j) (square (λ a b. interpolated p Y half_x half_y rounding (x + a) (y + b))))
 
 -- the differences of a block of samples from what a vector predicts
 unfoldable pub difference_of : List ℕ → Picture → ℕ → ℕ → Vector → ℕ

@@ -1,6 +1,6 @@
 //! Vectors with their costs, and which of them comes first.
-ghost use Rattle.std.specs.Prelude.{◌≡◌, ℕ, ◌≤◌, ◌↔◌, pos, ◌-ℤ◌, ◌<ℤ◌, IfNone, IfSome, Option};
-ghost use Rattle.motion_search.specs.Order.{length_of, compared, first_of};
+ghost use Rattle.std.specs.Prelude.{◌≡◌, ℕ, ◌≤◌, ◌↔◌, pos, ◌-ℤ◌, ◌<ℤ◌, IfNone, IfSome, IsTrue, false, Option};
+ghost use Rattle.motion_search.specs.Order.{length_of, compared, before, first_of};
 ghost use Rattle.motion_search.specs.Cost.{lead_of, IsCost};
 
 use h263_types::Vector;
@@ -32,7 +32,7 @@ fn compare(a: Candidate, b: Candidate) -> Ordering
 }
 
 // The one of two candidates that comes first.
-fn first(best: Candidate, other: Candidate) -> Candidate
+pub(crate) fn first(best: Candidate, other: Candidate) -> Candidate
     ensures { result ≡ first_of best other }
 {
     if compare(other, best).is_lt() {
@@ -66,20 +66,19 @@ pub(crate) fn with_differences(vector: Vector, sum: u32) -> Candidate
     }
 }
 
-// The least differences by which a vector costs more than the best one.
-pub(crate) fn enough(best: Candidate, vector: Vector) -> u32
-    requires cost { IsCost best.cost }
-    ensures { (sum : ℕ) → (result ≤ sum) ↔ (best.cost <ℤ (pos sum -ℤ pos (lead_of vector))) }
+// Whether no other candidate comes before one: a cost below 0 is the zero vector's alone.
+pub(crate) fn is_settled(best: Candidate) -> bool
+    ensures { IsTrue result ↔ (best.cost <ℤ pos 0) }
 {
-    let more = best.cost + 1 + lead(vector) as i32;
-    if more < 0 { 0 } else { more as u32 }
+    best.cost < 0
 }
 
-// The first of the best one and a vector whose differences were summed up, or are `enough`.
+// The first of the best one and a vector whose differences were summed up, or don't come before it.
+#[inline(always)]
 pub(crate) fn better(best: Candidate, vector: Vector, sum: Option<u32>) -> Candidate
     requires cost { IsCost best.cost }
     requires sum { IfSome sum (λ n. n ≤ 65280) }
-    ensures first { (n : ℕ) → IfNone sum (best.cost <ℤ (pos n -ℤ pos (lead_of vector))) → IfSome sum (λ s. s ≡ n) → result ≡ first_of best (record { vector = vector; cost = pos n -ℤ pos (lead_of vector) }) }
+    ensures first { (n : ℕ) → IfNone sum (before (record { vector = vector; cost = pos n -ℤ pos (lead_of vector) }) best ≡ false) → IfSome sum (λ s. s ≡ n) → result ≡ first_of best (record { vector = vector; cost = pos n -ℤ pos (lead_of vector) }) }
     ensures cost { IsCost result.cost }
 {
     match sum {

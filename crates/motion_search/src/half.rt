@@ -9,8 +9,8 @@ ghost use Rattle.motion_search.specs.Cost.{candidate_of, IsCost};
 ghost use Rattle.motion_search.specs.Vectors.{around, in_reach};
 ghost use Rattle.motion_search.specs.Best.{best_near, IsCandidate};
 
-use crate::candidate::Candidate;
-use crate::predicted::better_predicted;
+use crate::candidate::{Candidate, first, is_settled};
+use crate::predicted::predicted;
 use crate::within::is_within;
 use h263_planes::PictureRef;
 use h263_types::{Reach, Vector, reach};
@@ -45,7 +45,7 @@ fn better_in_reach(
     ensures cost { IsCost result.cost }
 {
     if is_within(reach, vector) {
-        better_predicted(block, reference, mb, rounding, vector, best)
+        first(best, predicted(block, reference, mb, rounding, vector))
     } else {
         best
     }
@@ -66,6 +66,9 @@ pub(crate) fn best_of_neighbours(
     ensures best { result ≡ best_near block.now (picture reference.entry) mb rounding best }
     ensures cost { IsCost result.cost }
 {
+    if is_settled(best) {
+        return best;
+    }
     let reach = reach(reference.format(), mb);
     let mut first = best;
     for k in 0..9u32 {

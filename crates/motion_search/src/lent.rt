@@ -1,16 +1,16 @@
 //! Vectors of whole samples, compared on the lent rows of the reference.
-ghost use Rattle.std.specs.Prelude.{◌≡◌, ℕ, ◌+◌, ◌*◌, ◌%◌, ◌/◌, ◌<◌, ◌≤◌, ◌↔◌, pos, ◌≤ℤ◌, unsigned_abs, IsNone, IfSome, length, slice_range};
+ghost use Rattle.std.specs.Prelude.{◌≡◌, ℕ, ◌+◌, ◌*◌, ◌%◌, ◌/◌, ◌<◌, ◌≤◌, ◌↔◌, pos, ◌<ℤ◌, false, IsNone, IfSome, length, slice_range};
 ghost use Rattle.h263_types.specs.Sizes.{columns_of, mbs_of};
 ghost use Rattle.h263_types.specs.Vectors.{InReach, whole_place};
 ghost use Rattle.h263_planes.specs.Lent.{picture};
 ghost use Rattle.h263_planes.specs.Samples.{Inside};
 ghost use Rattle.h263_planes.specs.declared.Plane.TheVariants.{Y};
 ghost use Rattle.sad_kernel.specs.Differences.{differences};
-ghost use Rattle.motion_search.specs.Order.{first_of};
+ghost use Rattle.motion_search.specs.Order.{before, first_of};
 ghost use Rattle.motion_search.specs.Cost.{candidate_of, differences_from, IsCost};
-ghost use Rattle.motion_search.specs.Vectors.{IsEven};
+ghost use Rattle.motion_search.specs.Vectors.{zero_vector, IsEven};
 
-use crate::candidate::{Candidate, better, enough};
+use crate::candidate::{Candidate, better};
 use h263_planes::{PictureRef, Plane};
 use h263_types::Vector;
 use sad_kernel::laws::parts_add;
@@ -27,7 +27,7 @@ fn block_row(block: &[u8; 256], j: u32) -> &[u8]
     &block[at..at + 16]
 }
 
-// The differences of the four rows of a block from row `j` on from four rows of sixteen samples.
+// The differences of rows `j`, `j + 4`, `j + 8` and `j + 12` of a block from four rows of sixteen samples.
 #[inline(always)]
 pub(crate) fn differences_of_four(
     block: &[u8; 256],
@@ -37,111 +37,98 @@ pub(crate) fn differences_of_four(
     third: &[u8],
     fourth: &[u8],
 ) -> u32
-    requires j { j ≤ 12 }
+    requires j { j < 4 }
     requires first { length first.now ≡ 16 }
     requires second { length second.now ≡ 16 }
     requires third { length third.now ≡ 16 }
     requires fourth { length fourth.now ≡ 16 }
-    ensures value { result ≡ differences (slice_range block.now (16 * j) (16 * j + 16)) first.now + differences (slice_range block.now (16 * (j + 1)) (16 * (j + 1) + 16)) second.now + differences (slice_range block.now (16 * (j + 2)) (16 * (j + 2) + 16)) third.now + differences (slice_range block.now (16 * (j + 3)) (16 * (j + 3) + 16)) fourth.now }
+    ensures value { result ≡ differences (slice_range block.now (16 * j) (16 * j + 16)) first.now + differences (slice_range block.now (16 * (j + 4)) (16 * (j + 4) + 16)) second.now + differences (slice_range block.now (16 * (j + 8)) (16 * (j + 8) + 16)) third.now + differences (slice_range block.now (16 * (j + 12)) (16 * (j + 12) + 16)) fourth.now }
     ensures most { result ≤ 16320 }
 {
     sad_of_four(
         (block_row(block, j), first),
-        (block_row(block, j + 1), second),
-        (block_row(block, j + 2), third),
-        (block_row(block, j + 3), fourth),
+        (block_row(block, j + 4), second),
+        (block_row(block, j + 8), third),
+        (block_row(block, j + 12), fourth),
     )
 }
 
-// The differences of the four rows of a block from row `j` on from those of the 16 x 16 samples of Y at column `x` of
-// row `y`.
+// The differences of rows `j`, `j + 4`, `j + 8` and `j + 12` of a block from those of the 16 x 16 samples of Y at column
+// `x` of row `y`. Since `y` has sixteen bits, the compiler sees that the sums of rows don't wrap, and finds all rows of a
+// block at fixed distances from the first.
 #[inline(always)]
-fn four_rows(block: &[u8; 256], reference: PictureRef<'_>, x: u32, y: u32, j: u32) -> u32
+fn four_rows(block: &[u8; 256], reference: PictureRef<'_>, x: u32, y: u16, j: u32) -> u32
     requires inside { Inside (picture reference).format Y x (y + 15) 16 }
     requires x { x < 65536 }
-    requires y { y < 60000 }
-    requires j { j ≤ 12 }
-    ensures value { result + differences_from block.now (picture reference.entry) x y (j + 4) ≡ differences_from block.now (picture reference.entry) x y j }
+    requires j { j < 4 }
+    ensures value { result + (differences_from block.now (picture reference.entry) x y (j + 1) + differences_from block.now (picture reference.entry) x y (j + 5) + differences_from block.now (picture reference.entry) x y (j + 9) + differences_from block.now (picture reference.entry) x y (j + 13)) ≡ differences_from block.now (picture reference.entry) x y j + differences_from block.now (picture reference.entry) x y (j + 4) + differences_from block.now (picture reference.entry) x y (j + 8) + differences_from block.now (picture reference.entry) x y (j + 12) }
     ensures most { result ≤ 16320 }
 {
     parts_add();
+    let y = u32::from(y);
     let first = reference.row(Plane::Y, x, y + j, 16);
-    let second = reference.row(Plane::Y, x, y + (j + 1), 16);
-    let third = reference.row(Plane::Y, x, y + (j + 2), 16);
-    let fourth = reference.row(Plane::Y, x, y + (j + 3), 16);
+    let second = reference.row(Plane::Y, x, y + (j + 4), 16);
+    let third = reference.row(Plane::Y, x, y + (j + 8), 16);
+    let fourth = reference.row(Plane::Y, x, y + (j + 12), 16);
     differences_of_four(block, j, first, second, third, fourth)
 }
 
-// The differences of a block from the 16 x 16 samples of Y at column `x` of row `y`, or `None` where they are at least
-// `enough`: where the upper four rows come to it, it reads no further. To ask after each row costs more than it spares.
+// The differences of a block from the 16 x 16 samples of Y at column `x` of row `y`, or `None` where they are more than
+// the best one costs. It sums up four rows that lie apart, since they tell more of the whole than four neighbours, and
+// asks; then four between these, and asks again. To ask after each row costs more than it spares.
 #[inline(always)]
-fn differences_until(
+fn differences_within(
     block: &[u8; 256],
     reference: PictureRef<'_>,
     x: u32,
-    y: u32,
-    enough: u32,
+    y: u16,
+    best: Candidate,
 ) -> Option<u32>
     requires inside { Inside (picture reference).format Y x (y + 15) 16 }
     requires x { x < 65536 }
-    requires y { y < 60000 }
-    ensures none { IsNone result ↔ (enough ≤ differences_from block.now (picture reference.entry) x y 0) }
+    ensures none { IsNone result ↔ (best.cost <ℤ pos (differences_from block.now (picture reference.entry) x y 0)) }
     ensures some { IfSome result (λ sum. sum ≡ differences_from block.now (picture reference.entry) x y 0) }
     ensures most { IfSome result (λ sum. sum ≤ 65280) }
 {
-    let upper = four_rows(block, reference, x, y, 0);
-    if upper >= enough {
+    parts_add();
+    let quarter = four_rows(block, reference, x, y, 0);
+    if quarter as i32 > best.cost {
         return None;
     }
-    let lower = four_rows(block, reference, x, y, 4)
-        + four_rows(block, reference, x, y, 8)
-        + four_rows(block, reference, x, y, 12);
-    let sum = upper + lower;
-    if sum >= enough { None } else { Some(sum) }
+    let half = quarter + four_rows(block, reference, x, y, 2);
+    if half as i32 > best.cost {
+        return None;
+    }
+    let sum = half + four_rows(block, reference, x, y, 1) + four_rows(block, reference, x, y, 3);
+    if sum as i32 > best.cost {
+        None
+    } else {
+        Some(sum)
+    }
 }
 
-// The column that a vector leads to from `left` on.
-#[inline(always)]
-pub(crate) fn column(left: u32, vector: Vector) -> u32
-    requires left { left < 65536 }
-    requires inside { pos 0 ≤ℤ whole_place left vector.x }
-    ensures { pos result ≡ whole_place left vector.x }
-{
-    (left as i32 + i32::from(vector.x >> 1)) as u32
-}
-
-// The row that a vector leads to from `top` on.
-#[inline(always)]
-pub(crate) fn line(top: u32, vector: Vector) -> u32
-    requires top { top < 60000 }
-    requires inside { pos 0 ≤ℤ whole_place top vector.y }
-    ensures { pos result ≡ whole_place top vector.y }
-{
-    (top as i32 + i32::from(vector.y >> 1)) as u32
-}
-
-// The first of the best one and a vector of whole samples, from the macroblock in column `left` of row `top`.
+// The first of the best one and a vector of whole samples, which leads to column `x` of row `y`. The zero vector has
+// been looked at, so what it has ahead needs no look here.
 #[inline(always)]
 pub(crate) fn better_whole(
     block: &[u8; 256],
     reference: PictureRef<'_>,
     mb: u32,
-    left: u32,
-    top: u32,
+    x: u32,
+    y: u16,
     vector: Vector,
     best: Candidate,
 ) -> Candidate
     requires mb { mb < mbs_of (picture reference).format }
-    requires left { left ≡ 16 * (mb % columns_of (picture reference).format) }
-    requires top { top ≡ 16 * (mb / columns_of (picture reference).format) }
     requires reach { InReach (picture reference).format mb vector.x vector.y }
     requires whole { IsEven vector }
+    requires x { pos x ≡ whole_place (16 * (mb % columns_of (picture reference).format)) vector.x }
+    requires y { pos y ≡ whole_place (16 * (mb / columns_of (picture reference).format)) vector.y }
+    requires zero { before (candidate_of block.now (picture reference) mb 0 zero_vector) best ≡ false }
     requires cost { IsCost best.cost }
     ensures first { result ≡ first_of best (candidate_of block.now (picture reference.entry) mb 0 vector) }
     ensures cost { IsCost result.cost }
 {
-    let x = column(left, vector);
-    let y = line(top, vector);
-    let sum = differences_until(block, reference, x, y, enough(best, vector));
+    let sum = differences_within(block, reference, x, y, best);
     better(best, vector, sum)
 }

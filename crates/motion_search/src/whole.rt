@@ -1,18 +1,18 @@
 //! The vectors of whole samples within the radius.
-ghost use Rattle.std.specs.Prelude.{◌≡◌, ℕ, ◌+◌, ◌-◌, ◌*◌, ◌%◌, ◌/◌, ◌<◌, ◌≤◌, ◌↔◌, ℤ, false, if◌then◌else◌};
+ghost use Rattle.std.specs.Prelude.{◌≡◌, ℕ, ◌+◌, ◌-◌, ◌*◌, ◌%◌, ◌/◌, ◌<◌, ◌≤◌, ◌↔◌, ℤ, pos, ◌≤ℤ◌, false};
 ghost use Rattle.h263_types.specs.Sizes.{columns_of, mbs_of};
-ghost use Rattle.h263_types.specs.Vectors.{InReach, IsWithin};
+ghost use Rattle.h263_types.specs.Vectors.{InReach, IsWithin, whole_place};
 ghost use Rattle.h263_planes.specs.Lent.{picture};
 ghost use Rattle.motion_search.specs.declared.candidate.Candidate.{Candidate};
-ghost use Rattle.motion_search.specs.Order.{before, first_of};
+ghost use Rattle.motion_search.specs.Order.{before};
 ghost use Rattle.motion_search.specs.Cost.{candidate_of, IsCost};
-ghost use Rattle.motion_search.specs.Vectors.{in_reach, whole_at, IsEven};
+ghost use Rattle.motion_search.specs.Vectors.{whole_at, whole_component, zero_vector};
 ghost use Rattle.motion_search.specs.Best.{best_whole, IsWholeCandidate};
 
-use crate::candidate::Candidate;
+use crate::candidate::{Candidate, is_settled};
 use crate::lent::better_whole;
 use crate::start::zero;
-use crate::within::is_within;
+use crate::within::is_down;
 use h263_planes::PictureRef;
 use h263_types::{Format, Reach, Vector, reach};
 
@@ -31,38 +31,71 @@ fn whole_vector(radius: u8, column: u32, row: u32) -> Vector
     }
 }
 
-// The first of the best one and a vector of whole samples, where that is in reach.
+// The first column of the square whose vectors lead no further left than the reach.
 #[inline(always)]
-fn better_in_reach(
-    block: &[u8; 256],
-    reference: PictureRef<'_>,
-    mb: u32,
-    left: u32,
-    top: u32,
-    reach: Reach,
-    vector: Vector,
-    best: Candidate,
-) -> Candidate
-    requires mb { mb < mbs_of (picture reference).format }
-    requires left { left ≡ 16 * (mb % columns_of (picture reference).format) }
-    requires top { top ≡ 16 * (mb / columns_of (picture reference).format) }
-    requires reach { (x y : ℤ) → InReach (picture reference).format mb x y ↔ IsWithin reach x y }
-    requires whole { IsEven vector }
-    requires cost { IsCost best.cost }
-    ensures first { result ≡ (if in_reach (picture reference.entry).format mb vector then first_of best (candidate_of block.now (picture reference.entry) mb 0 vector) else best) }
-    ensures cost { IsCost result.cost }
+fn first_column(radius: u8, reach: Reach) -> u32
+    requires radius { radius ≤ 15 }
+    ensures { (n : ℕ) → (result ≤ n) ↔ (reach.left ≤ℤ whole_component radius n) }
 {
-    if is_within(reach, vector) {
-        better_whole(block, reference, mb, left, top, vector, best)
+    let least = i32::from(reach.left) + 2 * i32::from(radius);
+    if least <= 0 {
+        0
     } else {
-        best
+        (least as u32 + 1) / 2
     }
 }
 
-// The first of the best one and the vectors in a row of the square. Called in a format that is known, it has code for this
-// format alone.
+// The column after the last one whose vectors lead no further right than the reach.
 #[inline(always)]
-fn best_in_format(
+fn end_column(radius: u8, reach: Reach) -> u32
+    requires radius { radius ≤ 15 }
+    ensures { (n : ℕ) → (n < result) ↔ ((n < 2 * radius + 1) × (whole_component radius n ≤ℤ reach.right)) }
+{
+    let end = 2 * u32::from(radius) + 1;
+    let most = i32::from(reach.right) + 2 * i32::from(radius);
+    if most < 0 {
+        0
+    } else if most as u32 / 2 + 1 < end {
+        most as u32 / 2 + 1
+    } else {
+        end
+    }
+}
+
+// The row of the square that is visited after `k` others: first the middle one, and then by turns the next one above
+// and the next one below.
+#[inline(always)]
+fn row_at(radius: u8, k: u32) -> u32
+    requires radius { radius ≤ 15 }
+    requires k { k ≤ 2 * radius }
+    ensures below { k % 2 ≡ 0 → result ≡ radius + k / 2 }
+    ensures above { k % 2 ≡ 1 → result + (k + 1) / 2 ≡ radius }
+    ensures most { result ≤ 2 * radius }
+{
+    let middle = u32::from(radius);
+    if k % 2 == 0 {
+        middle + k / 2
+    } else {
+        middle - (k + 1) / 2
+    }
+}
+
+// Where the vectors in column or row `k` of the square lead to from `at` on.
+#[inline(always)]
+fn place(at: u32, k: u32, radius: u8) -> u32
+    requires at { at < 60000 }
+    requires k { k ≤ 2 * radius }
+    requires radius { radius ≤ 15 }
+    requires inside { pos 0 ≤ℤ whole_place at (whole_component radius k) }
+    ensures place { pos result ≡ whole_place at (whole_component radius k) }
+    ensures most { result < 65536 }
+{
+    at + k - u32::from(radius)
+}
+
+// The first of the best one and the vectors in a row of the square that leads no further up or down than the reach.
+#[inline(always)]
+fn best_in_row(
     block: &[u8; 256],
     reference: PictureRef<'_>,
     mb: u32,
@@ -79,6 +112,8 @@ fn best_in_format(
     requires reach { (x y : ℤ) → InReach (picture reference).format mb x y ↔ IsWithin reach x y }
     requires radius { radius ≤ 15 }
     requires row { row ≤ 2 * radius }
+    requires down { (reach.up ≤ℤ whole_component radius row) × (whole_component radius row ≤ℤ reach.down) }
+    requires zero { before (candidate_of block.now (picture reference) mb 0 zero_vector) best ≡ false }
     requires candidate { IsWholeCandidate block.now (picture reference) mb radius 0 best }
     requires cost { IsCost best.cost }
     ensures candidate { IsWholeCandidate block.now (picture reference.entry) mb radius 0 result }
@@ -86,15 +121,18 @@ fn best_in_format(
     ensures none { (n : ℕ) → n < 2 * radius + 1 → InReach (picture reference.entry).format mb (whole_at radius n row).x (whole_at radius n row).y → before (candidate_of block.now (picture reference.entry) mb 0 (whole_at radius n row)) result ≡ false }
     ensures cost { IsCost result.cost }
 {
+    let y = place(top, row, radius) as u16;
     let mut first = best;
-    for column in 0..2 * u32::from(radius) + 1 {
+    for column in first_column(radius, reach)..end_column(radius, reach) {
         let vector = whole_vector(radius, column, row);
-        first = better_in_reach(block, reference, mb, left, top, reach, vector, first);
+        let x = place(left, column, radius);
+        first = better_whole(block, reference, mb, x, y, vector, first);
     }
     first
 }
 
 // The first of the best one and the vectors in a row of the square.
+#[inline(always)]
 fn best_of_row(
     block: &[u8; 256],
     reference: PictureRef<'_>,
@@ -112,6 +150,7 @@ fn best_of_row(
     requires reach { (x y : ℤ) → InReach (picture reference).format mb x y ↔ IsWithin reach x y }
     requires radius { radius ≤ 15 }
     requires row { row ≤ 2 * radius }
+    requires zero { before (candidate_of block.now (picture reference) mb 0 zero_vector) best ≡ false }
     requires candidate { IsWholeCandidate block.now (picture reference) mb radius 0 best }
     requires cost { IsCost best.cost }
     ensures candidate { IsWholeCandidate block.now (picture reference.entry) mb radius 0 result }
@@ -119,50 +158,44 @@ fn best_of_row(
     ensures none { (n : ℕ) → n < 2 * radius + 1 → InReach (picture reference.entry).format mb (whole_at radius n row).x (whole_at radius n row).y → before (candidate_of block.now (picture reference.entry) mb 0 (whole_at radius n row)) result ≡ false }
     ensures cost { IsCost result.cost }
 {
-    let r = reference;
-    match reference.format() {
-        Format::SubQcif => best_in_format(block, r, mb, left, top, reach, radius, row, best),
-        Format::Qcif => best_in_format(block, r, mb, left, top, reach, radius, row, best),
-        Format::Cif => best_in_format(block, r, mb, left, top, reach, radius, row, best),
+    if is_down(reach, whole_vector(radius, 0, row)) {
+        best_in_row(block, reference, mb, left, top, reach, radius, row, best)
+    } else {
+        best
     }
 }
 
-// The first of the best one and the vectors in the two rows of the square that are `distance` away from its middle.
-fn best_of_two_rows(
+// The first of the vectors of whole samples within the radius. Rows are visited from the middle outwards, since a small
+// motion is the likely one, and a low cost that is found early lets the sums of the others stop early. Called in a format
+// that is known, it has code for this format alone.
+#[inline(always)]
+fn best_in_format(
     block: &[u8; 256],
     reference: PictureRef<'_>,
     mb: u32,
-    left: u32,
-    top: u32,
-    reach: Reach,
     radius: u8,
-    distance: u32,
-    best: Candidate,
+    zero: Candidate,
 ) -> Candidate
     requires mb { mb < mbs_of (picture reference).format }
-    requires left { left ≡ 16 * (mb % columns_of (picture reference).format) }
-    requires top { top ≡ 16 * (mb / columns_of (picture reference).format) }
-    requires reach { (x y : ℤ) → InReach (picture reference).format mb x y ↔ IsWithin reach x y }
     requires radius { radius ≤ 15 }
-    requires distance { distance ≤ radius }
-    requires candidate { IsWholeCandidate block.now (picture reference) mb radius 0 best }
-    requires cost { IsCost best.cost }
-    ensures candidate { IsWholeCandidate block.now (picture reference.entry) mb radius 0 result }
-    ensures kept { (d : Candidate) → before d best ≡ false → before d result ≡ false }
-    ensures above { (n : ℕ) → n < 2 * radius + 1 → InReach (picture reference.entry).format mb (whole_at radius n (radius - distance)).x (whole_at radius n (radius - distance)).y → before (candidate_of block.now (picture reference.entry) mb 0 (whole_at radius n (radius - distance))) result ≡ false }
-    ensures below { (n : ℕ) → n < 2 * radius + 1 → InReach (picture reference.entry).format mb (whole_at radius n (radius + distance)).x (whole_at radius n (radius + distance)).y → before (candidate_of block.now (picture reference.entry) mb 0 (whole_at radius n (radius + distance))) result ≡ false }
+    requires zero { zero ≡ candidate_of block.now (picture reference) mb 0 zero_vector }
+    requires cost { IsCost zero.cost }
+    ensures best { (rounding : ℕ) → result ≡ best_whole block.now (picture reference.entry) mb radius rounding }
     ensures cost { IsCost result.cost }
 {
-    let middle = radius as u32;
-    let row = middle - distance;
-    let first = best_of_row(block, reference, mb, left, top, reach, radius, row, best);
-    let row = middle + distance;
-    best_of_row(block, reference, mb, left, top, reach, radius, row, first)
+    let format = reference.format();
+    let left = 16 * (mb % format.columns());
+    let top = 16 * (mb / format.columns());
+    let reach = reach(format, mb);
+    let mut first = zero;
+    for k in 0..2 * u32::from(radius) + 1 {
+        let row = row_at(radius, k);
+        first = best_of_row(block, reference, mb, left, top, reach, radius, row, first);
+    }
+    first
 }
 
 /// The first of the vectors of whole samples within the radius, 0 to 15. Their costs don't depend on the rounding.
-/// Rows are visited from the middle outwards, since a small motion is the likely one, and a low cost that is found
-/// early lets the sums of the others stop early.
 pub(crate) fn best_of_whole(
     block: &[u8; 256],
     reference: PictureRef<'_>,
@@ -174,17 +207,13 @@ pub(crate) fn best_of_whole(
     ensures best { (rounding : ℕ) → result ≡ best_whole block.now (picture reference.entry) mb radius rounding }
     ensures cost { IsCost result.cost }
 {
-    let format = reference.format();
-    let left = 16 * (mb % format.columns());
-    let top = 16 * (mb / format.columns());
-    let reach = reach(format, mb);
-    let middle = radius as u32;
     let zero = zero(block, reference, mb);
-    let mut first = best_of_row(block, reference, mb, left, top, reach, radius, middle, zero);
-    for distance in 1..middle + 1 {
-        first = best_of_two_rows(
-            block, reference, mb, left, top, reach, radius, distance, first,
-        );
+    if is_settled(zero) {
+        return zero;
     }
-    first
+    match reference.format() {
+        Format::SubQcif => best_in_format(block, reference, mb, radius, zero),
+        Format::Qcif => best_in_format(block, reference, mb, radius, zero),
+        Format::Cif => best_in_format(block, reference, mb, radius, zero),
+    }
 }

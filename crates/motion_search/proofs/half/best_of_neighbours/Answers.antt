@@ -9,12 +9,16 @@ use Rattle.motion_search.specs.Cost.{candidate_of}
 use Rattle.motion_search.specs.Vectors.{around, IsNear}
 use Rattle.motion_search.specs.Best.{IsCandidate}
 use Rattle.motion_search.proofs.Squares.{near_around, around_is_near}
-use Rattle.motion_search.proofs.Bests.{step_of, step_has, step_kept, step_none, is_candidate, is_best_near}
+use Rattle.motion_search.proofs.Bests.{step_of, step_has, step_kept, step_none, is_candidate, is_best_near, settled_is_best_near}
 use Rattle.motion_search.proofs.half.best_of_neighbours.Goals as goal
 
 pub better_in_reach-first-requires-clause-reach : goal.better_in_reach-first-requires-clause-reach
 better_in_reach-first-requires-clause-reach c =
     subst (λ (f : Format). (x y : ℤ) → InReach f c.args.mb x y ↔ IsWithin c.reach-reach.result x y) c.format.ensures.format c.reach-reach.ensures
+
+pub returns-then-is_settled-clause-best : goal.returns-then-is_settled-clause-best
+returns-then-is_settled-clause-best c =
+    settled_is_best_near c.args.block.now (picture c.args.reference) c.args.mb c.args.rounding c.args.best c.requires.candidate (c.is_settled.ensures.0 c.if-is_settled.true)
 
 pub loop-k-preserved : goal.loop-k-preserved
 loop-k-preserved c =

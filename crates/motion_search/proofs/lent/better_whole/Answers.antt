@@ -1,23 +1,25 @@
-use Rattle.std.proofs.Common.{ℕ, ap, ◌∙◌}
-use Rattle.h263_types.specs.Vectors.{whole_place}
+use Rattle.std.proofs.Common.{◌≡◌, ap, subst, sym, ◌∙◌, false}
+use Rattle.h263_types.specs.declared.vector.Vector.{Vector}
 use Rattle.h263_planes.specs.Lent.{picture}
-use Rattle.motion_search.specs.Order.{first_of}
-use Rattle.motion_search.specs.Cost.{differences_from}
-use Rattle.motion_search.proofs.Blocks.{all_rows, costing, stopped}
+use Rattle.motion_search.specs.Order.{before, first_of}
+use Rattle.motion_search.specs.Cost.{candidate_of, differences_from, difference_of}
+use Rattle.motion_search.proofs.Blocks.{all_rows, costing}
+use Rattle.motion_search.proofs.Leads.{stopped}
 use Rattle.motion_search.proofs.Places.{whole_predicts}
 use Rattle.motion_search.proofs.lent.better_whole.Goals as goal
 
 pub returns-clause-first : goal.returns-clause-first
 returns-clause-first c =
+    let block = c.args.block.now in
     let reference = picture c.args.reference in
+    let mb = c.args.mb in
     let v = c.args.vector in
-    let x = c.column-x.result in
-    let y = c.line-y.result in
-    let n = differences_from c.args.block.now reference x y 0 in
+    let best = c.args.best in
+    let n = differences_from block reference c.args.x c.args.y 0 in
+    let same : n ≡ difference_of block reference mb 0 v =
+    all_rows block reference c.args.x c.args.y ∙ whole_predicts block reference mb 0 c.args.x c.args.y v c.requires.whole c.requires.x c.requires.y in
     c.better.ensures.first n
-    (stopped c.differences_until-sum.result n c.enough.result v c.args.best.cost c.differences_until-sum.ensures.none c.enough.ensures)
-    c.differences_until-sum.ensures.some
-    ∙ ap (λ k. first_of c.args.best (costing v k))
-    (all_rows c.args.block.now reference x y
-    ∙ whole_predicts c.args.block.now reference c.args.mb 0 x y v c.requires.whole
-    (c.column-x.ensures ∙ ap (λ (k : ℕ). whole_place k v.x) c.requires.left) (c.line-y.ensures ∙ ap (λ (k : ℕ). whole_place k v.y) c.requires.top))
+    (stopped c.differences_within-sum.result n v best c.differences_within-sum.ensures.none
+    (λ e. subst (λ k. before (costing v k) best ≡ false) (sym same) (subst (λ (w : Vector). before (candidate_of block reference mb 0 w) best ≡ false) (sym e) c.requires.zero)))
+    c.differences_within-sum.ensures.some
+    ∙ ap (λ k. first_of best (costing v k)) same

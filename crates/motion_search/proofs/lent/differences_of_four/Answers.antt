@@ -13,7 +13,7 @@ returns-clause-most c =
       arith,
       returns-clause-value c,
       row_small block c.args.first.now j (omega arith) c.told-block c.requires.first c.fits-block (λ i. (c.type_inv.first i).fits),
-      row_small block c.args.second.now (j + 1) (omega arith) c.told-block c.requires.second c.fits-block (λ i. (c.type_inv.second i).fits),
-      row_small block c.args.third.now (j + 2) (omega arith) c.told-block c.requires.third c.fits-block (λ i. (c.type_inv.third i).fits),
-      row_small block c.args.fourth.now (j + 3) (omega arith) c.told-block c.requires.fourth c.fits-block (λ i. (c.type_inv.fourth i).fits),
+      row_small block c.args.second.now (j + 4) (omega arith) c.told-block c.requires.second c.fits-block (λ i. (c.type_inv.second i).fits),
+      row_small block c.args.third.now (j + 8) (omega arith) c.told-block c.requires.third c.fits-block (λ i. (c.type_inv.third i).fits),
+      row_small block c.args.fourth.now (j + 12) (omega arith) c.told-block c.requires.fourth c.fits-block (λ i. (c.type_inv.fourth i).fits),
     )

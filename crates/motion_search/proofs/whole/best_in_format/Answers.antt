@@ -1,41 +1,60 @@
-use Rattle.std.proofs.Common.{◌≡◌, ◌∙◌, sym, subst, ap, arith, below_more, ◌<◌, ◌+◌, ◌*◌, false}
-use Rattle.h263_types.specs.declared.vector.Vector.{Vector}
-use Rattle.h263_types.specs.Vectors.{InReach}
+use Rattle.std.proofs.Common.{◌≡◌, sym, subst, arith, ℤ, ◌↔◌, false}
+use Rattle.h263_types.specs.declared.format.Format.{Format}
+use Rattle.h263_types.specs.Vectors.{InReach, IsWithin}
 use Rattle.h263_planes.specs.Lent.{picture}
 use Rattle.motion_search.specs.declared.candidate.Candidate.{Candidate}
 use Rattle.motion_search.specs.Order.{before}
 use Rattle.motion_search.specs.Cost.{candidate_of}
-use Rattle.motion_search.specs.Vectors.{whole_at, IsEven}
+use Rattle.motion_search.specs.Vectors.{whole_at, zero_vector}
 use Rattle.motion_search.specs.Best.{IsWholeCandidate}
-use Rattle.motion_search.proofs.Squares.{at_is_whole, at_is_even}
-use Rattle.motion_search.proofs.Bests.{step_of, step_is_whole, step_kept, step_none}
+use Rattle.motion_search.proofs.Squares.{whole_from_places, rows_by_turns}
+use Rattle.motion_search.proofs.Bests.{is_best_whole, zero_is_candidate}
+use Rattle.motion_search.proofs.Orders.{not_itself}
+use Rattle.motion_search.proofs.Places.{not_rounded, whole_not_rounded}
 use Rattle.motion_search.proofs.whole.best_in_format.Goals as goal
 
-pub better_in_reach-first-requires-clause-whole : goal.better_in_reach-first-requires-clause-whole
-better_in_reach-first-requires-clause-whole c = subst IsEven (sym c.whole_vector-vector.ensures) (at_is_even c.args.radius c.loop-column.column c.args.row)
+pub best_of_row-first-requires-clause-reach : goal.best_of_row-first-requires-clause-reach
+best_of_row-first-requires-clause-reach c =
+    subst (λ (f : Format). (x y : ℤ) → InReach f c.args.mb x y ↔ IsWithin c.reach-reach.result x y) c.format-format.ensures.format c.reach-reach.ensures
 
-pub loop-column-preserved : goal.loop-column-preserved
-loop-column-preserved c =
+pub loop-k-init : goal.loop-k-init
+loop-k-init c =
     let block = c.args.block.now in
     let p = picture c.args.reference in
     let mb = c.args.mb in
     let radius = c.args.radius in
-    let row = c.args.row in
-    let i = c.loop-column.column in
-    let now = c.loop-column.first in
-    let v = whole_at radius i row in
-    let e : c.better_in_reach-first.result ≡ step_of block p mb 0 v now =
-    c.better_in_reach-first.ensures.first ∙ ap (λ (w : Vector). step_of block p mb 0 w now) c.whole_vector-vector.ensures in
-    let inv = c.loop-column.invariant in
-    let column_in : i < 2 * radius + 1 = omega (arith, c.loop-column-test.true) in
-    let row_in : row < 2 * radius + 1 = omega (arith, c.requires.row) in
     record {
-      candidate = subst (IsWholeCandidate block p mb radius 0) (sym e) (step_is_whole block p mb 0 radius v now (at_is_whole radius i row column_in row_in) inv.candidate);
-      kept = λ d h. subst (λ (b : Candidate). before d b ≡ false) (sym e) (step_kept block p mb 0 d v now (inv.kept d h));
-      none = below_more (λ n. InReach p.format mb (whole_at radius n row).x (whole_at radius n row).y → before (candidate_of block p mb 0 (whole_at radius n row)) c.better_in_reach-first.result ≡ false) i
-          (λ n hn reaches. let d = candidate_of block p mb 0 (whole_at radius n row) in
-          subst (λ (b : Candidate). before d b ≡ false) (sym e) (step_kept block p mb 0 d v now (inv.none n hn reaches)))
-          (λ reaches. let d = candidate_of block p mb 0 v in
-          subst (λ (b : Candidate). before d b ≡ false) (sym e) (step_none block p mb 0 v now reaches));
-      cost = c.better_in_reach-first.ensures.cost;
+      candidate = subst (IsWholeCandidate block p mb radius 0) (sym c.requires.zero) (zero_is_candidate block p mb 0 radius c.requires.mb);
+      none = λ m n above below hn reached. absurd (omega (arith, above, below));
+      zero = subst (λ (d : Candidate). before (candidate_of block p mb 0 zero_vector) d ≡ false) (sym c.requires.zero) (not_itself (candidate_of block p mb 0 zero_vector));
+      cost = c.requires.cost;
     }
+
+pub loop-k-preserved : goal.loop-k-preserved
+loop-k-preserved c =
+    let block = c.args.block.now in
+    let p = picture c.args.reference in
+    let mb = c.args.mb in
+    let radius = c.args.radius in
+    record {
+      candidate = c.best_of_row-first.ensures.candidate;
+      none = λ m n low high hn.
+          rows_by_turns (λ k. InReach p.format mb (whole_at radius n k).x (whole_at radius n k).y → before (candidate_of block p mb 0 (whole_at radius n k)) c.best_of_row-first.result ≡ false)
+          radius c.loop-k.k c.row_at-row.result m c.row_at-row.ensures.below c.row_at-row.ensures.above low high
+          (λ near far reached. c.best_of_row-first.ensures.kept (candidate_of block p mb 0 (whole_at radius n m)) (c.loop-k.invariant.none m n near far hn reached))
+          (λ reached. c.best_of_row-first.ensures.none n hn reached);
+      zero = c.best_of_row-first.ensures.kept (candidate_of block p mb 0 zero_vector) c.loop-k.invariant.zero;
+      cost = c.best_of_row-first.ensures.cost;
+    }
+
+pub returns-clause-best : goal.returns-clause-best
+returns-clause-best c = λ r.
+    let block = c.args.block.now in
+    let p = picture c.args.reference in
+    let mb = c.args.mb in
+    let radius = c.args.radius in
+    is_best_whole block p mb r radius c.loop-k.first c.requires.mb
+    (whole_not_rounded block p mb radius r c.loop-k.first c.loop-k.invariant.candidate)
+    (λ v whole reaches. subst (λ (d : Candidate). before d c.loop-k.first ≡ false) (sym (not_rounded block p mb r v whole.even))
+    (whole_from_places (λ w. InReach p.format mb w.x w.y → before (candidate_of block p mb 0 w) c.loop-k.first ≡ false) radius v whole
+    (λ i j hi hj. c.loop-k.invariant.none j i (omega arith) (omega arith) hi) reaches))

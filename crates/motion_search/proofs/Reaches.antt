@@ -1,0 +1,49 @@
+-- Which places of the square are in reach.
+use Rattle.std.proofs.Common.{◌≡◌, subst, sym, ℕ, ◌+◌, ◌*◌, ◌/◌, ◌%◌, ◌<◌, ◌≤◌, ℤ, pos, ◌≤ℤ◌, ◌↔◌}
+use Rattle.h263_types.specs.declared.format.Format.{Format}
+use Rattle.h263_types.specs.declared.vector.Reach.{Reach}
+use Rattle.h263_types.specs.Sizes.{columns_of, mbs_of}
+use Rattle.h263_types.specs.Vectors.{InReach, IsWithin, whole_place}
+use Rattle.motion_search.specs.Vectors.{whole_component}
+use Rattle.motion_search.proofs.Squares.{zero_reaches}
+
+-- what a macroblock's reach says
+abbrev pub Reaches : Format → ℕ → Reach → Type 0
+Reaches f mb reach = (x y : ℤ) → InReach f mb x y ↔ IsWithin reach x y
+
+-- a row of the square leads no further up or down than the reach
+abbrev pub IsInRows : ℕ → Reach → ℕ → Type 0
+IsInRows radius reach row = (reach.up ≤ℤ whole_component radius row) × (whole_component radius row ≤ℤ reach.down)
+
+-- what two ends of a row of the square say
+abbrev pub IsFirst : ℕ → Reach → ℕ → Type 0
+IsFirst radius reach first = (n : ℕ) → (first ≤ n) ↔ (reach.left ≤ℤ whole_component radius n)
+
+abbrev pub IsEnd : ℕ → Reach → ℕ → Type 0
+IsEnd radius reach end = (n : ℕ) → (n < end) ↔ ((n < 2 * radius + 1) × (whole_component radius n ≤ℤ reach.right))
+
+module _ (f : Format) (mb radius : ℕ) (reach : Reach) (is : Reaches f mb reach) (row : ℕ) where
+  -- the places between the ends are in reach
+  pub between_ends : (first end i : ℕ) → IsFirst radius reach first → IsEnd radius reach end → IsInRows radius reach row → first ≤ i → i < end →
+      InReach f mb (whole_component radius i) (whole_component radius row)
+  between_ends first end i at_first at_end down from to =
+      (is (whole_component radius i) (whole_component radius row)).1 (((at_first i).0 from, ((at_end i).0 to).1), down)
+
+  -- and no others
+  pub from_first : (first i : ℕ) → IsFirst radius reach first → InReach f mb (whole_component radius i) (whole_component radius row) → first ≤ i
+  from_first first i at_first h = (at_first i).1 ((is (whole_component radius i) (whole_component radius row)).0 h).0.0
+
+  pub before_end : (end i : ℕ) → IsEnd radius reach end → i < 2 * radius + 1 → InReach f mb (whole_component radius i) (whole_component radius row) → i < end
+  before_end end i at_end hi h = (at_end i).1 (hi, ((is (whole_component radius i) (whole_component radius row)).0 h).0.1)
+
+  pub in_rows : (i : ℕ) → InReach f mb (whole_component radius i) (whole_component radius row) → IsInRows radius reach row
+  in_rows i h = ((is (whole_component radius i) (whole_component radius row)).0 h).1
+
+  -- the row begins inside the picture
+  pub row_inside : (top : ℕ) → mb < mbs_of f → top ≡ 16 * (mb / columns_of f) → IsInRows radius reach row → pos 0 ≤ℤ whole_place top (whole_component radius row)
+  row_inside top h e down =
+      subst (λ (k : ℕ). pos 0 ≤ℤ whole_place k (whole_component radius row)) (sym e)
+      ((is (pos 0) (whole_component radius row)).1 (((is (pos 0) (pos 0)).0 (zero_reaches f mb h)).0, down)).1.2.0
+
+  pub column_inside : (left i : ℕ) → left ≡ 16 * (mb % columns_of f) → InReach f mb (whole_component radius i) (whole_component radius row) → pos 0 ≤ℤ whole_place left (whole_component radius i)
+  column_inside left i e h = subst (λ (k : ℕ). pos 0 ≤ℤ whole_place k (whole_component radius i)) (sym e) h.0.2.0

@@ -1,0 +1,18 @@
+use Rattle.std.proofs.Common.{◌≡◌, ℕ, ◌<◌, false}
+use Rattle.h263_types.specs.Vectors.{InReach}
+use Rattle.h263_planes.specs.Lent.{picture}
+use Rattle.motion_search.specs.declared.candidate.Candidate.{Candidate}
+use Rattle.motion_search.specs.Order.{before}
+use Rattle.motion_search.specs.Cost.{candidate_of, IsCost}
+use Rattle.motion_search.specs.Vectors.{whole_at}
+use Rattle.motion_search.specs.Best.{IsWholeCandidate}
+use Rattle.motion_search.proofs.whole.best_in_row.Given as goal
+
+-- none of those seen comes before the first one
+abbrev pub invariant-loop-column : goal.invariant-loop-column
+invariant-loop-column l = record {
+  candidate : IsWholeCandidate l.block (picture l.reference) l.mb l.radius 0 l.first;
+  kept : (d : Candidate) → before d l.fn.best ≡ false → before d l.first ≡ false;
+  none : (n : ℕ) → n < l.column → InReach (picture l.reference).format l.mb (whole_at l.radius n l.row).x (whole_at l.radius n l.row).y → before (candidate_of l.block (picture l.reference) l.mb 0 (whole_at l.radius n l.row)) l.first ≡ false;
+  cost : IsCost l.first.cost;
+}
