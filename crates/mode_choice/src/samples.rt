@@ -6,6 +6,7 @@ ghost use Rattle.idct8.specs.Ranges.{IsSample};
 ghost use Rattle.mode_choice.specs.Choice.{sample_in_block, samples_of};
 
 use h263_planes::{PictureRef, block_corner};
+use std::simd::prelude::*;
 
 // The samples of block `block` of macroblock `mb`, by rows.
 pub(crate) fn block_samples(frame: PictureRef<'_>, mb: u32, block: u32) -> [i16; 64]
@@ -45,12 +46,22 @@ pub(crate) fn block_residuals(
 }
 
 // Writes row `y` of a block.
+#[inline(always)]
 fn put_row(samples: &mut [i16; 64], y: usize, row: &[u8])
     requires y { y < 8 }
     requires row { length row.now ≡ 8 }
     ensures { (k : ℕ) → k < 64 → slice_index_or samples.new k (pos 0) ≡ (if nat_eq (k / 8) y then pos (slice_index row.now (k % 8)) else slice_index_or samples.old k (pos 0)) }
 {
-    for x in 0..8 {
-        samples[8 * y + x] = i16::from(row[x]);
-    }
+    let at = 8 * y;
+    samples[at..at + 8].copy_from_slice(&widened(row));
+}
+
+// Eight bytes as signed numbers, taken in lanes.
+#[inline(always)]
+fn widened(row: &[u8]) -> [i16; 8]
+    requires { length row.now ≡ 8 }
+    ensures { (x : ℕ) → x < 8 → slice_index_or result x (pos 0) ≡ pos (slice_index row.now x) }
+{
+    let numbers: i16x8 = u8x8::from_slice(row).cast();
+    numbers.to_array()
 }
