@@ -18,7 +18,7 @@ impl<'a> PictureRef<'a> {
     ghost use Rattle.std.specs.Prelude.{◌≡◌, ℕ, ◌+◌, ◌<◌, length, slice_index};
     ghost use Rattle.h263_types.specs.Sizes.{size_of_picture};
     ghost use Rattle.h263_planes.specs.Layout.{picture_of};
-    ghost use Rattle.h263_planes.specs.Samples.{Inside, IsPicture, sample_at};
+    ghost use Rattle.h263_planes.specs.Samples.{Inside, IsPicture, bytes_of, sample_at};
     ghost use Rattle.h263_planes.specs.Lent.{picture};
 
     /// The picture that `bytes` hold, `format.size()` of them.
@@ -57,5 +57,11 @@ impl<'a> PictureRef<'a> {
     {
         let at = self.layout.place(plane, x, y);
         &self.bytes[at..at + n as usize]
+    }
+    /// The planes Y, Cb and Cr one after the other, each by rows from the top, lent without a copy.
+    pub fn bytes(&self) -> &'a [u8]
+        ensures { result.now ≡ bytes_of (picture self.now) }
+    {
+        self.bytes
     }
 }

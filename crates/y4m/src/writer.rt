@@ -1,14 +1,12 @@
 //! Pictures as Y4M text.
-ghost use Rattle.std.specs.Prelude.{◌≡◌, ◌++◌, true, OnOk, OnErr};
+ghost use Rattle.std.specs.Prelude.{◌≡◌, true, OnOk, OnErr};
 ghost use Rattle.h263_outside.specs.Desk.{appended, GainsFront, Rose, OnlyWrites};
 ghost use Rattle.h263_outside.specs.declared.desk.Role.TheVariants.{Pictures};
-ghost use Rattle.h263_planes.specs.Layout.{width_in, height_in};
 ghost use Rattle.h263_planes.specs.Lent.{picture as lent};
-ghost use Rattle.h263_planes.specs.Samples.{plane_of, bytes_of};
 ghost use Rattle.y4m.specs.Text.{head_text, mark_text, frame_text};
 
 use h263_outside::{Desk, Failed, Role, write_all};
-use h263_planes::{PictureRef, Plane};
+use h263_planes::PictureRef;
 use h263_types::{Format, Mark};
 
 fn head_line(format: Format) -> &'static [u8]
@@ -31,45 +29,6 @@ fn mark_line(mark: Mark) -> &'static [u8]
     }
 }
 
-// Samples in a row of a plane, and the rows.
-fn plane_size(format: Format, plane: Plane) -> (u32, u32)
-    ensures columns { result.0 ≡ width_in format plane }
-    ensures rows { result.1 ≡ height_in format plane }
-{
-    match plane {
-        Plane::Y => (format.width(), format.height()),
-        _ => (format.width() / 2, format.height() / 2),
-    }
-}
-
-// Writes a plane row by row.
-fn write_plane<D: Desk>(desk: &mut D, picture: &PictureRef<'_>, plane: Plane) -> Result<(), Failed>
-    requires { (D.outside desk.old).attached Pictures ≡ true }
-    ensures text { OnOk result ((D.outside desk.new).written ≡ appended (D.outside desk.old).written Pictures (plane_of (lent picture.now) plane)) }
-    ensures prefix { OnErr result (GainsFront Pictures (plane_of (lent picture.now) plane) (D.outside desk.old).written (D.outside desk.new).written) }
-    ensures cause { OnErr result (Rose (D.outside desk.old).faults.write (D.outside desk.new).faults.write) }
-    ensures rest { OnlyWrites (D.outside desk.old) (D.outside desk.new) }
-{
-    let (columns, rows) = plane_size(picture.format(), plane);
-    for y in 0..rows {
-        write_all(desk, Role::Pictures, picture.row(plane, 0, y, columns))?;
-    }
-    Ok(())
-}
-
-// Writes the planes Y, Cb and Cr.
-fn write_planes<D: Desk>(desk: &mut D, picture: &PictureRef<'_>) -> Result<(), Failed>
-    requires { (D.outside desk.old).attached Pictures ≡ true }
-    ensures text { OnOk result ((D.outside desk.new).written ≡ appended (D.outside desk.old).written Pictures (bytes_of (lent picture.now))) }
-    ensures prefix { OnErr result (GainsFront Pictures (bytes_of (lent picture.now)) (D.outside desk.old).written (D.outside desk.new).written) }
-    ensures cause { OnErr result (Rose (D.outside desk.old).faults.write (D.outside desk.new).faults.write) }
-    ensures rest { OnlyWrites (D.outside desk.old) (D.outside desk.new) }
-{
-    write_plane(desk, picture, Plane::Y)?;
-    write_plane(desk, picture, Plane::Cb)?;
-    write_plane(desk, picture, Plane::Cr)
-}
-
 /// Writes the line that pictures of a format begin with. After `Failed` some front of it was written.
 pub fn write_head<D: Desk>(desk: &mut D, format: Format) -> Result<(), Failed>
     requires { (D.outside desk.old).attached Pictures ≡ true }
@@ -90,5 +49,5 @@ pub fn write_frame<D: Desk>(desk: &mut D, mark: Mark, picture: PictureRef<'_>) -
     ensures rest { OnlyWrites (D.outside desk.old) (D.outside desk.new) }
 {
     write_all(desk, Role::Pictures, mark_line(mark))?;
-    write_planes(desk, &picture)
+    write_all(desk, Role::Pictures, picture.bytes())
 }

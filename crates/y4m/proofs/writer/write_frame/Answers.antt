@@ -18,6 +18,8 @@ returns-clause-prefix g c =
     let planes = bytes_of (lent c.args.picture) in
     let old = (g.D.Desk.outside c.args.desk.now).written in
     let middle = (g.D.Desk.outside c.write_all.new.desk).written in
-    let new = (g.D.Desk.outside c.write_planes.new.desk).written in
+    let new = (g.D.Desk.outside c.write_all-2.new.desk).written in
     let line : middle ≡ appended old Pictures (mark_text c.args.mark) = c.in_ok-write_all.ensures.ok ∙ ap (λ (l : List ℕ). appended old Pictures l) c.mark_line.ensures in
-    on_err_weaker c.write_planes.result (λ (f : GainsFront Pictures planes middle new). front_second Pictures (mark_text c.args.mark) planes old middle new line f) c.write_planes.ensures.prefix
+    on_err_weaker c.write_all-2.result
+    (λ (f : GainsFront Pictures c.bytes.result.now middle new). front_second Pictures (mark_text c.args.mark) planes old middle new line (subst (λ (l : List ℕ). GainsFront Pictures l middle new) c.bytes.ensures f))
+    c.write_all-2.ensures.err
