@@ -6,4 +6,3 @@ pub mod ForwardRows
 pub mod Steps
 pub mod Results
 pub mod Zeros
-pub mod Sizes

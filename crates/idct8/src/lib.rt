@@ -4,11 +4,9 @@
 
 pub mod laws;
 mod passes;
-mod sparse;
 mod terms;
 mod two_passes;
 
-pub use sparse::forward_from;
 pub use two_passes::{forward, inverse};
 
 #[cfg(test)]

@@ -45,7 +45,7 @@ fn transform(block: &[i16; 64], direction: Direction, out: &mut [i32; 64])
 
 // The first pass, over each column.
 #[inline(always)]
-pub(crate) fn columns(block: &[i16; 64], direction: Direction, mid: &mut [i32; 64])
+fn columns(block: &[i16; 64], direction: Direction, mid: &mut [i32; 64])
     requires { All (Within (2 ^ 12)) block.now }
     ensures sums { (r i : ℕ) → r < 8 → i < 8 → entry mid.new r i ≡ column_sums direction block.now r i }
     ensures small { (r i : ℕ) → r < 8 → i < 8 → Within (2 ^ 27) (entry mid.new r i) }
@@ -104,7 +104,7 @@ fn rows(mid: &[i32; 64], direction: Direction, out: &mut [i32; 64])
 }
 
 #[inline(always)]
-pub(crate) fn row(mid: &[i32; 64], r: usize, direction: Direction) -> [i64; 8]
+fn row(mid: &[i32; 64], r: usize, direction: Direction) -> [i64; 8]
     requires r { r < 8 }
     requires small { (r i : ℕ) → r < 8 → i < 8 → Within (2 ^ 27) (entry mid.now r i) }
     ensures sums { (k : ℕ) → k < 8 → slice_index_or result k (pos 0) ≡ row_sums direction mid.now r k }
@@ -136,7 +136,7 @@ fn sum(mid: &[i32; 64], r: usize, i: usize) -> i64
 
 // z / 2^25, rounded to the nearest.
 #[inline(always)]
-pub(crate) fn nearest(z: i64) -> i32
+fn nearest(z: i64) -> i32
     requires { Within (2 ^ 46) z }
     ensures { result ≡ rounded z }
 {
