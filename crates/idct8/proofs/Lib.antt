@@ -1,8 +1,10 @@
 pub mod Sums
 pub mod Wraps
 pub mod Factors
-pub mod InverseRows
-pub mod ForwardRows
 pub mod Steps
 pub mod Results
 pub mod Zeros
+pub mod Vectors
+pub mod Rotations
+pub mod Shifts
+pub mod Weaving

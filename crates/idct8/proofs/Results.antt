@@ -8,9 +8,13 @@ use Rattle.idct8.specs.declared.passes.Direction.TheVariants.{Inverse, Forward}
 use Rattle.idct8.specs.Sums.{sum_below}
 use Rattle.idct8.specs.Ranges.{IsSample, Within}
 use Rattle.idct8.specs.Transform.{entry, rounded, inverse_at, forward_at}
-use Rattle.idct8.specs.Passes.{factor, column_sums}
+use Rattle.idct8.specs.Passes.{factor}
 use Rattle.idct8.proofs.Sums.{same_sum, factor_sum, times_assoc}
 use Rattle.idct8.proofs.Factors.{within_pass, within_same}
+
+-- sum r over column i of a block
+abbrev column_sums : Direction → List ℤ → ℕ → ℕ → ℤ
+column_sums d block r i = sum_below 8 (λ j. factor d j r *ℤ entry block j i)
 
 -- the double sum over a block of numbers from -b to b
 double_small : (d : Direction) (b : ℕ) (c : List ℤ) (r k : ℕ) → r < 8 → k < 8 → ((j i : ℕ) → j < 8 → i < 8 → Within b (entry c j i)) →

@@ -1,41 +1,59 @@
--- The steps of the loops that fill a block, and the two passes together.
-use Rattle.std.proofs.Common.{◌≡◌, ℕ, ◌+◌, ◌*◌, ◌<◌, ◌≢◌, ℤ, pos, ◌*ℤ◌, arith, ap, ◌∙◌, sym, subst, slice_set, List, length, below_more, get_or-set_same, get_or-set_other}
+-- The two passes together.
+use Rattle.std.proofs.Common.{◌≡◌, ℕ, zero, suc, ◌<◌, ℤ, pos, ◌+ℤ◌, ◌*ℤ◌, arith, refl, ap, ◌∙◌, sym, List}
+use Rattle.std.proofs.lemmas.Int.{ints}
+use Rattle.std.proofs.Math.IntN.{*ℤ_comm}
 use Rattle.idct8.specs.declared.passes.Direction.{Direction}
 use Rattle.idct8.specs.Sums.{sum_below}
 use Rattle.idct8.specs.Transform.{entry, rounded}
-use Rattle.idct8.specs.Passes.{factor, column_sums, row_sums, transform_at}
-use Rattle.idct8.proofs.Sums.{same_sum, factor_sum, times_assoc}
+use Rattle.idct8.specs.Passes.{factor, pass_at, row_sums, transform_at}
+use Rattle.idct8.specs.Vectors.{lane}
+use Rattle.idct8.proofs.Sums.{same_sum, factor_sum, times_sum, times_assoc}
 
--- one more number is put into a block, in row r of column i; the columns before i are done
-pub column_step : (Q : ℕ → ℕ → ℤ → Type 0) (mid : List ℤ) (r i : ℕ) (v : ℤ) → 8 * r + i < length mid → i < 8 → Q r i v →
-    ((j k : ℕ) → j < 8 → k < i → Q j k (entry mid j k)) → ((j : ℕ) → j < r → Q j i (entry mid j i)) →
-    ((j k : ℕ) → j < 8 → k < i → Q j k (entry (slice_set mid (8 * r + i) v) j k)) × ((j : ℕ) → j < r + 1 → Q j i (entry (slice_set mid (8 * r + i) v) j i))
-column_step Q mid r i v room hi hv before above = (
-  λ j k hj hk. let other : 8 * j + k ≢ 8 * r + i = omega arith in
-      subst (λ (z : ℤ). Q j k z) (sym (get_or-set_other mid (8 * r + i) (8 * j + k) v (pos 0) other)) (before j k hj hk),
-  below_more (λ j. Q j i (entry (slice_set mid (8 * r + i) v) j i)) r
-      (λ j hj. let other : 8 * j + i ≢ 8 * r + i = omega arith in
-      subst (λ (z : ℤ). Q j i z) (sym (get_or-set_other mid (8 * r + i) (8 * j + i) v (pos 0) other)) (above j hj))
-      (subst (λ (z : ℤ). Q r i z) (sym (get_or-set_same mid (8 * r + i) v (pos 0) room)) hv),
-)
+-- two sums of as many terms
+four_turned : (a b x y : ℤ) → a +ℤ b +ℤ (x +ℤ y) ≡ a +ℤ x +ℤ (b +ℤ y)
+four_turned a b x y = omega (arith, ints)
 
--- one more number is put into a block, in column x of row y
-pub row_step : (f : ℕ → ℕ → ℤ) (out : List ℤ) (y x : ℕ) (v : ℤ) → 8 * y + x < length out → x < 8 → v ≡ f y x →
-    ((j k : ℕ) → j < y → k < 8 → entry out j k ≡ f j k) → ((k : ℕ) → k < x → entry out y k ≡ f y k) →
-    ((j k : ℕ) → j < y → k < 8 → entry (slice_set out (8 * y + x) v) j k ≡ f j k) × ((k : ℕ) → k < x + 1 → entry (slice_set out (8 * y + x) v) y k ≡ f y k)
-row_step f out y x v room hx hv above before = (
-  λ j k hj hk. let other : 8 * j + k ≢ 8 * y + x = omega arith in get_or-set_other out (8 * y + x) (8 * j + k) v (pos 0) other ∙ above j k hj hk,
-  below_more (λ k. entry (slice_set out (8 * y + x) v) y k ≡ f y k) x
-      (λ k hk. let other : 8 * y + k ≢ 8 * y + x = omega arith in get_or-set_other out (8 * y + x) (8 * y + k) v (pos 0) other ∙ before k hk)
-      (get_or-set_same out (8 * y + x) v (pos 0) room ∙ hv),
-)
+pub sums_added : (n : ℕ) (f g : ℕ → ℤ) → sum_below n f +ℤ sum_below n g ≡ sum_below n (λ k. f k +ℤ g k)
+unfolding sum_below
+sums_added zero f g = refl
+sums_added (suc n) f g = four_turned (sum_below n f) (f n) (sum_below n g) (g n) ∙ ap (λ s. s +ℤ (f n +ℤ g n)) (sums_added n f g)
+
+zeros : (n : ℕ) → sum_below n (λ k. pos 0) ≡ pos 0
+unfolding sum_below
+zeros zero = refl
+zeros (suc n) = ap (λ s. s +ℤ pos 0) (zeros n)
+
+-- a double sum either way round
+pub sums_turned : (m n : ℕ) (f : ℕ → ℕ → ℤ) → sum_below m (λ i. sum_below n (λ j. f i j)) ≡ sum_below n (λ j. sum_below m (λ i. f i j))
+unfolding sum_below
+sums_turned zero n f = sym (zeros n)
+sums_turned (suc m) n f = ap (λ s. s +ℤ sum_below n (λ j. f m j)) (sums_turned m n f) ∙ sums_added n (λ j. sum_below m (λ i. f i j)) (λ j. f m j)
+
+pub same_rounded : {h l h' l' : ℤ} → h ≡ h' → l ≡ l' → rounded (pos 8192 *ℤ h +ℤ l) ≡ rounded (pos 8192 *ℤ h' +ℤ l')
+same_rounded e f = cc (e, f)
+
+-- a pass over sums in two parts
+pub passes_of_parts : (d : Direction) (h l : List ℤ) (f : ℕ → ℤ) (r : ℕ) → ((j : ℕ) → j < 8 → f j ≡ pos 8192 *ℤ lane h j +ℤ lane l j) →
+    pos 8192 *ℤ pass_at d h r +ℤ pass_at d l r ≡ sum_below 8 (λ j. factor d j r *ℤ f j)
+passes_of_parts d h l f r e =
+    ap (λ s. s +ℤ pass_at d l r) (factor_sum (pos 8192) 8 (λ j. factor d j r *ℤ lane h j))
+    ∙ sums_added 8 (λ j. pos 8192 *ℤ (factor d j r *ℤ lane h j)) (λ j. factor d j r *ℤ lane l j)
+    ∙ same_sum 8 _ _ (λ j hj. one_term (factor d j r) (lane h j) (lane l j) ∙ ap (λ z. factor d j r *ℤ z) (sym (e j hj)))
+  where
+    one_term : (m a b : ℤ) → pos 8192 *ℤ (m *ℤ a) +ℤ m *ℤ b ≡ m *ℤ (pos 8192 *ℤ a +ℤ b)
+    one_term m a b = ap (λ s. s +ℤ m *ℤ b) (times_assoc (pos 8192) m a ∙ ap (λ s. s *ℤ a) (*ℤ_comm (pos 8192) m) ∙ sym (times_assoc m (pos 8192) a)) ∙ sym (times_sum m (pos 8192 *ℤ a) b)
 
 -- the two passes are the double sum
-pub passes_are : (d : Direction) (c mid : List ℤ) (r k : ℕ) → r < 8 → ((j i : ℕ) → j < 8 → i < 8 → entry mid j i ≡ column_sums d c j i) →
-    rounded (row_sums d mid r k) ≡ transform_at d c r k
-passes_are d c mid r k hr sums =
+pub passes_are : (d : Direction) (c : List ℤ) (f : ℕ → ℤ) (r k : ℕ) → ((j : ℕ) → j < 8 → f j ≡ row_sums d c j k) →
+    rounded (sum_below 8 (λ j. factor d j r *ℤ f j)) ≡ transform_at d c r k
+passes_are d c f r k sums =
     ap rounded
-    (same_sum 8 (λ i. factor d i k *ℤ entry mid r i) (λ i. sum_below 8 (λ j. factor d i k *ℤ factor d j r *ℤ entry c j i))
-    (λ i hi. ap (λ z. factor d i k *ℤ z) (sums r i hr hi)
-    ∙ factor_sum (factor d i k) 8 (λ j. factor d j r *ℤ entry c j i)
-    ∙ same_sum 8 _ _ (λ j hj. times_assoc (factor d i k) (factor d j r) (entry c j i))))
+    (same_sum 8 (λ j. factor d j r *ℤ f j) (λ j. sum_below 8 (λ i. factor d i k *ℤ factor d j r *ℤ entry c j i))
+    (λ j hj. ap (λ z. factor d j r *ℤ z) (sums j hj)
+    ∙ factor_sum (factor d j r) 8 (λ i. factor d i k *ℤ entry c j i)
+    ∙ same_sum 8 _ _ (λ i hi. times_assoc (factor d j r) (factor d i k) (entry c j i) ∙ ap (λ z. z *ℤ entry c j i) (*ℤ_comm (factor d j r) (factor d i k))))
+    ∙ sums_turned 8 8 (λ j i. factor d i k *ℤ factor d j r *ℤ entry c j i))
+
+-- the sums of a row
+pub row_terms : (d : Direction) (v c : List ℤ) (j k : ℕ) → ((i : ℕ) → i < 8 → lane v i ≡ entry c j i) → pass_at d v k ≡ row_sums d c j k
+row_terms d v c j k e = same_sum 8 (λ i. factor d i k *ℤ lane v i) (λ i. factor d i k *ℤ entry c j i) (λ i hi. ap (λ z. factor d i k *ℤ z) (e i hi))

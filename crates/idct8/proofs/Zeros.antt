@@ -1,5 +1,5 @@
 -- A transform of zeros.
-use Rattle.std.proofs.Common.{◌≡◌, ℕ, ◌+◌, ◌*◌, ◌<◌, zero, suc, ℤ, pos, ◌+ℤ◌, ◌*ℤ◌, List, slice_index_or, arith, refl, ap, ◌∙◌}
+use Rattle.std.proofs.Common.{◌≡◌, ℕ, ◌+◌, ◌*◌, ◌<◌, zero, suc, ℤ, pos, ◌*ℤ◌, List, slice_index_or, arith, refl, ap, ◌∙◌}
 use Rattle.std.proofs.lemmas.Int.{ints}
 use Rattle.idct8.specs.Sums.{sum_below}
 use Rattle.idct8.specs.Basis.{basis}

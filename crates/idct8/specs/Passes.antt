@@ -1,10 +1,15 @@
 -- The transforms in two passes, both in one form.
-use Rattle.std.specs.Prelude.{ℕ, ℤ, pos, ◌*ℤ◌, List, slice_index_or}
+use Rattle.std.specs.Prelude.{Bool, true, false, ℕ, ℤ, pos, ◌*ℤ◌, List, slice_index_or}
 use Rattle.idct8.specs.declared.passes.Direction.{Direction}
 use Rattle.idct8.specs.declared.passes.Direction.TheVariants.{Inverse, Forward}
 use Rattle.idct8.specs.Sums.{sum_below}
 use Rattle.idct8.specs.Basis.{basis}
 use Rattle.idct8.specs.Transform.{entry, rounded}
+
+-- whether it is the forward one
+abbrev pub direction_of : Bool → Direction
+direction_of false = Inverse
+direction_of true = Forward
 
 -- the factor of term i in sum k of a pass
 abbrev pub factor : Direction → ℕ → ℕ → ℤ
@@ -15,13 +20,9 @@ factor Forward i k = basis k i
 abbrev pub pass_at : Direction → List ℤ → ℕ → ℤ
 pass_at d c k = sum_below 8 (λ i. factor d i k *ℤ slice_index_or c i (pos 0))
 
--- sum r of the pass over column i of a block
-abbrev pub column_sums : Direction → List ℤ → ℕ → ℕ → ℤ
-column_sums d block r i = sum_below 8 (λ j. factor d j r *ℤ entry block j i)
-
--- sum k of the pass over row r of what the columns gave
+-- sum k of the pass over row r of a block
 abbrev pub row_sums : Direction → List ℤ → ℕ → ℕ → ℤ
-row_sums d mid r k = sum_below 8 (λ i. factor d i k *ℤ entry mid r i)
+row_sums d block r k = sum_below 8 (λ i. factor d i k *ℤ entry block r i)
 
 -- the number in column k of row r of a block's transform
 abbrev pub transform_at : Direction → List ℤ → ℕ → ℕ → ℤ

@@ -3,8 +3,10 @@
 #![tactic(auto)]
 
 pub mod laws;
+mod parts;
 mod passes;
 mod terms;
+mod turns;
 mod two_passes;
 
 pub use two_passes::{forward, inverse};

@@ -1,93 +1,92 @@
-//! Sums of products, and sums with differences.
-ghost use Rattle.std.specs.Prelude.{◌≡◌, ◌^◌, ◌+ℤ◌, ◌-ℤ◌, ◌*ℤ◌};
+//! Sums of products, and sums with differences, of eight numbers at once.
+ghost use Rattle.std.specs.Prelude.{◌≡◌, ℕ, ◌^◌, ◌<◌, ℤ, ◌+ℤ◌, ◌-ℤ◌, ◌*ℤ◌};
 ghost use Rattle.idct8.specs.Ranges.{Within};
+ghost use Rattle.idct8.specs.Vectors.{lane, EightWithin};
 
-#[inline(always)]
-fn product(m: i64, c: i64) -> i64
-    requires m { Within (2 ^ 12) m }
-    requires c { Within (2 ^ 32) c }
-    ensures value { result ≡ m *ℤ c }
-    ensures size { Within (2 ^ 44) result }
-{
-    m * c
-}
+use std::simd::prelude::*;
 
-// The sum of two products.
+// The two sums of two products that a rotation gives.
 #[inline(always)]
-pub(crate) fn two(m0: i64, c0: i64, m1: i64, c1: i64) -> i64
+pub(crate) fn rotated(m0: i32, a: i16x8, m1: i32, b: i16x8) -> (i32x8, i32x8)
     requires m0 { Within (2 ^ 12) m0 }
     requires m1 { Within (2 ^ 12) m1 }
-    requires c0 { Within (2 ^ 32) c0 }
-    requires c1 { Within (2 ^ 32) c1 }
-    ensures value { result ≡ m0 *ℤ c0 +ℤ m1 *ℤ c1 }
-    ensures size { Within (2 ^ 45) result }
+    requires a { EightWithin 32767 a }
+    requires b { EightWithin 32767 b }
+    ensures first { (i : ℕ) → i < 8 → lane result.0 i ≡ m0 *ℤ lane a i +ℤ m1 *ℤ lane b i }
+    ensures second { (i : ℕ) → i < 8 → lane result.1 i ≡ m1 *ℤ lane a i -ℤ m0 *ℤ lane b i }
+    ensures first_size { EightWithin (2 ^ 28) result.0 }
+    ensures second_size { EightWithin (2 ^ 28) result.1 }
 {
-    product(m0, c0) + product(m1, c1)
-}
-
-// The sum of four products.
-#[inline(always)]
-pub(crate) fn dot(m0: i64, c0: i64, m1: i64, c1: i64, m2: i64, c2: i64, m3: i64, c3: i64) -> i64
-    requires m0 { Within (2 ^ 12) m0 }
-    requires m1 { Within (2 ^ 12) m1 }
-    requires m2 { Within (2 ^ 12) m2 }
-    requires m3 { Within (2 ^ 12) m3 }
-    requires c0 { Within (2 ^ 32) c0 }
-    requires c1 { Within (2 ^ 32) c1 }
-    requires c2 { Within (2 ^ 32) c2 }
-    requires c3 { Within (2 ^ 32) c3 }
-    ensures value { result ≡ m0 *ℤ c0 +ℤ m1 *ℤ c1 +ℤ m2 *ℤ c2 +ℤ m3 *ℤ c3 }
-    ensures size { Within (2 ^ 46) result }
-{
-    two(m0, c0, m1, c1) + two(m2, c2, m3, c3)
-}
-
-// The sum and the difference of two inputs.
-#[inline(always)]
-pub(crate) fn pair(a: i64, b: i64) -> (i64, i64)
-    requires a { Within (2 ^ 30) a }
-    requires b { Within (2 ^ 30) b }
-    ensures sum { result.0 ≡ a +ℤ b }
-    ensures difference { result.1 ≡ a -ℤ b }
-    ensures sum_size { Within (2 ^ 31) result.0 }
-    ensures difference_size { Within (2 ^ 32) result.1 }
-{
-    (a + b, a - b)
-}
-
-// The sum and the difference of two sums of two inputs.
-#[inline(always)]
-pub(crate) fn pair_of_sums(a: i64, b: i64) -> (i64, i64)
-    requires a { Within (2 ^ 31) a }
-    requires b { Within (2 ^ 31) b }
-    ensures sum { result.0 ≡ a +ℤ b }
-    ensures difference { result.1 ≡ a -ℤ b }
-    ensures sum_size { Within (2 ^ 32) result.0 }
-    ensures difference_size { Within (2 ^ 32) result.1 }
-{
-    (a + b, a - b)
+    let x: i32x8 = a.cast();
+    let y: i32x8 = b.cast();
+    let m0 = i32x8::splat(m0);
+    let m1 = i32x8::splat(m1);
+    (x * m0 + y * m1, x * m1 - y * m0)
 }
 
 // The sum and the difference of two sums of two products.
 #[inline(always)]
-pub(crate) fn halves(a: i64, b: i64) -> (i64, i64)
-    requires a { Within (2 ^ 45) a }
-    requires b { Within (2 ^ 45) b }
-    ensures sum { result.0 ≡ a +ℤ b }
-    ensures difference { result.1 ≡ a -ℤ b }
-    ensures sum_size { Within (2 ^ 46) result.0 }
-    ensures difference_size { Within (2 ^ 46) result.1 }
+pub(crate) fn halves(a: i32x8, b: i32x8) -> (i32x8, i32x8)
+    requires a { EightWithin (2 ^ 28) a }
+    requires b { EightWithin (2 ^ 28) b }
+    ensures sum { (i : ℕ) → i < 8 → lane result.0 i ≡ lane a i +ℤ lane b i }
+    ensures difference { (i : ℕ) → i < 8 → lane result.1 i ≡ lane a i -ℤ lane b i }
+    ensures sum_size { EightWithin (2 ^ 29) result.0 }
+    ensures difference_size { EightWithin (2 ^ 29) result.1 }
 {
     (a + b, a - b)
 }
 
-// The sum and the difference of two sums of four products.
+// Two mirrored sums: of an even half and the two parts of an odd one.
 #[inline(always)]
-pub(crate) fn mirrored(even: i64, odd: i64) -> (i64, i64)
-    requires even { Within (2 ^ 46) even }
-    requires odd { Within (2 ^ 46) odd }
-    ensures sum { result.0 ≡ even +ℤ odd }
-    ensures difference { result.1 ≡ even -ℤ odd }
+pub(crate) fn mirrored(even: i32x8, a: i32x8, b: i32x8) -> (i32x8, i32x8)
+    requires even { EightWithin (2 ^ 29) even }
+    requires a { EightWithin (2 ^ 28) a }
+    requires b { EightWithin (2 ^ 28) b }
+    ensures sum { (i : ℕ) → i < 8 → lane result.0 i ≡ lane even i +ℤ lane a i +ℤ lane b i }
+    ensures difference { (i : ℕ) → i < 8 → lane result.1 i ≡ lane even i -ℤ lane a i -ℤ lane b i }
+    ensures sum_size { EightWithin (2 ^ 30) result.0 }
+    ensures difference_size { EightWithin (2 ^ 30) result.1 }
 {
-    (even + odd, even - odd)
+    (even + a + b, even - a - b)
+}
+
+// The same with the second part taken away.
+#[inline(always)]
+pub(crate) fn mirrored_less(even: i32x8, a: i32x8, b: i32x8) -> (i32x8, i32x8)
+    requires even { EightWithin (2 ^ 29) even }
+    requires a { EightWithin (2 ^ 28) a }
+    requires b { EightWithin (2 ^ 28) b }
+    ensures sum { (i : ℕ) → i < 8 → lane result.0 i ≡ lane even i +ℤ lane a i -ℤ lane b i }
+    ensures difference { (i : ℕ) → i < 8 → lane result.1 i ≡ lane even i -ℤ lane a i +ℤ lane b i }
+    ensures sum_size { EightWithin (2 ^ 30) result.0 }
+    ensures difference_size { EightWithin (2 ^ 30) result.1 }
+{
+    (even + a - b, even - a + b)
+}
+
+// The sums and the differences of two inputs.
+#[inline(always)]
+pub(crate) fn pair(a: i16x8, b: i16x8) -> (i16x8, i16x8)
+    requires a { EightWithin 8191 a }
+    requires b { EightWithin 8191 b }
+    ensures sum { (i : ℕ) → i < 8 → lane result.0 i ≡ lane a i +ℤ lane b i }
+    ensures difference { (i : ℕ) → i < 8 → lane result.1 i ≡ lane a i -ℤ lane b i }
+    ensures sum_size { EightWithin 16382 result.0 }
+    ensures difference_size { EightWithin 16382 result.1 }
+{
+    (a + b, a - b)
+}
+
+// The sums and the differences of two sums of two inputs.
+#[inline(always)]
+pub(crate) fn pair_of_sums(a: i16x8, b: i16x8) -> (i16x8, i16x8)
+    requires a { EightWithin 16382 a }
+    requires b { EightWithin 16382 b }
+    ensures sum { (i : ℕ) → i < 8 → lane result.0 i ≡ lane a i +ℤ lane b i }
+    ensures difference { (i : ℕ) → i < 8 → lane result.1 i ≡ lane a i -ℤ lane b i }
+    ensures sum_size { EightWithin 32767 result.0 }
+    ensures difference_size { EightWithin 32767 result.1 }
+{
+    (a + b, a - b)
 }

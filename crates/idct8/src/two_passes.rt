@@ -1,13 +1,18 @@
-//! The transforms in two passes: the columns of the block, then the rows of what they give. Between the passes stand
+//! The transforms in two passes: the rows of the block, then the columns of what they give. Between the passes stand
 //! exact numbers; only the end is rounded.
-ghost use Rattle.std.specs.Prelude.{◌≡◌, ℕ, ◌^◌, ◌<◌, pos, slice_index_or, All};
+ghost use Rattle.std.specs.Prelude.{◌≡◌, ℕ, ◌*◌, ◌^◌, ◌<◌, pos, ◌+ℤ◌, ◌*ℤ◌, slice_index_or, All};
 ghost use Rattle.h263_types.specs.Blocks.{IsCoefficient, IsValue};
 ghost use Rattle.idct8.specs.Ranges.{IsSample, Within};
 ghost use Rattle.idct8.specs.Transform.{entry, forward_at, inverse_at, rounded};
-ghost use Rattle.idct8.specs.Passes.{column_sums, row_sums, transform_at};
+ghost use Rattle.idct8.specs.Passes.{direction_of, pass_at, row_sums, transform_at};
+ghost use Rattle.std.specs.Simd.Lanes.{put_chunk};
+ghost use Rattle.idct8.specs.Vectors.{lane, EightWithin, RowsWithin, SumsWithin, row_at, sum_at};
 ghost use Rattle.idct8.specs.declared.passes.Direction.TheVariants.{Inverse, Forward};
 
-use crate::passes::{Direction, pass};
+use crate::parts::{nearest, split};
+use crate::passes::{Direction, Rows, Sums, pass};
+use crate::turns::transposed;
+use std::simd::prelude::*;
 
 /// The inverse transform of a block of values, by rows: column u of row v has the value of the frequencies u across
 /// and v down, -2048 to 2047. It gives a block by rows, each number within 32,768 of 0.
@@ -17,7 +22,7 @@ pub fn inverse(values: &[i16; 64]) -> [i32; 64]
     ensures range { (y x : ℕ) → y < 8 → x < 8 → Within (2 ^ 15) (entry result y x) }
 {
     let mut samples = [0; 64];
-    transform(values, Direction::Inverse, &mut samples);
+    transform::<false>(values, &mut samples);
     samples
 }
 
@@ -29,116 +34,117 @@ pub fn forward(samples: &[i16; 64]) -> [i32; 64]
     ensures range { (v u : ℕ) → v < 8 → u < 8 → IsCoefficient (entry result v u) }
 {
     let mut coefficients = [0; 64];
-    transform(samples, Direction::Forward, &mut coefficients);
+    transform::<true>(samples, &mut coefficients);
     coefficients
 }
 
+// Each of the two transforms has a copy of its own, in which the direction is known.
 #[inline(always)]
-fn transform(block: &[i16; 64], direction: Direction, out: &mut [i32; 64])
-    requires { All (Within (2 ^ 12)) block.now }
-    ensures { (r k : ℕ) → r < 8 → k < 8 → entry out.new r k ≡ transform_at direction block.now r k }
+fn transform<const FORWARD: bool>(block: &[i16; 64], out: &mut [i32; 64])
+    requires { All (Within (2 ^ 11)) block.now }
+    ensures { (r k : ℕ) → r < 8 → k < 8 → entry out.new r k ≡ transform_at (direction_of FORWARD) block.now r k }
 {
-    let mut mid = [0; 64];
-    columns(block, direction, &mut mid);
-    rows(&mid, direction, out);
+    let direction = direction::<FORWARD>();
+    let (high, low) = split(row_pass(block, direction));
+    let high = turned_pass(direction, high);
+    let low = turned_pass(direction, low);
+    round(high, low, out);
 }
 
-// The first pass, over each column.
 #[inline(always)]
-fn columns(block: &[i16; 64], direction: Direction, mid: &mut [i32; 64])
-    requires { All (Within (2 ^ 12)) block.now }
-    ensures sums { (r i : ℕ) → r < 8 → i < 8 → entry mid.new r i ≡ column_sums direction block.now r i }
-    ensures small { (r i : ℕ) → r < 8 → i < 8 → Within (2 ^ 27) (entry mid.new r i) }
+fn direction<const FORWARD: bool>() -> Direction
+    ensures { result ≡ direction_of FORWARD }
 {
-    for i in 0..8 {
-        let sums = column(block, i, direction);
-        for r in 0..8 {
-            mid[8 * r + i] = sums[r] as i32;
-        }
+    if FORWARD {
+        Direction::Forward
+    } else {
+        Direction::Inverse
+    }
+}
+
+// The first pass, over each row of the block: lane j of sum k is sum k of row j.
+#[inline(always)]
+fn row_pass(block: &[i16; 64], direction: Direction) -> Sums
+    requires { All (Within (2 ^ 11)) block.now }
+    ensures sums { (k j : ℕ) → k < 8 → j < 8 → lane (sum_at result k) j ≡ row_sums direction block.now j k }
+    ensures size { SumsWithin 46546944 result }
+{
+    turned_pass(direction, rows(block))
+}
+
+// A pass over each of eight rows: lane j of sum k is sum k of row j.
+#[inline(always)]
+fn turned_pass(direction: Direction, r: Rows) -> Sums
+    requires { RowsWithin 8191 r }
+    ensures sums { (k j : ℕ) → k < 8 → j < 8 → lane (sum_at result k) j ≡ pass_at direction (row_at r j) k }
+    ensures size { SumsWithin (2 ^ 30) result }
+{
+    pass(direction, transposed(r))
+}
+
+#[inline(always)]
+fn rows(block: &[i16; 64]) -> Rows
+    requires { All (Within (2 ^ 11)) block.now }
+    ensures numbers { (j i : ℕ) → j < 8 → i < 8 → lane (row_at result j) i ≡ entry block.now j i }
+    ensures size { RowsWithin 8191 result }
+{
+    Rows {
+        r0: row(block, 0),
+        r1: row(block, 1),
+        r2: row(block, 2),
+        r3: row(block, 3),
+        r4: row(block, 4),
+        r5: row(block, 5),
+        r6: row(block, 6),
+        r7: row(block, 7),
     }
 }
 
 #[inline(always)]
-fn column(block: &[i16; 64], i: usize, direction: Direction) -> [i64; 8]
-    requires i { i < 8 }
-    requires block { All (Within (2 ^ 12)) block.now }
-    ensures sums { (r : ℕ) → r < 8 → slice_index_or result r (pos 0) ≡ column_sums direction block.now r i }
-    ensures small { (r : ℕ) → r < 8 → Within (2 ^ 27) (slice_index_or result r (pos 0)) }
-{
-    pass(
-        direction,
-        number(block, 0, i),
-        number(block, 1, i),
-        number(block, 2, i),
-        number(block, 3, i),
-        number(block, 4, i),
-        number(block, 5, i),
-        number(block, 6, i),
-        number(block, 7, i),
-    )
-}
-
-#[inline(always)]
-fn number(block: &[i16; 64], j: usize, i: usize) -> i64
+fn row(block: &[i16; 64], j: usize) -> i16x8
     requires j { j < 8 }
-    requires i { i < 8 }
-    requires block { All (Within (2 ^ 12)) block.now }
-    ensures value { result ≡ entry block.now j i }
-    ensures size { Within (2 ^ 12) result }
+    requires block { All (Within (2 ^ 11)) block.now }
+    ensures numbers { (i : ℕ) → i < 8 → lane result i ≡ entry block.now j i }
+    ensures size { EightWithin 8191 result }
 {
-    i64::from(block[8 * j + i])
+    i16x8::from_slice(&block[8 * j..])
 }
 
-// The second pass, over each row, and the rounding.
 #[inline(always)]
-fn rows(mid: &[i32; 64], direction: Direction, out: &mut [i32; 64])
-    requires { (r i : ℕ) → r < 8 → i < 8 → Within (2 ^ 27) (entry mid.now r i) }
-    ensures { (r k : ℕ) → r < 8 → k < 8 → entry out.new r k ≡ rounded (row_sums direction mid.now r k) }
+fn round(high: Sums, low: Sums, out: &mut [i32; 64])
+    requires high { SumsWithin (2 ^ 30) high }
+    requires low { SumsWithin (2 ^ 30) low }
+    ensures { (r k : ℕ) → r < 8 → k < 8 → entry out.new r k ≡ rounded (pos 8192 *ℤ lane (sum_at high r) k +ℤ lane (sum_at low r) k) }
 {
     for r in 0..8 {
-        let sums = row(mid, r, direction);
-        for k in 0..8 {
-            out[8 * r + k] = nearest(sums[k]);
-        }
+        store(nearest(sum(high, r), sum(low, r)), r, out);
     }
 }
 
 #[inline(always)]
-fn row(mid: &[i32; 64], r: usize, direction: Direction) -> [i64; 8]
+fn store(v: i32x8, r: usize, out: &mut [i32; 64])
+    requires v { EightWithin 270000 v }
     requires r { r < 8 }
-    requires small { (r i : ℕ) → r < 8 → i < 8 → Within (2 ^ 27) (entry mid.now r i) }
-    ensures sums { (k : ℕ) → k < 8 → slice_index_or result k (pos 0) ≡ row_sums direction mid.now r k }
-    ensures small { (k : ℕ) → k < 8 → Within (2 ^ 46) (slice_index_or result k (pos 0)) }
+    ensures { out.new ≡ put_chunk (8 * r) out.old v }
 {
-    pass(
-        direction,
-        sum(mid, r, 0),
-        sum(mid, r, 1),
-        sum(mid, r, 2),
-        sum(mid, r, 3),
-        sum(mid, r, 4),
-        sum(mid, r, 5),
-        sum(mid, r, 6),
-        sum(mid, r, 7),
-    )
+    v.copy_to_slice(&mut out[8 * r..]);
 }
 
 #[inline(always)]
-fn sum(mid: &[i32; 64], r: usize, i: usize) -> i64
-    requires r { r < 8 }
-    requires i { i < 8 }
-    requires small { (r i : ℕ) → r < 8 → i < 8 → Within (2 ^ 27) (entry mid.now r i) }
-    ensures value { result ≡ entry mid.now r i }
-    ensures size { Within (2 ^ 27) result }
+fn sum(s: Sums, k: usize) -> i32x8
+    requires k { k < 8 }
+    requires s { SumsWithin (2 ^ 30) s }
+    ensures value { result ≡ sum_at s k }
+    ensures size { EightWithin (2 ^ 30) result }
 {
-    i64::from(mid[8 * r + i])
-}
-
-// z / 2^25, rounded to the nearest.
-#[inline(always)]
-fn nearest(z: i64) -> i32
-    requires { Within (2 ^ 46) z }
-    ensures { result ≡ rounded z }
-{
-    ((z + 0x100_0000) >> 25) as i32
+    match k {
+        0 => s.s0,
+        1 => s.s1,
+        2 => s.s2,
+        3 => s.s3,
+        4 => s.s4,
+        5 => s.s5,
+        6 => s.s6,
+        _ => s.s7,
+    }
 }

@@ -1,32 +1,161 @@
-use Rattle.std.proofs.Common.{◌≡◌, ◌∙◌, pos, neg_ℤ, slice_index_or, [], ◌∷◌, w64, to_z, of_z}
+use Rattle.std.proofs.Common.{◌≡◌, ◌^◌, ◌∙◌, lit≤, pos, [], ◌∷◌, slice_index_or, map, w32, to_z, of_z}
 use Rattle.idct8.specs.declared.passes.Direction.TheVariants.{Forward}
+use Rattle.idct8.specs.Vectors.{lane, list_at}
 use Rattle.idct8.specs.Passes.{pass_at}
 use Rattle.idct8.proofs.Sums.{below_eight}
-use Rattle.idct8.proofs.InverseRows.{plain_four, plain_two_of}
-use Rattle.idct8.proofs.ForwardRows.{wider, narrow, even_0, even_2, even_4, even_6, plain_sum, plain_difference, fits, plain, row_0, row_1, row_2, row_3, row_4, row_5, row_6, row_7}
+use Rattle.idct8.proofs.Vectors.{passed_within, passed_within16, passed_lane, passed_lane16}
+use Rattle.idct8.proofs.Rotations.{plain_sum, plain_difference, sum_of, difference_of, forward_sum_0, forward_sum_1, forward_sum_2, forward_sum_3, forward_sum_4, forward_sum_5, forward_sum_6, forward_sum_7}
 use Rattle.idct8.proofs.passes.forward_pass.Goals as goal
 
-pub returns : goal.returns
-returns c =
-    let e0 = plain_sum c.args.s0 c.args.s7 (wider c.requires.s0) (wider c.requires.s7) c.pair-p0.ensures.sum in
-    let o0 = plain_difference c.args.s0 c.args.s7 (wider c.requires.s0) (wider c.requires.s7) c.pair-p0.ensures.difference in
-    let e1 = plain_sum c.args.s1 c.args.s6 (wider c.requires.s1) (wider c.requires.s6) c.pair-p1.ensures.sum in
-    let o1 = plain_difference c.args.s1 c.args.s6 (wider c.requires.s1) (wider c.requires.s6) c.pair-p1.ensures.difference in
-    let e2 = plain_sum c.args.s2 c.args.s5 (wider c.requires.s2) (wider c.requires.s5) c.pair-p2.ensures.sum in
-    let o2 = plain_difference c.args.s2 c.args.s5 (wider c.requires.s2) (wider c.requires.s5) c.pair-p2.ensures.difference in
-    let e3 = plain_sum c.args.s3 c.args.s4 (wider c.requires.s3) (wider c.requires.s4) c.pair-p3.ensures.sum in
-    let o3 = plain_difference c.args.s3 c.args.s4 (wider c.requires.s3) (wider c.requires.s4) c.pair-p3.ensures.difference in
-    let q0 = plain_sum c.pair-p0.result.0 c.pair-p3.result.0 c.pair-p0.ensures.sum_size c.pair-p3.ensures.sum_size c.pair_of_sums-q0.ensures.sum in
-    let r0 = plain_difference c.pair-p0.result.0 c.pair-p3.result.0 c.pair-p0.ensures.sum_size c.pair-p3.ensures.sum_size c.pair_of_sums-q0.ensures.difference in
-    let q1 = plain_sum c.pair-p1.result.0 c.pair-p2.result.0 c.pair-p1.ensures.sum_size c.pair-p2.ensures.sum_size c.pair_of_sums-q1.ensures.sum in
-    let r1 = plain_difference c.pair-p1.result.0 c.pair-p2.result.0 c.pair-p1.ensures.sum_size c.pair-p2.ensures.sum_size c.pair_of_sums-q1.ensures.difference in
-    below_eight
-    (λ u. slice_index_or (to_z w64 (of_z w64 c.two.result) ∷ to_z w64 (of_z w64 c.dot.result) ∷ to_z w64 (of_z w64 c.two-2.result) ∷ to_z w64 (of_z w64 c.dot-2.result) ∷ to_z w64 (of_z w64 c.two-3.result) ∷ to_z w64 (of_z w64 c.dot-3.result) ∷ to_z w64 (of_z w64 c.two-4.result) ∷ to_z w64 (of_z w64 c.dot-4.result) ∷ []) u (pos 0) ≡ pass_at Forward (c.args.s0 ∷ c.args.s1 ∷ c.args.s2 ∷ c.args.s3 ∷ c.args.s4 ∷ c.args.s5 ∷ c.args.s6 ∷ c.args.s7 ∷ []) u)
-    (plain (narrow c.two.ensures.size) ∙ row_0 c.args.s0 c.args.s1 c.args.s2 c.args.s3 c.args.s4 c.args.s5 c.args.s6 c.args.s7 (even_0 c.pair-p0.result.0 c.pair-p1.result.0 c.pair-p2.result.0 c.pair-p3.result.0 (plain_two_of (pos 2048) c.pair_of_sums-q0.result.0 (pos 2048) c.pair_of_sums-q1.result.0 (fits c.pair_of_sums-q0.ensures.sum_size) (fits c.pair_of_sums-q1.ensures.sum_size) c.two.ensures.value) q0 q1) e0 e1 e2 e3)
-    (plain c.dot.ensures.size ∙ row_1 c.args.s0 c.args.s1 c.args.s2 c.args.s3 c.args.s4 c.args.s5 c.args.s6 c.args.s7 (plain_four (pos 2841) c.pair-p0.result.1 (pos 2408) c.pair-p1.result.1 (pos 1609) c.pair-p2.result.1 (pos 565) c.pair-p3.result.1 (fits c.pair-p0.ensures.difference_size) (fits c.pair-p1.ensures.difference_size) (fits c.pair-p2.ensures.difference_size) (fits c.pair-p3.ensures.difference_size) c.dot.ensures.value) o0 o1 o2 o3)
-    (plain (narrow c.two-2.ensures.size) ∙ row_2 c.args.s0 c.args.s1 c.args.s2 c.args.s3 c.args.s4 c.args.s5 c.args.s6 c.args.s7 (even_2 c.pair-p0.result.0 c.pair-p1.result.0 c.pair-p2.result.0 c.pair-p3.result.0 (plain_two_of (pos 2676) c.pair_of_sums-q0.result.1 (pos 1108) c.pair_of_sums-q1.result.1 (fits c.pair_of_sums-q0.ensures.difference_size) (fits c.pair_of_sums-q1.ensures.difference_size) c.two-2.ensures.value) r0 r1) e0 e1 e2 e3)
-    (plain c.dot-2.ensures.size ∙ row_3 c.args.s0 c.args.s1 c.args.s2 c.args.s3 c.args.s4 c.args.s5 c.args.s6 c.args.s7 (plain_four (pos 2408) c.pair-p0.result.1 (neg_ℤ (pos 565)) c.pair-p1.result.1 (neg_ℤ (pos 2841)) c.pair-p2.result.1 (neg_ℤ (pos 1609)) c.pair-p3.result.1 (fits c.pair-p0.ensures.difference_size) (fits c.pair-p1.ensures.difference_size) (fits c.pair-p2.ensures.difference_size) (fits c.pair-p3.ensures.difference_size) c.dot-2.ensures.value) o0 o1 o2 o3)
-    (plain (narrow c.two-3.ensures.size) ∙ row_4 c.args.s0 c.args.s1 c.args.s2 c.args.s3 c.args.s4 c.args.s5 c.args.s6 c.args.s7 (even_4 c.pair-p0.result.0 c.pair-p1.result.0 c.pair-p2.result.0 c.pair-p3.result.0 (plain_two_of (pos 2048) c.pair_of_sums-q0.result.0 (neg_ℤ (pos 2048)) c.pair_of_sums-q1.result.0 (fits c.pair_of_sums-q0.ensures.sum_size) (fits c.pair_of_sums-q1.ensures.sum_size) c.two-3.ensures.value) q0 q1) e0 e1 e2 e3)
-    (plain c.dot-3.ensures.size ∙ row_5 c.args.s0 c.args.s1 c.args.s2 c.args.s3 c.args.s4 c.args.s5 c.args.s6 c.args.s7 (plain_four (pos 1609) c.pair-p0.result.1 (neg_ℤ (pos 2841)) c.pair-p1.result.1 (pos 565) c.pair-p2.result.1 (pos 2408) c.pair-p3.result.1 (fits c.pair-p0.ensures.difference_size) (fits c.pair-p1.ensures.difference_size) (fits c.pair-p2.ensures.difference_size) (fits c.pair-p3.ensures.difference_size) c.dot-3.ensures.value) o0 o1 o2 o3)
-    (plain (narrow c.two-4.ensures.size) ∙ row_6 c.args.s0 c.args.s1 c.args.s2 c.args.s3 c.args.s4 c.args.s5 c.args.s6 c.args.s7 (even_6 c.pair-p0.result.0 c.pair-p1.result.0 c.pair-p2.result.0 c.pair-p3.result.0 (plain_two_of (pos 1108) c.pair_of_sums-q0.result.1 (neg_ℤ (pos 2676)) c.pair_of_sums-q1.result.1 (fits c.pair_of_sums-q0.ensures.difference_size) (fits c.pair_of_sums-q1.ensures.difference_size) c.two-4.ensures.value) r0 r1) e0 e1 e2 e3)
-    (plain c.dot-4.ensures.size ∙ row_7 c.args.s0 c.args.s1 c.args.s2 c.args.s3 c.args.s4 c.args.s5 c.args.s6 c.args.s7 (plain_four (pos 565) c.pair-p0.result.1 (neg_ℤ (pos 1609)) c.pair-p1.result.1 (pos 2408) c.pair-p2.result.1 (neg_ℤ (pos 2841)) c.pair-p3.result.1 (fits c.pair-p0.ensures.difference_size) (fits c.pair-p1.ensures.difference_size) (fits c.pair-p2.ensures.difference_size) (fits c.pair-p3.ensures.difference_size) c.dot-4.ensures.value) o0 o1 o2 o3)
+pub pair-requires-clause-a : goal.pair-requires-clause-a
+pair-requires-clause-a c = passed_within16 8191 8191 (lit≤ tt) (lit≤ tt) c.requires.r0
+
+pub pair-requires-clause-b : goal.pair-requires-clause-b
+pair-requires-clause-b c = passed_within16 8191 8191 (lit≤ tt) (lit≤ tt) c.requires.r7
+
+pub pair-requires-2-clause-a : goal.pair-requires-2-clause-a
+pair-requires-2-clause-a c = passed_within16 8191 8191 (lit≤ tt) (lit≤ tt) c.requires.r1
+
+pub pair-requires-2-clause-b : goal.pair-requires-2-clause-b
+pair-requires-2-clause-b c = passed_within16 8191 8191 (lit≤ tt) (lit≤ tt) c.requires.r6
+
+pub pair-requires-3-clause-a : goal.pair-requires-3-clause-a
+pair-requires-3-clause-a c = passed_within16 8191 8191 (lit≤ tt) (lit≤ tt) c.requires.r2
+
+pub pair-requires-3-clause-b : goal.pair-requires-3-clause-b
+pair-requires-3-clause-b c = passed_within16 8191 8191 (lit≤ tt) (lit≤ tt) c.requires.r5
+
+pub pair-requires-4-clause-a : goal.pair-requires-4-clause-a
+pair-requires-4-clause-a c = passed_within16 8191 8191 (lit≤ tt) (lit≤ tt) c.requires.r3
+
+pub pair-requires-4-clause-b : goal.pair-requires-4-clause-b
+pair-requires-4-clause-b c = passed_within16 8191 8191 (lit≤ tt) (lit≤ tt) c.requires.r4
+
+pub pair_of_sums-requires-clause-a : goal.pair_of_sums-requires-clause-a
+pair_of_sums-requires-clause-a c = passed_within16 16382 16382 (lit≤ tt) (lit≤ tt) c.pair.ensures.sum_size
+
+pub pair_of_sums-requires-clause-b : goal.pair_of_sums-requires-clause-b
+pair_of_sums-requires-clause-b c = passed_within16 16382 16382 (lit≤ tt) (lit≤ tt) c.pair-4.ensures.sum_size
+
+pub pair_of_sums-requires-2-clause-a : goal.pair_of_sums-requires-2-clause-a
+pair_of_sums-requires-2-clause-a c = passed_within16 16382 16382 (lit≤ tt) (lit≤ tt) c.pair-2.ensures.sum_size
+
+pub pair_of_sums-requires-2-clause-b : goal.pair_of_sums-requires-2-clause-b
+pair_of_sums-requires-2-clause-b c = passed_within16 16382 16382 (lit≤ tt) (lit≤ tt) c.pair-3.ensures.sum_size
+
+pub rotated-requires-clause-a : goal.rotated-requires-clause-a
+rotated-requires-clause-a c = passed_within16 32767 32767 (lit≤ tt) (lit≤ tt) c.pair_of_sums.ensures.sum_size
+
+pub rotated-requires-clause-b : goal.rotated-requires-clause-b
+rotated-requires-clause-b c = passed_within16 32767 32767 (lit≤ tt) (lit≤ tt) c.pair_of_sums-2.ensures.sum_size
+
+pub rotated-requires-2-clause-a : goal.rotated-requires-2-clause-a
+rotated-requires-2-clause-a c = passed_within16 32767 32767 (lit≤ tt) (lit≤ tt) c.pair_of_sums.ensures.difference_size
+
+pub rotated-requires-2-clause-b : goal.rotated-requires-2-clause-b
+rotated-requires-2-clause-b c = passed_within16 32767 32767 (lit≤ tt) (lit≤ tt) c.pair_of_sums-2.ensures.difference_size
+
+pub rotated-requires-3-clause-a : goal.rotated-requires-3-clause-a
+rotated-requires-3-clause-a c = passed_within16 16382 32767 (lit≤ tt) (lit≤ tt) c.pair.ensures.difference_size
+
+pub rotated-requires-3-clause-b : goal.rotated-requires-3-clause-b
+rotated-requires-3-clause-b c = passed_within16 16382 32767 (lit≤ tt) (lit≤ tt) c.pair-4.ensures.difference_size
+
+pub rotated-requires-4-clause-a : goal.rotated-requires-4-clause-a
+rotated-requires-4-clause-a c = passed_within16 16382 32767 (lit≤ tt) (lit≤ tt) c.pair-3.ensures.difference_size
+
+pub rotated-requires-4-clause-b : goal.rotated-requires-4-clause-b
+rotated-requires-4-clause-b c = passed_within16 16382 32767 (lit≤ tt) (lit≤ tt) c.pair-2.ensures.difference_size
+
+pub rotated-requires-5-clause-a : goal.rotated-requires-5-clause-a
+rotated-requires-5-clause-a c = passed_within16 16382 32767 (lit≤ tt) (lit≤ tt) c.pair.ensures.difference_size
+
+pub rotated-requires-5-clause-b : goal.rotated-requires-5-clause-b
+rotated-requires-5-clause-b c = passed_within16 16382 32767 (lit≤ tt) (lit≤ tt) c.pair-4.ensures.difference_size
+
+pub rotated-requires-6-clause-a : goal.rotated-requires-6-clause-a
+rotated-requires-6-clause-a c = passed_within16 16382 32767 (lit≤ tt) (lit≤ tt) c.pair-2.ensures.difference_size
+
+pub rotated-requires-6-clause-b : goal.rotated-requires-6-clause-b
+rotated-requires-6-clause-b c = passed_within16 16382 32767 (lit≤ tt) (lit≤ tt) c.pair-3.ensures.difference_size
+
+pub halves-requires-clause-a : goal.halves-requires-clause-a
+halves-requires-clause-a c = passed_within (2 ^ 28) (2 ^ 28) (lit≤ tt) (lit≤ tt) c.rotated-3.ensures.first_size
+
+pub halves-requires-clause-b : goal.halves-requires-clause-b
+halves-requires-clause-b c = passed_within (2 ^ 28) (2 ^ 28) (lit≤ tt) (lit≤ tt) c.rotated-4.ensures.first_size
+
+pub halves-requires-2-clause-a : goal.halves-requires-2-clause-a
+halves-requires-2-clause-a c = passed_within (2 ^ 28) (2 ^ 28) (lit≤ tt) (lit≤ tt) c.rotated-5.ensures.second_size
+
+pub halves-requires-2-clause-b : goal.halves-requires-2-clause-b
+halves-requires-2-clause-b c = passed_within (2 ^ 28) (2 ^ 28) (lit≤ tt) (lit≤ tt) c.rotated-6.ensures.first_size
+
+pub halves-requires-3-clause-a : goal.halves-requires-3-clause-a
+halves-requires-3-clause-a c = passed_within (2 ^ 28) (2 ^ 28) (lit≤ tt) (lit≤ tt) c.rotated-5.ensures.first_size
+
+pub halves-requires-3-clause-b : goal.halves-requires-3-clause-b
+halves-requires-3-clause-b c = passed_within (2 ^ 28) (2 ^ 28) (lit≤ tt) (lit≤ tt) c.rotated-6.ensures.second_size
+
+pub halves-requires-4-clause-a : goal.halves-requires-4-clause-a
+halves-requires-4-clause-a c = passed_within (2 ^ 28) (2 ^ 28) (lit≤ tt) (lit≤ tt) c.rotated-3.ensures.second_size
+
+pub halves-requires-4-clause-b : goal.halves-requires-4-clause-b
+halves-requires-4-clause-b c = passed_within (2 ^ 28) (2 ^ 28) (lit≤ tt) (lit≤ tt) c.rotated-4.ensures.second_size
+
+pub returns-clause-sums : goal.returns-clause-sums
+returns-clause-sums c u i hu hi =
+    let r0 = passed_lane16 8191 i (lit≤ tt) c.requires.r0 in
+    let r1 = passed_lane16 8191 i (lit≤ tt) c.requires.r1 in
+    let r2 = passed_lane16 8191 i (lit≤ tt) c.requires.r2 in
+    let r3 = passed_lane16 8191 i (lit≤ tt) c.requires.r3 in
+    let r4 = passed_lane16 8191 i (lit≤ tt) c.requires.r4 in
+    let r5 = passed_lane16 8191 i (lit≤ tt) c.requires.r5 in
+    let r6 = passed_lane16 8191 i (lit≤ tt) c.requires.r6 in
+    let r7 = passed_lane16 8191 i (lit≤ tt) c.requires.r7 in
+    let p0 = sum_of (c.pair.ensures.sum i hi) r0 r7 in
+    let m0 = difference_of (c.pair.ensures.difference i hi) r0 r7 in
+    let p1 = sum_of (c.pair-2.ensures.sum i hi) r1 r6 in
+    let m1 = difference_of (c.pair-2.ensures.difference i hi) r1 r6 in
+    let p2 = sum_of (c.pair-3.ensures.sum i hi) r2 r5 in
+    let m2 = difference_of (c.pair-3.ensures.difference i hi) r2 r5 in
+    let p3 = sum_of (c.pair-4.ensures.sum i hi) r3 r4 in
+    let m3 = difference_of (c.pair-4.ensures.difference i hi) r3 r4 in
+    let q0 = sum_of (c.pair_of_sums.ensures.sum i hi) (passed_lane16 16382 i (lit≤ tt) c.pair.ensures.sum_size) (passed_lane16 16382 i (lit≤ tt) c.pair-4.ensures.sum_size) in
+    let r_0 = difference_of (c.pair_of_sums.ensures.difference i hi) (passed_lane16 16382 i (lit≤ tt) c.pair.ensures.sum_size) (passed_lane16 16382 i (lit≤ tt) c.pair-4.ensures.sum_size) in
+    let q1 = sum_of (c.pair_of_sums-2.ensures.sum i hi) (passed_lane16 16382 i (lit≤ tt) c.pair-2.ensures.sum_size) (passed_lane16 16382 i (lit≤ tt) c.pair-3.ensures.sum_size) in
+    let r_1 = difference_of (c.pair_of_sums-2.ensures.difference i hi) (passed_lane16 16382 i (lit≤ tt) c.pair-2.ensures.sum_size) (passed_lane16 16382 i (lit≤ tt) c.pair-3.ensures.sum_size) in
+    let t1 = plain_sum (pos 2048) (pos 2048) (c.rotated.ensures.first i hi) (passed_lane16 32767 i (lit≤ tt) c.pair_of_sums.ensures.sum_size) (passed_lane16 32767 i (lit≤ tt) c.pair_of_sums-2.ensures.sum_size) in
+    let u1 = plain_difference (pos 2048) (pos 2048) (c.rotated.ensures.second i hi) (passed_lane16 32767 i (lit≤ tt) c.pair_of_sums.ensures.sum_size) (passed_lane16 32767 i (lit≤ tt) c.pair_of_sums-2.ensures.sum_size) in
+    let t2 = plain_sum (pos 2676) (pos 1108) (c.rotated-2.ensures.first i hi) (passed_lane16 32767 i (lit≤ tt) c.pair_of_sums.ensures.difference_size) (passed_lane16 32767 i (lit≤ tt) c.pair_of_sums-2.ensures.difference_size) in
+    let u2 = plain_difference (pos 1108) (pos 2676) (c.rotated-2.ensures.second i hi) (passed_lane16 32767 i (lit≤ tt) c.pair_of_sums.ensures.difference_size) (passed_lane16 32767 i (lit≤ tt) c.pair_of_sums-2.ensures.difference_size) in
+    let t3 = plain_sum (pos 2841) (pos 565) (c.rotated-3.ensures.first i hi) (passed_lane16 16382 i (lit≤ tt) c.pair.ensures.difference_size) (passed_lane16 16382 i (lit≤ tt) c.pair-4.ensures.difference_size) in
+    let u3 = plain_difference (pos 565) (pos 2841) (c.rotated-3.ensures.second i hi) (passed_lane16 16382 i (lit≤ tt) c.pair.ensures.difference_size) (passed_lane16 16382 i (lit≤ tt) c.pair-4.ensures.difference_size) in
+    let t4 = plain_sum (pos 1609) (pos 2408) (c.rotated-4.ensures.first i hi) (passed_lane16 16382 i (lit≤ tt) c.pair-3.ensures.difference_size) (passed_lane16 16382 i (lit≤ tt) c.pair-2.ensures.difference_size) in
+    let u4 = plain_difference (pos 2408) (pos 1609) (c.rotated-4.ensures.second i hi) (passed_lane16 16382 i (lit≤ tt) c.pair-3.ensures.difference_size) (passed_lane16 16382 i (lit≤ tt) c.pair-2.ensures.difference_size) in
+    let t5 = plain_sum (pos 1609) (pos 2408) (c.rotated-5.ensures.first i hi) (passed_lane16 16382 i (lit≤ tt) c.pair.ensures.difference_size) (passed_lane16 16382 i (lit≤ tt) c.pair-4.ensures.difference_size) in
+    let u5 = plain_difference (pos 2408) (pos 1609) (c.rotated-5.ensures.second i hi) (passed_lane16 16382 i (lit≤ tt) c.pair.ensures.difference_size) (passed_lane16 16382 i (lit≤ tt) c.pair-4.ensures.difference_size) in
+    let t6 = plain_sum (pos 565) (pos 2841) (c.rotated-6.ensures.first i hi) (passed_lane16 16382 i (lit≤ tt) c.pair-2.ensures.difference_size) (passed_lane16 16382 i (lit≤ tt) c.pair-3.ensures.difference_size) in
+    let u6 = plain_difference (pos 2841) (pos 565) (c.rotated-6.ensures.second i hi) (passed_lane16 16382 i (lit≤ tt) c.pair-2.ensures.difference_size) (passed_lane16 16382 i (lit≤ tt) c.pair-3.ensures.difference_size) in
+    below_eight (λ k. lane (slice_index_or (map (to_z w32) (map (of_z w32) c.rotated.result.0) ∷ map (to_z w32) (map (of_z w32) c.halves.result.0) ∷ map (to_z w32) (map (of_z w32) c.rotated-2.result.0) ∷ map (to_z w32) (map (of_z w32) c.halves-2.result.1) ∷ map (to_z w32) (map (of_z w32) c.rotated.result.1) ∷ map (to_z w32) (map (of_z w32) c.halves-3.result.1) ∷ map (to_z w32) (map (of_z w32) c.rotated-2.result.1) ∷ map (to_z w32) (map (of_z w32) c.halves-4.result.0) ∷ []) k []) i ≡ pass_at Forward (list_at c.args.r i) k)
+    (passed_lane (2 ^ 28) i (lit≤ tt) c.rotated.ensures.first_size ∙ forward_sum_0 (lane c.args.r.r0 i) (lane c.args.r.r1 i) (lane c.args.r.r2 i) (lane c.args.r.r3 i) (lane c.args.r.r4 i) (lane c.args.r.r5 i) (lane c.args.r.r6 i) (lane c.args.r.r7 i) t1 q0 q1 p0 p1 p2 p3)
+    (passed_lane (2 ^ 29) i (lit≤ tt) c.halves.ensures.sum_size ∙ forward_sum_1 (lane c.args.r.r0 i) (lane c.args.r.r1 i) (lane c.args.r.r2 i) (lane c.args.r.r3 i) (lane c.args.r.r4 i) (lane c.args.r.r5 i) (lane c.args.r.r6 i) (lane c.args.r.r7 i) (sum_of (c.halves.ensures.sum i hi) (passed_lane (2 ^ 28) i (lit≤ tt) c.rotated-3.ensures.first_size) (passed_lane (2 ^ 28) i (lit≤ tt) c.rotated-4.ensures.first_size)) t3 t4 m0 m1 m2 m3)
+    (passed_lane (2 ^ 28) i (lit≤ tt) c.rotated-2.ensures.first_size ∙ forward_sum_2 (lane c.args.r.r0 i) (lane c.args.r.r1 i) (lane c.args.r.r2 i) (lane c.args.r.r3 i) (lane c.args.r.r4 i) (lane c.args.r.r5 i) (lane c.args.r.r6 i) (lane c.args.r.r7 i) t2 r_0 r_1 p0 p1 p2 p3)
+    (passed_lane (2 ^ 29) i (lit≤ tt) c.halves-2.ensures.difference_size ∙ forward_sum_3 (lane c.args.r.r0 i) (lane c.args.r.r1 i) (lane c.args.r.r2 i) (lane c.args.r.r3 i) (lane c.args.r.r4 i) (lane c.args.r.r5 i) (lane c.args.r.r6 i) (lane c.args.r.r7 i) (difference_of (c.halves-2.ensures.difference i hi) (passed_lane (2 ^ 28) i (lit≤ tt) c.rotated-5.ensures.second_size) (passed_lane (2 ^ 28) i (lit≤ tt) c.rotated-6.ensures.first_size)) u5 t6 m0 m1 m2 m3)
+    (passed_lane (2 ^ 28) i (lit≤ tt) c.rotated.ensures.second_size ∙ forward_sum_4 (lane c.args.r.r0 i) (lane c.args.r.r1 i) (lane c.args.r.r2 i) (lane c.args.r.r3 i) (lane c.args.r.r4 i) (lane c.args.r.r5 i) (lane c.args.r.r6 i) (lane c.args.r.r7 i) u1 q0 q1 p0 p1 p2 p3)
+    (passed_lane (2 ^ 29) i (lit≤ tt) c.halves-3.ensures.difference_size ∙ forward_sum_5 (lane c.args.r.r0 i) (lane c.args.r.r1 i) (lane c.args.r.r2 i) (lane c.args.r.r3 i) (lane c.args.r.r4 i) (lane c.args.r.r5 i) (lane c.args.r.r6 i) (lane c.args.r.r7 i) (difference_of (c.halves-3.ensures.difference i hi) (passed_lane (2 ^ 28) i (lit≤ tt) c.rotated-5.ensures.first_size) (passed_lane (2 ^ 28) i (lit≤ tt) c.rotated-6.ensures.second_size)) t5 u6 m0 m1 m2 m3)
+    (passed_lane (2 ^ 28) i (lit≤ tt) c.rotated-2.ensures.second_size ∙ forward_sum_6 (lane c.args.r.r0 i) (lane c.args.r.r1 i) (lane c.args.r.r2 i) (lane c.args.r.r3 i) (lane c.args.r.r4 i) (lane c.args.r.r5 i) (lane c.args.r.r6 i) (lane c.args.r.r7 i) u2 r_0 r_1 p0 p1 p2 p3)
+    (passed_lane (2 ^ 29) i (lit≤ tt) c.halves-4.ensures.sum_size ∙ forward_sum_7 (lane c.args.r.r0 i) (lane c.args.r.r1 i) (lane c.args.r.r2 i) (lane c.args.r.r3 i) (lane c.args.r.r4 i) (lane c.args.r.r5 i) (lane c.args.r.r6 i) (lane c.args.r.r7 i) (sum_of (c.halves-4.ensures.sum i hi) (passed_lane (2 ^ 28) i (lit≤ tt) c.rotated-3.ensures.second_size) (passed_lane (2 ^ 28) i (lit≤ tt) c.rotated-4.ensures.second_size)) u3 u4 m0 m1 m2 m3)
+    u hu
+
+pub returns-clause-size : goal.returns-clause-size
+returns-clause-size c = record {
+  s0 = passed_within (2 ^ 28) (2 ^ 30) (lit≤ tt) (lit≤ tt) c.rotated.ensures.first_size;
+  s1 = passed_within (2 ^ 29) (2 ^ 30) (lit≤ tt) (lit≤ tt) c.halves.ensures.sum_size;
+  s2 = passed_within (2 ^ 28) (2 ^ 30) (lit≤ tt) (lit≤ tt) c.rotated-2.ensures.first_size;
+  s3 = passed_within (2 ^ 29) (2 ^ 30) (lit≤ tt) (lit≤ tt) c.halves-2.ensures.difference_size;
+  s4 = passed_within (2 ^ 28) (2 ^ 30) (lit≤ tt) (lit≤ tt) c.rotated.ensures.second_size;
+  s5 = passed_within (2 ^ 29) (2 ^ 30) (lit≤ tt) (lit≤ tt) c.halves-3.ensures.difference_size;
+  s6 = passed_within (2 ^ 28) (2 ^ 30) (lit≤ tt) (lit≤ tt) c.rotated-2.ensures.second_size;
+  s7 = passed_within (2 ^ 29) (2 ^ 30) (lit≤ tt) (lit≤ tt) c.halves-4.ensures.sum_size;
+}

@@ -1,32 +1,141 @@
-use Rattle.std.proofs.Common.{◌≡◌, ℤ, pos, neg_ℤ, slice_index_or, List, [], ◌∷◌, w64, to_z, of_z, ◌+ℤ◌, ◌*ℤ◌}
+use Rattle.std.proofs.Common.{◌≡◌, ◌^◌, ◌∙◌, lit≤, pos, [], ◌∷◌, slice_index_or, map, w32, to_z, of_z}
 use Rattle.idct8.specs.declared.passes.Direction.TheVariants.{Inverse}
+use Rattle.idct8.specs.Vectors.{lane, list_at}
 use Rattle.idct8.specs.Passes.{pass_at}
 use Rattle.idct8.proofs.Sums.{below_eight}
-use Rattle.idct8.proofs.InverseRows.{plain_four, plain_two_of, half_sum, half_difference, even_0, even_1, even_2, even_3, sum_at, difference_at, column_0, column_1, column_2, column_3, column_4, column_5, column_6, column_7}
+use Rattle.idct8.proofs.Vectors.{passed_within, passed_within16, passed_lane, passed_lane16}
+use Rattle.idct8.proofs.Rotations.{plain_sum, plain_difference, sum_of, difference_of, sum_then_sum, sum_then_less, less_then_sum, less_then_less, inverse_sum_0, inverse_sum_1, inverse_sum_2, inverse_sum_3, inverse_sum_4, inverse_sum_5, inverse_sum_6, inverse_sum_7}
 use Rattle.idct8.proofs.passes.inverse_pass.Goals as goal
 
-pub returns : goal.returns
-returns c =
-    let a : List ℤ = c.args.c0 ∷ c.args.c1 ∷ c.args.c2 ∷ c.args.c3 ∷ c.args.c4 ∷ c.args.c5 ∷ c.args.c6 ∷ c.args.c7 ∷ [] in
-    let outer_sum : c.two-outer_sum.result ≡ pos 2048 *ℤ c.args.c0 +ℤ pos 2048 *ℤ c.args.c4 = plain_two_of (pos 2048) c.args.c0 (pos 2048) c.args.c4 c.ranges.c0 c.ranges.c4 c.two-outer_sum.ensures.value in
-    let outer_difference : c.two-outer_difference.result ≡ pos 2048 *ℤ c.args.c0 +ℤ neg_ℤ (pos 2048) *ℤ c.args.c4 = plain_two_of (pos 2048) c.args.c0 (neg_ℤ (pos 2048)) c.args.c4 c.ranges.c0 c.ranges.c4 c.two-outer_difference.ensures.value in
-    let inner_sum : c.two-inner_sum.result ≡ pos 2676 *ℤ c.args.c2 +ℤ pos 1108 *ℤ c.args.c6 = plain_two_of (pos 2676) c.args.c2 (pos 1108) c.args.c6 c.ranges.c2 c.ranges.c6 c.two-inner_sum.ensures.value in
-    let inner_difference : c.two-inner_difference.result ≡ pos 1108 *ℤ c.args.c2 +ℤ neg_ℤ (pos 2676) *ℤ c.args.c6 = plain_two_of (pos 1108) c.args.c2 (neg_ℤ (pos 2676)) c.args.c6 c.ranges.c2 c.ranges.c6 c.two-inner_difference.ensures.value in
-    let e0 : c.halves-even0.result.0 ≡ pos 2048 *ℤ c.args.c0 +ℤ pos 2676 *ℤ c.args.c2 +ℤ pos 2048 *ℤ c.args.c4 +ℤ pos 1108 *ℤ c.args.c6 = half_sum c.two-outer_sum.ensures.size c.two-inner_sum.ensures.size c.halves-even0.ensures.sum outer_sum inner_sum (even_0 c.args.c0 c.args.c2 c.args.c4 c.args.c6) in
-    let e1 : c.halves-even1.result.0 ≡ pos 2048 *ℤ c.args.c0 +ℤ pos 1108 *ℤ c.args.c2 +ℤ neg_ℤ (pos 2048) *ℤ c.args.c4 +ℤ neg_ℤ (pos 2676) *ℤ c.args.c6 = half_sum c.two-outer_difference.ensures.size c.two-inner_difference.ensures.size c.halves-even1.ensures.sum outer_difference inner_difference (even_1 c.args.c0 c.args.c2 c.args.c4 c.args.c6) in
-    let e2 : c.halves-even1.result.1 ≡ pos 2048 *ℤ c.args.c0 +ℤ neg_ℤ (pos 1108) *ℤ c.args.c2 +ℤ neg_ℤ (pos 2048) *ℤ c.args.c4 +ℤ pos 2676 *ℤ c.args.c6 = half_difference c.two-outer_difference.ensures.size c.two-inner_difference.ensures.size c.halves-even1.ensures.difference outer_difference inner_difference (even_2 c.args.c0 c.args.c2 c.args.c4 c.args.c6) in
-    let e3 : c.halves-even0.result.1 ≡ pos 2048 *ℤ c.args.c0 +ℤ neg_ℤ (pos 2676) *ℤ c.args.c2 +ℤ pos 2048 *ℤ c.args.c4 +ℤ neg_ℤ (pos 1108) *ℤ c.args.c6 = half_difference c.two-outer_sum.ensures.size c.two-inner_sum.ensures.size c.halves-even0.ensures.difference outer_sum inner_sum (even_3 c.args.c0 c.args.c2 c.args.c4 c.args.c6) in
-    let o0 = plain_four (pos 2841) c.args.c1 (pos 2408) c.args.c3 (pos 1609) c.args.c5 (pos 565) c.args.c7 c.ranges.c1 c.ranges.c3 c.ranges.c5 c.ranges.c7 c.dot-odd0.ensures.value in
-    let o1 = plain_four (pos 2408) c.args.c1 (neg_ℤ (pos 565)) c.args.c3 (neg_ℤ (pos 2841)) c.args.c5 (neg_ℤ (pos 1609)) c.args.c7 c.ranges.c1 c.ranges.c3 c.ranges.c5 c.ranges.c7 c.dot-odd1.ensures.value in
-    let o2 = plain_four (pos 1609) c.args.c1 (neg_ℤ (pos 2841)) c.args.c3 (pos 565) c.args.c5 (pos 2408) c.args.c7 c.ranges.c1 c.ranges.c3 c.ranges.c5 c.ranges.c7 c.dot-odd2.ensures.value in
-    let o3 = plain_four (pos 565) c.args.c1 (neg_ℤ (pos 1609)) c.args.c3 (pos 2408) c.args.c5 (neg_ℤ (pos 2841)) c.args.c7 c.ranges.c1 c.ranges.c3 c.ranges.c5 c.ranges.c7 c.dot-odd3.ensures.value in
-    below_eight
-    (λ x. slice_index_or (to_z w64 (of_z w64 c.mirrored-s0.result.0) ∷ to_z w64 (of_z w64 c.mirrored-s1.result.0) ∷ to_z w64 (of_z w64 c.mirrored-s2.result.0) ∷ to_z w64 (of_z w64 c.mirrored-s3.result.0) ∷ to_z w64 (of_z w64 c.mirrored-s3.result.1) ∷ to_z w64 (of_z w64 c.mirrored-s2.result.1) ∷ to_z w64 (of_z w64 c.mirrored-s1.result.1) ∷ to_z w64 (of_z w64 c.mirrored-s0.result.1) ∷ []) x (pos 0) ≡ pass_at Inverse a x)
-    (sum_at c.halves-even0.ensures.sum_size c.dot-odd0.ensures.size c.mirrored-s0.ensures.sum e0 o0 (column_0 c.args.c0 c.args.c1 c.args.c2 c.args.c3 c.args.c4 c.args.c5 c.args.c6 c.args.c7))
-    (sum_at c.halves-even1.ensures.sum_size c.dot-odd1.ensures.size c.mirrored-s1.ensures.sum e1 o1 (column_1 c.args.c0 c.args.c1 c.args.c2 c.args.c3 c.args.c4 c.args.c5 c.args.c6 c.args.c7))
-    (sum_at c.halves-even1.ensures.difference_size c.dot-odd2.ensures.size c.mirrored-s2.ensures.sum e2 o2 (column_2 c.args.c0 c.args.c1 c.args.c2 c.args.c3 c.args.c4 c.args.c5 c.args.c6 c.args.c7))
-    (sum_at c.halves-even0.ensures.difference_size c.dot-odd3.ensures.size c.mirrored-s3.ensures.sum e3 o3 (column_3 c.args.c0 c.args.c1 c.args.c2 c.args.c3 c.args.c4 c.args.c5 c.args.c6 c.args.c7))
-    (difference_at c.halves-even0.ensures.difference_size c.dot-odd3.ensures.size c.mirrored-s3.ensures.difference e3 o3 (column_4 c.args.c0 c.args.c1 c.args.c2 c.args.c3 c.args.c4 c.args.c5 c.args.c6 c.args.c7))
-    (difference_at c.halves-even1.ensures.difference_size c.dot-odd2.ensures.size c.mirrored-s2.ensures.difference e2 o2 (column_5 c.args.c0 c.args.c1 c.args.c2 c.args.c3 c.args.c4 c.args.c5 c.args.c6 c.args.c7))
-    (difference_at c.halves-even1.ensures.sum_size c.dot-odd1.ensures.size c.mirrored-s1.ensures.difference e1 o1 (column_6 c.args.c0 c.args.c1 c.args.c2 c.args.c3 c.args.c4 c.args.c5 c.args.c6 c.args.c7))
-    (difference_at c.halves-even0.ensures.sum_size c.dot-odd0.ensures.size c.mirrored-s0.ensures.difference e0 o0 (column_7 c.args.c0 c.args.c1 c.args.c2 c.args.c3 c.args.c4 c.args.c5 c.args.c6 c.args.c7))
+pub rotated-requires-clause-a : goal.rotated-requires-clause-a
+rotated-requires-clause-a c = passed_within16 8191 32767 (lit≤ tt) (lit≤ tt) c.requires.r0
+
+pub rotated-requires-clause-b : goal.rotated-requires-clause-b
+rotated-requires-clause-b c = passed_within16 8191 32767 (lit≤ tt) (lit≤ tt) c.requires.r4
+
+pub rotated-requires-2-clause-a : goal.rotated-requires-2-clause-a
+rotated-requires-2-clause-a c = passed_within16 8191 32767 (lit≤ tt) (lit≤ tt) c.requires.r2
+
+pub rotated-requires-2-clause-b : goal.rotated-requires-2-clause-b
+rotated-requires-2-clause-b c = passed_within16 8191 32767 (lit≤ tt) (lit≤ tt) c.requires.r6
+
+pub rotated-requires-3-clause-a : goal.rotated-requires-3-clause-a
+rotated-requires-3-clause-a c = passed_within16 8191 32767 (lit≤ tt) (lit≤ tt) c.requires.r1
+
+pub rotated-requires-3-clause-b : goal.rotated-requires-3-clause-b
+rotated-requires-3-clause-b c = passed_within16 8191 32767 (lit≤ tt) (lit≤ tt) c.requires.r7
+
+pub rotated-requires-4-clause-a : goal.rotated-requires-4-clause-a
+rotated-requires-4-clause-a c = passed_within16 8191 32767 (lit≤ tt) (lit≤ tt) c.requires.r5
+
+pub rotated-requires-4-clause-b : goal.rotated-requires-4-clause-b
+rotated-requires-4-clause-b c = passed_within16 8191 32767 (lit≤ tt) (lit≤ tt) c.requires.r3
+
+pub rotated-requires-5-clause-a : goal.rotated-requires-5-clause-a
+rotated-requires-5-clause-a c = passed_within16 8191 32767 (lit≤ tt) (lit≤ tt) c.requires.r1
+
+pub rotated-requires-5-clause-b : goal.rotated-requires-5-clause-b
+rotated-requires-5-clause-b c = passed_within16 8191 32767 (lit≤ tt) (lit≤ tt) c.requires.r7
+
+pub rotated-requires-6-clause-a : goal.rotated-requires-6-clause-a
+rotated-requires-6-clause-a c = passed_within16 8191 32767 (lit≤ tt) (lit≤ tt) c.requires.r3
+
+pub rotated-requires-6-clause-b : goal.rotated-requires-6-clause-b
+rotated-requires-6-clause-b c = passed_within16 8191 32767 (lit≤ tt) (lit≤ tt) c.requires.r5
+
+pub halves-requires-clause-a : goal.halves-requires-clause-a
+halves-requires-clause-a c = passed_within (2 ^ 28) (2 ^ 28) (lit≤ tt) (lit≤ tt) c.rotated.ensures.first_size
+
+pub halves-requires-clause-b : goal.halves-requires-clause-b
+halves-requires-clause-b c = passed_within (2 ^ 28) (2 ^ 28) (lit≤ tt) (lit≤ tt) c.rotated-2.ensures.first_size
+
+pub halves-requires-2-clause-a : goal.halves-requires-2-clause-a
+halves-requires-2-clause-a c = passed_within (2 ^ 28) (2 ^ 28) (lit≤ tt) (lit≤ tt) c.rotated.ensures.second_size
+
+pub halves-requires-2-clause-b : goal.halves-requires-2-clause-b
+halves-requires-2-clause-b c = passed_within (2 ^ 28) (2 ^ 28) (lit≤ tt) (lit≤ tt) c.rotated-2.ensures.second_size
+
+pub mirrored-requires-clause-even : goal.mirrored-requires-clause-even
+mirrored-requires-clause-even c = passed_within (2 ^ 29) (2 ^ 29) (lit≤ tt) (lit≤ tt) c.halves.ensures.sum_size
+
+pub mirrored-requires-clause-a : goal.mirrored-requires-clause-a
+mirrored-requires-clause-a c = passed_within (2 ^ 28) (2 ^ 28) (lit≤ tt) (lit≤ tt) c.rotated-3.ensures.first_size
+
+pub mirrored-requires-clause-b : goal.mirrored-requires-clause-b
+mirrored-requires-clause-b c = passed_within (2 ^ 28) (2 ^ 28) (lit≤ tt) (lit≤ tt) c.rotated-4.ensures.first_size
+
+pub mirrored_less-requires-clause-even : goal.mirrored_less-requires-clause-even
+mirrored_less-requires-clause-even c = passed_within (2 ^ 29) (2 ^ 29) (lit≤ tt) (lit≤ tt) c.halves-2.ensures.sum_size
+
+pub mirrored_less-requires-clause-a : goal.mirrored_less-requires-clause-a
+mirrored_less-requires-clause-a c = passed_within (2 ^ 28) (2 ^ 28) (lit≤ tt) (lit≤ tt) c.rotated-5.ensures.second_size
+
+pub mirrored_less-requires-clause-b : goal.mirrored_less-requires-clause-b
+mirrored_less-requires-clause-b c = passed_within (2 ^ 28) (2 ^ 28) (lit≤ tt) (lit≤ tt) c.rotated-6.ensures.first_size
+
+pub mirrored_less-requires-2-clause-even : goal.mirrored_less-requires-2-clause-even
+mirrored_less-requires-2-clause-even c = passed_within (2 ^ 29) (2 ^ 29) (lit≤ tt) (lit≤ tt) c.halves-2.ensures.difference_size
+
+pub mirrored_less-requires-2-clause-a : goal.mirrored_less-requires-2-clause-a
+mirrored_less-requires-2-clause-a c = passed_within (2 ^ 28) (2 ^ 28) (lit≤ tt) (lit≤ tt) c.rotated-5.ensures.first_size
+
+pub mirrored_less-requires-2-clause-b : goal.mirrored_less-requires-2-clause-b
+mirrored_less-requires-2-clause-b c = passed_within (2 ^ 28) (2 ^ 28) (lit≤ tt) (lit≤ tt) c.rotated-6.ensures.second_size
+
+pub mirrored-requires-2-clause-even : goal.mirrored-requires-2-clause-even
+mirrored-requires-2-clause-even c = passed_within (2 ^ 29) (2 ^ 29) (lit≤ tt) (lit≤ tt) c.halves.ensures.difference_size
+
+pub mirrored-requires-2-clause-a : goal.mirrored-requires-2-clause-a
+mirrored-requires-2-clause-a c = passed_within (2 ^ 28) (2 ^ 28) (lit≤ tt) (lit≤ tt) c.rotated-3.ensures.second_size
+
+pub mirrored-requires-2-clause-b : goal.mirrored-requires-2-clause-b
+mirrored-requires-2-clause-b c = passed_within (2 ^ 28) (2 ^ 28) (lit≤ tt) (lit≤ tt) c.rotated-4.ensures.second_size
+
+pub returns-clause-sums : goal.returns-clause-sums
+returns-clause-sums c x i hx hi =
+    let r0 = passed_lane16 8191 i (lit≤ tt) c.requires.r0 in
+    let r1 = passed_lane16 8191 i (lit≤ tt) c.requires.r1 in
+    let r2 = passed_lane16 8191 i (lit≤ tt) c.requires.r2 in
+    let r3 = passed_lane16 8191 i (lit≤ tt) c.requires.r3 in
+    let r4 = passed_lane16 8191 i (lit≤ tt) c.requires.r4 in
+    let r5 = passed_lane16 8191 i (lit≤ tt) c.requires.r5 in
+    let r6 = passed_lane16 8191 i (lit≤ tt) c.requires.r6 in
+    let r7 = passed_lane16 8191 i (lit≤ tt) c.requires.r7 in
+    let outer0 = plain_sum (pos 2048) (pos 2048) (c.rotated.ensures.first i hi) r0 r4 in
+    let outer1 = plain_difference (pos 2048) (pos 2048) (c.rotated.ensures.second i hi) r0 r4 in
+    let inner0 = plain_sum (pos 2676) (pos 1108) (c.rotated-2.ensures.first i hi) r2 r6 in
+    let inner1 = plain_difference (pos 1108) (pos 2676) (c.rotated-2.ensures.second i hi) r2 r6 in
+    let a030 = plain_sum (pos 2841) (pos 565) (c.rotated-3.ensures.first i hi) r1 r7 in
+    let a031 = plain_difference (pos 565) (pos 2841) (c.rotated-3.ensures.second i hi) r1 r7 in
+    let b030 = plain_sum (pos 1609) (pos 2408) (c.rotated-4.ensures.first i hi) r5 r3 in
+    let b031 = plain_difference (pos 2408) (pos 1609) (c.rotated-4.ensures.second i hi) r5 r3 in
+    let a210 = plain_sum (pos 1609) (pos 2408) (c.rotated-5.ensures.first i hi) r1 r7 in
+    let a211 = plain_difference (pos 2408) (pos 1609) (c.rotated-5.ensures.second i hi) r1 r7 in
+    let b120 = plain_sum (pos 565) (pos 2841) (c.rotated-6.ensures.first i hi) r3 r5 in
+    let b121 = plain_difference (pos 2841) (pos 565) (c.rotated-6.ensures.second i hi) r3 r5 in
+    let sum1 = sum_of (c.halves.ensures.sum i hi) (passed_lane (2 ^ 28) i (lit≤ tt) c.rotated.ensures.first_size) (passed_lane (2 ^ 28) i (lit≤ tt) c.rotated-2.ensures.first_size) in
+    let difference1 = difference_of (c.halves.ensures.difference i hi) (passed_lane (2 ^ 28) i (lit≤ tt) c.rotated.ensures.first_size) (passed_lane (2 ^ 28) i (lit≤ tt) c.rotated-2.ensures.first_size) in
+    let sum2 = sum_of (c.halves-2.ensures.sum i hi) (passed_lane (2 ^ 28) i (lit≤ tt) c.rotated.ensures.second_size) (passed_lane (2 ^ 28) i (lit≤ tt) c.rotated-2.ensures.second_size) in
+    let difference2 = difference_of (c.halves-2.ensures.difference i hi) (passed_lane (2 ^ 28) i (lit≤ tt) c.rotated.ensures.second_size) (passed_lane (2 ^ 28) i (lit≤ tt) c.rotated-2.ensures.second_size) in
+    below_eight (λ k. lane (slice_index_or (map (to_z w32) (map (of_z w32) c.mirrored.result.0) ∷ map (to_z w32) (map (of_z w32) c.mirrored_less.result.0) ∷ map (to_z w32) (map (of_z w32) c.mirrored_less-2.result.0) ∷ map (to_z w32) (map (of_z w32) c.mirrored-2.result.0) ∷ map (to_z w32) (map (of_z w32) c.mirrored-2.result.1) ∷ map (to_z w32) (map (of_z w32) c.mirrored_less-2.result.1) ∷ map (to_z w32) (map (of_z w32) c.mirrored_less.result.1) ∷ map (to_z w32) (map (of_z w32) c.mirrored.result.1) ∷ []) k []) i ≡ pass_at Inverse (list_at c.args.r i) k)
+    (passed_lane (2 ^ 30) i (lit≤ tt) c.mirrored.ensures.sum_size ∙ inverse_sum_0 (lane c.args.r.r0 i) (lane c.args.r.r1 i) (lane c.args.r.r2 i) (lane c.args.r.r3 i) (lane c.args.r.r4 i) (lane c.args.r.r5 i) (lane c.args.r.r6 i) (lane c.args.r.r7 i) (sum_then_sum (c.mirrored.ensures.sum i hi) (passed_lane (2 ^ 29) i (lit≤ tt) c.halves.ensures.sum_size) (passed_lane (2 ^ 28) i (lit≤ tt) c.rotated-3.ensures.first_size) (passed_lane (2 ^ 28) i (lit≤ tt) c.rotated-4.ensures.first_size)) sum1 outer0 inner0 a030 b030)
+    (passed_lane (2 ^ 30) i (lit≤ tt) c.mirrored_less.ensures.sum_size ∙ inverse_sum_1 (lane c.args.r.r0 i) (lane c.args.r.r1 i) (lane c.args.r.r2 i) (lane c.args.r.r3 i) (lane c.args.r.r4 i) (lane c.args.r.r5 i) (lane c.args.r.r6 i) (lane c.args.r.r7 i) (sum_then_less (c.mirrored_less.ensures.sum i hi) (passed_lane (2 ^ 29) i (lit≤ tt) c.halves-2.ensures.sum_size) (passed_lane (2 ^ 28) i (lit≤ tt) c.rotated-5.ensures.second_size) (passed_lane (2 ^ 28) i (lit≤ tt) c.rotated-6.ensures.first_size)) sum2 outer1 inner1 a211 b120)
+    (passed_lane (2 ^ 30) i (lit≤ tt) c.mirrored_less-2.ensures.sum_size ∙ inverse_sum_2 (lane c.args.r.r0 i) (lane c.args.r.r1 i) (lane c.args.r.r2 i) (lane c.args.r.r3 i) (lane c.args.r.r4 i) (lane c.args.r.r5 i) (lane c.args.r.r6 i) (lane c.args.r.r7 i) (sum_then_less (c.mirrored_less-2.ensures.sum i hi) (passed_lane (2 ^ 29) i (lit≤ tt) c.halves-2.ensures.difference_size) (passed_lane (2 ^ 28) i (lit≤ tt) c.rotated-5.ensures.first_size) (passed_lane (2 ^ 28) i (lit≤ tt) c.rotated-6.ensures.second_size)) difference2 outer1 inner1 a210 b121)
+    (passed_lane (2 ^ 30) i (lit≤ tt) c.mirrored-2.ensures.sum_size ∙ inverse_sum_3 (lane c.args.r.r0 i) (lane c.args.r.r1 i) (lane c.args.r.r2 i) (lane c.args.r.r3 i) (lane c.args.r.r4 i) (lane c.args.r.r5 i) (lane c.args.r.r6 i) (lane c.args.r.r7 i) (sum_then_sum (c.mirrored-2.ensures.sum i hi) (passed_lane (2 ^ 29) i (lit≤ tt) c.halves.ensures.difference_size) (passed_lane (2 ^ 28) i (lit≤ tt) c.rotated-3.ensures.second_size) (passed_lane (2 ^ 28) i (lit≤ tt) c.rotated-4.ensures.second_size)) difference1 outer0 inner0 a031 b031)
+    (passed_lane (2 ^ 30) i (lit≤ tt) c.mirrored-2.ensures.difference_size ∙ inverse_sum_4 (lane c.args.r.r0 i) (lane c.args.r.r1 i) (lane c.args.r.r2 i) (lane c.args.r.r3 i) (lane c.args.r.r4 i) (lane c.args.r.r5 i) (lane c.args.r.r6 i) (lane c.args.r.r7 i) (less_then_less (c.mirrored-2.ensures.difference i hi) (passed_lane (2 ^ 29) i (lit≤ tt) c.halves.ensures.difference_size) (passed_lane (2 ^ 28) i (lit≤ tt) c.rotated-3.ensures.second_size) (passed_lane (2 ^ 28) i (lit≤ tt) c.rotated-4.ensures.second_size)) difference1 outer0 inner0 a031 b031)
+    (passed_lane (2 ^ 30) i (lit≤ tt) c.mirrored_less-2.ensures.difference_size ∙ inverse_sum_5 (lane c.args.r.r0 i) (lane c.args.r.r1 i) (lane c.args.r.r2 i) (lane c.args.r.r3 i) (lane c.args.r.r4 i) (lane c.args.r.r5 i) (lane c.args.r.r6 i) (lane c.args.r.r7 i) (less_then_sum (c.mirrored_less-2.ensures.difference i hi) (passed_lane (2 ^ 29) i (lit≤ tt) c.halves-2.ensures.difference_size) (passed_lane (2 ^ 28) i (lit≤ tt) c.rotated-5.ensures.first_size) (passed_lane (2 ^ 28) i (lit≤ tt) c.rotated-6.ensures.second_size)) difference2 outer1 inner1 a210 b121)
+    (passed_lane (2 ^ 30) i (lit≤ tt) c.mirrored_less.ensures.difference_size ∙ inverse_sum_6 (lane c.args.r.r0 i) (lane c.args.r.r1 i) (lane c.args.r.r2 i) (lane c.args.r.r3 i) (lane c.args.r.r4 i) (lane c.args.r.r5 i) (lane c.args.r.r6 i) (lane c.args.r.r7 i) (less_then_sum (c.mirrored_less.ensures.difference i hi) (passed_lane (2 ^ 29) i (lit≤ tt) c.halves-2.ensures.sum_size) (passed_lane (2 ^ 28) i (lit≤ tt) c.rotated-5.ensures.second_size) (passed_lane (2 ^ 28) i (lit≤ tt) c.rotated-6.ensures.first_size)) sum2 outer1 inner1 a211 b120)
+    (passed_lane (2 ^ 30) i (lit≤ tt) c.mirrored.ensures.difference_size ∙ inverse_sum_7 (lane c.args.r.r0 i) (lane c.args.r.r1 i) (lane c.args.r.r2 i) (lane c.args.r.r3 i) (lane c.args.r.r4 i) (lane c.args.r.r5 i) (lane c.args.r.r6 i) (lane c.args.r.r7 i) (less_then_less (c.mirrored.ensures.difference i hi) (passed_lane (2 ^ 29) i (lit≤ tt) c.halves.ensures.sum_size) (passed_lane (2 ^ 28) i (lit≤ tt) c.rotated-3.ensures.first_size) (passed_lane (2 ^ 28) i (lit≤ tt) c.rotated-4.ensures.first_size)) sum1 outer0 inner0 a030 b030)
+    x hx
+
+pub returns-clause-size : goal.returns-clause-size
+returns-clause-size c = record {
+  s0 = passed_within (2 ^ 30) (2 ^ 30) (lit≤ tt) (lit≤ tt) c.mirrored.ensures.sum_size;
+  s1 = passed_within (2 ^ 30) (2 ^ 30) (lit≤ tt) (lit≤ tt) c.mirrored_less.ensures.sum_size;
+  s2 = passed_within (2 ^ 30) (2 ^ 30) (lit≤ tt) (lit≤ tt) c.mirrored_less-2.ensures.sum_size;
+  s3 = passed_within (2 ^ 30) (2 ^ 30) (lit≤ tt) (lit≤ tt) c.mirrored-2.ensures.sum_size;
+  s4 = passed_within (2 ^ 30) (2 ^ 30) (lit≤ tt) (lit≤ tt) c.mirrored-2.ensures.difference_size;
+  s5 = passed_within (2 ^ 30) (2 ^ 30) (lit≤ tt) (lit≤ tt) c.mirrored_less-2.ensures.difference_size;
+  s6 = passed_within (2 ^ 30) (2 ^ 30) (lit≤ tt) (lit≤ tt) c.mirrored_less.ensures.difference_size;
+  s7 = passed_within (2 ^ 30) (2 ^ 30) (lit≤ tt) (lit≤ tt) c.mirrored.ensures.difference_size;
+}

@@ -1,7 +1,16 @@
-use Rattle.std.proofs.Common.{◌∙◌}
-use Rattle.idct8.proofs.Steps.{passes_are}
+use Rattle.std.proofs.Common.{◌∙◌, ap}
+use Rattle.idct8.specs.declared.passes.Direction.{Direction}
+use Rattle.idct8.specs.Vectors.{lane, row_at, sum_at}
+use Rattle.idct8.specs.Transform.{rounded}
+use Rattle.idct8.specs.Passes.{transform_at}
+use Rattle.idct8.proofs.Steps.{same_rounded, passes_are, passes_of_parts}
 use Rattle.idct8.proofs.two_passes.transform.Goals as goal
 
 pub returns : goal.returns
-returns c r k hr hk =
-    c.rows.ensures r k hr hk ∙ passes_are c.args.direction c.args.block.now c.columns.new.mid r k hr c.columns.ensures.sums
+returns g c r k hr hk =
+    let d : Direction = c.direction-direction.result in
+    c.round.ensures r k hr hk
+    ∙ same_rounded (c.turned_pass-high.ensures.sums r k hr hk) (c.turned_pass-low.ensures.sums r k hr hk)
+    ∙ ap rounded (passes_of_parts d (row_at c.split.result.0 k) (row_at c.split.result.1 k) (λ j. lane (sum_at c.row_pass.result k) j) r (λ j hj. c.split.ensures.whole k j hk hj))
+    ∙ passes_are d c.args.block.now (λ j. lane (sum_at c.row_pass.result k) j) r k (λ j hj. c.row_pass.ensures.sums k j hk hj)
+    ∙ ap (λ (d : Direction). transform_at d c.args.block.now r k) c.direction-direction.ensures

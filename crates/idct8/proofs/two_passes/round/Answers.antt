@@ -1,0 +1,39 @@
+use Rattle.std.proofs.Common.{◌≡◌, ℕ, ◌+◌, ◌*◌, ◌<◌, ◌^◌, ◌∙◌, List, ℤ, pos, ap, arith, lit≤, length, ◌+ℤ◌, ◌*ℤ◌, below_more}
+use lib.Lanes.{put_chunk}
+use Rattle.std.proofs.lemmas.Simd.{get_or-put_chunk_below, get_or-put_chunk_at, length-put_chunk}
+use Rattle.idct8.specs.Transform.{entry, rounded}
+use Rattle.idct8.specs.Vectors.{lane, sum_at}
+use Rattle.idct8.proofs.Vectors.{passed, passed_within, passed_lane}
+use Rattle.idct8.proofs.Steps.{same_rounded}
+use Rattle.idct8.proofs.two_passes.round.Goals as goal
+
+-- one more row is put into a block
+row_step : (f : ℕ → ℕ → ℤ) (out v : List ℤ) (r : ℕ) → length out ≡ 64 → length v ≡ 8 → r < 8 → ((k : ℕ) → k < 8 → lane v k ≡ f r k) →
+    ((j k : ℕ) → j < r → k < 8 → entry out j k ≡ f j k) → (j k : ℕ) → j < r + 1 → k < 8 → entry (put_chunk (8 * r) out v) j k ≡ f j k
+row_step f out v r lo lv hr own above j k hj hk =
+    below_more (λ j. entry (put_chunk (8 * r) out v) j k ≡ f j k) r
+    (λ j hj. get_or-put_chunk_below (8 * r) out v (8 * j + k) (pos 0) (omega arith) ∙ above j k hj hk)
+    (get_or-put_chunk_at (8 * r) out v k (pos 0) (omega (arith, lv)) (omega (arith, lv, lo)) ∙ own k hk) j hj
+
+pub nearest-requires-clause-high : goal.nearest-requires-clause-high
+nearest-requires-clause-high c = passed_within (2 ^ 30) (2 ^ 30) (lit≤ tt) (lit≤ tt) c.sum.ensures.size
+
+pub nearest-requires-clause-low : goal.nearest-requires-clause-low
+nearest-requires-clause-low c = passed_within (2 ^ 30) (2 ^ 30) (lit≤ tt) (lit≤ tt) c.sum-in-loop-r.ensures.size
+
+pub store-requires-clause-v : goal.store-requires-clause-v
+store-requires-clause-v c = passed_within 270000 270000 (lit≤ tt) (lit≤ tt) c.nearest.ensures.size
+
+pub loop-r-preserved : goal.loop-r-preserved
+loop-r-preserved c =
+    let r = c.loop-r.r in
+    let out = c.loop-r.out in
+    let v : List ℤ = c.nearest.result in
+    let is = c.store.ensures ∙ ap (λ (u : List ℤ). put_chunk (8 * r) out u) (passed 270000 (lit≤ tt) c.nearest.ensures.size) in
+    let own : (k : ℕ) → k < 8 → lane v k ≡ rounded (pos 8192 *ℤ lane (sum_at c.args.high r) k +ℤ lane (sum_at c.args.low r) k) = λ k hk.
+    c.nearest.ensures.value k hk
+    ∙ same_rounded (passed_lane (2 ^ 30) k (lit≤ tt) c.sum.ensures.size ∙ ap (λ (u : List ℤ). lane u k) c.sum.ensures.value)
+    (passed_lane (2 ^ 30) k (lit≤ tt) c.sum-in-loop-r.ensures.size ∙ ap (λ (u : List ℤ). lane u k) c.sum-in-loop-r.ensures.value) in (
+      ap length is ∙ length-put_chunk (8 * r) out v ∙ c.loop-r.invariant.0,
+      λ j k hj hk. ap (λ (u : List ℤ). entry u j k) is ∙ row_step (λ r k. rounded (pos 8192 *ℤ lane (sum_at c.args.high r) k +ℤ lane (sum_at c.args.low r) k)) out v r c.loop-r.invariant.0 c.nearest.ensures.size.long c.loop-r-test.true own c.loop-r.invariant.1 j k hj hk,
+    )

@@ -1,0 +1,79 @@
+//! Sums in two parts, so that a pass over sums is two passes over small numbers.
+ghost use Rattle.std.specs.Prelude.{◌≡◌, ℕ, ◌^◌, ◌<◌, pos, ◌+ℤ◌, ◌*ℤ◌, length};
+ghost use Rattle.idct8.specs.Transform.{rounded};
+ghost use Rattle.idct8.specs.Vectors.{lane, EightWithin, RowsWithin, SumsWithin, row_at, sum_at};
+
+use crate::passes::{Rows, Sums};
+use std::simd::prelude::*;
+
+// The low part has this many bits.
+const LOW_BITS: i32 = 13;
+
+// What rounding to the nearest takes away, and its half.
+const ROUNDED_BITS: i32 = 25;
+
+const HALF: i32 = 0x100_0000;
+
+// The high and the low part of each sum.
+#[inline(always)]
+fn parts(v: i32x8) -> (i16x8, i16x8)
+    requires { EightWithin 46546944 v }
+    ensures whole { (i : ℕ) → i < 8 → lane v i ≡ pos 8192 *ℤ lane result.0 i +ℤ lane result.1 i }
+    ensures high_size { EightWithin 8191 result.0 }
+    ensures low_size { EightWithin 8191 result.1 }
+{
+    let high = v >> i32x8::splat(LOW_BITS);
+    let low = v - (high << i32x8::splat(LOW_BITS));
+    (high.cast(), low.cast())
+}
+
+/// 8192 times the one and the other part are the number, divided by 2^25 and rounded to the nearest.
+#[inline(always)]
+pub(crate) fn nearest(high: i32x8, low: i32x8) -> i32x8
+    requires high { EightWithin (2 ^ 30) high }
+    requires low { EightWithin (2 ^ 30) low }
+    ensures value { (i : ℕ) → i < 8 → lane result i ≡ rounded (pos 8192 *ℤ lane high i +ℤ lane low i) }
+    ensures size { EightWithin 270000 result }
+{
+    let carried = (low + i32x8::splat(HALF)) >> i32x8::splat(LOW_BITS);
+    (high + carried) >> i32x8::splat(ROUNDED_BITS - LOW_BITS)
+}
+
+/// The high and the low parts of eight times eight sums.
+#[inline(always)]
+pub(crate) fn split(s: Sums) -> (Rows, Rows)
+    requires { SumsWithin 46546944 s }
+    ensures whole { (k i : ℕ) → k < 8 → i < 8 → lane (sum_at s k) i ≡ pos 8192 *ℤ lane (row_at result.0 k) i +ℤ lane (row_at result.1 k) i }
+    ensures high_size { RowsWithin 8191 result.0 }
+    ensures low_size { RowsWithin 8191 result.1 }
+{
+    let (h0, l0) = parts(s.s0);
+    let (h1, l1) = parts(s.s1);
+    let (h2, l2) = parts(s.s2);
+    let (h3, l3) = parts(s.s3);
+    let (h4, l4) = parts(s.s4);
+    let (h5, l5) = parts(s.s5);
+    let (h6, l6) = parts(s.s6);
+    let (h7, l7) = parts(s.s7);
+    let high = Rows {
+        r0: h0,
+        r1: h1,
+        r2: h2,
+        r3: h3,
+        r4: h4,
+        r5: h5,
+        r6: h6,
+        r7: h7,
+    };
+    let low = Rows {
+        r0: l0,
+        r1: l1,
+        r2: l2,
+        r3: l3,
+        r4: l4,
+        r5: l5,
+        r6: l6,
+        r7: l7,
+    };
+    (high, low)
+}
