@@ -1,4 +1,4 @@
--- A block with INTRADC alone: the inverse transform gives INTRADC everywhere.
+-- A block with its first level alone: the inverse transform gives the same number everywhere, INTRADC in an intra block.
 use Rattle.std.proofs.Common.{◌≡◌, ℕ, ◌+◌, ◌*◌, ◌<◌, ◌≤◌, zero, suc, ℤ, pos, ◌+ℤ◌, ◌*ℤ◌, List, get_or, arith, refl, ap, sym, ◌∙◌, lit<}
 use Rattle.std.proofs.lemmas.Int.{ints}
 use Rattle.std.proofs.lemmas.List.{get_or-replicate}
@@ -10,7 +10,7 @@ use Rattle.h263_types.specs.declared.blocks.Block.{Block}
 use Rattle.h263_types.specs.Blocks.{IsDc, level_at}
 use Rattle.quantiser.specs.Levels.{value_of}
 use Rattle.quantiser.specs.Zigzag.{zigzag_place_of}
-use Rattle.picture_recon.specs.Samples.{intra_value, intra_values, limited}
+use Rattle.picture_recon.specs.Samples.{inter_value, inter_values, intra_value, intra_values, limited}
 use Rattle.picture_recon.proofs.Kept.{other_value}
 use Rattle.picture_recon.proofs.Walk.{IsOneOrder, later, within}
 
@@ -78,3 +78,27 @@ flat one quant b dc none n e y x hy hx =
     ∙ ap (λ (k : ℤ). rounded (pos 2048 *ℤ pos 2048 *ℤ (pos 8 *ℤ k))) (sym e)
     ∙ rounded_dc n in
     limited_dc n (level_at b 0) dc e ∙ ap limited (sym number)
+
+-- the same of a block of an inter macroblock
+no_values_inter : (one : IsOneOrder) (quant : ℕ) (b : Block) → ((k : ℕ) → 1 ≤ k → k < 64 → level_at b k ≡ pos 0) →
+    (at : ℕ) → 1 ≤ at → at < 64 → get_or (inter_values quant b) at (pos 0) ≡ pos 0
+unfolding inter_values
+no_values_inter one quant b none at some less =
+    get_or-map-range_with_len (inter_value quant b) 0 64 at at (pos 0) less (omega arith)
+    ∙ ap (value_of quant) (none (zigzag_place_of at) (later (zigzag_place_of at) at (one.from_block at less) some) (within (zigzag_place_of at) at (one.from_block at less) some))
+
+first_value_inter : (quant : ℕ) (b : Block) → get_or (inter_values quant b) 0 (pos 0) ≡ value_of quant (level_at b 0)
+unfolding inter_values zigzag_place_of
+first_value_inter quant b = get_or-map-range_with_len (inter_value quant b) 0 64 0 0 (pos 0) (lit< tt) refl
+
+pub number_of_first : (one : IsOneOrder) (quant : ℕ) (b : Block) → ((k : ℕ) → 1 ≤ k → k < 64 → level_at b k ≡ pos 0) →
+    (y x : ℕ) → y < 8 → x < 8 → inverse_at (inter_values quant b) y x ≡ rounded (pos 2048 *ℤ pos 2048 *ℤ value_of quant (level_at b 0))
+number_of_first one quant b none y x hy hx =
+    inverse_of_first (inter_values quant b) (no_values_inter one quant b none) y x hy hx
+    ∙ ap (λ (k : ℤ). rounded (pos 2048 *ℤ pos 2048 *ℤ k)) (first_value_inter quant b)
+
+-- a block without levels has values of 0
+pub no_levels : (one : IsOneOrder) (quant : ℕ) (b : Block) → ((k : ℕ) → k < 64 → level_at b k ≡ pos 0) →
+    (at : ℕ) → at < 64 → get_or (inter_values quant b) at (pos 0) ≡ pos 0
+no_levels one quant b none zero less = first_value_inter quant b ∙ ap (value_of quant) (none 0 less)
+no_levels one quant b none (suc at) less = no_values_inter one quant b (λ k some below. none k below) (suc at) (omega arith) less

@@ -1,7 +1,10 @@
--- The walk over a block's levels in the zigzag order, each of which puts its value at its place in the block.
-use Rattle.std.proofs.Common.{◌≡◌, ◌≢◌, ℕ, zero, suc, ◌+◌, ◌<◌, ◌≤◌, ℤ, pos, List, get_or, slice_set, replicate, Bool, true, false, cond, nat_lt, refl, ap, subst, sym, ◌∙◌, arith, length-set, get_or-set_same, get_or-set_other}
+-- The walk over a block's marked levels, each of which puts its value at its place in the block.
+use Rattle.std.proofs.Common.{◌≡◌, ◌≢◌, ℕ, zero, suc, ◌*◌, ◌^◌, ◌%◌, Fits, w64, bit_and, ◌<◌, ◌≤◌, ℤ, pos, List, get_or, slice_set, replicate, Bool, true, false, cond, nat_eq, nat_lt, refl, ap, subst, sym, ◌∙◌, arith, length-set, get_or-set_same, get_or-set_other}
 use Rattle.std.proofs.lemmas.Int.{ints}
 use Rattle.std.proofs.lemmas.Bool.Decides.{nat_tests}
+use Rattle.std.proofs.lemmas.Nat.Bits.{bit_at-zero, bit_at-pow_other, bit_at-trailing_zeros, bit_at_clear_same}
+use Rattle.std.proofs.lemmas.Nat.{and_le_l}
+use Rattle.std.specs.Int.{bit_at, bit_not, trailing_zeros}
 use Rattle.std.proofs.lemmas.List.{get_or_past, get_or-replicate}
 use Rattle.std.proofs.lemmas.List.Elements.{All-set, All-replicate}
 use Rattle.h263_types.specs.declared.blocks.Block.{Block}
@@ -9,7 +12,7 @@ use Rattle.h263_types.specs.Blocks.{IsValue, level_at}
 use Rattle.quantiser.specs.Levels.{value_of}
 use Rattle.quantiser.specs.Zigzag.{order, block_place_of, zigzag_place_of}
 use Rattle.picture_recon.specs.Samples.{inter_value}
-use Rattle.picture_recon.specs.Walk.{IsWalked}
+use Rattle.picture_recon.specs.Marks.{AreMarked, ArePut}
 
 -- what the law of the zigzag order says
 pub record IsOneOrder : Type 0 where
@@ -36,56 +39,84 @@ within_by false z at t e some =
 pub within : (z at : ℕ) → block_place_of z ≡ at → 1 ≤ at → z < 64
 within z at e some = within_by (nat_lt z 64) z at refl e some
 
-none_before : (z : ℕ) (v : ℤ) → 1 ≤ z → pos 0 ≡ cond (nat_lt z 1) v (pos 0)
-none_before z v h = grind (arith, nat_tests)
+-- a place whose level is 0 has the value 0 from the beginning
+none_marked : (bit : ℕ) (v : ℤ) → (bit ≡ 0 → v ≡ pos 0) → pos 0 ≡ cond (nat_eq bit 0) v (pos 0)
+none_marked bit v h = grind (arith, nat_tests)
 
-all_before : (z k : ℕ) (now v : ℤ) → k ≡ 64 → z < 64 → now ≡ cond (nat_lt z k) v (pos 0) → now ≡ v
-all_before z k now v all h e = grind (arith, nat_tests)
+-- one mark less, by whether it is the one that is looked at
+one_put : (z k bit left : ℕ) (now before v : ℤ) → before ≡ cond (nat_eq bit 0) v (pos 0) →
+    (z ≡ k → (now ≡ v) × (left ≡ 0)) → (z ≢ k → (now ≡ before) × (left ≡ bit)) → now ≡ cond (nat_eq left 0) v (pos 0)
+one_put z k bit left now before v h same other = grind (arith, nat_tests)
 
--- one place more, by whether it is the one that is looked at
-one_put : (z k : ℕ) (now before v : ℤ) → before ≡ cond (nat_lt z k) v (pos 0) → (z ≡ k → now ≡ v) → (z ≢ k → now ≡ before) →
-    now ≡ cond (nat_lt z (k + 1)) v (pos 0)
-one_put z k now before v h same other = grind (arith, nat_tests)
-
-one_passed : (z k : ℕ) (now v : ℤ) → now ≡ cond (nat_lt z k) v (pos 0) → (z ≡ k → v ≡ pos 0) → now ≡ cond (nat_lt z (k + 1)) v (pos 0)
-one_passed z k now v h none = grind (arith, nat_tests)
+no_mark : (bit : ℕ) (now v : ℤ) → bit ≡ 0 → now ≡ cond (nat_eq bit 0) v (pos 0) → now ≡ v
+no_mark bit now v none h = grind (arith, nat_tests)
 
 zero_value : IsValue (pos 0)
 zero_value = record { low = omega (arith, ints); high = omega (arith, ints) }
 
-pub starts : (one : IsOneOrder) (quant : ℕ) (b : Block) → IsWalked quant b 1 (replicate 64 (pos 0))
-starts one quant b = record {
+-- the marks but for the first
+pub starts : (one : IsOneOrder) (quant : ℕ) (b : Block) (marks rest : ℕ) → AreMarked b.levels marks → ((i : ℕ) → i < 64 → i ≢ 0 → bit_at rest i ≡ bit_at marks i) →
+    ArePut quant b rest (replicate 64 (pos 0))
+starts one quant b marks rest marked others = record {
   long = refl;
   stand = λ at less some.
+      let z = zigzag_place_of at in
+      let e = one.from_block at less in
+      let first : z ≢ 0 = let h = later z at e some in omega arith in
       get_or-replicate 64 at (pos 0) (pos 0) less
-      ∙ none_before (zigzag_place_of at) _ (later (zigzag_place_of at) at (one.from_block at less) some);
+      ∙ none_marked (bit_at rest z) (inter_value quant b at) (λ none. ap (value_of quant) (marked z (within z at e some) (sym (others z (within z at e some) first) ∙ none)));
   range = All-replicate IsValue 64 (pos 0) zero_value;
 }
 
--- a level that isn't 0 puts its value
-pub put : (one : IsOneOrder) (quant : ℕ) (b : Block) (k : ℕ) (values : List ℤ) (v : ℤ) → k < 64 → block_place_of k < 64 →
-    v ≡ value_of quant (level_at b k) → IsValue v → IsWalked quant b k values → IsWalked quant b (k + 1) (slice_set values (block_place_of k) v)
-put one quant b k values v below room value range before = record {
+-- a marked level puts its value, and its mark is taken away
+pub put : (one : IsOneOrder) (quant : ℕ) (b : Block) (k : ℕ) (rest left : ℕ) (values : List ℤ) (v : ℤ) → k < 64 → block_place_of k < 64 →
+    v ≡ value_of quant (level_at b k) → IsValue v → bit_at left k ≡ 0 → ((i : ℕ) → i < 64 → i ≢ k → bit_at left i ≡ bit_at rest i) →
+    ArePut quant b rest values → ArePut quant b left (slice_set values (block_place_of k) v)
+put one quant b k rest left values v below room value range gone others before = record {
   long = length-set values (block_place_of k) v ∙ before.long;
   stand = λ at less some.
-      one_put (zigzag_place_of at) k _ _ _ (before.stand at less some)
-      (λ e. let here : block_place_of k ≡ at = ap block_place_of (sym e) ∙ one.from_block at less in
-      subst (λ (j : ℕ). get_or (slice_set values (block_place_of k) v) j (pos 0) ≡ inter_value quant b at) here
-      (get_or-set_same values (block_place_of k) v (pos 0) (omega (arith, before.long)) ∙ value ∙ ap (λ (j : ℕ). value_of quant (level_at b j)) (sym e)))
-      (λ differs. let other : at ≢ block_place_of k = λ e. differs (ap zigzag_place_of e ∙ one.from_order k below) in
-      get_or-set_other values (block_place_of k) at v (pos 0) other);
+      let z = zigzag_place_of at in
+      let e = one.from_block at less in
+      one_put z k (bit_at rest z) (bit_at left z) _ _ _ (before.stand at less some)
+      (λ same. let here : block_place_of k ≡ at = ap block_place_of (sym same) ∙ e in (
+        subst (λ (j : ℕ). get_or (slice_set values (block_place_of k) v) j (pos 0) ≡ inter_value quant b at) here
+            (get_or-set_same values (block_place_of k) v (pos 0) (omega (arith, before.long)) ∙ value ∙ ap (λ (j : ℕ). value_of quant (level_at b j)) (sym same)),
+        ap (bit_at left) same ∙ gone,
+      ))
+      (λ differs. let other : at ≢ block_place_of k = λ here. differs (ap zigzag_place_of here ∙ one.from_order k below) in
+      (get_or-set_other values (block_place_of k) at v (pos 0) other, others z (within z at e some) differs));
   range = All-set IsValue values (block_place_of k) v range before.range;
 }
 
--- a level of 0 has the value 0, which stands already
-pub passed : (quant : ℕ) (b : Block) (k : ℕ) (values : List ℤ) → level_at b k ≡ pos 0 → IsWalked quant b k values → IsWalked quant b (k + 1) values
-passed quant b k values none before = record {
-  long = before.long;
-  stand = λ at less some.
-      one_passed (zigzag_place_of at) k _ _ (before.stand at less some) (λ e. ap (λ (j : ℕ). value_of quant (level_at b j)) e ∙ ap (value_of quant) none);
-  range = before.range;
-}
+pub ends : (one : IsOneOrder) (quant : ℕ) (b : Block) (rest : ℕ) (values : List ℤ) → rest ≡ 0 → ArePut quant b rest values →
+    (at : ℕ) → 1 ≤ at → at < 64 → get_or values at (pos 0) ≡ inter_value quant b at
+ends one quant b rest values none before at some less =
+    no_mark (bit_at rest (zigzag_place_of at)) _ _ (ap (λ (n : ℕ). bit_at n (zigzag_place_of at)) none ∙ bit_at-zero (zigzag_place_of at)) (before.stand at less some)
 
-pub ends : (one : IsOneOrder) (quant : ℕ) (b : Block) (k : ℕ) (values : List ℤ) → k ≡ 64 → IsWalked quant b k values → (at : ℕ) → 1 ≤ at → at < 64 → get_or values at (pos 0) ≡ inter_value quant b at
-ends one quant b k values all before at some less =
-    all_before (zigzag_place_of at) k _ _ all (within (zigzag_place_of at) at (one.from_block at less) some) (before.stand at less some)
+-- which levels are 0, where no mark is set, and where only the first is
+pub none_at_all : (b : Block) (marks : ℕ) → AreMarked b.levels marks → marks ≡ 0 → (k : ℕ) → k < 64 → level_at b k ≡ pos 0
+none_at_all b marks marked none k less = marked k less (ap (λ (n : ℕ). bit_at n k) none ∙ bit_at-zero k)
+
+pub none_later : (b : Block) (marks : ℕ) → AreMarked b.levels marks → marks ≡ 1 → (k : ℕ) → 1 ≤ k → k < 64 → level_at b k ≡ pos 0
+none_later b marks marked first k some less =
+    let other : k ≢ 0 = omega arith in
+    marked k less (ap (λ (n : ℕ). bit_at n k) first ∙ bit_at-pow_other 0 k other)
+
+one_is_not_zero : (bit : ℕ) → bit ≡ 1 → bit ≡ 0 → ⊥
+one_is_not_zero bit set none = absurd (omega arith)
+
+-- the lowest mark, where there is one and the first place has none
+pub lowest : (rest : ℕ) → Fits w64 rest → rest ≢ 0 → bit_at rest 0 ≡ 0 →
+    (1 ≤ trailing_zeros w64 rest) × (trailing_zeros w64 rest < 64) × (bit_at rest (trailing_zeros w64 rest) ≡ 1)
+lowest rest fits some first =
+    let mark = bit_at-trailing_zeros w64 rest (omega arith) fits.fits in
+    let other : trailing_zeros w64 rest ≢ 0 = λ e. one_is_not_zero _ mark.1 (ap (bit_at rest) e ∙ first) in
+    (omega arith, mark.0, mark.1)
+
+-- taking a mark away leaves a smaller number
+pub fewer : (rest k : ℕ) → k < 64 → bit_at rest k ≡ 1 → bit_and rest (bit_not w64 (1 * 2 ^ k % 2 ^ 64)) < rest
+fewer rest k less mark =
+    let left = bit_and rest (bit_not w64 (1 * 2 ^ k % 2 ^ 64)) in
+    let most : left ≤ rest = and_le_l rest (bit_not w64 (1 * 2 ^ k % 2 ^ 64)) in
+    let other : left ≢ rest = λ e. one_is_not_zero _ mark (ap (λ (n : ℕ). bit_at n k) (sym e) ∙ bit_at_clear_same w64 rest k less) in
+    omega arith

@@ -1,3 +1,3 @@
+pub mod Marks
 pub mod Samples
 pub mod Squares
-pub mod Walk

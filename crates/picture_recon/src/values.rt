@@ -1,16 +1,18 @@
 //! The values and the samples of one block.
-ghost use Rattle.std.specs.Prelude.{◌≡◌, ℕ, ◌+◌, ◌*◌, ◌^◌, ◌<◌, ◌≤◌, ◌↔◌, IsTrue, pos, ◌+ℤ◌, All, length, slice_index, slice_index_or};
+ghost use Rattle.std.specs.Prelude.{◌≡◌, ℕ, ◌+◌, ◌*◌, ◌^◌, ◌<◌, ◌≤◌, pos, ◌+ℤ◌, ◌*ℤ◌, unsigned_abs, All, length, slice_index, slice_index_or};
 ghost use Rattle.h263_types.specs.Blocks.{IsDc, IsInterBlock, IsIntraBlock, IsLevel, IsQuant, IsValue, level_at};
 ghost use Rattle.idct8.specs.Ranges.{Within};
-ghost use Rattle.idct8.specs.Transform.{inverse_at};
+ghost use Rattle.idct8.specs.Transform.{inverse_at, rounded};
 ghost use Rattle.picture_recon.specs.Samples.{inter_value, inter_values, intra_values, limited};
-ghost use Rattle.picture_recon.specs.Walk.{IsWalked};
+ghost use Rattle.quantiser.specs.Levels.{value_of, value_size};
+ghost use Rattle.picture_recon.specs.Marks.{AreMarked};
 
 use h263_types::Block;
 use idct8::inverse;
 use idct8::laws::zeros_give_zeros;
+use quantiser::block_place;
 use quantiser::laws::one_order;
-use quantiser::{block_place, value};
+use std::simd::prelude::*;
 
 // The samples of a block of an intra macroblock, by rows: INTRADC itself where the block has no other level.
 pub(crate) fn intra_samples(quant: u8, block: &Block) -> [u8; 64]
@@ -18,11 +20,12 @@ pub(crate) fn intra_samples(quant: u8, block: &Block) -> [u8; 64]
     requires block { IsIntraBlock block.now }
     ensures { (y x : ℕ) → y < 8 → x < 8 → slice_index result (8 * y + x) ≡ limited (inverse_at (intra_values quant block.now) y x) }
 {
-    if are_zeros(block, 1, 64) {
-        one_order();
+    one_order();
+    let marks = marks_of(&block.levels);
+    if marks == FIRST_ALONE {
         return flat(block.levels[0]);
     }
-    limited_samples(&inverse(&values_of_intra(quant, block)))
+    limited_samples(&inverse(&values_of_intra(quant, block, marks)))
 }
 
 // A block of samples that are all INTRADC.
@@ -34,118 +37,119 @@ fn flat(dc: i16) -> [u8; 64]
 }
 
 // The samples of a block of an inter macroblock, by rows, from the predicted ones: these themselves where the block has
-// no level.
+// no level. Where it has the first level alone, the same number is added to all.
 pub(crate) fn inter_samples(quant: u8, block: &Block, predicted: &[u8; 64]) -> [u8; 64]
     requires quant { IsQuant quant }
     requires block { IsInterBlock block.now }
     ensures { (y x : ℕ) → y < 8 → x < 8 → slice_index result (8 * y + x) ≡ limited (pos (slice_index predicted.now (8 * y + x)) +ℤ inverse_at (inter_values quant block.now) y x) }
 {
-    if is_without_levels(block) {
+    one_order();
+    let marks = marks_of(&block.levels);
+    if marks == 0 {
         zeros_give_zeros();
         return *predicted;
     }
-    limited_sums(predicted, &inverse(&values_of_inter(quant, block)))
+    if marks == FIRST_ALONE {
+        let number = number_of_first(value_of_level(quant, block.levels[0]));
+        return limited_sums_with_one(predicted, number);
+    }
+    limited_sums(predicted, &inverse(&values_of_inter(quant, block, marks)))
 }
 
-// Goes through all levels with no way out before the end, so that they are taken in lanes.
-fn is_without_levels(block: &Block) -> bool
-    ensures { IsTrue result → (at : ℕ) → level_at block.now at ≡ pos 0 }
+// What the inverse transform gives at each place where all values but the first are 0.
+#[inline(always)]
+fn number_of_first(value: i16) -> i32
+    requires { IsValue value }
+    ensures value { result ≡ rounded (pos 2048 *ℤ pos 2048 *ℤ value) }
+    ensures range { Within (2 ^ 15) result }
 {
-    let mut largest = 0;
-    for k in 0..64 {
-        largest = largest.max(block.levels[k].unsigned_abs());
-    }
-    largest == 0
+    (i32::from(value) + 4) >> 3
+}
+
+// The marks of a block whose levels are 0 but for the first.
+const FIRST_ALONE: u64 = 1;
+
+// Which levels aren't 0: bit k is for place k of the zigzag order.
+#[inline(always)]
+fn marks_of(levels: &[i16; 64]) -> u64
+    requires { (k : ℕ) → k < 64 → Within (2 ^ 8) (slice_index_or levels.now k (pos 0)) }
+    ensures { AreMarked levels.now result }
+{
+    Simd::from_array(*levels)
+        .simd_ne(Simd::splat(0))
+        .to_bitmask()
 }
 
 // The values of a block of an intra macroblock, by rows: 8 times INTRADC, and those of the other levels.
-fn values_of_intra(quant: u8, block: &Block) -> [i16; 64]
+fn values_of_intra(quant: u8, block: &Block, marks: u64) -> [i16; 64]
     requires quant { IsQuant quant }
     requires block { IsIntraBlock block.now }
+    requires marked { AreMarked block.now.levels marks }
     ensures values { result ≡ intra_values quant block.now }
     ensures range { All IsValue result }
 {
-    let mut values = values_but_first(quant, block);
+    let mut values = values_but_first(quant, block, marks);
     values[0] = 8 * block.levels[0];
     values
 }
 
 // The values of a block of an inter macroblock, by rows.
-fn values_of_inter(quant: u8, block: &Block) -> [i16; 64]
+fn values_of_inter(quant: u8, block: &Block, marks: u64) -> [i16; 64]
     requires quant { IsQuant quant }
     requires block { IsInterBlock block.now }
+    requires marked { AreMarked block.now.levels marks }
     ensures values { result ≡ inter_values quant block.now }
     ensures range { All IsValue result }
 {
-    let mut values = values_but_first(quant, block);
-    values[0] = value(quant, block.levels[0]);
+    let mut values = values_but_first(quant, block, marks);
+    values[0] = value_of_level(quant, block.levels[0]);
     values
 }
 
-// The values of a block's levels, by rows, but for the first. Most groups of eight levels are zeros, and passed over.
-fn values_but_first(quant: u8, block: &Block) -> [i16; 64]
+// The values of a block's levels, by rows, but for the first. Goes from mark to mark, since most levels are 0.
+#[inline(always)]
+fn values_but_first(quant: u8, block: &Block, marks: u64) -> [i16; 64]
     requires quant { IsQuant quant }
     requires levels { (k : ℕ) → 1 ≤ k → k < 64 → IsLevel (level_at block.now k) }
+    requires marked { AreMarked block.now.levels marks }
     ensures long { length result ≡ 64 }
     ensures values { (at : ℕ) → 1 ≤ at → at < 64 → slice_index_or result at (pos 0) ≡ inter_value quant block.now at }
     ensures range { All IsValue result }
 {
     one_order();
     let mut values = [0; 64];
-    put_values(quant, block, 1, 8, &mut values);
-    for group in 1..8 {
-        put_group(quant, block, 8 * group, &mut values);
+    let mut rest = marks & !1;
+    'marks: while rest != 0 {
+        let k = rest.trailing_zeros() as usize;
+        values[block_place(k)] = value_of_level(quant, block.levels[k]);
+        rest &= !(1 << k);
     }
     values
 }
 
-// Puts the values of the eight levels from place `from` of the zigzag order on.
+// The value of a level, as the quantiser's `value`, but with no branch on the sign: it is as often one as the other.
 #[inline(always)]
-fn put_group(quant: u8, block: &Block, from: usize, values: &mut [i16; 64])
+fn value_of_level(quant: u8, level: i16) -> i16
     requires quant { IsQuant quant }
-    requires levels { (k : ℕ) → 1 ≤ k → k < 64 → IsLevel (level_at block.now k) }
-    requires some { 1 ≤ from }
-    requires from { from ≤ 56 }
-    requires walked { IsWalked quant block.now from values.old }
-    ensures { IsWalked quant block.now (from + 8) values.new }
+    requires level { IsLevel level }
+    ensures value { result ≡ value_of quant level }
+    ensures range { IsValue result }
 {
-    if !are_zeros(block, from, from + 8) {
-        put_values(quant, block, from, from + 8, values);
-    }
+    let sign = i32::from(level.signum());
+    (sign * size_of_level(quant, level)).clamp(-2048, 2047) as i16
 }
 
-// Whether the levels from place `from` of the zigzag order on to place `to` are 0. Takes them together, with no way out
-// before the end.
+// The size of the value of a level that isn't 0.
 #[inline(always)]
-fn are_zeros(block: &Block, from: usize, to: usize) -> bool
-    requires order { from ≤ to }
-    requires to { to ≤ 64 }
-    requires levels { (k : ℕ) → from ≤ k → k < to → IsLevel (level_at block.now k) }
-    ensures { IsTrue result → (k : ℕ) → from ≤ k → k < to → level_at block.now k ≡ pos 0 }
-{
-    let mut bits = 0;
-    for k in from..to {
-        bits |= block.levels[k];
-    }
-    bits == 0
-}
-
-// Puts the values of the levels from place `from` of the zigzag order on to place `to`.
-fn put_values(quant: u8, block: &Block, from: usize, to: usize, values: &mut [i16; 64])
+fn size_of_level(quant: u8, level: i16) -> i32
     requires quant { IsQuant quant }
-    requires levels { (k : ℕ) → 1 ≤ k → k < 64 → IsLevel (level_at block.now k) }
-    requires some { 1 ≤ from }
-    requires order { from ≤ to }
-    requires to { to ≤ 64 }
-    requires walked { IsWalked quant block.now from values.old }
-    ensures { IsWalked quant block.now to values.new }
+    requires level { IsLevel level }
+    ensures size { result ≡ pos (value_size quant (unsigned_abs level)) }
+    ensures range { Within (2 ^ 13) result }
 {
-    one_order();
-    for k in from..to {
-        if block.levels[k] != 0 {
-            values[block_place(k)] = value(quant, block.levels[k]);
-        }
-    }
+    let quant = u32::from(quant);
+    let size = quant * (2 * u32::from(level.unsigned_abs()) + 1) - (1 - quant % 2);
+    size as i32
 }
 
 // Each number limited to 0 to 255.
@@ -171,6 +175,18 @@ fn limited_sums(predicted: &[u8; 64], numbers: &[i32; 64]) -> [u8; 64]
     samples
 }
 
+// The sum of each sample and one number, limited to 0 to 255.
+fn limited_sums_with_one(predicted: &[u8; 64], number: i32) -> [u8; 64]
+    requires number { Within (2 ^ 15) number }
+    ensures { (at : ℕ) → at < 64 → slice_index result at ≡ limited (pos (slice_index predicted.now at) +ℤ number) }
+{
+    let mut samples = [0; 64];
+    for at in 0..64 {
+        samples[at] = limited_sum(predicted[at], number);
+    }
+    samples
+}
+
 fn limited_sum(sample: u8, number: i32) -> u8
     requires { Within (2 ^ 15) number }
     ensures { result ≡ limited (pos sample +ℤ number) }
@@ -178,14 +194,9 @@ fn limited_sum(sample: u8, number: i32) -> u8
     limited_sample(i32::from(sample) + number)
 }
 
+// By `clamp`, which the compiler knows how to do in lanes.
 fn limited_sample(number: i32) -> u8
     ensures { result ≡ limited number }
 {
-    if number < 0 {
-        0
-    } else if number > 255 {
-        255
-    } else {
-        number as u8
-    }
+    number.clamp(0, 255) as u8
 }

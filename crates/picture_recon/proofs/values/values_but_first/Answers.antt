@@ -1,11 +1,55 @@
-use Rattle.std.proofs.Common.{◌*◌, arith}
-use Rattle.picture_recon.proofs.Walk.{starts, ends}
+use Rattle.std.proofs.Common.{◌≡◌, ◌≢◌, ℕ, ◌*◌, ◌^◌, ◌%◌, ◌<◌, arith, ap, ◌∙◌, subst, sym, to_z, of_z, w16, w64, lit<, slice_set, bit_and}
+use Rattle.std.specs.Int.{bit_at, trailing_zeros, bit_not}
+use Rattle.std.proofs.lemmas.Nat.Bits.{bit_at_clear_same, bit_at_clear_other}
+use Rattle.h263_types.specs.Blocks.{IsLevel, IsValue, level_at}
+use Rattle.quantiser.specs.Levels.{value_of}
+use Rattle.picture_recon.specs.Marks.{ArePut}
+use Rattle.picture_recon.proofs.Kept.{kept, kept_level}
+use Rattle.picture_recon.proofs.Walk.{starts, put, ends, lowest, fewer}
 use Rattle.picture_recon.proofs.values.values_but_first.Goals as goal
 
-pub put_values-requires-clause-walked : goal.put_values-requires-clause-walked
-put_values-requires-clause-walked c = starts (record { from_order = c.one_order.ensures.from_order; from_block = c.one_order.ensures.from_block }) c.args.quant c.args.block.now
+pub marks-init : goal.marks-init
+marks-init c = (
+  starts (record { from_order = c.one_order.ensures.from_order; from_block = c.one_order.ensures.from_block }) c.args.quant c.args.block.now c.args.marks _ c.requires.marked
+      (λ i less differs. bit_at_clear_other w64 c.args.marks 0 (lit< tt) i less differs),
+  bit_at_clear_same w64 c.args.marks 0 (lit< tt),
+)
+
+pub value_of_level-requires-clause-level : goal.value_of_level-requires-clause-level
+value_of_level-requires-clause-level c =
+    let k = trailing_zeros w64 c.marks.rest in
+    let mark = lowest c.marks.rest c.marks.auto.rest-fits c.marks-test.true c.marks.invariant.1 in
+    let level = c.requires.levels k mark.0 mark.1 in
+    subst IsLevel (sym (kept_level (level_at c.args.block.now k) level)) level
+
+pub marks-smaller : goal.marks-smaller
+marks-smaller c =
+    let mark = lowest c.marks.rest c.marks.auto.rest-fits c.marks-test.true c.marks.invariant.1 in
+    fewer c.marks.rest (trailing_zeros w64 c.marks.rest) mark.1 mark.2
+
+pub marks-preserved : goal.marks-preserved
+marks-preserved c =
+    let quant = c.args.quant in
+    let block = c.args.block.now in
+    let rest = c.marks.rest in
+    let k = trailing_zeros w64 rest in
+    let mark = lowest rest c.marks.auto.rest-fits c.marks-test.true c.marks.invariant.1 in
+    let left = bit_and rest (bit_not w64 (1 * 2 ^ k % 2 ^ 64)) in
+    let gone : bit_at left k ≡ 0 = bit_at_clear_same w64 rest k mark.1 in
+    let others = bit_at_clear_other w64 rest k mark.1 in
+    let level = c.requires.levels k mark.0 mark.1 in
+    let same = kept c.value_of_level.result c.value_of_level.ensures.range in
+    let v = to_z w16 (of_z w16 c.value_of_level.result) in
+    let next = put (record { from_order = c.one_order.ensures.from_order; from_block = c.one_order.ensures.from_block }) quant block k rest left c.marks.values v mark.1
+    (subst (λ (n : ℕ). n < 64) c.block_place.ensures.place c.block_place.ensures.range)
+    (same ∙ c.value_of_level.ensures.value ∙ ap (value_of quant) (kept_level (level_at block k) level))
+    (subst IsValue (sym same) c.value_of_level.ensures.range) gone others c.marks.invariant.0 in
+    let first : 0 ≢ k = let h = mark.0 in omega arith in (
+      subst (λ (n : ℕ). ArePut quant block left (slice_set c.marks.values n v)) (sym c.block_place.ensures.place) next,
+      others 0 (lit< tt) first ∙ c.marks.invariant.1,
+    )
 
 pub returns-clause-values : goal.returns-clause-values
 returns-clause-values c =
     ends (record { from_order = c.one_order.ensures.from_order; from_block = c.one_order.ensures.from_block }) c.args.quant c.args.block.now
-    (8 * c.loop-group.group) c.loop-group.values (omega arith) c.loop-group.invariant
+    c.marks.rest c.marks.values c.marks-test.false c.marks.invariant.0

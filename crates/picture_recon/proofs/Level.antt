@@ -1,0 +1,51 @@
+-- The value of a level, by its size and its sign.
+use Rattle.std.proofs.Common.{◌≡◌, ℕ, zero, suc, ◌^◌, ◌≤◌, min, ℤ, pos, negsuc, neg_ℤ, ◌*ℤ◌, unsigned_abs, arith, ap, sym, subst, ◌∙◌, to_z, of_z, w16, w32}
+use Rattle.std.specs.Int.{int_max, int_min, int_signum}
+use Rattle.std.proofs.lemmas.Int.{ints, clamps}
+use Rattle.h263_types.specs.Blocks.{IsValue}
+use Rattle.idct8.specs.Ranges.{Within}
+use Rattle.quantiser.specs.Levels.{value_of, value_size}
+
+pub kept_value : (z : ℤ) → IsValue z → to_z w16 (of_z w16 (to_z w32 (of_z w32 z))) ≡ z
+kept_value z h = omega (arith, ints)
+
+limited_up : (n : ℕ) (z : ℤ) → z ≡ pos 1 *ℤ pos n → int_max (negsuc 2047) (int_min z (pos 2047)) ≡ pos (min n 2047)
+limited_up n z e = omega (arith, ints, clamps)
+
+limited_down : (n : ℕ) (z : ℤ) → z ≡ negsuc 0 *ℤ pos n → int_max (negsuc 2047) (int_min z (pos 2047)) ≡ neg_ℤ (pos (min n 2048))
+limited_down n z e = omega (arith, ints, clamps)
+
+limited_none : (n : ℕ) (z : ℤ) → z ≡ pos 0 *ℤ pos n → int_max (negsuc 2047) (int_min z (pos 2047)) ≡ pos 0
+limited_none n z e = omega (arith, ints, clamps)
+
+pub same_value : (q : ℕ) (z v : ℤ) → v ≡ int_signum z *ℤ pos (value_size q (unsigned_abs z)) → int_max (negsuc 2047) (int_min v (pos 2047)) ≡ value_of q z
+same_value q (pos zero) v e = limited_none (value_size q 0) v e
+same_value q (pos (suc n)) v e =
+    let one : min (suc n) 1 ≡ 1 = omega arith in
+    limited_up (value_size q (suc n)) v (e ∙ ap (λ (k : ℕ). pos k *ℤ pos (value_size q (suc n))) one)
+same_value q (negsuc n) v e = limited_down (value_size q (suc n)) v e
+
+-- the product of the sign and a size is kept
+kept_product : (z : ℤ) (n : ℕ) → n ≤ 2 ^ 13 → to_z w32 (of_z w32 (int_signum z *ℤ pos n)) ≡ int_signum z *ℤ pos n
+kept_product (pos zero) n h = omega (arith, ints)
+kept_product (pos (suc k)) n h =
+    let one : min (suc k) 1 ≡ 1 = omega arith in
+    subst (λ (m : ℕ). to_z w32 (of_z w32 (pos m *ℤ pos n)) ≡ pos m *ℤ pos n) (sym one) (omega (arith, ints))
+kept_product (negsuc k) n h = omega (arith, ints)
+
+kept_sign : (z : ℤ) → to_z w32 (of_z w32 (int_signum z)) ≡ int_signum z
+kept_sign (pos k) = omega (arith, ints)
+kept_sign (negsuc k) = omega (arith, ints)
+
+pub same_sign : (z sign : ℤ) → sign ≡ int_signum z → to_z w16 (of_z w16 sign) ≡ int_signum z
+same_sign (pos k) sign e = omega (arith, ints, e)
+same_sign (negsuc k) sign e = omega (arith, ints, e)
+
+pub same_product : (z sign size : ℤ) (n : ℕ) → sign ≡ int_signum z → size ≡ pos n → Within (2 ^ 13) size →
+    to_z w32 (of_z w32 (to_z w32 (of_z w32 sign) *ℤ to_z w32 (of_z w32 size))) ≡ int_signum z *ℤ pos n
+same_product z sign size n e h within =
+    let first : to_z w32 (of_z w32 sign) ≡ int_signum z = ap (λ (k : ℤ). to_z w32 (of_z w32 k)) e ∙ kept_sign z in
+    let second : to_z w32 (of_z w32 size) ≡ pos n = omega (arith, ints) in
+    ap (λ (k : ℤ). to_z w32 (of_z w32 (k *ℤ to_z w32 (of_z w32 size)))) first
+    ∙ ap (λ (k : ℤ). to_z w32 (of_z w32 (int_signum z *ℤ k))) second
+    ∙ kept_product z n (omega (arith, ints))
