@@ -83,7 +83,7 @@ module _ (block : List ℕ) (reference : Picture) (mb rounding : ℕ) where
 
   -- ---- half samples
 
-  itself : (v : Vector) → IsNear v v
+  pub itself : (v : Vector) → IsNear v v
   itself v = record { x = omega (arith, ints); y = omega (arith, ints) }
 
   pub near_is_candidate : (best : Candidate) → IsCandidate block reference mb rounding best →

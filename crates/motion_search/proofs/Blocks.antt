@@ -15,6 +15,7 @@ use Rattle.half_sample.specs.Prediction.{predicted_sample}
 use Rattle.motion_search.specs.declared.candidate.Candidate.{Candidate}
 use Rattle.h263_planes.specs.Samples.{sample_at}
 use Rattle.std.proofs.Math.ListN.{drop_of_length-le}
+use Rattle.motion_search.specs.Rows.{rows_from}
 use Rattle.motion_search.specs.Cost.{square, differences_from, difference_of, lead_of}
 
 -- ---- the 256 numbers of a block
@@ -83,20 +84,36 @@ row_is f row j hj long same =
     (λ i hi. let h : i < 16 = omega arith in
     get_or-take 16 (drop (16 * j) (square f)) i 0 h ∙ get_or-drop (16 * j) (square f) i 0 ∙ get_or-square f j i hj h ∙ sym (same i h))
 
+-- the first of some rows and the others
+pub row_cut : (block other : List ℕ) (j : ℕ) →
+    ((xs ys us vs : List ℕ) → length xs ≡ length us → differences (xs ++ ys) (us ++ vs) ≡ differences xs us + differences ys vs) →
+    j < 16 → length block ≡ 256 → length other ≡ 256 →
+    differences (drop (16 * j) block) (drop (16 * j) other) ≡ differences (chunk (16 * j) 16 block) (chunk (16 * j) 16 other) + differences (drop (16 * (j + 1)) block) (drop (16 * (j + 1)) other)
+row_cut block other j add hj hb ho =
+    let next : 16 * j + 16 ≡ 16 * (j + 1) = omega arith in
+    let long : length (chunk (16 * j) 16 block) ≡ length (chunk (16 * j) 16 other) =
+    length-chunk (16 * j) 16 block (omega arith) ∙ sym (length-chunk (16 * j) 16 other (omega arith)) in
+    let cut : differences (drop (16 * j) block) (drop (16 * j) other) ≡ differences (chunk (16 * j) 16 block ++ drop (16 * j + 16) block) (chunk (16 * j) 16 other ++ drop (16 * j + 16) other) =
+    cc (chunk-drop (16 * j) 16 block, chunk-drop (16 * j) 16 other) in
+    cut ∙ add (chunk (16 * j) 16 block) (drop (16 * j + 16) block) (chunk (16 * j) 16 other) (drop (16 * j + 16) other) long
+    ∙ ap (λ (k : ℕ). differences (chunk (16 * j) 16 block) (chunk (16 * j) 16 other) + differences (drop k block) (drop k other)) next
+
 one_row_more : (f : ℕ → ℕ → ℕ) (block row : List ℕ) (j : ℕ) →
     ((xs ys us vs : List ℕ) → length xs ≡ length us → differences (xs ++ ys) (us ++ vs) ≡ differences xs us + differences ys vs) →
     j < 16 → length block ≡ 256 → length row ≡ 16 → ((i : ℕ) → i < 16 → get_or row i 0 ≡ f i j) →
     differences (drop (16 * j) block) (drop (16 * j) (square f)) ≡ differences (slice_range block (16 * j) (16 * j + 16)) row + differences (drop (16 * (j + 1)) block) (drop (16 * (j + 1)) (square f))
 one_row_more f block row j add hj hb hr same =
-    let next : 16 * j + 16 ≡ 16 * (j + 1) = omega arith in
-    let long : length (chunk (16 * j) 16 block) ≡ length (chunk (16 * j) 16 (square f)) =
-    length-chunk (16 * j) 16 block (omega arith) ∙ sym (length-chunk (16 * j) 16 (square f) (omega (arith, length-square f))) in
-    let cut : differences (drop (16 * j) block) (drop (16 * j) (square f)) ≡ differences (chunk (16 * j) 16 block ++ drop (16 * j + 16) block) (chunk (16 * j) 16 (square f) ++ drop (16 * j + 16) (square f)) =
-    cc (chunk-drop (16 * j) 16 block, chunk-drop (16 * j) 16 (square f)) in
-    cut ∙ add (chunk (16 * j) 16 block) (drop (16 * j + 16) block) (chunk (16 * j) 16 (square f)) (drop (16 * j + 16) (square f)) long
-    ∙ ap (λ (r : List ℕ). differences (chunk (16 * j) 16 block) r + differences (drop (16 * j + 16) block) (drop (16 * j + 16) (square f))) (row_is f row j hj hr same)
-    ∙ ap (λ (b : List ℕ). differences b row + differences (drop (16 * j + 16) block) (drop (16 * j + 16) (square f))) (sym (part_is block (16 * j) 16))
-    ∙ ap (λ (k : ℕ). differences (slice_range block (16 * j) (16 * j + 16)) row + differences (drop k block) (drop k (square f))) next
+    row_cut block (square f) j add hj hb (length-square f)
+    ∙ ap (λ (r : List ℕ). differences (chunk (16 * j) 16 block) r + differences (drop (16 * (j + 1)) block) (drop (16 * (j + 1)) (square f))) (row_is f row j hj hr same)
+    ∙ ap (λ (b : List ℕ). differences b row + differences (drop (16 * (j + 1)) block) (drop (16 * (j + 1)) (square f))) (sym (part_is block (16 * j) 16))
+
+pub one_row_of_two : (block other : List ℕ) (j : ℕ) →
+    ((xs ys us vs : List ℕ) → length xs ≡ length us → differences (xs ++ ys) (us ++ vs) ≡ differences xs us + differences ys vs) →
+    j < 16 → length block ≡ 256 → length other ≡ 256 →
+    differences (slice_range block (16 * j) (16 * j + 16)) (slice_range other (16 * j) (16 * j + 16)) + rows_from block other (j + 1) ≡ rows_from block other j
+unfolding rows_from
+one_row_of_two block other j add hj hb ho =
+    cc (row_cut block other j add hj hb ho, part_is block (16 * j) 16, part_is other (16 * j) 16)
 
 pub row_small : (block row : List ℕ) (j : ℕ) → j < 16 → length block ≡ 256 → length row ≡ 16 → ((i : ℕ) → get_or block i 0 < 256) → ((i : ℕ) → get_or row i 0 < 256) →
     differences (slice_range block (16 * j) (16 * j + 16)) row ≤ 4080
@@ -152,8 +169,8 @@ half_small left a b fall ea eb =
 -- the four quarters are all rows
 pub quarters_add : (left : ℕ → ℕ) (a b c d : ℕ) → left 16 ≡ 0 →
     a + (left 1 + left 5 + left 9 + left 13) ≡ left 0 + left 4 + left 8 + left 12 →
-    b + (left 3 + left 7 + left 11 + left 15) ≡ left 2 + left 6 + left 10 + left 14 →
-    c + (left 2 + left 6 + left 10 + left 14) ≡ left 1 + left 5 + left 9 + left 13 →
+    b + (left 2 + left 6 + left 10 + left 14) ≡ left 1 + left 5 + left 9 + left 13 →
+    c + (left 3 + left 7 + left 11 + left 15) ≡ left 2 + left 6 + left 10 + left 14 →
     d + (left 4 + left 8 + left 12 + left 16) ≡ left 3 + left 7 + left 11 + left 15 →
     a + b + c + d ≡ left 0
 quarters_add left a b c d end ea eb ec ed = omega (arith, end, ea, eb, ec, ed)
@@ -168,3 +185,13 @@ unfolding differences_from
 no_rows block p x y j long end =
     let past : length block ≤ 16 * j = omega arith in
     ap (λ (l : List ℕ). differences l (drop (16 * j) (square (λ a b. sample_at p Y (x + a) (y + b))))) (drop_of_length-le block past)
+
+pub all_rows_of_two : (block other : List ℕ) → rows_from block other 0 ≡ differences block other
+unfolding rows_from
+all_rows_of_two block other = refl
+
+pub no_rows_of_two : (block other : List ℕ) (j : ℕ) → length block ≡ 256 → 16 ≤ j → rows_from block other j ≡ 0
+unfolding rows_from
+no_rows_of_two block other j long end =
+    let past : length block ≤ 16 * j = omega arith in
+    ap (λ (l : List ℕ). differences l (drop (16 * j) other)) (drop_of_length-le block past)

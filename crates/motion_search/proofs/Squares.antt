@@ -1,5 +1,5 @@
 -- The vectors among which the search chooses, as lists and by what is true of them.
-use Rattle.std.proofs.Common.{◌≡◌, refl, sym, ap, subst, ◌∙◌, arith, true≢false, ℕ, suc, ◌+◌, ◌*◌, ◌/◌, ◌%◌, ◌<◌, ◌≤◌, List, [], ◌∷◌, map, length, Bool, true, false, cond, ◌&&◌, ℤ, pos, negsuc, ◌+ℤ◌, ◌-ℤ◌, ◌≤ℤ◌, neg_ℤ, unsigned_abs, int_le, lit≤, lit<, zero, ◌⊎◌, inl, inr}
+use Rattle.std.proofs.Common.{◌≡◌, refl, sym, ap, subst, ◌∙◌, arith, true≢false, ℕ, suc, ◌+◌, ◌*◌, ◌/◌, ◌%◌, ◌<◌, ◌≤◌, List, [], ◌∷◌, map, length, Bool, true, false, cond, ◌&&◌, ℤ, pos, negsuc, ◌+ℤ◌, ◌-ℤ◌, ◌≤ℤ◌, neg_ℤ, unsigned_abs, int_le, lit≤, lit<, zero, ◌⊎◌, inl, inr, ◌-◌}
 use Rattle.std.proofs.lemmas.Int.{ints}
 use Rattle.std.specs.List.{All, filter}
 use Rattle.std.proofs.lemmas.Bool.Decides.{Decides-and}
@@ -202,6 +202,15 @@ near_around P v w near all =
     (ap (λ (k : ℕ). v.x +ℤ (pos k -ℤ pos 1)) (mod-mul-add j 3 i across.0) ∙ ap (λ (z : ℤ). v.x +ℤ z) across.1 ∙ led_there v.x w.x)
     (ap (λ (k : ℕ). v.y +ℤ (pos k -ℤ pos 1)) (div-mul-add j 3 i across.0) ∙ ap (λ (z : ℤ). v.y +ℤ z) down.1 ∙ led_there v.y w.y))
     (all (j * 3 + i) small)
+
+-- what is true of the vector itself and of its eight neighbours
+pub near_others : (P : Vector → Type 0) (v w : Vector) → IsNear v w → P v → ((n : ℕ) → n < 8 → P (around v (n + n / 4))) → P w
+near_others P v w near own others = near_around P v w near (λ k hk. by k hk (cases_order k 4))
+  where
+    by : (k : ℕ) → k < 9 → (k ≡ 4) ⊎ ((k < 4) ⊎ (4 < k)) → P (around v k)
+    by k hk (inl e) = subst (λ (m : ℕ). P (around v m)) (sym e) (subst P (same_vectors v.x _ v.y _ (sym (stays v.x (pos 0) refl)) (sym (stays v.y (pos 0) refl))) own)
+    by k hk (inr (inl above)) = let e : k + k / 4 ≡ k = omega (arith, above) in subst (λ (m : ℕ). P (around v m)) e (others k (omega (arith, above)))
+    by k hk (inr (inr below)) = let e : (k - 1) + (k - 1) / 4 ≡ k = omega (arith, hk, below) in subst (λ (m : ℕ). P (around v m)) e (others (k - 1) (omega (arith, hk, below)))
 
 pub around_is_near : (v : Vector) (k : ℕ) → k < 9 → IsNear v (around v k)
 around_is_near v k h = record { x = omega (arith, ints); y = omega (arith, ints) }

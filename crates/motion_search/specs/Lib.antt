@@ -2,3 +2,4 @@ pub mod Order
 pub mod Cost
 pub mod Vectors
 pub mod Best
+pub mod Rows

@@ -1,5 +1,5 @@
 //! The neighbours half a sample away.
-ghost use Rattle.std.specs.Prelude.{◌≡◌, ℕ, ◌<◌, ◌≤◌, ◌↔◌, ℤ, if◌then◌else◌};
+ghost use Rattle.std.specs.Prelude.{◌≡◌, ℕ, ◌+◌, ◌/◌, ◌<◌, ◌≤◌, ◌↔◌, ℤ, if◌then◌else◌};
 ghost use Rattle.h263_types.specs.Sizes.{mbs_of};
 ghost use Rattle.h263_types.specs.Vectors.{InReach, IsWithin};
 ghost use Rattle.h263_types.specs.Blocks.{IsVector};
@@ -15,12 +15,14 @@ use crate::within::is_within;
 use h263_planes::PictureRef;
 use h263_types::{Reach, Vector, reach};
 
-// The vector in place `k` of the nine around a vector, by rows from the top.
-fn neighbour(vector: Vector, k: u32) -> Vector
+// The neighbour in place `n` of the eight around a vector, by rows from the top: of the nine places the middle one is the
+// vector's own.
+fn neighbour(vector: Vector, n: u32) -> Vector
     requires vector { IsVector vector }
-    requires k { k < 9 }
-    ensures { result ≡ around vector k }
+    requires n { n < 8 }
+    ensures { result ≡ around vector (n + n / 4) }
 {
+    let k = n + n / 4;
     Vector {
         x: vector.x + (k % 3) as i8 - 1,
         y: vector.y + (k / 3) as i8 - 1,
@@ -71,8 +73,8 @@ pub(crate) fn best_of_neighbours(
     }
     let reach = reach(reference.format(), mb);
     let mut first = best;
-    for k in 0..9u32 {
-        let vector = neighbour(best.vector, k);
+    for n in 0..8u32 {
+        let vector = neighbour(best.vector, n);
         first = better_in_reach(block, reference, mb, rounding, reach, vector, first);
     }
     first

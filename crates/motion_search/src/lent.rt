@@ -18,7 +18,7 @@ use sad_kernel::sad_of_four;
 
 // Row `j` of a block.
 #[inline(always)]
-fn block_row(block: &[u8; 256], j: u32) -> &[u8]
+pub(crate) fn block_row(block: &[u8; 256], j: u32) -> &[u8]
     requires j { j < 16 }
     ensures value { result.now ≡ slice_range block.now (16 * j) (16 * j + 16) }
     ensures length { length result.now ≡ 16 }
@@ -71,6 +71,20 @@ fn four_rows(block: &[u8; 256], reference: PictureRef<'_>, x: u32, y: u16, j: u3
     let third = reference.row(Plane::Y, x, y + (j + 8), 16);
     let fourth = reference.row(Plane::Y, x, y + (j + 12), 16);
     differences_of_four(block, j, first, second, third, fourth)
+}
+
+// The differences of a block from the 16 x 16 samples of Y at column `x` of row `y`.
+#[inline(always)]
+pub(crate) fn differences_at(block: &[u8; 256], reference: PictureRef<'_>, x: u32, y: u16) -> u32
+    requires inside { Inside (picture reference).format Y x (y + 15) 16 }
+    requires x { x < 65536 }
+    ensures value { result ≡ differences_from block.now (picture reference.entry) x y 0 }
+    ensures most { result ≤ 65280 }
+{
+    four_rows(block, reference, x, y, 0)
+        + four_rows(block, reference, x, y, 1)
+        + four_rows(block, reference, x, y, 2)
+        + four_rows(block, reference, x, y, 3)
 }
 
 // The differences of a block from the 16 x 16 samples of Y at column `x` of row `y`, or `None` where they are more than

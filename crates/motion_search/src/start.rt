@@ -5,8 +5,8 @@ ghost use Rattle.h263_planes.specs.Lent.{picture};
 ghost use Rattle.motion_search.specs.Cost.{candidate_of, IsCost};
 ghost use Rattle.motion_search.specs.Vectors.{zero_vector};
 
-use crate::candidate::Candidate;
-use crate::predicted::predicted;
+use crate::candidate::{Candidate, with_differences};
+use crate::lent::differences_at;
 use h263_planes::PictureRef;
 use h263_types::Vector;
 
@@ -16,5 +16,11 @@ pub(crate) fn zero(block: &[u8; 256], reference: PictureRef<'_>, mb: u32) -> Can
     ensures candidate { result ≡ candidate_of block.now (picture reference.entry) mb 0 zero_vector }
     ensures cost { IsCost result.cost }
 {
-    predicted(block, reference, mb, 0, Vector { x: 0, y: 0 })
+    let columns = reference.format().columns();
+    let x = 16 * (mb % columns);
+    let y = (16 * (mb / columns)) as u16;
+    with_differences(
+        Vector { x: 0, y: 0 },
+        differences_at(block, reference, x, y),
+    )
 }

@@ -1,4 +1,4 @@
-use Rattle.std.proofs.Common.{◌≡◌, ℕ, ◌<◌, false}
+use Rattle.std.proofs.Common.{◌≡◌, ℕ, ◌+◌, ◌/◌, ◌<◌, false}
 use Rattle.h263_types.specs.Vectors.{InReach}
 use Rattle.h263_planes.specs.Lent.{picture}
 use Rattle.motion_search.specs.Order.{before}
@@ -8,10 +8,11 @@ use Rattle.motion_search.specs.Best.{IsCandidate}
 use Rattle.motion_search.proofs.half.best_of_neighbours.Given as goal
 
 -- none of those seen comes before the first one
-abbrev pub invariant-loop-k : goal.invariant-loop-k
-invariant-loop-k l = record {
+abbrev pub invariant-loop-n : goal.invariant-loop-n
+invariant-loop-n l = record {
   candidate : IsCandidate l.block (picture l.reference) l.mb l.rounding l.first;
   near : IsNear l.best.vector l.first.vector;
-  none : (n : ℕ) → n < l.k → InReach (picture l.reference).format l.mb (around l.best.vector n).x (around l.best.vector n).y → before (candidate_of l.block (picture l.reference) l.mb l.rounding (around l.best.vector n)) l.first ≡ false;
+  kept : before l.best l.first ≡ false;
+  none : (m : ℕ) → m < l.n → InReach (picture l.reference).format l.mb (around l.best.vector (m + m / 4)).x (around l.best.vector (m + m / 4)).y → before (candidate_of l.block (picture l.reference) l.mb l.rounding (around l.best.vector (m + m / 4))) l.first ≡ false;
   cost : IsCost l.first.cost;
 }

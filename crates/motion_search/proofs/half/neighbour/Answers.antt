@@ -7,4 +7,4 @@ pub returns : goal.returns
 returns c =
     same_vectors _ _ _ _
     (omega (arith, ints, c.requires.vector.x.low, c.requires.vector.x.high))
-    (omega (arith, ints, c.requires.vector.y.low, c.requires.vector.y.high, c.requires.k))
+    (omega (arith, ints, c.requires.vector.y.low, c.requires.vector.y.high, c.requires.n))

@@ -26,9 +26,10 @@ returns-then-half-best-clause-none c =
 all : (c : Else-sum-best) → c.four_rows-quarter.result + c.four_rows.result + c.four_rows-2.result + c.four_rows-3.result ≡ differences_from c.args.block.now (picture c.args.reference) c.args.x c.args.y 0
 all c =
     let d = differences_from c.args.block.now (picture c.args.reference) c.args.x c.args.y in
-    quarters_add d c.four_rows-quarter.result c.four_rows.result c.four_rows-2.result c.four_rows-3.result
+    let sum = quarters_add d c.four_rows-quarter.result c.four_rows-2.result c.four_rows.result c.four_rows-3.result
     (no_rows c.args.block.now (picture c.args.reference) c.args.x c.args.y 16 c.told-block (omega arith))
-    c.four_rows-quarter.ensures.value c.four_rows.ensures.value c.four_rows-2.ensures.value c.four_rows-3.ensures.value
+    c.four_rows-quarter.ensures.value c.four_rows-2.ensures.value c.four_rows.ensures.value c.four_rows-3.ensures.value in
+    omega (arith, sum)
 
 pub returns-else-sum-best-clause-none : goal.returns-else-sum-best-clause-none
 returns-else-sum-best-clause-none c = (λ e. absurd (true≢false e), λ h. absurd (omega (arith, ints, h, all c, c.if-sum-best.false)))
