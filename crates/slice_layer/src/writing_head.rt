@@ -103,11 +103,11 @@ fn write_later(writer: &mut BitWriter<'_>, header: &Header, first: u32)
 }
 
 // What stands before the macroblocks of a slice that begins a picture.
-fn write_beginning(writer: &mut BitWriter<'_>, header: &Header, first: u32)
+fn write_beginning(writer: &mut BitWriter<'_>, header: &Header)
     requires header { IsHeader header.now }
     requires room { len_of writer.old + 188 ≤ room_of writer.old }
-    ensures bits { Appends writer.old writer.new (opening_text header.now true first) }
-    ensures len { len_of writer.new ≡ len_of writer.old + length (opening_text header.now true first) }
+    ensures bits { Appends writer.old writer.new (opening_text header.now true 0) }
+    ensures len { len_of writer.new ≡ len_of writer.old + length (opening_text header.now true 0) }
 {
     write_header(writer, header);
     write_first(writer, header);
@@ -124,7 +124,7 @@ pub fn write_opening(writer: &mut BitWriter<'_>, header: &Header, begins: bool, 
     ensures few { length (opening_text header.now begins first) ≤ 188 }
 {
     if begins {
-        write_beginning(writer, header, first);
+        write_beginning(writer, header);
     } else {
         write_later(writer, header, first);
     }
