@@ -5,4 +5,3 @@ pub mod Differences
 pub mod Choices
 pub mod Small
 pub mod Walk
-pub mod Sparse

@@ -12,7 +12,9 @@ use Rattle.quantiser.specs.Zigzag.{order, block_place_of, zigzag_place_of}
 use Rattle.mode_choice.specs.declared.coefficients.Coding.{Coding}
 use Rattle.mode_choice.specs.declared.coefficients.Coding.TheVariants.{Intra, Inter}
 use Rattle.mode_choice.specs.Walk.{AreWalked, least_of, level_by, level_in}
-use Rattle.mode_choice.proofs.Levels.{has_level, level_small, no_level, residual_small}
+use Rattle.idct8.specs.Transform.{entry, forward_at}
+use Rattle.mode_choice.specs.Choice.{coefficient_at}
+use Rattle.mode_choice.proofs.Levels.{has_level, is_forward, level_small, no_level, residual_small}
 
 -- what the law of the zigzag order says
 pub record IsOneOrder : Type 0 where
@@ -48,21 +50,6 @@ intra_some quant (negsuc n) h large nil =
 pub some : (coding : Coding) (quant : ℕ) (f : ℤ) → IsQuant quant → least_of coding quant ≤ unsigned_abs f → level_by coding quant f ≡ pos 0 → ⊥
 some Intra quant f h large nil = intra_some quant f h large nil
 some Inter quant f h large nil = has_level quant f h large nil
-
-not_less : (m n : ℕ) → nat_lt m n ≡ false → n ≤ m
-not_less m n e = grind (arith, nat_tests)
-
-same_by : (b : Bool) (coding : Coding) (quant : ℕ) (f z : ℤ) → nat_lt (unsigned_abs f) (least_of coding quant) ≡ b → IsQuant quant →
-    (least_of coding quant ≤ unsigned_abs f → z ≡ f) → (unsigned_abs f < least_of coding quant → unsigned_abs z < least_of coding quant) → level_by coding quant z ≡ level_by coding quant f
-same_by true coding quant f z e h kept small =
-    let less : unsigned_abs f < least_of coding quant = ltb-true _ _ e in
-    none coding quant z h (small less) ∙ sym (none coding quant f h less)
-same_by false coding quant f z e h kept small = ap (level_by coding quant) (kept (not_less (unsigned_abs f) (least_of coding quant) e))
-
--- what stands in the place of a coefficient that is too small is too small as well
-pub same_level : (coding : Coding) (quant : ℕ) (f z : ℤ) → IsQuant quant → (least_of coding quant ≤ unsigned_abs f → z ≡ f) →
-    (unsigned_abs f < least_of coding quant → unsigned_abs z < least_of coding quant) → level_by coding quant z ≡ level_by coding quant f
-same_level coding quant f z = same_by (nat_lt (unsigned_abs f) (least_of coding quant)) coding quant f z refl
 
 -- ---- the walk
 
@@ -153,3 +140,8 @@ all_passed coding quant keep coefficients from (suc n) levels h small before =
 pub ends : (coding : Coding) (quant keep : ℕ) (coefficients : List ℤ) (at : ℕ) (levels : List ℤ) → at ≡ 64 → AreWalked coding quant keep coefficients at levels →
     (k : ℕ) → k < 64 → get_or levels k (pos 0) ≡ level_in coding quant keep coefficients k
 ends coding quant keep coefficients at levels all before k less = all_before (block_place_of k) at _ _ all (block_place_below k) (before.stand k less)
+
+-- what a transform gives at a place of the zigzag order
+pub is_forward_at : (coefficients block : List ℤ) (k : ℕ) → ((v u : ℕ) → v < 8 → u < 8 → entry coefficients v u ≡ forward_at block v u) →
+    get_or coefficients (block_place_of k) (pos 0) ≡ coefficient_at block k
+is_forward_at coefficients block k each = is_forward coefficients block (block_place_of k) k refl (block_place_below k) each

@@ -5,9 +5,9 @@ ghost use Rattle.h263_types.specs.Blocks.{IsCoefficient, IsDc, IsIntraBlock, IsQ
 ghost use Rattle.idct8.specs.Ranges.{IsSample};
 ghost use Rattle.mode_choice.specs.Choice.{levels_of, limited_dc};
 
-use crate::coefficients::{Coding, least_size, levels_in};
+use crate::coefficients::{Coding, levels_in};
 use h263_types::Block;
-use idct8::forward_from;
+use idct8::forward;
 
 // The levels of a block of samples.
 pub(crate) fn intra_block(quant: u8, keep: u8, samples: &[i16; 64]) -> Block
@@ -16,7 +16,7 @@ pub(crate) fn intra_block(quant: u8, keep: u8, samples: &[i16; 64]) -> Block
     ensures levels { result ≡ levels_of quant keep samples.now }
     ensures range { IsIntraBlock result }
 {
-    let coefficients = forward_from(samples, least_size(Coding::Intra, quant));
+    let coefficients = forward(samples);
     let mut levels = levels_in(Coding::Intra, quant, keep, &coefficients);
     levels[0] = intra_dc(coefficients[0]);
     Block { levels }

@@ -7,7 +7,7 @@ ghost use Rattle.mode_choice.specs.Choice as choice;
 
 use crate::coefficients::{Coding, least_size, levels_in};
 use h263_types::Block;
-use idct8::forward_from;
+use idct8::forward;
 
 // The levels of a block of residuals.
 pub(crate) fn residual_block(quant: u8, keep: u8, residuals: &[i16; 64]) -> Block
@@ -18,7 +18,7 @@ pub(crate) fn residual_block(quant: u8, keep: u8, residuals: &[i16; 64]) -> Bloc
     if are_small(quant, residuals) {
         return Block { levels: [0; 64] };
     }
-    let coefficients = forward_from(residuals, least_size(Coding::Inter, quant));
+    let coefficients = forward(residuals);
     Block {
         levels: levels_in(Coding::Inter, quant, keep, &coefficients),
     }

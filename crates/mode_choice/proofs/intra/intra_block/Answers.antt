@@ -1,4 +1,4 @@
-use Rattle.std.proofs.Common.{◌≡◌, ◌∙◌, ℕ, zero, suc, ℤ, pos, List, ap, arith, lit<, length, length-set, slice_set, ◌<◌, ◌≤◌, ◌+ℤ◌, nat_eq, get_or, get_or-set_same, get_or-set_other, cond, to_z, of_z, w16}
+use Rattle.std.proofs.Common.{◌≡◌, ◌∙◌, ℕ, zero, suc, ℤ, pos, List, ap, arith, lit<, length, length-set, slice_set, ◌<◌, ◌≤◌, ◌+ℤ◌, nat_eq, nat_lt, get_or, get_or-set_same, get_or-set_other, cond, to_z, of_z, w16}
 use Rattle.std.specs.Int.{int_shr}
 use Rattle.std.proofs.lemmas.Int.{ints}
 use Rattle.std.proofs.lemmas.Bool.Decides.{nat_tests}
@@ -7,13 +7,13 @@ use Rattle.h263_types.specs.declared.blocks.Block.{Block}
 use Rattle.h263_types.specs.Blocks.{IsCoefficient, IsDc}
 use Rattle.mode_choice.specs.Choice.{coefficient_at, level_of, levels_of, limited_dc}
 use Rattle.quantiser.specs.Zigzag.{block_place_of}
-use Rattle.mode_choice.specs.declared.coefficients.Coding.TheVariants.{Intra}
 use Rattle.mode_choice.proofs.Levels.{coefficient_kept, is_coefficient}
-use Rattle.mode_choice.proofs.Sparse.{IsSparse, sparse_level}
+use Rattle.quantiser.specs.Levels.{intra_level}
+use Rattle.mode_choice.proofs.Walk.{is_forward_at}
 use Rattle.mode_choice.proofs.intra.intra_block.Goals as goal
 
 pub levels_in-levels-requires-clause-coefficients : goal.levels_in-levels-requires-clause-coefficients
-levels_in-levels-requires-clause-coefficients c at h = is_coefficient c.forward_from-coefficients.result at h c.forward_from-coefficients.ensures.range
+levels_in-levels-requires-clause-coefficients c at h = is_coefficient c.forward-coefficients.result at h c.forward-coefficients.ensures.range
 
 dc_kept : (z : ℤ) → IsDc z → to_z w16 (of_z w16 z) ≡ z
 dc_kept z h = omega (arith, ints)
@@ -35,18 +35,15 @@ returns-clause-levels c =
     let quant : ℕ = c.args.quant in
     let keep : ℕ = c.args.keep in
     let samples : List ℤ = c.args.samples.now in
-    let coefficients : List ℤ = c.forward_from-coefficients.result in
-    let sparse : IsSparse c.least_size.result samples coefficients = record {
-      kept = c.forward_from-coefficients.ensures.kept;
-      small = c.forward_from-coefficients.ensures.small;
-    } in
+    let coefficients : List ℤ = c.forward-coefficients.result in
     let dc : ℤ = to_z w16 (of_z w16 c.intra_dc.result) in
-    let ok : IsCoefficient (get_or coefficients 0 (pos 0)) = is_coefficient coefficients 0 (lit< tt) c.forward_from-coefficients.ensures.range in
+    let ok : IsCoefficient (get_or coefficients 0 (pos 0)) = is_coefficient coefficients 0 (lit< tt) c.forward-coefficients.ensures.range in
     let first : dc ≡ limited_dc (int_shr (coefficient_at samples 0 +ℤ pos 4) 3) =
     dc_kept c.intra_dc.result c.intra_dc.ensures.range
     ∙ c.intra_dc.ensures.value
-    ∙ ap (λ (f : ℤ). limited_dc (int_shr (f +ℤ pos 4) 3)) (coefficient_kept (get_or coefficients 0 (pos 0)) ok ∙ c.forward_from-coefficients.ensures.first) in
+    ∙ ap (λ (f : ℤ). limited_dc (int_shr (f +ℤ pos 4) 3)) (coefficient_kept (get_or coefficients 0 (pos 0)) ok ∙ is_forward_at coefficients samples 0 c.forward-coefficients.ensures.coefficients) in
     let block : List ℤ → Block = λ ls. record { levels = ls } in
     ap block (fill_by_all (λ (k : ℕ). level_of quant keep k (coefficient_at samples k)) (slice_set c.levels_in-levels.result 0 dc) 64 (pos 0) (length-set c.levels_in-levels.result 0 dc ∙ c.levels_in-levels.ensures.long)
     (with_first quant keep samples c.levels_in-levels.result dc c.levels_in-levels.ensures.long first
-    (λ k some below. sparse_level Intra quant keep c.least_size.result samples coefficients k below c.requires.quant c.least_size.ensures.value sparse (c.levels_in-levels.ensures.levels k below) ∙ behind k _ _ some)))
+    (λ k some below. c.levels_in-levels.ensures.levels k below
+    ∙ ap (λ (f : ℤ). cond (nat_lt k keep) (intra_level quant f) (pos 0)) (is_forward_at coefficients samples k c.forward-coefficients.ensures.coefficients) ∙ behind k _ _ some)))
