@@ -1,5 +1,5 @@
 -- How large the factors are, and what a pass over eight numbers gives.
-use Rattle.std.proofs.Common.{◌≡◌, ℕ, ◌*◌, ◌<◌, ◌≤◌, ℤ, pos, ◌*ℤ◌, ◌≤ℤ◌, arith, ap, slice_index_or, [], ◌∷◌, ◌^◌, to_z, of_z, w64}
+use Rattle.std.proofs.Common.{◌≡◌, ℕ, ◌*◌, ◌<◌, ◌≤◌, ℤ, pos, ◌*ℤ◌, ◌≤ℤ◌, arith, ap, slice_index_or, [], ◌∷◌}
 use Rattle.std.specs.Int.Signed.{le_z, le_z_yes}
 use lib.Dec.{T}
 use Rattle.std.proofs.lemmas.Int.{ints}
@@ -68,10 +68,6 @@ pass_of d f k {c0} {c1} {c2} {c3} {c4} {c5} {c6} {c7} e0 e1 e2 e3 e4 e5 e6 e7 =
     (below_eight (λ i. factor d i k *ℤ slice_index_or (c0 ∷ c1 ∷ c2 ∷ c3 ∷ c4 ∷ c5 ∷ c6 ∷ c7 ∷ []) i (pos 0) ≡ factor d i k *ℤ f i)
     (ap (λ z. factor d 0 k *ℤ z) e0) (ap (λ z. factor d 1 k *ℤ z) e1) (ap (λ z. factor d 2 k *ℤ z) e2) (ap (λ z. factor d 3 k *ℤ z) e3)
     (ap (λ z. factor d 4 k *ℤ z) e4) (ap (λ z. factor d 5 k *ℤ z) e5) (ap (λ z. factor d 6 k *ℤ z) e6) (ap (λ z. factor d 7 k *ℤ z) e7))
-
--- a number that was passed
-pub passed : {z e : ℤ} → Within (2 ^ 30) z → z ≡ e → to_z w64 (of_z w64 z) ≡ e
-passed {z} {e} h q = omega (arith, ints)
 
 pub within_same : (m n : ℕ) {z e : ℤ} → m ≤ n → z ≡ e → Within m e → Within n z
 within_same m n {z} {e} h q w = omega (arith, ints)

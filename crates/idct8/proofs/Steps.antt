@@ -57,3 +57,7 @@ passes_are d c f r k sums =
 -- the sums of a row
 pub row_terms : (d : Direction) (v c : List ℤ) (j k : ℕ) → ((i : ℕ) → i < 8 → lane v i ≡ entry c j i) → pass_at d v k ≡ row_sums d c j k
 row_terms d v c j k e = same_sum 8 (λ i. factor d i k *ℤ lane v i) (λ i. factor d i k *ℤ entry c j i) (λ i hi. ap (λ z. factor d i k *ℤ z) (e i hi))
+
+-- a pass over numbers that are those of a row
+pub same_pass : (d : Direction) (u v : List ℤ) (k : ℕ) → ((i : ℕ) → i < 8 → lane u i ≡ lane v i) → pass_at d u k ≡ pass_at d v k
+same_pass d u v k e = same_sum 8 (λ i. factor d i k *ℤ lane u i) (λ i. factor d i k *ℤ lane v i) (λ i hi. ap (λ z. factor d i k *ℤ z) (e i hi))

@@ -6,7 +6,7 @@ use Rattle.idct8.specs.Basis.{basis}
 use Rattle.idct8.specs.Transform.{entry, inverse_at, rounded}
 
 -- a sum of zeros
-zero_sum : (n : ℕ) (f : ℕ → ℤ) → ((k : ℕ) → k < n → f k ≡ pos 0) → sum_below n f ≡ pos 0
+pub zero_sum : (n : ℕ) (f : ℕ → ℤ) → ((k : ℕ) → k < n → f k ≡ pos 0) → sum_below n f ≡ pos 0
 unfolding sum_below
 zero_sum zero f h = refl
 zero_sum (suc n) f h =
@@ -15,7 +15,7 @@ zero_sum (suc n) f h =
     omega (arith, ints)
 
 -- a multiple of 0
-times_zero : (m z : ℤ) → z ≡ pos 0 → m *ℤ z ≡ pos 0
+pub times_zero : (m z : ℤ) → z ≡ pos 0 → m *ℤ z ≡ pos 0
 times_zero m z h = ap (λ (k : ℤ). m *ℤ k) h ∙ omega (arith, ints)
 
 pub inverse_of_zeros : (values : List ℤ) → ((at : ℕ) → at < 64 → slice_index_or values at (pos 0) ≡ pos 0) → (y x : ℕ) → inverse_at values y x ≡ pos 0

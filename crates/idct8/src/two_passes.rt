@@ -1,6 +1,6 @@
 //! The transforms in two passes: the rows of the block, then the columns of what they give. Between the passes stand
 //! exact numbers; only the end is rounded.
-ghost use Rattle.std.specs.Prelude.{◌≡◌, ℕ, ◌*◌, ◌^◌, ◌<◌, pos, ◌+ℤ◌, ◌*ℤ◌, slice_index_or, All};
+ghost use Rattle.std.specs.Prelude.{◌≡◌, ℕ, ◌*◌, ◌^◌, ◌<◌, ◌≤◌, IsTrue, pos, ◌+ℤ◌, ◌*ℤ◌, slice_index_or, All};
 ghost use Rattle.h263_types.specs.Blocks.{IsCoefficient, IsValue};
 ghost use Rattle.idct8.specs.Ranges.{IsSample, Within};
 ghost use Rattle.idct8.specs.Transform.{entry, forward_at, inverse_at, rounded};
@@ -22,7 +22,7 @@ pub fn inverse(values: &[i16; 64]) -> [i32; 64]
     ensures range { (y x : ℕ) → y < 8 → x < 8 → Within (2 ^ 15) (entry result y x) }
 {
     let mut samples = [0; 64];
-    transform::<false>(values, &mut samples);
+    either_inverse(values, &mut samples);
     samples
 }
 
@@ -49,6 +49,75 @@ fn transform<const FORWARD: bool>(block: &[i16; 64], out: &mut [i32; 64])
     let high = turned_pass(direction, high);
     let low = turned_pass(direction, low);
     round(high, low, out);
+}
+
+#[inline(always)]
+fn either_inverse(block: &[i16; 64], out: &mut [i32; 64])
+    requires { All (Within (2 ^ 11)) block.now }
+    ensures { (r k : ℕ) → r < 8 → k < 8 → entry out.new r k ≡ transform_at Inverse block.now r k }
+{
+    if is_upper(block) {
+        upper_inverse(block, out);
+    } else {
+        transform::<false>(block, out);
+    }
+}
+
+// Whether the last four rows are zeros, as in most blocks that are coded. It counts, since a loop with an early end
+// isn't done in lanes.
+#[inline(always)]
+fn is_upper(block: &[i16; 64]) -> bool
+    ensures { IsTrue result → (j i : ℕ) → 4 ≤ j → j < 8 → i < 8 → entry block.now j i ≡ pos 0 }
+{
+    let mut count: u16 = 0;
+    for at in 32..64 {
+        count += u16::from(block[at] != 0);
+    }
+    count == 0
+}
+
+// The inverse transform of a block whose last four rows are zeros.
+fn upper_inverse(block: &[i16; 64], out: &mut [i32; 64])
+    requires block { All (Within (2 ^ 11)) block.now }
+    requires zeros { (j i : ℕ) → 4 ≤ j → j < 8 → i < 8 → entry block.now j i ≡ pos 0 }
+    ensures { (r k : ℕ) → r < 8 → k < 8 → entry out.new r k ≡ transform_at Inverse block.now r k }
+{
+    let (high, low) = split(row_pass(block, Direction::Inverse));
+    let high = upper_pass(high);
+    let low = upper_pass(low);
+    round(high, low, out);
+}
+
+// A pass over each of eight rows, of which only the first four numbers may be other than zero.
+#[inline(always)]
+fn upper_pass(r: Rows) -> Sums
+    requires size { RowsWithin 8191 r }
+    requires zeros { (k j : ℕ) → k < 8 → 4 ≤ j → j < 8 → lane (row_at r k) j ≡ pos 0 }
+    ensures sums { (k j : ℕ) → k < 8 → j < 8 → lane (sum_at result k) j ≡ pass_at Inverse (row_at r j) k }
+    ensures size { SumsWithin (2 ^ 30) result }
+{
+    pass(Direction::Inverse, upper(transposed(r)))
+}
+
+// The same rows, of which the compiler sees that the last four are zeros.
+#[inline(always)]
+fn upper(r: Rows) -> Rows
+    requires size { RowsWithin 8191 r }
+    requires zeros { (j i : ℕ) → 4 ≤ j → j < 8 → i < 8 → lane (row_at r j) i ≡ pos 0 }
+    ensures numbers { (j i : ℕ) → j < 8 → i < 8 → lane (row_at result j) i ≡ lane (row_at r j) i }
+    ensures size { RowsWithin 8191 result }
+{
+    let zero = i16x8::splat(0);
+    Rows {
+        r0: r.r0,
+        r1: r.r1,
+        r2: r.r2,
+        r3: r.r3,
+        r4: zero,
+        r5: zero,
+        r6: zero,
+        r7: zero,
+    }
 }
 
 #[inline(always)]

@@ -1,4 +1,4 @@
-use Rattle.std.proofs.Common.{◌≡◌, lit≤, pos, ◌+ℤ◌, ◌*ℤ◌, [], ◌∷◌, slice_index_or, map, w16, to_z, of_z}
+use Rattle.std.proofs.Common.{◌≡◌, lit≤, pos, ◌+ℤ◌, ◌*ℤ◌, [], ◌∷◌, slice_index_or, map, w16, to_z, of_z, ℤ, ◌∙◌}
 use Rattle.idct8.specs.Vectors.{lane, sum_at}
 use Rattle.idct8.proofs.Sums.{below_eight}
 use Rattle.idct8.proofs.Vectors.{passed_within, passed_within16, passed_lane, passed_lane16}
@@ -65,3 +65,19 @@ returns-clause-low_size c = record {
   r6 = passed_within16 8191 8191 (lit≤ tt) (lit≤ tt) c.parts-7.ensures.low_size;
   r7 = passed_within16 8191 8191 (lit≤ tt) (lit≤ tt) c.parts-8.ensures.low_size;
 }
+
+zeros_of : {z' z a b x y : ℤ} → (z' ≡ pos 0 → (a ≡ pos 0) × (b ≡ pos 0)) → z' ≡ z → x ≡ a → y ≡ b → z ≡ pos 0 → (x ≡ pos 0) × (y ≡ pos 0)
+zeros_of f ez ea eb e = let both = f (ez ∙ e) in (ea ∙ both.0, eb ∙ both.1)
+
+pub returns-clause-zeros : goal.returns-clause-zeros
+returns-clause-zeros c k i hk hi =
+    below_eight (λ k. lane (sum_at c.args.s k) i ≡ pos 0 → (lane (slice_index_or (map (to_z w16) (map (of_z w16) c.parts.result.0) ∷ map (to_z w16) (map (of_z w16) c.parts-2.result.0) ∷ map (to_z w16) (map (of_z w16) c.parts-3.result.0) ∷ map (to_z w16) (map (of_z w16) c.parts-4.result.0) ∷ map (to_z w16) (map (of_z w16) c.parts-5.result.0) ∷ map (to_z w16) (map (of_z w16) c.parts-6.result.0) ∷ map (to_z w16) (map (of_z w16) c.parts-7.result.0) ∷ map (to_z w16) (map (of_z w16) c.parts-8.result.0) ∷ []) k []) i ≡ pos 0) × (lane (slice_index_or (map (to_z w16) (map (of_z w16) c.parts.result.1) ∷ map (to_z w16) (map (of_z w16) c.parts-2.result.1) ∷ map (to_z w16) (map (of_z w16) c.parts-3.result.1) ∷ map (to_z w16) (map (of_z w16) c.parts-4.result.1) ∷ map (to_z w16) (map (of_z w16) c.parts-5.result.1) ∷ map (to_z w16) (map (of_z w16) c.parts-6.result.1) ∷ map (to_z w16) (map (of_z w16) c.parts-7.result.1) ∷ map (to_z w16) (map (of_z w16) c.parts-8.result.1) ∷ []) k []) i ≡ pos 0))
+    (zeros_of (c.parts.ensures.zeros i hi) (passed_lane 46546944 i (lit≤ tt) c.requires.s0) (passed_lane16 8191 i (lit≤ tt) c.parts.ensures.high_size) (passed_lane16 8191 i (lit≤ tt) c.parts.ensures.low_size))
+    (zeros_of (c.parts-2.ensures.zeros i hi) (passed_lane 46546944 i (lit≤ tt) c.requires.s1) (passed_lane16 8191 i (lit≤ tt) c.parts-2.ensures.high_size) (passed_lane16 8191 i (lit≤ tt) c.parts-2.ensures.low_size))
+    (zeros_of (c.parts-3.ensures.zeros i hi) (passed_lane 46546944 i (lit≤ tt) c.requires.s2) (passed_lane16 8191 i (lit≤ tt) c.parts-3.ensures.high_size) (passed_lane16 8191 i (lit≤ tt) c.parts-3.ensures.low_size))
+    (zeros_of (c.parts-4.ensures.zeros i hi) (passed_lane 46546944 i (lit≤ tt) c.requires.s3) (passed_lane16 8191 i (lit≤ tt) c.parts-4.ensures.high_size) (passed_lane16 8191 i (lit≤ tt) c.parts-4.ensures.low_size))
+    (zeros_of (c.parts-5.ensures.zeros i hi) (passed_lane 46546944 i (lit≤ tt) c.requires.s4) (passed_lane16 8191 i (lit≤ tt) c.parts-5.ensures.high_size) (passed_lane16 8191 i (lit≤ tt) c.parts-5.ensures.low_size))
+    (zeros_of (c.parts-6.ensures.zeros i hi) (passed_lane 46546944 i (lit≤ tt) c.requires.s5) (passed_lane16 8191 i (lit≤ tt) c.parts-6.ensures.high_size) (passed_lane16 8191 i (lit≤ tt) c.parts-6.ensures.low_size))
+    (zeros_of (c.parts-7.ensures.zeros i hi) (passed_lane 46546944 i (lit≤ tt) c.requires.s6) (passed_lane16 8191 i (lit≤ tt) c.parts-7.ensures.high_size) (passed_lane16 8191 i (lit≤ tt) c.parts-7.ensures.low_size))
+    (zeros_of (c.parts-8.ensures.zeros i hi) (passed_lane 46546944 i (lit≤ tt) c.requires.s7) (passed_lane16 8191 i (lit≤ tt) c.parts-8.ensures.high_size) (passed_lane16 8191 i (lit≤ tt) c.parts-8.ensures.low_size))
+    k hk
