@@ -7,7 +7,8 @@ use Rattle.h263_planes.specs.declared.Plane.{Plane}
 use Rattle.h263_planes.specs.declared.Plane.TheVariants.{Y, Cb, Cr}
 use Rattle.h263_planes.specs.Blocks.{block_of}
 use Rattle.h263_planes.specs.Picture.{Picture}
-use Rattle.h263_planes.specs.Samples.{sample_at, same_plane}
+use Rattle.h263_planes.specs.Samples.{in_block, sample_at, same_plane}
+use Rattle.picture_recon.proofs.InSquare.{is_in, other_test}
 
 -- one more element of a list
 pub one_more : {X : Type 0} (P : ℕ → X → Type 0) (xs : List X) (at : ℕ) (v d : X) → at < length xs → P at v →
@@ -68,6 +69,28 @@ in_row block x y k i j mx my hk hj hx hi =
     ∙ get_or-drop (8 * k) block (i - x) 0
     ∙ ap (λ m. get_or block m 0) e
 
+not_yet : (m at bl b before val old : ℕ) → before ≡ cond (nat_eq m at && nat_lt bl b) val old → bl ≡ b → before ≡ old
+not_yet m at bl b before val old h e = grind (arith, nat_tests)
+
+-- one more block of a predicted macroblock, whose samples stood as predicted
+pub more_added : (m at bl b now old before val : ℕ) (added : ℕ → ℕ) →
+    now ≡ cond (nat_eq m at && nat_eq bl b) (added before) before → before ≡ cond (nat_eq m at && nat_lt bl b) val old →
+    (m ≡ at → bl ≡ b → added old ≡ val) → now ≡ cond (nat_eq m at && nat_lt bl (b + 1)) val old
+more_added m at bl b now old before val added h1 h2 h3 =
+    let same : bl ≡ b → added before ≡ added old = λ e. ap added (not_yet m at bl b before val old h2 e) in
+    grind (arith, nat_tests)
+
+-- the samples of a macroblock, where all of them were predicted first
+pub all_added : (m at now val predicted init old : ℕ) → now ≡ cond (nat_eq m at) val init → init ≡ cond (nat_eq m at) predicted old → now ≡ cond (nat_eq m at) val old
+all_added m at now val predicted init old h1 h2 = grind (arith, nat_tests)
+
+pub within_macroblock : (m at init predicted old : ℕ) → init ≡ cond (nat_eq m at) predicted old → m ≡ at → init ≡ predicted
+within_macroblock m at init predicted old h e = grind (arith, nat_tests)
+
+-- a block to which nothing is added
+pub nothing_added : (m at bl b s : ℕ) (added : ℕ) → (m ≡ at → s ≡ added) → s ≡ cond (nat_eq m at && nat_eq bl b) added s
+nothing_added m at bl b s added h = grind (arith, nat_tests)
+
 -- one more block of a macroblock
 pub more_blocks : (m at bl b now blk old before val : ℕ) →
     now ≡ cond (nat_eq m at && nat_eq bl b) blk before → before ≡ cond (nat_eq m at && nat_lt bl b) val old → (bl ≡ b → blk ≡ val) →
@@ -88,3 +111,23 @@ pub more_macroblocks : (first m at now mb old before val : ℕ) → first ≤ at
     now ≡ cond (nat_eq m at) mb before → before ≡ cond (nat_le first m && nat_lt m at) val old → (m ≡ at → mb ≡ val) →
     now ≡ cond (nat_le first m && nat_lt m (at + 1)) val old
 more_macroblocks first m at now mb old before val h h1 h2 h3 = grind (arith, nat_tests)
+
+-- a block that is written over what stood there, sample by sample
+pub block_put : (p q : Picture) (plane other : Plane) (left top x y : ℕ) (before samples : List ℕ) (value : ℕ → ℕ → ℕ → ℕ) (now : ℕ) (test : Bool) →
+    p ≡ q → left % 8 ≡ 0 → top % 8 ≡ 0 →
+    ((j i : ℕ) → j < 8 → i < 8 → get_or before (8 * j + i) 0 ≡ sample_at p plane (left + i) (top + j)) →
+    ((j i : ℕ) → j < 8 → i < 8 → get_or samples (8 * j + i) 0 ≡ value (get_or before (8 * j + i) 0) j i) →
+    now ≡ cond (in_block plane left top 8 8 other x y) (get_or samples (8 * (y % 8) + x % 8) 0) (sample_at q other x y) →
+    in_block plane left top 8 8 other x y ≡ test →
+    now ≡ cond test (value (sample_at q other x y) (y % 8) (x % 8)) (sample_at q other x y)
+block_put p q plane other left top x y before samples value now test seen column row stood given put same =
+    other_test (in_block plane left top 8 8 other x y) test now _ _ _ put same
+    (λ t.
+    let here = is_in (same_plane plane other) left top 8 x y t in
+    let ex : left + x % 8 ≡ x = omega (arith, column, here.from, here.to) in
+    let ey : top + y % 8 ≡ y = omega (arith, row, here.below, here.above) in
+    given (y % 8) (x % 8) (omega arith) (omega arith)
+    ∙ ap (λ (n : ℕ). value n (y % 8) (x % 8))
+    (stood (y % 8) (x % 8) (omega arith) (omega arith)
+    ∙ ap (λ (r : Picture). sample_at r plane (left + x % 8) (top + y % 8)) seen
+    ∙ same_sample q plane other _ _ x y here.same ex ey))

@@ -3,7 +3,7 @@ use Rattle.std.specs.Prelude.{◌+◌, ◌≤◌}
 use Rattle.h263_types.specs.declared.format.Format.{Format}
 use Rattle.h263_planes.specs.declared.Plane.{Plane}
 use Rattle.h263_planes.specs.Layout.{width_in, height_in}
-use Rattle.picture_recon.specs.declared.skipped.Square.{Square}
+use Rattle.picture_recon.specs.declared.squares.Square.{Square}
 
 -- all of them lie in the plane
 pub record IsInside (f : Format) (plane : Plane) (s : Square) : Type 0 where

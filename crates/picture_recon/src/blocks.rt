@@ -1,12 +1,13 @@
-//! Writing a block into a picture.
+//! A block in a picture.
 ghost use Rattle.std.specs.Prelude.{◌≡◌, ℕ, ◌+◌, ◌*◌, ◌%◌, ◌<◌, ◌&&◌, slice_index, nat_eq, if◌then◌else◌};
 ghost use Rattle.h263_types.specs.Sizes.{mbs_of};
 ghost use Rattle.h263_planes.specs.declared.Plane.{Plane};
 ghost use Rattle.h263_planes.specs.Blocks.{IsCorner, block_of, mb_of};
+ghost use Rattle.h263_planes.specs.Lent.{picture};
 ghost use Rattle.h263_planes.specs.Samples.{Inside, IsPicture, in_block, sample_at};
 ghost use Rattle.h263_planes.specs.Work.{loan_of, work};
 
-use h263_planes::{Corner, PictureMut, block_corner};
+use h263_planes::{Corner, PictureMut, PictureRef, block_corner};
 use h263_types::Format;
 
 // Writes the samples of block `block` of macroblock `at`.
@@ -31,7 +32,7 @@ pub(crate) fn put_block(
 
 // Writes 8 x 8 samples from a corner on.
 #[inline(always)]
-fn put_samples(out: &mut PictureMut<'_>, corner: Corner, samples: &[u8; 64])
+pub(crate) fn put_samples(out: &mut PictureMut<'_>, corner: Corner, samples: &[u8; 64])
     requires { IsCorner (work out.old).format corner }
     ensures same_loan { loan_of out.new ≡ loan_of out.old }
     ensures format { (work out.new).format ≡ (work out.old).format }
@@ -42,4 +43,19 @@ fn put_samples(out: &mut PictureMut<'_>, corner: Corner, samples: &[u8; 64])
         let at = 8 * k as usize;
         out.set_row(corner.plane, corner.x, corner.y + k, &samples[at..at + 8]);
     }
+}
+
+// The 8 x 8 samples from a corner on, by rows.
+#[inline(always)]
+pub(crate) fn samples_at(seen: PictureRef<'_>, corner: Corner) -> [u8; 64]
+    requires { IsCorner (picture seen).format corner }
+    ensures { (j i : ℕ) → j < 8 → i < 8 → slice_index result (8 * j + i) ≡ sample_at (picture seen.entry) corner.plane (corner.x + i) (corner.y + j) }
+{
+    let mut samples = [0; 64];
+    for j in 0..8u32 {
+        let at = 8 * j as usize;
+        let row = seen.row(corner.plane, corner.x, corner.y + j, 8);
+        samples[at..at + 8].copy_from_slice(row);
+    }
+    samples
 }

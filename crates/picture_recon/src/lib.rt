@@ -7,6 +7,7 @@ pub mod laws;
 mod macroblocks;
 mod predicted;
 mod skipped;
+mod squares;
 mod values;
 
 pub use macroblocks::{recon_mb, recon_slice};

@@ -8,16 +8,9 @@ ghost use Rattle.h263_planes.specs.Samples.{Inside, IsPicture, in_block, same_pl
 ghost use Rattle.h263_planes.specs.Work.{loan_of, work};
 ghost use Rattle.picture_recon.specs.Squares.{IsInside};
 
+use crate::squares::{Square, square_of};
 use h263_planes::{PictureMut, PictureRef, Plane};
 use h263_types::Format;
-
-/// A macroblock's samples in one plane: `size` columns and rows from a column and a row on.
-#[derive(Clone, Copy)]
-pub(crate) struct Square {
-    x: u32,
-    y: u32,
-    size: u32,
-}
 
 // Copies the samples of macroblock `at`.
 pub(crate) fn put_skipped(
@@ -56,23 +49,6 @@ fn copy_in_plane(
     ensures samples { (other : Plane) (x y : ℕ) → Inside format other x y 1 → sample_at (work out.new) other x y ≡ (if same_plane plane other && nat_eq (mb_of format other x y) at then sample_at (picture reference.entry) other x y else sample_at (work out.old) other x y) }
 {
     copy_square(reference, plane, square_of(format, plane, at), format, out);
-}
-
-// The samples of macroblock `at` in a plane.
-fn square_of(format: Format, plane: Plane, at: u32) -> Square
-    requires { at < mbs_of format }
-    ensures inside { IsInside format plane result }
-    ensures samples { (other : Plane) (x y : ℕ) → Inside format other x y 1 → in_block plane result.x result.y result.size result.size other x y ≡ (same_plane plane other && nat_eq (mb_of format other x y) at) }
-{
-    let size = match plane {
-        Plane::Y => 16,
-        Plane::Cb | Plane::Cr => 8,
-    };
-    Square {
-        x: size * (at % format.columns()),
-        y: size * (at / format.columns()),
-        size,
-    }
 }
 
 // Copies a square's rows.

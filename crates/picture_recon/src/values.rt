@@ -9,7 +9,6 @@ ghost use Rattle.picture_recon.specs.Marks.{AreMarked};
 
 use h263_types::Block;
 use idct8::inverse;
-use idct8::laws::zeros_give_zeros;
 use quantiser::block_place;
 use quantiser::laws::one_order;
 use std::simd::prelude::*;
@@ -36,20 +35,17 @@ fn flat(dc: i16) -> [u8; 64]
     [dc as u8; 64]
 }
 
-// The samples of a block of an inter macroblock, by rows, from the predicted ones: these themselves where the block has
-// no level. Where it has the first level alone, the same number is added to all.
-pub(crate) fn inter_samples(quant: u8, block: &Block, predicted: &[u8; 64]) -> [u8; 64]
+// The samples of a block of an inter macroblock, by rows, from the predicted ones. Where it has the first level alone, the
+// same number is added to all. It is not taken into its three callers, which mostly have no level.
+#[inline(never)]
+pub(crate) fn inter_samples(quant: u8, block: &Block, marks: u64, predicted: &[u8; 64]) -> [u8; 64]
     requires quant { IsQuant quant }
     requires block { IsInterBlock block.now }
+    requires marked { AreMarked block.now.levels marks }
     ensures { (y x : ℕ) → y < 8 → x < 8 → slice_index result (8 * y + x) ≡ limited (pos (slice_index predicted.now (8 * y + x)) +ℤ inverse_at (inter_values quant block.now) y x) }
 {
-    one_order();
-    let marks = marks_of(&block.levels);
-    if marks == 0 {
-        zeros_give_zeros();
-        return *predicted;
-    }
     if marks == FIRST_ALONE {
+        one_order();
         let number = number_of_first(value_of_level(quant, block.levels[0]));
         return limited_sums_with_one(predicted, number);
     }
@@ -71,7 +67,7 @@ const FIRST_ALONE: u64 = 1;
 
 // Which levels aren't 0: bit k is for place k of the zigzag order.
 #[inline(always)]
-fn marks_of(levels: &[i16; 64]) -> u64
+pub(crate) fn marks_of(levels: &[i16; 64]) -> u64
     requires { (k : ℕ) → k < 64 → Within (2 ^ 8) (slice_index_or levels.now k (pos 0)) }
     ensures { AreMarked levels.now result }
 {

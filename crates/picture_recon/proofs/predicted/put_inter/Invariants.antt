@@ -8,11 +8,11 @@ use Rattle.h263_planes.specs.Work.{work, loan_of}
 use Rattle.picture_recon.specs.Samples.{sample_in}
 use Rattle.picture_recon.proofs.predicted.put_inter.Given as goal
 
--- the blocks before `block` are written
+-- what the levels stand for is added in the blocks before `block`
 abbrev pub invariant-loop-block : goal.invariant-loop-block
 invariant-loop-block l =
     (loan_of l.out ≡ loan_of l.initial.out)
     × ((work l.out).format ≡ l.format)
     × ((plane : Plane) (x y : ℕ) → Inside l.format plane x y 1 →
-    sample_at (work l.out) plane x y ≡ cond (nat_eq (mb_of l.format plane x y) l.at && nat_lt (block_of plane x y) l.block) (sample_in l.rounding (Some (picture l.reference)) (Inter l.quant l.fn.vector l.blocks) plane x y) (sample_at (work l.initial.out) plane x y))
+    sample_at (work l.out) plane x y ≡ cond (nat_eq (mb_of l.format plane x y) l.at && nat_lt (block_of plane x y) l.block) (sample_in l.fn.rounding (Some (picture l.fn.reference)) (Inter l.quant l.fn.vector l.blocks) plane x y) (sample_at (work l.initial.out) plane x y))
     × IsPicture (work l.out)

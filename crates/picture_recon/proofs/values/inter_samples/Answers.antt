@@ -1,28 +1,18 @@
 use Rattle.std.proofs.Common.{◌≡◌, ℕ, ◌+◌, ◌*◌, ◌/◌, ◌%◌, ◌^◌, ℤ, pos, ◌+ℤ◌, ◌*ℤ◌, get_or, arith, ap, sym, ◌∙◌, subst, lit<}
 use Rattle.idct8.specs.Ranges.{Within}
-use Rattle.idct8.specs.Transform.{inverse_at, rounded}
+use Rattle.idct8.specs.Transform.{rounded}
 use Rattle.h263_types.specs.Blocks.{level_at}
 use Rattle.quantiser.specs.Levels.{value_of}
-use Rattle.picture_recon.specs.Samples.{inter_values, limited}
-use Rattle.picture_recon.proofs.Kept.{kept, kept_level, kept_number, sample_kept, small_level}
-use Rattle.picture_recon.proofs.Flat.{no_levels, number_of_first}
-use Rattle.picture_recon.proofs.Walk.{none_at_all, none_later}
+use Rattle.picture_recon.specs.Samples.{limited}
+use Rattle.picture_recon.proofs.Kept.{kept, kept_level, kept_number}
+use Rattle.picture_recon.proofs.Flat.{number_of_first}
+use Rattle.picture_recon.proofs.Walk.{none_later}
 use Rattle.picture_recon.proofs.values.inter_samples.Goals as goal
-
-pub marks_of-marks-requires : goal.marks_of-marks-requires
-marks_of-marks-requires c = λ k less. small_level (level_at c.args.block.now k) (c.requires.block.levels k less)
-
-pub returns-then-marks-eq0 : goal.returns-then-marks-eq0
-returns-then-marks-eq0 c = λ y x hy hx.
-    let values = inter_values c.args.quant c.args.block.now in
-    let zeros = no_levels (record { from_order = c.one_order.ensures.from_order; from_block = c.one_order.ensures.from_block }) c.args.quant c.args.block.now
-    (none_at_all c.args.block.now c.marks_of-marks.result c.marks_of-marks.ensures c.if-marks-eq0.true) in
-    sample_kept (get_or c.args.predicted.now (8 * y + x) 0) (inverse_at values y x) (c.fits-predicted (8 * y + x)) (c.zeros_give_zeros.ensures values zeros y x)
 
 pub returns-then-marks-eq-FIRST_ALONE : goal.returns-then-marks-eq-FIRST_ALONE
 returns-then-marks-eq-FIRST_ALONE c = λ y x hy hx.
     let block = c.args.block.now in
-    let none = none_later block c.marks_of-marks.result c.marks_of-marks.ensures c.if-marks-eq-FIRST_ALONE.true in
+    let none = none_later block c.args.marks c.requires.marked c.if-marks-eq-FIRST_ALONE.true in
     let number = number_of_first (record { from_order = c.one_order.ensures.from_order; from_block = c.one_order.ensures.from_block }) c.args.quant block none y x hy hx in
     let value = c.value_of_level.ensures.value ∙ ap (value_of c.args.quant) (kept_level (level_at block 0) (c.requires.block.levels 0 (lit< tt))) in
     c.limited_sums_with_one.ensures (8 * y + x) (omega arith)
