@@ -21,7 +21,7 @@ use Rattle.block_layer.specs.Marks.{marks_of}
 use Rattle.block_layer.proofs.Written.{zero_is}
 use Rattle.block_layer.proofs.Steps.{left_text}
 
--- ---- of an array
+-- ---- of an array: owning it tells of each level that it fits 16 bits
 
 not_zero : (n : ℕ) → is_zero (pos (suc n)) ≡ false
 not_zero n = at (is_zero (pos (suc n))) refl

@@ -1,11 +1,11 @@
 //! Writes blocks.
-ghost use Rattle.std.specs.Prelude.{◌≡◌, ℕ, ◌+◌, ◌<◌, ◌≤◌, ◌++◌, List, Bool, [], length, drop, slice_index_or, pos, negsuc, ◌≤ℤ◌, true, false, if◌then◌else◌, not, ◌==◌};
+ghost use Rattle.std.specs.Prelude.{◌≡◌, ℕ, ◌+◌, ◌<◌, ◌≤◌, ◌++◌, List, Bool, [], length, slice_index_or, pos, negsuc, ◌≤ℤ◌, true, false, if◌then◌else◌, not, ◌==◌};
 ghost use Rattle.h263_bits.specs.Bits.{spelled};
 ghost use Rattle.h263_bits.specs.Written.{Appends, len_of, room_of};
 ghost use Rattle.h263_types.specs.Blocks.{IsIntraBlock, IsInterBlock};
 ghost use Rattle.code_tables.specs.Events.{coefficient_of};
 ghost use Rattle.code_tables.specs.Tables.{size_of};
-ghost use Rattle.block_layer.specs.Text.{is_zero, none_left, events_of, events_text, dc_code, is_coded, levels_text, coded_text, intra_text, inter_text, IsIntraText, IsInterText};
+ghost use Rattle.block_layer.specs.Text.{none_left, events_of, events_text, dc_code, is_coded, levels_text, coded_text, intra_text, inter_text, IsIntraText, IsInterText};
 ghost use Rattle.block_layer.specs.Step.{AreWritten, level_at, one_event};
 ghost use Rattle.block_layer.specs.Marks.{marks_of};
 

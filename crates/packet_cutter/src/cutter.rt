@@ -67,6 +67,17 @@ fn no_header(format: Format) -> Header
     }
 }
 
+// Puts a macroblock in the place of another. One that is skipped has no blocks to copy.
+#[inline(always)]
+fn put(place: &mut Mb, mb: &Mb)
+    ensures { place.new ≡ mb.now }
+{
+    match mb {
+        Mb::Skip => *place = Mb::Skip,
+        _ => *place = *mb,
+    }
+}
+
 impl Cutter {
     ghost use Rattle.packet_cutter.specs.Cutting.{format_of, limit_of, kind_of, quant_of, added_of, sequence_of, packets_of, IsBegun, Holds};
 
@@ -126,7 +137,7 @@ impl Cutter {
         ensures sequence { sequence_of self.new ≡ sequence_of self.old }
         ensures packets { packets_of self.new ≡ packets_of self.old }
     {
-        self.mbs[self.added as usize] = *mb;
+        put(&mut self.mbs[self.added as usize], mb);
         self.added += 1;
     }
 
