@@ -26,7 +26,7 @@ returns-then-marks-eq0-clause-samples c = λ plane x y h.
 
 pub returns-clause-samples : goal.returns-clause-samples
 returns-clause-samples c = λ plane x y h.
-    let here : Inside c.args.out.now.format plane x y 1 = subst (λ (f : Format). Inside f plane x y 1) (sym c.requires.format) h in
+    let here : Inside (work c.args.out.now).format plane x y 1 = subst (λ (f : Format). Inside f plane x y 1) (sym c.requires.format) h in
     block_put (picture c.seen.result) (work c.args.out.now) c.block_corner-corner.result.plane plane c.block_corner-corner.result.x c.block_corner-corner.result.y x y
     c.samples_at-predicted.result c.inter_samples-samples.result (λ (n y x : ℕ). limited (pos n +ℤ inverse_at (inter_values c.args.quant c.args.levels.now) y x)) _ _
     c.seen.ensures.picture c.block_corner-corner.ensures.inside.column c.block_corner-corner.ensures.inside.row c.samples_at-predicted.ensures c.inter_samples-samples.ensures
