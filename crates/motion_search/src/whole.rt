@@ -14,6 +14,7 @@ use crate::lent::better_whole;
 use crate::start::zero;
 use crate::within::is_down;
 use h263_planes::PictureRef;
+use h263_planes::laws::planes_are_bytes;
 use h263_types::{Format, Reach, Vector, reach};
 
 // The vector in column `column` of row `row` of the square around zero.
@@ -211,9 +212,20 @@ pub(crate) fn best_of_whole(
     if is_settled(zero) {
         return zero;
     }
+    let r = reference;
     match reference.format() {
-        Format::SubQcif => best_in_format(block, reference, mb, radius, zero),
-        Format::Qcif => best_in_format(block, reference, mb, radius, zero),
-        Format::Cif => best_in_format(block, reference, mb, radius, zero),
+        Format::SubQcif => best_in_format(block, known(r, Format::SubQcif), mb, radius, zero),
+        Format::Qcif => best_in_format(block, known(r, Format::Qcif), mb, radius, zero),
+        Format::Cif => best_in_format(block, known(r, Format::Cif), mb, radius, zero),
     }
+}
+
+// The picture, whose format is known where this is called: then its rows stand at distances that are known too.
+#[inline(always)]
+fn known(reference: PictureRef<'_>, format: Format) -> PictureRef<'_>
+    requires { (picture reference).format ≡ format }
+    ensures { picture result ≡ picture reference.entry }
+{
+    planes_are_bytes();
+    PictureRef::new(format, reference.bytes())
 }
