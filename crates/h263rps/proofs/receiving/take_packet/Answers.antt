@@ -32,7 +32,7 @@ pub returns-in_default-place : goal.returns-in_default-place
 returns-in_default-place c = record {
   same_loan = refl;
   format = refl;
-  whole = whole_picture c.args.out.now.layout.format c.args.out.now.bytes.now c.args.out.now.whole;
+  whole = whole_picture (work c.args.out.now).format c.args.out.now.bytes.now c.args.out.now.whole;
   mbs = c.read_packet.ensures.size;
   row = record { format = refl; begins = refl; many = refl };
   takes = λ h first run kind is has.

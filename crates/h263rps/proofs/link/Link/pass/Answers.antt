@@ -19,9 +19,9 @@ returns-clause-shows c =
     let made = c.take_packets.new.out in
     let shown = shows f _ c.args.number c.send.ensures.packets.0 c.args.frame.now _ c.args.self.now.params (packets_of c.send.new.cutter) c.take_packets.result c.take_packets.new.collector (work made)
     c.new-frame.ensures.picture c.requires.before.params c.requires.before.collector_format c.send.ensures.packets.1 c.take_packets.ensures.shows in
-    let same : made.format ≡ f = c.take_packets.ensures.format ∙ ap (λ (p : Picture). p.format) c.new-picture.ensures.picture in
+    let same : (work made).format ≡ f = c.take_packets.ensures.format ∙ ap (λ (p : Picture). p.format) c.new-picture.ensures.picture in
     let long : length made.bytes.now ≡ size_of_picture f = made.whole ∙ ap size_of_picture same in
-    shown_is _ made.bytes.now (bytes_of (coded f c.args.frame.now)) (search rules) (coded_is f made.format c.args.frame.now made.bytes.now same long c.take_packets.ensures.whole shown.all)
+    shown_is _ made.bytes.now (bytes_of (coded f c.args.frame.now)) (search rules) (coded_is f (work made).format c.args.frame.now made.bytes.now same long c.take_packets.ensures.whole shown.all)
 
 pub returns-clause-before : goal.returns-clause-before
 returns-clause-before c =
