@@ -6,7 +6,6 @@ mod macroblock;
 mod place;
 mod rows;
 
-pub use block::row;
 pub use macroblock::{chroma, luma};
 
 #[cfg(test)]
