@@ -8,7 +8,7 @@ ghost use Rattle.h263_planes.specs.Samples.{Inside, IsPicture, in_block, same_pl
 ghost use Rattle.h263_planes.specs.Work.{loan_of, work};
 ghost use Rattle.picture_recon.specs.Squares.{IsInside};
 
-use h263_planes::{PictureMut, Plane};
+use h263_planes::{PictureMut, Plane, mb_place};
 use h263_types::Format;
 
 /// A macroblock's samples in one plane: `size` columns and rows from a column and a row on.
@@ -33,9 +33,10 @@ pub(crate) fn square_of(format: Format, plane: Plane, at: u32) -> Square
         Plane::Y => 16,
         Plane::Cb | Plane::Cr => 8,
     };
+    let (column, row) = mb_place(format, at);
     Square {
-        x: size * (at % format.columns()),
-        y: size * (at / format.columns()),
+        x: size * column,
+        y: size * row,
         size,
     }
 }

@@ -9,8 +9,8 @@ ghost use Rattle.picture_recon.specs.Marks.{AreMarked};
 
 use h263_types::Block;
 use idct8::inverse;
-use quantiser::block_place;
 use quantiser::laws::one_order;
+use quantiser::{block_place, value};
 use std::simd::prelude::*;
 
 // The samples of a block of an intra macroblock, by rows: INTRADC itself where the block has no other level.
@@ -46,7 +46,7 @@ pub(crate) fn inter_samples(quant: u8, block: &Block, marks: u64, predicted: &[u
 {
     if marks == FIRST_ALONE {
         one_order();
-        let number = number_of_first(value_of_level(quant, block.levels[0]));
+        let number = number_of_first(value(quant, block.levels[0]));
         return limited_sums_with_one(predicted, number);
     }
     limited_sums(predicted, &inverse(&values_of_inter(quant, block, marks)))
@@ -98,7 +98,7 @@ fn values_of_inter(quant: u8, block: &Block, marks: u64) -> [i16; 64]
     ensures range { All IsValue result }
 {
     let mut values = values_but_first(quant, block, marks);
-    values[0] = value_of_level(quant, block.levels[0]);
+    values[0] = value(quant, block.levels[0]);
     values
 }
 
@@ -117,35 +117,10 @@ fn values_but_first(quant: u8, block: &Block, marks: u64) -> [i16; 64]
     let mut rest = marks & !1;
     'marks: while rest != 0 {
         let k = rest.trailing_zeros() as usize;
-        values[block_place(k)] = value_of_level(quant, block.levels[k]);
+        values[block_place(k)] = value(quant, block.levels[k]);
         rest &= !(1 << k);
     }
     values
-}
-
-// The value of a level, as the quantiser's `value`, but with no branch on the sign: it is as often one as the other.
-#[inline(always)]
-fn value_of_level(quant: u8, level: i16) -> i16
-    requires quant { IsQuant quant }
-    requires level { IsLevel level }
-    ensures value { result ≡ value_of quant level }
-    ensures range { IsValue result }
-{
-    let sign = i32::from(level.signum());
-    (sign * size_of_level(quant, level)).clamp(-2048, 2047) as i16
-}
-
-// The size of the value of a level that isn't 0.
-#[inline(always)]
-fn size_of_level(quant: u8, level: i16) -> i32
-    requires quant { IsQuant quant }
-    requires level { IsLevel level }
-    ensures size { result ≡ pos (value_size quant (unsigned_abs level)) }
-    ensures range { Within (2 ^ 13) result }
-{
-    let quant = u32::from(quant);
-    let size = quant * (2 * u32::from(level.unsigned_abs()) + 1) - (1 - quant % 2);
-    size as i32
 }
 
 // Each number limited to 0 to 255.

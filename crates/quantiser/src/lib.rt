@@ -5,9 +5,9 @@
 pub mod laws;
 mod scan;
 
-ghost use Rattle.std.specs.Prelude.{◌≡◌, ℕ, ◌≤◌};
+ghost use Rattle.std.specs.Prelude.{◌≡◌, ℕ, ◌≤◌, pos, unsigned_abs};
 ghost use Rattle.h263_types.specs.Blocks.{IsCoefficient, IsLevel, IsQuant, IsValue};
-ghost use Rattle.quantiser.specs.Levels.{inter_level, intra_level, signed_of, value_of};
+ghost use Rattle.quantiser.specs.Levels.{inter_level, intra_level, signed_of, value_of, value_size};
 
 pub use scan::{block_place, zigzag_place};
 
@@ -18,16 +18,22 @@ pub fn value(quant: u8, level: i16) -> i16
     ensures value { result ≡ value_of quant level }
     ensures range { IsValue result }
 {
-    if level == 0 {
-        return 0;
-    }
+    let sign = i32::from(level.signum());
+    (sign * size_of_value(quant, level)).clamp(-2048, 2047) as i16
+}
+
+// The size of the value of a level that isn't 0, before its limit. There is no branch on the sign, since it is as often one as
+// the other.
+#[inline(always)]
+fn size_of_value(quant: u8, level: i16) -> i32
+    requires quant { IsQuant quant }
+    requires level { IsLevel level }
+    ensures size { result ≡ pos (value_size quant (unsigned_abs level)) }
+    ensures most { value_size quant (unsigned_abs level) ≤ 8192 }
+{
     let quant = u32::from(quant);
     let size = quant * (2 * u32::from(level.unsigned_abs()) + 1) - (1 - quant % 2);
-    if level < 0 {
-        -(size.min(2048) as i16)
-    } else {
-        size.min(2047) as i16
-    }
+    size as i32
 }
 
 /// The level, -127 to 127, of a coefficient of an inter block, within 65,535 of 0; `quant` is 1 to 31.

@@ -15,8 +15,8 @@ marks-init c = (
   bit_at_clear_same w64 c.args.marks 0 (lit< tt),
 )
 
-pub value_of_level-requires-clause-level : goal.value_of_level-requires-clause-level
-value_of_level-requires-clause-level c =
+pub value-requires-clause-level : goal.value-requires-clause-level
+value-requires-clause-level c =
     let k = trailing_zeros w64 c.marks.rest in
     let mark = lowest c.marks.rest c.marks.auto.rest-fits c.marks-test.true c.marks.invariant.1 in
     let level = c.requires.levels k mark.0 mark.1 in
@@ -38,12 +38,12 @@ marks-preserved c =
     let gone : bit_at left k ≡ 0 = bit_at_clear_same w64 rest k mark.1 in
     let others = bit_at_clear_other w64 rest k mark.1 in
     let level = c.requires.levels k mark.0 mark.1 in
-    let same = kept c.value_of_level.result c.value_of_level.ensures.range in
-    let v = to_z w16 (of_z w16 c.value_of_level.result) in
+    let same = kept c.value.result c.value.ensures.range in
+    let v = to_z w16 (of_z w16 c.value.result) in
     let next = put (record { from_order = c.one_order.ensures.from_order; from_block = c.one_order.ensures.from_block }) quant block k rest left c.marks.values v mark.1
     (subst (λ (n : ℕ). n < 64) c.block_place.ensures.place c.block_place.ensures.range)
-    (same ∙ c.value_of_level.ensures.value ∙ ap (value_of quant) (kept_level (level_at block k) level))
-    (subst IsValue (sym same) c.value_of_level.ensures.range) gone others c.marks.invariant.0 in
+    (same ∙ c.value.ensures.value ∙ ap (value_of quant) (kept_level (level_at block k) level))
+    (subst IsValue (sym same) c.value.ensures.range) gone others c.marks.invariant.0 in
     let first : 0 ≢ k = let h = mark.0 in omega arith in (
       subst (λ (n : ℕ). ArePut quant block left (slice_set c.marks.values n v)) (sym c.block_place.ensures.place) next,
       others 0 (lit< tt) first ∙ c.marks.invariant.1,

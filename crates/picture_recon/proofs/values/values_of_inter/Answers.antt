@@ -12,5 +12,5 @@ unfolding inter_values zigzag_place_of
 returns-clause-values c =
     let block = c.args.block.now in
     first_put (inter_value c.args.quant block) c.values_but_first-values.result _ c.values_but_first-values.ensures.long
-    (kept c.value_of_level.result c.value_of_level.ensures.range ∙ c.value_of_level.ensures.value ∙ ap (value_of c.args.quant) (kept_level (level_at block 0) (c.requires.block.levels 0 (lit< tt))))
+    (kept c.value.result c.value.ensures.range ∙ c.value.ensures.value ∙ ap (value_of c.args.quant) (kept_level (level_at block 0) (c.requires.block.levels 0 (lit< tt))))
     c.values_but_first-values.ensures.values

@@ -2,9 +2,11 @@
 use Rattle.std.proofs.Common.{◌≡◌, ℕ, zero, suc, ◌^◌, ◌≤◌, min, ℤ, pos, negsuc, neg_ℤ, ◌*ℤ◌, unsigned_abs, arith, ap, sym, subst, ◌∙◌, to_z, of_z, w16, w32}
 use Rattle.std.specs.Int.{int_max, int_min, int_signum}
 use Rattle.std.proofs.lemmas.Int.{ints, clamps}
-use Rattle.h263_types.specs.Blocks.{IsValue}
-use Rattle.idct8.specs.Ranges.{Within}
+use Rattle.h263_types.specs.Blocks.{IsLevel, IsValue}
 use Rattle.quantiser.specs.Levels.{value_of, value_size}
+
+pub kept_level : (z : ℤ) → IsLevel z → to_z w16 (of_z w16 z) ≡ z
+kept_level z h = omega (arith, ints)
 
 pub kept_value : (z : ℤ) → IsValue z → to_z w16 (of_z w16 (to_z w32 (of_z w32 z))) ≡ z
 kept_value z h = omega (arith, ints)
@@ -41,11 +43,11 @@ pub same_sign : (z sign : ℤ) → sign ≡ int_signum z → to_z w16 (of_z w16 
 same_sign (pos k) sign e = omega (arith, ints, e)
 same_sign (negsuc k) sign e = omega (arith, ints, e)
 
-pub same_product : (z sign size : ℤ) (n : ℕ) → sign ≡ int_signum z → size ≡ pos n → Within (2 ^ 13) size →
+pub same_product : (z sign size : ℤ) (n : ℕ) → sign ≡ int_signum z → size ≡ pos n → n ≤ 2 ^ 13 →
     to_z w32 (of_z w32 (to_z w32 (of_z w32 sign) *ℤ to_z w32 (of_z w32 size))) ≡ int_signum z *ℤ pos n
 same_product z sign size n e h within =
     let first : to_z w32 (of_z w32 sign) ≡ int_signum z = ap (λ (k : ℤ). to_z w32 (of_z w32 k)) e ∙ kept_sign z in
     let second : to_z w32 (of_z w32 size) ≡ pos n = omega (arith, ints) in
     ap (λ (k : ℤ). to_z w32 (of_z w32 (k *ℤ to_z w32 (of_z w32 size)))) first
     ∙ ap (λ (k : ℤ). to_z w32 (of_z w32 (int_signum z *ℤ k))) second
-    ∙ kept_product z n (omega (arith, ints))
+    ∙ kept_product z n within
