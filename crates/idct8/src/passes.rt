@@ -62,14 +62,14 @@ fn inverse_pass(r: Rows) -> Sums
     let (s2, s5) = mirrored_less(even2, odd2a, odd2b);
     let (s3, s4) = mirrored(even3, odd3a, odd3b);
     Sums {
-        s0: s0,
-        s1: s1,
-        s2: s2,
-        s3: s3,
-        s4: s4,
-        s5: s5,
-        s6: s6,
-        s7: s7,
+        s0,
+        s1,
+        s2,
+        s3,
+        s4,
+        s5,
+        s6,
+        s7,
     }
 }
 
@@ -94,13 +94,13 @@ fn forward_pass(r: Rows) -> Sums
     let (s5a, s3a) = rotated(1609, m0, 2408, m3);
     let (s3b, s5b) = rotated(565, m1, 2841, m2);
     Sums {
-        s0: s0,
+        s0,
         s1: halves(s1a, s1b).0,
-        s2: s2,
+        s2,
         s3: halves(s3a, s3b).1,
-        s4: s4,
+        s4,
         s5: halves(s5a, s5b).1,
-        s6: s6,
+        s6,
         s7: halves(s7a, s7b).0,
     }
 }

@@ -38,14 +38,14 @@ fn turned(r: Rows) -> Rows
     let (r4, r5) = woven(r.r2, r.r6);
     let (r6, r7) = woven(r.r3, r.r7);
     Rows {
-        r0: r0,
-        r1: r1,
-        r2: r2,
-        r3: r3,
-        r4: r4,
-        r5: r5,
-        r6: r6,
-        r7: r7,
+        r0,
+        r1,
+        r2,
+        r3,
+        r4,
+        r5,
+        r6,
+        r7,
     }
 }
 
