@@ -7,7 +7,7 @@ ghost use Rattle.motion_search.specs.Vectors.{zero_vector};
 
 use crate::candidate::{Candidate, with_differences};
 use crate::lent::differences_at;
-use h263_planes::PictureRef;
+use h263_planes::{PictureRef, mb_place};
 use h263_types::Vector;
 
 // The zero vector with its cost.
@@ -16,11 +16,9 @@ pub(crate) fn zero(block: &[u8; 256], reference: PictureRef<'_>, mb: u32) -> Can
     ensures candidate { result ≡ candidate_of block.now (picture reference.entry) mb 0 zero_vector }
     ensures cost { IsCost result.cost }
 {
-    let columns = reference.format().columns();
-    let x = 16 * (mb % columns);
-    let y = (16 * (mb / columns)) as u16;
+    let (column, row) = mb_place(reference.format(), mb);
     with_differences(
         Vector { x: 0, y: 0 },
-        differences_at(block, reference, x, y),
+        differences_at(block, reference, 16 * column, (16 * row) as u16),
     )
 }

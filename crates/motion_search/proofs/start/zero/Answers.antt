@@ -1,5 +1,6 @@
 use Rattle.std.proofs.Common.{◌≡◌, ◌∙◌, ap, arith, ℕ, ◌*◌, ◌/◌, ◌%◌, pos}
 use Rattle.std.proofs.lemmas.Int.{ints}
+use Rattle.h263_types.specs.declared.format.Format.{Format}
 use Rattle.h263_types.specs.Sizes.{columns_of}
 use Rattle.h263_types.specs.Vectors.{whole_place}
 use Rattle.h263_planes.specs.Lent.{picture}
@@ -17,14 +18,14 @@ returns-clause-candidate c =
     let block = c.args.block.now in
     let p = picture c.args.reference in
     let mb = c.args.mb in
-    let columns = c.columns-columns.result in
-    let e : columns ≡ columns_of p.format = c.columns-columns.ensures ∙ ap columns_of c.format.ensures.format in
-    let x = 16 * (mb % columns) in
-    let y = 16 * (mb / columns) in
+    let column = c.mb_place-column.result.0 in
+    let row = c.mb_place-column.result.1 in
+    let across : column ≡ mb % columns_of p.format = c.mb_place-column.ensures.column ∙ ap (λ (f : Format). mb % columns_of f) c.format.ensures.format in
+    let down : row ≡ mb / columns_of p.format = c.mb_place-column.ensures.row ∙ ap (λ (f : Format). mb / columns_of f) c.format.ensures.format in
     c.with_differences.ensures.candidate
     ∙ ap (costing zero_vector)
     (c.differences_at.ensures.value
-    ∙ all_rows block p x y
-    ∙ whole_predicts block p mb 0 x y zero_vector (zero_is_whole 0).even
-    (ap (λ (k : ℕ). pos (16 * (mb % k))) e ∙ stays (16 * (mb % columns_of p.format)))
-    (ap (λ (k : ℕ). pos (16 * (mb / k))) e ∙ stays (16 * (mb / columns_of p.format))))
+    ∙ all_rows block p (16 * column) (16 * row)
+    ∙ whole_predicts block p mb 0 (16 * column) (16 * row) zero_vector (zero_is_whole 0).even
+    (ap (λ (k : ℕ). pos (16 * k)) across ∙ stays (16 * (mb % columns_of p.format)))
+    (ap (λ (k : ℕ). pos (16 * k)) down ∙ stays (16 * (mb / columns_of p.format))))
