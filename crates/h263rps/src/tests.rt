@@ -263,10 +263,13 @@ fn refused_videos(rt: HostRuntime) -> Result<(), Fail> {
 
 const SHOWN: &[&[u8]] = &[OUT_HEAD, EXACT_LINE, PICTURE];
 
+// Two of the pieces in which a picture is written.
+const TWO_PIECES: &[u8] = &[64; 8192];
+
 const TWO: &[&[u8]] = &[HEAD_LINE, FRAME_LINE, PICTURE, FRAME_LINE, PICTURE];
 
 // Calls 0 and 1 attach, 2 to 20 read the head byte by byte, 21 writes it, 22 to 27 read the frame's line, and 28 to 32 its
-// planes in pieces of 4,096 bytes; 33 writes the picture's line, and 34 to 225 its 192 rows. The next frame comes then.
+// planes in pieces of 4,096 bytes; 33 writes the picture's line, and 34 to 38 its planes. The next frame comes then.
 #[test]
 fn faults_of_the_desk(rt: HostRuntime) -> Result<(), Fail> {
     let cases: &[Case] = &[
@@ -286,8 +289,14 @@ fn faults_of_the_desk(rt: HostRuntime) -> Result<(), Fail> {
         (ONE, 30, Status::ReadFault, &[OUT_HEAD]),
         (ONE, 33, Status::WriteFault, &[OUT_HEAD]),
         (ONE, 34, Status::WriteFault, &[OUT_HEAD, EXACT_LINE]),
-        (TWO, 226, Status::ReadFault, SHOWN),
-        (TWO, 233, Status::ReadFault, SHOWN),
+        (
+            ONE,
+            36,
+            Status::WriteFault,
+            &[OUT_HEAD, EXACT_LINE, TWO_PIECES],
+        ),
+        (TWO, 39, Status::ReadFault, SHOWN),
+        (TWO, 46, Status::ReadFault, SHOWN),
     ];
     run_twice(&rt, rt.alloc(), 4096, cases)?;
     Ok(())
