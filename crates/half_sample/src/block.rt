@@ -7,10 +7,10 @@ use crate::rows::{of_four, of_two};
 use h263_planes::{PictureRef, Plane};
 use std::simd::prelude::*;
 
-// A row of `N` predicted samples, 8 or 16, from column `x` of row `y` on, or half a sample further right or down
-// (H.263, 6.1.2).
+/// A row of `N` predicted samples, 8 or 16, from column `x` of row `y` on, or half a sample further right or down
+/// (H.263, 6.1.2).
 #[inline(always)]
-fn row<const N: usize>(
+pub(crate) fn row<const N: usize>(
     reference: PictureRef<'_>,
     plane: Plane,
     x: u32,

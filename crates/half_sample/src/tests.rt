@@ -4,6 +4,7 @@ ghost use Rattle.h263_types.specs.Vectors.{InReach};
 ghost use Rattle.h263_planes.specs.Lent.{picture};
 
 use super::*;
+use crate::block::row;
 use h263_planes::{PictureRef, Plane};
 use h263_types::{Format, Vector, reach};
 use std::process::Abort;
