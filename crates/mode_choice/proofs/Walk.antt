@@ -14,7 +14,7 @@ use Rattle.mode_choice.specs.declared.coefficients.Coding.TheVariants.{Intra, In
 use Rattle.mode_choice.specs.Walk.{AreWalked, least_of, level_by, level_in}
 use Rattle.idct8.specs.Transform.{entry, forward_at}
 use Rattle.mode_choice.specs.Choice.{coefficient_at}
-use Rattle.mode_choice.proofs.Levels.{has_level, is_forward, level_small, no_level, residual_small}
+use Rattle.mode_choice.proofs.Levels.{has_level, is_forward, no_level}
 
 -- what the law of the zigzag order says
 pub record IsOneOrder : Type 0 where
@@ -22,10 +22,6 @@ pub record IsOneOrder : Type 0 where
   pub from_block : (at : ℕ) → at < 64 → block_place_of (zigzag_place_of at) ≡ at
 
 -- ---- the level of one coefficient
-
-pub level_range : (coding : Coding) (quant : ℕ) (f : ℤ) → IsLevel (level_by coding quant f)
-level_range Intra quant f = level_small quant f
-level_range Inter quant f = residual_small quant f
 
 intra_none : (quant : ℕ) (f : ℤ) → IsQuant quant → unsigned_abs f < 2 * quant → level_by Intra quant f ≡ pos 0
 intra_none quant (pos n) h small = ap (λ (size : ℕ). pos (min size 127)) (div-eq_of_lt small)

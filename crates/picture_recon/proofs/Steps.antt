@@ -106,12 +106,6 @@ six_blocks Cr x y = lit< tt
 pub all_blocks : (m at bl b now val old : ℕ) → bl < b → now ≡ cond (nat_eq m at && nat_lt bl b) val old → now ≡ cond (nat_eq m at) val old
 all_blocks m at bl b now val old h e = grind (arith, nat_tests)
 
--- one more macroblock of a slice
-pub more_macroblocks : (first m at now mb old before val : ℕ) → first ≤ at →
-    now ≡ cond (nat_eq m at) mb before → before ≡ cond (nat_le first m && nat_lt m at) val old → (m ≡ at → mb ≡ val) →
-    now ≡ cond (nat_le first m && nat_lt m (at + 1)) val old
-more_macroblocks first m at now mb old before val h h1 h2 h3 = grind (arith, nat_tests)
-
 -- a block that is written over what stood there, sample by sample
 pub block_put : (p q : Picture) (plane other : Plane) (left top x y : ℕ) (before samples : List ℕ) (value : ℕ → ℕ → ℕ → ℕ) (now : ℕ) (test : Bool) →
     p ≡ q → left % 8 ≡ 0 → top % 8 ≡ 0 →

@@ -1,10 +1,9 @@
 //! The values and the samples of one block.
-ghost use Rattle.std.specs.Prelude.{◌≡◌, ℕ, ◌+◌, ◌*◌, ◌^◌, ◌<◌, ◌≤◌, pos, ◌+ℤ◌, ◌*ℤ◌, unsigned_abs, All, length, slice_index, slice_index_or};
+ghost use Rattle.std.specs.Prelude.{◌≡◌, ℕ, ◌+◌, ◌*◌, ◌^◌, ◌<◌, ◌≤◌, pos, ◌+ℤ◌, ◌*ℤ◌, All, length, slice_index, slice_index_or};
 ghost use Rattle.h263_types.specs.Blocks.{IsDc, IsInterBlock, IsIntraBlock, IsLevel, IsQuant, IsValue, level_at};
 ghost use Rattle.idct8.specs.Ranges.{Within};
 ghost use Rattle.idct8.specs.Transform.{inverse_at, rounded};
 ghost use Rattle.picture_recon.specs.Samples.{inter_value, inter_values, intra_values, limited};
-ghost use Rattle.quantiser.specs.Levels.{value_of, value_size};
 ghost use Rattle.picture_recon.specs.Marks.{AreMarked};
 
 use h263_types::Block;

@@ -1,6 +1,5 @@
 -- What was taken when a read failed has no whole head or frame.
-use Rattle.std.proofs.Common.{◌≡◌, ◌≢◌, ℕ, ◌+◌, ◌-◌, ◌<◌, ◌≤◌, List, [], ◌∷◌, ◌++◌, length, take, drop, codes, Option, Some, None, Result, Ok, Err, IsErr, refl, sym, ap, subst, ◌∙◌, arith, length-take, length-append}
-use Rattle.std.specs.Option.{option_map}
+use Rattle.std.proofs.Common.{◌≡◌, ◌≢◌, ℕ, ◌+◌, ◌-◌, ◌<◌, ◌≤◌, List, [], ◌∷◌, ◌++◌, length, take, drop, codes, None, Result, Ok, Err, IsErr, refl, sym, ap, subst, ◌∙◌, arith, length-take, length-append}
 use Rattle.std.proofs.lemmas.List.Elements.{All-nil, All-cons, All-head, All-tail, All-append}
 use Rattle.std.proofs.Math.Seq.{take-append-add, take-add}
 use Rattle.h263_types.specs.declared.format.Format.{Format}
@@ -62,10 +61,6 @@ module _ (f : Format) (at j : ℕ) (rest : List ℕ) (whole : line_stop (frame_l
 
   pub planes_cut : IsErr (frame_of f at taken)
   planes_cut = err_unless (frame_of f at taken) too_short
-
--- what a read took that failed
-pub lost_of : (old : Option (List ℕ)) (left : List ℕ) (k : ℕ) (new : Option (List ℕ)) → new ≡ option_map (λ l. drop k l) old → old ≡ Some left → new ≡ Some (drop k left)
-lost_of old left k new lost is = lost ∙ ap (λ (o : Option (List ℕ)). option_map (λ l. drop k l) o) is
 
 -- a byte more without a newline
 pub free_more : (left : List ℕ) (i b : ℕ) → NoNewline (take i left) → drop i left ≡ b ∷ drop 1 (drop i left) → b ≢ 10 → NoNewline (take (i + 1) left)

@@ -1,5 +1,5 @@
 -- Bytes of the video that came to a buffer.
-use Rattle.std.proofs.Common.{◌≡◌, ◌≢◌, ℕ, zero, suc, ◌+◌, ◌-◌, ◌<◌, ◌≤◌, ◌==◌, ◌++◌, List, [], ◌∷◌, length, take, drop, get_or, set, Option, Some, None, MatchOption, cond, refl, sym, ap, subst, ◌∙◌, arith, append_assoc, append-nil}
+use Rattle.std.proofs.Common.{◌≡◌, ◌≢◌, ℕ, zero, suc, ◌+◌, ◌-◌, ◌<◌, ◌==◌, ◌++◌, List, [], ◌∷◌, length, take, drop, get_or, set, Option, Some, None, MatchOption, cond, refl, sym, ap, subst, ◌∙◌, arith, append_assoc, append-nil}
 use Rattle.std.proofs.Math.Seq.{take-nil, drop-nil}
 use Rattle.std.proofs.lemmas.Bool.Decides.{nat_tests}
 use Rattle.std.proofs.lemmas.List.{take_more_set, drop-drop}
@@ -52,11 +52,6 @@ line_next m b xs some is other = ap (λ (l : List ℕ). line_within m l) is ∙ 
 module _ (line left : List ℕ) (i : ℕ) (all : List ℕ) (so_far : take i line ++ line_within (length line - i) (drop i left) ≡ all) where
   pub ends_before : drop i left ≡ [] → take i line ≡ all
   ends_before none = sym (append-nil (take i line)) ∙ ap (λ (l : List ℕ). take i line ++ l) (sym (line_end (length line - i) (drop i left) none)) ∙ so_far
-
-  pub ends_full : length line ≤ i → take i line ≡ all
-  ends_full full =
-      let none : length line - i ≡ 0 = omega arith in
-      sym (append-nil (take i line)) ∙ ap (λ (n : ℕ). take i line ++ line_within n (drop i left)) (sym none) ∙ so_far
 
   module _ (b : ℕ) (lt : i < length line) (there : drop i left ≡ b ∷ drop 1 (drop i left)) where
     pub ends_here : b ≡ 10 → take (i + 1) (set line i b) ≡ all

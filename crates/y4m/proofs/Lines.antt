@@ -1,9 +1,9 @@
 -- How far a line agrees with a word, and where its gaps are.
-use Rattle.std.proofs.Common.{◌≡◌, ◌≢◌, ℕ, suc, ◌+◌, ◌<◌, ◌≤◌, true, false, List, [], ◌∷◌, length, drop, get_or, ap, ◌∙◌, arith}
+use Rattle.std.proofs.Common.{◌≡◌, ◌≢◌, ℕ, suc, ◌<◌, ◌≤◌, List, [], ◌∷◌, length, drop, get_or, ap, ◌∙◌, arith}
 use Rattle.std.proofs.lemmas.Bool.Decides.{nat_tests}
 use Rattle.std.proofs.Math.Seq.{drop-cons}
 use Rattle.std.proofs.lemmas.List.{drop_all}
-use Rattle.y4m.specs.Line.{is_gap, agreement, before_gap}
+use Rattle.y4m.specs.Line.{agreement}
 
 apart_heads : (a b : ℕ) (word line : List ℕ) → a ≢ b → agreement (a ∷ word) (b ∷ line) ≡ 0
 apart_heads a b word line ne = grind (arith, nat_tests)
@@ -12,22 +12,6 @@ pub apart : (word line : List ℕ) (i : ℕ) → i < length word → i < length 
 apart word line i hw hl ne =
     (λ j. agreement (drop-cons word i 0 hw j) (drop-cons line i 0 hl j)) ∙ apart_heads (get_or word i 0) (get_or line i 0) (drop (suc i) word) (drop (suc i) line) ne
 
-pub past_end : (word line : List ℕ) (i : ℕ) → length line ≤ i → agreement (drop i word) (drop i line) ≡ 0
-past_end word line i le = ap (λ (l : List ℕ). agreement (drop i word) l) (drop_all i line le)
-
 -- behind the whole word
 word_gone : (word line : List ℕ) (i : ℕ) → length word ≤ i → agreement (drop i word) (drop i line) ≡ agreement [] (drop i line)
 word_gone word line i le = ap (λ (w : List ℕ). agreement w (drop i line)) (drop_all i word le)
-
-pub gap_behind : (word line : List ℕ) (i : ℕ) → length word ≤ i → i < length line → is_gap (get_or line i 0) ≡ true → agreement (drop i word) (drop i line) ≡ 1
-gap_behind word line i le lt gap = word_gone word line i le ∙ ap (λ (l : List ℕ). agreement [] l) (drop-cons line i 0 lt) ∙ (grind (arith, nat_tests))
-
-pub no_gap_behind : (word line : List ℕ) (i : ℕ) → length word ≤ i → i < length line → is_gap (get_or line i 0) ≡ false → agreement (drop i word) (drop i line) ≡ 0
-no_gap_behind word line i le lt gap = word_gone word line i le ∙ ap (λ (l : List ℕ). agreement [] l) (drop-cons line i 0 lt) ∙ (grind (arith, nat_tests))
-
--- the bytes before a gap
-pub gap_here : (line : List ℕ) (i : ℕ) → i < length line → is_gap (get_or line i 0) ≡ true → length (before_gap (drop i line)) ≡ 0
-gap_here line i lt gap = ap (λ (l : List ℕ). length (before_gap l)) (drop-cons line i 0 lt) ∙ (grind (arith, nat_tests))
-
-pub gap_later : (line : List ℕ) (i : ℕ) → i < length line → is_gap (get_or line i 0) ≡ false → length (before_gap (drop i line)) ≡ 1 + length (before_gap (drop (suc i) line))
-gap_later line i lt gap = ap (λ (l : List ℕ). length (before_gap l)) (drop-cons line i 0 lt) ∙ (grind (arith, nat_tests))

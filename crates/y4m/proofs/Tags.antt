@@ -1,9 +1,8 @@
 -- The tags of a line, one place after the other.
-use Rattle.std.proofs.Common.{◌≡◌, ℕ, ◌+◌, ◌-◌, ◌<◌, ◌≤◌, ◌==◌, ◌&&◌, nat_lt, Bool, true, false, List, [], ◌∷◌, length, take, drop, get_or, Option, Some, None, cond, refl, sym, ap, ◌∙◌, arith, add-one}
+use Rattle.std.proofs.Common.{◌≡◌, ℕ, ◌+◌, ◌-◌, ◌<◌, ◌==◌, ◌&&◌, nat_lt, Bool, true, false, List, [], ◌∷◌, length, take, drop, get_or, Option, Some, None, cond, refl, sym, ap, ◌∙◌, arith, add-one}
 use Rattle.std.proofs.lemmas.Bool.Decides.{nat_tests}
 use Rattle.std.proofs.Math.Seq.{drop-cons}
-use Rattle.std.proofs.lemmas.List.{drop_all}
-use Rattle.y4m.specs.Line.{Tag, is_gap, before_gap, tag_behind, with_tag, tags_from, tags_of}
+use Rattle.y4m.specs.Line.{Tag, is_gap, before_gap, tag_behind, with_tag, tags_from}
 use Rattle.y4m.specs.Head.{or_else}
 
 gap_cases : (gap : Bool) (b : ℕ) (bytes : List ℕ) → before_gap bytes ≡ take (length (before_gap bytes)) bytes → cond gap [] (b ∷ before_gap bytes) ≡ take (length (cond gap [] (b ∷ before_gap bytes))) (b ∷ bytes)
@@ -35,13 +34,6 @@ tags_next line at lt =
     ap (λ (l : List ℕ). tags_from at (get_or line (at - 1) 0) l) there
     ∙ (λ j. with_tag at (tag_behind (get_or line (at - 1) 0) (sym there j)) (tags_from (at + 1) (get_or line (sym back j) 0) (drop (at + 1) line)))
 
-pub tags_first : (line : List ℕ) → tags_at line 1 ≡ tags_of line
-tags_first [] = refl
-tags_first (b ∷ line) = refl
-
-pub tags_end : (line : List ℕ) (at : ℕ) → length line ≤ at → tags_at line at ≡ []
-tags_end line at le = ap (λ (l : List ℕ). tags_from at (get_or line (at - 1) 0) l) (drop_all at line le)
-
 pub tags_none : (line : List ℕ) (at : ℕ) → at < length line → tag_behind (get_or line (at - 1) 0) (drop at line) ≡ None → tags_at line at ≡ tags_at line (at + 1)
 tags_none line at lt is = tags_next line at lt ∙ ap (λ (tag : Option (List ℕ)). with_tag at tag (tags_at line (at + 1))) is
 
@@ -51,7 +43,3 @@ tags_some line text at lt is = tags_next line at lt ∙ ap (λ (tag : Option (Li
 pub or_else-or_else : {A : Type 0} → (a b c : Option A) → or_else (or_else a b) c ≡ or_else a (or_else b c)
 or_else-or_else None b c = refl
 or_else-or_else (Some x) b c = refl
-
-pub or_else-none : {A : Type 0} → (a : Option A) → or_else a None ≡ a
-or_else-none None = refl
-or_else-none (Some x) = refl

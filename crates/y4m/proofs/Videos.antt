@@ -220,10 +220,6 @@ module _ (f : Format) (at : ℕ) (x : Frame) (more : List ℕ) (is : IsFrame f x
       ∙ (λ j. drop (sym is.size j) (behind_line j))
       ∙ drop-append_seam x.planes more
 
--- how frames and faults go on
-some_there : (b : ℕ) (bytes : List ℕ) → 0 < length (b ∷ bytes)
-some_there b bytes = omega arith
-
 frames_step : (f : Format) (n at : ℕ) (rest planes : List ℕ) → 0 < length rest → frame_of f at rest ≡ Ok planes → frames_of f (suc n) at rest ≡ planes ∷ frames_of f n (at + frame_size f rest) (drop (frame_size f rest) rest)
 unfolding frames_of
 frames_step f n at [] planes more is = absurd (omega arith)
