@@ -1,5 +1,5 @@
 -- What the blocks, macroblocks and slices of a picture may hold.
-use Rattle.std.specs.Prelude.{ℕ, ◌+◌, ◌≡◌, ◌<◌, ◌≤◌, ℤ, pos, ◌≤ℤ◌, neg_ℤ, List, All, slice_index_or}
+use Rattle.std.specs.Prelude.{ℕ, ◌+◌, ◌≡◌, ◌<◌, ◌≤◌, ℤ, pos, ◌≤ℤ◌, neg_ℤ, List, All, length, slice_index_or}
 use Rattle.h263_types.specs.declared.Kind.{Kind}
 use Rattle.h263_types.specs.declared.Kind.TheVariants.{I, P}
 use Rattle.h263_types.specs.declared.format.Format.{Format}
@@ -78,6 +78,20 @@ IsOfKind P mb = Unit {0}
 IsOfKind I Skip = ⊥
 IsOfKind I (Intra quant blocks) = Unit {0}
 IsOfKind I (Inter quant vector blocks) = ⊥
+
+-- six blocks of 64 levels
+pub record AreWhole (blocks : List Block) : Type 0 where
+  pub count : length blocks ≡ 6
+  pub each : All (λ b. length b.levels ≡ 64) blocks
+
+abbrev pub IsWhole : Mb → Type 0
+IsWhole Skip = Unit {0}
+IsWhole (Intra quant blocks) = AreWhole blocks
+IsWhole (Inter quant vector blocks) = AreWhole blocks
+
+-- macroblock k of a picture's
+abbrev pub mb_in : List Mb → ℕ → Mb
+mb_in mbs k = slice_index_or mbs k Skip
 
 -- the macroblock's quantiser, if it has one, is this one
 abbrev pub HasQuant : ℕ → Mb → Type 0

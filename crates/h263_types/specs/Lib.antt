@@ -3,3 +3,5 @@ pub mod Vectors
 pub mod Blocks
 pub mod Params
 pub mod References
+pub mod Marks
+pub mod Clocks

@@ -2,7 +2,9 @@
 use Rattle.std.specs.Prelude.{ℕ, ◌+◌, ◌≤◌, List, [], ◌∷◌, Bool, true, false, ◌&&◌, nat_le, Result, Ok, Err}
 use Rattle.h263_types.specs.declared.params.Params.{Params}
 use Rattle.h263_types.specs.declared.params.ParamFault.{ParamFault}
-use Rattle.h263_types.specs.declared.params.ParamFault.TheVariants.{Quant, Keep, Radius, Limit, Slots, Lead}
+use Rattle.h263_types.specs.declared.params.ParamFault.TheVariants.{Quant, Keep, Radius, Limit, Slots, Lead, Messages}
+use Rattle.h263_types.specs.declared.format.Format.{Format}
+use Rattle.h263_types.specs.declared.clock.Clock.TheVariants.{Standard}
 
 -- each parameter is in its range
 pub record IsParams (p : Params) : Type 0 where
@@ -16,6 +18,12 @@ pub record IsParams (p : Params) : Type 0 where
   pub slots_low : 2 ≤ p.slots
   pub slots_high : p.slots ≤ 64
   pub lead : p.lead + 2 ≤ p.slots
+  pub messages_low : 1 ≤ p.messages
+  pub messages_high : p.messages ≤ 2
+
+-- what a call has where nothing else is asked for
+abbrev pub default_params : Format → Params
+default_params format = record { format = format; quant = 8; keep = 64; radius = 7; limit = 1400; slots = 16; lead = 3; messages = 1; clock = Standard }
 
 -- from least to most
 abbrev pub between : ℕ → ℕ → ℕ → Bool
@@ -34,6 +42,7 @@ ranges p =
     ∷ (between 1200 9000 p.limit, Limit)
     ∷ (between 2 64 p.slots, Slots)
     ∷ (nat_le (p.lead + 2) p.slots, Lead)
+    ∷ (between 1 2 p.messages, Messages)
     ∷ []
 
 -- the fault of the first test that fails

@@ -1,11 +1,37 @@
 //! Macroblocks and the slices that hold them, as the codec has them between text and samples.
+ghost use Rattle.std.specs.Prelude.{◌≡◌, length};
+ghost use Rattle.h263_types.specs.Blocks.{AreWhole, IsWhole};
+ghost use Rattle.h263_types.specs.Marks.{marks_of};
+
 use crate::vector::Vector;
+use std::simd::prelude::*;
 
 /// The 64 levels of a block in zigzag order (H.263, 6.2.3), each from -127 to 127 (5.4.2). In a block of an intra
 /// macroblock place 0 is the INTRADC value, 1 to 254.
 #[derive(Clone, Copy, Debug, PartialEq, Eq)]
 pub struct Block {
     pub levels: [i16; 64],
+}
+
+impl Block {
+    /// A bit for each level that isn't 0, the lowest for the first place.
+    #[inline(always)]
+    pub fn marks(self) -> u64
+        ensures marks { result ≡ marks_of self.levels }
+        ensures whole { length self.levels ≡ 64 }
+    {
+        marks(self.levels)
+    }
+}
+
+// All levels are compared at once.
+#[inline(always)]
+fn marks(levels: [i16; 64]) -> u64
+    ensures marks { result ≡ marks_of levels }
+    ensures whole { length levels ≡ 64 }
+{
+    let zeros = i16x64::splat(0);
+    i16x64::from_array(levels).simd_ne(zeros).to_bitmask()
 }
 
 /// A macroblock: 16 x 16 samples of luma and 8 x 8 of each colour. Its six blocks are four of luma in
@@ -25,6 +51,42 @@ pub enum Mb {
         vector: Vector,
         blocks: [Block; 6],
     },
+}
+
+impl Mb {
+    /// Does nothing; its clause says of a borrowed macroblock what its type says of one by value.
+    pub fn is_whole(&self)
+        ensures whole { IsWhole self.now }
+    {
+        match self {
+            Mb::Skip => {}
+            Mb::Intra { quant: _, blocks } => are_whole(blocks),
+            Mb::Inter {
+                quant: _,
+                vector: _,
+                blocks,
+            } => are_whole(blocks),
+        }
+    }
+}
+
+// The length of an array is known once it is seen as a slice.
+fn has_64_levels(block: &Block)
+    ensures { length block.now.levels ≡ 64 }
+{
+    let levels: &[i16] = &block.levels;
+    let _count = levels.len();
+}
+
+fn are_whole(blocks: &[Block; 6])
+    ensures { AreWhole blocks.now }
+{
+    has_64_levels(&blocks[0]);
+    has_64_levels(&blocks[1]);
+    has_64_levels(&blocks[2]);
+    has_64_levels(&blocks[3]);
+    has_64_levels(&blocks[4]);
+    has_64_levels(&blocks[5]);
 }
 
 /// The macroblocks of a slice (H.263, Annex K): `count` of them, at least one, from number `first` on.

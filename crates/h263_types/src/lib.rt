@@ -2,14 +2,19 @@
 #![tactic(auto)]
 
 mod blocks;
+mod clock;
 mod format;
+pub mod laws;
 mod limits;
+mod pace;
 mod params;
 mod vector;
 
 pub use blocks::{Block, Mb, SliceHead};
+pub use clock::Clock;
 pub use format::Format;
 pub use limits::reach;
+pub use pace::{FixedPace, Pace};
 pub use params::{ParamFault, Params};
 pub use vector::{Reach, Vector};
 

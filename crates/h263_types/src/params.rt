@@ -1,7 +1,8 @@
 //! The parameters of a call.
 ghost use Rattle.std.specs.Prelude.{◌≡◌, ◌↔◌, IsOk};
-ghost use Rattle.h263_types.specs.Params.{IsParams, verdict_of, ranges};
+ghost use Rattle.h263_types.specs.Params.{IsParams, default_params, verdict_of, ranges};
 
+use crate::clock::Clock;
 use crate::format::Format;
 use thiserror::Error;
 
@@ -22,6 +23,10 @@ pub struct Params {
     pub slots: u32,
     /// How many pictures the receiver's play lies behind, 0 to `slots` - 2.
     pub lead: u32,
+    /// The version of the receiver's messages, 1 or 2; those of version 2 name further complete pictures.
+    pub messages: u8,
+    /// The clock of every picture.
+    pub clock: Clock,
 }
 
 /// The first parameter that is out of its range.
@@ -39,9 +44,29 @@ pub enum ParamFault {
     Slots,
     #[error("Lead")]
     Lead,
+    #[error("Messages")]
+    Messages,
 }
 
 impl Params {
+    /// The parameters of a call in this format where nothing else is asked for.
+    pub fn of(format: Format) -> Params
+        ensures value { result ≡ default_params format }
+        ensures in_range { IsParams result }
+    {
+        Params {
+            format,
+            quant: 8,
+            keep: 64,
+            radius: 7,
+            limit: 1400,
+            slots: 16,
+            lead: 3,
+            messages: 1,
+            clock: Clock::Standard,
+        }
+    }
+
     /// Whether each parameter is in its range; if not, which is the first that isn't, in the order of the fields.
     pub fn check(&self) -> Result<(), ParamFault>
         ensures fault { result ≡ verdict_of (ranges self.now) }
@@ -64,6 +89,9 @@ impl Params {
         }
         if self.lead > self.slots - 2 {
             return Err(ParamFault::Lead);
+        }
+        if self.messages < 1 || self.messages > 2 {
+            return Err(ParamFault::Messages);
         }
         Ok(())
     }

@@ -41,15 +41,7 @@ fn reach_ends_at_the_picture(rt: HostRuntime) {
 
 #[test]
 fn first_parameter_out_of_range(rt: HostRuntime) {
-    let good = Params {
-        format: Format::Qcif,
-        quant: 8,
-        keep: 64,
-        radius: 7,
-        limit: 1400,
-        slots: 16,
-        lead: 3,
-    };
+    let good = Params::of(Format::Qcif);
     assert_eq!(rt; good.check(), Ok(()));
     let table = [
         (Params { quant: 0, ..good }, ParamFault::Quant),
@@ -66,6 +58,20 @@ fn first_parameter_out_of_range(rt: HostRuntime) {
         (Params { lead: 15, ..good }, ParamFault::Lead),
         (
             Params {
+                messages: 0,
+                ..good
+            },
+            ParamFault::Messages,
+        ),
+        (
+            Params {
+                messages: 3,
+                ..good
+            },
+            ParamFault::Messages,
+        ),
+        (
+            Params {
                 quant: 32,
                 slots: 1,
                 ..good
@@ -76,4 +82,23 @@ fn first_parameter_out_of_range(rt: HostRuntime) {
     for (params, fault) in table {
         assert_eq!(rt; params.check(), Err(fault));
     }
+}
+
+#[test]
+fn clocks_and_paces(rt: HostRuntime) {
+    assert_eq!(rt;
+        (Clock::Standard.half(), Clock::Standard.period()),
+        (128, 256)
+    );
+    assert_eq!(rt; (Clock::Custom.half(), Clock::Custom.period()), (512, 1024));
+    assert_eq!(rt; FixedPace { quant: 8 }.quant(&[342, 31]), 8);
+}
+
+#[test]
+fn marks_of_a_block(rt: HostRuntime) {
+    let mut levels = [0; 64];
+    levels[0] = 5;
+    levels[63] = -127;
+    assert_eq!(rt; Block { levels }.marks(), (1 << 63) | 1);
+    assert_eq!(rt; Block { levels: [0; 64] }.marks(), 0);
 }

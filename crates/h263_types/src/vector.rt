@@ -7,6 +7,11 @@ pub struct Vector {
     pub y: i8,
 }
 
+impl Vector {
+    /// The vector to the same place.
+    pub const ZERO: Vector = Vector { x: 0, y: 0 };
+}
+
 /// The least and the greatest components, in half samples, for which each referenced sample lies in the picture.
 #[derive(Clone, Copy, Debug, PartialEq, Eq)]
 pub struct Reach {
