@@ -7,8 +7,7 @@ use Rattle.std.proofs.lemmas.List.{append-nil}
 use Rattle.std.proofs.Common.{eq-eqb}
 use Rattle.h263_bits.specs.Bits.{spelled, bits_of, number, fields}
 use Rattle.h263_bits.specs.Syntax.{Spells, IsProductive, done}
-use Rattle.h263_bits.proofs.BitLists.{spelled-append, length-bits_of, length-spelled, number-spelled, spelled-number, number-lt}
-use Rattle.h263_bits.proofs.SyntaxLaws.{spells_field, spells_done, spells_whole}
+use Rattle.h263_bits.proofs.SyntaxLaws.{spelled-append, length-bits_of, length-spelled, number-spelled, spelled-number, number-lt, spells_field, spells_done, spells_whole}
 use Rattle.back_messages.specs.declared.Message.{Message}
 use Rattle.back_messages.specs.declared.Message.TheVariants.{Ack, Nack}
 use Rattle.back_messages.specs.declared.MessageFault.{MessageFault}

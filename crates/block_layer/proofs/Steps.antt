@@ -7,7 +7,7 @@ use Rattle.code_tables.specs.Tables.{size_of}
 use Rattle.h263_bits.specs.Bits.{spelled}
 use Rattle.h263_bits.specs.Written.{Appends, written}
 use Rattle.h263_bits.specs.declared.writer.BitWriter.{BitWriter}
-use Rattle.h263_bits.proofs.BitLists.{length-spelled}
+use Rattle.h263_bits.proofs.SyntaxLaws.{length-spelled}
 use Rattle.block_layer.specs.Text.{none_left, events_of, events_text, levels_text, coded_text, dc_code, intra_text, inter_text}
 use Rattle.block_layer.specs.Step.{level_at, AreWritten}
 

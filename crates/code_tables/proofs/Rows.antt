@@ -2,7 +2,7 @@
 use mir.Val.{SFits}
 use Rattle.std.proofs.lemmas.Int.{ints}
 use Rattle.h263_bits.specs.Bits.{fields}
-use Rattle.h263_bits.proofs.SyntaxLaws.{length-fields}
+use Rattle.h263_bits.proofs.SyntaxLaws.{length-fields, and_both}
 use Rattle.std.proofs.Common.{w8, ◌++◌, ◌≡◌, ℕ, zero, suc, ◌+◌, ◌-◌, ◌<◌, ◌≤◌, Bool, true, false, refl, ap, sym, ◌∙◌, arith, inl, inr, List, [], ◌∷◌, length, take, drop, get_or, Option, Some, None, ltb, length-take, length-drop}
 use Rattle.std.specs.Prelude.{map, slice_get, ℤ, pos, negsuc, option_and_then, min}
 use Rattle.std.specs.Option.{option_map}
@@ -10,7 +10,6 @@ use Rattle.std.specs.List.{list_all}
 use Rattle.std.proofs.lemmas.Bool.{cases_lt, lt-ltb, le-ltb, ltb-true}
 use Rattle.std.proofs.lemmas.List.{get_or-map, get_or-take, get_or-drop, length-map}
 use Rattle.std.proofs.lemmas.Option.{slice_get-get_or, slice_get_past}
-use Rattle.h263_bits.proofs.SyntaxLaws.{and_both}
 use Rattle.h263_bits.specs.Bits.{spelled}
 use Rattle.code_tables.specs.declared.code.Code.{Code}
 use Rattle.code_tables.specs.declared.event_tables.TheConstants.{EVENTS}

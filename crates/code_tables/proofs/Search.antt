@@ -14,8 +14,7 @@ use Rattle.h263_bits.specs.declared.fault.FaultKind.TheVariants.{Ended, BadCode}
 use Rattle.h263_bits.specs.Bits.{number, spelled}
 use Rattle.h263_bits.specs.Reading.{Bits, skip, err, ◌>>=◌}
 use Rattle.h263_bits.specs.Syntax.{IsIn, is_prefix_free, begins, found, is_cut, taken, word_at}
-use Rattle.h263_bits.proofs.BitLists.{length-spelled, number-spelled, spelled-number, number-lt, number-middle, take-take}
-use Rattle.h263_bits.proofs.SyntaxLaws.{begins_parts, begins_itself, and_both, found_again}
+use Rattle.h263_bits.proofs.SyntaxLaws.{length-spelled, number-spelled, spelled-number, number-lt, number-middle, take-take, begins_parts, begins_itself, and_both, found_again}
 use Rattle.code_tables.specs.declared.code.Code.{Code}
 use Rattle.code_tables.specs.Words.{word_of, listed, is_code, starts, goes_on_from, first_place, names, is_fast}
 

@@ -1,5 +1,9 @@
+-- THE GENERAL LAWS OF SYNTAX, and of the bits of numbers and bytes. This is the one public module of proofs in the
+-- repository: every crate's proofs may cite it, and no other crate's. A law over every type of values cannot stand
+-- on a function, so that each crate states the laws of its own syntax from these.
+--
 -- What a reader finds is spelled so, and what is spelled so is found, whatever follows it.
-use Rattle.std.proofs.Common.{◌≡◌, ℕ, zero, suc, ◌+◌, ◌^◌, ◌<◌, ◌≤◌, Bool, true, false, cond, List, [], ◌∷◌, ◌++◌, length, take, drop, Option, Some, None, Result, Ok, Err, refl, sym, ap, subst, ◌∙◌, append_assoc, add_assoc, add-zero, arith, inl, inr}
+use Rattle.std.proofs.Common.{◌≡◌, ℕ, zero, suc, ◌+◌, ◌-◌, ◌*◌, ◌^◌, ◌<◌, ◌≤◌, Bool, true, false, cond, List, [], ◌∷◌, ◌++◌, length, take, drop, Option, Some, None, Result, Ok, Err, refl, sym, ap, subst, ◌∙◌, append_assoc, add_assoc, add-zero, arith, inl, inr}
 use Rattle.std.specs.List.{list_all}
 use Rattle.std.specs.Prelude.{◌&&◌, ◌⊎◌, not, nat_lt, sum_by, IfOk, IsOkAnd}
 use Rattle.std.proofs.Math.Nat.{mod-eq_of_lt}
@@ -9,10 +13,12 @@ use Rattle.std.proofs.lemmas.List.{append-nil, take_at, drop_at, take-append-dro
 use Rattle.h263_bits.specs.declared.fault.Fault.{Fault}
 use Rattle.h263_bits.specs.declared.fault.FaultKind.{FaultKind}
 use Rattle.h263_bits.specs.declared.fault.FaultKind.TheVariants.{Ended, BadCode}
-use Rattle.h263_bits.specs.Bits.{number, spelled, fields}
-use Rattle.h263_bits.specs.Reading.{Bits, Gives, Takes, ok, err, first_fault, skip, number_at, ◌>>=◌}
+use Rattle.h263_bits.specs.declared.writer.BitWriter.{BitWriter}
+use Rattle.h263_bits.specs.Bits.{bits_of, number, spelled, fields}
+use Rattle.h263_bits.specs.Written.{Appends, written}
+use Rattle.h263_bits.specs.Reading.{Bits, bits_between, Gives, Takes, ok, err, first_fault, skip, number_at, ◌>>=◌}
 use Rattle.h263_bits.specs.Syntax.{Syntax, Allowed, IsIn, Words, begins, found, is_cut, taken, is_prefix_free, Turn, again, finally, done, field, code, part, element, repeat, refused, field_at, word_at, standing_at, turned, turns_at, either, Turns, Spells, reading, IsProductive}
-use Rattle.h263_bits.proofs.BitLists.{length-spelled, number-spelled, spelled-number, number-lt}
+pub use Rattle.h263_bits.proofs.BitLists.{length-spelled, length-bits_of, bits_of-append, bits_of-drop, bits_of-take, number-append, number-lt, number-spelled, spelled-low, spelled-number, spelled-append, number-middle, number-push, take-take, length-window, drop-window}
 
 -- the value of a step that did not fail
 pub bind_ok : {A B : Type 0} (r : Result A Fault) (f : A → Result B Fault) (y : B) → (r >>= f) ≡ Ok y → (x : A) × (r ≡ Ok x) × (f x ≡ Ok y)
@@ -29,6 +35,15 @@ ok_is x y e = cc
 pub allowed_ok : {A : Type 0} (o : Option FaultKind) (at : ℕ) (r : Result A Fault) (y : A) → refused o at r ≡ Ok y → (o ≡ None) × (r ≡ Ok y)
 allowed_ok None at r y e = (refl, e)
 allowed_ok (Some k) at r y e = absurd cc
+
+-- a fault that a test did not find
+pub passed_if : {A : Type 0} (t : Bool) (f : Fault) (x : Result A Fault) (r : A) → cond t (err f) x ≡ ok r → (t ≡ false) × (x ≡ Ok r)
+passed_if true f x r e = absurd (err_not_ok f r e)
+passed_if false f x r e = (refl, e)
+
+pub passed_unless : {A : Type 0} (t : Bool) (f : Fault) (x : Result A Fault) (r : A) → cond t x (err f) ≡ ok r → (t ≡ true) × (x ≡ Ok r)
+passed_unless true f x r e = (refl, e)
+passed_unless false f x r e = absurd (err_not_ok f r e)
 
 standing_ok : {A : Type 0} (at : ℕ) (r : Result A Fault) (y : A) → standing_at at r ≡ Ok y → r ≡ Ok y
 standing_ok at (Ok x) y e = e
@@ -322,6 +337,12 @@ texts_read {X} {A} view s r old new each g a text rest spelt parts = at_result r
         (ap (λ (p : A × Bits). p.0) f, ap (λ (p : A × Bits). p.1.bits) f)
     at_result (Err e) g = err_not_ok e (a, from (old.at + length text) rest) (sym g ∙ whole)
 
+-- What holds of each value that is spelled holds of the value that was read.
+pub reads_within : {X A : Type 0} (view : X → A) (s : Syntax A) (r : Result X Fault) (old new : Bits) (P : A → Type 0) → Gives view r new (reading s old)
+    → ((a : A) (text : List Bool) → Spells s a text → P a) → IfOk r (λ x. P (view x))
+reads_within view s (Ok x) old new P g each = let f = sound s old new (view x) g in each (view x) f.0 f.2
+reads_within view s (Err e) old new P g each = tt
+
 -- The fault of the call is the first one of the reading.
 pub reads_fault : {X Y : Type 0} (view : X → Y) (r : Result X Fault) (left : Bits) (read : Result (Y × Bits) Fault) → Gives view r left read → first_fault r ≡ first_fault read
 reads_fault view (Ok x) left read g = ap first_fault (sym g)
@@ -362,6 +383,35 @@ spells_turn s t body a front rest first more = (suc more.0, (t, front, rest, ref
 -- a whole text, where a part ends it
 pub spells_whole : {A : Type 0} (s : Syntax A) (a : A) (x y : List Bool) → x ≡ y → Spells s a x → Spells s a y
 spells_whole s a x y e h = subst (λ (t : List Bool). Spells s a t) e h
+
+-- what is read of a whole text is spelled by it
+pub spelled_whole : {A : Type 0} (s : Syntax A) (a : A) (text : List Bool) → reading s (record { at = 0; bits = text }) ≡ Ok (a, record { at = length text; bits = [] }) → Spells s a text
+spelled_whole s a text e =
+    let found = sound s (record { at = 0; bits = text }) (record { at = length text; bits = [] }) a e in
+    spells_whole s a found.0 text (sym (append-nil found.0) ∙ sym found.1.parts) found.2
+
+-- ---- what a spelled text holds, step by step
+
+pub done_length : {A : Type 0} (x a : A) (bits : List Bool) → Spells (done x) a bits → length bits ≡ 0
+unfolding Spells
+done_length x a bits h = ap length h.1
+
+pub field_length : {A : Type 0} (n : ℕ) (allowed : Allowed ℕ) (next : ℕ → Syntax A) (a : A) (bits : List Bool) → Spells (field n allowed next) a bits
+    → (v : ℕ) × (rest : List Bool) × Spells (next v) a rest × (length bits ≡ n + length rest)
+unfolding Spells
+field_length n allowed next a bits h = (h.0, h.1, h.5, ap length h.4 ∙ length-append (spelled n h.0) h.1 ∙ ap (λ (k : ℕ). k + length h.1) (length-spelled n h.0))
+
+-- a test that holds of what each word of a table stands for holds of one
+pub stands_within : {S : Type 0} (test : S → Bool) (words : List (List Bool × S)) (w : List Bool × S) → list_all (λ v. test v.1) words ≡ true → IsIn w words → test w.1 ≡ true
+stands_within test [] w e h = absurd h
+stands_within {S} test (v ∷ words) w e (inl same) =
+    let p = and_both (test v.1) (list_all (λ v. test v.1) words) e in
+    subst (λ (x : List Bool × S). test x.1 ≡ true) same p.0
+stands_within test (v ∷ words) w e (inr later) =
+    let p = and_both (test v.1) (list_all (λ v. test v.1) words) e in
+    stands_within test words w p.1 later
+
+-- ---- fields one after the other
 
 pub fields-append : (xs ys : List (ℕ × ℕ)) → fields (xs ++ ys) ≡ fields xs ++ fields ys
 fields-append [] ys = refl
@@ -452,3 +502,32 @@ word_some {S} (v ∷ words) w e h =
 pub code_some : {S A : Type 0} (words : Words S) (next : S → Syntax A) (a : A) → list_all (λ v. nat_lt 0 (length v.0)) words.list ≡ true → Spells (code words next) a [] → ⊥
 unfolding Spells
 code_some words next a e h = absurd (omega (arith, word_some words.list (h.0, h.1) e h.3, ap length h.4, length-append h.0 h.2))
+
+-- ---- where a reader stands, and what a writer has written
+
+-- what is left behind a text, by its place
+pub record IsMoved (bytes : List ℕ) (to : ℕ) (c : Bits) : Type 0 where
+  pub bits : c ≡ bits_between bytes c.at to
+  pub order : c.at ≤ to
+
+pub moved : (bytes : List ℕ) (from to : ℕ) (text : List Bool) (c : Bits) → from ≤ to → to ≤ 8 * length bytes → Between (bits_between bytes from to) text c → IsMoved bytes to c
+moved bytes from to text c order within h =
+    let n = length text in
+    let len : length (bits_between bytes from to).bits ≡ to - from = length-window (bits_of bytes) from to order (omega (arith, length-bits_of bytes)) in
+    let fits : from + n ≤ to = omega (arith, len, ap length h.parts, length-append text c.bits) in
+    let bits : c.bits ≡ take (to - (from + n)) (drop (from + n) (bits_of bytes)) =
+    sym (drop_at text c.bits n refl) ∙ ap (drop n) (sym h.parts) ∙ drop-window (bits_of bytes) from to n fits in
+    let place : from + n ≡ c.at = sym h.at in
+    record { bits = ap (λ (t : List Bool). record { at = c.at; bits = t }) (bits ∙ ap (λ (k : ℕ). take (to - k) (drop k (bits_of bytes))) place); order = omega (arith, fits, place) }
+
+-- no text
+pub appends_none : (w : BitWriter) (text : List Bool) → text ≡ [] → Appends w w text
+appends_none w text none = record { buffer = refl; room = refl; text = sym (ap (λ (t : List Bool). written w ++ t) none ∙ append-nil (written w)) }
+
+-- one text behind the other
+pub appends_both : (a b c : BitWriter) (x y : List Bool) → Appends a b x → Appends b c y → Appends a c (x ++ y)
+appends_both a b c x y p q = record {
+  buffer = q.buffer ∙ p.buffer;
+  room = q.room ∙ p.room;
+  text = q.text ∙ ap (λ (t : List Bool). t ++ y) p.text ∙ append_assoc (written a) x y;
+}

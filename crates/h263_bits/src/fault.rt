@@ -1,3 +1,5 @@
+ghost use Rattle.std.specs.Prelude.{◌≡◌};
+
 /// What is wrong with the bits, by the field or the rule that they break.
 #[derive(Clone, Copy, Debug, PartialEq, Eq)]
 pub enum FaultKind {
@@ -39,8 +41,6 @@ pub enum FaultKind {
     SourceFormat,
     /// A source format of the three that is not the expected one (5.1.4.2).
     OtherFormat,
-    /// A custom picture clock (5.1.4.2).
-    CustomClock,
     /// The optional modes are not Annexes K and N alone (5.1.4.2).
     Modes,
     /// A picture that is neither I nor P (5.1.4.3).
@@ -49,6 +49,8 @@ pub enum FaultKind {
     Resampling,
     /// Continuous presence multipoint (CPM 5.1.20).
     Cpm,
+    /// A custom picture clock whose divisor is 0 (CPCFC 5.1.7).
+    Divisor,
     /// Slices that are rectangular or in any order (SSS 5.1.10).
     SliceMode,
     /// A mode of the back channel that is none of the four (RPSMF 5.1.13).
@@ -57,7 +59,7 @@ pub enum FaultKind {
     IntraReference,
     /// A P picture that names none (TRPI 5.1.14).
     NoReference,
-    /// A temporal reference of more than eight bits (TRP 5.1.15).
+    /// A temporal reference of more than eight bits, in the standard clock (TRP 5.1.15).
     HighBits,
     /// A back-channel message with a fault (BCM 5.1.17, Annex N).
     Messages,
@@ -81,6 +83,18 @@ pub enum FaultKind {
     PayloadType,
     /// Another source.
     Source,
+}
+
+impl FaultKind {
+    /// This fault, at a place.
+    pub fn at(self, place: u32) -> Fault
+        ensures { result ≡ record { kind = self; at = place } }
+    {
+        Fault {
+            kind: self,
+            at: place,
+        }
+    }
 }
 
 /// A fault, and the place of the bit at which it stands: 0 is the first bit of the first byte.

@@ -1,5 +1,6 @@
 //! Bits of bytes, most significant first: reading and writing them, and syntax as data.
 //!
+//! `proofs/SyntaxLaws` has the general laws of syntax: of all proofs the one module that other crates may cite.
 //! `specs/Syntax` says once, for every syntax, which bits spell a value and what a reader of any bits finds.
 #![tactic(auto)]
 

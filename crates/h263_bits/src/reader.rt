@@ -1,6 +1,7 @@
 ghost use Rattle.std.specs.Prelude.{◌≡◌, ℕ, ◌+◌, ◌-◌, ◌*◌, ◌<◌, ◌≤◌, ◌^◌, length, take, drop, IfOk, OnErr};
 ghost use Rattle.h263_bits.specs.Bits.{bits_of, number};
 ghost use Rattle.h263_bits.specs.Reading.{Bits, Gives, bits_between, number_at, skip};
+ghost use Rattle.h263_bits.specs.Syntax.{field_at, only};
 
 use crate::fault::{Fault, FaultKind};
 use std::marker::Model;
@@ -66,14 +67,23 @@ impl<'a> BitReader<'a> {
         ensures err { OnErr result (self.new ≡ self.old) }
     {
         if self.end - self.at < n {
-            return Err(Fault {
-                kind: FaultKind::Ended,
-                at: self.at,
-            });
+            return Err(FaultKind::Ended.at(self.at));
         }
         let value = number_from(self.bytes, self.at, n);
         self.at += n;
         Ok(value)
+    }
+
+    /// Reads a field of n bits that has one value. Another value is the fault, at the field's first bit.
+    pub fn fixed(&mut self, n: u32, value: u32, kind: FaultKind) -> Result<(), Fault>
+        requires { n ≤ 32 }
+        ensures { Gives (λ _. value) result self.new (field_at n (only value kind) self.old) }
+    {
+        let at = self.at;
+        if self.bits(n)? != value {
+            return Err(kind.at(at));
+        }
+        Ok(())
     }
 
     /// The next n bits as a number, which the reader keeps.

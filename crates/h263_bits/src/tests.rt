@@ -25,15 +25,15 @@ fn ends_at_its_place(rt: HostRuntime) {
     let bytes = [0xff, 0xff];
     let mut reader = BitReader::new(&bytes, 3, 14);
     assert_eq!(rt; reader.bits(5), Ok(31));
-    let ended = Fault {
-        kind: FaultKind::Ended,
-        at: 8,
-    };
-    assert_eq!(rt; reader.bits(7), Err(ended));
+    assert_eq!(rt; reader.bits(7), Err(FaultKind::Ended.at(8)));
     assert_eq!(rt; reader.at(), 8);
     assert_eq!(rt; reader.rest(), 6);
     assert_eq!(rt; reader.peek(6), 63);
-    assert_eq!(rt; reader.bits(6), Ok(63));
+    assert_eq!(rt;
+        reader.fixed(2, 0b10, FaultKind::Cpm),
+        Err(FaultKind::Cpm.at(8))
+    );
+    assert_eq!(rt; reader.bits(4), Ok(15));
 }
 
 #[test]

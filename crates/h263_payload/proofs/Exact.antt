@@ -9,8 +9,7 @@ use Rattle.h263_bits.specs.Bits.{spelled}
 use Rattle.h263_bits.specs.Reading.{Bits, bits_between, number_at, skip, ok, err, ◌>>=◌}
 use Rattle.h263_bits.specs.Syntax.{reading, any, done, field, either, Spells, IsProductive}
 use Rattle.h263_bits.specs.Bits.{bits_of}
-use Rattle.h263_bits.proofs.BitLists.{length-spelled, length-bits_of, length-window, drop-window, take-take}
-use Rattle.h263_bits.proofs.SyntaxLaws.{Between, bind_ok, sound, complete, number_takes, number_again, either_productive, ok_is, err_not_ok}
+use Rattle.h263_bits.proofs.SyntaxLaws.{length-spelled, length-bits_of, length-window, drop-window, take-take, Between, bind_ok, sound, complete, number_takes, number_again, either_productive, ok_is, err_not_ok}
 use Rattle.h263_types.specs.declared.format.Format.{Format}
 use Rattle.picture_header.specs.declared.header.Header.{Header}
 use Rattle.picture_header.specs.Text.{header}

@@ -3,8 +3,7 @@ use Rattle.std.proofs.Common.{◌≡◌, ℕ, ◌+◌, ◌*◌, ◌<◌, ◌≤�
 use Rattle.std.proofs.lemmas.List.{length-append}
 use Rattle.h263_bits.specs.Bits.{spelled, fields}
 use Rattle.h263_bits.specs.Syntax.{any, Spells}
-use Rattle.h263_bits.proofs.BitLists.{length-spelled}
-use Rattle.h263_bits.proofs.SyntaxLaws.{spells_field, spells_done, length-fields}
+use Rattle.h263_bits.proofs.SyntaxLaws.{length-spelled, spells_field, spells_done, length-fields}
 use Rattle.h263_types.specs.declared.format.Format.{Format}
 use Rattle.picture_header.specs.declared.header.Header.{Header}
 use Rattle.picture_header.specs.Ranges.{IsHeader}

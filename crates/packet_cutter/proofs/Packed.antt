@@ -6,7 +6,7 @@ use Rattle.std.proofs.Math.Seq.{drop-cons, take-append-add}
 use Rattle.std.proofs.lemmas.List.{length-drop, length-take-le, take_all, take_more}
 use Rattle.h263_types.specs.declared.blocks.Mb.{Mb}
 use Rattle.h263_bits.specs.Bits.{bits_of, fields}
-use Rattle.h263_bits.proofs.BitLists.{length-bits_of, bits_of-append}
+use Rattle.h263_bits.proofs.SyntaxLaws.{length-bits_of, bits_of-append}
 use Rattle.picture_header.specs.declared.header.Header.{Header}
 use Rattle.rtp_header.specs.Written.{rtp_fields}
 use Rattle.h263_payload.specs.Written.{written_payload}

@@ -5,7 +5,7 @@ use Rattle.std.proofs.lemmas.Bool.{cases_lt}
 use Rattle.std.proofs.lemmas.List.{length-append, length-take, length-take-le, length-drop, drop-take, take_at, drop_at, take-append-le}
 use Rattle.std.proofs.Math.ListN.{get_or-append}
 use Rattle.std.proofs.Math.Seq.{get_or-append_seam}
-use Rattle.h263_bits.proofs.BitLists.{take-take}
+use Rattle.h263_bits.proofs.SyntaxLaws.{take-take}
 use Rattle.packet_cutter.specs.Taken.{packet_at, packets_in, ArePlaced}
 
 pub none_in : (bytes places : List ℕ) → packets_in bytes places 0 ≡ []

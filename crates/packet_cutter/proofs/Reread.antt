@@ -7,7 +7,7 @@ use Rattle.h263_bits.specs.declared.fault.Fault.{Fault}
 use Rattle.h263_bits.specs.Bits.{bits_of, spelled, fields}
 use Rattle.h263_bits.specs.Reading.{Bits, bits_between}
 use Rattle.h263_bits.specs.Written.{to_byte}
-use Rattle.h263_bits.proofs.BitLists.{length-bits_of, bits_of-take}
+use Rattle.h263_bits.proofs.SyntaxLaws.{length-bits_of, bits_of-take}
 use Rattle.picture_header.specs.declared.header.Header.{Header}
 use Rattle.picture_header.specs.Ranges.{IsHeader}
 use Rattle.picture_header.specs.Written.{written_header}

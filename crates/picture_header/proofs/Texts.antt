@@ -10,8 +10,7 @@ use Rattle.std.specs.Prelude.{◌==◌}
 use Rattle.h263_bits.specs.declared.fault.FaultKind.TheVariants as faults
 use Rattle.h263_bits.specs.Bits.{spelled, fields}
 use Rattle.h263_bits.specs.Syntax.{any, repeat, done, Spells}
-use Rattle.h263_bits.proofs.BitLists.{length-spelled}
-use Rattle.h263_bits.proofs.SyntaxLaws.{spells_field, spells_done, spells_part, spells_element, spells_last, spells_turn, spells_whole, length-fields}
+use Rattle.h263_bits.proofs.SyntaxLaws.{length-spelled, spells_field, spells_done, spells_part, spells_element, spells_last, spells_turn, spells_whole, length-fields}
 use Rattle.back_messages.specs.declared.Message.{Message}
 use Rattle.back_messages.specs.Text.{IsMessage, message, code_of}
 use Rattle.back_messages.proofs.Codes.{field_spells, message_text}

@@ -8,8 +8,7 @@ use Rattle.h263_bits.specs.declared.fault.Fault.{Fault}
 use Rattle.h263_bits.specs.Bits.{bits_of}
 use Rattle.h263_bits.specs.Reading.{Bits, ok, err}
 use Rattle.h263_bits.specs.Syntax.{reading, any, done, Spells, IsProductive}
-use Rattle.h263_bits.proofs.BitLists.{length-bits_of, bits_of-take, bits_of-append}
-use Rattle.h263_bits.proofs.SyntaxLaws.{sound, complete, spells_part, spells_done, spells_whole, either_productive, ok_is, err_not_ok}
+use Rattle.h263_bits.proofs.SyntaxLaws.{length-bits_of, bits_of-take, bits_of-append, sound, complete, spells_part, spells_done, spells_whole, either_productive, ok_is, err_not_ok}
 use Rattle.rtp_header.specs.declared.rtp.Rtp.{Rtp}
 use Rattle.rtp_header.specs.Text.{Head, head, extension, behind, header, from_byte, IsPadding, IsRtp}
 use Rattle.rtp_header.specs.Faults.{rtp_in, with_head, with_end, with_payload, end_of, payload_end_of, accepted_of}

@@ -8,8 +8,7 @@ use Rattle.h263_bits.specs.declared.fault.FaultKind.TheVariants.{Ended}
 use Rattle.h263_bits.specs.Bits.{bits_of, spelled, number, fields}
 use Rattle.h263_bits.specs.Reading.{Bits, number_at}
 use Rattle.h263_bits.specs.Syntax.{Syntax, Allowed, field, done, any, either, Spells, IsProductive, reading}
-use Rattle.h263_bits.proofs.BitLists.{spelled-append, length-bits_of, length-spelled, number-push, bits_of-take, bits_of-drop}
-use Rattle.h263_bits.proofs.SyntaxLaws.{spells_field, spells_done, complete, sound, ok_is, length-fields}
+use Rattle.h263_bits.proofs.SyntaxLaws.{spelled-append, length-bits_of, length-spelled, number-push, bits_of-take, bits_of-drop, spells_field, spells_done, complete, sound, ok_is, length-fields}
 use Rattle.rtp_header.specs.Text.{Head, head, extension, behind, from_byte}
 use Rattle.rtp_header.specs.Faults.{end_of}
 

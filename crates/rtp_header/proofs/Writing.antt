@@ -5,8 +5,7 @@ use Rattle.std.proofs.lemmas.List.{append-nil, length-append}
 use Rattle.byteorder.specs.Endian.{big_bytes}
 use Rattle.h263_bits.specs.Bits.{bits_of, spelled, fields}
 use Rattle.h263_bits.specs.Syntax.{any, Spells}
-use Rattle.h263_bits.proofs.BitLists.{length-bits_of}
-use Rattle.h263_bits.proofs.SyntaxLaws.{spells_field, spells_part, spells_done, spells_whole, length-fields}
+use Rattle.h263_bits.proofs.SyntaxLaws.{length-bits_of, spells_field, spells_part, spells_done, spells_whole, length-fields}
 use Rattle.rtp_header.specs.Text.{Head, head, behind, header}
 use Rattle.rtp_header.specs.Faults.{rtp_in}
 use Rattle.rtp_header.specs.Written.{rtp_fields}

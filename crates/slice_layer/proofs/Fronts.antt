@@ -5,7 +5,7 @@ use Rattle.std.proofs.lemmas.List.{length-append, length-take, length-drop, take
 use Rattle.h263_bits.specs.Bits.{spelled, number, bits_of}
 use Rattle.h263_bits.specs.Reading.{bits_between}
 use Rattle.h263_bits.specs.Written.{to_byte}
-use Rattle.h263_bits.proofs.BitLists.{spelled-number, length-bits_of, bits_of-take, bits_of-append, take-take}
+use Rattle.h263_bits.proofs.SyntaxLaws.{spelled-number, length-bits_of, bits_of-take, bits_of-append, take-take}
 use Rattle.slice_layer.specs.Written.{bytes_of, padded, IsFront}
 
 whole_bytes : (n : ℕ) → 8 * ((n + to_byte n) / 8) ≡ n + to_byte n

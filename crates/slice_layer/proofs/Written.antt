@@ -15,8 +15,7 @@ use Rattle.h263_bits.specs.declared.fault.FaultKind.TheVariants as faults
 use Rattle.h263_bits.specs.Bits.{is_set, spelled, fields}
 use Rattle.h263_bits.specs.Written.{to_byte}
 use Rattle.h263_bits.specs.Syntax.{any, only, Spells}
-use Rattle.h263_bits.proofs.BitLists.{length-spelled}
-use Rattle.h263_bits.proofs.SyntaxLaws.{spells_field, spells_part, spells_done, spells_whole}
+use Rattle.h263_bits.proofs.SyntaxLaws.{length-spelled, spells_field, spells_part, spells_done, spells_whole}
 use Rattle.picture_header.specs.declared.header.Header.{Header}
 use Rattle.picture_header.specs.Ranges.{IsReference, IsHeader}
 use Rattle.picture_header.specs.Written.{kind_code, reference_fields, written_header}

@@ -1,6 +1,6 @@
 use Rattle.std.proofs.Common.{◌≡◌, ℕ, ◌+◌, ◌*◌, ◌<◌, List, [], ◌∷◌, length, get_or, refl, arith}
 use Rattle.h263_bits.specs.Bits.{bits_of, number}
-use Rattle.h263_bits.proofs.BitLists.{number-push}
+use Rattle.h263_bits.proofs.SyntaxLaws.{number-push}
 use Rattle.back_messages.specs.Text.{message_in}
 use Rattle.back_messages.proofs.read.Goals as goal
 

@@ -1,5 +1,5 @@
 use Rattle.std.proofs.Common.{◌≡◌, length, arith}
-use Rattle.h263_bits.proofs.BitLists.{length-spelled}
+use Rattle.h263_bits.proofs.SyntaxLaws.{length-spelled}
 use Rattle.code_tables.specs.Words.{code_at, word_of}
 use Rattle.code_tables.proofs.code.write_code.Goals as goal
 

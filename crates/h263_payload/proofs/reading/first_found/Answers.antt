@@ -3,8 +3,7 @@ use Rattle.std.proofs.lemmas.Result.{err_from_is_err_and}
 use Rattle.h263_bits.specs.Bits.{bits_of}
 use Rattle.h263_bits.specs.Reading.{Bits, bits_between, skip}
 use Rattle.h263_bits.specs.Syntax.{reading}
-use Rattle.h263_bits.proofs.BitLists.{drop-window}
-use Rattle.h263_bits.proofs.SyntaxLaws.{sound}
+use Rattle.h263_bits.proofs.SyntaxLaws.{drop-window, sound}
 use Rattle.h263_payload.specs.Text.{opening}
 use Rattle.h263_payload.specs.Faults.{payload_at, extra_at, begun_at}
 use Rattle.h263_payload.proofs.Exact.{IsMoved, moved}

@@ -5,7 +5,7 @@ use Rattle.std.proofs.lemmas.Result.{err_from_is_err_and}
 use Rattle.h263_bits.specs.Bits.{bits_of}
 use Rattle.h263_bits.specs.Reading.{Bits, bits_between}
 use Rattle.h263_bits.specs.Syntax.{reading}
-use Rattle.h263_bits.proofs.BitLists.{length-bits_of, length-window, take-take}
+use Rattle.h263_bits.proofs.SyntaxLaws.{length-bits_of, length-window, take-take}
 use Rattle.h263_types.specs.declared.format.Format.{Format}
 use Rattle.picture_header.specs.Text.{header}
 use Rattle.h263_payload.specs.Faults.{extra_at, filled, first_bits}

@@ -4,7 +4,7 @@ use Rattle.std.proofs.lemmas.List.{length-append}
 use Rattle.h263_bits.specs.declared.fault.Fault.{Fault}
 use Rattle.h263_bits.specs.Bits.{bits_of}
 use Rattle.h263_bits.specs.Reading.{first_fault}
-use Rattle.h263_bits.proofs.BitLists.{length-bits_of, length-window}
+use Rattle.h263_bits.proofs.SyntaxLaws.{length-bits_of, length-window}
 use Rattle.h263_types.specs.declared.format.Format.{Format}
 use Rattle.rtp_header.specs.declared.rtp.Rtp.{Rtp}
 use Rattle.rtp_header.specs.Faults.{rtp_in}

@@ -2,7 +2,7 @@ use Rattle.std.proofs.Common.{◌≡◌, ℕ, ◌+◌, Bool, List, ◌++◌, len
 use Rattle.std.proofs.lemmas.List.{length-append}
 use Rattle.h263_bits.specs.Bits.{spelled}
 use Rattle.h263_bits.specs.Written.{to_byte, len_of, written}
-use Rattle.h263_bits.proofs.BitLists.{length-spelled}
+use Rattle.h263_bits.proofs.SyntaxLaws.{length-spelled}
 use Rattle.macroblock_layer.specs.Written.{mb_text}
 use Rattle.slice_layer.specs.Written.{padded}
 use Rattle.slice_layer.proofs.Fronts.{front_is}

@@ -1,7 +1,7 @@
 use Rattle.std.proofs.Common.{◌≡◌, ℕ, ◌+◌, ◌/◌, ◌%◌, Bool, List, ◌++◌, length, take, sym, ap, subst, ◌∙◌, arith}
 use Rattle.std.proofs.lemmas.List.{length-append, length-take}
 use Rattle.h263_bits.specs.Bits.{spelled}
-use Rattle.h263_bits.proofs.BitLists.{length-spelled}
+use Rattle.h263_bits.proofs.SyntaxLaws.{length-spelled}
 use Rattle.macroblock_layer.specs.Written.{mb_text}
 use Rattle.slice_layer.specs.Written.{slice_text, bytes_of, IsFront}
 use Rattle.slice_layer.specs.Writer.{kind_of, quant_of, bytes_in}
