@@ -1,0 +1,9 @@
+//! The trace of a call: lines that are read from a desk one by one, each with its number, and the event that a line
+//! says.
+#![tactic(auto)]
+
+mod event;
+mod fault;
+
+pub use event::{BadLine, Event, line};
+pub use fault::{TraceFault, TraceStop};
