@@ -5,7 +5,7 @@ use Rattle.std.proofs.lemmas.List.{append-nil, drop-drop}
 use Rattle.h263_outside.specs.Desk.{Outside, is_role, appended, consumed, Rose, OnlyReads, OnlyWrites}
 use Rattle.h263_outside.specs.Gains.{gained}
 use Rattle.h263_outside.specs.declared.desk.Role.{Role}
-use Rattle.h263_outside.specs.declared.desk.Role.TheVariants.{Video, Events, Pictures, Wire, Report}
+use Rattle.h263_outside.specs.declared.desk.Role.TheVariants.{Video, Events, Pictures, Wire, Report, Video2, Pictures2}
 
 -- functions that agree at each role are one
 pub same_roles : {A : Type 0} (f g : Role → A) → ((r : Role) → f r ≡ g r) → f ≡ g
@@ -87,6 +87,8 @@ consumed_at w Events n = refl
 consumed_at w Pictures n = refl
 consumed_at w Wire n = refl
 consumed_at w Report n = refl
+consumed_at w Video2 n = refl
+consumed_at w Pictures2 n = refl
 
 -- what holds anyway holds after an error
 pub on_err_always : {T E P : Type 0} (r : Result T E) → P → OnErr r P

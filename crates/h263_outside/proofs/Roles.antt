@@ -5,7 +5,7 @@ use Rattle.std.proofs.lemmas.List.{append-nil}
 use Rattle.h263_outside.specs.Desk.{is_role, appended, GainsFront}
 use Rattle.h263_outside.specs.Gains.{gained, Before, Front}
 use Rattle.h263_outside.specs.declared.desk.Role.{Role}
-use Rattle.h263_outside.specs.declared.desk.Role.TheVariants.{Video, Events, Pictures, Wire, Report}
+use Rattle.h263_outside.specs.declared.desk.Role.TheVariants.{Video, Events, Pictures, Wire, Report, Video2, Pictures2}
 use Rattle.h263_outside.proofs.Gains.{gained-nil, gained-gained}
 
 -- before anything was gained, all is to come
@@ -50,6 +50,8 @@ gained_at Events bytes old new e = ap (λ (w : Role → Option (List ℕ)). w Ev
 gained_at Pictures bytes old new e = ap (λ (w : Role → Option (List ℕ)). w Pictures) e
 gained_at Wire bytes old new e = ap (λ (w : Role → Option (List ℕ)). w Wire) e
 gained_at Report bytes old new e = ap (λ (w : Role → Option (List ℕ)). w Report) e
+gained_at Video2 bytes old new e = ap (λ (w : Role → Option (List ℕ)). w Video2) e
+gained_at Pictures2 bytes old new e = ap (λ (w : Role → Option (List ℕ)). w Pictures2) e
 
 other_if : (t : Bool) (o : Option (List ℕ)) (bytes : List ℕ) → t ≡ false → cond t (option_map (λ old. old ++ bytes) o) o ≡ o
 other_if true o bytes e = absurd (cc)

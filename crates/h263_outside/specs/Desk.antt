@@ -1,8 +1,8 @@
 -- What a program sees of the outside, and what each call of a desk does to it.
-use Rattle.std.specs.Prelude.{◌≡◌, ◌⊎◌, ℕ, ◌+◌, ◌-◌, ◌^◌, ◌<◌, ◌≤◌, ◌==◌, min, Bool, false, List, ◌++◌, length, take, drop, [], Option, if◌then◌else◌}
+use Rattle.std.specs.Prelude.{◌≡◌, ◌⊎◌, ℕ, ◌+◌, ◌-◌, ◌^◌, ◌<◌, ◌≤◌, ◌==◌, min, Bool, true, false, IsTrue, IsFalse, List, ◌++◌, length, take, drop, [], Option, if◌then◌else◌}
 use Rattle.std.specs.Option.{option_map}
 use Rattle.h263_outside.specs.declared.desk.Role.{Role}
-use Rattle.h263_outside.specs.declared.desk.Role.TheVariants.{Video, Events, Pictures, Wire, Report}
+use Rattle.h263_outside.specs.declared.desk.Role.TheVariants.{Video, Events, Pictures, Wire, Report, Video2, Pictures2}
 
 -- how often each call has failed, up to 2^64 - 1
 pub record Faults : Type 0 where
@@ -25,26 +25,28 @@ role_number Events = 1
 role_number Pictures = 2
 role_number Wire = 3
 role_number Report = 4
+role_number Video2 = 5
+role_number Pictures2 = 6
 
 -- whether two roles are the same
 abbrev pub is_role : Role → Role → Bool
 is_role role other = role_number role == role_number other
 
--- a role that is read
-abbrev pub IsInput : Role → Type 0
-IsInput Video = Unit {0}
-IsInput Events = Unit {0}
-IsInput Pictures = ⊥
-IsInput Wire = ⊥
-IsInput Report = ⊥
+-- whether a role is read; the others are written
+abbrev pub is_input : Role → Bool
+is_input Video = true
+is_input Events = true
+is_input Pictures = false
+is_input Wire = false
+is_input Report = false
+is_input Video2 = true
+is_input Pictures2 = false
 
--- a role that is written
+abbrev pub IsInput : Role → Type 0
+IsInput role = IsTrue (is_input role)
+
 abbrev pub IsOutput : Role → Type 0
-IsOutput Video = ⊥
-IsOutput Events = ⊥
-IsOutput Pictures = Unit {0}
-IsOutput Wire = Unit {0}
-IsOutput Report = Unit {0}
+IsOutput role = IsFalse (is_input role)
 
 -- f, with another value at one role
 abbrev pub with_role : {A : Type 0} → (Role → A) → Role → A → Role → A
@@ -124,3 +126,23 @@ pub record OnlyWrites (old new : Outside) : Type 0 where
   pub name : new.name ≡ old.name
   pub left : new.left ≡ old.left
   pub faults : NoneFalls old.faults new.faults
+
+-- the second party's role in the place of the first's, and the other way round
+abbrev pub exchanged : Role → Role
+exchanged Video = Video2
+exchanged Events = Events
+exchanged Pictures = Pictures2
+exchanged Wire = Wire
+exchanged Report = Report
+exchanged Video2 = Video
+exchanged Pictures2 = Pictures
+
+-- what is told where the two parties have changed places
+abbrev pub exchanged_outside : Outside → Outside
+exchanged_outside o = record {
+  attached = λ r. o.attached (exchanged r);
+  name = λ r. o.name (exchanged r);
+  left = λ r. o.left (exchanged r);
+  written = λ r. o.written (exchanged r);
+  faults = o.faults;
+}

@@ -1,11 +1,11 @@
 -- What a desk over the host tells: which roles are attached, and its counts.
 use Rattle.std.specs.Prelude.{ℕ, Bool, None}
 use Rattle.h263_outside.specs.Desk.{Outside, Faults}
-use Rattle.h263_outside.specs.Memory.{by_role}
+use Rattle.h263_outside.specs.declared.desk.Role.{Role}
 
-abbrev pub silent_outside : Bool → Bool → Bool → Bool → Bool → ℕ → ℕ → ℕ → Outside
-silent_outside video events pictures wire report attaches reads writes = record {
-  attached = by_role video events pictures wire report;
+abbrev pub silent_outside : (Role → Bool) → ℕ → ℕ → ℕ → Outside
+silent_outside attached attaches reads writes = record {
+  attached = attached;
   name = λ _. None;
   left = λ _. None;
   written = λ _. None;

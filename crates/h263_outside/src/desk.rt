@@ -17,6 +17,10 @@ pub enum Role {
     Wire,
     /// Lines of text for a reader.
     Report,
+    /// The video of a call's second party.
+    Video2,
+    /// The pictures that are shown of it.
+    Pictures2,
 }
 
 /// A read or a write has failed.

@@ -8,8 +8,8 @@ use std::fs;
 use std::io::{Read, Write};
 use std::rt::Runtime;
 
-/// A desk over a runtime: files by name for video, events, pictures and wire, where the last two are
-/// created or emptied, and standard output for the report. It tells neither names nor bytes.
+/// A desk over a runtime: files by name, where those that are written are created or emptied, and standard output
+/// for the report. It tells neither names nor bytes.
 #[derive(Drop)]
 pub struct HostDesk<R: Runtime> {
     rt: R,
@@ -18,6 +18,8 @@ pub struct HostDesk<R: Runtime> {
     pictures: Option<R::File>,
     wire: Option<R::File>,
     reports: bool,
+    video2: Option<R::File>,
+    pictures2: Option<R::File>,
     attach_faults: u64,
     read_faults: u64,
     write_faults: u64,
@@ -38,6 +40,8 @@ impl<R: Runtime> HostDesk<R> {
             pictures: None,
             wire: None,
             reports: false,
+            video2: None,
+            pictures2: None,
             attach_faults: 0,
             read_faults: 0,
             write_faults: 0,
@@ -73,8 +77,9 @@ fn write_file<F: Write>(file: &mut Option<F>, bytes: &[u8]) -> Result<usize, Fai
 
 impl<R: Runtime> Desk for HostDesk<R> {
     ghost use Rattle.h263_outside.specs.Host.{silent_outside};
+    ghost use Rattle.h263_outside.specs.Memory.{by_role};
 
-    ghost outside = { λ d. silent_outside (is_some d.video) (is_some d.events) (is_some d.pictures) (is_some d.wire) d.reports d.attach_faults d.read_faults d.write_faults };
+    ghost outside = { λ d. silent_outside (by_role (is_some d.video) (is_some d.events) (is_some d.pictures) (is_some d.wire) d.reports (is_some d.video2) (is_some d.pictures2)) d.attach_faults d.read_faults d.write_faults };
 
     fn attach(&mut self, role: Role, name: &str) -> Result<(), Unattached> {
         match role {
@@ -106,6 +111,18 @@ impl<R: Runtime> Desk for HostDesk<R> {
                 self.reports = true;
                 return Ok(());
             }
+            Role::Video2 => {
+                if let Ok(file) = fs::open(&self.rt, name) {
+                    self.video2 = Some(file);
+                    return Ok(());
+                }
+            }
+            Role::Pictures2 => {
+                if let Ok(file) = fs::create(&self.rt, name) {
+                    self.pictures2 = Some(file);
+                    return Ok(());
+                }
+            }
         }
         self.attach_faults = raised(self.attach_faults);
         Err(Unattached::Failed)
@@ -115,6 +132,7 @@ impl<R: Runtime> Desk for HostDesk<R> {
         let outcome = match role {
             Role::Video => read_file(&mut self.video, buf),
             Role::Events => read_file(&mut self.events, buf),
+            Role::Video2 => read_file(&mut self.video2, buf),
             _ => unreachable!(),
         };
         if outcome.is_err() {
@@ -127,6 +145,7 @@ impl<R: Runtime> Desk for HostDesk<R> {
         let outcome = match role {
             Role::Pictures => write_file(&mut self.pictures, bytes),
             Role::Wire => write_file(&mut self.wire, bytes),
+            Role::Pictures2 => write_file(&mut self.pictures2, bytes),
             Role::Report => self.rt.write_some(bytes).map_err(|_| Failed),
             _ => unreachable!(),
         };

@@ -6,7 +6,9 @@
 
 mod desk;
 mod host;
+pub mod laws;
 mod memory;
+mod second;
 #[cfg(test)]
 mod tests;
 mod whole;
@@ -14,4 +16,5 @@ mod whole;
 pub use desk::{Desk, Failed, OutOfMemory, Role, Unattached};
 pub use host::HostDesk;
 pub use memory::MemoryDesk;
+pub use second::Second;
 pub use whole::{read_full, write_all};

@@ -90,6 +90,8 @@ pub struct MemoryDesk {
     pictures: Output,
     wire: Output,
     report: Output,
+    video2: Input,
+    pictures2: Output,
     ghost moves: { 0 < piece },
 }
 
@@ -198,6 +200,8 @@ impl MemoryDesk {
             pictures: new_output(alloc, room)?,
             wire: new_output(alloc, room)?,
             report: new_output(alloc, room)?,
+            video2: new_input(alloc),
+            pictures2: new_output(alloc, room)?,
         })
     }
 
@@ -222,6 +226,11 @@ impl MemoryDesk {
                 self.events.bytes = bytes;
                 self.events.is_put = true;
             }
+            Role::Video2 => {
+                self.video2.at = 0;
+                self.video2.bytes = bytes;
+                self.video2.is_put = true;
+            }
             _ => unreachable!(),
         }
         Ok(())
@@ -243,6 +252,7 @@ impl MemoryDesk {
         match role {
             Role::Video => self.video.is_put,
             Role::Events => self.events.is_put,
+            Role::Video2 => self.video2.is_put,
             _ => true,
         }
     }
@@ -256,6 +266,7 @@ impl MemoryDesk {
             Role::Pictures => &self.pictures.bytes,
             Role::Wire => &self.wire.bytes,
             Role::Report => &self.report.bytes,
+            Role::Pictures2 => &self.pictures2.bytes,
             _ => unreachable!(),
         }
     }
@@ -316,6 +327,14 @@ impl Desk for MemoryDesk {
                 self.report.attached = true;
                 self.report.name = name;
             }
+            Role::Video2 => {
+                self.video2.attached = true;
+                self.video2.name = name;
+            }
+            Role::Pictures2 => {
+                self.pictures2.attached = true;
+                self.pictures2.name = name;
+            }
         }
         Ok(())
     }
@@ -347,6 +366,7 @@ impl Desk for MemoryDesk {
         match role {
             Role::Video => Ok(self.video.read(self.piece, buf)),
             Role::Events => Ok(self.events.read(self.piece, buf)),
+            Role::Video2 => Ok(self.video2.read(self.piece, buf)),
             _ => unreachable!(),
         }
     }
@@ -386,6 +406,10 @@ impl Desk for MemoryDesk {
             }
             Role::Report => {
                 let count = self.report.write(self.piece, bytes);
+                self.calls.told(count)
+            }
+            Role::Pictures2 => {
+                let count = self.pictures2.write(self.piece, bytes);
                 self.calls.told(count)
             }
             _ => unreachable!(),

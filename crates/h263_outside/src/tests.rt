@@ -2,7 +2,7 @@
 // Where memory ran out in a test its steps are taken again, and are then to reach their end.
 ghost use Rattle.std.specs.Prelude.{◌≡◌, ◌<◌, true, IfOk};
 ghost use Rattle.h263_outside.specs.Memory.{memory_outside};
-ghost use Rattle.h263_outside.specs.declared.desk.Role.TheVariants.{Video, Pictures};
+ghost use Rattle.h263_outside.specs.declared.desk.Role.TheVariants.{Video, Pictures, Pictures2};
 
 use super::*;
 use std::alloc::Global;
@@ -89,5 +89,30 @@ fn move_whole(rt: &impl Abort, alloc: Global, piece: usize) -> Result<(), OutOfM
     assert_eq!(rt; write_all(&mut desk, Role::Pictures, b"abc"), Ok(()));
     assert_eq!(rt; write_all(&mut desk, Role::Pictures, b"defg"), Err(Failed));
     assert_eq!(rt; desk.text(Role::Pictures), b"abcde".as_slice());
+    Ok(())
+}
+
+// What is written for the first party is the second one's.
+fn write_to_second<D: Desk>(desk: &mut D) -> Result<(), Failed>
+    requires { (D.outside desk.old).attached Pictures2 ≡ true }
+{
+    let mut second = Second::new(desk);
+    write_all(&mut second, Role::Pictures, b"FRAME")
+}
+
+#[test]
+fn parties_exchanged(rt: HostRuntime) -> Result<(), Fail> {
+    if let Err(OutOfMemory) = exchange(&rt, rt.alloc()) {
+        exchange(&rt, rt.alloc())?;
+    }
+    Ok(())
+}
+
+fn exchange(rt: &impl Abort, alloc: Global) -> Result<(), OutOfMemory> {
+    let mut desk = MemoryDesk::new(alloc, 3, 5)?;
+    desk.attach(Role::Pictures2, "out")?;
+    assert_eq!(rt; write_to_second(&mut desk), Ok(()));
+    assert_eq!(rt; desk.text(Role::Pictures2), b"FRAME".as_slice());
+    assert_eq!(rt; desk.text(Role::Pictures), b"".as_slice());
     Ok(())
 }
