@@ -6,6 +6,7 @@ ghost use Rattle.y4m.specs.Line.{line_within};
 ghost use Rattle.y4m.specs.Planes.{PlanesGive, IsCut};
 
 use crate::{VideoStop, Y4mFault};
+use h263_outside::laws::calls;
 use h263_outside::{Desk, Role, read_full};
 
 /// Reads until the buffer is full or the video ends, and answers how many bytes came to its front.
@@ -50,6 +51,7 @@ pub fn read_line<D: Desk>(desk: &mut D, line: &mut [u8]) -> Result<usize, VideoS
     ensures cause { OnErr result (Rose (D.outside desk.old).faults.read (D.outside desk.new).faults.read) }
     ensures rest { OnlyReads (D.outside desk.old) (D.outside desk.new) }
 {
+    calls();
     for i in 0..line.len() {
         let Some(byte) = read_byte(desk)? else {
             return Ok(i);

@@ -1,7 +1,6 @@
 use Rattle.std.proofs.Common.{◌≡◌, ℕ, ◌+◌, ◌-◌, ◌++◌, [], ◌∷◌, List, length, take, drop, set, Some, sym, ap, ◌∙◌, arith}
 use Rattle.std.proofs.Math.ListN.{length-set}
 use Rattle.std.proofs.lemmas.List.{drop-drop}
-use Rattle.h263_outside.proofs.Gains.{reads_on}
 use Rattle.y4m.specs.Line.{line_within}
 use Rattle.y4m.proofs.Inputs.{byte_there, no_byte, drop_none, ends_before, ends_here, goes_on}
 use Rattle.y4m.proofs.Cuts.{free_more}
@@ -43,5 +42,5 @@ loop-i-preserved g c = record {
       let h = c.loop-i.invariant.told left told in
       let b = c.in_ok-byte.ensures.told (drop i left) h.1 in
       free_more left i c.in-Some.byte (c.loop-i.invariant.free left told) (byte_there c.in_ok-byte.field-0 c.in-Some.byte (drop i left) c.in-Some.is b.0) c.if-byte-eq10.false;
-  rest = reads_on _ _ _ c.loop-i.invariant.rest c.in_ok-byte.ensures.rest;
+  rest = c.calls.ensures.reads _ _ _ c.loop-i.invariant.rest c.in_ok-byte.ensures.rest;
 }

@@ -2,16 +2,15 @@ use Rattle.std.proofs.Common.{◌≡◌, ℕ, List, ap, subst, ◌∙◌}
 use Rattle.std.proofs.lemmas.Result.{on_err_weaker}
 use Rattle.h263_outside.specs.Desk.{appended, GainsFront}
 use Rattle.h263_outside.specs.declared.desk.Role.TheVariants.{Pictures}
-use Rattle.h263_outside.proofs.Gains.{on_err_always}
 use Rattle.h263_planes.specs.Lent.{picture as lent}
 use Rattle.h263_planes.specs.Samples.{bytes_of}
 use Rattle.y4m.specs.Text.{mark_text}
-use Rattle.y4m.proofs.Writes.{front_first, front_second}
+use Rattle.y4m.proofs.Writes.{after_any, front_first, front_second}
 use Rattle.y4m.proofs.writer.write_frame.Goals as goal
 
 pub returns-in_err-write_all-clause-prefix : goal.returns-in_err-write_all-clause-prefix
 returns-in_err-write_all-clause-prefix g c =
-    on_err_always c.from_residual.result (front_first Pictures (mark_text c.args.mark) (bytes_of (lent c.args.picture)) _ _ (subst (λ (l : List ℕ). GainsFront Pictures l (g.D.Desk.outside c.args.desk.now).written (g.D.Desk.outside c.write_all.new.desk).written) c.mark_line.ensures c.in_err-write_all.ensures.err))
+    after_any c.from_residual.result (front_first Pictures (mark_text c.args.mark) (bytes_of (lent c.args.picture)) _ _ (subst (λ (l : List ℕ). GainsFront Pictures l (g.D.Desk.outside c.args.desk.now).written (g.D.Desk.outside c.write_all.new.desk).written) c.mark_line.ensures c.in_err-write_all.ensures.err))
 
 pub returns-clause-prefix : goal.returns-clause-prefix
 returns-clause-prefix g c =
@@ -21,5 +20,5 @@ returns-clause-prefix g c =
     let new = (g.D.Desk.outside c.write_all-2.new.desk).written in
     let line : middle ≡ appended old Pictures (mark_text c.args.mark) = c.in_ok-write_all.ensures.ok ∙ ap (λ (l : List ℕ). appended old Pictures l) c.mark_line.ensures in
     on_err_weaker c.write_all-2.result
-    (λ (f : GainsFront Pictures c.bytes.result.now middle new). front_second Pictures (mark_text c.args.mark) planes old middle new line (subst (λ (l : List ℕ). GainsFront Pictures l middle new) c.bytes.ensures f))
+    (λ (f : GainsFront Pictures c.bytes.result.now middle new). front_second c.calls.ensures.gained Pictures (mark_text c.args.mark) planes old middle new line (subst (λ (l : List ℕ). GainsFront Pictures l middle new) c.bytes.ensures f))
     c.write_all-2.ensures.err
