@@ -4,16 +4,16 @@ use Rattle.std.specs.Prelude.{not, if◌then◌else◌}
 use Rattle.std.specs.Option.{option_map}
 use Rattle.std.proofs.lemmas.Bool.{and_parts, and_from, or_cases, or_left, or_right, le-leb, leb-true, lt-ltb, ltb-true, eq-eqb, eqb-true, ne_eqb, cases_Bool, false≢true, both_ways}
 use Rattle.std.proofs.lemmas.Option.{slice_get_cases}
-use Rattle.call_model.specs.Coding.{Rules, Mark, Exact, Patched, Held, Coding, mixed}
+use Rattle.call_model.specs.Coding.{Rules, Mark, Exact, Patched, Held, Coding, pictures_of, mixed}
 use Rattle.call_model.specs.CodedPictures.{Coded, picture_at}
-use Rattle.call_model.specs.IdealCall.{Event, Send, Deliver, Play, Back, Arrival, Shown, Call, has_arrived, any_arrived, with_arrival, is_open, slices_at, is_full, is_there, shown_last, reconstruction_at, shown_at, is_fresh, ideal, AllNear}
+use Rattle.call_model.specs.IdealCall.{Event, Send, Deliver, Play, Back, Arrival, Shown, Call, has_arrived, any_arrived, with_arrival, is_open, slices_at, is_full, mb_arrived, shown_last, reconstruction_at, shown_at, delivery_counts, ideal, AllNear}
 use Rattle.call_model.specs.Before.{sent_before, played_before, IsOpen, play_at, arrived, slices_before, WasDelivered, CountsAreThose, ArrivedWasDelivered, ExactWhereFull, ShownStays}
 
-module _ {Frame Style Mb Picture Fault MessageFault : Type 0} (coding : Coding Frame Style Mb Picture Fault MessageFault) (rules : Rules) (quant : ℕ) (frames : List Frame) where
-  sent_is : (past : List Event) → AllNear coding rules quant frames past → length (ideal coding rules quant frames past).coded ≡ sent_before past
+module _ {Frame Style Mb Picture Fault MessageFault : Type 0} (coding : Coding Frame Style Mb Picture Fault MessageFault) (rules : Rules) (pace : List ℕ → ℕ) (frames : List Frame) where
+  sent_is : (past : List Event) → AllNear coding rules pace frames past → length (ideal coding rules pace frames past).coded ≡ sent_before past
   sent_is [] near = refl
   sent_is (Send ∷ past) near =
-      elim (slice_get_cases frames (length (ideal coding rules quant frames past).coded)).1 [
+      elim (slice_get_cases frames (length (ideal coding rules pace frames past).coded)).1 [
         | inl got ↦ rw (got.2, length-append) (omega (arith, sent_is past near.1))
         | inr out ↦ absurd (omega (arith, out.0, near.0.0))
       ]
@@ -21,59 +21,59 @@ module _ {Frame Style Mb Picture Fault MessageFault : Type 0} (coding : Coding F
   sent_is (Play ∷ past) near = sent_is past near.1
   sent_is (Back k ∷ past) near = sent_is past near.1
 
-  played_is : (past : List Event) → (ideal coding rules quant frames past).played ≡ played_before past
+  played_is : (past : List Event) → (ideal coding rules pace frames past).played ≡ played_before past
   played_is [] = refl
   played_is (Send ∷ past) = played_is past
   played_is (Deliver n j ∷ past) = played_is past
   played_is (Play ∷ past) = ap (λ (k : ℕ). k + 1) (played_is past)
   played_is (Back k ∷ past) = played_is past
 
-  pub counts_are_those : CountsAreThose coding rules quant frames
+  pub counts_are_those : CountsAreThose coding rules pace frames
   counts_are_those past = (sent_is past, played_is past)
 
   -- ---- what has arrived
 
   -- the picture is open by the call where it is by the events
-  open_is : (past : List Event) (n : ℕ) → is_open rules (ideal coding rules quant frames past).played n ≡ true → IsOpen rules past n
+  open_is : (past : List Event) (n : ℕ) → is_open rules (ideal coding rules pace frames past).played n ≡ true → IsOpen rules past n
   unfolding is_open
   open_is past n opened =
-      let parts = and_parts (leb (ideal coding rules quant frames past).played n) (leb n ((ideal coding rules quant frames past).played + rules.lead)) opened in
+      let parts = and_parts (leb (ideal coding rules pace frames past).played n) (leb n ((ideal coding rules pace frames past).played + rules.lead)) opened in
       let played = played_is past in
       (omega (arith, leb-true _ _ parts.0, played), omega (arith, leb-true _ _ parts.1, played))
 
-  is_opened : (past : List Event) (n : ℕ) → IsOpen rules past n → is_open rules (ideal coding rules quant frames past).played n ≡ true
+  is_opened : (past : List Event) (n : ℕ) → IsOpen rules past n → is_open rules (ideal coding rules pace frames past).played n ≡ true
   unfolding is_open
   is_opened past n opened =
       let played = played_is past in
-      and_from _ _ (le-leb (ideal coding rules quant frames past).played n (omega (arith, opened.0, played))) (le-leb n ((ideal coding rules quant frames past).played + rules.lead) (omega (arith, opened.1, played)))
+      and_from _ _ (le-leb (ideal coding rules pace frames past).played n (omega (arith, opened.0, played))) (le-leb n ((ideal coding rules pace frames past).played + rules.lead) (omega (arith, opened.1, played)))
 
   -- a delivery that counts
-  fresh_parts : (c : Call Style Mb Picture) (n j : ℕ) → is_fresh coding rules c n j ≡ true → (is_open rules c.played n ≡ true) × (j < length (slices_at coding c.coded n))
-  unfolding is_fresh
+  fresh_parts : (c : Call Style Mb Picture) (n j : ℕ) → delivery_counts rules c n j ≡ true → (is_open rules c.played n ≡ true) × (j < length (slices_at c.coded n))
+  unfolding delivery_counts
   fresh_parts c n j fresh =
-      let parts = and_parts (is_open rules c.played n) (ltb j (length (slices_at coding c.coded n)) && not (has_arrived c.arrived n j)) fresh in
-      (parts.0, ltb-true _ _ (and_parts (ltb j (length (slices_at coding c.coded n))) (not (has_arrived c.arrived n j)) parts.1).0)
+      let parts = and_parts (is_open rules c.played n) (ltb j (length (slices_at c.coded n)) && not (has_arrived c.arrivals n j)) fresh in
+      (parts.0, ltb-true _ _ (and_parts (ltb j (length (slices_at c.coded n))) (not (has_arrived c.arrivals n j)) parts.1).0)
 
   -- a delivery in time counts, or came before
-  counts_or_came : (c : Call Style Mb Picture) (n j : ℕ) → is_open rules c.played n ≡ true → j < length (slices_at coding c.coded n) → (is_fresh coding rules c n j ≡ true) ⊎ (has_arrived c.arrived n j ≡ true)
-  unfolding is_fresh
+  counts_or_came : (c : Call Style Mb Picture) (n j : ℕ) → is_open rules c.played n ≡ true → j < length (slices_at c.coded n) → (delivery_counts rules c n j ≡ true) ⊎ (has_arrived c.arrivals n j ≡ true)
+  unfolding delivery_counts
   counts_or_came c n j opened lt =
-      elim (cases_Bool (has_arrived c.arrived n j)) [
+      elim (cases_Bool (has_arrived c.arrivals n j)) [
         | inl came ↦ inr came
-        | inr not_yet ↦ inl (and_from _ _ opened (and_from _ _ (lt-ltb j (length (slices_at coding c.coded n)) lt) (ap not not_yet)))
+        | inr not_yet ↦ inl (and_from _ _ opened (and_from _ _ (lt-ltb j (length (slices_at c.coded n)) lt) (ap not not_yet)))
       ]
 
   here : (bs : List Arrival) (n j : ℕ) → has_arrived (with_arrival bs n j) n j ≡ true
   here bs n j = or_left _ _ (and_from _ _ (eq-eqb n n refl) (eq-eqb j j refl))
 
-  arrived_from : (past : List Event) (n j : ℕ) → arrived coding rules quant frames past n j ≡ true → WasDelivered coding rules quant frames past n j
+  arrived_from : (past : List Event) (n j : ℕ) → arrived coding rules pace frames past n j ≡ true → WasDelivered coding rules pace frames past n j
   arrived_from [] n j got = false≢true got
   arrived_from (Send ∷ past) n j got = arrived_from past n j got
   arrived_from (Play ∷ past) n j got = arrived_from past n j got
   arrived_from (Back k ∷ past) n j got = arrived_from past n j got
-  arrived_from (Deliver m i ∷ past) n j got = go (is_fresh coding rules (ideal coding rules quant frames past) m i) refl got (arrived_from past n j)
+  arrived_from (Deliver m i ∷ past) n j got = go (delivery_counts rules (ideal coding rules pace frames past) m i) refl got (arrived_from past n j)
     where
-      go : (b : Bool) → is_fresh coding rules (ideal coding rules quant frames past) m i ≡ b → has_arrived (if b then with_arrival (ideal coding rules quant frames past).arrived m i else (ideal coding rules quant frames past).arrived) n j ≡ true → (has_arrived (ideal coding rules quant frames past).arrived n j ≡ true → WasDelivered coding rules quant frames past n j) → WasDelivered coding rules quant frames (Deliver m i ∷ past) n j
+      go : (b : Bool) → delivery_counts rules (ideal coding rules pace frames past) m i ≡ b → has_arrived (if b then with_arrival (ideal coding rules pace frames past).arrivals m i else (ideal coding rules pace frames past).arrivals) n j ≡ true → (has_arrived (ideal coding rules pace frames past).arrivals n j ≡ true → WasDelivered coding rules pace frames past n j) → WasDelivered coding rules pace frames (Deliver m i ∷ past) n j
       go false fresh got old = inr (old got)
       go true fresh got old =
           elim (or_cases (eqb m n && eqb i j) _ got) [
@@ -81,48 +81,48 @@ module _ {Frame Style Mb Picture Fault MessageFault : Type 0} (coding : Coding F
                 let parts = and_parts (eqb m n) (eqb i j) now in
                 let same : m ≡ n = eqb-true m n parts.0 in
                 let place : i ≡ j = eqb-true i j parts.1 in
-                let f = fresh_parts (ideal coding rules quant frames past) m i fresh in
+                let f = fresh_parts (ideal coding rules pace frames past) m i fresh in
                 let opened : IsOpen rules past n = subst (IsOpen rules past) same (open_is past m f.0) in
-                let below : i < slices_before coding rules quant frames past n = subst (λ (k : ℕ). i < slices_before coding rules quant frames past k) same f.1 in
-                inl (same, place, opened, subst (λ (k : ℕ). k < slices_before coding rules quant frames past n) place below)
+                let below : i < slices_before coding rules pace frames past n = subst (λ (k : ℕ). i < slices_before coding rules pace frames past k) same f.1 in
+                inl (same, place, opened, subst (λ (k : ℕ). k < slices_before coding rules pace frames past n) place below)
             | inr before ↦ inr (old before)
           ]
 
-  arrived_to : (past : List Event) (n j : ℕ) → WasDelivered coding rules quant frames past n j → arrived coding rules quant frames past n j ≡ true
+  arrived_to : (past : List Event) (n j : ℕ) → WasDelivered coding rules pace frames past n j → arrived coding rules pace frames past n j ≡ true
   arrived_to [] n j was = absurd was
   arrived_to (Send ∷ past) n j was = arrived_to past n j was
   arrived_to (Play ∷ past) n j was = arrived_to past n j was
   arrived_to (Back k ∷ past) n j was = arrived_to past n j was
-  arrived_to (Deliver m i ∷ past) n j was = go (is_fresh coding rules (ideal coding rules quant frames past) m i) refl was (arrived_to past n j)
+  arrived_to (Deliver m i ∷ past) n j was = go (delivery_counts rules (ideal coding rules pace frames past) m i) refl was (arrived_to past n j)
     where
-      go : (b : Bool) → is_fresh coding rules (ideal coding rules quant frames past) m i ≡ b → WasDelivered coding rules quant frames (Deliver m i ∷ past) n j → (WasDelivered coding rules quant frames past n j → has_arrived (ideal coding rules quant frames past).arrived n j ≡ true) → has_arrived (if b then with_arrival (ideal coding rules quant frames past).arrived m i else (ideal coding rules quant frames past).arrived) n j ≡ true
+      go : (b : Bool) → delivery_counts rules (ideal coding rules pace frames past) m i ≡ b → WasDelivered coding rules pace frames (Deliver m i ∷ past) n j → (WasDelivered coding rules pace frames past n j → has_arrived (ideal coding rules pace frames past).arrivals n j ≡ true) → has_arrived (if b then with_arrival (ideal coding rules pace frames past).arrivals m i else (ideal coding rules pace frames past).arrivals) n j ≡ true
       go true fresh (inl now) old = or_left _ _ (and_from _ _ (eq-eqb m n now.0) (eq-eqb i j now.1))
       go true fresh (inr before) old = or_right _ _ (old before)
       go false fresh (inr before) old = old before
       go false fresh (inl now) old =
-          let opened : is_open rules (ideal coding rules quant frames past).played m ≡ true = subst (λ (k : ℕ). is_open rules (ideal coding rules quant frames past).played k ≡ true) (sym now.0) (is_opened past n now.2) in
-          let below : i < slices_before coding rules quant frames past m = subst (λ (k : ℕ). i < slices_before coding rules quant frames past k) (sym now.0) (subst (λ (k : ℕ). k < slices_before coding rules quant frames past n) (sym now.1) now.3) in
-          elim (counts_or_came (ideal coding rules quant frames past) m i opened below) [
+          let opened : is_open rules (ideal coding rules pace frames past).played m ≡ true = subst (λ (k : ℕ). is_open rules (ideal coding rules pace frames past).played k ≡ true) (sym now.0) (is_opened past n now.2) in
+          let below : i < slices_before coding rules pace frames past m = subst (λ (k : ℕ). i < slices_before coding rules pace frames past k) (sym now.0) (subst (λ (k : ℕ). k < slices_before coding rules pace frames past n) (sym now.1) now.3) in
+          elim (counts_or_came (ideal coding rules pace frames past) m i opened below) [
             | inl counts ↦ absurd (both_ways _ fresh counts)
-            | inr came ↦ subst (λ (k : ℕ). has_arrived (ideal coding rules quant frames past).arrived k j ≡ true) now.0 (subst (λ (k : ℕ). has_arrived (ideal coding rules quant frames past).arrived m k ≡ true) now.1 came)
+            | inr came ↦ subst (λ (k : ℕ). has_arrived (ideal coding rules pace frames past).arrivals k j ≡ true) now.0 (subst (λ (k : ℕ). has_arrived (ideal coding rules pace frames past).arrivals m k ≡ true) now.1 came)
           ]
 
-  pub arrived_was_delivered : ArrivedWasDelivered coding rules quant frames
+  pub arrived_was_delivered : ArrivedWasDelivered coding rules pace frames
   arrived_was_delivered past n j = (arrived_from past n j, arrived_to past n j)
 
   -- ---- what is shown
 
-  shown_length : (past : List Event) → length (ideal coding rules quant frames past).shown ≡ played_before past
+  shown_length : (past : List Event) → length (ideal coding rules pace frames past).plays ≡ played_before past
   shown_length [] = refl
   shown_length (Send ∷ past) = shown_length past
   shown_length (Deliver n j ∷ past) = shown_length past
   shown_length (Play ∷ past) = omega (arith, shown_length past)
   shown_length (Back k ∷ past) = shown_length past
 
-  newest : (past : List Event) → play_at (ideal coding rules quant frames (Play ∷ past)).shown (played_before past) ≡ Some (shown_at coding (ideal coding rules quant frames past).coded (ideal coding rules quant frames past).arrived (ideal coding rules quant frames past).shown (played_before past))
+  newest : (past : List Event) → play_at (ideal coding rules pace frames (Play ∷ past)).plays (played_before past) ≡ Some (shown_at (pictures_of coding) (ideal coding rules pace frames past).coded (ideal coding rules pace frames past).arrivals (ideal coding rules pace frames past).plays (played_before past))
   newest past =
-      rw (eq-eqb (length (ideal coding rules quant frames past).shown) (played_before past) (shown_length past))
-      (ap (λ (k : ℕ). let o : Option (Shown Picture) = Some (shown_at coding (ideal coding rules quant frames past).coded (ideal coding rules quant frames past).arrived (ideal coding rules quant frames past).shown k) in o) (played_is past))
+      rw (eq-eqb (length (ideal coding rules pace frames past).plays) (played_before past) (shown_length past))
+      (ap (λ (k : ℕ). let o : Option (Shown Picture) = Some (shown_at (pictures_of coding) (ideal coding rules pace frames past).coded (ideal coding rules pace frames past).arrivals (ideal coding rules pace frames past).plays k) in o) (played_is past))
 
   not_exact : (b : Bool) → (if b then Patched else Held) ≡ Exact → ⊥
   not_exact true e = cc
@@ -132,16 +132,16 @@ module _ {Frame Style Mb Picture Fault MessageFault : Type 0} (coding : Coding F
   the_full_one true p q m differ is = refl
   the_full_one false p q m differ is = absurd (differ is)
 
-  exact_is : (coded : List (Coded Style Mb Picture)) (bs : List Arrival) (before : List (Shown Picture)) (n : ℕ) → (shown_at coding coded bs before n).mark ≡ Exact → is_full coding coded bs n ≡ true
+  exact_is : (coded : List (Coded Style Mb Picture)) (bs : List Arrival) (before : List (Shown Picture)) (n : ℕ) → (shown_at (pictures_of coding) coded bs before n).mark ≡ Exact → is_full coded bs n ≡ true
   unfolding shown_at
   exact_is coded bs before n is =
-      the_full_one (is_full coding coded bs n) (reconstruction_at coding coded n) (mixed coding (is_there coding coded bs n) (reconstruction_at coding coded n) (shown_last coding before)) (if any_arrived bs n then Patched else Held) (not_exact (any_arrived bs n)) is
+      the_full_one (is_full coded bs n) (reconstruction_at (pictures_of coding) coded n) (mixed (pictures_of coding) (mb_arrived coded bs n) (reconstruction_at (pictures_of coding) coded n) (shown_last (pictures_of coding) before)) (if any_arrived bs n then Patched else Held) (not_exact (any_arrived bs n)) is
 
-  full_shows : (coded : List (Coded Style Mb Picture)) (bs : List Arrival) (before : List (Shown Picture)) (n : ℕ) → is_full coding coded bs n ≡ true → shown_at coding coded bs before n ≡ record { mark = Exact; picture = reconstruction_at coding coded n }
+  full_shows : (coded : List (Coded Style Mb Picture)) (bs : List Arrival) (before : List (Shown Picture)) (n : ℕ) → is_full coded bs n ≡ true → shown_at (pictures_of coding) coded bs before n ≡ record { mark = Exact; picture = reconstruction_at (pictures_of coding) coded n }
   unfolding shown_at
   full_shows coded bs before n full = rw full refl
 
-  sent_of : (coded : List (Coded Style Mb Picture)) (bs : List Arrival) (n : ℕ) → is_full coding coded bs n ≡ true → picture_at coded n ≡ Some (reconstruction_at coding coded n)
+  sent_of : (coded : List (Coded Style Mb Picture)) (bs : List Arrival) (n : ℕ) → is_full coded bs n ≡ true → picture_at coded n ≡ Some (reconstruction_at (pictures_of coding) coded n)
   unfolding is_full
   sent_of coded bs n full =
       let below : n < length coded = ltb-true _ _ (and_parts _ _ full).0 in
@@ -150,28 +150,28 @@ module _ {Frame Style Mb Picture Fault MessageFault : Type 0} (coding : Coding F
         | inr out ↦ absurd (omega (arith, out.0, below))
       ]
 
-  pub exact_where_full : ExactWhereFull coding rules quant frames
+  pub exact_where_full : ExactWhereFull coding rules pace frames
   exact_where_full past =
-      let c = ideal coding rules quant frames past in
+      let c = ideal coding rules pace frames past in
       let n = played_before past in (
         (
-          λ is. let marks : Some (shown_at coding c.coded c.arrived c.shown n).mark ≡ Some Exact = sym (ap (option_map (λ (x : Shown Picture). x.mark)) (newest past)) ∙ is in
-              let mark : (shown_at coding c.coded c.arrived c.shown n).mark ≡ Exact = cc in
-              exact_is c.coded c.arrived c.shown n mark,
-          λ full. ap (option_map (λ (x : Shown Picture). x.mark)) (newest past ∙ ap Some (full_shows c.coded c.arrived c.shown n full)),
+          λ is. let marks : Some (shown_at (pictures_of coding) c.coded c.arrivals c.plays n).mark ≡ Some Exact = sym (ap (option_map (λ (x : Shown Picture). x.mark)) (newest past)) ∙ is in
+              let mark : (shown_at (pictures_of coding) c.coded c.arrivals c.plays n).mark ≡ Exact = cc in
+              exact_is c.coded c.arrivals c.plays n mark,
+          λ full. ap (option_map (λ (x : Shown Picture). x.mark)) (newest past ∙ ap Some (full_shows c.coded c.arrivals c.plays n full)),
         ),
-        λ full. ap (option_map (λ (x : Shown Picture). x.picture)) (newest past ∙ ap Some (full_shows c.coded c.arrived c.shown n full)) ∙ sym (sent_of c.coded c.arrived n full),
+        λ full. ap (option_map (λ (x : Shown Picture). x.picture)) (newest past ∙ ap Some (full_shows c.coded c.arrivals c.plays n full)) ∙ sym (sent_of c.coded c.arrivals n full),
       )
 
   -- an earlier play is found under a new one
   earlier : (x : Shown Picture) (before : List (Shown Picture)) (n : ℕ) → n < length before → play_at (x ∷ before) n ≡ play_at before n
   earlier x before n lt = rw (ne_eqb (length before) n (omega arith)) refl
 
-  pub shown_stays : ShownStays coding rules quant frames
+  pub shown_stays : ShownStays coding rules pace frames
   shown_stays past Send n lt = (refl, refl)
   shown_stays past (Deliver m i) n lt = (refl, refl)
   shown_stays past (Back k) n lt = (refl, refl)
   shown_stays past Play n lt =
-      let c = ideal coding rules quant frames past in
-      let same : play_at (ideal coding rules quant frames (Play ∷ past)).shown n ≡ play_at c.shown n = earlier (shown_at coding c.coded c.arrived c.shown c.played) c.shown n (omega (arith, shown_length past)) in
+      let c = ideal coding rules pace frames past in
+      let same : play_at (ideal coding rules pace frames (Play ∷ past)).plays n ≡ play_at c.plays n = earlier (shown_at (pictures_of coding) c.coded c.arrivals c.plays c.played) c.plays n (omega (arith, shown_length past)) in
       (ap (option_map (λ (x : Shown Picture). x.mark)) same, ap (option_map (λ (x : Shown Picture). x.picture)) same)

@@ -1,12 +1,12 @@
 -- The coding of pictures of two samples meets the laws that are asked of a coding.
-use Rattle.std.proofs.Common.{◌≡◌, ℕ, zero, suc, ◌+◌, ◌-◌, ◌<◌, ◌≤◌, Bool, true, false, refl, sym, ap, ◌∙◌, subst, arith, inl, inr, Option, Some, None, Result, Ok, Err, List, [], ◌∷◌, length, eqb, ltb}
+use Rattle.std.proofs.Common.{◌≡◌, ◌↔◌, ◌&&◌, ℕ, zero, suc, ◌+◌, ◌-◌, ◌<◌, ◌≤◌, Bool, true, false, refl, sym, ap, ◌∙◌, subst, arith, inl, inr, Option, Some, None, Result, Ok, Err, List, [], ◌∷◌, length, eqb, ltb}
 use Rattle.std.specs.Prelude.{slice_get, map, slice_index_or, if◌then◌else◌}
 use Rattle.std.specs.Option.{option_map}
-use Rattle.std.proofs.lemmas.Bool.{le-leb, lt-ltb, lt-leb, le-ltb, and_from, and_left, and_right, eq-eqb, eqb-true, ne_eqb, cases_eq, cases_lt, ltb-true}
+use Rattle.std.proofs.lemmas.Bool.{and_parts, le-leb, lt-ltb, lt-leb, le-ltb, and_from, and_left, and_right, eq-eqb, eqb-true, ne_eqb, cases_eq, cases_lt, ltb-true}
 use Rattle.std.proofs.lemmas.Option.{slice_get-map}
 use Rattle.call_model.specs.Coding.{Rules, Slice, has_mb, Header, Piece, Message, Ack, Nack}
-use Rattle.call_model.specs.SmallCoding.{SmallMb, Same, Value, SmallFault, Unread, small_sample, option_word, word_option, mb_word, word_mb, small_packet, small_read, small_message, small_read_message, small}
-use Rattle.call_model.specs.Lawful.{IsCoding}
+use Rattle.call_model.specs.SmallCoding.{SmallMb, Same, Value, SmallStyle, SmallFault, Unread, small_sample, option_word, word_option, flag_words, word_flags, small_packet, small_header, small_piece, small_read, small_message, small_read_message, small_decoding, small}
+use Rattle.call_model.specs.Lawful.{Divides, IsDecoding, IsCoding}
 
 abbrev one : ℕ → SmallMb → Slice SmallMb
 one place mb = record { first = place; mbs = mb ∷ [] }
@@ -34,40 +34,47 @@ option_back : (o : Option ℕ) → word_option (option_word o) ≡ o
 option_back None = refl
 option_back (Some m) = refl
 
-mb_back : (mb : SmallMb) → word_mb (mb_word mb) ≡ mb
-mb_back Same = refl
-mb_back (Value value) = refl
+read_one : (header : Header SmallStyle) (place : ℕ) (mb : SmallMb) → place < 2 → small_read (small_packet header (one place mb)) ≡ Ok (record { header = header; slice = one place mb })
+read_one header place Same lt = rw (lt-ltb place 2 lt, option_back header.reference) refl
+read_one header place (Value value) lt = rw (lt-ltb place 2 lt, option_back header.reference) refl
 
-read_one : (header : Header ℕ) (place : ℕ) (mb : SmallMb) → place < 2 → small_read (small_packet header (one place mb)) ≡ Ok (record { header = header; slice = one place mb })
-read_one header place mb lt = rw (lt-ltb place 2 lt, option_back header.reference, mb_back mb) refl
-
-none_left : (header : Header ℕ) (slices : List (Slice SmallMb)) (j : ℕ) → slice_get slices j ≡ None → slice_get (map (small_packet header) slices) j ≡ None
+none_left : (header : Header SmallStyle) (slices : List (Slice SmallMb)) (j : ℕ) → slice_get slices j ≡ None → slice_get (map (small_packet header) slices) j ≡ None
 none_left header slices j e = slice_get-map (small_packet header) slices j ∙ ap (option_map (small_packet header)) e
 
-message_back : (m : Message) → small_read_message (small_message m) ≡ Ok m
-message_back (Ack n) = refl
-message_back (Nack n q) = refl
+flags_back : (flags : List Bool) → word_flags (flag_words flags) ≡ flags
+flags_back [] = refl
+flags_back (true ∷ flags) = ap (λ (rest : List Bool). true ∷ rest) (flags_back flags)
+flags_back (false ∷ flags) = ap (λ (rest : List Bool). false ∷ rest) (flags_back flags)
 
-abbrev IsInside : Piece ℕ SmallMb → Type 0
+message_back : (m : Message) → small_read_message (small_message m) ≡ Ok m
+message_back (Ack n flags) = rw (flags_back flags) refl
+message_back (Nack n q flags) = rw (flags_back flags) refl
+
+abbrev IsInside : Piece SmallStyle SmallMb → Type 0
 IsInside piece = (0 < length piece.slice.mbs) × (piece.slice.first + length piece.slice.mbs ≤ 2)
 
-inside : (bytes : List ℕ) (piece : Piece ℕ SmallMb) → small_read bytes ≡ Ok piece → IsInside piece
+inside_piece : (header : Header SmallStyle) (place : ℕ) (mb : SmallMb) (piece : Piece SmallStyle SmallMb) → small_piece header place mb ≡ Ok piece → IsInside piece
+inside_piece header place mb piece e = go (ltb place 2) refl e
+  where
+    read : Piece SmallStyle SmallMb
+    read = record { header = header; slice = one place mb }
+
+    go : (t : Bool) → ltb place 2 ≡ t → (let answer : Result (Piece SmallStyle SmallMb) SmallFault = if t then Ok read else Err Unread in answer) ≡ Ok piece → IsInside piece
+    go true is got =
+        let same : read ≡ piece = cc in
+        subst IsInside same (omega arith, omega (arith, ltb-true place 2 is))
+    go false is got = cc
+
+inside : (bytes : List ℕ) (piece : Piece SmallStyle SmallMb) → small_read bytes ≡ Ok piece → IsInside piece
 inside [] piece e = cc
 inside (a ∷ []) piece e = cc
 inside (a ∷ b ∷ []) piece e = cc
 inside (a ∷ b ∷ c ∷ []) piece e = cc
 inside (a ∷ b ∷ c ∷ d ∷ []) piece e = cc
-inside (a ∷ b ∷ c ∷ d ∷ f ∷ []) piece e = go (ltb d 2) refl e
-  where
-    read : Piece ℕ SmallMb
-    read = record { header = record { number = a; reference = word_option b; style = c }; slice = one d (word_mb f) }
-
-    go : (t : Bool) → ltb d 2 ≡ t → (let answer : Result (Piece ℕ SmallMb) SmallFault = if t then Ok read else Err Unread in answer) ≡ Ok piece → IsInside piece
-    go true is got =
-        let same : read ≡ piece = cc in
-        subst IsInside same (omega arith, omega (arith, ltb-true d 2 is))
-    go false is got = cc
-inside (a ∷ b ∷ c ∷ d ∷ f ∷ g ∷ bytes) piece e = cc
+inside (a ∷ b ∷ c ∷ d ∷ f ∷ []) piece e = cc
+inside (a ∷ b ∷ c ∷ d ∷ f ∷ g ∷ []) piece e = inside_piece (small_header a b c d f) g Same piece e
+inside (a ∷ b ∷ c ∷ d ∷ f ∷ g ∷ h ∷ []) piece e = inside_piece (small_header a b c d f) g (Value h) piece e
+inside (a ∷ b ∷ c ∷ d ∷ f ∷ g ∷ h ∷ i ∷ bytes) piece e = cc
 
 sample_back : (f : ℕ → ℕ) (s : ℕ) → s < 2 → small_sample (record { left = f 0; right = f 1 }) s ≡ f s
 sample_back f zero lt = refl
@@ -77,28 +84,60 @@ sample_back f (suc (suc s)) lt = absurd (omega arith)
 same_place : (place k : ℕ) (mb : SmallMb) (mbs : List SmallMb) → has_mb (one place mb) k ≡ true → place ≡ k
 same_place place k mb mbs has = eqb-true place k (sym (has_one place mb k) ∙ has)
 
-pub small_lawful : (rules : Rules) → rules.mbs ≡ 2 → IsCoding small rules
-unfolding small
-small_lawful rules two = record {
-  picture_same = λ f g each.
-      let left : f 0 ≡ g 0 = each 0 (omega arith) in
-      let right : f 1 ≡ g 1 = each 1 (omega arith) in
-      rw (left, right) refl;
-  sample_is = λ f s lt. sample_back f s (omega arith);
-  run_of = λ style mbs k. k;
-  run_below = λ predicted style mbs k chosen lt. omega arith;
-  run_has = λ predicted style mbs j k slice chosen lt e.
-      let at = cut_at mbs j slice e in
-      subst (λ (s : Slice SmallMb). has_mb s k ≡ eqb j k) at.1 (has_one j (slice_index_or mbs j Same) k);
-  run_mb = λ predicted style mbs j k slice chosen e has.
+same_style_test : (a b : SmallStyle) → (small_decoding.same_style a b ≡ true) ↔ (a ≡ b)
+same_style_test a b = (forth, back)
+  where
+    forth : (eqb a.depth b.depth && eqb a.quant b.quant) ≡ true → a ≡ b
+    forth e =
+        let parts = and_parts (eqb a.depth b.depth) (eqb a.quant b.quant) e in
+        let depth : a.depth ≡ b.depth = eqb-true a.depth b.depth parts.0 in
+        let quant : a.quant ≡ b.quant = eqb-true a.quant b.quant parts.1 in
+        ap (λ (d : ℕ). let s : SmallStyle = record { depth = d; quant = a.quant } in s) depth ∙ ap (λ (q : ℕ). let s : SmallStyle = record { depth = b.depth; quant = q } in s) quant
+
+    back : a ≡ b → (eqb a.depth b.depth && eqb a.quant b.quant) ≡ true
+    back e = and_from _ _ (eq-eqb a.depth b.depth (ap (λ (s : SmallStyle). s.depth) e)) (eq-eqb a.quant b.quant (ap (λ (s : SmallStyle). s.quant) e))
+
+small_divides : (count : ℕ) → count ≡ 2 → (mbs : List SmallMb) → Divides Same count (cut mbs) mbs
+small_divides count two mbs = record {
+  covers = record {
+    place_of = λ k. k;
+    below = λ k lt. omega arith;
+    has = λ j k slice lt e.
+        let at = cut_at mbs j slice e in
+        subst (λ (s : Slice SmallMb). has_mb s k ≡ eqb j k) at.1 (has_one j (slice_index_or mbs j Same) k);
+    inside = λ j slice e.
+        let at = cut_at mbs j slice e in
+        subst (λ (s : Slice SmallMb). (0 < length s.mbs) × (s.first + length s.mbs ≤ count)) at.1 (omega arith, omega (arith, at.0));
+  };
+  same = λ j k slice e has.
       let at = cut_at mbs j slice e in
       let has_k : has_mb (one j (slice_index_or mbs j Same)) k ≡ true = subst (λ (s : Slice SmallMb). has_mb s k ≡ true) (sym at.1) has in
       let is : j ≡ k = same_place j k (slice_index_or mbs j Same) mbs has_k in
       let none : k - j ≡ 0 = omega arith in
       subst (λ (s : Slice SmallMb). slice_index_or s.mbs (k - s.first) Same ≡ slice_index_or mbs k Same) at.1 (rw none (ap (λ (i : ℕ). slice_index_or mbs i Same) is));
-  run_inside = λ predicted style mbs j slice chosen e.
-      let at = cut_at mbs j slice e in
-      subst (λ (s : Slice SmallMb). (0 < length s.mbs) × (s.first + length s.mbs ≤ rules.mbs)) at.1 (omega arith, omega (arith, at.0));
+}
+
+pub small_decodes : (rules : Rules) → rules.mbs ≡ 2 → IsDecoding small_decoding rules
+small_decodes rules two = record {
+  pictures = record {
+    picture_same = λ f g each.
+        let left : f 0 ≡ g 0 = each 0 (omega arith) in
+        let right : f 1 ≡ g 1 = each 1 (omega arith) in
+        rw (left, right) refl;
+    sample_is = λ f s lt. sample_back f s (omega arith);
+  };
+  read_inside = λ bytes piece e. let at = inside bytes piece e in (at.0, omega (arith, at.1));
+  same_style_is = same_style_test;
+}
+
+pub small_lawful : (rules : Rules) → rules.mbs ≡ 2 → IsCoding small rules
+unfolding small
+small_lawful rules two = record {
+  decodes = small_decodes rules two;
+  encodes = record {
+    divides = λ predicted style mbs chosen. small_divides rules.mbs two mbs;
+    message_again = λ message fits count. message_back message;
+  };
   read_again = λ n sequence predicted header mbs j slice chosen fits e.
       let at = cut_at mbs j slice e in (
         small_packet header slice,
@@ -106,7 +145,4 @@ small_lawful rules two = record {
         subst (λ (s : Slice SmallMb). small_read (small_packet header s) ≡ Ok (record { header = header; slice = s })) at.1 (read_one header j (slice_index_or mbs j Same) at.0),
       );
   no_packet = λ n sequence header slices j e. none_left header slices j e;
-  read_inside = λ bytes piece e. let at = inside bytes piece e in (at.0, omega (arith, at.1));
-  same_style_is = λ a b. (λ e. eqb-true a b e, λ e. eq-eqb a b e);
-  message_again = λ message fits. message_back message;
 }

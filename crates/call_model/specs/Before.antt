@@ -4,7 +4,7 @@ use Rattle.std.specs.Prelude.{◌≡◌, ◌↔◌, ◌⊎◌, ℕ, ◌+◌, ◌
 use Rattle.std.specs.Option.{option_map}
 use Rattle.call_model.specs.Coding.{Rules, Mark, Exact, Coding}
 use Rattle.call_model.specs.CodedPictures.{Coded, depth_at, picture_at}
-use Rattle.call_model.specs.IdealCall.{Event, Send, Deliver, Play, Note, Shown, has_arrived, slices_at, is_full, ideal, AllNear}
+use Rattle.call_model.specs.IdealCall.{Event, Send, Deliver, Play, Note, Shown, Call, has_arrived, slices_at, is_full, ideal, AllNear}
 
 -- how many pictures were sent
 abbrev pub sent_before : List Event → ℕ
@@ -27,46 +27,50 @@ abbrev pub play_at : {Picture : Type 0} → List (Shown Picture) → ℕ → Opt
 play_at [] n = None
 play_at (x ∷ shown) n = if length shown == n then Some x else play_at shown n
 
-module _ {Frame Style Mb Picture Fault MessageFault : Type 0} (coding : Coding Frame Style Mb Picture Fault MessageFault) (rules : Rules) (quant : ℕ) (frames : List Frame) where
+module _ {Frame Style Mb Picture Fault MessageFault : Type 0} (coding : Coding Frame Style Mb Picture Fault MessageFault) (rules : Rules) (pace : List ℕ → ℕ) (frames : List Frame) where
+  -- the ideal call before an event, after these
+  abbrev pub call_after : List Event → Call Style Mb Picture
+  call_after past = ideal coding rules pace frames past
+
   -- the slice at place j of picture n arrived while n was open
   abbrev pub arrived : List Event → ℕ → ℕ → Bool
-  arrived past n j = has_arrived (ideal coding rules quant frames past).arrived n j
+  arrived past n j = has_arrived (call_after past).arrivals n j
 
   -- picture n was sent, and each of its slices arrived while it was open
   abbrev pub IsFull : List Event → ℕ → Type 0
-  IsFull past n = is_full coding (ideal coding rules quant frames past).coded (ideal coding rules quant frames past).arrived n ≡ true
+  IsFull past n = is_full (call_after past).coded (call_after past).arrivals n ≡ true
 
   -- the messages, oldest first
   abbrev pub said : List Event → List Note
-  said past = (ideal coding rules quant frames past).said
+  said past = (call_after past).said
 
   -- the pictures that the sender knows to be full
   abbrev pub known : List Event → List ℕ
-  known past = (ideal coding rules quant frames past).known
+  known past = (call_after past).known
 
   -- the reference of picture n, none where it is coded intra or was not sent
   abbrev pub reference_of : List Event → ℕ → Option ℕ
-  reference_of past n = option_and_then (λ (x : Coded Style Mb Picture). x.reference) (slice_get (ideal coding rules quant frames past).coded n)
+  reference_of past n = option_and_then (λ (x : Coded Style Mb Picture). x.reference) (slice_get (call_after past).coded n)
 
   -- the length of its chain of references
   abbrev pub depth_of : List Event → ℕ → ℕ
-  depth_of past n = depth_at (ideal coding rules quant frames past).coded n
+  depth_of past n = depth_at (call_after past).coded n
 
   -- what decoding gives of picture n, if it was sent
   abbrev pub reconstruction_of : List Event → ℕ → Option Picture
-  reconstruction_of past n = picture_at (ideal coding rules quant frames past).coded n
+  reconstruction_of past n = picture_at (call_after past).coded n
 
   -- the mark of picture n, if it was played
   abbrev pub mark_of : List Event → ℕ → Option Mark
-  mark_of past n = option_map (λ (x : Shown Picture). x.mark) (play_at (ideal coding rules quant frames past).shown n)
+  mark_of past n = option_map (λ (x : Shown Picture). x.mark) (play_at (call_after past).plays n)
 
   -- what the play of picture n showed, if it was played
   abbrev pub shown : List Event → ℕ → Option Picture
-  shown past n = option_map (λ (x : Shown Picture). x.picture) (play_at (ideal coding rules quant frames past).shown n)
+  shown past n = option_map (λ (x : Shown Picture). x.picture) (play_at (call_after past).plays n)
 
   -- how many slices picture n has: none where it was not sent
   abbrev pub slices_before : List Event → ℕ → ℕ
-  slices_before past n = length (slices_at coding (ideal coding rules quant frames past).coded n)
+  slices_before past n = length (slices_at (call_after past).coded n)
 
   -- the slice at place j of picture n was delivered while n was open
   abbrev pub WasDelivered : List Event → ℕ → ℕ → Type 0
@@ -77,8 +81,8 @@ module _ {Frame Style Mb Picture Fault MessageFault : Type 0} (coding : Coding F
   -- the pictures that the call has sent and played are the events that did so
   abbrev pub CountsAreThose : Type 0
   CountsAreThose = (past : List Event) →
-      (AllNear coding rules quant frames past → length (ideal coding rules quant frames past).coded ≡ sent_before past)
-      × ((ideal coding rules quant frames past).played ≡ played_before past)
+      (AllNear coding rules pace frames past → length (call_after past).coded ≡ sent_before past)
+      × ((call_after past).played ≡ played_before past)
 
   -- what has arrived is what was delivered in time
   abbrev pub ArrivedWasDelivered : Type 0

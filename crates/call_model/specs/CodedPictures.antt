@@ -3,15 +3,15 @@ use Rattle.std.specs.Prelude.{ℕ, ◌+◌, Bool, ◌&&◌, nat_lt, nat_le, ◌=
 use Rattle.std.specs.Option.{option_map, option_map_or}
 use Rattle.std.specs.List.{list_any}
 use Rattle.call_model.specs.Numbers.{greatest}
-use Rattle.call_model.specs.Coding.{Rules, window, Slice, Coding, reconstruction}
+use Rattle.call_model.specs.Coding.{Rules, window, Slice, Pictures, Encoding, reconstruction}
 
 -- A coded picture. Its depth is the length of its chain of references: 0 where it is coded intra.
--- Its picture is what decoding gives.
+-- Its slices are those of its packets, and its picture is what decoding gives.
 pub record Coded (Style Mb Picture : Type 0) : Type 0 where
   pub reference : Option ℕ
   pub depth : ℕ
   pub style : Style
-  pub mbs : List Mb
+  pub slices : List (Slice Mb)
   pub picture : Picture
 
 -- The reference of picture n: the greatest known number in the window below n, unless there is none
@@ -31,16 +31,12 @@ module _ {Style Mb Picture : Type 0} where
   abbrev pub picture_at : List (Coded Style Mb Picture) → ℕ → Option Picture
   picture_at coded n = option_map (λ x. x.picture) (slice_get coded n)
 
-module _ {Frame Style Mb Picture Fault MessageFault : Type 0} (coding : Coding Frame Style Mb Picture Fault MessageFault) where
+module _ {Frame Style Mb Picture MessageFault : Type 0} (pictures : Pictures Style Mb Picture) (encoding : Encoding Frame Style Mb Picture MessageFault) where
   -- a frame coded with this quantiser, after these pictures, with the reference of this number
   unfoldable pub capture : ℕ → Frame → List (Coded Style Mb Picture) → Option ℕ → Coded Style Mb Picture
   capture quant frame coded reference =
       let depth = option_map_or (λ m. depth_at coded m + 1) reference 0 in
-      let style = coding.style frame (is_some reference) depth quant in
-      let picture = option_and_then (λ m. picture_at coded m) reference in
-      let mbs = coding.choice frame picture style in
-      record { reference = reference; depth = depth; style = style; mbs = mbs; picture = reconstruction coding style picture mbs }
-
-  -- the slices of a coded picture
-  abbrev pub slices_of : Coded Style Mb Picture → List (Slice Mb)
-  slices_of x = coding.cut x.style x.mbs
+      let style = encoding.style frame (is_some reference) depth quant in
+      let before = option_and_then (λ m. picture_at coded m) reference in
+      let mbs = encoding.choice frame before style in
+      record { reference = reference; depth = depth; style = style; slices = encoding.cut style mbs; picture = reconstruction pictures style before mbs }

@@ -2,9 +2,9 @@
 use Rattle.std.specs.Prelude.{◌≡◌, ◌↔◌, ◌⊎◌, ℕ, ◌+◌, ◌<◌, ◌≤◌, ⊤, Bool, true, false, ◌==◌, List, [], ◌∷◌, Option, Some, None, Ok, if◌then◌else◌, is_some, option_and_then}
 use Rattle.std.specs.Option.{option_map_or}
 use Rattle.std.specs.Result.{result_ok}
-use Rattle.call_model.specs.Coding.{Rules, window, Slice, has_mb, Header, Piece, Coding}
-use Rattle.call_model.specs.Sending.{nearest, nearest_below}
-use Rattle.call_model.specs.Receiving.{is_complete, played_picture, played_mark, ReceiverEntry, Packet, PlayNext, receiver_run}
+use Rattle.call_model.specs.Coding.{Rules, window, Slice, has_mb, Header, Piece, Decoding}
+use Rattle.call_model.specs.Sending.{nearest_below}
+use Rattle.call_model.specs.Receiving.{piece_number, is_complete, played_picture, played_mark, ReceiverEntry, Packet, PlayNext, receiver_run}
 use Rattle.call_model.specs.IdealCall.{Shown}
 
 -- the bytes are one of these
@@ -27,11 +27,11 @@ is_number n (Some m) = m == n
 abbrev pub SameOrApart : {Mb : Type 0} → Slice Mb → Slice Mb → Type 0
 SameOrApart a b = (a ≡ b) ⊎ ((k : ℕ) → has_mb a k ≡ true → has_mb b k ≡ true → ⊥)
 
-module _ {Frame Style Mb Picture Fault MessageFault : Type 0} (coding : Coding Frame Style Mb Picture Fault MessageFault) (rules : Rules) where
-  -- the number of the picture that a packet is of, where it comes after so many plays and has no
-  -- fault
+module _ {Style Mb Picture Fault : Type 0} (decoding : Decoding Style Mb Picture Fault) (rules : Rules) where
+  -- the number of the picture that a packet is of, where it comes after so many plays, has no fault
+  -- and is of the call's picture clock
   unfoldable pub number_at : ℕ → List ℕ → Option ℕ
-  number_at played bytes = option_map_or (λ piece. nearest rules played piece.header.number) (result_ok (coding.read bytes)) None
+  number_at played bytes = option_map_or (λ piece. piece_number rules played piece) (result_ok (decoding.read bytes)) None
 
   -- the packet is one of picture n
   unfoldable pub is_own : ℕ → ℕ → List ℕ → Bool
@@ -56,7 +56,7 @@ module _ {Frame Style Mb Picture Fault MessageFault : Type 0} (coding : Coding F
   InPlace n reference (Packet bytes ∷ past) =
       (is_own n (played_after past) bytes ≡ true →
       (played_after past ≤ n) × (n ≤ played_after past + rules.lead)
-      × ((m : ℕ) → reference ≡ Some m → (n ≤ m + window rules) × (is_complete rules.mbs (receiver_run coding rules past).taken m ≡ true)))
+      × ((m : ℕ) → reference ≡ Some m → (n ≤ m + window rules) × (is_complete rules.mbs (receiver_run decoding rules past).taken m ≡ true)))
       × InPlace n reference past
   InPlace n reference (PlayNext ∷ past) = InPlace n reference past
 
@@ -65,13 +65,13 @@ module _ {Frame Style Mb Picture Fault MessageFault : Type 0} (coding : Coding F
   shown_in p [] = None
   shown_in p (Packet bytes ∷ past) = shown_in p past
   shown_in p (PlayNext ∷ past) =
-      if (receiver_run coding rules past).played == p
-      then Some (record { mark = played_mark coding rules (receiver_run coding rules past); picture = played_picture coding rules (receiver_run coding rules past) })
+      if (receiver_run decoding rules past).played == p
+      then Some (record { mark = played_mark decoding rules (receiver_run decoding rules past); picture = played_picture decoding rules (receiver_run decoding rules past) })
       else shown_in p past
 
   -- what the packet spells is so
   abbrev pub HasPiece : List ℕ → (Piece Style Mb → Type 0) → Type 0
-  HasPiece bytes P = (piece : Piece Style Mb) → coding.read bytes ≡ Ok piece → P piece
+  HasPiece bytes P = (piece : Piece Style Mb) → decoding.read bytes ≡ Ok piece → P piece
 
   -- the packets of n have one header, their slices are the same or apart, and each comes while n is
   -- open and its reference is there
@@ -80,14 +80,27 @@ module _ {Frame Style Mb Picture Fault MessageFault : Type 0} (coding : Coding F
     pub headers : (bytes : List ℕ) → IsIn bytes (own n entries) → HasPiece bytes (λ piece. piece.header ≡ header)
     pub slices : (a b : List ℕ) → IsIn a (own n entries) → IsIn b (own n entries) → HasPiece a (λ p. HasPiece b (λ q. SameOrApart p.slice q.slice))
 
-  -- Let two lists of what came before the play of picture n have the same entries in the same order
-  -- apart from packets of n, and the same set of packets of n, all of one header. Then each play up
-  -- to the play of n shows the same, with the same mark.
+  -- the lists have the same entries in the same order apart from packets of n, and the same set of
+  -- packets of n
+  abbrev pub DifferInPacketsOf : ℕ → List ReceiverEntry → List ReceiverEntry → Type 0
+  DifferInPacketsOf n a b =
+      (others n a ≡ others n b) × ((bytes : List ℕ) → IsIn bytes (own n a) ↔ IsIn bytes (own n b))
+
+  -- the reference of picture n is the number that its header names, where it names one
+  abbrev pub IsNamed : ℕ → Header Style → Option ℕ → Type 0
+  IsNamed n header reference =
+      (reference ≡ option_and_then (nearest_below rules n) header.reference) × (is_some reference ≡ is_some header.reference)
+
+  -- after two lists the next play shows the same, with the same mark
+  abbrev pub NextPlayIsSame : List ReceiverEntry → List ReceiverEntry → Type 0
+  NextPlayIsSame a b =
+      (played_mark decoding rules (receiver_run decoding rules a) ≡ played_mark decoding rules (receiver_run decoding rules b))
+      × (played_picture decoding rules (receiver_run decoding rules a) ≡ played_picture decoding rules (receiver_run decoding rules b))
+
+  -- Let two lists of what came before the play of picture n differ in packets of n, and let these be
+  -- of one header. Then each play up to the play of n shows the same, with the same mark.
   abbrev pub AnyOrder : Type 0
   AnyOrder = (n : ℕ) (header : Header Style) (reference : Option ℕ) (a b : List ReceiverEntry) →
-      reference ≡ option_and_then (nearest_below rules n) header.reference → is_some reference ≡ is_some header.reference →
-      others n a ≡ others n b → ((bytes : List ℕ) → IsIn bytes (own n a) ↔ IsIn bytes (own n b)) →
+      IsNamed n header reference → DifferInPacketsOf n a b →
       AreOfOne n header reference a → AreOfOne n header reference b → played_after a ≡ n →
-      ((p : ℕ) → p < n → shown_in p a ≡ shown_in p b)
-      × (played_mark coding rules (receiver_run coding rules a) ≡ played_mark coding rules (receiver_run coding rules b))
-      × (played_picture coding rules (receiver_run coding rules a) ≡ played_picture coding rules (receiver_run coding rules b))
+      ((p : ℕ) → p < n → shown_in p a ≡ shown_in p b) × NextPlayIsSame a b

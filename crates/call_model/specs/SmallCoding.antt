@@ -1,8 +1,8 @@
 -- A coding of pictures of two samples, over which calls can be computed: each sample is a
 -- macroblock and a slice of its own.
-use Rattle.std.specs.Prelude.{ℕ, zero, suc, nat_lt, ◌==◌, List, [], ◌∷◌, map, slice_index_or, Option, Some, None, Result, Ok, Err, if◌then◌else◌}
+use Rattle.std.specs.Prelude.{ℕ, zero, suc, nat_lt, ◌==◌, Bool, ◌&&◌, List, [], ◌∷◌, map, slice_index_or, Option, Some, None, Result, Ok, Err, if◌then◌else◌}
 use Rattle.std.specs.Option.{option_map}
-use Rattle.call_model.specs.Coding.{Slice, Header, Piece, Message, Ack, Nack, Coding}
+use Rattle.call_model.specs.Coding.{Slice, Header, Piece, Message, Ack, Nack, Pictures, Decoding, Encoding, Coding}
 
 -- a frame or a picture
 pub record Two : Type 0 where
@@ -43,51 +43,80 @@ abbrev pub word_option : ℕ → Option ℕ
 word_option zero = None
 word_option (suc m) = Some m
 
--- a macroblock as one number, and back
-abbrev pub mb_word : SmallMb → ℕ
-mb_word Same = 0
-mb_word (Value value) = suc value
+-- a macroblock as numbers: none where it is as in the reference
+abbrev pub mb_words : SmallMb → List ℕ
+mb_words Same = []
+mb_words (Value value) = value ∷ []
 
-abbrev pub word_mb : ℕ → SmallMb
-word_mb zero = Same
-word_mb (suc value) = Value value
+-- the style of a picture: its depth and its quantiser
+pub record SmallStyle : Type 0 where
+  pub depth : ℕ
+  pub quant : ℕ
 
--- a packet has five numbers: its picture's, the reference's, the depth, the slice's place and its
--- macroblock
-abbrev pub small_packet : Header ℕ → Slice SmallMb → List ℕ
-small_packet header slice = header.number ∷ option_word header.reference ∷ header.style ∷ slice.first ∷ mb_word (slice_index_or slice.mbs 0 Same) ∷ []
+-- A packet has six numbers: its picture's, the reference's, half the period, the depth, the
+-- quantiser and the slice's place. Where its macroblock has a value of its own, that follows.
+abbrev pub small_packet : Header SmallStyle → Slice SmallMb → List ℕ
+small_packet header slice =
+    header.number ∷ option_word header.reference ∷ header.half ∷ header.style.depth ∷ header.style.quant ∷ slice.first ∷ mb_words (slice_index_or slice.mbs 0 Same)
 
-abbrev pub small_read : List ℕ → Result (Piece ℕ SmallMb) SmallFault
-small_read (number ∷ reference ∷ depth ∷ place ∷ mb ∷ []) =
-    if nat_lt place 2
-    then Ok (record { header = record { number = number; reference = word_option reference; style = depth }; slice = record { first = place; mbs = word_mb mb ∷ [] } })
-    else Err Unread
+-- a header, and one macroblock at this place, which is 0 or 1
+abbrev pub small_piece : Header SmallStyle → ℕ → SmallMb → Result (Piece SmallStyle SmallMb) SmallFault
+small_piece header place mb =
+    if nat_lt place 2 then Ok (record { header = header; slice = record { first = place; mbs = mb ∷ [] } }) else Err Unread
+
+abbrev pub small_header : (number reference half depth quant : ℕ) → Header SmallStyle
+small_header number reference half depth quant =
+    record { number = number; reference = word_option reference; half = half; style = record { depth = depth; quant = quant } }
+
+abbrev pub small_read : List ℕ → Result (Piece SmallStyle SmallMb) SmallFault
+small_read (number ∷ reference ∷ half ∷ depth ∷ quant ∷ place ∷ []) =
+    small_piece (small_header number reference half depth quant) place Same
+small_read (number ∷ reference ∷ half ∷ depth ∷ quant ∷ place ∷ value ∷ []) =
+    small_piece (small_header number reference half depth quant) place (Value value)
 small_read _ = Err Unread
 
--- an ACK has one number, a NACK two
+-- flags as numbers, and back
+abbrev pub flag_words : List Bool → List ℕ
+flag_words flags = map (λ flag. if flag then 1 else 0) flags
+
+abbrev pub word_flags : List ℕ → List Bool
+word_flags words = map (λ word. word == 1) words
+
+-- a message has its kind, its number, in a NACK the number that is offered, and the flags
 abbrev pub small_message : Message → List ℕ
-small_message (Ack number) = number ∷ []
-small_message (Nack number offered) = number ∷ offered ∷ []
+small_message (Ack number flags) = 0 ∷ number ∷ flag_words flags
+small_message (Nack number offered flags) = 1 ∷ number ∷ offered ∷ flag_words flags
 
 abbrev pub small_read_message : List ℕ → Result Message SmallFault
-small_read_message (number ∷ []) = Ok (Ack number)
-small_read_message (number ∷ offered ∷ []) = Ok (Nack number offered)
+small_read_message (zero ∷ number ∷ words) = Ok (Ack number (word_flags words))
+small_read_message (suc zero ∷ number ∷ offered ∷ words) = Ok (Nack number offered (word_flags words))
 small_read_message _ = Err Unread
 
-unfoldable pub small : Coding Two ℕ SmallMb Two SmallFault SmallFault
-small = record {
-  style = λ frame predicted depth quant. depth;
-  choice = λ frame reference style. small_choice frame.left (option_map (λ two. two.left) reference) ∷ small_choice frame.right (option_map (λ two. two.right) reference) ∷ [];
+abbrev pub small_pictures : Pictures SmallStyle SmallMb Two
+small_pictures = record {
   skip = Same;
   owner = λ s. s;
   reconstructed_sample = λ style reference mb s. small_value (option_map (λ two. small_sample two s) reference) mb;
   picture_of = λ f. record { left = f 0; right = f 1 };
   sample = small_sample;
+}
+
+abbrev pub small_decoding : Decoding SmallStyle SmallMb Two SmallFault
+small_decoding = record {
+  pictures = small_pictures;
+  read = small_read;
+  same_style = λ a b. (a.depth == b.depth) && (a.quant == b.quant);
+}
+
+abbrev pub small_encoding : Encoding Two SmallStyle SmallMb Two SmallFault
+small_encoding = record {
+  style = λ frame predicted depth quant. record { depth = depth; quant = quant };
+  choice = λ frame reference style. small_choice frame.left (option_map (λ two. two.left) reference) ∷ small_choice frame.right (option_map (λ two. two.right) reference) ∷ [];
   cut = λ style mbs. record { first = 0; mbs = slice_index_or mbs 0 Same ∷ [] } ∷ record { first = 1; mbs = slice_index_or mbs 1 Same ∷ [] } ∷ [];
   packets = λ n sequence header slices. map (small_packet header) slices;
-  size = λ packets. 0;
-  read = small_read;
-  same_style = λ a b. a == b;
   write_message = small_message;
   read_message = small_read_message;
 }
+
+unfoldable pub small : Coding Two SmallStyle SmallMb Two SmallFault SmallFault
+small = record { decoding = small_decoding; encoding = small_encoding }

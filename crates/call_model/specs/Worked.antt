@@ -7,37 +7,43 @@ use Rattle.call_model.specs.IdealCall.{Event, Send, Deliver, Play, Back, Shown, 
 use Rattle.call_model.specs.Sending.{packets_of}
 use Rattle.call_model.specs.Receiving.{Heard, heard, ReceiverEntry, Packet, PlayNext, receiver_run}
 use Rattle.call_model.specs.JoinedRun.{Told, Joined, joined, new_receiver}
-use Rattle.call_model.specs.SmallCoding.{Two, SmallMb, Value, SmallFault, small_packet, small_read, small}
+use Rattle.call_model.specs.SmallCoding.{Two, SmallStyle, SmallMb, Value, SmallFault, small_packet, small_read, small_decoding, small}
 
--- the frames and the events of a call, the oldest first
+-- the pace, the frames and the events of a call, the oldest first
 pub record Scene : Type 0 where
   pub rules : Rules
+  pub pace : List ℕ → ℕ
   pub frames : List Two
   pub events : List Event
 
--- slots and lead as given, temporal references of eight bits, and chains of at most 131
+-- slots and lead as given, temporal references of eight bits, chains of at most 131, and messages
+-- without flags
 abbrev pub rules_of : ℕ → ℕ → Rules
-rules_of slots lead = record { slots = slots; lead = lead; half = 128; chain = 131; mbs = 2 }
+rules_of slots lead = record { slots = slots; lead = lead; half = 128; chain = 131; mbs = 2; flags = 0 }
+
+-- the pace that always answers 8
+abbrev pub steady : List ℕ → ℕ
+steady sizes = 8
 
 -- a picture whose samples are the same
 abbrev pub flat : ℕ → Two
 flat value = record { left = value; right = value }
 
 -- the ideal call
-abbrev pub call_of : Scene → Call ℕ SmallMb Two
-call_of scene = ideal small scene.rules 8 scene.frames (reverse scene.events)
+abbrev pub call_of : Scene → Call SmallStyle SmallMb Two
+call_of scene = ideal small scene.rules scene.pace scene.frames (reverse scene.events)
 
 -- both ends
-abbrev pub ends_of : Scene → Joined ℕ SmallMb Two
-ends_of scene = joined small scene.rules (new_receiver small scene.rules) 8 scene.frames (reverse scene.events)
+abbrev pub ends_of : Scene → Joined SmallStyle SmallMb Two
+ends_of scene = joined small scene.rules (new_receiver small scene.rules) scene.pace scene.frames (reverse scene.events)
 
 -- of each picture the number of its reference
-abbrev pub references : List (Coded ℕ SmallMb Two) → List (Option ℕ)
-references coded = map (λ (x : Coded ℕ SmallMb Two). x.reference) coded
+abbrev pub references : List (Coded SmallStyle SmallMb Two) → List (Option ℕ)
+references coded = map (λ (x : Coded SmallStyle SmallMb Two). x.reference) coded
 
 -- of each picture its depth
-abbrev pub depths : List (Coded ℕ SmallMb Two) → List ℕ
-depths coded = map (λ (x : Coded ℕ SmallMb Two). x.depth) coded
+abbrev pub depths : List (Coded SmallStyle SmallMb Two) → List ℕ
+depths coded = map (λ (x : Coded SmallStyle SmallMb Two). x.depth) coded
 
 -- the marks of the plays, the oldest first
 abbrev pub marks : List (Shown Two) → List Mark
@@ -52,16 +58,16 @@ abbrev pub bytes_of : List Told → List (List ℕ)
 bytes_of said = map (λ (told : Told). told.bytes) said
 
 -- the receiver's answers to the deliveries among these events, both with the newest first
-abbrev pub heard_in : Rules → List Two → List Event → List (Heard SmallFault)
-heard_in rules frames [] = []
-heard_in rules frames (Deliver n j ∷ past) =
-    let both = joined small rules (new_receiver small rules) 8 frames past in
-    option_map_or (λ bytes. heard small rules both.receiver (small.read bytes) ∷ []) (slice_get (packets_of small rules both.sender.coded n) j) [] ++ heard_in rules frames past
-heard_in rules frames (e ∷ past) = heard_in rules frames past
+abbrev pub heard_in : Rules → (List ℕ → ℕ) → List Two → List Event → List (Heard SmallFault)
+heard_in rules pace frames [] = []
+heard_in rules pace frames (Deliver n j ∷ past) =
+    let both = joined small rules (new_receiver small rules) pace frames past in
+    option_map_or (λ bytes. heard small.decoding rules both.receiver (small.decoding.read bytes) ∷ []) (slice_get (packets_of small.encoding rules both.sender.coded n) j) [] ++ heard_in rules pace frames past
+heard_in rules pace frames (e ∷ past) = heard_in rules pace frames past
 
 -- the receiver's answers, the oldest first
 abbrev pub answers : Scene → List (Heard SmallFault)
-answers scene = reverse (heard_in scene.rules scene.frames (reverse scene.events))
+answers scene = reverse (heard_in scene.rules scene.pace scene.frames (reverse scene.events))
 
 -- both slices of picture n are delivered
 abbrev pub whole : ℕ → List Event
@@ -87,6 +93,7 @@ acknowledged n (suc count) = Send ∷ whole n ++ Back n ∷ Play ∷ acknowledge
 abbrev pub window_scene : Scene
 window_scene = record {
   rules = rules_of 4 1;
+  pace = steady;
   frames = replicate 4 (flat 100);
   events = seen 0 1 ++ Back 0 ∷ lost 2 ++ seen 3 1;
 }
@@ -95,6 +102,7 @@ window_scene = record {
 abbrev pub offer_scene : Scene
 offer_scene = record {
   rules = rules_of 4 1;
+  pace = steady;
   frames = replicate 3 (flat 100);
   events = seen 0 1 ++ lost 1 ++ Back 1 ∷ seen 2 1;
 }
@@ -103,6 +111,7 @@ offer_scene = record {
 abbrev pub far_offer_scene : Scene
 far_offer_scene = record {
   rules = rules_of 4 1;
+  pace = steady;
   frames = replicate 5 (flat 100);
   events = seen 0 1 ++ lost 4;
 }
@@ -111,6 +120,7 @@ far_offer_scene = record {
 abbrev pub chain_scene : Scene
 chain_scene = record {
   rules = rules_of 4 1;
+  pace = steady;
   frames = replicate 133 (flat 100);
   events = acknowledged 0 133;
 }
@@ -119,6 +129,7 @@ chain_scene = record {
 abbrev pub late_scene : Scene
 late_scene = record {
   rules = rules_of 4 1;
+  pace = steady;
   frames = flat 100 ∷ [];
   events = Send ∷ Deliver 0 0 ∷ Play ∷ Deliver 0 1 ∷ [];
 }
@@ -127,6 +138,7 @@ late_scene = record {
 abbrev pub shuffled_scene : Scene
 shuffled_scene = record {
   rules = rules_of 4 1;
+  pace = steady;
   frames = flat 100 ∷ [];
   events = Send ∷ Deliver 0 1 ∷ Deliver 0 1 ∷ Deliver 0 0 ∷ Deliver 0 0 ∷ Play ∷ [];
 }
@@ -135,6 +147,7 @@ shuffled_scene = record {
 abbrev pub patched_scene : Scene
 patched_scene = record {
   rules = rules_of 4 1;
+  pace = steady;
   frames = flat 100 ∷ flat 50 ∷ flat 100 ∷ [];
   events = acknowledged 0 1 ++ Send ∷ Deliver 1 0 ∷ Play ∷ Back 1 ∷ seen 2 1;
 }
@@ -143,6 +156,7 @@ patched_scene = record {
 abbrev pub wrap_scene : Scene
 wrap_scene = record {
   rules = rules_of 5 1;
+  pace = steady;
   frames = replicate 3 (flat 100) ++ flat 50 ∷ replicate 257 (flat 100);
   events = seen 0 4 ++ lost 255 ++ acknowledged 259 1 ++ seen 260 1;
 }
@@ -150,7 +164,7 @@ wrap_scene = record {
 -- the bytes of one half of picture n, flat 100, with this depth in its header
 abbrev pub half_packet : ℕ → Option ℕ → ℕ → ℕ → List ℕ
 half_packet n reference depth place =
-    small_packet (record { number = n; reference = reference; style = depth }) (record { first = place; mbs = Value 100 ∷ [] })
+    small_packet (record { number = n; reference = reference; half = 128; style = record { depth = depth; quant = 8 } }) (record { first = place; mbs = Value 100 ∷ [] })
 
 -- Picture 0 is complete, two were played, and the left half of picture 2 was taken; the newest
 -- first.
@@ -160,4 +174,4 @@ half_taken =
 
 -- what the receiver answers then to these bytes
 abbrev pub then_heard : List ℕ → Heard SmallFault
-then_heard bytes = heard small (rules_of 4 1) (receiver_run small (rules_of 4 1) half_taken) (small_read bytes)
+then_heard bytes = heard small_decoding (rules_of 4 1) (receiver_run small_decoding (rules_of 4 1) half_taken) (small_read bytes)

@@ -1,6 +1,6 @@
 //! Calls that are worked through over pictures of two samples: what the definitions give, computed.
 //! In each the ideal call and both ends come out the same.
-#![tactic(auto, unfolding(crate::specs::Numbers::first_from, crate::specs::Coding::has_mb, crate::specs::Coding::same_header, crate::specs::SmallCoding::small, crate::specs::CodedPictures::reference_for, crate::specs::CodedPictures::capture, crate::specs::IdealCall::is_open, crate::specs::IdealCall::slices_at, crate::specs::IdealCall::is_full, crate::specs::IdealCall::is_there, crate::specs::IdealCall::newest_full, crate::specs::IdealCall::shown_at, crate::specs::IdealCall::is_fresh, crate::specs::Sending::nearest_below, crate::specs::Sending::nearest, crate::specs::Sending::named, crate::specs::Sending::noted, crate::specs::Sending::header_of, crate::specs::Sending::packets_of, crate::specs::Receiving::has_taken, crate::specs::Receiving::has_any, crate::specs::Receiving::is_complete, crate::specs::Receiving::offer, crate::specs::Receiving::header_fits, crate::specs::Receiving::has_reference, crate::specs::Receiving::answer, crate::specs::Receiving::heard, crate::specs::Receiving::taken_after, crate::specs::Receiving::played_picture, crate::specs::Receiving::played_mark, crate::specs::Receiving::played_message, crate::specs::Store::slot_of))]
+#![tactic(auto, unfolding(crate::specs::Numbers::first_from, crate::specs::Coding::has_mb, crate::specs::Coding::same_header, crate::specs::SmallCoding::small, crate::specs::CodedPictures::reference_for, crate::specs::CodedPictures::capture, crate::specs::IdealCall::is_open, crate::specs::IdealCall::slices_at, crate::specs::IdealCall::is_full, crate::specs::IdealCall::mb_arrived, crate::specs::IdealCall::newest_full, crate::specs::IdealCall::shown_at, crate::specs::IdealCall::delivery_counts, crate::specs::Sending::nearest_below, crate::specs::Sending::nearest, crate::specs::Sending::called_complete, crate::specs::Sending::made_known, crate::specs::Sending::header_of, crate::specs::Sending::packets_of, crate::specs::Receiving::has_taken, crate::specs::Receiving::has_any, crate::specs::Receiving::is_complete, crate::specs::Receiving::offer, crate::specs::Receiving::piece_number, crate::specs::Receiving::header_fits, crate::specs::Receiving::has_reference, crate::specs::Receiving::answer, crate::specs::Receiving::heard, crate::specs::Receiving::taken_after, crate::specs::Receiving::played_picture, crate::specs::Receiving::played_mark, crate::specs::Receiving::played_message, crate::specs::Store::slot_of))]
 
 ghost use Rattle.std.specs.Prelude.{◌≡◌, None, Some, List, [], ◌∷◌, slice_get, true};
 ghost use Rattle.call_model.specs.Coding.{Ack, Exact, Held, Patched, Rules};
@@ -8,7 +8,7 @@ ghost use Rattle.call_model.specs.CodedPictures.{is_among};
 ghost use Rattle.call_model.specs.IdealCall.{Got, Lost};
 ghost use Rattle.call_model.specs.Lawful.{IsCoding};
 ghost use Rattle.call_model.specs.Receiving.{Completed, Early, HeaderDiffers, Late, MissingReference, Refused, Repeat, Taken};
-ghost use Rattle.call_model.specs.SmallCoding.{small, Unread};
+ghost use Rattle.call_model.specs.SmallCoding.{small, small_decoding, Unread};
 ghost use Rattle.call_model.specs.Store.{slot_of};
 ghost use Rattle.call_model.specs.Worked.{answers, bytes_of, call_of, depths, ends_of, flat, marks, pictures, references};
 ghost use Rattle.call_model.specs.Worked.{half_packet, then_heard};
@@ -18,28 +18,28 @@ ghost use Rattle.call_model.specs.Worked.{chain_scene, far_offer_scene, late_sce
 /// picture 0, picture 3 may not.
 pub fn window_ends()
     ensures references { references (call_of window_scene).coded ≡ None ∷ Some 0 ∷ Some 0 ∷ None ∷ [] }
-    ensures marks { marks (call_of window_scene).shown ≡ Exact ∷ Held ∷ Held ∷ Exact ∷ [] }
+    ensures marks { marks (call_of window_scene).plays ≡ Exact ∷ Held ∷ Held ∷ Exact ∷ [] }
     ensures sender { references (ends_of window_scene).sender.coded ≡ None ∷ Some 0 ∷ Some 0 ∷ None ∷ [] }
-    ensures receiver { marks (ends_of window_scene).shown ≡ Exact ∷ Held ∷ Held ∷ Exact ∷ [] }
+    ensures receiver { marks (ends_of window_scene).plays ≡ Exact ∷ Held ∷ Held ∷ Exact ∷ [] }
 {}
 
 /// A NACK of picture 1 offers picture 0, whose ACK has not come back: picture 2 refers to picture
 /// 0.
 pub fn nack_offers_older_picture()
-    ensures said { (call_of offer_scene).said ≡ Got 0 ∷ Lost 1 (Some 0) ∷ Got 2 ∷ [] }
+    ensures said { (call_of offer_scene).said ≡ Got 0 [] ∷ Lost 1 (Some 0) [] ∷ Got 2 [] ∷ [] }
     ensures references { references (call_of offer_scene).coded ≡ None ∷ None ∷ Some 0 ∷ [] }
-    ensures bytes { bytes_of (ends_of offer_scene).said ≡ (0 ∷ []) ∷ (1 ∷ 0 ∷ []) ∷ (2 ∷ []) ∷ [] }
+    ensures bytes { bytes_of (ends_of offer_scene).said ≡ (0 ∷ 0 ∷ []) ∷ (1 ∷ 1 ∷ 0 ∷ []) ∷ (0 ∷ 2 ∷ []) ∷ [] }
     ensures sender { references (ends_of offer_scene).sender.coded ≡ None ∷ None ∷ Some 0 ∷ [] }
-    ensures receiver { marks (ends_of offer_scene).shown ≡ Exact ∷ Held ∷ Exact ∷ [] }
+    ensures receiver { marks (ends_of offer_scene).plays ≡ Exact ∷ Held ∷ Exact ∷ [] }
 {}
 
 /// With four slots the NACK of picture 3 is the last that offers picture 0. The one of picture 4
 /// has none to offer, and names picture 4 itself.
 pub fn offers_end()
     ensures said { (call_of far_offer_scene).said
-        ≡ Got 0 ∷ Lost 1 (Some 0) ∷ Lost 2 (Some 0) ∷ Lost 3 (Some 0) ∷ Lost 4 None ∷ [] }
+        ≡ Got 0 [] ∷ Lost 1 (Some 0) [] ∷ Lost 2 (Some 0) [] ∷ Lost 3 (Some 0) [] ∷ Lost 4 None [] ∷ [] }
     ensures bytes { bytes_of (ends_of far_offer_scene).said
-        ≡ (0 ∷ []) ∷ (1 ∷ 0 ∷ []) ∷ (2 ∷ 0 ∷ []) ∷ (3 ∷ 0 ∷ []) ∷ (4 ∷ 4 ∷ []) ∷ [] }
+        ≡ (0 ∷ 0 ∷ []) ∷ (1 ∷ 1 ∷ 0 ∷ []) ∷ (1 ∷ 2 ∷ 0 ∷ []) ∷ (1 ∷ 3 ∷ 0 ∷ []) ∷ (1 ∷ 4 ∷ 4 ∷ []) ∷ [] }
 {}
 
 /// A chain of 131 references does not grow: picture 132 is coded intra, though picture 131 is
@@ -50,38 +50,38 @@ pub fn chain_limit()
     ensures known { is_among (call_of chain_scene).known 131 ≡ true }
     ensures intra { slice_get (references (call_of chain_scene).coded) 132 ≡ Some None }
     ensures sender { slice_get (references (ends_of chain_scene).sender.coded) 132 ≡ Some None }
-    ensures receiver { slice_get (marks (ends_of chain_scene).shown) 132 ≡ Some Exact }
+    ensures receiver { slice_get (marks (ends_of chain_scene).plays) 132 ≡ Some Exact }
 {}
 
 /// A packet that comes after its picture's play is late, and changes nothing: the picture stays
 /// patched, its first half as decoded and its second grey, and a NACK of it is all that is said.
 pub fn late_packet()
     ensures answers { answers late_scene ≡ Taken ∷ Late ∷ [] }
-    ensures said { (call_of late_scene).said ≡ Lost 0 None ∷ [] }
-    ensures marks { marks (call_of late_scene).shown ≡ Patched ∷ [] }
-    ensures pictures { pictures (call_of late_scene).shown ≡ record { left = 100; right = 128 } ∷ [] }
-    ensures receiver { pictures (ends_of late_scene).shown ≡ record { left = 100; right = 128 } ∷ [] }
-    ensures bytes { bytes_of (ends_of late_scene).said ≡ (0 ∷ 0 ∷ []) ∷ [] }
+    ensures said { (call_of late_scene).said ≡ Lost 0 None [] ∷ [] }
+    ensures marks { marks (call_of late_scene).plays ≡ Patched ∷ [] }
+    ensures pictures { pictures (call_of late_scene).plays ≡ record { left = 100; right = 128 } ∷ [] }
+    ensures receiver { pictures (ends_of late_scene).plays ≡ record { left = 100; right = 128 } ∷ [] }
+    ensures bytes { bytes_of (ends_of late_scene).said ≡ (1 ∷ 0 ∷ 0 ∷ []) ∷ [] }
 {}
 
 /// The packets of a picture may come in any order and more than once: each is taken once, and one
 /// ACK is said.
 pub fn any_order()
-    ensures answers { answers shuffled_scene ≡ Taken ∷ Repeat ∷ Completed (Ack 0) ∷ Repeat ∷ [] }
-    ensures said { (call_of shuffled_scene).said ≡ Got 0 ∷ [] }
-    ensures pictures { pictures (call_of shuffled_scene).shown ≡ flat 100 ∷ [] }
-    ensures receiver { pictures (ends_of shuffled_scene).shown ≡ flat 100 ∷ [] }
+    ensures answers { answers shuffled_scene ≡ Taken ∷ Repeat ∷ Completed (Ack 0 []) ∷ Repeat ∷ [] }
+    ensures said { (call_of shuffled_scene).said ≡ Got 0 [] ∷ [] }
+    ensures pictures { pictures (call_of shuffled_scene).plays ≡ flat 100 ∷ [] }
+    ensures receiver { pictures (ends_of shuffled_scene).plays ≡ flat 100 ∷ [] }
 {}
 
 /// Half of picture 1 comes: it is shown patched, and a NACK of it offers picture 0. So picture 2
 /// refers to picture 0 and not to picture 1, and is exact.
 pub fn patched_picture_kept_out()
-    ensures said { (call_of patched_scene).said ≡ Got 0 ∷ Lost 1 (Some 0) ∷ Got 2 ∷ [] }
+    ensures said { (call_of patched_scene).said ≡ Got 0 [] ∷ Lost 1 (Some 0) [] ∷ Got 2 [] ∷ [] }
     ensures known { (call_of patched_scene).known ≡ 0 ∷ 0 ∷ [] }
     ensures references { references (call_of patched_scene).coded ≡ None ∷ Some 0 ∷ Some 0 ∷ [] }
-    ensures marks { marks (call_of patched_scene).shown ≡ Exact ∷ Patched ∷ Exact ∷ [] }
+    ensures marks { marks (call_of patched_scene).plays ≡ Exact ∷ Patched ∷ Exact ∷ [] }
     ensures sender { (ends_of patched_scene).sender.known ≡ 0 ∷ 0 ∷ [] }
-    ensures receiver { pictures (ends_of patched_scene).shown
+    ensures receiver { pictures (ends_of patched_scene).plays
         ≡ flat 100 ∷ record { left = 50; right = 100 } ∷ flat 100 ∷ [] }
 {}
 
@@ -91,7 +91,7 @@ pub fn patched_picture_kept_out()
 /// picture 0, which is out of its window, nor to picture 1, which is not complete. Picture 1 is
 /// late, and picture 4 is early.
 pub fn each_answer()
-    ensures completed { then_heard (half_packet 2 (Some 0) 1 1) ≡ Completed (Ack 2) }
+    ensures completed { then_heard (half_packet 2 (Some 0) 1 1) ≡ Completed (Ack 2 []) }
     ensures repeat { then_heard (half_packet 2 (Some 0) 1 0) ≡ Repeat }
     ensures other_header { then_heard (half_packet 2 (Some 0) 2 1) ≡ HeaderDiffers }
     ensures unread { then_heard [] ≡ Refused Unread }
@@ -104,11 +104,11 @@ pub fn each_answer()
 /// Picture 259 has the temporal reference of picture 3, which the receiver still keeps, after a
 /// wrap of 256. Picture 260 names it, and is decoded from picture 259.
 pub fn same_trp_after_wrap()
-    ensures kept { slot_of small wrap_scene.rules (ends_of wrap_scene).receiver 3 ≡ Some 3 }
+    ensures kept { slot_of small_decoding wrap_scene.rules (ends_of wrap_scene).receiver 3 ≡ Some 3 }
     ensures reference { slice_get (references (call_of wrap_scene).coded) 260 ≡ Some (Some 259) }
     ensures sender { slice_get (references (ends_of wrap_scene).sender.coded) 260 ≡ Some (Some 259) }
-    ensures mark { slice_get (marks (ends_of wrap_scene).shown) 260 ≡ Some Exact }
-    ensures picture { slice_get (pictures (ends_of wrap_scene).shown) 260 ≡ Some (flat 100) }
+    ensures mark { slice_get (marks (ends_of wrap_scene).plays) 260 ≡ Some Exact }
+    ensures picture { slice_get (pictures (ends_of wrap_scene).plays) 260 ≡ Some (flat 100) }
 {}
 
 /// The laws that are asked of a coding can be met: that of pictures of two samples meets them.
