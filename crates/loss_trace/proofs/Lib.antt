@@ -1,0 +1,5 @@
+pub mod Firsts
+pub mod Calls
+pub mod Results
+pub mod Spelled
+pub mod Readers

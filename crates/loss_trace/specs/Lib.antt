@@ -1,2 +1,5 @@
 pub mod Line
 pub mod Reading
+pub mod Lines
+pub mod Input
+pub mod Reader

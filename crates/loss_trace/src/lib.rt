@@ -4,6 +4,9 @@
 
 mod event;
 mod fault;
+mod input;
+mod reader;
 
 pub use event::{BadLine, Event, line};
 pub use fault::{TraceFault, TraceStop};
+pub use reader::TraceReader;

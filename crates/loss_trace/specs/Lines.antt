@@ -1,0 +1,44 @@
+-- A text in lines: each ends with a newline, and the last may end with the text.
+use Rattle.std.specs.Prelude.{ℕ, ◌≢◌, ◌≡◌, ◌+◌, ◌≤◌, ◌==◌, nat_lt, min, Bool, List, [], ◌∷◌, ◌++◌, length, take, drop, Option, Some, All, if◌then◌else◌}
+use Rattle.std.specs.List.{flat_map}
+
+abbrev pub NoNewline : List ℕ → Type 0
+NoNewline bytes = All (λ b. b ≢ 10) bytes
+
+-- the bytes before the first newline
+abbrev pub first_line : List ℕ → List ℕ
+first_line [] = []
+first_line (b ∷ text) = if b == 10 then [] else b ∷ first_line text
+
+-- whether a newline stands behind them
+abbrev pub is_closed : List ℕ → Bool
+is_closed text = nat_lt (length (first_line text)) (length text)
+
+-- what stands behind the first line and its newline
+abbrev pub behind_line : List ℕ → List ℕ
+behind_line text = drop (length (first_line text) + 1) text
+
+-- what stands behind a line of which no byte past the 65th is looked at
+abbrev pub behind_long : List ℕ → List ℕ
+behind_long text = drop (min (length (first_line text) + 1) 65) text
+
+-- what ends a text behind its last newline, as a line, if there is something
+abbrev pub last_line : List ℕ → List (List ℕ)
+last_line [] = []
+last_line (b ∷ bytes) = (b ∷ bytes) ∷ []
+
+-- a text whose lines are these: some that end with a newline, and what stands behind the last newline
+pub record IsText (text : List ℕ) (lines : List (List ℕ)) : Type 0 where
+  pub closed : List (List ℕ)
+  pub end : List ℕ
+  pub spelled : text ≡ flat_map (λ line. line ++ 10 ∷ []) closed ++ end
+  pub apart : All NoNewline closed
+  pub unclosed : NoNewline end
+  pub all : lines ≡ closed ++ last_line end
+
+-- what was taken when a read failed: no newline, and so no whole line
+pub record IsCut (rest : List ℕ) (left : Option (List ℕ)) : Type 0 where
+  pub taken : ℕ
+  pub within : taken ≤ length rest
+  pub gone : left ≡ Some (drop taken rest)
+  pub free : NoNewline (take taken rest)

@@ -1,0 +1,68 @@
+-- What the reader of a trace says, call by call.
+use Rattle.std.specs.Prelude.{ℕ, ◌≡◌, ◌+◌, ◌<◌, not, false, List, [], length, take, drop, Option, Some, None, Result, Ok, Err}
+use Rattle.loss_trace.specs.declared.event.Event.{Event}
+use Rattle.loss_trace.specs.declared.fault.TraceStop.{TraceStop}
+use Rattle.loss_trace.specs.declared.fault.TraceStop.TheVariants.{Read, Bad, TooMany}
+use Rattle.loss_trace.specs.declared.reader.TraceReader.{TraceReader}
+use Rattle.loss_trace.specs.declared.reader.Fetched.{Fetched}
+use Rattle.loss_trace.specs.Lines.{first_line, is_closed, behind_line, behind_long, IsCut}
+use Rattle.loss_trace.specs.Input.{IsFirst}
+use Rattle.loss_trace.specs.Reading.{event_in}
+
+-- how a call moves a reader, and which number it gives: that of the next line
+abbrev pub Moves : {A : Type 0} → Result (Option (ℕ × A)) TraceStop → TraceReader → TraceReader → Type 0
+Moves (Ok (Some line)) old new = (old.ended ≡ false) × (line.0 ≡ old.lines + 1) × (new.lines ≡ old.lines + 1)
+Moves (Ok None) old new = new ≡ old
+Moves (Err Read) old new = (old.ended ≡ false) × (new ≡ old)
+Moves (Err (Bad line)) old new = (old.ended ≡ false) × (old.lines < 16777216) × (line ≡ old.lines + 1) × (new ≡ old)
+Moves (Err (TooMany line)) old new = (old.ended ≡ false) × (old.lines ≡ 16777216) × (line ≡ 16777217) × (new ≡ old)
+
+-- the first line of the rest was read, and nothing behind its newline
+pub record Passes (rest : List ℕ) (new : TraceReader) (left : Option (List ℕ)) : Type 0 where
+  pub some : 0 < length rest
+  pub ends : new.ended ≡ not (is_closed rest)
+  pub gone : left ≡ Some (behind_line rest)
+
+-- no line is there; behind a last line without a newline nothing is read
+abbrev pub IsOver : TraceReader → List ℕ → Option (List ℕ) → Type 0
+IsOver old rest left = (left ≡ Some rest) × (old.ended ≡ false → rest ≡ [])
+
+-- one byte was read, which begins a line too many
+abbrev pub IsPastAll : List ℕ → Option (List ℕ) → Type 0
+IsPastAll rest left = (0 < length rest) × (left ≡ Some (drop 1 rest))
+
+-- more bytes than a line may have
+abbrev pub IsLong : List ℕ → Option (List ℕ) → Type 0
+IsLong rest left = (64 < length (first_line rest)) × (left ≡ Some (behind_long rest))
+
+-- what a reader says of the rest of a trace, and what is left of it then
+abbrev pub EventGives : Result (Option (ℕ × Event)) TraceStop → TraceReader → List ℕ → TraceReader → Option (List ℕ) → Type 0
+EventGives (Ok (Some line)) old rest new left = Passes rest new left × (event_in (first_line rest) ≡ Some line.1)
+EventGives (Ok None) old rest new left = IsOver old rest left
+EventGives (Err Read) old rest new left = IsCut rest left
+EventGives (Err (Bad line)) old rest new left = (event_in (first_line rest) ≡ None) × (left ≡ Some (behind_long rest))
+EventGives (Err (TooMany line)) old rest new left = IsPastAll rest left
+
+-- the same of a reader that gives the bytes of a line, in a buffer of 64 bytes, and its length
+abbrev pub BytesGive : Result (Option (ℕ × ℕ)) TraceStop → TraceReader → List ℕ → List ℕ → TraceReader → Option (List ℕ) → Type 0
+BytesGive (Ok (Some line)) old rest buf new left = Passes rest new left × (length (first_line rest) ≡ line.1) × (take line.1 buf ≡ first_line rest)
+BytesGive (Ok None) old rest buf new left = IsOver old rest left
+BytesGive (Err Read) old rest buf new left = IsCut rest left
+BytesGive (Err (Bad line)) old rest buf new left = IsLong rest left
+BytesGive (Err (TooMany line)) old rest buf new left = IsPastAll rest left
+
+-- where a reader finds a line, or a fault
+abbrev pub Finds : Result (Option Fetched) TraceStop → TraceReader → Type 0
+Finds (Ok (Some line)) reader = (reader.ended ≡ false) × (reader.lines < 16777216)
+Finds (Ok None) reader = Unit {0}
+Finds (Err Read) reader = reader.ended ≡ false
+Finds (Err (Bad line)) reader = (reader.ended ≡ false) × (reader.lines < 16777216) × (line ≡ reader.lines + 1)
+Finds (Err (TooMany line)) reader = (reader.ended ≡ false) × (reader.lines ≡ 16777216) × (line ≡ 16777217)
+
+-- what it finds
+abbrev pub FetchGives : Result (Option Fetched) TraceStop → TraceReader → List ℕ → List ℕ → Option (List ℕ) → Type 0
+FetchGives (Ok (Some line)) reader rest buf left = IsFirst rest buf line.len left × (is_closed rest ≡ line.closed)
+FetchGives (Ok None) reader rest buf left = IsOver reader rest left
+FetchGives (Err Read) reader rest buf left = IsCut rest left
+FetchGives (Err (Bad line)) reader rest buf left = IsLong rest left
+FetchGives (Err (TooMany line)) reader rest buf left = IsPastAll rest left
