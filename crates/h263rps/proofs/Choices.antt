@@ -27,7 +27,8 @@ use Rattle.h263_planes.proofs.Givens.{only_with}
 use Rattle.h263_planes.proofs.Wholes.{bytes_of_picture}
 use Rattle.picture_header.specs.declared.header.Header.{Header}
 use Rattle.picture_header.specs.Ranges.{IsHeader}
-use Rattle.picture_recon.specs.Samples.{mb_in, sample_in}
+use Rattle.h263_types.specs.Blocks.{mb_in}
+use Rattle.picture_recon.specs.Samples.{sample_in}
 use Rattle.mode_choice.specs.Choice.{samples_of, levels_of, blocks_of, intra_of, choice_of, choices_of, level_of, coefficient_at}
 use Rattle.mode_choice.proofs.Levels.{blocks_in_range}
 use Rattle.macroblock_layer.specs.Written.{AreWhole}

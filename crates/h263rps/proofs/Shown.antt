@@ -16,7 +16,8 @@ use Rattle.slice_layer.specs.Filled.{mbs_from}
 use Rattle.packet_collector.specs.declared.piece.Piece.{Piece}
 use Rattle.packet_collector.specs.Packet.{Slice}
 use Rattle.packet_collector.specs.Filled.{slice_in}
-use Rattle.picture_recon.specs.Samples.{mb_in, sample_in}
+use Rattle.h263_types.specs.Blocks.{mb_in}
+use Rattle.picture_recon.specs.Samples.{sample_in}
 use Rattle.packet_cutter.specs.Packets.{ArePacketsOf}
 use Rattle.h263rps.specs.Sent.{AreSent}
 use Rattle.h263rps.specs.Received.{SetsSlice, ShowsFirst}

@@ -10,7 +10,8 @@ use Rattle.h263_planes.specs.Picture.{Picture}
 use Rattle.h263_planes.specs.Blocks.{mb_of}
 use Rattle.h263_planes.specs.Samples.{Inside, sample_at}
 use Rattle.picture_header.specs.declared.header.Header.{Header}
-use Rattle.picture_recon.specs.Samples.{mb_in, sample_in}
+use Rattle.h263_types.specs.Blocks.{mb_in}
+use Rattle.picture_recon.specs.Samples.{sample_in}
 use Rattle.packet_collector.specs.declared.collector.Collector.{Collector}
 use Rattle.packet_collector.specs.Collected.{Collects}
 use Rattle.packet_collector.specs.Taken.{Taken, has_any, has_taken, is_whole, HasNoOther}

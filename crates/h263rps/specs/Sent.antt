@@ -4,11 +4,10 @@ use Rattle.h263_types.specs.declared.Kind.TheVariants.{I}
 use Rattle.h263_types.specs.declared.format.Format.{Format}
 use Rattle.h263_types.specs.declared.blocks.Mb.{Mb}
 use Rattle.h263_types.specs.declared.params.Params.{Params}
-use Rattle.h263_types.specs.Blocks.{HasQuant, IsMb, IsOfKind}
+use Rattle.h263_types.specs.Blocks.{HasQuant, IsMb, IsOfKind, mb_in}
 use Rattle.h263_types.specs.References.{ReachesInside}
 use Rattle.h263_types.specs.Sizes.{mbs_of}
 use Rattle.picture_header.specs.declared.header.Header.{Header}
-use Rattle.picture_recon.specs.Samples.{mb_in}
 use Rattle.macroblock_layer.specs.Written.{IsWhole}
 
 -- the parameters of a call

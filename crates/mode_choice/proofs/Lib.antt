@@ -1,4 +1,3 @@
-pub mod Steps
 pub mod Levels
 pub mod Blocks
 pub mod Differences

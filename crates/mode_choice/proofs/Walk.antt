@@ -8,18 +8,13 @@ use Rattle.std.proofs.lemmas.Bool.Decides.{nat_tests}
 use Rattle.std.proofs.lemmas.List.{get_or-replicate}
 use Rattle.std.proofs.lemmas.List.Elements.{All-set, All-replicate}
 use Rattle.h263_types.specs.Blocks.{IsLevel, IsQuant}
-use Rattle.quantiser.specs.Zigzag.{order, block_place_of, zigzag_place_of}
+use Rattle.quantiser.specs.Zigzag.{IsOneOrder, order, block_place_of, zigzag_place_of}
 use Rattle.mode_choice.specs.declared.coefficients.Coding.{Coding}
 use Rattle.mode_choice.specs.declared.coefficients.Coding.TheVariants.{Intra, Inter}
 use Rattle.mode_choice.specs.Walk.{AreWalked, least_of, level_by, level_in}
 use Rattle.idct8.specs.Transform.{entry, forward_at}
 use Rattle.mode_choice.specs.Choice.{coefficient_at}
 use Rattle.mode_choice.proofs.Levels.{has_level, is_forward, no_level}
-
--- what the law of the zigzag order says
-pub record IsOneOrder : Type 0 where
-  pub from_order : (k : ℕ) → k < 64 → zigzag_place_of (block_place_of k) ≡ k
-  pub from_block : (at : ℕ) → at < 64 → block_place_of (zigzag_place_of at) ≡ at
 
 -- ---- the level of one coefficient
 

@@ -27,7 +27,7 @@ fn luma_samples(frame: PictureRef<'_>, mb: u32) -> [u8; 256]
     ensures { result ≡ samples_of (picture frame.entry) mb }
 {
     let mut samples = [0; 256];
-    luma(frame, mb, Vector { x: 0, y: 0 }, 0, &mut samples);
+    luma(frame, mb, Vector::ZERO, 0, &mut samples);
     samples
 }
 

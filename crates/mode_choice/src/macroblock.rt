@@ -17,6 +17,7 @@ use crate::predicted::predicted_blocks;
 use crate::residual::{are_empty, residual_block};
 use crate::samples::{block_residuals, block_samples};
 use h263_planes::PictureRef;
+use h263_types::laws::one_more;
 use h263_types::{Block, Mb, Params, Vector};
 use motion_search::search;
 use picture_header::Header;
@@ -125,6 +126,7 @@ fn inter_blocks(
     requires reach { InReach (picture reference).format mb vector.x vector.y }
     ensures { result ≡ choice.residual_blocks_of (picture frame.entry) (picture reference.entry) header.now.quant keep header.now.rounding mb vector }
 {
+    one_more::<Block>();
     let predicted = predicted_blocks(reference, mb, vector, header.rounding);
     let mut coded = [Block { levels: [0; 64] }; 6];
     for block in 0..6u32 {

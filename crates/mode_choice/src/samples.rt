@@ -6,6 +6,7 @@ ghost use Rattle.idct8.specs.Ranges.{IsSample};
 ghost use Rattle.mode_choice.specs.Choice.{sample_in_block, samples_of};
 
 use h263_planes::{PictureRef, block_corner};
+use h263_types::laws::one_more;
 use std::simd::prelude::*;
 
 // The samples of block `block` of macroblock `mb`, by rows.
@@ -38,6 +39,7 @@ pub(crate) fn block_residuals(
     ensures residuals { (k : ℕ) → k < 64 → slice_index_or result k (pos 0) ≡ (pos (sample_in_block (picture frame.entry) mb block k) -ℤ pos (slice_index predicted.now k)) }
     ensures range { All IsSample result }
 {
+    one_more::<i16>();
     let mut residuals = block_samples(frame, mb, block);
     for k in 0..64 {
         residuals[k] -= i16::from(predicted[k]);

@@ -1,8 +1,7 @@
 -- Blocks of 16 x 16 samples and their differences.
-use Rattle.std.proofs.Common.{◌≡◌, refl, sym, ap, subst, ◌∙◌, arith, ℕ, ◌+◌, ◌-◌, ◌*◌, ◌/◌, ◌%◌, ◌<◌, ◌≤◌, List, [], ◌∷◌, ◌++◌, length, get_or, drop, take, slice_range, w8, pos, ◌-ℤ◌, lit<}
-use lib.Lanes.{zip2, Each1, chunk}
-use Rattle.std.specs.Int.{abs_diff}
-use Rattle.std.proofs.lemmas.Simd.{sum_bound, length-zip2, length-chunk, chunk-drop, chunk-fits, below_from_Fits, Each1-from_get_or}
+use Rattle.std.proofs.Common.{◌≡◌, refl, sym, ap, subst, ◌∙◌, arith, ℕ, ◌+◌, ◌-◌, ◌*◌, ◌/◌, ◌%◌, ◌<◌, ◌≤◌, List, ◌++◌, length, get_or, drop, take, slice_range, pos, ◌-ℤ◌, lit<}
+use lib.Lanes.{chunk}
+use Rattle.std.proofs.lemmas.Simd.{length-chunk, chunk-drop}
 use Rattle.std.proofs.lemmas.Grind.{same_number_lists}
 use Rattle.std.proofs.lemmas.List.FromFn.{length-map-range_with_len, get_or-map-range_with_len}
 use Rattle.std.proofs.lemmas.List.{get_or-take, get_or-drop}
@@ -40,24 +39,6 @@ is_square xs f long same =
     let row : k / 16 < 16 = omega arith in
     subst (λ (m : ℕ). get_or xs m 0 ≡ get_or (square f) m 0) place
     (same (k / 16) (k % 16) row (omega arith) ∙ sym (get_or-square f (k / 16) (k % 16) row (omega arith))))
-
--- ---- differences of bytes
-
-each_small : (xs ys : List ℕ) → Each1 (λ x. x < 256) xs → Each1 (λ x. x < 256) ys → Each1 (λ d. d ≤ 255) (zip2 abs_diff xs ys)
-each_small [] ys hx hy = tt
-each_small (x ∷ xs) [] hx hy = tt
-each_small (x ∷ xs) (y ∷ ys) hx hy = (omega (arith, hx.0, hy.0), each_small xs ys hx.1 hy.1)
-
-bytes : (xs : List ℕ) → ((i : ℕ) → get_or xs i 0 < 256) → Each1 (λ x. x < 256) xs
-bytes xs h = Each1-from_get_or (λ x. x < 256) xs 0 (λ i hi. h i)
-
-differences_below : (xs ys : List ℕ) (n : ℕ) → length xs ≡ n → length ys ≡ n → Each1 (λ x. x < 256) xs → Each1 (λ x. x < 256) ys → differences xs ys ≤ 255 * n
-differences_below xs ys n ex ey hx hy =
-    let long : length (zip2 abs_diff xs ys) ≡ n = length-zip2 abs_diff xs ys (ex ∙ sym ey) ∙ ex in
-    subst (λ k. differences xs ys ≤ 255 * k) long (sum_bound 255 (zip2 abs_diff xs ys) (each_small xs ys hx hy))
-
-pub differences_small : (xs ys : List ℕ) (n : ℕ) → length xs ≡ n → length ys ≡ n → ((i : ℕ) → get_or xs i 0 < 256) → ((i : ℕ) → get_or ys i 0 < 256) → differences xs ys ≤ 255 * n
-differences_small xs ys n ex ey hx hy = differences_below xs ys n ex ey (bytes xs hx) (bytes ys hy)
 
 -- ---- the differences that a vector leaves
 
@@ -114,14 +95,6 @@ pub one_row_of_two : (block other : List ℕ) (j : ℕ) →
 unfolding rows_from
 one_row_of_two block other j add hj hb ho =
     cc (row_cut block other j add hj hb ho, part_is block (16 * j) 16, part_is other (16 * j) 16)
-
-pub row_small : (block row : List ℕ) (j : ℕ) → j < 16 → length block ≡ 256 → length row ≡ 16 → ((i : ℕ) → get_or block i 0 < 256) → ((i : ℕ) → get_or row i 0 < 256) →
-    differences (slice_range block (16 * j) (16 * j + 16)) row ≤ 4080
-row_small block row j hj hb hr fb fr =
-    let e : slice_range block (16 * j) (16 * j + 16) ≡ chunk (16 * j) 16 block = part_is block (16 * j) 16 in
-    let long : length (chunk (16 * j) 16 block) ≡ 16 = length-chunk (16 * j) 16 block (omega arith) in
-    subst (λ (l : List ℕ). differences l row ≤ 4080) (sym e)
-    (differences_below (chunk (16 * j) 16 block) row 16 long hr (below_from_Fits w8 (chunk (16 * j) 16 block) (chunk-fits w8 (16 * j) 16 block (λ k. record { fits = fb k }))) (bytes row fr))
 
 pub one_row_of : (p : Picture) (block row : List ℕ) (x y j : ℕ) →
     ((xs ys us vs : List ℕ) → length xs ≡ length us → differences (xs ++ ys) (us ++ vs) ≡ differences xs us + differences ys vs) →

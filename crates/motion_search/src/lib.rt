@@ -55,7 +55,7 @@ fn samples(frame: PictureRef<'_>, mb: u32) -> [u8; 256]
     ensures { result ≡ samples_of (picture frame.entry) mb }
 {
     let mut block = [0; 256];
-    luma(frame, mb, Vector { x: 0, y: 0 }, 0, &mut block);
+    luma(frame, mb, Vector::ZERO, 0, &mut block);
     block
 }
 

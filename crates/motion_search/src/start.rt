@@ -18,7 +18,7 @@ pub(crate) fn zero(block: &[u8; 256], reference: PictureRef<'_>, mb: u32) -> Can
 {
     let (column, row) = mb_place(reference.format(), mb);
     with_differences(
-        Vector { x: 0, y: 0 },
+        Vector::ZERO,
         differences_at(block, reference, 16 * column, (16 * row) as u16),
     )
 }

@@ -11,7 +11,8 @@ use Rattle.h263_planes.specs.Picture.{Picture}
 use Rattle.h263_planes.specs.Samples.{Inside, sample_at}
 use Rattle.h263_types.specs.declared.blocks.Mb.{Mb}
 use Rattle.picture_header.specs.declared.header.Header.{Header}
-use Rattle.picture_recon.specs.Samples.{mb_in, sample_in}
+use Rattle.h263_types.specs.Blocks.{mb_in}
+use Rattle.picture_recon.specs.Samples.{sample_in}
 use Rattle.picture_coder.specs.Coding.{ShowsFirst}
 
 -- one more macroblock: m is the sample's, `at` the one that was set, `val` what it is to be

@@ -6,7 +6,8 @@ use Rattle.h263_planes.specs.Blocks.{mb_of}
 use Rattle.h263_planes.specs.Picture.{Picture}
 use Rattle.h263_planes.specs.Samples.{Inside, IsPicture, sample_at}
 use Rattle.picture_header.specs.declared.header.Header.{Header}
-use Rattle.picture_recon.specs.Samples.{mb_in, sample_in}
+use Rattle.h263_types.specs.Blocks.{mb_in}
+use Rattle.picture_recon.specs.Samples.{sample_in}
 use Rattle.packet_cutter.specs.declared.cutter.Cutter.{Cutter}
 use Rattle.packet_cutter.specs.Cutting.{Holds, IsBegun, added_of, format_of, kind_of, quant_of}
 

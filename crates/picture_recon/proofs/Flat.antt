@@ -12,7 +12,8 @@ use Rattle.quantiser.specs.Levels.{value_of}
 use Rattle.quantiser.specs.Zigzag.{zigzag_place_of}
 use Rattle.picture_recon.specs.Samples.{inter_value, inter_values, intra_value, intra_values, limited}
 use Rattle.picture_recon.proofs.Kept.{other_value}
-use Rattle.picture_recon.proofs.Walk.{IsOneOrder, later, within}
+use Rattle.picture_recon.proofs.Walk.{later, within}
+use Rattle.quantiser.specs.Zigzag.{IsOneOrder}
 
 -- a sum whose terms are 0 but for the first
 first_alone : (n : ℕ) (f : ℕ → ℤ) → ((k : ℕ) → 1 ≤ k → k < suc n → f k ≡ pos 0) → sum_below (suc n) f ≡ f 0

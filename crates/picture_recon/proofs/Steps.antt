@@ -10,14 +10,6 @@ use Rattle.h263_planes.specs.Picture.{Picture}
 use Rattle.h263_planes.specs.Samples.{in_block, sample_at, same_plane}
 use Rattle.picture_recon.proofs.InSquare.{is_in, other_test}
 
--- one more element of a list
-pub one_more : {X : Type 0} (P : ℕ → X → Type 0) (xs : List X) (at : ℕ) (v d : X) → at < length xs → P at v →
-    ((k : ℕ) → k < at → P k (get_or xs k d)) → (k : ℕ) → k < at + 1 → P k (get_or (slice_set xs at v) k d)
-one_more P xs at v d room now before =
-    below_more (λ k. P k (get_or (slice_set xs at v) k d)) at
-    (λ k h. let other : k ≢ at = omega arith in subst (P k) (sym (get_or-set_other xs at k v d other)) (before k h))
-    (subst (P at) (sym (get_or-set_same xs at v d room)) now)
-
 -- a block whose first value is put in last
 with_first : (f : ℕ → ℤ) (xs : List ℤ) (v : ℤ) → length xs ≡ 64 → v ≡ f 0 →
     ((k : ℕ) → 1 ≤ k → k < 64 → get_or xs k (pos 0) ≡ f k) → (k : ℕ) → k < 64 → get_or (slice_set xs 0 v) k (pos 0) ≡ f k

@@ -10,14 +10,9 @@ use Rattle.std.proofs.lemmas.List.Elements.{All-set, All-replicate}
 use Rattle.h263_types.specs.declared.blocks.Block.{Block}
 use Rattle.h263_types.specs.Blocks.{IsValue, level_at}
 use Rattle.quantiser.specs.Levels.{value_of}
-use Rattle.quantiser.specs.Zigzag.{order, block_place_of, zigzag_place_of}
+use Rattle.quantiser.specs.Zigzag.{IsOneOrder, order, block_place_of, zigzag_place_of}
 use Rattle.picture_recon.specs.Samples.{inter_value}
 use Rattle.picture_recon.specs.Marks.{AreMarked, ArePut}
-
--- what the law of the zigzag order says
-pub record IsOneOrder : Type 0 where
-  pub from_order : (k : ℕ) → k < 64 → zigzag_place_of (block_place_of k) ≡ k
-  pub from_block : (at : ℕ) → at < 64 → block_place_of (zigzag_place_of at) ≡ at
 
 -- a place in the block that isn't the first is one of the order, and not its first
 pub later : (z at : ℕ) → block_place_of z ≡ at → 1 ≤ at → 1 ≤ z

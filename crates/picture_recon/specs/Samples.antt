@@ -7,7 +7,7 @@ use Rattle.h263_types.specs.declared.blocks.Mb.{Mb}
 use Rattle.h263_types.specs.declared.blocks.Mb.TheVariants.{Skip, Intra, Inter}
 use Rattle.h263_types.specs.declared.format.Format.{Format}
 use Rattle.h263_types.specs.declared.vector.Vector.{Vector}
-use Rattle.h263_types.specs.Blocks.{level_at}
+use Rattle.h263_types.specs.Blocks.{level_at, mb_in}
 use Rattle.h263_planes.specs.declared.Plane.{Plane}
 use Rattle.h263_planes.specs.Picture.{Picture}
 use Rattle.h263_planes.specs.Samples.{sample_at}
@@ -64,10 +64,6 @@ sample_in rounding reference (Intra quant blocks) plane x y =
     limited (inverse_at (intra_values quant (block_in blocks (block_of plane x y))) (y % 8) (x % 8))
 sample_in rounding reference (Inter quant vector blocks) plane x y =
     limited (pos (predicted_in rounding reference vector plane x y) +ℤ inverse_at (inter_values quant (block_in blocks (block_of plane x y))) (y % 8) (x % 8))
-
--- macroblock k of a picture
-abbrev pub mb_in : List Mb → ℕ → Mb
-mb_in mbs k = slice_index_or mbs k Skip
 
 -- The picture of macroblocks: each sample is by the macroblock and the block that hold it. Of the picture's header
 -- this takes the format and the rounding.

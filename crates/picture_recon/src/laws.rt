@@ -6,7 +6,8 @@ ghost use Rattle.h263_types.specs.declared.format.Format.{Format};
 ghost use Rattle.h263_planes.specs.Picture.{Picture};
 ghost use Rattle.h263_planes.specs.Blocks.{mb_of};
 ghost use Rattle.h263_planes.specs.Samples.{Inside, IsPicture, sample_at};
-ghost use Rattle.picture_recon.specs.Samples.{mb_in, reconstruction, sample_in};
+ghost use Rattle.h263_types.specs.Blocks.{mb_in};
+ghost use Rattle.picture_recon.specs.Samples.{reconstruction, sample_in};
 
 use h263_planes::laws::samples_are_picture;
 

@@ -1,7 +1,7 @@
 //! Reconstruction of macroblocks in their picture.
 ghost use Rattle.std.specs.Prelude.{◌≡◌, ℕ, ◌+◌, ◌<◌, ◌≤◌, ◌&&◌, length, nat_eq, nat_le, nat_lt, if◌then◌else◌, Option};
 ghost use Rattle.std.specs.Option.{option_map};
-ghost use Rattle.h263_types.specs.Blocks.{IsHeadOf, IsIntraMb, IsMb, IsOfKind};
+ghost use Rattle.h263_types.specs.Blocks.{IsHeadOf, IsIntraMb, IsMb, IsOfKind, mb_in};
 ghost use Rattle.h263_types.specs.References.{ReachesInside};
 ghost use Rattle.h263_types.specs.Sizes.{mbs_of};
 ghost use Rattle.h263_types.specs.declared.blocks.Mb.TheVariants.{Intra};
@@ -12,7 +12,7 @@ ghost use Rattle.h263_planes.specs.Picture.{Picture};
 ghost use Rattle.h263_planes.specs.References.{HasReference};
 ghost use Rattle.h263_planes.specs.Samples.{Inside, IsPicture, sample_at};
 ghost use Rattle.h263_planes.specs.Work.{loan_of, work};
-ghost use Rattle.picture_recon.specs.Samples.{mb_in, sample_in};
+ghost use Rattle.picture_recon.specs.Samples.{sample_in};
 
 use crate::blocks::put_block;
 use crate::predicted::put_inter;

@@ -76,7 +76,7 @@ fn add_block(
     ensures whole { IsPicture (work out.new) }
     ensures samples { (plane : Plane) (x y : ℕ) → Inside format plane x y 1 → sample_at (work out.new) plane x y ≡ (if nat_eq (mb_of format plane x y) at && nat_eq (block_of plane x y) block then limited (pos (sample_at (work out.old) plane x y) +ℤ inverse_at (inter_values quant levels.now) (y % 8) (x % 8)) else sample_at (work out.old) plane x y) }
 {
-    let marks = marks_of(&levels.levels);
+    let marks = marks_of(*levels);
     if marks == 0 {
         one_order();
         zeros_give_zeros();

@@ -1,8 +1,7 @@
 ghost use Rattle.std.specs.Prelude.{◌≡◌, ℕ, ◌<◌, ◌≤◌};
-ghost use Rattle.h263_types.specs.Blocks.{IsDc, IsInterBlock, IsIntraBlock, IsLevel, IsMb, IsOfKind};
+ghost use Rattle.h263_types.specs.Blocks.{IsDc, IsInterBlock, IsIntraBlock, IsLevel, IsMb, IsOfKind, mb_in};
 ghost use Rattle.h263_types.specs.Vectors.{InReach};
 ghost use Rattle.h263_types.specs.References.{ReachesInside};
-ghost use Rattle.picture_recon.specs.Samples.{mb_in};
 
 use super::*;
 use h263_planes::{PictureMut, PictureRef, Plane};

@@ -7,6 +7,7 @@ ghost use Rattle.picture_recon.specs.Samples.{inter_value, inter_values, intra_v
 ghost use Rattle.picture_recon.specs.Marks.{AreMarked};
 
 use h263_types::Block;
+use h263_types::laws::marks;
 use idct8::inverse;
 use quantiser::laws::one_order;
 use quantiser::{block_place, value};
@@ -19,7 +20,7 @@ pub(crate) fn intra_samples(quant: u8, block: &Block) -> [u8; 64]
     ensures { (y x : ℕ) → y < 8 → x < 8 → slice_index result (8 * y + x) ≡ limited (inverse_at (intra_values quant block.now) y x) }
 {
     one_order();
-    let marks = marks_of(&block.levels);
+    let marks = marks_of(*block);
     if marks == FIRST_ALONE {
         return flat(block.levels[0]);
     }
@@ -66,13 +67,11 @@ const FIRST_ALONE: u64 = 1;
 
 // Which levels aren't 0: bit k is for place k of the zigzag order.
 #[inline(always)]
-pub(crate) fn marks_of(levels: &[i16; 64]) -> u64
-    requires { (k : ℕ) → k < 64 → Within (2 ^ 8) (slice_index_or levels.now k (pos 0)) }
-    ensures { AreMarked levels.now result }
+pub(crate) fn marks_of(block: Block) -> u64
+    ensures { AreMarked block.levels result }
 {
-    Simd::from_array(*levels)
-        .simd_ne(Simd::splat(0))
-        .to_bitmask()
+    marks();
+    block.marks()
 }
 
 // The values of a block of an intra macroblock, by rows: 8 times INTRADC, and those of the other levels.

@@ -1,5 +1,5 @@
 -- The zigzag order of a block's levels (H.263, 6.2.3). A place in the block is 8 times its row and its column.
-use Rattle.std.specs.Prelude.{ℕ, List, [], ◌∷◌, slice_index}
+use Rattle.std.specs.Prelude.{◌≡◌, ℕ, ◌<◌, List, [], ◌∷◌, slice_index}
 
 -- the places in the block, in the order in which the levels stand
 abbrev pub order : List ℕ
@@ -28,3 +28,8 @@ block_place_of k = slice_index order k
 -- the place in the order of a place in the block
 unfoldable pub zigzag_place_of : ℕ → ℕ
 zigzag_place_of at = slice_index figure at
+
+-- each place of the zigzag order has a place in the block, and each place in the block one in the order
+pub record IsOneOrder : Type 0 where
+  pub from_order : (k : ℕ) → k < 64 → zigzag_place_of (block_place_of k) ≡ k
+  pub from_block : (at : ℕ) → at < 64 → block_place_of (zigzag_place_of at) ≡ at

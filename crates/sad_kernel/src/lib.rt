@@ -1,7 +1,7 @@
 //! Sums of absolute differences of samples, sixteen at a time.
 #![tactic(auto)]
 
-ghost use Rattle.std.specs.Prelude.{◌≡◌, ◌+◌, ◌≤◌, ◌<◌, ◌↔◌, length, IsNone, IfSome};
+ghost use Rattle.std.specs.Prelude.{◌≡◌, ◌+◌, ◌*◌, ◌≤◌, ◌<◌, ◌↔◌, length, IsNone, IfSome};
 ghost use Rattle.std.specs.Int.{abs_diff};
 ghost use Rattle.std.specs.Simd.Lanes.{chunk, zip2, Each1};
 ghost use Rattle.sad_kernel.specs.Differences.{differences};
@@ -17,7 +17,8 @@ const LANES: usize = 16;
 pub fn sad(a: &[u8], b: &[u8]) -> u32
     requires same_length { length a.now ≡ length b.now }
     requires at_most { length a.now ≤ 65536 }
-    ensures { result ≡ differences a.now b.now }
+    ensures value { result ≡ differences a.now b.now }
+    ensures most { result ≤ 255 * length a.now }
 {
     let mut total = 0;
     let mut at = 0;
@@ -62,7 +63,8 @@ pub fn sad_of_four(
     requires second { (length second.0.now ≡ 16) × (length second.1.now ≡ 16) }
     requires third { (length third.0.now ≡ 16) × (length third.1.now ≡ 16) }
     requires fourth { (length fourth.0.now ≡ 16) × (length fourth.1.now ≡ 16) }
-    ensures { result ≡ differences first.entry.0.now first.entry.1.now + differences second.entry.0.now second.entry.1.now + differences third.entry.0.now third.entry.1.now + differences fourth.entry.0.now fourth.entry.1.now }
+    ensures most { result ≤ 16320 }
+    ensures value { result ≡ differences first.entry.0.now first.entry.1.now + differences second.entry.0.now second.entry.1.now + differences third.entry.0.now third.entry.1.now + differences fourth.entry.0.now fourth.entry.1.now }
 {
     let upper = lanes(first.0, first.1, 0).strict_add(lanes(second.0, second.1, 0));
     let lower = lanes(third.0, third.1, 0).strict_add(lanes(fourth.0, fourth.1, 0));

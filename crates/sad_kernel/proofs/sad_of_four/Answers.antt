@@ -38,8 +38,21 @@ overflow_add-result-2 c =
       sum_small c.lanes-4.result c.lanes-4.ensures.length c.lanes-4.ensures.most,
     ))
 
-pub returns : goal.returns
-returns c =
+pub returns-clause-most : goal.returns-clause-most
+returns-clause-most c =
+    let all = sums (sums c.lanes.result c.lanes-2.result) (sums c.lanes-3.result c.lanes-4.result) in
+    omega (
+      arith,
+      fold-sum 0 all,
+      sum_of_four c.lanes.result c.lanes-2.result c.lanes-3.result c.lanes-4.result c.lanes.ensures.length c.lanes-2.ensures.length c.lanes-3.ensures.length c.lanes-4.ensures.length,
+      sum_small c.lanes.result c.lanes.ensures.length c.lanes.ensures.most,
+      sum_small c.lanes-2.result c.lanes-2.ensures.length c.lanes-2.ensures.most,
+      sum_small c.lanes-3.result c.lanes-3.ensures.length c.lanes-3.ensures.most,
+      sum_small c.lanes-4.result c.lanes-4.ensures.length c.lanes-4.ensures.most,
+    )
+
+pub returns-clause-value : goal.returns-clause-value
+returns-clause-value c =
     let all = sums (sums c.lanes.result c.lanes-2.result) (sums c.lanes-3.result c.lanes-4.result) in
     fold-sum 0 all
     ∙ omega (

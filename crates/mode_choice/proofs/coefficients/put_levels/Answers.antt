@@ -20,5 +20,5 @@ loop-at-preserved c =
     ∙ ap (λ (k : ℕ). cond (nat_lt k c.args.keep) (level_by c.args.coding c.args.quant (to_z w32 (of_z w32 z))) (pos 0)) c.zigzag_place.ensures.place
     ∙ ap (λ (f : ℤ). cond (nat_lt (zigzag_place_of at) c.args.keep) (level_by c.args.coding c.args.quant f) (pos 0)) (coefficient_kept z (c.requires.coefficients at below)) in
     subst Next (sym c.zigzag_place-in-loop-at.ensures.place)
-    (put (record { from_order = c.one_order.ensures.from_order; from_block = c.one_order.ensures.from_block }) c.args.coding c.args.quant c.args.keep c.args.coefficients.now at c.loop-at.levels v below
+    (put c.one_order.ensures c.args.coding c.args.quant c.args.keep c.args.coefficients.now at c.loop-at.levels v below
     (subst (λ (n : ℕ). n < 64) c.zigzag_place.ensures.place c.zigzag_place.ensures.range) level (subst IsLevel (sym same) c.level.ensures.range) c.loop-at.invariant)

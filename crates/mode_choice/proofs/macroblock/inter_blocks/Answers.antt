@@ -4,7 +4,6 @@ use Rattle.h263_types.specs.declared.blocks.Block.{Block}
 use Rattle.h263_planes.specs.Lent.{picture}
 use Rattle.mode_choice.specs.Choice.{residual_blocks_of, residual_levels_of, residuals_of}
 use Rattle.mode_choice.proofs.Blocks.{residuals_are}
-use Rattle.mode_choice.proofs.Steps.{one_more}
 use Rattle.mode_choice.proofs.macroblock.inter_blocks.Goals as goal
 
 pub loop-block-preserved : goal.loop-block-preserved
@@ -18,7 +17,7 @@ loop-block-preserved c =
     let now : c.residual_block.result ≡ block b = c.residual_block.ensures ∙ ap (λ (residuals : List ℤ). residual_levels_of c.args.header.now.quant c.args.keep residuals) left in
     let room : b < length c.loop-block.coded = omega (arith, c.loop-block.invariant.0) in (
       length-set c.loop-block.coded b _ ∙ c.loop-block.invariant.0,
-      λ d. one_more (λ (j : ℕ) (x : Block). x ≡ block j) c.loop-block.coded b c.residual_block.result d room now (c.loop-block.invariant.1 d),
+      λ d. c.one_more.ensures block c.loop-block.coded b c.residual_block.result d room now (c.loop-block.invariant.1 d),
     )
 
 pub returns : goal.returns

@@ -5,7 +5,6 @@ use Rattle.h263_planes.specs.Lent.{picture}
 use Rattle.idct8.specs.Ranges.{IsSample}
 use Rattle.mode_choice.specs.Choice.{sample_in_block}
 use Rattle.mode_choice.proofs.Blocks.{sample_of, samples_long}
-use Rattle.mode_choice.proofs.Steps.{one_more}
 use Rattle.mode_choice.proofs.samples.block_residuals.Goals as goal
 
 pub loop-k-init : goal.loop-k-init
@@ -31,7 +30,7 @@ loop-k-preserved c =
     let is : now ≡ (pos (sample k) -ℤ pos (get_or c.args.predicted.now k 0)) =
     difference_kept _ _ (sample k) (get_or c.args.predicted.now k 0) (c.loop-k.invariant.2 k (omega arith) c.loop-k-test.true) c.from.ensures (c.block_samples-residuals.ensures.bytes k c.loop-k-test.true) (c.fits-predicted k) in (
       length-set c.loop-k.residuals k _ ∙ c.loop-k.invariant.0,
-      one_more (λ (j : ℕ) (z : ℤ). z ≡ (pos (sample j) -ℤ pos (get_or c.args.predicted.now j 0))) c.loop-k.residuals k now (pos 0) room is c.loop-k.invariant.1,
+      c.one_more.ensures (λ (j : ℕ). pos (sample j) -ℤ pos (get_or c.args.predicted.now j 0)) c.loop-k.residuals k now (pos 0) room is c.loop-k.invariant.1,
       λ j after h. let other : j ≢ k = omega arith in get_or-set_other c.loop-k.residuals k j now (pos 0) other ∙ c.loop-k.invariant.2 j (omega arith) h,
     )
 

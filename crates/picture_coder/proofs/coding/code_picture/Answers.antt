@@ -7,7 +7,8 @@ use Rattle.h263_planes.specs.Blocks.{mb_of}
 use Rattle.h263_planes.specs.Lent.{picture}
 use Rattle.h263_planes.specs.Work as lent
 use Rattle.mode_choice.specs.Choice.{choices_of}
-use Rattle.picture_recon.specs.Samples.{mb_in, reconstruction, sample_in}
+use Rattle.h263_types.specs.Blocks.{mb_in}
+use Rattle.picture_recon.specs.Samples.{reconstruction, sample_in}
 use Rattle.packet_cutter.specs.Cutting.{Holds, packets_of, sequence_of}
 use Rattle.packet_cutter.specs.Packets.{ArePacketsOf}
 use Rattle.picture_coder.proofs.Choices.{all_choices, choice_at, one_choice_more}

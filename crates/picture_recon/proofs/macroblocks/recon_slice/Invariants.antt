@@ -5,7 +5,8 @@ use Rattle.h263_planes.specs.Blocks.{mb_of}
 use Rattle.h263_planes.specs.Lent.{picture}
 use Rattle.h263_planes.specs.Samples.{Inside, IsPicture, sample_at}
 use Rattle.h263_planes.specs.Work.{work, loan_of}
-use Rattle.picture_recon.specs.Samples.{mb_in, sample_in}
+use Rattle.h263_types.specs.Blocks.{mb_in}
+use Rattle.picture_recon.specs.Samples.{sample_in}
 use Rattle.picture_recon.proofs.macroblocks.recon_slice.Given as goal
 
 -- the macroblocks before `at` are written

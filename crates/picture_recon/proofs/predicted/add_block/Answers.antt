@@ -7,19 +7,16 @@ use Rattle.h263_planes.specs.Lent.{picture}
 use Rattle.h263_planes.specs.Samples.{Inside, sample_at}
 use Rattle.h263_planes.specs.Work.{work}
 use Rattle.picture_recon.specs.Samples.{inter_values, limited}
-use Rattle.picture_recon.proofs.Kept.{sample_kept, small_level}
+use Rattle.picture_recon.proofs.Kept.{sample_kept}
 use Rattle.picture_recon.proofs.Flat.{no_levels}
 use Rattle.picture_recon.proofs.Steps.{block_put, nothing_added}
 use Rattle.picture_recon.proofs.Walk.{none_at_all}
 use Rattle.picture_recon.proofs.predicted.add_block.Goals as goal
 
-pub marks_of-marks-requires : goal.marks_of-marks-requires
-marks_of-marks-requires c = λ k less. small_level (level_at c.args.levels.now k) (c.requires.levels.levels k less)
-
 pub returns-then-marks-eq0-clause-samples : goal.returns-then-marks-eq0-clause-samples
 returns-then-marks-eq0-clause-samples c = λ plane x y h.
     let values = inter_values c.args.quant c.args.levels.now in
-    let zeros = no_levels (record { from_order = c.one_order.ensures.from_order; from_block = c.one_order.ensures.from_block }) c.args.quant c.args.levels.now
+    let zeros = no_levels c.one_order.ensures c.args.quant c.args.levels.now
     (none_at_all c.args.levels.now c.marks_of-marks.result c.marks_of-marks.ensures c.if-marks-eq0.true) in
     nothing_added (mb_of c.args.format plane x y) c.args.at (block_of plane x y) c.args.block (sample_at (work c.args.out.now) plane x y) _
     (λ here. sample_kept (sample_at (work c.args.out.now) plane x y) (inverse_at values (y % 8) (x % 8)) (c.requires.samples plane x y h here) (c.zeros_give_zeros.ensures values zeros (y % 8) (x % 8)))

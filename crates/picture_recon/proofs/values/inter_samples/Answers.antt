@@ -13,7 +13,7 @@ pub returns-then-marks-eq-FIRST_ALONE : goal.returns-then-marks-eq-FIRST_ALONE
 returns-then-marks-eq-FIRST_ALONE c = λ y x hy hx.
     let block = c.args.block.now in
     let none = none_later block c.args.marks c.requires.marked c.if-marks-eq-FIRST_ALONE.true in
-    let number = number_of_first (record { from_order = c.one_order.ensures.from_order; from_block = c.one_order.ensures.from_block }) c.args.quant block none y x hy hx in
+    let number = number_of_first c.one_order.ensures c.args.quant block none y x hy hx in
     let value = c.value.ensures.value ∙ ap (value_of c.args.quant) (kept_level (level_at block 0) (c.requires.block.levels 0 (lit< tt))) in
     c.limited_sums_with_one.ensures (8 * y + x) (omega arith)
     ∙ ap (λ (z : ℤ). limited (pos (get_or c.args.predicted.now (8 * y + x) 0) +ℤ z)) (kept_number c.number_of_first-number.result c.number_of_first-number.ensures.range ∙ c.number_of_first-number.ensures.value

@@ -10,7 +10,7 @@ use Rattle.picture_recon.proofs.values.values_but_first.Goals as goal
 
 pub marks-init : goal.marks-init
 marks-init c = (
-  starts (record { from_order = c.one_order.ensures.from_order; from_block = c.one_order.ensures.from_block }) c.args.quant c.args.block.now c.args.marks _ c.requires.marked
+  starts c.one_order.ensures c.args.quant c.args.block.now c.args.marks _ c.requires.marked
       (λ i less differs. bit_at_clear_other w64 c.args.marks 0 (lit< tt) i less differs),
   bit_at_clear_same w64 c.args.marks 0 (lit< tt),
 )
@@ -40,7 +40,7 @@ marks-preserved c =
     let level = c.requires.levels k mark.0 mark.1 in
     let same = kept c.value.result c.value.ensures.range in
     let v = to_z w16 (of_z w16 c.value.result) in
-    let next = put (record { from_order = c.one_order.ensures.from_order; from_block = c.one_order.ensures.from_block }) quant block k rest left c.marks.values v mark.1
+    let next = put c.one_order.ensures quant block k rest left c.marks.values v mark.1
     (subst (λ (n : ℕ). n < 64) c.block_place.ensures.place c.block_place.ensures.range)
     (same ∙ c.value.ensures.value ∙ ap (value_of quant) (kept_level (level_at block k) level))
     (subst IsValue (sym same) c.value.ensures.range) gone others c.marks.invariant.0 in
@@ -51,5 +51,5 @@ marks-preserved c =
 
 pub returns-clause-values : goal.returns-clause-values
 returns-clause-values c =
-    ends (record { from_order = c.one_order.ensures.from_order; from_block = c.one_order.ensures.from_block }) c.args.quant c.args.block.now
+    ends c.one_order.ensures c.args.quant c.args.block.now
     c.marks.rest c.marks.values c.marks-test.false c.marks.invariant.0
