@@ -1,31 +1,33 @@
--- The 24 bits of a message, as a number and field by field.
-use Rattle.std.proofs.Common.{◌≡◌, ℕ, ◌+◌, ◌*◌, ◌/◌, ◌%◌, ◌^◌, ◌<◌, ◌≤◌, Bool, true, false, cond, List, [], ◌∷◌, ◌++◌, length, Option, Some, None, Ok, refl, sym, ap, subst, ◌∙◌, arith}
-use Rattle.std.specs.Prelude.{nat_lt, not, ◌==◌, ◌||◌, ◌&&◌}
-use Rattle.std.proofs.Math.Nat.{mod-eq_of_lt}
-use Rattle.std.proofs.lemmas.Bool.{ltb-false, le-ltb, eqb-true}
+-- The first 24 bits of a message, as a number and field by field.
+use Rattle.std.proofs.Common.{◌≡◌, ℕ, ◌+◌, ◌*◌, ◌/◌, ◌%◌, ◌^◌, ◌<◌, ◌≤◌, Bool, true, false, cond, List, [], ◌∷◌, ◌++◌, Option, Some, None, refl, sym, ap, ◌∙◌, arith, eq-eqb}
+use Rattle.std.specs.Prelude.{nat_le, not, ◌==◌, ◌&&◌}
+use Rattle.std.proofs.lemmas.Bool.{ltb-false, leb-false, lt-leb, eqb-true, eqb-false}
 use Rattle.std.proofs.lemmas.List.{append-nil}
-use Rattle.std.proofs.Common.{eq-eqb}
-use Rattle.h263_bits.specs.Bits.{spelled, bits_of, number, fields}
-use Rattle.h263_bits.specs.Syntax.{Spells, IsProductive, done}
-use Rattle.h263_bits.proofs.SyntaxLaws.{spelled-append, length-bits_of, length-spelled, number-spelled, spelled-number, number-lt, spells_field, spells_done, spells_whole}
-use Rattle.back_messages.specs.declared.Message.{Message}
-use Rattle.back_messages.specs.declared.Message.TheVariants.{Ack, Nack}
-use Rattle.back_messages.specs.declared.MessageFault.{MessageFault}
-use Rattle.back_messages.specs.declared.MessageFault.TheVariants.{Length}
-use Rattle.back_messages.specs.Text.{IsMessage, message_fields, code_of, fault_of, value_of, message_fault, message_value, message_of, message_in, unless, message, is_message, is_fault}
+use Rattle.h263_bits.specs.Bits.{spelled, fields}
+use Rattle.h263_bits.specs.Syntax.{same_bit}
+use Rattle.h263_bits.proofs.SyntaxLaws.{spelled-append}
+use Rattle.h263_types.specs.declared.clock.Clock.{Clock}
+use Rattle.h263_types.specs.declared.clock.Clock.TheVariants.{Standard, Custom}
+use Rattle.h263_types.specs.Clocks.{period_of}
+use Rattle.back_messages.specs.declared.message.Message.{Message}
+use Rattle.back_messages.specs.declared.message.Message.TheVariants.{Ack, Nack}
+use Rattle.back_messages.specs.declared.message.MessageFault.{MessageFault}
+use Rattle.back_messages.specs.Text.{AreMarks, IsMessage, urf_of, first_text, marks_of, fault_of, value_of, is_long, message_fault, message_value}
 
 -- ---- what is written
 
+abbrev pub code_from : ℕ → ℕ → ℕ → ℕ → ℕ
+code_from type urf tr rtr = type * 2 ^ 22 + urf * 2 ^ 21 + tr * 2 ^ 11 + 2 ^ 10 + rtr
+
 -- the fields of a type and two temporal references
-pub code_text : (kind tr rtr : ℕ) → kind < 4 → tr ≤ 255 → rtr ≤ 255 → spelled 24 (kind * 2 ^ 22 + tr * 2 ^ 11 + 2 ^ 10 + rtr) ≡ fields ((2, kind) ∷ (1, 0) ∷ (10, tr) ∷ (1, 1) ∷ (10, rtr) ∷ [])
-code_text kind tr rtr k t r =
+pub code_text : (type urf tr rtr : ℕ) → type < 4 → urf < 2 → tr < 2 ^ 10 → rtr < 2 ^ 10 → spelled 24 (code_from type urf tr rtr) ≡ fields ((2, type) ∷ (1, urf) ∷ (10, tr) ∷ (1, 1) ∷ (10, rtr) ∷ [])
+code_text type urf tr rtr k u t r =
     let low : ℕ = tr * 2 ^ 11 + (1 * 2 ^ 10 + rtr) in
-    let whole : kind * 2 ^ 22 + tr * 2 ^ 11 + 2 ^ 10 + rtr ≡ kind * 2 ^ 22 + low = omega arith in
-    let none : low ≡ 0 * 2 ^ 21 + low = omega arith in
-    ap (spelled 24) whole ∙ spelled-append 2 22 kind low (omega arith)
-    ∙ ap (λ (x : List Bool). spelled 2 kind ++ x) (
-    ap (spelled 22) none ∙ spelled-append 1 21 0 low (omega arith)
-    ∙ ap (λ (x : List Bool). spelled 1 0 ++ x) (
+    let whole : code_from type urf tr rtr ≡ type * 2 ^ 22 + (urf * 2 ^ 21 + low) = omega arith in
+    ap (spelled 24) whole ∙ spelled-append 2 22 type (urf * 2 ^ 21 + low) (omega arith)
+    ∙ ap (λ (x : List Bool). spelled 2 type ++ x) (
+    spelled-append 1 21 urf low (omega arith)
+    ∙ ap (λ (x : List Bool). spelled 1 urf ++ x) (
     spelled-append 10 11 tr (1 * 2 ^ 10 + rtr) (omega arith)
     ∙ ap (λ (x : List Bool). spelled 10 tr ++ x) (
     spelled-append 1 10 1 rtr (omega arith)
@@ -34,29 +36,33 @@ code_text kind tr rtr k t r =
     )
     )
 
-pub code_below : (kind tr rtr : ℕ) → kind < 4 → tr ≤ 255 → rtr ≤ 255 → kind * 2 ^ 22 + tr * 2 ^ 11 + 2 ^ 10 + rtr < 2 ^ 24
-code_below kind tr rtr k t r = omega arith
+pub code_below : (type urf tr rtr : ℕ) → type < 4 → urf < 2 → tr < 2 ^ 10 → rtr < 2 ^ 10 → code_from type urf tr rtr < 2 ^ 24
+code_below type urf tr rtr k u t r = omega arith
 
-pub message_text : (m : Message) → IsMessage m → spelled 24 (code_of m) ≡ fields (message_fields m)
-message_text (Ack tr) h = code_text 3 tr tr (omega arith) h h
-message_text (Nack tr rtr) h = code_text 2 tr rtr (omega arith) h.0 h.1
+pub urf_low : (marks : Option ℕ) → urf_of marks < 2
+urf_low None = omega arith
+urf_low (Some marks) = omega arith
 
-pub message_below : (m : Message) → IsMessage m → code_of m < 2 ^ 24
-message_below (Ack tr) h = code_below 3 tr tr (omega arith) h h
-message_below (Nack tr rtr) h = code_below 2 tr rtr (omega arith) h.0 h.1
+abbrev pub code_of : Message → ℕ
+code_of (Ack tr marks) = code_from 3 (urf_of marks) tr tr
+code_of (Nack tr rtr marks) = code_from 2 (urf_of marks) tr rtr
 
--- a number of 24 bits as three bytes
-pub three_bytes : (n : ℕ) → n < 2 ^ 24 → bits_of (n / 65536 ∷ n / 256 % 256 ∷ n % 256 ∷ []) ≡ spelled 24 n
-unfolding bits_of
-three_bytes n h =
-    let whole : n ≡ n / 65536 * 2 ^ 16 + (n / 256 % 256 * 2 ^ 8 + n % 256) = omega arith in
-    sym (
-    ap (spelled 24) whole ∙ spelled-append 8 16 (n / 65536) (n / 256 % 256 * 2 ^ 8 + n % 256) (omega arith)
-    ∙ ap (λ (x : List Bool). spelled 8 (n / 65536) ++ x) (
-    spelled-append 8 8 (n / 256 % 256) (n % 256) (omega arith)
-    ∙ ap (λ (x : List Bool). spelled 8 (n / 256 % 256) ++ x) (sym (append-nil (spelled 8 (n % 256))))
-    )
-    )
+pub period_low : (clock : Clock) (tr : ℕ) → tr < period_of clock → tr < 2 ^ 10
+period_low Standard tr h = omega arith
+period_low Custom tr h = omega arith
+
+pub first_is : (clock : Clock) (m : Message) → IsMessage clock m → spelled 24 (code_of m) ≡ first_text m
+first_is clock (Ack tr marks) h = let t = period_low clock tr h.0 in code_text 3 (urf_of marks) tr tr (omega arith) (urf_low marks) t t
+first_is clock (Nack tr rtr marks) h = code_text 2 (urf_of marks) tr rtr (omega arith) (urf_low marks) (period_low clock tr h.0) (period_low clock rtr h.1)
+
+pub first_below : (clock : Clock) (m : Message) → IsMessage clock m → code_of m < 2 ^ 24
+first_below clock (Ack tr marks) h = let t = period_low clock tr h.0 in code_below 3 (urf_of marks) tr tr (omega arith) (urf_low marks) t t
+first_below clock (Nack tr rtr marks) h = code_below 2 (urf_of marks) tr rtr (omega arith) (urf_low marks) (period_low clock tr h.0) (period_low clock rtr h.1)
+
+pub wide : (clock : Clock) (m : Message) → IsMessage clock m → IsMessage Custom m
+wide Standard (Ack tr marks) h = (omega (arith, h.0), h.1)
+wide Standard (Nack tr rtr marks) h = (omega (arith, h.0), omega (arith, h.1), h.2)
+wide Custom m h = h
 
 -- ---- what is read
 
@@ -65,166 +71,159 @@ passed : (t : Bool) (x : MessageFault) (o : Option MessageFault) → cond t (Som
 passed true x o e = absurd cc
 passed false x o e = (refl, e)
 
-neither : (a b : Bool) → (a || b) ≡ false → (a ≡ false) × (b ≡ false)
-neither true b e = absurd cc
-neither false b e = (refl, e)
-
 both_not : (a b : Bool) → (a && not b) ≡ false → a ≡ true → b ≡ true
 both_not true true e h = refl
 both_not true false e h = absurd cc
 both_not false b e h = absurd cc
 
-differs : (a b : ℕ) → (a == b) ≡ false → a ≡ b → ⊥
-differs a b e h = let t : (a == b) ≡ true = eq-eqb a b h in absurd cc
+not_true : (b : Bool) → not b ≡ false → b ≡ true
+not_true true e = refl
+not_true false e = absurd cc
+
+same : (a b : Bool) → same_bit a b ≡ true → a ≡ b
+same true true e = refl
+same true false e = absurd cc
+same false true e = absurd cc
+same false false e = refl
+
+same_itself : (a : Bool) → same_bit a a ≡ true
+same_itself true = refl
+same_itself false = refl
 
 -- fields without a fault
-pub record IsFaultless (type urf tr marker rtr : ℕ) : Type 0 where
+pub record IsFaultless (clock : Clock) (long : Bool) (type urf tr marker rtr : ℕ) : Type 0 where
   pub type_low : 2 ≤ type
-  pub urf_no : urf ≡ 1 → ⊥
-  pub tr_low : tr ≤ 255
+  pub length : long ≡ (urf == 1)
+  pub tr_low : tr < period_of clock
   pub marker_no : marker ≡ 0 → ⊥
-  pub rtr_low : rtr ≤ 255
+  pub rtr_low : rtr < period_of clock
   pub pair : type ≡ 3 → tr ≡ rtr
 
-faultless : (type urf tr marker rtr : ℕ) → fault_of type urf tr marker rtr ≡ None → IsFaultless type urf tr marker rtr
-faultless type urf tr marker rtr e =
+faultless : (clock : Clock) (long : Bool) (type urf tr marker rtr : ℕ) → fault_of clock long type urf tr marker rtr ≡ None → IsFaultless clock long type urf tr marker rtr
+faultless clock long type urf tr marker rtr e =
     let a = passed _ _ _ e in
-    let n = neither (nat_lt type 2) (urf == 1) a.0 in
-    let b = passed _ _ _ a.1 in
+    let n = passed _ _ _ a.1 in
+    let b = passed _ _ _ n.1 in
     let c = passed _ _ _ b.1 in
     let d = passed _ _ _ c.1 in
     let f = passed _ _ _ d.1 in
     record {
-      type_low = ltb-false type 2 n.0;
-      urf_no = differs urf 1 n.1;
-      tr_low = ltb-false 255 tr b.0;
-      marker_no = differs marker 0 c.0;
-      rtr_low = ltb-false 255 rtr d.0;
+      type_low = ltb-false type 2 a.0;
+      length = same long (urf == 1) (not_true (same_bit long (urf == 1)) n.0);
+      tr_low = leb-false (period_of clock) tr b.0;
+      marker_no = eqb-false marker 0 c.0;
+      rtr_low = leb-false (period_of clock) rtr d.0;
       pair = λ three. eqb-true tr rtr (both_not (type == 3) (tr == rtr) f.0 (eq-eqb type 3 three));
     }
 
 -- the value of faultless fields, and its number
-pub record IsValue (n : ℕ) (m : Message) : Type 0 where
-  pub range : IsMessage m
+pub record IsValue (clock : Clock) (n : ℕ) (m : Message) : Type 0 where
+  pub range : IsMessage clock m
   pub code : code_of m ≡ n
 
-value_is : (type urf tr marker rtr n : ℕ) → IsFaultless type urf tr marker rtr → type < 4 → urf < 2 → marker < 2 → type * 2 ^ 22 + urf * 2 ^ 21 + tr * 2 ^ 11 + marker * 2 ^ 10 + rtr ≡ n → IsValue n (value_of type tr rtr)
-value_is type urf tr marker rtr n f t u k e = at_type (type == 2) refl
+value_is : (clock : Clock) (long : Bool) (type urf tr marker rtr n : ℕ) (marks : Option ℕ) → IsFaultless clock long type urf tr marker rtr → urf ≡ urf_of marks → AreMarks marks → type < 4 → marker < 2
+    → type * 2 ^ 22 + urf * 2 ^ 21 + tr * 2 ^ 11 + marker * 2 ^ 10 + rtr ≡ n → IsValue clock n (value_of type tr rtr marks)
+value_is clock long type urf tr marker rtr n marks f u are t k e = at_type (type == 2) refl
   where
-    no_urf : urf ≡ 0
-    no_urf = omega (arith, f.urf_no)
-
     one : marker ≡ 1
     one = omega (arith, f.marker_no)
 
-    at_type : (b : Bool) → (type == 2) ≡ b → IsValue n (cond b (Nack tr rtr) (Ack tr))
-    at_type true h = record { range = (f.tr_low, f.rtr_low); code = omega (arith, eqb-true type 2 h, no_urf, one) }
+    at_type : (b : Bool) → (type == 2) ≡ b → IsValue clock n (cond b (Nack tr rtr marks) (Ack tr marks))
+    at_type true h = record { range = (f.tr_low, f.rtr_low, are); code = omega (arith, eqb-true type 2 h, u, one) }
     at_type false h =
-        let not_two = differs type 2 h in
+        let not_two = eqb-false type 2 h in
         let three : type ≡ 3 = omega (arith, f.type_low, not_two) in
-        record { range = f.tr_low; code = omega (arith, three, f.pair three, no_urf, one) }
+        record { range = (f.tr_low, are); code = omega (arith, three, f.pair three, u, one) }
 
-unless_ok : (o : Option MessageFault) (v m : Message) → unless o v ≡ Ok m → (o ≡ None) × (v ≡ m)
-unless_ok None v m e = (refl, cc)
-unless_ok (Some x) v m e = absurd cc
+-- URF and the marks say the same
+abbrev pub Agrees : Bool → Option ℕ → Type 0
+Agrees true None = ⊥
+Agrees true (Some marks) = Unit {0}
+Agrees false None = Unit {0}
+Agrees false (Some marks) = ⊥
 
-pub faultless_value : (n : ℕ) → n < 2 ^ 24 → message_fault n ≡ None → IsValue n (message_value n)
+urf_agrees : (long : Bool) (urf : ℕ) (marks : Option ℕ) → urf < 2 → long ≡ (urf == 1) → Agrees long marks → urf ≡ urf_of marks
+urf_agrees true urf None low e a = absurd a
+urf_agrees true urf (Some marks) low e a = eqb-true urf 1 (sym e)
+urf_agrees false urf None low e a = let no = eqb-false urf 1 (sym e) in omega (arith, no)
+urf_agrees false urf (Some marks) low e a = absurd a
+
+pub faultless_value : (clock : Clock) (long : Bool) (n : ℕ) (marks : Option ℕ) → n < 2 ^ 24 → message_fault clock long n ≡ None → Agrees long marks → AreMarks marks → IsValue clock n (message_value n marks)
 unfolding message_fault message_value
-faultless_value n h e = value_is (n / 2 ^ 22) (n / 2 ^ 21 % 2) (n / 2 ^ 11 % 2 ^ 10) (n / 2 ^ 10 % 2) (n % 2 ^ 10) n (faultless _ _ _ _ _ e) (omega arith) (omega arith) (omega arith) (omega arith)
+faultless_value clock long n marks h e a are =
+    let f = faultless clock long (n / 2 ^ 22) (n / 2 ^ 21 % 2) (n / 2 ^ 11 % 2 ^ 10) (n / 2 ^ 10 % 2) (n % 2 ^ 10) e in
+    let u = urf_agrees long (n / 2 ^ 21 % 2) marks (omega arith) f.length a in
+    value_is clock long (n / 2 ^ 22) (n / 2 ^ 21 % 2) (n / 2 ^ 11 % 2 ^ 10) (n / 2 ^ 10 % 2) (n % 2 ^ 10) n marks f u are (omega arith) (omega arith) (omega arith)
 
--- what is read of a number is the message of that number
-pub read_value : (n : ℕ) (m : Message) → n < 2 ^ 24 → message_of n ≡ Ok m → IsValue n m
-read_value n m h e =
-    let u = unless_ok (message_fault n) (message_value n) m e in
-    subst (IsValue n) u.1 (faultless_value n h u.0)
+pub fault_length : (clock : Clock) (long : Bool) (n : ℕ) → message_fault clock long n ≡ None → long ≡ is_long n
+unfolding message_fault
+fault_length clock long n e = (faultless clock long (n / 2 ^ 22) (n / 2 ^ 21 % 2) (n / 2 ^ 11 % 2 ^ 10) (n / 2 ^ 10 % 2) (n % 2 ^ 10) e).length
 
--- fields of a message have no fault
-ack_free : (tr : ℕ) → tr ≤ 255 → fault_of 3 0 tr 1 tr ≡ None
-ack_free tr h = rw (le-ltb 255 tr h, eq-eqb tr tr refl) refl
+pub value_marks : (n : ℕ) (marks : Option ℕ) → marks_of (message_value n marks) ≡ marks
+unfolding message_value
+value_marks n marks = at_type (n / 2 ^ 22 == 2)
+  where
+    at_type : (b : Bool) → marks_of (cond b (Nack (n / 2 ^ 11 % 2 ^ 10) (n % 2 ^ 10) marks) (Ack (n / 2 ^ 11 % 2 ^ 10) marks)) ≡ marks
+    at_type true = refl
+    at_type false = refl
 
-nack_free : (tr rtr : ℕ) → tr ≤ 255 → rtr ≤ 255 → fault_of 2 0 tr 1 rtr ≡ None
-nack_free tr rtr h k = rw (le-ltb 255 tr h, le-ltb 255 rtr k) refl
+-- ---- fields of a message have no fault
+
+-- whether a message is of five bytes
+abbrev pub is_marked_by : Option ℕ → Bool
+is_marked_by None = false
+is_marked_by (Some marks) = true
+
+pub agrees : (marks : Option ℕ) → Agrees (is_marked_by marks) marks
+agrees None = tt
+agrees (Some marks) = tt
+
+urf_is : (marks : Option ℕ) → same_bit (is_marked_by marks) (urf_of marks == 1) ≡ true
+urf_is None = refl
+urf_is (Some marks) = refl
+
+below_test : (clock : Clock) (tr : ℕ) → tr < period_of clock → nat_le (period_of clock) tr ≡ false
+below_test clock tr h = lt-leb (period_of clock) tr h
+
+ack_free : (clock : Clock) (tr : ℕ) (marks : Option ℕ) → tr < period_of clock → fault_of clock (is_marked_by marks) 3 (urf_of marks) tr 1 tr ≡ None
+ack_free clock tr marks h = rw (urf_is marks, below_test clock tr h, eq-eqb tr tr refl) refl
+
+nack_free : (clock : Clock) (tr rtr : ℕ) (marks : Option ℕ) → tr < period_of clock → rtr < period_of clock → fault_of clock (is_marked_by marks) 2 (urf_of marks) tr 1 rtr ≡ None
+nack_free clock tr rtr marks h k = rw (urf_is marks, below_test clock tr h, below_test clock rtr k) refl
 
 -- the parts of a message's number
-pub record HasParts (n kind tr rtr : ℕ) : Type 0 where
-  pub kind_is : n / 2 ^ 22 ≡ kind
-  pub urf_is : n / 2 ^ 21 % 2 ≡ 0
+pub record HasParts (n type urf tr rtr : ℕ) : Type 0 where
+  pub type_is : n / 2 ^ 22 ≡ type
+  pub urf_is : n / 2 ^ 21 % 2 ≡ urf
   pub tr_is : n / 2 ^ 11 % 2 ^ 10 ≡ tr
   pub marker_is : n / 2 ^ 10 % 2 ≡ 1
   pub rtr_is : n % 2 ^ 10 ≡ rtr
 
-parts : (kind tr rtr : ℕ) → kind < 4 → tr ≤ 255 → rtr ≤ 255 → HasParts (kind * 2 ^ 22 + tr * 2 ^ 11 + 2 ^ 10 + rtr) kind tr rtr
-parts kind tr rtr k t r = record { kind_is = omega arith; urf_is = omega arith; tr_is = omega arith; marker_is = omega arith; rtr_is = omega arith }
+parts : (type urf tr rtr : ℕ) → type < 4 → urf < 2 → tr < 2 ^ 10 → rtr < 2 ^ 10 → HasParts (code_from type urf tr rtr) type urf tr rtr
+parts type urf tr rtr k u t r = record { type_is = omega arith; urf_is = omega arith; tr_is = omega arith; marker_is = omega arith; rtr_is = omega arith }
 
-fault_parts : (n kind tr rtr : ℕ) → HasParts n kind tr rtr → message_fault n ≡ fault_of kind 0 tr 1 rtr
+fault_parts : (clock : Clock) (long : Bool) (n type urf tr rtr : ℕ) → HasParts n type urf tr rtr → message_fault clock long n ≡ fault_of clock long type urf tr 1 rtr
 unfolding message_fault
-fault_parts n kind tr rtr p = rw (p.kind_is, p.urf_is, p.tr_is, p.marker_is, p.rtr_is) refl
+fault_parts clock long n type urf tr rtr p = rw (p.type_is, p.urf_is, p.tr_is, p.marker_is, p.rtr_is) refl
 
-value_parts : (n kind tr rtr : ℕ) → HasParts n kind tr rtr → message_value n ≡ value_of kind tr rtr
+value_parts : (n type urf tr rtr : ℕ) (marks : Option ℕ) → HasParts n type urf tr rtr → message_value n marks ≡ value_of type tr rtr marks
 unfolding message_value
-value_parts n kind tr rtr p = rw (p.kind_is, p.tr_is, p.rtr_is) refl
+value_parts n type urf tr rtr marks p = rw (p.type_is, p.tr_is, p.rtr_is) refl
 
 -- the number of a message has no fault, and stands for that message
-pub code_free : (m : Message) → IsMessage m → message_fault (code_of m) ≡ None
-code_free (Ack tr) h = fault_parts _ 3 tr tr (parts 3 tr tr (omega arith) h h) ∙ ack_free tr h
-code_free (Nack tr rtr) h = fault_parts _ 2 tr rtr (parts 2 tr rtr (omega arith) h.0 h.1) ∙ nack_free tr rtr h.0 h.1
+pub record IsCode (clock : Clock) (m : Message) : Type 0 where
+  pub free : message_fault clock (is_marked_by (marks_of m)) (code_of m) ≡ None
+  pub value : message_value (code_of m) (marks_of m) ≡ m
 
-pub code_value : (m : Message) → IsMessage m → message_value (code_of m) ≡ m
-code_value (Ack tr) h = value_parts _ 3 tr tr (parts 3 tr tr (omega arith) h h)
-code_value (Nack tr rtr) h = value_parts _ 2 tr rtr (parts 2 tr rtr (omega arith) h.0 h.1)
+pub code_is : (clock : Clock) (m : Message) → IsMessage clock m → IsCode clock m
+code_is clock (Ack tr marks) h =
+    let t = period_low clock tr h.0 in
+    let p = parts 3 (urf_of marks) tr tr (omega arith) (urf_low marks) t t in
+    record { free = fault_parts clock _ _ 3 (urf_of marks) tr tr p ∙ ack_free clock tr marks h.0; value = value_parts _ 3 (urf_of marks) tr tr marks p }
+code_is clock (Nack tr rtr marks) h =
+    let p = parts 2 (urf_of marks) tr rtr (omega arith) (urf_low marks) (period_low clock tr h.0) (period_low clock rtr h.1) in
+    record { free = fault_parts clock _ _ 2 (urf_of marks) tr rtr p ∙ nack_free clock tr rtr marks h.0 h.1; value = value_parts _ 2 (urf_of marks) tr rtr marks p }
 
-pub code_read : (m : Message) → IsMessage m → message_of (code_of m) ≡ Ok m
-code_read m h = rw (code_free m h, code_value m h) refl
-
--- ---- bytes
-
--- the text of a message is read as that message
-pub text_read : (m : Message) (bytes : List ℕ) → IsMessage m → bits_of bytes ≡ fields (message_fields m) → message_in bytes ≡ Ok m
-unfolding message_in
-text_read m bytes h e =
-    let bits : bits_of bytes ≡ spelled 24 (code_of m) = e ∙ sym (message_text m h) in
-    let len : length bytes ≡ 3 = omega (arith, length-bits_of bytes, ap length bits, length-spelled 24 (code_of m)) in
-    let value : number (bits_of bytes) ≡ code_of m = ap number bits ∙ number-spelled 24 (code_of m) ∙ mod-eq_of_lt (message_below m h) in
-    rw (len, value) (code_read m h)
-
--- and nothing else is
-pub read_text : (m : Message) (bytes : List ℕ) → message_in bytes ≡ Ok m → IsMessage m × (bits_of bytes ≡ fields (message_fields m))
-unfolding message_in
-read_text m bytes e = at_length (length bytes == 3) refl e
-  where
-    short : (fault : MessageFault) → unless (Some fault) m ≡ Ok m → ⊥
-    short fault e = cc
-
-    at_length : (b : Bool) → (length bytes == 3) ≡ b → cond b (message_of (number (bits_of bytes))) (unless (Some Length) m) ≡ Ok m → IsMessage m × (bits_of bytes ≡ fields (message_fields m))
-    at_length false h e = absurd (short Length e)
-    at_length true h e =
-        let len : length (bits_of bytes) ≡ 24 = omega (arith, length-bits_of bytes, eqb-true (length bytes) 3 h) in
-        let small : number (bits_of bytes) < 2 ^ 24 = subst (λ (k : ℕ). number (bits_of bytes) < 2 ^ k) len (number-lt (bits_of bytes)) in
-        let v = read_value (number (bits_of bytes)) m small e in
-        let text : bits_of bytes ≡ spelled 24 (number (bits_of bytes)) = sym (spelled-number (bits_of bytes)) ∙ ap (λ (k : ℕ). spelled k (number (bits_of bytes))) len in
-        (v.range, text ∙ ap (spelled 24) (sym v.code) ∙ message_text m v.range)
-
--- ---- a message as a field
-
-pub field_spells : (m : Message) → IsMessage m → Spells message m (fields (message_fields m))
-unfolding message
-field_spells m h =
-    let free : is_message (code_of m) ≡ None = ap is_fault (code_free m h) in
-    let text : spelled 24 (code_of m) ++ [] ≡ fields (message_fields m) = append-nil (spelled 24 (code_of m)) ∙ message_text m h in
-    spells_whole _ m _ _ text (spells_field 24 is_message _ m (code_of m) [] (message_below m h) free (subst (λ (x : Message). Spells (done x) m []) (sym (code_value m h)) (spells_done m)))
-
-free_is : (o : Option MessageFault) → is_fault o ≡ None → o ≡ None
-free_is None e = refl
-free_is (Some x) e = absurd cc
-
-pub spelled_field : (m : Message) (bits : List Bool) → Spells message m bits → IsMessage m × (bits ≡ fields (message_fields m))
-unfolding message Spells
-spelled_field m bits h =
-    let v = faultless_value h.0 h.2 (free_is (message_fault h.0) h.3) in
-    let is : IsValue h.0 m = subst (IsValue h.0) (sym h.5.0) v in
-    let none : h.1 ≡ [] = h.5.1 in
-    (is.range, h.4 ∙ ap (λ (x : List Bool). spelled 24 h.0 ++ x) none ∙ append-nil (spelled 24 h.0) ∙ ap (spelled 24) (sym is.code) ∙ message_text m is.range)
-
-pub message_productive : IsProductive message
-unfolding message IsProductive
-message_productive = λ v. tt
+pub range_marks : (clock : Clock) (m : Message) → IsMessage clock m → AreMarks (marks_of m)
+range_marks clock (Ack tr marks) h = h.1
+range_marks clock (Nack tr rtr marks) h = h.2

@@ -1,27 +1,34 @@
 //! Laws over the definitions alone.
 ghost use Rattle.std.specs.Prelude.{◌≡◌, ℕ, ◌++◌, List, Bool, Ok};
-ghost use Rattle.h263_bits.specs.Bits.{bits_of, fields};
+ghost use Rattle.h263_bits.specs.Bits.{bits_of};
 ghost use Rattle.h263_bits.specs.Syntax.{Spells};
-ghost use Rattle.back_messages.specs.Text.{IsMessage, message_fields, message_in, message};
-ghost use Rattle.back_messages.specs.declared.Message.{Message};
+ghost use Rattle.h263_types.specs.declared.clock.Clock.{Clock};
+ghost use Rattle.back_messages.specs.Text.{IsMessage, message_text, message_in, message};
+ghost use Rattle.back_messages.specs.Laws.{MessageLaws};
+ghost use Rattle.back_messages.specs.declared.message.Message.{Message};
 
 /// Bytes are read as a message exactly where they are its text.
 pub fn exact_text()
-    ensures written { (m : Message) (bytes : List ℕ) → IsMessage m → bits_of bytes ≡ fields (message_fields m)
-        → message_in bytes ≡ Ok m }
-    ensures read { (m : Message) (bytes : List ℕ) → message_in bytes ≡ Ok m
-        → IsMessage m × (bits_of bytes ≡ fields (message_fields m)) }
+    ensures written { (clock : Clock) (m : Message) (bytes : List ℕ) → IsMessage clock m → bits_of bytes ≡ message_text m
+        → message_in clock bytes ≡ Ok m }
+    ensures read { (clock : Clock) (m : Message) (bytes : List ℕ) → message_in clock bytes ≡ Ok m
+        → IsMessage clock m × (bits_of bytes ≡ message_text m) }
 {}
 
-/// In a header the text of a message is the same 24 bits.
+/// In a header the text of a message is the same bits.
 pub fn field_text()
-    ensures written { (m : Message) → IsMessage m → Spells message m (fields (message_fields m)) }
-    ensures read { (m : Message) (bits : List Bool) → Spells message m bits
-        → IsMessage m × (bits ≡ fields (message_fields m)) }
+    ensures written { (clock : Clock) (m : Message) → IsMessage clock m → Spells (message clock) m (message_text m) }
+    ensures read { (clock : Clock) (m : Message) (bits : List Bool) → Spells (message clock) m bits
+        → IsMessage clock m × (bits ≡ message_text m) }
 {}
 
 /// Of two texts of which one begins the other both are the same, and spell the same message.
 pub fn one_reading()
-    ensures { (m n : Message) (x y more : List Bool) → Spells message m x → Spells message n y
+    ensures { (clock : Clock) (m n : Message) (x y more : List Bool) → Spells (message clock) m x → Spells (message clock) n y
         → x ++ more ≡ y → (x ≡ y) × (m ≡ n) }
+{}
+
+/// What a syntax that has messages in it needs to know of them.
+pub fn in_a_syntax()
+    ensures { MessageLaws }
 {}

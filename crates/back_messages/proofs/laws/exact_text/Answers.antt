@@ -1,4 +1,4 @@
-use Rattle.back_messages.proofs.Codes.{text_read, read_text}
+use Rattle.back_messages.proofs.Texts.{text_read, read_text}
 use Rattle.back_messages.proofs.laws.exact_text.Goals as goal
 
 pub returns : goal.returns

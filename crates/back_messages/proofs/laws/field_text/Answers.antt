@@ -1,4 +1,4 @@
-use Rattle.back_messages.proofs.Codes.{field_spells, spelled_field}
+use Rattle.back_messages.proofs.Texts.{field_spells, spelled_field}
 use Rattle.back_messages.proofs.laws.field_text.Goals as goal
 
 pub returns : goal.returns
