@@ -98,3 +98,15 @@ module _ {Frame Style Mb Picture Fault MessageFault : Type 0} (coding : Coding F
   abbrev pub ShownStays : Type 0
   ShownStays = (past : List Event) (e : Event) (n : ℕ) → n < played_before past →
       (mark_of (e ∷ past) n ≡ mark_of past n) × (shown (e ∷ past) n ≡ shown past n)
+
+  -- a picture that was sent keeps its reference, its depth and its reconstruction
+  abbrev pub CodedStays : Type 0
+  CodedStays = (past : List Event) (e : Event) (n : ℕ) → n < length (call_after past).coded →
+      (reference_of (e ∷ past) n ≡ reference_of past n) × (depth_of (e ∷ past) n ≡ depth_of past n) × (reconstruction_of (e ∷ past) n ≡ reconstruction_of past n)
+
+-- what the call says of events depends on the frames that they send alone
+abbrev pub SentFramesAlone : {Frame Style Mb Picture Fault MessageFault : Type 0} → Coding Frame Style Mb Picture Fault MessageFault → Rules → Type 0
+SentFramesAlone {Frame} {Style} {Mb} {Picture} {Fault} {MessageFault} coding rules =
+    (pace : List ℕ → ℕ) (frames others : List Frame) (past : List Event) →
+    ((i : ℕ) → i < sent_before past → slice_get frames i ≡ slice_get others i)
+    → ideal coding rules pace frames past ≡ ideal coding rules pace others past

@@ -1,12 +1,12 @@
 -- Calls of any sender whose pictures are sound, and the receiver's run in them.
-use Rattle.std.specs.Prelude.{◌≡◌, ℕ, ◌+◌, ◌%◌, ◌≤◌, ⊤, true, nat_lt, List, [], ◌∷◌, length, slice_get, Option, Some, None, Ok, option_and_then, if◌then◌else◌}
+use Rattle.std.specs.Prelude.{◌≡◌, ℕ, ◌+◌, ◌%◌, ◌≤◌, ⊤, true, nat_lt, List, [], ◌∷◌, length, slice_get, Option, Some, None, Ok, option_and_then, if◌then◌else◌, Bool, false}
 use Rattle.std.specs.Option.{option_map_or}
-use Rattle.call_model.specs.Coding.{Rules, window, period, Slice, Ack, Message, Pictures, Decoding, reconstruction_of_slices}
+use Rattle.call_model.specs.Coding.{Rules, window, period, Slice, Ack, Message, Pictures, Decoding, Coding, reconstruction_of_slices}
 use Rattle.call_model.specs.CodedPictures.{Coded, picture_at, is_among}
-use Rattle.call_model.specs.IdealCall.{Event, Send, Deliver, Play, Back, Call, Source, shown_last, has_arrived, is_full, newest_full, full_flags, with_arrival, call_from}
-use Rattle.call_model.specs.Sending.{header_of}
-use Rattle.call_model.specs.Receiving.{ReceiverRun, Heard, Late, Early, Repeat, Completed, Taken, nack, after_packet, after_play, receiver_run}
-use Rattle.call_model.specs.Lawful.{Covers}
+use Rattle.call_model.specs.IdealCall.{Event, Send, Deliver, Play, Back, Call, Source, IsNear, AllNearFrom, encoded, shown_at, shown_last, has_arrived, is_full, newest_full, full_flags, with_arrival, call_from}
+use Rattle.call_model.specs.Sending.{header_of, packets_of}
+use Rattle.call_model.specs.Receiving.{ReceiverRun, Heard, Refused, OtherClock, Late, Early, HeaderDiffers, MissingReference, Repeat, Overlap, Completed, Taken, nack, heard, played_mark, played_picture, played_message, after_packet, after_play, receiver_run}
+use Rattle.call_model.specs.Lawful.{Covers, IsPace}
 use Rattle.call_model.specs.TwoStores.{MatchArrivals, CompleteAreFull, PicturesAreThose}
 
 -- A picture is sound where it is sent: its slices cover it, it is what decoding gives of them, and
@@ -74,3 +74,48 @@ module _ {Style Mb Picture Fault : Type 0} (decoding : Decoding Style Mb Picture
         (slice_get (packets (call_from decoding.pictures rules source past).coded n) j) (received past)
     received (Play ∷ past) = after_play decoding rules (received past)
     received (_ ∷ past) = received past
+
+    -- each delivery of a slice is answered as the call says,
+    abbrev pub AnswersAsTheCall : ℕ → List Event → Type 0
+    AnswersAsTheCall count past = (n j : ℕ) (bytes : List ℕ) →
+        let c = call_from decoding.pictures rules source past in
+        IsNear rules count c (Deliver n j) → IsSoundEvent c (Deliver n j) → slice_get (packets c.coded n) j ≡ Some bytes
+        → heard decoding rules (received past) (decoding.read bytes) ≡ delivery_answer rules c n j
+
+    -- and each play shows what the call shows, and says what it says
+    abbrev pub PlaysAsTheCall : ℕ → List Event → Type 0
+    PlaysAsTheCall count past =
+        let c = call_from decoding.pictures rules source past in
+        IsNear rules count c Play
+        → (record { mark = played_mark decoding rules (received past); picture = played_picture decoding rules (received past) } ≡ shown_at decoding.pictures c.coded c.arrivals c.plays c.played)
+        × (played_message decoding rules (received past) ≡ play_message rules c)
+
+  -- A receiver in a near call of any sound sender is where the call is, and answers and plays as the
+  -- call says.
+  pub record Follows (source : Source Style Mb Picture) (packets : Packets Style Mb Picture) (count : ℕ) (past : List Event) : Type 0 where
+    pub state : ReceiverFollows (call_from decoding.pictures rules source past) (received source packets past)
+    pub answers : AnswersAsTheCall source packets count past
+    pub plays : PlaysAsTheCall source packets count past
+
+  abbrev pub AnySoundSender : Type 0
+  AnySoundSender = (source : Source Style Mb Picture) (packets : Packets Style Mb Picture) (count : ℕ) (past : List Event) →
+      AllNearFrom decoding.pictures rules source count past → AllSound source packets past → Follows source packets count past
+
+-- the answer refuses the packet
+abbrev pub is_refused : {Fault : Type 0} → Heard Fault → Bool
+is_refused (Refused fault) = true
+is_refused OtherClock = true
+is_refused HeaderDiffers = true
+is_refused MissingReference = true
+is_refused Overlap = true
+is_refused _ = false
+
+-- what a call says is no refusal
+abbrev pub NoneRefused : Type 0 → Type 0 → Type 0 → Type 0 → Type 0
+NoneRefused Style Mb Picture Fault = (rules : Rules) (c : Call Style Mb Picture) (n j : ℕ) → is_refused {Fault = Fault} (delivery_answer rules c n j) ≡ false
+
+-- the encoder's pictures are sound, and its packets are theirs, whatever the events
+abbrev pub EncoderIsSound : {Frame Style Mb Picture Fault MessageFault : Type 0} → Coding Frame Style Mb Picture Fault MessageFault → Rules → Type 0
+EncoderIsSound {Frame} {Style} {Mb} {Picture} {Fault} {MessageFault} coding rules =
+    (pace : List ℕ → ℕ) (frames : List Frame) (past : List Event) → IsPace pace
+    → AllSound coding.decoding rules (encoded coding rules pace frames) (packets_of coding.encoding rules) past
