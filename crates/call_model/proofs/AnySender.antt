@@ -1,15 +1,15 @@
 -- A receiver follows any sender whose pictures are sound.
-use Rattle.std.proofs.Common.{Ok, ◌≡◌, ℕ, ◌+◌, ◌<◌, ◌≤◌, Bool, true, false, refl, sym, ap, ◌∙◌, subst, arith, inl, inr, Option, Some, None, List, [], ◌∷◌, ◌++◌, length, ltb}
+use Rattle.std.proofs.Common.{Ok, ◌≡◌, ℕ, ◌+◌, ◌≤◌, Bool, true, false, refl, sym, ap, ◌∙◌, subst, arith, inl, inr, Option, Some, None, List, [], ◌∷◌, ◌++◌, length, ltb}
 use Rattle.std.specs.Prelude.{slice_get, if◌then◌else◌}
 use Rattle.std.specs.Option.{option_map_or}
 use Rattle.std.proofs.lemmas.List.{append-nil}
 use Rattle.std.proofs.lemmas.Option.{slice_get_cases}
 use Rattle.call_model.specs.Coding.{Rules, Message, Decoding}
 use Rattle.call_model.specs.CodedPictures.{Coded}
-use Rattle.call_model.specs.IdealCall.{has_arrived, is_full, with_arrival, Event, Send, Deliver, Play, Back, Call, Source, slices_at, shown_last, after, start, call_from, IsNear, AllNearFrom}
+use Rattle.call_model.specs.IdealCall.{has_arrived, is_full, with_arrival, Event, Send, Deliver, Play, Back, Call, Source, slices_at, after, call_from, IsNear, AllNearFrom}
 use Rattle.call_model.specs.Sending.{header_of}
-use Rattle.call_model.specs.Receiving.{TakenSlice, ReceiverRun, Heard, Late, Early, Repeat, Completed, Taken, heard, after_packet, after_play}
-use Rattle.call_model.specs.Sound.{IsSound, ReceiverFollows, Follows, IsSoundEvent, AllSound, Packets, received, delivery_answer, AnySoundSender, NoneRefused, is_refused}
+use Rattle.call_model.specs.Receiving.{TakenSlice, ReceiverRun, Late, Early, Repeat, Completed, Taken, heard, after_packet, after_play}
+use Rattle.call_model.specs.Sound.{IsSound, ReceiverFollows, IsSoundEvent, AllSound, Packets, received, delivery_answer, AnySoundSender, NoneRefused, is_refused}
 use Rattle.call_model.specs.Lawful.{IsDecoding, IsRules}
 use Rattle.call_model.proofs.Matching.{slices_at_is}
 use Rattle.call_model.proofs.Fullness.{full_is}

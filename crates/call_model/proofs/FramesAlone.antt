@@ -4,7 +4,7 @@ use Rattle.std.specs.Prelude.{slice_get, option_and_then}
 use Rattle.std.specs.Option.{option_map, option_map_or}
 use Rattle.std.proofs.lemmas.Option.{slice_get_cases}
 use Rattle.call_model.specs.Coding.{Rules, Coding, pictures_of}
-use Rattle.call_model.specs.CodedPictures.{Coded, depth_at, picture_at}
+use Rattle.call_model.specs.CodedPictures.{Coded}
 use Rattle.call_model.specs.IdealCall.{Event, Send, Deliver, Play, Back, Call, encoded, ideal, after}
 use Rattle.call_model.specs.Before.{sent_before, CodedStays, SentFramesAlone}
 use Rattle.call_model.proofs.ListLemmas.{slice_get_left}

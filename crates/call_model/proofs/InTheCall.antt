@@ -1,19 +1,17 @@
 -- What both ends do in a near call, event by event.
 use Rattle.std.proofs.Common.{◌≡◌, ℕ, ◌+◌, ◌<◌, refl, sym, ap, ◌∙◌, subst, Option, Some, None, List, [], ◌∷◌, length}
-use Rattle.std.specs.Prelude.{◌↔◌, slice_get, map}
+use Rattle.std.specs.Prelude.{slice_get}
 use Rattle.std.specs.Option.{option_map}
 use Rattle.std.proofs.lemmas.Option.{slice_get-map}
 use Rattle.call_model.specs.Coding.{Rules, Coding}
-use Rattle.call_model.specs.IdealCall.{Event, Send, Deliver, Play, Back, Note, about, Call, IsNear, ideal, AllNear, encoded}
+use Rattle.call_model.specs.IdealCall.{Event, Send, Deliver, Play, Back, Note, Call, IsNear, ideal, AllNear, encoded}
 use Rattle.call_model.specs.Sending.{packets_of}
-use Rattle.call_model.specs.Receiving.{TakenSlice, heard}
+use Rattle.call_model.specs.Receiving.{TakenSlice}
 use Rattle.call_model.specs.JoinedRun.{Told, Joined, IsNearBoth, AllNearBoth, joined, new_receiver}
-use Rattle.call_model.specs.Sound.{delivery_answer}
 use Rattle.call_model.specs.TwoStores.{told_of}
 use Rattle.call_model.specs.InTheCall.{PacketsAreAnswered, NearIsNearBoth, AllNearIsAllNearBoth}
 use Rattle.call_model.specs.Lawful.{IsCoding, IsRules, IsPace}
 use Rattle.call_model.proofs.Capturing.{all_sound}
-use Rattle.call_model.proofs.Steps.{run_at}
 use Rattle.call_model.proofs.TwoStores.{ends_of, follows, near_both}
 use Rattle.call_model.proofs.AnySender.{IsAt, answers_at}
 

@@ -1,13 +1,13 @@
 -- An event is refused exactly where it is not in place or not near.
-use Rattle.std.proofs.Common.{◌≡◌, ℕ, ◌+◌, ◌<◌, ◌≤◌, Bool, true, false, ◌&&◌, refl, sym, ap, ◌∙◌, subst, arith, inl, inr, Option, Some, None, List, [], ◌∷◌, length, leb}
+use Rattle.std.proofs.Common.{◌≡◌, ℕ, ◌+◌, ◌<◌, true, refl, sym, ap, ◌∙◌, arith, inl, inr, Option, Some, None, List, [], ◌∷◌, length, leb}
 use Rattle.std.specs.Prelude.{◌↔◌, slice_get, map, not, is_some, if◌then◌else◌}
 use Rattle.std.specs.Option.{option_map, option_map_or}
 use Rattle.std.proofs.lemmas.Bool.{cases_lt, le-leb, lt-leb, and_parts, and_from, false≢true}
 use Rattle.std.proofs.lemmas.Option.{slice_get-map}
 use Rattle.call_model.specs.Coding.{Rules, Pictures, Coding}
 use Rattle.call_model.specs.IdealCall.{Event, Send, Deliver, Play, Back, Note, about, Call, Source, IsNear, call_from, after, AllNearFrom}
-use Rattle.call_model.specs.JoinedRun.{Told, Joined, IsNearBoth}
-use Rattle.call_model.specs.Refusals.{Refusal, NotSent, NotSaid, Far, PlayBeforeSend, NoFrame, first_refusal, refusal_in, NoneWhereNear, NoneWhereNearBoth, Judged, judged_call, PassedWhereNear}
+use Rattle.call_model.specs.JoinedRun.{Told, IsNearBoth}
+use Rattle.call_model.specs.Refusals.{Refusal, NotSent, NotSaid, Far, PlayBeforeSend, NoFrame, first_refusal, refusal_in, NoneWhereNear, NoneWhereNearBoth, judged_call, PassedWhereNear}
 
 -- of two numbers the test leaves out
 one_test : (a b : ℕ) (r : Refusal) → ((if leb a b then Some r else None) ≡ None) ↔ (b < a)

@@ -1,11 +1,15 @@
 -- The coding of pictures of two samples meets the laws that are asked of a coding.
-use Rattle.std.proofs.Common.{◌≡◌, ◌↔◌, ◌&&◌, ℕ, zero, suc, ◌+◌, ◌-◌, ◌<◌, ◌≤◌, Bool, true, false, refl, sym, ap, ◌∙◌, subst, arith, inl, inr, Option, Some, None, Result, Ok, Err, List, [], ◌∷◌, length, eqb, ltb}
-use Rattle.std.specs.Prelude.{slice_get, map, slice_index_or, if◌then◌else◌}
+use Rattle.std.proofs.Common.{◌≡◌, ◌↔◌, ◌&&◌, ℕ, zero, suc, ◌+◌, ◌-◌, ◌<◌, ◌≤◌, Bool, true, false, refl, sym, ap, ◌∙◌, subst, arith, inl, inr, Option, Some, None, Result, Ok, Err, List, [], ◌∷◌, length, eqb, leb}
+use Rattle.std.specs.Prelude.{reverse, slice_get, map, slice_index_or, if◌then◌else◌}
 use Rattle.std.specs.Option.{option_map}
-use Rattle.std.proofs.lemmas.Bool.{and_parts, le-leb, lt-ltb, lt-leb, le-ltb, and_from, and_left, and_right, eq-eqb, eqb-true, ne_eqb, cases_eq, cases_lt, ltb-true}
+use Rattle.std.proofs.lemmas.Bool.{and_parts, leb-true, le-leb, lt-ltb, lt-leb, le-ltb, and_from, and_left, and_right, eq-eqb, eqb-true, ne_eqb, cases_eq, cases_lt}
 use Rattle.std.proofs.lemmas.Option.{slice_get-map}
 use Rattle.call_model.specs.Coding.{Rules, Slice, has_mb, Header, Piece, Message, Ack, Nack}
-use Rattle.call_model.specs.SmallCoding.{SmallMb, Same, Value, SmallStyle, SmallFault, Unread, small_sample, option_word, word_option, flag_words, word_flags, small_packet, small_header, small_piece, small_read, small_message, small_read_message, small_decoding, small}
+use Rattle.call_model.specs.SmallCoding.{SmallMb, Same, Value, SmallStyle, SmallFault, Unread, small_sample, option_word, word_option, flag_words, word_flags, small_packet, small_header, small_piece, small_read, small_message, small_read_message, small_pictures, small_decoding, small}
+use Rattle.call_model.specs.IdealCall.{encoded}
+use Rattle.call_model.specs.Worked.{ScenesAgree}
+use Rattle.call_model.proofs.Refusing.{passed_where_near}
+use Rattle.call_model.proofs.TwoStores.{two_stores}
 use Rattle.call_model.specs.Lawful.{Divides, IsDecoding, IsCoding}
 
 abbrev one : ℕ → SmallMb → Slice SmallMb
@@ -35,8 +39,8 @@ option_back None = refl
 option_back (Some m) = refl
 
 read_one : (header : Header SmallStyle) (place : ℕ) (mb : SmallMb) → place < 2 → small_read (small_packet header (one place mb)) ≡ Ok (record { header = header; slice = one place mb })
-read_one header place Same lt = rw (lt-ltb place 2 lt, option_back header.reference) refl
-read_one header place (Value value) lt = rw (lt-ltb place 2 lt, option_back header.reference) refl
+read_one header place Same lt = rw (le-leb (place + 1) 2 (omega arith), option_back header.reference) refl
+read_one header place (Value value) lt = rw (le-leb (place + 1) 2 (omega arith), option_back header.reference) refl
 
 none_left : (header : Header SmallStyle) (slices : List (Slice SmallMb)) (j : ℕ) → slice_get slices j ≡ None → slice_get (map (small_packet header) slices) j ≡ None
 none_left header slices j e = slice_get-map (small_packet header) slices j ∙ ap (option_map (small_packet header)) e
@@ -53,16 +57,16 @@ message_back (Nack n q flags) = rw (flags_back flags) refl
 abbrev IsInside : Piece SmallStyle SmallMb → Type 0
 IsInside piece = (0 < length piece.slice.mbs) × (piece.slice.first + length piece.slice.mbs ≤ 2)
 
-inside_piece : (header : Header SmallStyle) (place : ℕ) (mb : SmallMb) (piece : Piece SmallStyle SmallMb) → small_piece header place mb ≡ Ok piece → IsInside piece
-inside_piece header place mb piece e = go (ltb place 2) refl e
+inside_piece : (header : Header SmallStyle) (place : ℕ) (mbs : List SmallMb) (piece : Piece SmallStyle SmallMb) → 0 < length mbs → small_piece header place mbs ≡ Ok piece → IsInside piece
+inside_piece header place mbs piece some e = go (leb (place + length mbs) 2) refl e
   where
     read : Piece SmallStyle SmallMb
-    read = record { header = header; slice = one place mb }
+    read = record { header = header; slice = record { first = place; mbs = mbs } }
 
-    go : (t : Bool) → ltb place 2 ≡ t → (let answer : Result (Piece SmallStyle SmallMb) SmallFault = if t then Ok read else Err Unread in answer) ≡ Ok piece → IsInside piece
+    go : (t : Bool) → leb (place + length mbs) 2 ≡ t → (let answer : Result (Piece SmallStyle SmallMb) SmallFault = if t then Ok read else Err Unread in answer) ≡ Ok piece → IsInside piece
     go true is got =
         let same : read ≡ piece = cc in
-        subst IsInside same (omega arith, omega (arith, ltb-true place 2 is))
+        subst IsInside same (some, leb-true (place + length mbs) 2 is)
     go false is got = cc
 
 inside : (bytes : List ℕ) (piece : Piece SmallStyle SmallMb) → small_read bytes ≡ Ok piece → IsInside piece
@@ -72,9 +76,10 @@ inside (a ∷ b ∷ []) piece e = cc
 inside (a ∷ b ∷ c ∷ []) piece e = cc
 inside (a ∷ b ∷ c ∷ d ∷ []) piece e = cc
 inside (a ∷ b ∷ c ∷ d ∷ f ∷ []) piece e = cc
-inside (a ∷ b ∷ c ∷ d ∷ f ∷ g ∷ []) piece e = inside_piece (small_header a b c d f) g Same piece e
-inside (a ∷ b ∷ c ∷ d ∷ f ∷ g ∷ h ∷ []) piece e = inside_piece (small_header a b c d f) g (Value h) piece e
-inside (a ∷ b ∷ c ∷ d ∷ f ∷ g ∷ h ∷ i ∷ bytes) piece e = cc
+inside (a ∷ b ∷ c ∷ d ∷ f ∷ g ∷ []) piece e = inside_piece (small_header a b c d f) g (Same ∷ []) piece (omega arith) e
+inside (a ∷ b ∷ c ∷ d ∷ f ∷ g ∷ h ∷ []) piece e = inside_piece (small_header a b c d f) g (Value h ∷ []) piece (omega arith) e
+inside (a ∷ b ∷ c ∷ d ∷ f ∷ g ∷ h ∷ i ∷ []) piece e = inside_piece (small_header a b c d f) g (Value h ∷ Value i ∷ []) piece (omega arith) e
+inside (a ∷ b ∷ c ∷ d ∷ f ∷ g ∷ h ∷ i ∷ k ∷ bytes) piece e = cc
 
 sample_back : (f : ℕ → ℕ) (s : ℕ) → s < 2 → small_sample (record { left = f 0; right = f 1 }) s ≡ f s
 sample_back f zero lt = refl
@@ -146,3 +151,10 @@ small_lawful rules two = record {
       );
   no_packet = λ n sequence header slices j e. none_left header slices j e;
 }
+
+-- a scene whose events pass is near, and so both ends do what the ideal call says
+pub scenes_agree : ScenesAgree
+unfolding small
+scenes_agree scene fits passed =
+    let near = (passed_where_near small_pictures scene.rules (encoded small scene.rules scene.pace scene.frames) (length scene.frames) (reverse scene.events)).0 passed in
+    (two_stores small scene.rules (small_lawful scene.rules fits.two) fits.rules scene.pace scene.frames fits.pace (reverse scene.events) near).agree

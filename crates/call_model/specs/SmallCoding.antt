@@ -1,6 +1,6 @@
 -- A coding of pictures of two samples, over which calls can be computed: each sample is a
 -- macroblock and a slice of its own.
-use Rattle.std.specs.Prelude.{ℕ, zero, suc, nat_lt, ◌==◌, Bool, ◌&&◌, List, [], ◌∷◌, map, slice_index_or, Option, Some, None, Result, Ok, Err, if◌then◌else◌}
+use Rattle.std.specs.Prelude.{ℕ, zero, suc, ◌+◌, nat_le, length, ◌==◌, Bool, ◌&&◌, List, [], ◌∷◌, map, slice_index_or, Option, Some, None, Result, Ok, Err, if◌then◌else◌}
 use Rattle.std.specs.Option.{option_map}
 use Rattle.call_model.specs.Coding.{Slice, Header, Piece, Message, Ack, Nack, Pictures, Decoding, Encoding, Coding}
 
@@ -54,15 +54,16 @@ pub record SmallStyle : Type 0 where
   pub quant : ℕ
 
 -- A packet has six numbers: its picture's, the reference's, half the period, the depth, the
--- quantiser and the slice's place. Where its macroblock has a value of its own, that follows.
+-- quantiser and the slice's place. Where its macroblock has a value of its own, that follows. A
+-- packet of two macroblocks is read too, but not sent.
 abbrev pub small_packet : Header SmallStyle → Slice SmallMb → List ℕ
 small_packet header slice =
     header.number ∷ option_word header.reference ∷ header.half ∷ header.style.depth ∷ header.style.quant ∷ slice.first ∷ mb_words (slice_index_or slice.mbs 0 Same)
 
--- a header, and one macroblock at this place, which is 0 or 1
-abbrev pub small_piece : Header SmallStyle → ℕ → SmallMb → Result (Piece SmallStyle SmallMb) SmallFault
-small_piece header place mb =
-    if nat_lt place 2 then Ok (record { header = header; slice = record { first = place; mbs = mb ∷ [] } }) else Err Unread
+-- a header, and macroblocks from this place on, where they are within the picture
+abbrev pub small_piece : Header SmallStyle → ℕ → List SmallMb → Result (Piece SmallStyle SmallMb) SmallFault
+small_piece header place mbs =
+    if nat_le (place + length mbs) 2 then Ok (record { header = header; slice = record { first = place; mbs = mbs } }) else Err Unread
 
 abbrev pub small_header : (number reference half depth quant : ℕ) → Header SmallStyle
 small_header number reference half depth quant =
@@ -70,9 +71,11 @@ small_header number reference half depth quant =
 
 abbrev pub small_read : List ℕ → Result (Piece SmallStyle SmallMb) SmallFault
 small_read (number ∷ reference ∷ half ∷ depth ∷ quant ∷ place ∷ []) =
-    small_piece (small_header number reference half depth quant) place Same
+    small_piece (small_header number reference half depth quant) place (Same ∷ [])
 small_read (number ∷ reference ∷ half ∷ depth ∷ quant ∷ place ∷ value ∷ []) =
-    small_piece (small_header number reference half depth quant) place (Value value)
+    small_piece (small_header number reference half depth quant) place (Value value ∷ [])
+small_read (number ∷ reference ∷ half ∷ depth ∷ quant ∷ place ∷ left ∷ right ∷ []) =
+    small_piece (small_header number reference half depth quant) place (Value left ∷ Value right ∷ [])
 small_read _ = Err Unread
 
 -- flags as numbers, and back

@@ -1,13 +1,17 @@
 -- Calls of pictures of two samples, and what is read off them.
-use Rattle.std.specs.Prelude.{ℕ, zero, suc, ◌+◌, List, [], ◌∷◌, ◌++◌, map, reverse, replicate, slice_get, Option, Some, None}
+use Rattle.std.specs.Prelude.{◌≡◌, ℕ, zero, suc, ◌+◌, ◌-◌, ◌%◌, Bool, true, false, List, [], ◌∷◌, ◌++◌, length, map, reverse, replicate, slice_get, Option, Some, None}
 use Rattle.std.specs.Option.{option_map_or}
-use Rattle.call_model.specs.Coding.{Rules, Mark}
+use Rattle.std.specs.List.{sum}
+use Rattle.call_model.specs.Coding.{Rules, Mark, Message}
 use Rattle.call_model.specs.CodedPictures.{Coded}
-use Rattle.call_model.specs.IdealCall.{Event, Send, Deliver, Play, Back, Shown, Call, ideal}
-use Rattle.call_model.specs.Sending.{packets_of}
+use Rattle.call_model.specs.IdealCall.{Event, Send, Deliver, Play, Back, Shown, Call, encoded, ideal}
+use Rattle.call_model.specs.Sending.{packets_of, SenderRun, Capture, Feedback, Reply, feedback_answer, sender_run}
+use Rattle.call_model.specs.Refusals.{judged_call}
+use Rattle.call_model.specs.Lawful.{IsRules, IsPace}
+use Rattle.call_model.specs.TwoStores.{Agree}
 use Rattle.call_model.specs.Receiving.{Heard, heard, ReceiverEntry, Packet, PlayNext, receiver_run}
 use Rattle.call_model.specs.JoinedRun.{Told, Joined, joined, new_receiver}
-use Rattle.call_model.specs.SmallCoding.{Two, SmallStyle, SmallMb, Value, SmallFault, small_packet, small_read, small_decoding, small}
+use Rattle.call_model.specs.SmallCoding.{Two, SmallStyle, SmallMb, Value, SmallFault, option_word, small_packet, small_read, small_message, small_read_message, small_pictures, small_decoding, small_encoding, small}
 
 -- the pace, the frames and the events of a call, the oldest first
 pub record Scene : Type 0 where
@@ -25,6 +29,10 @@ rules_of slots lead = record { slots = slots; lead = lead; half = 128; chain = 1
 abbrev pub steady : List ℕ → ℕ
 steady sizes = 8
 
+-- a pace that follows the bytes of the last pictures
+abbrev pub by_sizes : List ℕ → ℕ
+by_sizes sizes = 1 + sum sizes % 31
+
 -- a picture whose samples are the same
 abbrev pub flat : ℕ → Two
 flat value = record { left = value; right = value }
@@ -37,6 +45,22 @@ call_of scene = ideal small scene.rules scene.pace scene.frames (reverse scene.e
 abbrev pub ends_of : Scene → Joined SmallStyle SmallMb Two
 ends_of scene = joined small scene.rules (new_receiver small scene.rules) scene.pace scene.frames (reverse scene.events)
 
+-- each event is near
+abbrev pub all_near : Scene → Bool
+all_near scene =
+    (judged_call small_pictures scene.rules (encoded small scene.rules scene.pace scene.frames) (length scene.frames) (reverse scene.events)).passed
+
+-- a scene whose rules and pace meet what the laws ask
+pub record IsScene (scene : Scene) : Type 0 where
+  pub two : scene.rules.mbs ≡ 2
+  pub rules : IsRules scene.rules
+  pub pace : IsPace scene.pace
+
+-- in each scene whose events are near, both ends do what the ideal call says
+abbrev pub ScenesAgree : Type 0
+ScenesAgree = (scene : Scene) → IsScene scene → all_near scene ≡ true
+    → Agree small scene.rules (call_of scene) (ends_of scene)
+
 -- of each picture the number of its reference
 abbrev pub references : List (Coded SmallStyle SmallMb Two) → List (Option ℕ)
 references coded = map (λ (x : Coded SmallStyle SmallMb Two). x.reference) coded
@@ -44,6 +68,10 @@ references coded = map (λ (x : Coded SmallStyle SmallMb Two). x.reference) code
 -- of each picture its depth
 abbrev pub depths : List (Coded SmallStyle SmallMb Two) → List ℕ
 depths coded = map (λ (x : Coded SmallStyle SmallMb Two). x.depth) coded
+
+-- of each picture its quantiser
+abbrev pub quants : List (Coded SmallStyle SmallMb Two) → List ℕ
+quants coded = map (λ (x : Coded SmallStyle SmallMb Two). x.style.quant) coded
 
 -- the marks of the plays, the oldest first
 abbrev pub marks : List (Shown Two) → List Mark
@@ -161,10 +189,84 @@ wrap_scene = record {
   events = seen 0 4 ++ lost 255 ++ acknowledged 259 1 ++ seen 260 1;
 }
 
+-- picture 1 arrives and 0 does not, whose NACK offers picture 1, above it, and comes back
+abbrev pub newer_offer_scene : Scene
+newer_offer_scene = record {
+  rules = rules_of 4 1;
+  pace = steady;
+  frames = replicate 3 (flat 100);
+  events = Send ∷ Send ∷ whole 1 ++ Play ∷ Back 1 ∷ Send ∷ Play ∷ whole 2 ++ Play ∷ [];
+}
+
+-- Three pictures are sent, 1 and 0 arrive, and the ACK of picture 0 comes back alone. Picture 3 is
+-- sent, and arrives. Messages have so many flags.
+abbrev pub flags_scene : ℕ → Scene
+flags_scene flags = record {
+  rules = record { slots = 6; lead = 2; half = 128; chain = 131; mbs = 2; flags = flags };
+  pace = steady;
+  frames = replicate 4 (flat 100);
+  events = Send ∷ Send ∷ Send ∷ whole 1 ++ whole 0 ++ Back 1 ∷ Send ∷ Play ∷ whole 3 ++ Play ∷ Play ∷ Play ∷ [];
+}
+
+-- so many flags, none of them set, or the first alone
+abbrev pub no_flags : ℕ → List Bool
+no_flags count = replicate count false
+
+abbrev pub first_flag : ℕ → List Bool
+first_flag count = true ∷ replicate (count - 1) false
+
+-- the rules with temporal references of ten bits
+abbrev pub wide_rules : ℕ → ℕ → Rules
+wide_rules slots lead = record (rules_of slots lead) { half = 512 }
+
+-- picture 0 is acknowledged, 1 to 197 are lost, and 198 and 199 arrive
+abbrev pub wide_window_scene : Scene
+wide_window_scene = record {
+  rules = wide_rules 200 1;
+  pace = steady;
+  frames = replicate 200 (flat 100);
+  events = acknowledged 0 1 ++ lost 197 ++ seen 198 2;
+}
+
+-- a packet of picture 0 comes after 511 plays
+abbrev pub wide_late_scene : Scene
+wide_late_scene = record {
+  rules = wide_rules 4 1;
+  pace = steady;
+  frames = replicate 511 (flat 100);
+  events = lost 1 ++ seen 1 510 ++ Deliver 0 0 ∷ [];
+}
+
+-- all arrive and are acknowledged, with a pace that follows the sizes
+abbrev pub paced_scene : Scene
+paced_scene = record {
+  rules = rules_of 4 1;
+  pace = by_sizes;
+  frames = replicate 4 (flat 100);
+  events = acknowledged 0 4;
+}
+
+-- a sender that captured so many pictures and then got these messages, the newest first
+abbrev pub sender_after : ℕ → List Message → SenderRun SmallStyle SmallMb Two
+sender_after count messages =
+    sender_run small_pictures small_encoding (rules_of 4 1) steady (map (λ m. Feedback (small_message m)) messages ++ replicate count (Capture (flat 100)))
+
+-- what it answers to a message
+abbrev pub answer_after : ℕ → Message → Reply SmallFault
+answer_after count message = feedback_answer (rules_of 4 1) count (small_read_message (small_message message))
+
 -- the bytes of one half of picture n, flat 100, with this depth in its header
 abbrev pub half_packet : ℕ → Option ℕ → ℕ → ℕ → List ℕ
 half_packet n reference depth place =
     small_packet (record { number = n; reference = reference; half = 128; style = record { depth = depth; quant = 8 } }) (record { first = place; mbs = Value 100 ∷ [] })
+
+-- the bytes of both halves in one packet, and of one half with the other picture clock
+abbrev pub whole_packet : ℕ → Option ℕ → ℕ → List ℕ
+whole_packet n reference depth = n ∷ option_word reference ∷ 128 ∷ depth ∷ 8 ∷ 0 ∷ 100 ∷ 100 ∷ []
+
+abbrev pub other_clock_packet : ℕ → ℕ → List ℕ
+other_clock_packet n place =
+    small_packet (record { number = n; reference = None; half = 512; style = record { depth = 0; quant = 8 } }) (record { first = place; mbs = Value 100 ∷ [] })
 
 -- Picture 0 is complete, two were played, and the left half of picture 2 was taken; the newest
 -- first.
