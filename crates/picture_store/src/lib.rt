@@ -15,7 +15,6 @@ use h263_types::Format;
 use std::alloc::Global;
 use std::marker::Model;
 
-
 /// Kept pictures and work pictures of one format. It has no `Drop`: it must be finished.
 pub struct PictureStore {
     format: Format,
