@@ -1,0 +1,4 @@
+pub mod Heads
+pub mod Readers
+pub mod Results
+pub mod Writes

@@ -1,5 +1,8 @@
 //! The entries of a log, and which of them each end meets.
-ghost use Rattle.std.specs.Prelude.{◌≡◌, ◌≤◌, ◌<◌, length};
+ghost use Rattle.std.specs.Prelude.{◌≡◌, ◌≤◌, length, IfSome};
+ghost use Rattle.event_logs.specs.Entry.{letters_of, has_letter, entry_of, entry_with, bytes_of, begun};
+
+use byteorder::{BigEndian, ByteOrder};
 
 /// Whose log it is.
 #[derive(Clone, Copy, Debug, PartialEq, Eq)]
@@ -23,24 +26,25 @@ pub enum Entry {
     Play,
 }
 
-impl Side {
-    // The letters of its entries.
-    fn letters(self) -> [u8; 2] {
-        match self {
-            Side::Send => [b'S', b'B'],
-            Side::Recv => [b'K', b'P'],
-        }
-    }
+/// How many bytes stand before those of an entry: its letter and their number.
+pub const HEAD: usize = 3;
 
-    // Whether a log of this side has entries of this letter.
-    fn has(self, letter: u8) -> bool {
-        let letters = self.letters();
-        letter == letters[0] || letter == letters[1]
+// The letters of the entries that the log of a side has.
+fn letters_of(side: Side) -> &'static [u8]
+    ensures { result.now ≡ letters_of side }
+{
+    match side {
+        Side::Send => b"SB",
+        Side::Recv => b"KP",
     }
 }
 
-// The entry of a letter with so many bytes, if there is one.
-fn entry_of(letter: u8, len: u32) -> Option<Entry> {
+// What an entry says by its letter and the number of its bytes.
+fn entry_of(letter: u8, len: u16) -> Option<Entry>
+    ensures is { result ≡ entry_of letter len }
+    ensures within { IfSome result (λ entry. bytes_of entry ≤ 65535) }
+{
+    let len = len as u32;
     match letter {
         b'S' if len == 0 => Some(Entry::Capture),
         b'B' => Some(Entry::Back { len }),
@@ -50,10 +54,23 @@ fn entry_of(letter: u8, len: u32) -> Option<Entry> {
     }
 }
 
-/// The entry that a side's log has with this letter and so many bytes, if it has one.
-pub fn entry_in(side: Side, letter: u8, len: u32) -> Option<Entry> {
-    if !side.has(letter) {
+/// The entry of a side's log that the first three bytes begin.
+pub fn begun(side: Side, head: &[u8]) -> Option<Entry>
+    ensures is { result ≡ begun side head.now }
+    ensures within { IfSome result (λ entry. bytes_of entry ≤ 65535) }
+{
+    if head.len() < HEAD || !letters_of(side).contains(&head[0]) {
         return None;
     }
-    entry_of(letter, len)
+    entry_of(head[0], BigEndian::read_u16(&head[1..]))
+}
+
+/// How many bytes an entry has behind its head.
+pub fn bytes_of(entry: Entry) -> u32
+    ensures { result ≡ bytes_of entry }
+{
+    match entry {
+        Entry::Capture | Entry::Play => 0,
+        Entry::Back { len } | Entry::Packet { len } => len,
+    }
 }

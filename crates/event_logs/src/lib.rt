@@ -3,6 +3,7 @@
 
 mod entry;
 mod fault;
+mod input;
 mod reader;
 mod writer;
 

@@ -1,10 +1,11 @@
 //! The reader of a log.
 ghost use Rattle.std.specs.Prelude.{◌≤◌, ◌*◌};
 
-use crate::entry::entry_in;
+use crate::entry::{HEAD, begun, bytes_of};
+use crate::input::read;
 use crate::{Entry, LogStop, Side};
-use byteorder::{BigEndian, ByteOrder};
-use h263_outside::{Desk, Role, read_full};
+use h263_outside::Desk;
+use h263_outside::laws::calls;
 
 /// The most entries of a log.
 pub const MAX_ENTRIES: u32 = 16_777_216;
@@ -21,11 +22,19 @@ pub struct LogReader {
 }
 
 impl LogReader {
-    ghost use Rattle.std.specs.Prelude.{◌≡◌, ◌<◌, ◌≤◌, ◌+◌, length, true};
+    ghost use Rattle.std.specs.Prelude.{◌≡◌, ◌≢◌, ◌<◌, ◌≤◌, ◌+◌, ℕ, List, length, true, IsErrOf, Some};
+    ghost use Rattle.h263_outside.specs.Desk.{Rose, OnlyReads};
+    ghost use Rattle.h263_outside.specs.declared.desk.Role.{Role};
     ghost use Rattle.h263_outside.specs.declared.desk.Role.TheVariants.{Events};
+    ghost use Rattle.event_logs.specs.Entry.{bytes_of};
+    ghost use Rattle.event_logs.specs.Reader.{Moves, EntryGives};
 
     /// A reader before the first entry.
-    pub fn new(side: Side) -> LogReader {
+    pub fn new(side: Side) -> LogReader
+        ensures side { result.side ≡ side }
+        ensures entries { result.entries ≡ 0 }
+        ensures at { result.at ≡ 0 }
+    {
         LogReader {
             side,
             entries: 0,
@@ -42,9 +51,15 @@ impl LogReader {
     ) -> Result<Option<(u64, Entry)>, LogStop>
         requires attached { (D.outside desk.old).attached Events ≡ true }
         requires room { 65535 ≤ length buf.old }
+        ensures gives { (rest : List ℕ) → (D.outside desk.old).left Events ≡ Some rest → EntryGives result self.old rest buf.new ((D.outside desk.new).left Events) }
+        ensures moves { Moves result self.old self.new }
+        ensures cause { IsErrOf result LogStop.Read → Rose (D.outside desk.old).faults.read (D.outside desk.new).faults.read }
+        ensures others { (r : Role) → r ≢ Events → (D.outside desk.new).left r ≡ (D.outside desk.old).left r }
+        ensures rest { OnlyReads (D.outside desk.old) (D.outside desk.new) }
     {
-        let mut head = [0; 3];
-        let came = read_full(desk, Role::Events, &mut head)?;
+        calls();
+        let mut head = [0; HEAD];
+        let came = read(desk, &mut head)?;
         if came == 0 {
             return Ok(None);
         }
@@ -52,19 +67,26 @@ impl LogReader {
         if self.entries == MAX_ENTRIES {
             return Err(LogStop::TooMany { at });
         }
-        if came < 3 {
-            return Err(LogStop::BadRecord { at });
-        }
-        let len = BigEndian::read_u16(&head[1..]);
-        let Some(entry) = entry_in(self.side, head[0], len as u32) else {
+        let Some(entry) = begun(self.side, &head[..came]) else {
             return Err(LogStop::BadRecord { at });
         };
-        let len = len as usize;
-        if read_full(desk, Role::Events, &mut buf[..len])? < len {
+        let len = bytes_of(entry) as usize;
+        if read(desk, &mut buf[..len])? < len {
             return Err(LogStop::BadRecord { at });
         }
-        self.at = at + 3 + len as u64;
-        self.entries += 1;
+        self.pass(entry);
         Ok(Some((at, entry)))
+    }
+
+    // Goes on behind an entry.
+    fn pass(&mut self, entry: Entry)
+        requires few { self.old.entries < 16777216 }
+        requires size { bytes_of entry ≤ 65535 }
+        ensures side { self.new.side ≡ self.old.side }
+        ensures entries { self.new.entries ≡ self.old.entries + 1 }
+        ensures at { self.new.at ≡ self.old.at + (3 + bytes_of entry) }
+    {
+        self.entries += 1;
+        self.at += HEAD as u64 + bytes_of(entry) as u64;
     }
 }

@@ -1,5 +1,4 @@
 pub mod Firsts
-pub mod Calls
 pub mod Results
 pub mod Spelled
 pub mod Readers

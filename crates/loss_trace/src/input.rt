@@ -6,6 +6,7 @@ ghost use Rattle.h263_outside.specs.declared.desk.Role.TheVariants.{Events};
 ghost use Rattle.loss_trace.specs.Input.{CameOf, IsWithin};
 ghost use Rattle.loss_trace.specs.Lines.{IsCut};
 
+use h263_outside::laws::calls;
 use h263_outside::{Desk, Failed, Role};
 
 /// The most bytes of a line, without its newline.
@@ -51,6 +52,7 @@ pub fn read_line<D: Desk>(desk: &mut D, line: &mut [u8]) -> Result<Came, Failed>
     ensures cause { OnErr result (Rose (D.outside desk.old).faults.read (D.outside desk.new).faults.read) }
     ensures rest { OnlyReads (D.outside desk.old) (D.outside desk.new) }
 {
+    calls();
     for i in 0..line.len() {
         match read_byte(desk)? {
             None if i == 0 => return Ok(Came::End),

@@ -1,6 +1,5 @@
 use Rattle.std.proofs.Common.{◌≡◌, ◌<◌, ℕ, ◌+◌, List, length, drop, Option, Some, subst, ap, ◌∙◌, arith}
 use Rattle.std.proofs.lemmas.List.{drop-drop}
-use Rattle.loss_trace.proofs.Calls.{reads_on}
 use Rattle.loss_trace.proofs.Firsts.{Came, byte_there, no_byte, nothing, unclosed, closed, goes_on, too_long}
 use Rattle.loss_trace.proofs.input.read_line.Goals as goal
 
@@ -36,7 +35,7 @@ loop-i-preserved g c = record {
         b.1 ∙ ap (λ (l : List ℕ). Some l) (drop-drop 1 c.loop-i.i left),
       );
   others = λ r other. c.in_ok-read_byte.ensures.others r other ∙ c.loop-i.invariant.others r other;
-  rest = reads_on _ _ _ c.loop-i.invariant.rest c.in_ok-read_byte.ensures.rest;
+  rest = c.calls.ensures.reads _ _ _ c.loop-i.invariant.rest c.in_ok-read_byte.ensures.rest;
 }
 
 pub returns-in-None-3-clause-told : goal.returns-in-None-3-clause-told

@@ -1,0 +1,31 @@
+-- What the reader of a log says, call by call.
+use Rattle.std.specs.Prelude.{ℕ, ◌≡◌, ◌+◌, ◌<◌, ◌≤◌, min, List, [], length, take, drop, Option, Some, None, Result, Ok, Err}
+use Rattle.event_logs.specs.declared.entry.Entry.{Entry}
+use Rattle.event_logs.specs.declared.fault.LogStop.{LogStop}
+use Rattle.event_logs.specs.declared.fault.LogStop.TheVariants.{Read, BadRecord, TooMany}
+use Rattle.event_logs.specs.declared.reader.LogReader.{LogReader}
+use Rattle.event_logs.specs.Entry.{bytes_of, reach, entry_in}
+
+-- how a call moves a reader, and which place it gives: where the next entry begins
+abbrev pub Moves : Result (Option (ℕ × Entry)) LogStop → LogReader → LogReader → Type 0
+Moves (Ok (Some found)) old new = (found.0 ≡ old.at) × (new.side ≡ old.side) × (new.entries ≡ old.entries + 1) × (new.at ≡ old.at + (3 + bytes_of found.1))
+Moves (Ok None) old new = new ≡ old
+Moves (Err Read) old new = new ≡ old
+Moves (Err (BadRecord at)) old new = (old.entries < 16777216) × (at ≡ old.at) × (new ≡ old)
+Moves (Err (TooMany at)) old new = (old.entries ≡ 16777216) × (at ≡ old.at) × (new ≡ old)
+
+-- what was taken when a read failed has no whole entry
+pub record IsCut (reader : LogReader) (rest : List ℕ) (left : Option (List ℕ)) : Type 0 where
+  pub taken : ℕ
+  pub within : taken ≤ length rest
+  pub gone : left ≡ Some (drop taken rest)
+  pub none : entry_in reader.side (take taken rest) ≡ None
+
+-- what a reader says of the rest of a log, with an entry's bytes in the buffer, and what is left of it then
+abbrev pub EntryGives : Result (Option (ℕ × Entry)) LogStop → LogReader → List ℕ → List ℕ → Option (List ℕ) → Type 0
+EntryGives (Ok (Some found)) old rest buf left =
+    (entry_in old.side rest ≡ Some found.1) × (take (bytes_of found.1) buf ≡ take (bytes_of found.1) (drop 3 rest)) × (left ≡ Some (drop (3 + bytes_of found.1) rest))
+EntryGives (Ok None) old rest buf left = (rest ≡ []) × (left ≡ Some [])
+EntryGives (Err Read) old rest buf left = IsCut old rest left
+EntryGives (Err (BadRecord at)) old rest buf left = (0 < length rest) × (entry_in old.side rest ≡ None) × (left ≡ Some (drop (reach old.side rest) rest))
+EntryGives (Err (TooMany at)) old rest buf left = (0 < length rest) × (left ≡ Some (drop 3 rest))
