@@ -6,15 +6,15 @@ use Rattle.std.proofs.lemmas.List.{append-nil}
 use Rattle.std.proofs.lemmas.Option.{slice_get_cases}
 use Rattle.call_model.specs.Coding.{Rules, Message, Decoding}
 use Rattle.call_model.specs.CodedPictures.{Coded}
-use Rattle.call_model.specs.IdealCall.{has_arrived, is_full, with_arrival, Event, Send, Deliver, Play, Back, Call, Source, slices_at, after, call_from, IsNear, AllNearFrom}
+use Rattle.call_model.specs.IdealCall.{has_arrived, is_full, with_arrival, Event, Send, Deliver, Play, Back, Note, Call, Source, slices_at, after, call_from, IsNear, AllNearFrom}
 use Rattle.call_model.specs.Sending.{header_of}
 use Rattle.call_model.specs.Receiving.{TakenSlice, ReceiverRun, Late, Early, Repeat, Completed, Taken, heard, after_packet, after_play}
-use Rattle.call_model.specs.Sound.{IsSound, ReceiverFollows, IsSoundEvent, AllSound, Packets, received, delivery_answer, AnySoundSender, NoneRefused, is_refused}
+use Rattle.call_model.specs.Sound.{IsSound, IsUnderstood, ReceiverFollows, IsSoundEvent, AllSound, Packets, received, delivery_answer, AnySoundSender, NoneRefused, is_refused}
 use Rattle.call_model.specs.Lawful.{IsDecoding, IsRules}
 use Rattle.call_model.proofs.Matching.{slices_at_is}
 use Rattle.call_model.proofs.Fullness.{full_is}
 use Rattle.call_model.proofs.Growing.{whole_from, img_is}
-use Rattle.call_model.proofs.Steps.{run_at, Good, step_send, step_back}
+use Rattle.call_model.proofs.Steps.{run_at, Good, step_send, step_back, full_below, flags_of_true, travelling_fits, travelling_flags, made_known_is}
 use Rattle.call_model.proofs.Deliver.{step_deliver, step_no_slice}
 use Rattle.call_model.proofs.Playing.{step_play}
 use Rattle.call_model.proofs.TwoStores.{good_start}
@@ -103,6 +103,15 @@ module _ {Style Mb Picture Fault : Type 0} (decoding : Decoding Style Mb Picture
             differ : None ≡ Some bytes → ⊥
             differ e = cc
 
+  understood : (c : Call Style Mb Picture) (ts : List (TakenSlice Style Mb)) (k : ℕ) (note : Note) → Good decoding rules c ts → slice_get c.said k ≡ Some note → IsUnderstood decoding rules c note
+  understood c ts k note good there =
+      let is_true = good.notes k note there in
+      record {
+        in_period = travelling_fits decoding rules lawful ruled note;
+        flags = ap length (travelling_flags decoding rules lawful ruled note) ∙ (flags_of_true decoding rules lawful ruled (is_full c.coded c.arrivals) (length c.coded) note is_true).count;
+        known = λ near. made_known_is decoding rules lawful ruled (is_full c.coded c.arrivals) (length c.coded) note (full_below decoding rules lawful ruled c) is_true near;
+      }
+
   pub any_sound_sender : AnySoundSender decoding rules
   any_sound_sender source packets count past near sound =
       let at = stays_at source packets count past near sound in
@@ -113,6 +122,7 @@ module _ {Style Mb Picture Fault : Type 0} (decoding : Decoding Style Mb Picture
         plays = λ near_now.
             let p = step_play decoding rules lawful ruled c at.taken at.good near_now in
             rw at.is (sym p.shows, p.says);
+        messages = λ k note there. understood c at.taken k note at.good there;
       }
 
 chain : (Fault : Type 0) (late early got whole : Bool) (m : Message) → is_refused {Fault = Fault} (if late then Late else if early then Early else if got then Repeat else if whole then Completed m else Taken) ≡ false

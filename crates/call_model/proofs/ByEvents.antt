@@ -4,9 +4,9 @@ use Rattle.std.specs.Prelude.{not, if◌then◌else◌}
 use Rattle.std.specs.Option.{option_map}
 use Rattle.std.proofs.lemmas.Bool.{and_parts, and_from, or_cases, or_left, or_right, le-leb, leb-true, lt-ltb, ltb-true, eq-eqb, eqb-true, ne_eqb, cases_Bool, false≢true, both_ways}
 use Rattle.std.proofs.lemmas.Option.{slice_get_cases}
-use Rattle.call_model.specs.Coding.{Rules, Mark, Exact, Patched, Held, Coding, pictures_of, mixed}
+use Rattle.call_model.specs.Coding.{Rules, Mark, Exact, Patched, Held, Coding, pictures_of, mixed, Shown}
 use Rattle.call_model.specs.CodedPictures.{Coded, picture_at}
-use Rattle.call_model.specs.IdealCall.{Event, Send, Deliver, Play, Back, Arrival, Shown, Call, has_arrived, any_arrived, with_arrival, is_open, slices_at, is_full, mb_arrived, shown_last, reconstruction_at, shown_at, delivery_counts, ideal, AllNear}
+use Rattle.call_model.specs.IdealCall.{Event, Send, Deliver, Play, Back, Arrival, Call, has_arrived, any_arrived, with_arrival, is_open, slices_at, is_full, mb_arrived, shown_last, reconstruction_at, shown_at, delivery_counts, ideal, AllNear}
 use Rattle.call_model.specs.Before.{sent_before, played_before, IsOpen, play_at, arrived, slices_before, WasDelivered, CountsAreThose, ArrivedWasDelivered, ExactWhereFull, ShownStays}
 
 module _ {Frame Style Mb Picture Fault MessageFault : Type 0} (coding : Coding Frame Style Mb Picture Fault MessageFault) (rules : Rules) (pace : List ℕ → ℕ) (frames : List Frame) where

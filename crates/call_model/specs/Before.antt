@@ -2,9 +2,9 @@
 -- the newest first.
 use Rattle.std.specs.Prelude.{◌≡◌, ◌↔◌, ◌⊎◌, ℕ, ◌+◌, ◌<◌, ◌≤◌, Bool, true, ◌==◌, List, [], ◌∷◌, length, slice_get, Option, Some, None, option_and_then, if◌then◌else◌}
 use Rattle.std.specs.Option.{option_map}
-use Rattle.call_model.specs.Coding.{Rules, Mark, Exact, Coding}
+use Rattle.call_model.specs.Coding.{Rules, Mark, Exact, Coding, Shown}
 use Rattle.call_model.specs.CodedPictures.{Coded, depth_at, picture_at}
-use Rattle.call_model.specs.IdealCall.{Event, Send, Deliver, Play, Note, Shown, Call, has_arrived, slices_at, is_full, ideal, AllNear}
+use Rattle.call_model.specs.IdealCall.{Event, Send, Deliver, Play, Note, Call, has_arrived, slices_at, is_full, ideal, AllNear}
 
 -- how many pictures were sent
 abbrev pub sent_before : List Event → ℕ

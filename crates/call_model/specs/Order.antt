@@ -2,10 +2,9 @@
 use Rattle.std.specs.Prelude.{◌≡◌, ◌↔◌, ◌⊎◌, ℕ, ◌+◌, ◌<◌, ◌≤◌, ⊤, Bool, true, false, ◌==◌, List, [], ◌∷◌, Option, Some, None, Ok, if◌then◌else◌, is_some, option_and_then}
 use Rattle.std.specs.Option.{option_map_or}
 use Rattle.std.specs.Result.{result_ok}
-use Rattle.call_model.specs.Coding.{Rules, window, Slice, has_mb, Header, Piece, Decoding}
+use Rattle.call_model.specs.Coding.{Rules, window, Slice, has_mb, Header, Piece, Decoding, Shown}
 use Rattle.call_model.specs.Sending.{nearest_below}
-use Rattle.call_model.specs.Receiving.{piece_number, is_complete, played_picture, played_mark, ReceiverEntry, Packet, PlayNext, receiver_run}
-use Rattle.call_model.specs.IdealCall.{Shown}
+use Rattle.call_model.specs.Receiving.{piece_number, is_complete, played_shown, ReceiverEntry, Packet, PlayNext, receiver_run}
 
 -- the bytes are one of these
 abbrev pub IsIn : List ℕ → List (List ℕ) → Type 0
@@ -66,7 +65,7 @@ module _ {Style Mb Picture Fault : Type 0} (decoding : Decoding Style Mb Picture
   shown_in p (Packet bytes ∷ past) = shown_in p past
   shown_in p (PlayNext ∷ past) =
       if (receiver_run decoding rules past).played == p
-      then Some (record { mark = played_mark decoding rules (receiver_run decoding rules past); picture = played_picture decoding rules (receiver_run decoding rules past) })
+      then Some (played_shown decoding rules (receiver_run decoding rules past))
       else shown_in p past
 
   -- what the packet spells is so
@@ -78,7 +77,8 @@ module _ {Style Mb Picture Fault : Type 0} (decoding : Decoding Style Mb Picture
   pub record AreOfOne (n : ℕ) (header : Header Style) (reference : Option ℕ) (entries : List ReceiverEntry) : Type 0 where
     pub in_place : InPlace n reference entries
     pub headers : (bytes : List ℕ) → IsIn bytes (own n entries) → HasPiece bytes (λ piece. piece.header ≡ header)
-    pub slices : (a b : List ℕ) → IsIn a (own n entries) → IsIn b (own n entries) → HasPiece a (λ p. HasPiece b (λ q. SameOrApart p.slice q.slice))
+    pub slices : (a b : List ℕ) → IsIn a (own n entries) → IsIn b (own n entries)
+        → HasPiece a (λ p. HasPiece b (λ q. SameOrApart p.slice q.slice))
 
   -- the lists have the same entries in the same order apart from packets of n, and the same set of
   -- packets of n
@@ -94,8 +94,7 @@ module _ {Style Mb Picture Fault : Type 0} (decoding : Decoding Style Mb Picture
   -- after two lists the next play shows the same, with the same mark
   abbrev pub NextPlayIsSame : List ReceiverEntry → List ReceiverEntry → Type 0
   NextPlayIsSame a b =
-      (played_mark decoding rules (receiver_run decoding rules a) ≡ played_mark decoding rules (receiver_run decoding rules b))
-      × (played_picture decoding rules (receiver_run decoding rules a) ≡ played_picture decoding rules (receiver_run decoding rules b))
+      played_shown decoding rules (receiver_run decoding rules a) ≡ played_shown decoding rules (receiver_run decoding rules b)
 
   -- Let two lists of what came before the play of picture n differ in packets of n, and let these be
   -- of one header. Then each play up to the play of n shows the same, with the same mark.

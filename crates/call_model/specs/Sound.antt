@@ -1,13 +1,13 @@
 -- Calls of any sender whose pictures are sound, and the receiver's run in them.
-use Rattle.std.specs.Prelude.{◌≡◌, ℕ, ◌+◌, ◌%◌, ◌≤◌, ⊤, true, nat_lt, List, [], ◌∷◌, length, slice_get, Option, Some, None, Ok, option_and_then, if◌then◌else◌, Bool, false}
+use Rattle.std.specs.Prelude.{◌≡◌, ℕ, ◌+◌, ◌%◌, ◌<◌, ◌≤◌, ⊤, true, nat_lt, List, [], ◌∷◌, length, slice_get, Option, Some, None, Ok, option_and_then, if◌then◌else◌, Bool, false}
 use Rattle.std.specs.Option.{option_map_or}
 use Rattle.call_model.specs.Coding.{Rules, window, period, Slice, Ack, Message, Pictures, Decoding, Coding, reconstruction_of_slices}
 use Rattle.call_model.specs.CodedPictures.{Coded, picture_at, is_among}
-use Rattle.call_model.specs.IdealCall.{Event, Send, Deliver, Play, Back, Call, Source, IsNear, AllNearFrom, encoded, shown_at, shown_last, has_arrived, is_full, newest_full, full_flags, with_arrival, call_from}
-use Rattle.call_model.specs.Sending.{header_of, packets_of}
-use Rattle.call_model.specs.Receiving.{ReceiverRun, Heard, Refused, OtherClock, Late, Early, HeaderDiffers, MissingReference, Repeat, Overlap, Completed, Taken, nack, heard, played_mark, played_picture, played_message, after_packet, after_play, receiver_run}
-use Rattle.call_model.specs.Lawful.{Covers, IsPace}
-use Rattle.call_model.specs.TwoStores.{MatchArrivals, CompleteAreFull, PicturesAreThose}
+use Rattle.call_model.specs.IdealCall.{Event, Send, Deliver, Play, Back, Note, about, told_full, Call, Source, IsNear, AllNearFrom, encoded, shown_at, shown_last, has_arrived, is_full, newest_full, full_flags, with_arrival, call_from}
+use Rattle.call_model.specs.Sending.{header_of, packets_of, message_flags, made_known}
+use Rattle.call_model.specs.Receiving.{ReceiverRun, Heard, Refused, OtherClock, Late, Early, HeaderDiffers, MissingReference, Repeat, Overlap, Completed, Taken, nack, heard, played_shown, played_message, after_packet, after_play, receiver_run}
+use Rattle.call_model.specs.Lawful.{Covers, IsInPeriod, IsPace}
+use Rattle.call_model.specs.TwoStores.{travelling, MatchArrivals, CompleteAreFull, PicturesAreThose}
 
 -- A picture is sound where it is sent: its slices cover it, it is what decoding gives of them, and
 -- its reference, if it has one, is in the window and known to be full.
@@ -57,7 +57,8 @@ module _ {Style Mb Picture Fault : Type 0} (decoding : Decoding Style Mb Picture
     -- a picture that is sent is sound, and what is delivered is its packet
     abbrev pub IsSoundEvent : Call Style Mb Picture → Event → Type 0
     IsSoundEvent c Send = (x : Coded Style Mb Picture) → source c ≡ Some x → IsSound decoding.pictures rules c x
-    IsSoundEvent c (Deliver n j) = (x : Coded Style Mb Picture) → slice_get c.coded n ≡ Some x → IsPacket decoding rules (packets c.coded n) n j x
+    IsSoundEvent c (Deliver n j) =
+        (x : Coded Style Mb Picture) → slice_get c.coded n ≡ Some x → IsPacket decoding rules (packets c.coded n) n j x
     IsSoundEvent c Play = ⊤
     IsSoundEvent c (Back k) = ⊤
 
@@ -87,15 +88,24 @@ module _ {Style Mb Picture Fault : Type 0} (decoding : Decoding Style Mb Picture
     PlaysAsTheCall count past =
         let c = call_from decoding.pictures rules source past in
         IsNear rules count c Play
-        → (record { mark = played_mark decoding rules (received past); picture = played_picture decoding rules (received past) } ≡ shown_at decoding.pictures c.coded c.arrivals c.plays c.played)
+        → (played_shown decoding rules (received past) ≡ shown_at decoding.pictures c.coded c.arrivals c.plays c.played)
         × (played_message decoding rules (received past) ≡ play_message rules c)
 
-  -- A receiver in a near call of any sound sender is where the call is, and answers and plays as the
-  -- call says.
+  -- A message that was said has temporal references and flags as it travels, and is read as it was
+  -- meant: where it is brought back in time, it makes known what it tells to be full.
+  pub record IsUnderstood (c : Call Style Mb Picture) (note : Note) : Type 0 where
+    pub in_period : IsInPeriod rules (travelling rules note)
+    pub flags : length (message_flags (travelling rules note)) ≡ rules.flags
+    pub known : length c.coded < about note + rules.half → made_known rules (length c.coded) (travelling rules note) ≡ Some (told_full note)
+
+  -- A receiver in a near call of any sound sender is where the call is, answers and plays as the
+  -- call says, and its messages are understood.
   pub record Follows (source : Source Style Mb Picture) (packets : Packets Style Mb Picture) (count : ℕ) (past : List Event) : Type 0 where
     pub state : ReceiverFollows (call_from decoding.pictures rules source past) (received source packets past)
     pub answers : AnswersAsTheCall source packets count past
     pub plays : PlaysAsTheCall source packets count past
+    pub messages : (k : ℕ) (note : Note) → slice_get (call_from decoding.pictures rules source past).said k ≡ Some note
+        → IsUnderstood (call_from decoding.pictures rules source past) note
 
   abbrev pub AnySoundSender : Type 0
   AnySoundSender = (source : Source Style Mb Picture) (packets : Packets Style Mb Picture) (count : ℕ) (past : List Event) →

@@ -47,7 +47,10 @@ module _ {Style Mb Picture Fault : Type 0} (decoding : Decoding Style Mb Picture
   -- an open picture that becomes complete takes its slot, whatever was there, and no other slot
   -- changes
   abbrev pub NewOneTakesItsSlot : Type 0
-  NewOneTakesItsSlot = (entries : List ReceiverEntry) (n : ℕ) (taken : List (TakenSlice Style Mb)) → let run = receiver_run decoding rules entries in let after = record run { taken = taken } in
+  NewOneTakesItsSlot = (entries : List ReceiverEntry) (n : ℕ) (taken : List (TakenSlice Style Mb)) →
+      let run = receiver_run decoding rules entries in
+      let after = record run { taken = taken } in
       run.played ≤ n → n ≤ run.played + rules.lead → is_complete rules.mbs taken n ≡ true
       → ((m : ℕ) → m < run.played + rules.lead + 1 → (m ≡ n → ⊥) → is_complete rules.mbs taken m ≡ is_complete rules.mbs run.taken m)
-      → (slot_of after (n % rules.slots) ≡ Some n) × ((rest : ℕ) → (rest ≡ n % rules.slots → ⊥) → slot_of after rest ≡ slot_of run rest)
+      → (slot_of after (n % rules.slots) ≡ Some n)
+      × ((rest : ℕ) → (rest ≡ n % rules.slots → ⊥) → slot_of after rest ≡ slot_of run rest)

@@ -2,9 +2,9 @@
 use Rattle.std.specs.Prelude.{◌≡◌, ℕ, zero, suc, ◌+◌, ◌-◌, ◌%◌, Bool, true, false, List, [], ◌∷◌, ◌++◌, length, map, reverse, replicate, slice_get, Option, Some, None}
 use Rattle.std.specs.Option.{option_map_or}
 use Rattle.std.specs.List.{sum}
-use Rattle.call_model.specs.Coding.{Rules, Mark, Message}
+use Rattle.call_model.specs.Coding.{Rules, Mark, Message, Shown}
 use Rattle.call_model.specs.CodedPictures.{Coded}
-use Rattle.call_model.specs.IdealCall.{Event, Send, Deliver, Play, Back, Shown, Call, encoded, ideal}
+use Rattle.call_model.specs.IdealCall.{Event, Send, Deliver, Play, Back, Call, encoded, ideal}
 use Rattle.call_model.specs.Sending.{packets_of, SenderRun, Capture, Feedback, Reply, feedback_answer, sender_run}
 use Rattle.call_model.specs.Refusals.{judged_call}
 use Rattle.call_model.specs.Lawful.{IsRules, IsPace}

@@ -10,7 +10,7 @@ ghost use Rattle.call_model.specs.Lawful.{IsCoding};
 ghost use Rattle.call_model.specs.Receiving.{Completed, Early, HeaderDiffers, Late, MissingReference};
 ghost use Rattle.call_model.specs.Receiving.{OtherClock, Overlap, Refused, Repeat, Taken};
 ghost use Rattle.call_model.specs.Refusals.{Far, first_refusal};
-ghost use Rattle.call_model.specs.Sending.{Noted, Old};
+ghost use Rattle.call_model.specs.Sending.{last_numbers, Noted, Old};
 ghost use Rattle.call_model.specs.SmallCoding.{small, small_decoding, Unread};
 ghost use Rattle.call_model.specs.Store.{slot_of};
 ghost use Rattle.call_model.specs.Worked.{all_near, answers, bytes_of, call_of, depths, ends_of, flat};
@@ -204,6 +204,14 @@ pub fn pace_follows_sizes()
     ensures references { references (ends_of paced_scene).sender.coded
         ≡ None ∷ Some 0 ∷ Some 1 ∷ Some 2 ∷ [] }
     ensures receiver { marks (ends_of paced_scene).plays ≡ Exact ∷ Exact ∷ Exact ∷ Exact ∷ [] }
+{}
+
+/// The sizes that a pace is asked with are those of the last 16 pictures, or of all where there are
+/// fewer.
+pub fn last_sixteen()
+    ensures few { last_numbers 2 ≡ 0 ∷ 1 ∷ [] }
+    ensures many { last_numbers 18
+        ≡ 2 ∷ 3 ∷ 4 ∷ 5 ∷ 6 ∷ 7 ∷ 8 ∷ 9 ∷ 10 ∷ 11 ∷ 12 ∷ 13 ∷ 14 ∷ 15 ∷ 16 ∷ 17 ∷ [] }
 {}
 
 /// A message about a picture that is half a period back or more is old, and makes nothing known.
