@@ -3,3 +3,4 @@ pub mod Reading
 pub mod Lines
 pub mod Input
 pub mod Reader
+pub mod Trace

@@ -5,6 +5,7 @@
 mod event;
 mod fault;
 mod input;
+pub mod laws;
 mod reader;
 
 pub use event::{BadLine, Event, line};
