@@ -1,5 +1,5 @@
 -- The coding of pictures of two samples meets the laws that are asked of a coding.
-use Rattle.std.proofs.Common.{◌≡◌, ◌↔◌, ◌&&◌, ℕ, zero, suc, ◌+◌, ◌-◌, ◌<◌, ◌≤◌, Bool, true, false, refl, sym, ap, ◌∙◌, subst, arith, inl, inr, Option, Some, None, Result, Ok, Err, List, [], ◌∷◌, length, eqb, leb}
+use Rattle.std.proofs.Common.{◌≡◌, ◌↔◌, ◌&&◌, ℕ, zero, suc, ◌+◌, ◌-◌, ◌<◌, ◌≤◌, Bool, true, false, refl, sym, ap, ◌∙◌, subst, arith, inl, inr, Option, Some, None, Result, Ok, Err, List, [], ◌∷◌, length, eqb, leb, ◌%◌}
 use Rattle.std.specs.Prelude.{reverse, slice_get, map, slice_index_or, if◌then◌else◌}
 use Rattle.std.specs.Option.{option_map}
 use Rattle.std.proofs.lemmas.Bool.{and_parts, leb-true, le-leb, lt-ltb, lt-leb, le-ltb, and_from, and_left, and_right, eq-eqb, eqb-true, ne_eqb, cases_eq, cases_lt}
@@ -7,10 +7,12 @@ use Rattle.std.proofs.lemmas.Option.{slice_get-map}
 use Rattle.call_model.specs.Coding.{Rules, Slice, has_mb, Header, Piece, Message, Ack, Nack}
 use Rattle.call_model.specs.SmallCoding.{SmallMb, Same, Value, SmallStyle, SmallFault, Unread, small_sample, option_word, word_option, flag_words, word_flags, small_packet, small_header, small_piece, small_read, small_message, small_read_message, small_pictures, small_decoding, small}
 use Rattle.call_model.specs.IdealCall.{encoded}
-use Rattle.call_model.specs.Worked.{ScenesAgree}
+use Rattle.call_model.specs.Worked.{Scene, IsScene, steady, by_sizes, ScenesAgree, ScenesAreLawful, window_scene, offer_scene, far_offer_scene, chain_scene, late_scene, shuffled_scene, patched_scene, wrap_scene, newer_offer_scene, flags_scene, wide_window_scene, wide_late_scene, paced_scene}
+use Rattle.std.specs.List.{sum}
+use Rattle.std.proofs.Math.Nat.{mod-lt}
 use Rattle.call_model.proofs.Refusing.{passed_where_near}
 use Rattle.call_model.proofs.TwoStores.{two_stores}
-use Rattle.call_model.specs.Lawful.{Divides, IsDecoding, IsCoding}
+use Rattle.call_model.specs.Lawful.{Divides, IsDecoding, IsCoding, IsRules, IsPace}
 
 abbrev one : ℕ → SmallMb → Slice SmallMb
 one place mb = record { first = place; mbs = mb ∷ [] }
@@ -158,3 +160,37 @@ unfolding small
 scenes_agree scene fits passed =
     let near = (passed_where_near small_pictures scene.rules (encoded small scene.rules scene.pace scene.frames) (length scene.frames) (reverse scene.events)).0 passed in
     (two_stores small scene.rules (small_lawful scene.rules fits.two) fits.rules scene.pace scene.frames fits.pace (reverse scene.events) near).agree
+
+steady_pace : IsPace steady
+steady_pace sizes = (omega arith, omega arith)
+
+small_rules : (rules : Rules) → rules.mbs ≡ 2 → rules.lead + 2 ≤ rules.slots → rules.slots ≤ rules.half → IsRules rules
+small_rules rules two lead slots = record { some_mbs = omega (arith, two); lead_small = lead; slots_small = slots }
+
+steady_scene : (scene : Scene) → scene.rules.mbs ≡ 2 → scene.rules.lead + 2 ≤ scene.rules.slots → scene.rules.slots ≤ scene.rules.half → scene.pace ≡ steady → IsScene scene
+steady_scene scene two lead slots pace = record {
+  two = two;
+  rules = small_rules scene.rules two lead slots;
+  pace = subst (λ (p : List ℕ → ℕ). IsPace p) (sym pace) steady_pace;
+}
+
+sizes_pace : IsPace by_sizes
+sizes_pace sizes = let small : sum sizes % 31 < 31 = mod-lt (sum sizes) (omega arith) in (omega arith, omega (arith, small))
+
+pub scenes_are_lawful : ScenesAreLawful
+scenes_are_lawful = (
+  steady_scene window_scene refl (omega arith) (omega arith) refl,
+  steady_scene offer_scene refl (omega arith) (omega arith) refl,
+  steady_scene far_offer_scene refl (omega arith) (omega arith) refl,
+  steady_scene chain_scene refl (omega arith) (omega arith) refl,
+  steady_scene late_scene refl (omega arith) (omega arith) refl,
+  steady_scene shuffled_scene refl (omega arith) (omega arith) refl,
+  steady_scene patched_scene refl (omega arith) (omega arith) refl,
+  steady_scene wrap_scene refl (omega arith) (omega arith) refl,
+  steady_scene newer_offer_scene refl (omega arith) (omega arith) refl,
+  steady_scene (flags_scene 14) refl (omega arith) (omega arith) refl,
+  steady_scene (flags_scene 0) refl (omega arith) (omega arith) refl,
+  steady_scene wide_window_scene refl (omega arith) (omega arith) refl,
+  steady_scene wide_late_scene refl (omega arith) (omega arith) refl,
+  record { two = refl; rules = small_rules paced_scene.rules refl (omega arith) (omega arith); pace = sizes_pace },
+)

@@ -246,6 +246,13 @@ paced_scene = record {
   events = acknowledged 0 4;
 }
 
+-- the scenes of these calls meet what the laws ask
+abbrev pub ScenesAreLawful : Type 0
+ScenesAreLawful =
+    IsScene window_scene × IsScene offer_scene × IsScene far_offer_scene × IsScene chain_scene × IsScene late_scene
+    × IsScene shuffled_scene × IsScene patched_scene × IsScene wrap_scene × IsScene newer_offer_scene
+    × IsScene (flags_scene 14) × IsScene (flags_scene 0) × IsScene wide_window_scene × IsScene wide_late_scene × IsScene paced_scene
+
 -- a sender that captured so many pictures and then got these messages, the newest first
 abbrev pub sender_after : ℕ → List Message → SenderRun SmallStyle SmallMb Two
 sender_after count messages =

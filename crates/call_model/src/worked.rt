@@ -14,7 +14,7 @@ ghost use Rattle.call_model.specs.Sending.{last_numbers, Noted, Old};
 ghost use Rattle.call_model.specs.SmallCoding.{small, small_decoding, Unread};
 ghost use Rattle.call_model.specs.Store.{slot_of};
 ghost use Rattle.call_model.specs.Worked.{all_near, answers, bytes_of, call_of, depths, ends_of, flat};
-ghost use Rattle.call_model.specs.Worked.{marks, pictures, quants, references, rules_of, ScenesAgree};
+ghost use Rattle.call_model.specs.Worked.{marks, pictures, quants, references, rules_of, ScenesAgree, ScenesAreLawful};
 ghost use Rattle.call_model.specs.Worked.{answer_after, first_flag, half_packet, no_flags};
 ghost use Rattle.call_model.specs.Worked.{other_clock_packet, sender_after, then_heard, whole_packet};
 ghost use Rattle.call_model.specs.Worked.{chain_scene, far_offer_scene, flags_scene, late_scene};
@@ -233,9 +233,11 @@ pub fn lying_feedback()
     ensures flags { (sender_after 2 (Ack 0 (true ∷ true ∷ true ∷ []) ∷ [])).known ≡ 0 ∷ 1 ∷ [] }
 {}
 
-/// In each of these calls, as in any whose events are near, both ends do what the ideal call says.
+/// In any of these calls whose events are near both ends do what the ideal call says (`agree`): all
+/// of them meet what the laws ask (`lawful`), and of each it is computed that its events are near.
 pub fn ends_agree()
-    ensures { ScenesAgree }
+    ensures agree { ScenesAgree }
+    ensures lawful { ScenesAreLawful }
 {}
 
 /// The laws that are asked of a coding can be met: that of pictures of two samples meets them.
