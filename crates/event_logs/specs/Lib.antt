@@ -1,3 +1,4 @@
 pub mod Entry
 pub mod Text
 pub mod Reader
+pub mod Log

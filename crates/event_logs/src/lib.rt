@@ -4,6 +4,7 @@
 mod entry;
 mod fault;
 mod input;
+pub mod laws;
 mod reader;
 mod writer;
 
