@@ -9,7 +9,7 @@ use Rattle.call_model.specs.CodedPictures.{Coded}
 use Rattle.call_model.specs.IdealCall.{has_arrived, is_full, with_arrival, Event, Send, Deliver, Play, Back, Note, Call, Source, slices_at, after, call_from, IsNear, AllNearFrom}
 use Rattle.call_model.specs.Sending.{header_of}
 use Rattle.call_model.specs.Receiving.{TakenSlice, ReceiverRun, Late, Early, Repeat, Completed, Taken, heard, after_packet, after_play}
-use Rattle.call_model.specs.Sound.{IsSound, IsUnderstood, ReceiverFollows, IsSoundEvent, AllSound, Packets, received, delivery_answer, AnySoundSender, NoneRefused, is_refused}
+use Rattle.call_model.specs.Sound.{IsSound, IsUnderstood, ReceiverIsAt, IsSoundEvent, AllSound, Packets, received, delivery_answer, AnySoundSender, NoneRefused, is_refused}
 use Rattle.call_model.specs.Lawful.{IsDecoding, IsRules}
 use Rattle.call_model.proofs.Matching.{slices_at_is}
 use Rattle.call_model.proofs.Fullness.{full_is}
@@ -26,8 +26,8 @@ module _ {Style Mb Picture Fault : Type 0} (decoding : Decoding Style Mb Picture
     pub is : run ≡ run_at decoding c taken
     pub good : Good decoding rules c taken
 
-  follows_at : (c : Call Style Mb Picture) (run : ReceiverRun Style Mb Picture) → IsAt c run → ReceiverFollows decoding rules c run
-  follows_at c run at = subst (ReceiverFollows decoding rules c) (sym at.is) (record {
+  follows_at : (c : Call Style Mb Picture) (run : ReceiverRun Style Mb Picture) → IsAt c run → ReceiverIsAt decoding rules c run
+  follows_at c run at = subst (ReceiverIsAt decoding rules c) (sym at.is) (record {
     played = refl;
     screen = refl;
     taken = at.good.match;

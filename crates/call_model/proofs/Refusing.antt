@@ -7,7 +7,7 @@ use Rattle.std.proofs.lemmas.Option.{slice_get-map}
 use Rattle.call_model.specs.Coding.{Rules, Pictures, Coding}
 use Rattle.call_model.specs.IdealCall.{Event, Send, Deliver, Play, Back, Note, about, Call, Source, IsNear, call_from, after, AllNearFrom}
 use Rattle.call_model.specs.JoinedRun.{Told, IsNearBoth}
-use Rattle.call_model.specs.Refusals.{Refusal, NotSent, NotSaid, Far, PlayBeforeSend, NoFrame, first_refusal, refusal_in, NoneWhereNear, NoneWhereNearBoth, judged_call, PassedWhereNear}
+use Rattle.call_model.specs.Refusals.{Refusal, NotSent, NotSaid, Far, PlayBeforeSend, NoFrame, first_refusal, refusal_in, NoneWhereNear, NoneWhereNearBoth, checked_call, PassedWhereNear}
 
 -- of two numbers the test leaves out
 one_test : (a b : ℕ) (r : Refusal) → ((if leb a b then Some r else None) ≡ None) ↔ (b < a)
@@ -104,24 +104,24 @@ none_test None = (λ e. refl, λ e. refl)
 none_test (Some r) = (λ e. absurd (false≢true e), λ e. cc)
 
 module _ {Style Mb Picture : Type 0} (pictures : Pictures Style Mb Picture) (rules : Rules) (source : Source Style Mb Picture) (count : ℕ) where
-  call_is : (past : List Event) → (judged_call pictures rules source count past).call ≡ call_from pictures rules source past
+  call_is : (past : List Event) → (checked_call pictures rules source count past).call ≡ call_from pictures rules source past
   call_is [] = refl
   call_is (e ∷ past) = ap (λ (c : Call Style Mb Picture). after pictures rules source c e) (call_is past)
 
-  one_event : (past : List Event) (e : Event) → (not (is_some (refusal_in rules count (judged_call pictures rules source count past).call e)) ≡ true) ↔ IsNear rules count (call_from pictures rules source past) e
+  one_event : (past : List Event) (e : Event) → (not (is_some (refusal_in rules count (checked_call pictures rules source count past).call e)) ≡ true) ↔ IsNear rules count (call_from pictures rules source past) e
   one_event past e =
-      let test = none_test (refusal_in rules count (judged_call pictures rules source count past).call e) in
+      let test = none_test (refusal_in rules count (checked_call pictures rules source count past).call e) in
       let near = none_where_near Style Mb Picture rules count (call_from pictures rules source past) e in
-      let same : refusal_in rules count (judged_call pictures rules source count past).call e ≡ refusal_in rules count (call_from pictures rules source past) e = ap (λ (c : Call Style Mb Picture). refusal_in rules count c e) (call_is past) in
+      let same : refusal_in rules count (checked_call pictures rules source count past).call e ≡ refusal_in rules count (call_from pictures rules source past) e = ap (λ (c : Call Style Mb Picture). refusal_in rules count c e) (call_is past) in
       (λ passed. near.0 (sym same ∙ test.0 passed), λ now. test.1 (same ∙ near.1 now))
 
-  forth : (past : List Event) → (judged_call pictures rules source count past).passed ≡ true → AllNearFrom pictures rules source count past
+  forth : (past : List Event) → (checked_call pictures rules source count past).passed ≡ true → AllNearFrom pictures rules source count past
   forth [] passed = tt
   forth (e ∷ past) passed =
       let parts = and_parts _ _ passed in
       ((one_event past e).0 parts.0, forth past parts.1)
 
-  back : (past : List Event) → AllNearFrom pictures rules source count past → (judged_call pictures rules source count past).passed ≡ true
+  back : (past : List Event) → AllNearFrom pictures rules source count past → (checked_call pictures rules source count past).passed ≡ true
   back [] near = refl
   back (e ∷ past) near = and_from _ _ ((one_event past e).1 near.0) (back past near.1)
 

@@ -143,6 +143,7 @@ small_lawful rules two = record {
   decodes = small_decodes rules two;
   encodes = record {
     divides = λ predicted style mbs chosen. small_divides rules.mbs two mbs;
+    sequence_wraps = λ n sequence header slices. refl;
     message_again = λ message fits count. message_back message;
   };
   read_again = λ n sequence predicted header mbs j slice chosen fits e.

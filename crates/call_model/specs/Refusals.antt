@@ -49,22 +49,22 @@ NoneWhereNearBoth {Frame} {Style} {Mb} {Picture} {Fault} {MessageFault} coding r
     ↔ IsNearBoth coding rules frames both e
 
 -- a call, and whether none of its events was refused
-pub record Judged (Style Mb Picture : Type 0) : Type 0 where
+pub record Checked (Style Mb Picture : Type 0) : Type 0 where
   pub call : Call Style Mb Picture
   pub passed : Bool
 
 module _ {Style Mb Picture : Type 0} (pictures : Pictures Style Mb Picture) (rules : Rules) (source : Source Style Mb Picture) (count : ℕ) where
-  abbrev pub judged_event : Judged Style Mb Picture → Event → Judged Style Mb Picture
-  judged_event j e = record {
+  abbrev pub checked_event : Checked Style Mb Picture → Event → Checked Style Mb Picture
+  checked_event j e = record {
     call = after pictures rules source j.call e;
     passed = not (is_some (refusal_in rules count j.call e)) && j.passed;
   }
 
   -- the call after these events, the newest first, with that
-  abbrev pub judged_call : List Event → Judged Style Mb Picture
-  judged_call [] = record { call = start pictures rules source; passed = true }
-  judged_call (e ∷ past) = judged_event (judged_call past) e
+  abbrev pub checked_call : List Event → Checked Style Mb Picture
+  checked_call [] = record { call = start pictures rules source; passed = true }
+  checked_call (e ∷ past) = checked_event (checked_call past) e
 
   -- none of the events was refused exactly where each is near
   abbrev pub PassedWhereNear : Type 0
-  PassedWhereNear = (past : List Event) → ((judged_call past).passed ≡ true) ↔ AllNearFrom pictures rules source count past
+  PassedWhereNear = (past : List Event) → ((checked_call past).passed ≡ true) ↔ AllNearFrom pictures rules source count past

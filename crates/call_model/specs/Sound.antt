@@ -46,7 +46,7 @@ play_message rules c =
 module _ {Style Mb Picture Fault : Type 0} (decoding : Decoding Style Mb Picture Fault) (rules : Rules) where
   -- the receiver is where the call is: it has played as much and shows the same, has taken what has
   -- arrived, and has complete what is full, with its reconstruction
-  pub record ReceiverFollows (c : Call Style Mb Picture) (run : ReceiverRun Style Mb Picture) : Type 0 where
+  pub record ReceiverIsAt (c : Call Style Mb Picture) (run : ReceiverRun Style Mb Picture) : Type 0 where
     pub played : run.played ≡ c.played
     pub screen : run.screen ≡ shown_last decoding.pictures c.plays
     pub taken : MatchArrivals rules c.coded c.arrivals run.taken
@@ -100,8 +100,8 @@ module _ {Style Mb Picture Fault : Type 0} (decoding : Decoding Style Mb Picture
 
   -- A receiver in a near call of any sound sender is where the call is, answers and plays as the
   -- call says, and its messages are understood.
-  pub record Follows (source : Source Style Mb Picture) (packets : Packets Style Mb Picture) (count : ℕ) (past : List Event) : Type 0 where
-    pub state : ReceiverFollows (call_from decoding.pictures rules source past) (received source packets past)
+  pub record FollowsTheCall (source : Source Style Mb Picture) (packets : Packets Style Mb Picture) (count : ℕ) (past : List Event) : Type 0 where
+    pub state : ReceiverIsAt (call_from decoding.pictures rules source past) (received source packets past)
     pub answers : AnswersAsTheCall source packets count past
     pub plays : PlaysAsTheCall source packets count past
     pub messages : (k : ℕ) (note : Note) → slice_get (call_from decoding.pictures rules source past).said k ≡ Some note
@@ -109,7 +109,7 @@ module _ {Style Mb Picture Fault : Type 0} (decoding : Decoding Style Mb Picture
 
   abbrev pub AnySoundSender : Type 0
   AnySoundSender = (source : Source Style Mb Picture) (packets : Packets Style Mb Picture) (count : ℕ) (past : List Event) →
-      AllNearFrom decoding.pictures rules source count past → AllSound source packets past → Follows source packets count past
+      AllNearFrom decoding.pictures rules source count past → AllSound source packets past → FollowsTheCall source packets count past
 
 -- the answer refuses the packet
 abbrev pub is_refused : {Fault : Type 0} → Heard Fault → Bool

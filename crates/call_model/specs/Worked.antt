@@ -6,7 +6,7 @@ use Rattle.call_model.specs.Coding.{Rules, Mark, Message, Shown}
 use Rattle.call_model.specs.CodedPictures.{Coded}
 use Rattle.call_model.specs.IdealCall.{Event, Send, Deliver, Play, Back, Call, encoded, ideal}
 use Rattle.call_model.specs.Sending.{packets_of, SenderRun, Capture, Feedback, Reply, feedback_answer, sender_run}
-use Rattle.call_model.specs.Refusals.{judged_call}
+use Rattle.call_model.specs.Refusals.{checked_call}
 use Rattle.call_model.specs.Lawful.{IsRules, IsPace}
 use Rattle.call_model.specs.TwoStores.{Agree}
 use Rattle.call_model.specs.Receiving.{Heard, heard, ReceiverEntry, Packet, PlayNext, receiver_run}
@@ -48,7 +48,7 @@ ends_of scene = joined small scene.rules (new_receiver small scene.rules) scene.
 -- each event is near
 abbrev pub all_near : Scene → Bool
 all_near scene =
-    (judged_call small_pictures scene.rules (encoded small scene.rules scene.pace scene.frames) (length scene.frames) (reverse scene.events)).passed
+    (checked_call small_pictures scene.rules (encoded small scene.rules scene.pace scene.frames) (length scene.frames) (reverse scene.events)).passed
 
 -- a scene whose rules and pace meet what the laws ask
 pub record IsScene (scene : Scene) : Type 0 where
