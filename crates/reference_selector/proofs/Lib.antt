@@ -1,0 +1,4 @@
+mod Choosing
+mod Keeping
+mod Nearest
+mod Flags
