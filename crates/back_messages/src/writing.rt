@@ -106,7 +106,8 @@ pub fn write(message: &Message) -> Said
 
 /// How many bits a message has, 24 or 40.
 pub fn message_bits(message: &Message) -> u32
-    ensures { result ≡ message_bits message.now }
+    ensures bits { result ≡ message_bits message.now }
+    ensures few { result ≤ 40 }
 {
     match message.marks() {
         None => 24,

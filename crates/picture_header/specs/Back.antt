@@ -2,7 +2,7 @@
 use Rattle.std.specs.Prelude.{◌≡◌, List, Option, Result, Ok, Err}
 use Rattle.h263_bits.specs.declared.fault.Fault.{Fault}
 use Rattle.h263_bits.specs.Reading.{Bits}
-use Rattle.back_messages.specs.declared.Message.{Message}
+use Rattle.back_messages.specs.declared.message.Message.{Message}
 use Rattle.picture_header.specs.Text.{in_places}
 
 -- the call answered the messages of a reading in their places, or its fault

@@ -2,3 +2,5 @@ pub mod Text
 pub mod Back
 pub mod Written
 pub mod Ranges
+pub mod Made
+pub mod Laws

@@ -1,15 +1,18 @@
 -- The picture header (H.263, 5.1, with Annexes K and N on): its fields in their order, from the last bits of the start code to the last PEI.
-use Rattle.std.specs.Prelude.{Bool, ℕ, ◌-◌, List, [], ◌∷◌, ◌++◌, length, take, map, Option, Some, None, nat_lt, ◌==◌, if◌then◌else◌}
+use Rattle.std.specs.Prelude.{Bool, ℕ, ◌+◌, ◌-◌, ◌*◌, ◌%◌, ◌^◌, List, [], ◌∷◌, ◌++◌, length, take, map, Option, Some, None, nat_lt, nat_le, ◌==◌, if◌then◌else◌}
 use Rattle.h263_types.specs.declared.format.Format.{Format}
 use Rattle.h263_types.specs.declared.format.Format.TheVariants.{SubQcif, Qcif, Cif}
 use Rattle.h263_types.specs.declared.Kind.{Kind}
 use Rattle.h263_types.specs.declared.Kind.TheVariants as kinds
+use Rattle.h263_types.specs.declared.clock.Clock.{Clock}
+use Rattle.h263_types.specs.declared.clock.Clock.TheVariants.{Standard, Custom}
 use Rattle.picture_header.specs.declared.header.Header.{Header}
+use Rattle.h263_types.specs.Clocks.{period_of}
 use Rattle.h263_bits.specs.declared.fault.FaultKind.TheVariants as faults
 use Rattle.h263_bits.specs.declared.fault.Fault.{Fault}
 use Rattle.h263_bits.specs.Reading.{Bits, first_fault}
 use Rattle.h263_bits.specs.Syntax.{Syntax, either, Allowed, any, only, done, field, element, part, repeat, Turn, again, finally, Spells, reading}
-use Rattle.back_messages.specs.declared.Message.{Message}
+use Rattle.back_messages.specs.declared.message.Message.{Message}
 use Rattle.back_messages.specs.Text.{message}
 
 -- ---- the fields whose values are chosen
@@ -33,13 +36,21 @@ is_kind n = if nat_lt n 2 then None else Some faults.PictureKind
 abbrev pub kind_of : ℕ → Kind
 kind_of n = if n == 0 then kinds.I else kinds.P
 
+-- the clock of a picture (OPPTYPE, bit 4)
+abbrev pub clock_of : ℕ → Clock
+clock_of n = if n == 0 then Standard else Custom
+
+-- a divisor that isn't 0, behind one bit (CPCFC, 5.1.7)
+abbrev pub is_divisor : Allowed ℕ
+is_divisor n = if n % 2 ^ 7 == 0 then Some faults.Divisor else None
+
 -- the four modes of the back channel (RPSMF)
 abbrev pub is_channel : Allowed ℕ
 is_channel n = if nat_lt n 4 then Some faults.Rpsmf else None
 
--- a temporal reference of eight bits, in a field of ten (TRP)
-abbrev pub is_low : Allowed ℕ
-is_low n = if nat_lt 255 n then Some faults.HighBits else None
+-- a temporal reference of the clock, in a field of ten bits (TRP)
+abbrev pub is_low : Clock → Allowed ℕ
+is_low clock n = if nat_le (period_of clock) n then Some faults.HighBits else None
 
 -- a quantiser (PQUANT)
 abbrev pub is_quant : Allowed ℕ
@@ -58,25 +69,37 @@ opening =
     done tr
 
 -- PLUSPTYPE: UFEP, OPPTYPE and MPPTYPE (5.1.4)
-unfoldable pub plus_type : Format → Syntax (Kind × ℕ)
+unfoldable pub plus_type : Format → Syntax (Clock × Kind × ℕ)
 plus_type format =
     field 3 (only 1 faults.Ufep) λ ufep.
     field 3 (is_format format) λ source.
-    field 1 (only 0 faults.CustomClock) λ clock.
+    field 1 any λ custom.
     field 10 (only 24 faults.Modes) λ modes.
     field 4 (only 8 faults.Marker) λ tail.
     field 3 is_kind λ kind.
     field 2 (only 0 faults.Resampling) λ resampling.
     field 1 any λ rounding.
     field 3 (only 1 faults.Marker) λ end.
-    done (kind_of kind, rounding)
+    done (clock_of custom, kind_of kind, rounding)
+
+-- CPM (5.1.20)
+unfoldable pub multipoint : Syntax (Unit {0})
+multipoint = field 1 (only 0 faults.Cpm) λ cpm. done tt
+
+-- in a custom clock CPCFC, and ETR, the two high bits of the temporal reference; its low bits are those of TR (5.1.7, 5.1.8)
+unfoldable pub extended : Clock → ℕ → Syntax ℕ
+extended Standard tr = done tr
+extended Custom tr =
+    field 8 is_divisor λ cpcfc.
+    field 2 any λ etr.
+    done (256 * etr + tr)
 
 -- TRPI, and TRP in a picture that refers to another (5.1.14, 5.1.15)
-unfoldable pub reference : Kind → Syntax (Option ℕ)
-reference kinds.I = field 1 (only 0 faults.IntraReference) λ refers. done None
-reference kinds.P =
+unfoldable pub reference : Clock → Kind → Syntax (Option ℕ)
+reference clock kinds.I = field 1 (only 0 faults.IntraReference) λ refers. done None
+reference clock kinds.P =
     field 1 (only 1 faults.NoReference) λ refers.
-    field 10 is_low λ trp.
+    field 10 (is_low clock) λ trp.
     done (Some trp)
 
 -- PEI, and the byte behind a 1, which is passed over (5.1.24, 5.1.25)
@@ -101,20 +124,20 @@ bci =
     either (more == 0) (field 1 (only 1 faults.Bci) λ end. done 0) (done 1)
 
 -- BCI and a message, or BCI alone (5.1.17)
-unfoldable pub next_message : ℕ → Syntax (Option Message)
-next_message used =
+unfoldable pub next_message : Clock → ℕ → Syntax (Option Message)
+next_message clock used =
     element bci (has_room used) λ more.
-    either (more == 0) (done None) (part message any λ m. done (Some m))
+    either (more == 0) (done None) (part (message clock) any λ m. done (Some m))
 
 abbrev pub after_message : List Message → Option Message → Turn (List Message) (List Message)
 after_message messages None = finally messages
 after_message messages (Some m) = again (messages ++ m ∷ [])
 
-unfoldable pub back_turn : List Message → Syntax (Turn (List Message) (List Message))
-back_turn messages = part (next_message (length messages)) any λ next. done (after_message messages next)
+unfoldable pub back_turn : Clock → List Message → Syntax (Turn (List Message) (List Message))
+back_turn clock messages = part (next_message clock (length messages)) any λ next. done (after_message messages next)
 
-unfoldable pub back : Syntax (List Message)
-back = repeat [] back_turn
+unfoldable pub back : Clock → Syntax (List Message)
+back clock = repeat [] (back_turn clock)
 
 -- the messages first, in four places
 abbrev pub in_places : List Message → List (Option Message)
@@ -122,28 +145,25 @@ in_places messages = take 4 (map Some messages ++ None ∷ None ∷ None ∷ Non
 
 -- ---- the whole header
 
--- CPM, SSS and RPSMF (5.1.20, 5.1.10, 5.1.13)
+-- SSS and RPSMF (5.1.10, 5.1.13)
 unfoldable pub channel : Syntax ℕ
 channel =
-    field 1 (only 0 faults.Cpm) λ cpm.
     field 2 (only 0 faults.SliceMode) λ sss.
     field 3 is_channel λ rpsmf.
     done (rpsmf - 4)
 
--- PQUANT (5.1.19)
-unfoldable pub quant : Syntax ℕ
-quant = field 5 is_quant λ quant. done quant
-
 unfoldable pub header : Format → Syntax Header
 header format =
-    part opening any λ tr.
+    part opening any λ low.
     part (plus_type format) any λ type.
+    part multipoint any λ cpm.
+    part (extended type.0 low) any λ tr.
     part channel any λ channel.
-    part (reference type.0) any λ trp.
-    part back any λ messages.
-    part quant any λ quant.
+    part (reference type.0 type.1) any λ trp.
+    part (back type.0) any λ messages.
+    field 5 is_quant λ quant.
     part extra any λ end.
-    done (record { tr = tr; format = format; kind = type.0; rounding = type.1; channel = channel; trp = trp; quant = quant; back = in_places messages })
+    done (record { tr = tr; format = format; kind = type.1; rounding = type.2; channel = channel; trp = trp; quant = quant; back = in_places messages; clock = type.0 })
 
 -- the bits are a text of the header: its fields, and free values where the header keeps none
 abbrev pub IsHeaderText : Format → Header → List Bool → Type 0

@@ -4,10 +4,11 @@
 mod header;
 pub mod laws;
 mod reading;
+mod same;
 #[cfg(test)]
 mod tests;
 mod writing;
 
 pub use header::Header;
-pub use reading::read_header;
-pub use writing::{header_bits, write_header};
+pub use reading::{read_header, read_quant};
+pub use writing::{header_bits, kind_bits, write_header, write_reference};

@@ -9,7 +9,7 @@ pub returns-clause-found : goal.returns-clause-found
 returns-clause-found c = reads_texts (λ (h : Header). h) (header c.args.format) c.header_at.result c.args.reader.now c.header_at.new.reader c.header_at.ensures.reads
 
 pub returns-clause-only : goal.returns-clause-only
-returns-clause-only c = texts_read (λ (h : Header). h) (header c.args.format) c.header_at.result c.args.reader.now c.header_at.new.reader (header_productive c.args.format) c.header_at.ensures.reads
+returns-clause-only c = texts_read (λ (h : Header). h) (header c.args.format) c.header_at.result c.args.reader.now c.header_at.new.reader (header_productive c.in_a_syntax.ensures c.args.format) c.header_at.ensures.reads
 
 pub returns-clause-fault : goal.returns-clause-fault
 returns-clause-fault c = reads_fault (λ (h : Header). h) c.header_at.result c.header_at.new.reader (reading (header c.args.format) c.args.reader.now) c.header_at.ensures.reads
