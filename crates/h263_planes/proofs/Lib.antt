@@ -3,3 +3,4 @@ pub mod Pictures
 pub mod Runs
 pub mod Wholes
 pub mod Givens
+mod Spots

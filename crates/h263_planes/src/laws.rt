@@ -7,6 +7,7 @@ ghost use Rattle.h263_planes.specs.Layout.{picture_of};
 ghost use Rattle.h263_planes.specs.declared.Plane.{Plane};
 ghost use Rattle.h263_planes.specs.Samples.{Inside, IsPicture, HasSameSamples, bytes_of, sample_at};
 ghost use Rattle.h263_planes.specs.Given.{picture_with};
+ghost use Rattle.h263_planes.specs.Spots.{AreSpots, ArePicturesBySamples};
 
 /// Two pictures of one format that have the same sample at every place are the same picture.
 pub fn same_samples()
@@ -31,4 +32,16 @@ pub fn samples_are_picture()
     ensures format { (f : Format) (sample : Plane → ℕ → ℕ → ℕ) → (picture_with f sample).format ≡ f }
     ensures samples { (f : Format) (sample : Plane → ℕ → ℕ → ℕ) (plane : Plane) (x y : ℕ) → Inside f plane x y 1 → sample_at (picture_with f sample) plane x y ≡ sample plane x y }
     ensures only { (p : Picture) (sample : Plane → ℕ → ℕ → ℕ) → IsPicture p → ((plane : Plane) (x y : ℕ) → Inside p.format plane x y 1 → sample_at p plane x y ≡ sample plane x y) → p ≡ picture_with p.format sample }
+{}
+
+/// Each sample of a picture has one number, and a macroblock of the picture holds it.
+#[tactic(auto, using(crate::proofs::Spots::spots))]
+pub fn numbered_samples()
+    ensures { AreSpots }
+{}
+
+/// A picture is its samples by their numbers.
+#[tactic(auto, using(crate::proofs::Spots::by_samples))]
+pub fn picture_by_samples()
+    ensures { ArePicturesBySamples }
 {}
