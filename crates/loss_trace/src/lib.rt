@@ -11,3 +11,6 @@ mod reader;
 pub use event::{BadLine, Event, line};
 pub use fault::{TraceFault, TraceStop};
 pub use reader::TraceReader;
+
+#[cfg(test)]
+mod tests;
