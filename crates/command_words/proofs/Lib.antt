@@ -1,0 +1,7 @@
+mod Building
+mod Givens
+mod Rules
+mod Walking
+mod Parsing
+mod Numbers
+mod Reading

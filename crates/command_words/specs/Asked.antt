@@ -1,0 +1,195 @@
+-- What words ask for: a command with its parameters, and the words by which roles are attached.
+use Rattle.std.specs.Prelude.{ℕ, ◌&&◌, ◌≤◌, List, [], ◌∷◌, Option, Some, None, Result, Ok, Err, is_some, nat_le, if◌then◌else◌, codes, find, option_and_then, option_map}
+use Rattle.std.specs.Str.{bytes_eq}
+use Rattle.h263_outside.specs.declared.desk.Role.{Role}
+use Rattle.h263_outside.specs.declared.desk.Role.TheVariants.{Video, Events, Pictures, Wire, Report, Video2, Pictures2}
+use Rattle.h263_types.specs.Params.{IsParams, default_params, ranges, verdict_of}
+use Rattle.h263_types.specs.declared.format.Format.TheVariants.{Qcif}
+use Rattle.h263_types.specs.declared.params.Params.{Params}
+use Rattle.h263_types.specs.declared.params.ParamFault.{ParamFault}
+use Rattle.command_words.specs.Simple.{Text, taken, value}
+use Rattle.command_words.specs.Values.{byte_in, clock_in, format_in, number_in, value_or}
+use Rattle.command_words.specs.declared.command.Command.{Command}
+use Rattle.command_words.specs.declared.command.Command.TheVariants.{Call, Send, Recv, Demo}
+
+-- the value of each name that is given one
+abbrev pub Lookup : Type 0
+Lookup = Text → Option Text
+
+-- ---- parameters
+
+abbrev pub with_format : Lookup → Option Params
+with_format given = option_map default_params (value_or Qcif format_in (given (codes "format")))
+
+abbrev pub with_quant : Lookup → Params → Option Params
+with_quant given p = option_map (λ n. let q : Params = record p { quant = n } in q) (value_or p.quant byte_in (given (codes "quant")))
+
+abbrev pub with_keep : Lookup → Params → Option Params
+with_keep given p = option_map (λ n. let q : Params = record p { keep = n } in q) (value_or p.keep byte_in (given (codes "keep")))
+
+abbrev pub with_radius : Lookup → Params → Option Params
+with_radius given p = option_map (λ n. let q : Params = record p { radius = n } in q) (value_or p.radius byte_in (given (codes "radius")))
+
+abbrev pub with_limit : Lookup → Params → Option Params
+with_limit given p = option_map (λ n. let q : Params = record p { limit = n } in q) (value_or p.limit (number_in 6) (given (codes "limit")))
+
+abbrev pub with_slots : Lookup → Params → Option Params
+with_slots given p = option_map (λ n. let q : Params = record p { slots = n } in q) (value_or p.slots (number_in 6) (given (codes "slots")))
+
+abbrev pub with_lead : Lookup → Params → Option Params
+with_lead given p = option_map (λ n. let q : Params = record p { lead = n } in q) (value_or p.lead (number_in 6) (given (codes "lead")))
+
+abbrev pub with_messages : Lookup → Params → Option Params
+with_messages given p = option_map (λ n. let q : Params = record p { messages = n } in q) (value_or p.messages byte_in (given (codes "messages")))
+
+abbrev pub with_clock : Lookup → Params → Option Params
+with_clock given p = option_map (λ c. let q : Params = record p { clock = c } in q) (value_or p.clock clock_in (given (codes "clock")))
+
+abbrev pub where_ok : Result Unit ParamFault → Params → Option Params
+where_ok (Ok _) p = Some p
+where_ok (Err _) p = None
+
+-- where each is in its range
+abbrev pub in_range : Params → Option Params
+in_range p = where_ok (verdict_of (ranges p)) p
+
+-- what the encoder is asked for
+abbrev pub coding_of : Lookup → Params → Option Params
+coding_of given p = option_and_then (with_limit given) (option_and_then (with_radius given) (option_and_then (with_keep given) (with_quant given p)))
+
+-- what the call is asked for
+abbrev pub timing_of : Lookup → Params → Option Params
+timing_of given p = option_and_then (with_clock given) (option_and_then (with_messages given) (option_and_then (with_lead given) (with_slots given p)))
+
+-- the parameters that the options give, each the default where its option isn't there
+abbrev pub params_of : Lookup → Option Params
+params_of given = option_and_then in_range (option_and_then (timing_of given) (option_and_then (coding_of given) (with_format given)))
+
+-- ---- commands
+
+-- a command, and the words by which its roles are attached
+pub record Asked : Type 0 where
+  pub command : Command
+  pub video : Option Text
+  pub events : Option Text
+  pub pictures : Option Text
+  pub wire : Option Text
+
+-- the first word of a command, the names of its positional words and of its options, and what their values ask for
+pub record Row : Type 0 where
+  pub word : Text
+  pub places : List Text
+  pub options : List Text
+  pub asks : Lookup → Option Asked
+
+abbrev pub call_of : Lookup → Option Asked
+call_of given = option_map (λ params. record {
+  command = Call params (is_some (given (codes "trace")));
+  video = given (codes "in");
+  events = given (codes "trace");
+  pictures = given (codes "out");
+  wire = None;
+}) (params_of given)
+
+abbrev pub call : Row
+call = record {
+  word = codes "call";
+  places = codes "in" ∷ codes "out" ∷ [];
+  options = codes "quant" ∷ codes "keep" ∷ codes "radius" ∷ codes "limit" ∷ codes "slots" ∷ codes "lead" ∷ codes "messages" ∷ codes "clock" ∷ codes "trace" ∷ [];
+  asks = call_of;
+}
+
+abbrev pub send_of : Lookup → Option Asked
+send_of given = option_map (λ params. record {
+  command = Send params;
+  video = given (codes "in");
+  events = given (codes "log");
+  pictures = None;
+  wire = given (codes "wire");
+}) (params_of given)
+
+abbrev pub send : Row
+send = record {
+  word = codes "send";
+  places = codes "in" ∷ codes "log" ∷ codes "wire" ∷ [];
+  options = codes "quant" ∷ codes "keep" ∷ codes "radius" ∷ codes "limit" ∷ codes "slots" ∷ codes "lead" ∷ codes "clock" ∷ [];
+  asks = send_of;
+}
+
+abbrev pub recv_of : Lookup → Option Asked
+recv_of given = option_map (λ params. record {
+  command = Recv params;
+  video = None;
+  events = given (codes "log");
+  pictures = given (codes "out");
+  wire = given (codes "wire");
+}) (params_of given)
+
+abbrev pub recv : Row
+recv = record {
+  word = codes "recv";
+  places = codes "log" ∷ codes "out" ∷ codes "wire" ∷ [];
+  options = codes "format" ∷ codes "slots" ∷ codes "lead" ∷ codes "messages" ∷ codes "clock" ∷ [];
+  asks = recv_of;
+}
+
+-- as many frames as may be made
+abbrev pub frames_in_range : ℕ → Option ℕ
+frames_in_range n = if nat_le 1 n && nat_le n 10000 then Some n else None
+
+abbrev pub seed_in : Option Text → Option ℕ
+seed_in text = option_and_then (number_in 9) text
+
+abbrev pub frames_in : Option Text → Option ℕ
+frames_in text = option_and_then frames_in_range (option_and_then (number_in 5) text)
+
+abbrev pub demo_with : Params → ℕ → ℕ → Asked
+demo_with params seed frames = record { command = Demo params seed frames; video = None; events = None; pictures = None; wire = None }
+
+abbrev pub demo_of : Lookup → Option Asked
+demo_of given = option_and_then (λ params. option_and_then (λ seed. option_map (demo_with params seed)
+    (frames_in (given (codes "frames")))) (seed_in (given (codes "seed")))) (params_of given)
+
+abbrev pub demo : Row
+demo = record {
+  word = codes "demo";
+  places = codes "seed" ∷ codes "frames" ∷ [];
+  options = codes "format" ∷ codes "quant" ∷ codes "keep" ∷ codes "radius" ∷ codes "limit" ∷ codes "slots" ∷ codes "lead" ∷ codes "messages" ∷ codes "clock" ∷ [];
+  asks = demo_of;
+}
+
+-- the commands
+abbrev pub rows : List Row
+rows = call ∷ send ∷ recv ∷ demo ∷ []
+
+-- the command with this first word
+abbrev pub row_named : Text → Option Row
+row_named first = find (λ row. bytes_eq row.word first) rows
+
+-- what the words behind the first ask for
+abbrev pub asked_by : Row → List Text → Option Asked
+asked_by row words = option_and_then (λ given. row.asks (value given)) (taken row.places row.options words)
+
+-- what the words ask for, where they are a command whose parameters are in their ranges
+abbrev pub asked : List Text → Option Asked
+asked [] = None
+asked (first ∷ words) = option_and_then (λ row. asked_by row words) (row_named first)
+
+-- ---- what the caller reads
+
+-- the word by which a role is attached
+abbrev pub word_for : Asked → Role → Option Text
+word_for a Video = a.video
+word_for a Events = a.events
+word_for a Pictures = a.pictures
+word_for a Wire = a.wire
+word_for a Report = None
+word_for a Video2 = None
+word_for a Pictures2 = None
+
+-- the numbers of a command are in their ranges
+abbrev pub IsCommand : Command → Type 0
+IsCommand (Call params traced) = IsParams params
+IsCommand (Send params) = IsParams params
+IsCommand (Recv params) = IsParams params
+IsCommand (Demo params seed frames) = IsParams params × (seed ≤ 999999999) × (1 ≤ frames) × (frames ≤ 10000)

@@ -1,0 +1,27 @@
+// The commands.
+use h263_types::Params;
+
+/// What the program is asked for. Each parameter is in its range; of `call` and `send` the format is QCIF until the
+/// video is read.
+#[derive(Clone, Copy, Debug, PartialEq, Eq)]
+pub enum Command {
+    /// Both ends over a trace, or over the plain trace of the video where `traced` is false.
+    Call {
+        params: Params,
+        traced: bool,
+    },
+    /// The sender alone.
+    Send {
+        params: Params,
+    },
+    /// The receiver alone.
+    Recv {
+        params: Params,
+    },
+    /// The call on made input: a seed below 1,000,000,000, and 1 to 10,000 frames.
+    Demo {
+        params: Params,
+        seed: u32,
+        frames: u32,
+    },
+}

@@ -1,0 +1,71 @@
+// The forms of the commands: a first word, the names of the positional words in their order, and the options.
+ghost use Rattle.std.specs.Prelude.{◌≡◌, ◌≤◌, length, option_map};
+ghost use Rattle.command_words.specs.Asked.{row_named};
+ghost use Rattle.command_words.specs.Clap.{texts};
+ghost use Rattle.command_words.specs.View.{row_of};
+
+#[derive(Clone, Copy, Debug, PartialEq, Eq)]
+pub(crate) enum Form {
+    Call,
+    Send,
+    Recv,
+    Demo,
+}
+
+static CALL_PLACES: [&str; 2] = ["in", "out"];
+
+static CALL_OPTIONS: [&str; 9] = [
+    "quant", "keep", "radius", "limit", "slots", "lead", "messages", "clock", "trace",
+];
+
+static SEND_PLACES: [&str; 3] = ["in", "log", "wire"];
+
+static SEND_OPTIONS: [&str; 7] = ["quant", "keep", "radius", "limit", "slots", "lead", "clock"];
+
+static RECV_PLACES: [&str; 3] = ["log", "out", "wire"];
+
+static RECV_OPTIONS: [&str; 5] = ["format", "slots", "lead", "messages", "clock"];
+
+static DEMO_PLACES: [&str; 2] = ["seed", "frames"];
+
+static DEMO_OPTIONS: [&str; 9] = [
+    "format", "quant", "keep", "radius", "limit", "slots", "lead", "messages", "clock",
+];
+
+impl Form {
+    /// The form of the command with this first word.
+    pub(crate) fn named(first: &str) -> Option<Form>
+        ensures { option_map row_of result ≡ row_named first.now }
+    {
+        match first {
+            "call" => Some(Form::Call),
+            "send" => Some(Form::Send),
+            "recv" => Some(Form::Recv),
+            "demo" => Some(Form::Demo),
+            _ => None,
+        }
+    }
+
+    pub(crate) fn places(self) -> &'static [&'static str]
+        ensures value { texts result.now ≡ (row_of self).places }
+        ensures few { length result.now ≤ 16 }
+    {
+        match self {
+            Form::Call => CALL_PLACES.as_slice(),
+            Form::Send => SEND_PLACES.as_slice(),
+            Form::Recv => RECV_PLACES.as_slice(),
+            Form::Demo => DEMO_PLACES.as_slice(),
+        }
+    }
+
+    pub(crate) fn options(self) -> &'static [&'static str]
+        ensures { texts result.now ≡ (row_of self).options }
+    {
+        match self {
+            Form::Call => CALL_OPTIONS.as_slice(),
+            Form::Send => SEND_OPTIONS.as_slice(),
+            Form::Recv => RECV_OPTIONS.as_slice(),
+            Form::Demo => DEMO_OPTIONS.as_slice(),
+        }
+    }
+}
