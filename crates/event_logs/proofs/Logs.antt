@@ -180,8 +180,8 @@ module _ (side : Side) where
   most_is : (n k : ℕ) → k ≤ n → n ≡ k + (n - k)
   most_is n k le = omega (arith, le)
 
-  log_read : (n : ℕ) (text : List ℕ) (found : List Found) (all : List Parts) → text ≡ text_all all → Are side 0 found all → length all ≤ n → (fault_of side n 0 text ≡ None) × (found_of side n 0 text ≡ found)
-  log_read n text found all is are few =
+  log_read : (n : ℕ) (log : List ℕ) (found : List Found) (all : List Parts) → log ≡ text_all all → Are side 0 found all → length all ≤ n → (fault_of side n 0 log ≡ None) × (found_of side n 0 log ≡ found)
+  log_read n log found all is are few =
       let h = all_read n (n - length all) 0 found all (most_is n (length all) few) are in
       (ap (λ (l : List ℕ). fault_of side n 0 l) is ∙ h.0, ap (λ (l : List ℕ). found_of side n 0 l) is ∙ h.1)
 
