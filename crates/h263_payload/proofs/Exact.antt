@@ -6,45 +6,37 @@ use Rattle.std.proofs.lemmas.List.{append-nil, length-append, length-drop, lengt
 use Rattle.h263_bits.specs.declared.fault.Fault.{Fault}
 use Rattle.h263_bits.specs.declared.fault.FaultKind.TheVariants as faults
 use Rattle.h263_bits.specs.Bits.{spelled}
-use Rattle.h263_bits.specs.Reading.{Bits, bits_between, number_at, skip, ok, err, ◌>>=◌}
+use Rattle.h263_bits.specs.Reading.{Bits, number_at, skip, ok, err, ◌>>=◌}
 use Rattle.h263_bits.specs.Syntax.{reading, any, done, field, either, Spells, IsProductive}
-use Rattle.h263_bits.specs.Bits.{bits_of}
-use Rattle.h263_bits.proofs.SyntaxLaws.{length-spelled, length-bits_of, length-window, drop-window, take-take, Between, bind_ok, sound, complete, number_takes, number_again, either_productive, ok_is, err_not_ok}
+use Rattle.h263_bits.proofs.SyntaxLaws.{passed_if, passed_unless, length-spelled, take-take, bind_ok, sound, complete, number_takes, number_again, either_productive, ok_is, err_not_ok}
 use Rattle.h263_types.specs.declared.format.Format.{Format}
 use Rattle.picture_header.specs.declared.header.Header.{Header}
 use Rattle.picture_header.specs.Text.{header}
-use Rattle.picture_header.proofs.Loops.{header_productive}
+use Rattle.picture_header.specs.Laws.{HeaderLaws}
+use Rattle.h263_payload.specs.declared.payload.Opening.{Opening}
 use Rattle.h263_payload.specs.declared.payload.Payload.{Payload}
-use Rattle.h263_payload.specs.Text.{opening, IsExtra, IsBegun, IsPayload}
+use Rattle.h263_payload.specs.Text.{opening, leading, IsExtra, IsBegun, IsPayload}
+use Rattle.h263_payload.specs.Ranges.{IsOpening}
 use Rattle.h263_payload.specs.Faults.{first_bits, filled, extra_at, begun_as, begun_at, payload_at}
-
-passed_if : {A : Type 0} (t : Bool) (f : Fault) (x : Result A Fault) (r : A) → cond t (err f) x ≡ ok r → (t ≡ false) × (x ≡ Ok r)
-passed_if true f x r e = absurd (err_not_ok f r e)
-passed_if false f x r e = (refl, e)
-
-passed_unless : {A : Type 0} (t : Bool) (f : Fault) (x : Result A Fault) (r : A) → cond t x (err f) ≡ ok r → (t ≡ true) × (x ≡ Ok r)
-passed_unless true f x r e = (refl, e)
-passed_unless false f x r e = absurd (err_not_ok f r e)
 
 -- ---- the first fields
 
-pub record IsOpening (x : ℕ × ℕ) (bits : List Bool) : Type 0 where
-  pub plen : x.0 < 64
-  pub pebit : x.1 < 8
+pub record IsLeading (o : Opening) (bits : List Bool) : Type 0 where
+  pub range : IsOpening o
   pub long : 16 ≤ length bits
 
-pub opening_is : (x : ℕ × ℕ) (bits : List Bool) → Spells opening x bits → IsOpening x bits
+opening_is : (follow_on : Bool) (o : Opening) (bits : List Bool) → Spells (opening follow_on) o bits → IsLeading o bits
 unfolding opening Spells
-opening_is x bits s =
+opening_is follow_on o bits s =
     let rr = s.5 in
     let p = rr.5 in
     let v = p.5 in
     let plen = v.5 in
-    let rest = v.1 in
-    let same : x ≡ (v.0, plen.0) = value (p.0 == 0) v.0 plen.0 plen.1 plen.5 in
+    let value : Opening = record { p = rr.0 == 1; v = p.0 == 1; plen = v.0; pebit = plen.0 } in
+    let same : o ≡ value = plen.5.0 in
+    let range : IsOpening value = record { plen = v.2; pebit = plen.2 } in
     record {
-      plen = subst (λ (y : ℕ × ℕ). y.0 < 64) (sym same) v.2;
-      pebit = subst (λ (y : ℕ × ℕ). y.1 < 8) (sym same) plen.2;
+      range = subst IsOpening (sym same) range;
       long = omega (
         arith,
         ap length s.4,
@@ -64,17 +56,24 @@ opening_is x bits s =
         length-spelled 3 plen.0,
       );
     }
-  where
-    value : (t : Bool) (plen pebit : ℕ) (rest : List Bool) → Spells (either t (done (plen, pebit)) (field 8 any (λ redundancy. done (plen, pebit)))) x rest → x ≡ (plen, pebit)
-    value true plen pebit rest h = h.0
-    value false plen pebit rest h = h.5.0
 
-pub opening_productive : IsProductive opening
-unfolding opening IsProductive
-opening_productive rr p v plen pebit = either_productive (v == 0) (done (plen, pebit)) (field 8 any (λ redundancy. done (plen, pebit))) (one plen pebit) (λ w. one plen pebit)
+pub leading_is : (o : Opening) (bits : List Bool) → Spells leading o bits → IsLeading o bits
+unfolding leading Spells
+leading_is o bits s =
+    let first = opening_is false s.0 s.1 s.4 in
+    let same : o ≡ s.0 = value s.0.v s.2 s.6 in
+    record { range = subst IsOpening (sym same) first.range; long = omega (arith, first.long, ap length s.3, length-append s.1 s.2) }
   where
-    one : (a b : ℕ) → IsProductive (done {A = ℕ × ℕ} (a, b))
-    one a b = tt
+    value : (t : Bool) (rest : List Bool) → Spells (either t (field 8 any (λ redundancy. done s.0)) (done s.0)) o rest → o ≡ s.0
+    value true rest h = h.5.0
+    value false rest h = h.0
+
+pub leading_productive : IsProductive leading
+unfolding leading opening IsProductive
+leading_productive = (λ rr p v plen pebit. tt, λ o. either_productive o.v (field 8 any (λ redundancy. done o)) (done o) (λ w. one o) (one o))
+  where
+    one : (o : Opening) → IsProductive (done o)
+    one o = tt
 
 -- ---- the extra header
 
@@ -184,24 +183,23 @@ begun_ok extra b p e =
 pub read_text : (format : Format) (p : Payload) (b : Bits) → payload_at format b ≡ Ok p → IsPayload format p b
 unfolding payload_at
 read_text format p b e =
-    let one = bind_ok (reading opening b) (λ x. extra_at format x.0.0 x.0.1 x.1 >>= λ extra. begun_at extra (skip (8 * x.0.0) x.1)) p e in
+    let one = bind_ok (reading leading b) (λ x. extra_at format x.0.plen x.0.pebit x.1 >>= λ extra. begun_at extra (skip (8 * x.0.plen) x.1)) p e in
     let x = one.0.0 in
     let c = one.0.1 in
-    let n = 8 * x.0 in
-    let two = bind_ok (extra_at format x.0 x.1 c) (λ extra. begun_at extra (skip n c)) p one.2 in
-    let front = sound opening b c x one.1 in
-    let middle = extra_ok format x.0 x.1 two.0 c (opening_is x front.0 front.2).pebit two.1 in
+    let n = 8 * x.plen in
+    let two = bind_ok (extra_at format x.plen x.pebit c) (λ extra. begun_at extra (skip n c)) p one.2 in
+    let front = sound leading b c x one.1 in
+    let middle = extra_ok format x.plen x.pebit two.0 c (leading_is x front.0 front.2).range.pebit two.1 in
     let start = begun_ok two.0 (skip n c) p two.2 in
     let extra : p.extra ≡ two.0 = ap (λ (q : Payload). q.extra) start.value in
     record {
-      plen = x.0;
-      pebit = x.1;
+      opening = x;
       front = front.0;
       middle = take n c.bits;
       coded = drop n c.bits;
       parts = front.1.parts ∙ ap (λ (t : List Bool). front.0 ++ t) (sym (take-append-drop n c.bits));
       opened = front.2;
-      extra = subst (λ (o : Option Header). IsExtra format x.0 x.1 o (take n c.bits)) (sym extra) middle.text;
+      extra = subst (λ (o : Option Header). IsExtra format x.plen x.pebit o (take n c.bits)) (sym extra) middle.text;
       begun = start.begun;
       begins = ap (λ (q : Payload). q.begins) start.value ∙ ap (λ (o : Option Header). is_none o) (sym extra);
       from = ap (λ (q : Payload). q.from) start.value ∙ omega (arith, front.1.at, length-take n c.bits, middle.fits);
@@ -213,10 +211,10 @@ record IsReadMiddle (format : Format) (plen pebit : ℕ) (extra : Option Header)
   len : length middle ≡ 8 * plen
   read : extra_at format plen pebit (record { at = at; bits = middle ++ coded }) ≡ Ok extra
 
-extra_again : (format : Format) (plen pebit : ℕ) (extra : Option Header) (at : ℕ) (middle coded : List Bool) → IsExtra format plen pebit extra middle → IsReadMiddle format plen pebit extra at middle coded
+extra_again : HeaderLaws → (format : Format) (plen pebit : ℕ) (extra : Option Header) (at : ℕ) (middle coded : List Bool) → IsExtra format plen pebit extra middle → IsReadMiddle format plen pebit extra at middle coded
 unfolding extra_at
-extra_again format plen pebit None at middle coded t = record { len = omega (arith, ap length t.1, t.0); read = rw t.0 refl }
-extra_again format plen pebit (Some h) at middle coded t =
+extra_again laws format plen pebit None at middle coded t = record { len = omega (arith, ap length t.1, t.0); read = rw t.0 refl }
+extra_again laws format plen pebit (Some h) at middle coded t =
     let text = t.0 in
     let rest = t.1 in
     let len : length middle ≡ 8 * plen = t.4 in
@@ -224,7 +222,7 @@ extra_again format plen pebit (Some h) at middle coded t =
     let first : take (8 * plen - pebit) (middle ++ coded) ≡ text ++ [] =
     ap (λ (x : List Bool). take (8 * plen - pebit) (x ++ coded)) t.2 ∙ ap (take (8 * plen - pebit)) (append_assoc text rest coded) ∙ take_at text (rest ++ coded) (8 * plen - pebit) size ∙ sym (append-nil text) in
     let read : reading (header format) (first_bits (8 * plen - pebit) (record { at = at; bits = middle ++ coded })) ≡ Ok (h, record { at = at + length text; bits = [] }) =
-    ap (λ (x : List Bool). reading (header format) (record { at = at; bits = x })) first ∙ complete (header format) h text [] at (header_productive format) t.6 in
+    ap (λ (x : List Bool). reading (header format) (record { at = at; bits = x })) first ∙ complete (header format) h text [] at (laws.productive format) t.6 in
     record { len = len; read = rw (ne_eqb plen 0 (λ same. omega (arith, same, t.3)), le-ltb (length (middle ++ coded)) (8 * plen) (omega (arith, len, length-append middle coded)), read) refl }
 
 begun_again : (extra : Option Header) (begins : Bool) (at : ℕ) (rest : List Bool) → begins ≡ is_none extra → begun_at extra (record { at = at; bits = true ∷ not begins ∷ rest }) ≡ Ok (record { extra = extra; begins = begins; from = at })
@@ -238,30 +236,13 @@ begun_again extra false at rest e =
     ap (λ (t : List Bool). number_at 2 (record { at = at; bits = t ++ rest })) (sym three_is) ∙ number_again 2 3 at rest (omega arith) in
     rw (three, ← e) refl
 
-pub text_read : (format : Format) (p : Payload) (b : Bits) → IsPayload format p b → payload_at format b ≡ Ok p
+pub text_read : HeaderLaws → (format : Format) (p : Payload) (b : Bits) → IsPayload format p b → payload_at format b ≡ Ok p
 unfolding payload_at
-text_read format p b s =
+text_read laws format p b s =
     let at = b.at + length s.front in
-    let one : reading opening b ≡ Ok ((s.plen, s.pebit), record { at = at; bits = s.middle ++ s.coded }) =
-    ap (λ (t : List Bool). reading opening (record { at = b.at; bits = t })) s.parts ∙ complete opening (s.plen, s.pebit) s.front (s.middle ++ s.coded) b.at opening_productive s.opened in
-    let two = extra_again format s.plen s.pebit p.extra at s.middle s.coded s.extra in
-    let coded : drop (8 * s.plen) (s.middle ++ s.coded) ≡ true ∷ not p.begins ∷ s.begun.0 = drop_at s.middle s.coded (8 * s.plen) two.len ∙ s.begun.1 in
-    let place : at + 8 * s.plen ≡ p.from = omega (arith, s.from, two.len) in
+    let one : reading leading b ≡ Ok (s.opening, record { at = at; bits = s.middle ++ s.coded }) =
+    ap (λ (t : List Bool). reading leading (record { at = b.at; bits = t })) s.parts ∙ complete leading s.opening s.front (s.middle ++ s.coded) b.at leading_productive s.opened in
+    let two = extra_again laws format s.opening.plen s.opening.pebit p.extra at s.middle s.coded s.extra in
+    let coded : drop (8 * s.opening.plen) (s.middle ++ s.coded) ≡ true ∷ not p.begins ∷ s.begun.0 = drop_at s.middle s.coded (8 * s.opening.plen) two.len ∙ s.begun.1 in
+    let place : at + 8 * s.opening.plen ≡ p.from = omega (arith, s.from, two.len) in
     rw (one, two.read, coded, place) (begun_again p.extra p.begins p.from s.begun.0 s.begins)
-
--- ---- places
-
--- what is left behind a text, by its place
-pub record IsMoved (bytes : List ℕ) (to : ℕ) (c : Bits) : Type 0 where
-  pub bits : c ≡ bits_between bytes c.at to
-  pub order : c.at ≤ to
-
-pub moved : (bytes : List ℕ) (from to : ℕ) (text : List Bool) (c : Bits) → from ≤ to → to ≤ 8 * length bytes → Between (bits_between bytes from to) text c → IsMoved bytes to c
-moved bytes from to text c order within h =
-    let n = length text in
-    let len : length (bits_between bytes from to).bits ≡ to - from = length-window (bits_of bytes) from to order (omega (arith, length-bits_of bytes)) in
-    let fits : from + n ≤ to = omega (arith, len, ap length h.parts, length-append text c.bits) in
-    let bits : c.bits ≡ take (to - (from + n)) (drop (from + n) (bits_of bytes)) =
-    sym (drop_at text c.bits n refl) ∙ ap (drop n) (sym h.parts) ∙ drop-window (bits_of bytes) from to n fits in
-    let place : from + n ≡ c.at = sym h.at in
-    record { bits = ap (λ (t : List Bool). record { at = c.at; bits = t }) (bits ∙ ap (λ (k : ℕ). take (to - k) (drop k (bits_of bytes))) place); order = omega (arith, fits, place) }

@@ -10,7 +10,7 @@ use Rattle.picture_header.specs.declared.header.Header.{Header}
 use Rattle.picture_header.specs.Text.{header}
 use Rattle.rtp_header.specs.declared.rtp.Rtp.{Rtp}
 use Rattle.h263_payload.specs.declared.payload.Payload.{Payload}
-use Rattle.h263_payload.specs.Text.{opening}
+use Rattle.h263_payload.specs.Text.{leading}
 
 abbrev pub fault_at : {A : Type 0} → FaultKind → ℕ → Result A Fault
 fault_at kind at = Err (record { kind = kind; at = at })
@@ -44,7 +44,7 @@ begun_at extra b = number_at 2 b >>= λ x. begun_as extra b.at x.0
 
 -- the payload header and the first two bits of the data behind it
 unfoldable pub payload_at : Format → Bits → Result Payload Fault
-payload_at format b = reading opening b >>= λ x. (extra_at format x.0.0 x.0.1 x.1 >>= λ extra. begun_at extra (skip (8 * x.0.0) x.1))
+payload_at format b = reading leading b >>= λ x. (extra_at format x.0.plen x.0.pebit x.1 >>= λ extra. begun_at extra (skip (8 * x.0.plen) x.1))
 
 -- the first fault of the payload header, if there is one
 abbrev pub payload_fault : Format → Bits → Option Fault

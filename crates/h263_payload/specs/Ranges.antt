@@ -1,9 +1,15 @@
 -- What was read is in its ranges.
-use Rattle.std.specs.Prelude.{◌+◌, ◌*◌, ◌≤◌, Option, Some, None}
+use Rattle.std.specs.Prelude.{◌+◌, ◌*◌, ◌<◌, ◌≤◌, Option, Some, None}
 use Rattle.picture_header.specs.declared.header.Header.{Header}
 use Rattle.picture_header.specs.Ranges.{IsHeader}
 use Rattle.rtp_header.specs.declared.rtp.Rtp.{Rtp}
+use Rattle.h263_payload.specs.declared.payload.Opening.{Opening}
 use Rattle.h263_payload.specs.declared.payload.Payload.{Payload}
+
+-- six and three bits
+pub record IsOpening (o : Opening) : Type 0 where
+  pub plen : o.plen < 64
+  pub pebit : o.pebit < 8
 
 -- a header in its ranges, if there is one
 abbrev pub IsExtraHeader : Option Header → Type 0

@@ -8,6 +8,6 @@ mod reading;
 mod tests;
 mod writing;
 
-pub use payload::Payload;
-pub use reading::read_payload;
+pub use payload::{Opening, Payload};
+pub use reading::{read_opening, read_payload};
 pub use writing::write_payload;

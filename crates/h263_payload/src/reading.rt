@@ -2,75 +2,90 @@ ghost use Rattle.std.specs.Prelude.{◌≡◌, ℕ, ◌+◌, ◌*◌, ◌≤◌,
 ghost use Rattle.h263_bits.specs.Reading.{Gives, bits_between, first_fault};
 ghost use Rattle.h263_bits.specs.Syntax.{any, only, field_at, reading};
 ghost use Rattle.rtp_header.specs.Faults.{rtp_in};
-ghost use Rattle.h263_payload.specs.Text.{opening, IsPayload};
+ghost use Rattle.h263_payload.specs.Text.{may_follow, opening, leading, IsPayload};
 ghost use Rattle.h263_payload.specs.Faults.{extra_at, begun_at, payload_at, payload_bits_of, payload_fault};
-ghost use Rattle.h263_payload.specs.Ranges.{IsExtraHeader, IsBehind};
+ghost use Rattle.h263_payload.specs.Ranges.{IsOpening, IsExtraHeader, IsBehind};
+ghost use Rattle.h263_payload.specs.declared.payload.Opening.{Opening};
 ghost use Rattle.h263_payload.specs.declared.payload.Payload.{Payload};
 
-use crate::payload::Payload;
+use crate::payload::{Opening, Payload};
 use h263_bits::{BitReader, Fault, FaultKind};
 use h263_types::Format;
+use picture_header::laws::in_a_syntax;
 use picture_header::{Header, read_header};
 use rtp_header::Rtp;
+use rtp_header::laws::payload_within;
 
-/// Reads RR, P, V, PLEN and PEBIT, and the byte behind a V of 1. Answers PLEN and PEBIT.
+/// Reads P, which is 0 only where a packet may follow on another.
+fn read_p(reader: &mut BitReader<'_>, follow_on: bool) -> Result<u32, Fault>
+    ensures { Gives (λ (v : ℕ). v) result reader.new (field_at 1 (may_follow follow_on) reader.old) }
+{
+    if !follow_on {
+        reader.fixed(1, 1, FaultKind::FollowOn)?;
+        return Ok(1);
+    }
+    reader.bits(1)
+}
+
+/// Reads RR, P, V, PLEN and PEBIT, in which a packet that follows on another is read or refused.
 #[tactic(auto, unfolding(crate::specs::Text::opening, h263_bits::specs::Syntax::reading))]
-fn read_opening(reader: &mut BitReader<'_>) -> Result<(u32, u32), Fault>
-    ensures reads { Gives (λ x. (x.0, x.1)) result reader.new (reading opening reader.old) }
-    ensures plen { IfOk result (λ x. x.0 < 64) }
-    ensures pebit { IfOk result (λ x. x.1 < 8) }
+pub fn read_opening(reader: &mut BitReader<'_>, follow_on: bool) -> Result<Opening, Fault>
+    ensures reads { Gives (λ (o : Opening). o) result reader.new (reading (opening follow_on) reader.old) }
+    ensures range { IfOk result IsOpening }
 {
     reader.bits(5)?;
-    let at = reader.at();
-    if reader.bits(1)? == 0 {
-        return Err(Fault {
-            kind: FaultKind::FollowOn,
-            at,
-        });
-    }
+    let p = read_p(reader, follow_on)?;
     let v = reader.bits(1)?;
     let plen = reader.bits(6)?;
     let pebit = reader.bits(3)?;
-    if v != 0 {
-        reader.bits(8)?;
-    }
-    Ok((plen, pebit))
+    Ok(Opening {
+        p: p == 1,
+        v: v == 1,
+        plen,
+        pebit,
+    })
 }
 
-/// Reads the extra header in `plen` bytes from place `at` on, if there is one. It fills all but the last `pebit` bits.
+/// Reads these, and the byte behind a V of 1.
+#[tactic(auto, unfolding(crate::specs::Text::leading, h263_bits::specs::Syntax::reading))]
+fn read_leading(reader: &mut BitReader<'_>) -> Result<Opening, Fault>
+    ensures reads { Gives (λ (o : Opening). o) result reader.new (reading leading reader.old) }
+    ensures range { IfOk result IsOpening }
+{
+    let opening = read_opening(reader, false)?;
+    if opening.v {
+        reader.bits(8)?;
+    }
+    Ok(opening)
+}
+
+/// Reads the extra header from place `at` on, if there is one. It fills its bytes but for the bits left out.
 fn read_extra(
     bytes: &[u8],
     at: u32,
     end: u32,
-    plen: u32,
-    pebit: u32,
+    opening: Opening,
     format: Format,
 ) -> Result<Option<Header>, Fault>
     requires short { length bytes.now ≤ 65535 }
     requires order { at ≤ end }
     requires within { end ≤ 8 * length bytes.now }
-    requires plen { plen < 64 }
-    requires pebit { pebit < 8 }
-    ensures exact { result ≡ extra_at format plen pebit (bits_between bytes.now at end) }
-    ensures room { IfOk result (λ _. at + 8 * plen ≤ end) }
+    requires opening { IsOpening opening }
+    ensures exact { result ≡ extra_at format opening.plen opening.pebit (bits_between bytes.now at end) }
+    ensures room { IfOk result (λ _. at + 8 * opening.plen ≤ end) }
     ensures range { IfOk result IsExtraHeader }
 {
+    let plen = opening.plen;
     if plen == 0 {
         return Ok(None);
     }
     if end - at < 8 * plen {
-        return Err(Fault {
-            kind: FaultKind::Ended,
-            at,
-        });
+        return Err(FaultKind::Ended.at(at));
     }
-    let mut reader = BitReader::new(bytes, at, at + (8 * plen - pebit));
+    let mut reader = BitReader::new(bytes, at, at + (8 * plen - opening.pebit));
     let header = read_header(&mut reader, format)?;
     if reader.rest() > 0 {
-        return Err(Fault {
-            kind: FaultKind::ExtraHeader,
-            at: reader.at(),
-        });
+        return Err(FaultKind::ExtraHeader.at(reader.at()));
     }
     Ok(Some(header))
 }
@@ -85,19 +100,14 @@ fn read_start(bytes: &[u8], at: u32, end: u32, extra: Option<Header>) -> Result<
 {
     let start = BitReader::new(bytes, at, end).bits(2)?;
     if start < 2 {
-        return Err(Fault {
-            kind: FaultKind::NoStart,
-            at,
-        });
+        return Err(FaultKind::NoStart.at(at));
     }
     let begins = start == 2;
     if begins != extra.is_none() {
-        let kind = if begins {
-            FaultKind::ExtraHeader
-        } else {
-            FaultKind::NoExtraHeader
-        };
-        return Err(Fault { kind, at });
+        if begins {
+            return Err(FaultKind::ExtraHeader.at(at));
+        }
+        return Err(FaultKind::NoExtraHeader.at(at));
     }
     Ok(Payload {
         extra,
@@ -115,10 +125,10 @@ fn first_found(bytes: &[u8], from: u32, end: u32, format: Format) -> Result<Payl
     ensures extra { IfOk result (λ p. IsExtraHeader p.extra) }
 {
     let mut reader = BitReader::new(bytes, from, end);
-    let (plen, pebit) = read_opening(&mut reader)?;
+    let opening = read_leading(&mut reader)?;
     let at = reader.at();
-    let extra = read_extra(bytes, at, end, plen, pebit, format)?;
-    read_start(bytes, at + 8 * plen, end, extra)
+    let extra = read_extra(bytes, at, end, opening, format)?;
+    read_start(bytes, at + 8 * opening.plen, end, extra)
 }
 
 /// Reads the payload header of a packet and the extra picture header, up to the first bit of the data (RFC 4629, 5.1).
@@ -134,5 +144,7 @@ pub fn read_payload(bytes: &[u8], rtp: &Rtp, format: Format) -> Result<Payload, 
     ensures exact { result ≡ payload_at format (payload_bits_of bytes.now rtp.now) }
     ensures range { IfOk result (λ p. IsBehind p rtp.now) }
 {
+    payload_within();
+    in_a_syntax();
     first_found(bytes, 8 * rtp.from, 8 * rtp.to, format)
 }

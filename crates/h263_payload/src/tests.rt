@@ -1,7 +1,7 @@
 //! The payload header's bytes, and each fault at its place.
 use super::*;
-use h263_bits::{BitWriter, Fault, FaultKind};
-use h263_types::{Format, Kind};
+use h263_bits::{BitReader, BitWriter, Fault, FaultKind};
+use h263_types::{Clock, Format, Kind};
 use picture_header::Header;
 use rtp_header::read;
 use std::test::Fail;
@@ -23,6 +23,7 @@ const HEADER: Header = Header {
     trp: None,
     quant: 8,
     back: [None; 4],
+    clock: Clock::Standard,
 };
 
 /// What is read of the packet's first `len` bytes, where three bytes have other values.
@@ -127,4 +128,25 @@ fn first_faults(rt: HostRuntime) {
             "{changes:?} in {len} bytes"
         );
     }
+}
+
+#[test]
+fn fixed_part(rt: HostRuntime) {
+    let table = [
+        ([0x04, 0x00], true, false, 0, 0),
+        ([0xfa, 0x0f], false, true, 1, 7),
+        ([0x05, 0xf8], true, false, 63, 0),
+        ([0x00, 0x00], false, false, 0, 0),
+    ];
+    for (bytes, p, v, plen, pebit) in table {
+        let mut reader = BitReader::new(&bytes, 0, 16);
+        let want = Opening { p, v, plen, pebit };
+        assert_eq!(rt; read_opening(&mut reader, true), Ok(want), "in {bytes:?}");
+        assert_eq!(rt; reader.rest(), 0);
+    }
+    let mut reader = BitReader::new(&[0, 0], 0, 16);
+    assert_eq!(rt;
+        read_opening(&mut reader, false),
+        Err(FaultKind::FollowOn.at(5))
+    );
 }

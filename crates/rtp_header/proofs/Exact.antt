@@ -8,7 +8,7 @@ use Rattle.h263_bits.specs.declared.fault.Fault.{Fault}
 use Rattle.h263_bits.specs.Bits.{bits_of}
 use Rattle.h263_bits.specs.Reading.{Bits, ok, err}
 use Rattle.h263_bits.specs.Syntax.{reading, any, done, Spells, IsProductive}
-use Rattle.h263_bits.proofs.SyntaxLaws.{length-bits_of, bits_of-take, bits_of-append, sound, complete, spells_part, spells_done, spells_whole, either_productive, ok_is, err_not_ok}
+use Rattle.h263_bits.proofs.SyntaxLaws.{length-bits_of, bits_of-take, bits_of-append, sound, complete, spells_part, spells_done, spells_whole, either_productive, ok_is, err_not_ok, passed_if, passed_unless}
 use Rattle.rtp_header.specs.declared.rtp.Rtp.{Rtp}
 use Rattle.rtp_header.specs.Text.{Head, head, extension, behind, header, from_byte, IsPadding, IsRtp}
 use Rattle.rtp_header.specs.Faults.{rtp_in, with_head, with_end, with_payload, end_of, payload_end_of, accepted_of}
@@ -16,14 +16,6 @@ use Rattle.rtp_header.specs.Written.{IsWithin}
 use Rattle.rtp_header.proofs.Heads.{head_length, behind_length, head_productive}
 
 -- ---- what is read spells the packet
-
-passed_if : {A : Type 0} (t : Bool) (f : Fault) (x : Result A Fault) (r : A) → cond t (err f) x ≡ ok r → (t ≡ false) × (x ≡ Ok r)
-passed_if true f x r e = absurd (err_not_ok f r e)
-passed_if false f x r e = (refl, e)
-
-passed_unless : {A : Type 0} (t : Bool) (f : Fault) (x : Result A Fault) (r : A) → cond t x (err f) ≡ ok r → (t ≡ true) × (x ≡ Ok r)
-passed_unless true f x r e = (refl, e)
-passed_unless false f x r e = absurd (err_not_ok f r e)
 
 head_ok : (bytes : List ℕ) (r : Rtp) (read : Result (Head × Bits) Fault) → with_head bytes read ≡ Ok r
     → (x : Head × Bits) × (read ≡ Ok x) × (x.0.version ≡ 2) × (with_end bytes x.0 (end_of (reading (behind x.0) x.1)) ≡ Ok r)

@@ -7,8 +7,8 @@ use Rattle.byteorder.specs.Endian.{big_number}
 use Rattle.h263_bits.specs.declared.fault.FaultKind.TheVariants.{Ended}
 use Rattle.h263_bits.specs.Bits.{bits_of, spelled, number, fields}
 use Rattle.h263_bits.specs.Reading.{Bits, number_at}
-use Rattle.h263_bits.specs.Syntax.{Syntax, Allowed, field, done, any, either, Spells, IsProductive, reading}
-use Rattle.h263_bits.proofs.SyntaxLaws.{spelled-append, length-bits_of, length-spelled, number-push, bits_of-take, bits_of-drop, spells_field, spells_done, complete, sound, ok_is, length-fields}
+use Rattle.h263_bits.specs.Syntax.{field, done, any, either, Spells, IsProductive, reading}
+use Rattle.h263_bits.proofs.SyntaxLaws.{spelled-append, length-bits_of, number-push, bits_of-take, bits_of-drop, spells_field, spells_done, complete, sound, ok_is, length-fields, field_length, done_length}
 use Rattle.rtp_header.specs.Text.{Head, head, extension, behind, from_byte}
 use Rattle.rtp_header.specs.Faults.{end_of}
 
@@ -117,15 +117,6 @@ head_is (b0 ∷ b1 ∷ b2 ∷ b3 ∷ b4 ∷ b5 ∷ b6 ∷ b7 ∷ b8 ∷ b9 ∷ b
     ap (λ (t : List Bool). reading head (record { at = 0; bits = t })) text ∙ head_read (head_of bytes) (bits_of rest) ok
 
 -- ---- its length
-
-field_length : {A : Type 0} (n : ℕ) (allowed : Allowed ℕ) (next : ℕ → Syntax A) (a : A) (bits : List Bool) → Spells (field n allowed next) a bits
-    → (v : ℕ) × (rest : List Bool) × Spells (next v) a rest × (length bits ≡ n + length rest)
-unfolding Spells
-field_length n allowed next a bits h = (h.0, h.1, h.5, ap length h.4 ∙ length-append (spelled n h.0) h.1 ∙ ap (λ (k : ℕ). k + length h.1) (length-spelled n h.0))
-
-done_length : {A : Type 0} (x a : A) (bits : List Bool) → Spells (done x) a bits → length bits ≡ 0
-unfolding Spells
-done_length x a bits h = ap length h.1
 
 pub head_length : (h : Head) (bits : List Bool) → Spells head h bits → length bits ≡ 96
 unfolding head

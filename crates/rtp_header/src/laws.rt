@@ -1,8 +1,9 @@
 //! Laws about an RTP packet, over the definitions alone.
-ghost use Rattle.std.specs.Prelude.{◌≡◌, ℕ, List, Ok};
+ghost use Rattle.std.specs.Prelude.{◌≡◌, ℕ, ◌<◌, ◌≤◌, ◌++◌, List, Bool, length, Ok};
+ghost use Rattle.h263_bits.specs.Bits.{bits_of, fields};
 ghost use Rattle.rtp_header.specs.Text.{IsRtp};
 ghost use Rattle.rtp_header.specs.Faults.{rtp_in};
-ghost use Rattle.rtp_header.specs.Written.{IsWithin};
+ghost use Rattle.rtp_header.specs.Written.{rtp_fields, written_rtp, IsWithin};
 ghost use Rattle.rtp_header.specs.declared.rtp.Rtp.{Rtp};
 
 /// Bytes are read as a packet exactly where they spell it: there is no fault exactly where there is a text.
@@ -19,4 +20,11 @@ pub fn one_reading()
 /// The payload lies in the packet, behind 12 bytes at least.
 pub fn payload_within()
     ensures { (r : Rtp) (bytes : List ℕ) → rtp_in bytes ≡ Ok r → IsWithin r bytes }
+{}
+
+/// What is written of a header is read again, whatever payload follows.
+pub fn read_again()
+    ensures { (bytes payload : List ℕ) (marker : Bool) (sequence timestamp : ℕ) → sequence < 65536 → timestamp < 4294967296
+        → bits_of bytes ≡ fields (rtp_fields marker sequence timestamp) → length payload ≤ 65523
+        → rtp_in (bytes ++ payload) ≡ Ok (written_rtp marker sequence timestamp (length payload)) }
 {}

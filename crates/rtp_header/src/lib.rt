@@ -7,7 +7,7 @@ ghost use Rattle.h263_bits.specs.Reading.{Bits, first_fault};
 ghost use Rattle.h263_bits.specs.Syntax.{reading};
 ghost use Rattle.rtp_header.specs.Text.{Head, from_byte, head, behind, IsRtp};
 ghost use Rattle.rtp_header.specs.Faults.{end_of, payload_end_of, accepted_of, rtp_in, rtp_fault};
-ghost use Rattle.rtp_header.specs.Written.{rtp_fields, IsWithin};
+ghost use Rattle.rtp_header.specs.Written.{rtp_fields, written_rtp, IsWithin};
 
 pub mod laws;
 mod rtp;
@@ -76,16 +76,10 @@ fn accepted(bytes: &[u8], from: u32, to: u32) -> Result<Rtp, Fault>
         → result ≡ accepted_of h from to }
 {
     if bytes[1] % 128 != PAYLOAD_TYPE {
-        return Err(Fault {
-            kind: FaultKind::PayloadType,
-            at: 9,
-        });
+        return Err(FaultKind::PayloadType.at(9));
     }
     if BigEndian::read_u32(&bytes[8..]) != SOURCE {
-        return Err(Fault {
-            kind: FaultKind::Source,
-            at: 64,
-        });
+        return Err(FaultKind::Source.at(64));
     }
     Ok(Rtp {
         marker: bytes[1] / 128 == 1,
@@ -101,32 +95,20 @@ fn first_found(bytes: &[u8]) -> Result<Rtp, Fault>
     ensures { result ≡ rtp_in bytes.now }
 {
     if bytes.len() > 65_535 {
-        return Err(Fault {
-            kind: FaultKind::Long,
-            at: 0,
-        });
+        return Err(FaultKind::Long.at(0));
     }
-    let short = Fault {
-        kind: FaultKind::Short,
-        at: 8 * bytes.len() as u32,
-    };
+    let short = FaultKind::Short.at(8 * bytes.len() as u32);
     if bytes.len() < 12 {
         return Err(short);
     }
     if bytes[0] / 64 != 2 {
-        return Err(Fault {
-            kind: FaultKind::Version,
-            at: 0,
-        });
+        return Err(FaultKind::Version.at(0));
     }
     let Some(from) = header_end(bytes) else {
         return Err(short);
     };
     let Some(to) = payload_end(bytes, from) else {
-        return Err(Fault {
-            kind: FaultKind::Padding,
-            at: short.at - 8,
-        });
+        return Err(FaultKind::Padding.at(8 * bytes.len() as u32 - 8));
     };
     accepted(bytes, from, to)
 }
@@ -150,13 +132,7 @@ pub fn write(marker: bool, sequence: u16, timestamp: u32) -> [u8; 12]
     ensures text { bits_of result ≡ fields (rtp_fields marker sequence timestamp) }
     // It is read again, whatever payload follows.
     ensures again { (payload : List ℕ) → length payload ≤ 65523
-        → rtp_in (result ++ payload) ≡ Ok (record {
-          marker = marker;
-          sequence = sequence;
-          timestamp = timestamp;
-          from = 12;
-          to = 12 + length payload;
-        }) }
+        → rtp_in (result ++ payload) ≡ Ok (written_rtp marker sequence timestamp (length payload)) }
 {
     let mut bytes = [0; 12];
     bytes[0] = 0x80;

@@ -18,17 +18,17 @@ no_head bytes short = at_read (reading head (from_byte 0 bytes)) refl
 
 pub returns-then-bytes-gt65535 : goal.returns-then-bytes-gt65535
 unfolding rtp_in
-returns-then-bytes-gt65535 c = rw (lt-ltb 65535 (length c.args.bytes.now) (omega arith)) refl
+returns-then-bytes-gt65535 c = rw (c.at.ensures, lt-ltb 65535 (length c.args.bytes.now) (omega arith)) refl
 
 pub returns-then-bytes-lt12 : goal.returns-then-bytes-lt12
 unfolding rtp_in
-returns-then-bytes-lt12 c = rw (le-ltb 65535 (length c.args.bytes.now) (omega arith)) (sym (no_head c.args.bytes.now (omega arith)))
+returns-then-bytes-lt12 c = rw (c.at-short.ensures, le-ltb 65535 (length c.args.bytes.now) (omega arith)) (sym (no_head c.args.bytes.now (omega arith)))
 
 pub returns-then-bytes-ne2 : goal.returns-then-bytes-ne2
 unfolding rtp_in
 returns-then-bytes-ne2 c =
     let e = head_is c.args.bytes.now (omega arith) (λ i. omega (arith, c.type_inv.bytes i)) in
-    rw (le-ltb 65535 (length c.args.bytes.now) (omega arith), e, ne_eqb (get_or c.args.bytes.now 0 0 / 64) 2 (λ same. omega (arith, same))) refl
+    rw (c.at-then-bytes-ne2.ensures, le-ltb 65535 (length c.args.bytes.now) (omega arith), e, ne_eqb (get_or c.args.bytes.now 0 0 / 64) 2 (λ same. omega (arith, same))) refl
 
 pub returns-in_default : goal.returns-in_default
 unfolding rtp_in
@@ -36,7 +36,7 @@ returns-in_default c =
     let bytes = c.args.bytes.now in
     let e = head_is bytes (omega arith) (λ i. omega (arith, c.type_inv.bytes i)) in
     let cut : end_of (reading (behind (head_of bytes)) (from_byte 12 bytes)) ≡ None = sym (c.header_end.ensures.end (head_of bytes) (from_byte 12 bytes) e) ∙ c.in_default.is in
-    rw (le-ltb 65535 (length bytes) (omega arith), e, eq-eqb (get_or bytes 0 0 / 64) 2 (omega arith), cut) refl
+    rw (c.at-short.ensures, le-ltb 65535 (length bytes) (omega arith), e, eq-eqb (get_or bytes 0 0 / 64) 2 (omega arith), cut) refl
 
 pub payload_end-requires-clause-within : goal.payload_end-requires-clause-within
 payload_end-requires-clause-within c = rw c.in-Some.is at c.header_end.ensures.within
@@ -48,7 +48,7 @@ returns-in_default-payload_end c =
     let e = head_is bytes (omega arith) (λ i. omega (arith, c.type_inv.bytes i)) in
     let from : end_of (reading (behind (head_of bytes)) (from_byte 12 bytes)) ≡ Some c.in-Some.from = sym (c.header_end.ensures.end (head_of bytes) (from_byte 12 bytes) e) ∙ c.in-Some.is in
     let none : payload_end_of (head_of bytes) bytes c.in-Some.from ≡ None = sym (c.payload_end.ensures (head_of bytes) (from_byte 12 bytes) e) ∙ c.in_default-payload_end.is in
-    rw (le-ltb 65535 (length bytes) (omega arith), e, eq-eqb (get_or bytes 0 0 / 64) 2 (omega arith), from) (sym (ap (with_payload bytes (head_of bytes) c.in-Some.from) none))
+    rw (c.at-in_default-payload_end.ensures, le-ltb 65535 (length bytes) (omega arith), e, eq-eqb (get_or bytes 0 0 / 64) 2 (omega arith), from) (sym (ap (with_payload bytes (head_of bytes) c.in-Some.from) none))
 
 pub returns : goal.returns
 unfolding rtp_in

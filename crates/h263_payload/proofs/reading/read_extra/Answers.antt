@@ -29,29 +29,29 @@ there format plen pebit at end bytes order within some fits =
 
 pub returns-then-plen-eq0-clause-exact : goal.returns-then-plen-eq0-clause-exact
 unfolding extra_at
-returns-then-plen-eq0-clause-exact c = rw (eq-eqb c.args.plen 0 (omega arith)) refl
+returns-then-plen-eq0-clause-exact c = rw (eq-eqb c.args.opening.plen 0 (omega arith)) refl
 
 pub returns-then-end-at-clause-exact : goal.returns-then-end-at-clause-exact
 unfolding extra_at
 returns-then-end-at-clause-exact c =
     let len = length-window (bits_of c.args.bytes.now) c.args.at c.args.end c.requires.order (omega (arith, length-bits_of c.args.bytes.now, c.requires.within)) in
-    rw (ne_eqb c.args.plen 0 (λ same. omega (arith, same)), lt-ltb (length (bits_between c.args.bytes.now c.args.at c.args.end).bits) (8 * c.args.plen) (omega (arith, len))) refl
+    rw (c.at.ensures, ne_eqb c.args.opening.plen 0 (λ same. omega (arith, same)), lt-ltb (length (bits_between c.args.bytes.now c.args.at c.args.end).bits) (8 * c.args.opening.plen) (omega (arith, len))) refl
 
 pub returns-in_err-header-clause-exact : goal.returns-in_err-header-clause-exact
 returns-in_err-header-clause-exact c =
     let p = err_from_is_err_and c.from_residual.result c.from_residual.ensures.1 in
-    let more = there c.args.format c.args.plen c.args.pebit c.args.at c.args.end c.args.bytes.now c.requires.order c.requires.within (omega arith) (omega arith) in
+    let more = there c.args.format c.args.opening.plen c.args.opening.pebit c.args.at c.args.end c.args.bytes.now c.requires.order c.requires.within (omega arith) (omega arith) in
     let read = ap (reading (header c.args.format)) (sym c.new-reader.ensures.bits) ∙ c.in_err-header.ensures.exact in
     rw (p.1, p.2) (sym (more ∙ ap filled read))
 
 pub returns-then-rest-gt0-clause-exact : goal.returns-then-rest-gt0-clause-exact
 returns-then-rest-gt0-clause-exact c =
-    let more = there c.args.format c.args.plen c.args.pebit c.args.at c.args.end c.args.bytes.now c.requires.order c.requires.within (omega arith) (omega arith) in
+    let more = there c.args.format c.args.opening.plen c.args.opening.pebit c.args.at c.args.end c.args.bytes.now c.requires.order c.requires.within (omega arith) (omega arith) in
     let read = ap (reading (header c.args.format)) (sym c.new-reader.ensures.bits) ∙ c.in_ok-header.ensures.exact in
-    rw (more, read, ne_eqb (length c.read_header.new.reader.bits) 0 (λ same. omega (arith, same)), c.at.ensures) refl
+    rw (more, read, ne_eqb (length c.read_header.new.reader.bits) 0 (λ same. omega (arith, same)), c.at-then-rest-gt0-2.ensures, c.at-then-rest-gt0.ensures) refl
 
 pub returns-clause-exact : goal.returns-clause-exact
 returns-clause-exact c =
-    let more = there c.args.format c.args.plen c.args.pebit c.args.at c.args.end c.args.bytes.now c.requires.order c.requires.within (omega arith) (omega arith) in
+    let more = there c.args.format c.args.opening.plen c.args.opening.pebit c.args.at c.args.end c.args.bytes.now c.requires.order c.requires.within (omega arith) (omega arith) in
     let read = ap (reading (header c.args.format)) (sym c.new-reader.ensures.bits) ∙ c.in_ok-header.ensures.exact in
     rw (more, read, eq-eqb (length c.read_header.new.reader.bits) 0 (omega arith)) refl

@@ -68,7 +68,7 @@ pub returns-then-start-lt2-clause-exact : goal.returns-then-start-lt2-clause-exa
 unfolding begun_at
 returns-then-start-lt2-clause-exact c =
     let read = ap (number_at 2) (sym c.new.ensures.bits) ∙ c.in_ok-start.ensures.reads in
-    rw (read, lt-ltb c.in_ok-start.start 2 (omega arith)) refl
+    rw (c.at.ensures, read, lt-ltb c.in_ok-start.start 2 (omega arith)) refl
 
 pub returns-then-begins-clause-exact : goal.returns-then-begins-clause-exact
 unfolding begun_at
@@ -77,16 +77,16 @@ returns-then-begins-clause-exact c =
     let read = ap (number_at 2) (sym c.new.ensures.bits) ∙ c.in_ok-start.ensures.reads in
     let differ = differ_are (start == 2) c.is_none.result c.args.extra c.if-begins-is_none.true c.is_none.ensures in
     let test : (start == 2) ≡ true = eq-eqb start 2 (omega arith) in
-    rw read (sym (unlike c.args.extra c.args.at start (omega arith) differ ∙ ap (λ (t : Bool). fault_at (cond t faults.ExtraHeader faults.NoExtraHeader) c.args.at) test))
+    rw (c.at-then-begins.ensures, read) (sym (unlike c.args.extra c.args.at start (omega arith) differ ∙ ap (λ (t : Bool). fault_at (cond t faults.ExtraHeader faults.NoExtraHeader) c.args.at) test))
 
-pub returns-else-begins-clause-exact : goal.returns-else-begins-clause-exact
+pub returns-then-begins-is_none-clause-exact : goal.returns-then-begins-is_none-clause-exact
 unfolding begun_at
-returns-else-begins-clause-exact c =
+returns-then-begins-is_none-clause-exact c =
     let start = c.in_ok-start.start in
     let read = ap (number_at 2) (sym c.new.ensures.bits) ∙ c.in_ok-start.ensures.reads in
     let differ = differ_are (start == 2) c.is_none.result c.args.extra c.if-begins-is_none.true c.is_none.ensures in
     let test : (start == 2) ≡ false = ne_eqb start 2 (λ same. omega (arith, same)) in
-    rw read (sym (unlike c.args.extra c.args.at start (omega arith) differ ∙ ap (λ (t : Bool). fault_at (cond t faults.ExtraHeader faults.NoExtraHeader) c.args.at) test))
+    rw (c.at-then-begins-is_none.ensures, read) (sym (unlike c.args.extra c.args.at start (omega arith) differ ∙ ap (λ (t : Bool). fault_at (cond t faults.ExtraHeader faults.NoExtraHeader) c.args.at) test))
 
 pub returns-clause-exact : goal.returns-clause-exact
 unfolding begun_at
