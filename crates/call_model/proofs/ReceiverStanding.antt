@@ -35,7 +35,7 @@ taking_chain Fault false false true true true n w m is = absurd (false≢true is
 taking_chain Fault false false true true false n w m is = (refl, refl, refl, refl, refl)
 
 module _ {Style Mb Picture Fault : Type 0} (decoding : Decoding Style Mb Picture Fault) (rules : Rules) (lawful : IsDecoding decoding rules) (ruled : IsRules rules) where
-  same_header_is : (a b : Header Style) → same_header decoding a b ≡ true → a ≡ b
+  pub same_header_is : (a b : Header Style) → same_header decoding a b ≡ true → a ≡ b
   unfolding same_header
   same_header_is a b e =
       let one = and_parts (eqb a.number b.number) _ e in
@@ -95,7 +95,7 @@ module _ {Style Mb Picture Fault : Type 0} (decoding : Decoding Style Mb Picture
   kept_where Taken more ts = refl
   kept_where _ more ts = refl
 
-  not_taken : (run : ReceiverRun Style Mb Picture) (reading : Result (Piece Style Mb) Fault) → is_taking (heard decoding rules run reading) ≡ false → taken_after decoding rules run reading ≡ run.taken
+  pub not_taken : (run : ReceiverRun Style Mb Picture) (reading : Result (Piece Style Mb) Fault) → is_taking (heard decoding rules run reading) ≡ false → taken_after decoding rules run reading ≡ run.taken
   unfolding heard taken_after piece_number
   not_taken run (Err fault) is = refl
   not_taken run (Ok piece) is = by_half (eqb piece.header.half rules.half) is
@@ -115,7 +115,7 @@ module _ {Style Mb Picture Fault : Type 0} (decoding : Decoding Style Mb Picture
       subst (λ (ts : List (TakenSlice Style Mb)). ReceiverKeeps decoding rules r (record (receiver_run decoding rules entries) { taken = ts })) (sym none) stands
 
   -- a packet that is heard as one of n and is taken
-  record IsTakenAs (run : ReceiverRun Style Mb Picture) (n : ℕ) (piece : Piece Style Mb) : Type 0 where
+  pub record IsTakenAs (run : ReceiverRun Style Mb Picture) (n : ℕ) (piece : Piece Style Mb) : Type 0 where
     pub low : run.played ≤ n
     pub high : n ≤ run.played + rules.lead
     pub fits : header_fits decoding rules run.taken n piece.header ≡ true
@@ -128,7 +128,7 @@ module _ {Style Mb Picture Fault : Type 0} (decoding : Decoding Style Mb Picture
   answer_facts run n piece is =
       taking_chain Fault (ltb n run.played) (ltb (run.played + rules.lead) n) (header_fits decoding rules run.taken n piece.header) (has_reference decoding rules run.taken n piece.header) (all_in piece.slice (has_taken run.taken n)) (none_in piece.slice (has_taken run.taken n)) (is_complete rules.mbs (record { number = n; piece = piece } ∷ run.taken) n) _ is
 
-  taken_as : (run : ReceiverRun Style Mb Picture) (n : ℕ) (piece : Piece Style Mb) → nearest rules run.played piece.header.number ≡ Some n → is_taking (heard decoding rules run (Ok piece)) ≡ true → IsTakenAs run n piece
+  pub taken_as : (run : ReceiverRun Style Mb Picture) (n : ℕ) (piece : Piece Style Mb) → nearest rules run.played piece.header.number ≡ Some n → is_taking (heard decoding rules run (Ok piece)) ≡ true → IsTakenAs run n piece
   unfolding heard taken_after piece_number
   taken_as run n piece near is = by_half (eqb piece.header.half rules.half) refl is
     where
@@ -148,7 +148,7 @@ module _ {Style Mb Picture Fault : Type 0} (decoding : Decoding Style Mb Picture
 
   -- ---- a slice more
 
-  complete_other : (ts : List (TakenSlice Style Mb)) (n m : ℕ) (piece : Piece Style Mb) → (m ≡ n → ⊥) → is_complete rules.mbs (record { number = n; piece = piece } ∷ ts) m ≡ is_complete rules.mbs ts m
+  pub complete_other : (ts : List (TakenSlice Style Mb)) (n m : ℕ) (piece : Piece Style Mb) → (m ≡ n → ⊥) → is_complete rules.mbs (record { number = n; piece = piece } ∷ ts) m ≡ is_complete rules.mbs ts m
   unfolding is_complete has_taken
   complete_other ts n m piece differ = let apart : eqb n m ≡ false = ne_eqb n m (λ e. differ (sym e)) in all_below_same rules.mbs _ _ (λ k lt. rw apart refl)
 

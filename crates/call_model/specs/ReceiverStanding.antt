@@ -1,11 +1,11 @@
 -- That a receiver stands for the longer list after a packet and after a play, from what it kept
 -- before.
-use Rattle.std.specs.Prelude.{◌≡◌, ℕ, ◌+◌, ◌%◌, ◌<◌, ◌≤◌, Bool, true, false, ◌&&◌, ◌||◌, nat_lt, ◌==◌, List, [], ◌∷◌, Option, Some, None, Result, Ok, Err, is_some, if◌then◌else◌}
+use Rattle.std.specs.Prelude.{◌≡◌, ℕ, ◌+◌, ◌%◌, ◌<◌, ◌≤◌, Bool, true, false, ◌&&◌, ◌||◌, nat_lt, ◌==◌, List, [], ◌∷◌, Option, Some, None, Result, Ok, Err, is_some, if◌then◌else◌, slice_get}
 use Rattle.std.specs.Option.{option_map, option_map_or}
 use Rattle.call_model.specs.Numbers.{all_below, greatest, flags_of}
 use Rattle.call_model.specs.Coding.{Rules, has_mb, Header, Piece, Message, Mark, Exact, Patched, Held, Decoding, mb_at, mixed, grey}
 use Rattle.call_model.specs.Sending.{nearest}
-use Rattle.call_model.specs.Receiving.{Heard, Refused, OtherClock, Late, Early, Completed, Taken, nack, reference_in, is_complete, decoded, heard, played_mark, played_picture, played_message, ReceiverEntry, Packet, PlayNext, receiver_run}
+use Rattle.call_model.specs.Receiving.{Heard, Refused, OtherClock, Late, Early, Completed, Taken, nack, reference_in, is_complete, decoded, heard, played_mark, played_picture, played_message, ReceiverEntry, Packet, PlayNext, receiver_run, TakenSlice, has_taken, decoded_sample}
 use Rattle.call_model.specs.Stands.{Receiver, ReceiverStands, is_in_slot, judged}
 
 -- the answer takes the slice
@@ -142,3 +142,27 @@ module _ {Style Mb Picture Fault : Type 0} (decoding : Decoding Style Mb Picture
       is_complete rules.mbs (receiver_run decoding rules entries).taken m ≡ true
       → (is_complete rules.mbs (receiver_run decoding rules (e ∷ entries)).taken m ≡ true)
       × (decoded decoding rules (receiver_run decoding rules (e ∷ entries)).taken m ≡ decoded decoding rules (receiver_run decoding rules entries).taken m)
+
+  -- all slices that were taken of one picture have one header
+  abbrev pub OneHeader : Type 0
+  OneHeader = (entries : List ReceiverEntry) (i j : ℕ) (t u : TakenSlice Style Mb) →
+      let taken = (receiver_run decoding rules entries).taken in
+      slice_get taken i ≡ Some t → slice_get taken j ≡ Some u → t.number ≡ u.number → t.piece.header ≡ u.piece.header
+
+  -- a sample is decoded by a slice that has its macroblock, with the reference as it is in the end
+  pub record IsDecodedBy (taken : List (TakenSlice Style Mb)) (n s : ℕ) : Type 0 where
+    pub place : ℕ
+    pub slice : TakenSlice Style Mb
+    pub is_taken : slice_get taken place ≡ Some slice
+    pub number : slice.number ≡ n
+    pub has : has_mb slice.piece.slice (decoding.pictures.owner s) ≡ true
+    pub value : decoded_sample decoding rules taken n s
+        ≡ decoding.pictures.reconstructed_sample slice.piece.header.style
+        (option_map (λ m. decoded decoding rules taken m) (reference_in decoding rules n slice.piece.header))
+        (mb_at decoding.pictures.skip slice.piece.slice (decoding.pictures.owner s)) s
+
+  -- each sample of a macroblock that was taken is so
+  abbrev pub DecodedInTheEnd : Type 0
+  DecodedInTheEnd = (entries : List ReceiverEntry) (n s : ℕ) →
+      let taken = (receiver_run decoding rules entries).taken in
+      decoding.pictures.owner s < rules.mbs → has_taken taken n (decoding.pictures.owner s) ≡ true → IsDecodedBy taken n s

@@ -1,5 +1,6 @@
 use Rattle.call_model.proofs.ReceiverStanding.{heard_by_kept_is, other_packet_stands, slice_stands}
 use Rattle.call_model.proofs.ReceiverPlays.{play_by_kept, new_receiver_stands, play_stands, complete_stays}
+use Rattle.call_model.proofs.TakenSlices.{one_header, decoded_in_the_end}
 use Rattle.call_model.proofs.laws.receiver_stands.Goals as goal
 
 pub returns-clause-answer : goal.returns-clause-answer
@@ -22,3 +23,9 @@ returns-clause-played g c decoding rules lawful ruled = play_stands decoding rul
 
 pub returns-clause-complete : goal.returns-clause-complete
 returns-clause-complete g c decoding rules lawful ruled = complete_stays decoding rules lawful ruled
+
+pub returns-clause-one_header : goal.returns-clause-one_header
+returns-clause-one_header g c decoding rules lawful ruled = one_header decoding rules lawful ruled
+
+pub returns-clause-in_the_end : goal.returns-clause-in_the_end
+returns-clause-in_the_end g c decoding rules lawful ruled = decoded_in_the_end decoding rules lawful ruled
