@@ -36,7 +36,8 @@ use Rattle.packet_cutter.specs.Packets.{ArePacketsOf}
 use Rattle.packet_collector.specs.declared.collector.Collector.{Collector}
 use Rattle.h263rps.specs.Coded.{coded, chosen}
 use Rattle.h263rps.specs.Received.{IsReady, ShowsFirst}
-use Rattle.h263rps.specs.Sent.{IsSentAt, AreSent, header_of, params_of}
+use Rattle.h263_types.specs.Params.{default_params}
+use Rattle.h263rps.specs.Sent.{IsSentAt, AreSent, header_of}
 
 choices_long : (p : Picture) (h : Header) (params : Params) → length (choices_of p None h params) ≡ mbs_of p.format
 unfolding choices_of
@@ -47,7 +48,7 @@ unfolding choices_of
 choice_at p h params k below = get_or-map-range_with_len (choice_of p None h params) 0 (mbs_of p.format) k k Skip below (omega arith)
 
 -- the choice doesn't depend on the picture's number
-pub same_choices : (p : Picture) (f : Format) (number : ℕ) → choices_of p None (header_of f number) (params_of f) ≡ choices_of p None (header_of f 0) (params_of f)
+pub same_choices : (p : Picture) (f : Format) (number : ℕ) → choices_of p None (header_of f number) (default_params f) ≡ choices_of p None (header_of f 0) (default_params f)
 unfolding choices_of
 same_choices p f number = refl
 
@@ -74,11 +75,11 @@ choice_sent p f number k = record {
   reach = tt;
 }
 
-pub choices_sent : (p : Picture) (f : Format) (number : ℕ) → p.format ≡ f → AreSent (header_of f number) (choices_of p None (header_of f number) (params_of f))
+pub choices_sent : (p : Picture) (f : Format) (number : ℕ) → p.format ≡ f → AreSent (header_of f number) (choices_of p None (header_of f number) (default_params f))
 choices_sent p f number format = record {
-  count = choices_long p (header_of f number) (params_of f) ∙ ap mbs_of format;
+  count = choices_long p (header_of f number) (default_params f) ∙ ap mbs_of format;
   each = λ k below.
-      subst (IsSentAt (header_of f number) k) (sym (choice_at p (header_of f number) (params_of f) k (subst (λ (g : Format). k < mbs_of g) (sym format) below))) (choice_sent p f number k);
+      subst (IsSentAt (header_of f number) k) (sym (choice_at p (header_of f number) (default_params f) k (subst (λ (g : Format). k < mbs_of g) (sym format) below))) (choice_sent p f number k);
 }
 
 pub header_in_range : (f : Format) (number : ℕ) → IsHeader (header_of f number)
@@ -132,11 +133,11 @@ pub record Shows (f : Format) (number : ℕ) (frame : List ℕ) (mark : Mark) (n
   pub all : ShowsFirst f 0 (chosen f frame) (mbs_of f) made
 
 pub shows : (f g : Format) (number sequence : ℕ) (frame : List ℕ) (p : Picture) (params : Params) (packets : List (List ℕ)) (mark : Mark) (new : Collector) (made : Picture)
-    → p ≡ picture_of f frame → params ≡ params_of f → g ≡ f → ArePacketsOf number sequence (header_of f number) 1400 (choices_of p None (header_of f number) params) packets → Takes number packets g mark new made
+    → p ≡ picture_of f frame → params ≡ default_params f → g ≡ f → ArePacketsOf number sequence (header_of f number) 1400 (choices_of p None (header_of f number) params) packets → Takes number packets g mark new made
     → Shows f number frame mark new made
 shows f g number sequence frame p params packets mark new made is has same sent takes =
     let h = header_of f number in
-    let all = choices_of (picture_of f frame) None h (params_of f) in
+    let all = choices_of (picture_of f frame) None h (default_params f) in
     let these : ArePacketsOf number sequence h 1400 all packets =
     subst (λ (x : Params). ArePacketsOf number sequence h 1400 (choices_of (picture_of f frame) None h x) packets) has (subst (λ (q : Picture). ArePacketsOf number sequence h 1400 (choices_of q None h params) packets) is sent) in
     let t = takes sequence 1400 h all refl (sym same) (header_in_range f number) (choices_sent (picture_of f frame) f number refl) (omega arith) these in

@@ -7,7 +7,7 @@ ghost use Rattle.h263rps.specs.Coded.{coded};
 ghost use Rattle.h263rps.specs.Link.{IsBefore};
 
 use crate::receiving::take_packets;
-use crate::sending::{params_of, send};
+use crate::sending::send;
 use h263_outside::OutOfMemory;
 use h263_planes::{PictureMut, PictureRef};
 use h263_types::{Format, Mark, Mb, Params};
@@ -32,7 +32,7 @@ impl Link {
     pub fn start(alloc: Global, format: Format) -> Result<Link, OutOfMemory>
         ensures { IfOk result (IsBefore format 0) }
     {
-        let params = params_of(format);
+        let params = Params::of(format);
         let cutter = Cutter::start(alloc, &params)?;
         let collector = Collector::start(alloc, &params)?;
         let work = vec![in alloc; 0; format.size() as usize]?;

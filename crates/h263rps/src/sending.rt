@@ -1,52 +1,32 @@
 // The sender's side: a frame becomes packets.
 ghost use Rattle.std.specs.Prelude.{◌≡◌, ℕ, length, None};
-ghost use Rattle.h263_types.specs.Params.{IsParams};
+ghost use Rattle.h263_types.specs.Params.{IsParams, default_params};
 ghost use Rattle.h263_types.specs.Sizes.{size_of_picture};
 ghost use Rattle.h263_planes.specs.Lent.{picture};
 ghost use Rattle.picture_header.specs.Ranges.{IsHeader};
 ghost use Rattle.mode_choice.specs.Choice.{choices_of};
 ghost use Rattle.packet_cutter.specs.Cutting.{format_of, limit_of, packets_of};
 ghost use Rattle.packet_cutter.specs.Packets.{ArePacketsOf};
-ghost use Rattle.h263rps.specs.Sent.{header_of, params_of};
+ghost use Rattle.h263rps.specs.Sent.{header_of};
 
 use h263_planes::{PictureMut, PictureRef};
-use h263_types::{Format, Kind, Params};
+use h263_types::Params;
 use packet_cutter::Cutter;
 use picture_coder::code_picture;
 use picture_header::Header;
 
-/// The parameters of a call.
-pub fn params_of(format: Format) -> Params
-    ensures params { result ≡ params_of format }
-    ensures in_range { IsParams result }
-{
-    Params {
-        format,
-        quant: 8,
-        keep: 64,
-        radius: 7,
-        limit: 1400,
-        slots: 16,
-        lead: 3,
-    }
-}
-
 // The header of picture `number`: it refers to no other, and carries no messages.
 fn header_of(params: &Params, number: u32) -> Header
-    requires { params.now ≡ params_of params.now.format }
+    requires { params.now ≡ default_params params.now.format }
     ensures header { result ≡ header_of params.now.format number }
     ensures in_range { IsHeader result }
 {
-    Header {
-        tr: (number % 256) as u16,
-        format: params.format,
-        kind: Kind::I,
-        rounding: 0,
-        channel: 3,
-        trp: None,
-        quant: params.quant,
-        back: [None; 4],
-    }
+    Header::intra(
+        params.format,
+        params.clock,
+        (number % params.clock.period()) as u16,
+        params.quant,
+    )
 }
 
 /// Codes a frame as picture `number` into packets; `work` is room for its reconstruction.
@@ -57,7 +37,7 @@ pub fn send(
     number: u32,
     frame: PictureRef<'_>,
 )
-    requires params { params.now ≡ params_of params.now.format }
+    requires params { params.now ≡ default_params params.now.format }
     requires format { format_of cutter.old ≡ params.now.format }
     requires limit { limit_of cutter.old ≡ 1400 }
     requires work { length work.old ≡ size_of_picture params.now.format }

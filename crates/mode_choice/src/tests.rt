@@ -2,7 +2,7 @@ ghost use Rattle.std.specs.Prelude.{◌<◌, ◌≤◌};
 
 use super::*;
 use h263_planes::{PictureMut, PictureRef, Plane};
-use h263_types::{Block, Format, Kind, Mb, Params};
+use h263_types::{Block, Clock, Format, Kind, Mb, Params};
 use picture_header::Header;
 use std::process::Abort;
 
@@ -19,6 +19,7 @@ const HEADER: Header = Header {
     trp: None,
     quant: 8,
     back: [None; 4],
+    clock: Clock::Standard,
 };
 
 const PARAMS: Params = Params {
@@ -29,6 +30,8 @@ const PARAMS: Params = Params {
     limit: 1400,
     slots: 16,
     lead: 3,
+    messages: 1,
+    clock: Clock::Standard,
 };
 
 // A block of INTRADC and of levels at places 1, 2, 6, 9 and 20 of the zigzag order.

@@ -12,7 +12,7 @@ ghost use Rattle.packet_cutter.specs.Taken.{IsTaken};
 
 use crate::packets::Packets;
 use h263_outside::OutOfMemory;
-use h263_types::{Format, Kind, Mb, Params};
+use h263_types::{Mb, Params};
 use picture_header::Header;
 use std::alloc::Global;
 
@@ -51,22 +51,6 @@ pub struct Cutter {
     ghost room: { most_bytes packets * length mbs.items ≤ room_of packets },
 }
 
-// What stands in the header's place before the first picture is begun.
-fn no_header(format: Format) -> Header
-    ensures { result.format ≡ format }
-{
-    Header {
-        tr: 0,
-        format,
-        kind: Kind::I,
-        rounding: 0,
-        channel: 0,
-        trp: None,
-        quant: 1,
-        back: [None; 4],
-    }
-}
-
 // Puts a macroblock in the place of another. One that is skipped has no blocks to copy.
 #[inline(always)]
 fn put(place: &mut Mb, mb: &Mb)
@@ -93,7 +77,7 @@ impl Cutter {
         let count = params.format.mbs();
         Ok(Cutter {
             number: 0,
-            header: no_header(params.format),
+            header: Header::blank(params.format),
             mbs: vec![in alloc; Mb::Skip; count as usize]?,
             added: 0,
             sequence: 0,

@@ -9,7 +9,7 @@ ghost use Rattle.packet_cutter.specs.Cutting.{format_of, kind_of, quant_of, adde
 
 use super::*;
 use h263_bits::{BitReader, Fault};
-use h263_types::{Format, Kind, Mb, Params, Reach, Vector};
+use h263_types::{Clock, Format, Kind, Mb, Params, Reach, Vector};
 use macroblock_layer::read_mb;
 use picture_header::Header;
 use std::test::Fail;
@@ -22,6 +22,8 @@ const SMALL: Params = Params {
     limit: 1400,
     slots: 16,
     lead: 3,
+    messages: 1,
+    clock: Clock::Standard,
 };
 
 const LARGE: Params = Params {
@@ -39,6 +41,7 @@ const FIRST: Header = Header {
     trp: None,
     quant: 8,
     back: [None; 4],
+    clock: Clock::Standard,
 };
 
 /// Picture 1 of sub-QCIF, which refers to picture 0.

@@ -12,7 +12,7 @@ ghost use Rattle.packet_cutter.specs.Cutting.{format_of, limit_of};
 use super::*;
 use h263_outside::OutOfMemory;
 use h263_planes::{PictureMut, PictureRef};
-use h263_types::{Format, Kind, Params};
+use h263_types::{Clock, Format, Kind, Params};
 use packet_cutter::Cutter;
 use picture_header::Header;
 use std::alloc::Global;
@@ -30,6 +30,8 @@ const PARAMS: Params = Params {
     limit: 1400,
     slots: 16,
     lead: 3,
+    messages: 1,
+    clock: Clock::Standard,
 };
 
 // Picture 0, an I picture.
@@ -42,6 +44,7 @@ const FIRST: Header = Header {
     trp: None,
     quant: 8,
     back: [None; 4],
+    clock: Clock::Standard,
 };
 
 // Picture 1, which refers to picture 0.

@@ -5,7 +5,7 @@ ghost use Rattle.h263_types.specs.References.{ReachesInside};
 
 use super::*;
 use h263_planes::{PictureMut, PictureRef, Plane};
-use h263_types::{Block, Format, Kind, Mb, SliceHead, Vector, reach};
+use h263_types::{Block, Clock, Format, Kind, Mb, SliceHead, Vector, reach};
 use picture_header::Header;
 use std::process::Abort;
 
@@ -22,6 +22,7 @@ const HEADER: Header = Header {
     trp: None,
     quant: 31,
     back: [None; 4],
+    clock: Clock::Standard,
 };
 
 // A block with INTRADC `dc` and one level more, at a place of the zigzag order.

@@ -14,7 +14,7 @@ mod taker;
 mod tally;
 
 use call::compare;
-use h263_types::{Format, Params};
+use h263_types::{Clock, Format, Params};
 use std::io;
 use std::process::ExitCode;
 
@@ -27,6 +27,8 @@ const DEFAULTS: Params = Params {
     limit: 1400,
     slots: 16,
     lead: 3,
+    messages: 1,
+    clock: Clock::Standard,
 };
 
 // A textured object that moves; slices begin inside a row.

@@ -7,7 +7,7 @@ ghost use Rattle.sent_calls.specs.Ends.{IsSender, IsHeaderFor};
 
 use h263_outside::OutOfMemory;
 use h263_planes::{PictureMut, PictureRef};
-use h263_types::{Kind, Params};
+use h263_types::Params;
 use packet_cutter::Cutter;
 use picture_coder::code_picture;
 use picture_header::Header;
@@ -30,26 +30,13 @@ pub fn header_of(params: &Params, number: u32) -> Header
     requires { IsParams params.now }
     ensures { IsHeaderFor params.now result }
 {
-    let first = Header {
-        tr: 0,
-        format: params.format,
-        kind: Kind::I,
-        rounding: 0,
-        channel: 3,
-        trp: None,
-        quant: params.quant,
-        back: [None; 4],
-    };
+    let tr = (number % params.clock.period()) as u16;
+    let header = Header::intra(params.format, params.clock, tr, params.quant);
     if number == 0 {
-        return first;
+        return header;
     }
-    Header {
-        tr: (number % 256) as u16,
-        kind: Kind::P,
-        rounding: (number % 2) as u8,
-        trp: Some(((number - 1) % 256) as u16),
-        ..first
-    }
+    let before = ((number - 1) % params.clock.period()) as u16;
+    header.predicted((number % 2) as u8, before)
 }
 
 // Codes a frame as picture `number`; `reference` is the reconstruction of the picture before.

@@ -6,7 +6,7 @@ ghost use Rattle.h263_types.specs.declared.format.Format.TheVariants.{Cif};
 use crate::{Collector, Piece, Place};
 use back_messages::Message;
 use h263_outside::OutOfMemory;
-use h263_types::{Format, Kind, Params, SliceHead};
+use h263_types::{Clock, Format, Kind, Params, SliceHead};
 use picture_header::Header;
 use std::alloc::Global;
 use std::process::Abort;
@@ -20,6 +20,8 @@ const PARAMS: Params = Params {
     limit: 1400,
     slots: 16,
     lead: 3,
+    messages: 1,
+    clock: Clock::Standard,
 };
 
 const HEADER: Header = Header {
@@ -31,6 +33,7 @@ const HEADER: Header = Header {
     trp: None,
     quant: 8,
     back: [None; 4],
+    clock: Clock::Standard,
 };
 
 // The two slices of a picture, and a slice that has a part of both.

@@ -1,6 +1,6 @@
 use super::packets::{FLAT, GRAIN, LATER, SKIPPED};
 use crate::{Piece, read_packet};
-use h263_types::{Block, Format, Kind, Mb, SliceHead};
+use h263_types::{Block, Clock, Format, Kind, Mb, SliceHead};
 use picture_header::Header;
 use std::test::Fail;
 
@@ -14,6 +14,7 @@ const HEADER: Header = Header {
     trp: None,
     quant: 8,
     back: [None; 4],
+    clock: Clock::Standard,
 };
 
 // A macroblock of which each sample is 100.

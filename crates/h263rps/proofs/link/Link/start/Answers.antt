@@ -5,7 +5,7 @@ use Rattle.h263rps.proofs.link.Link.start.Goals as goal
 
 pub returns : goal.returns
 returns c =
-    let params = c.params_of-params.ensures.params in
+    let params = c.of-params.ensures.value in
     record {
       params = params;
       cutter_format = c.in_ok-cutter.ensures.format ∙ ap (λ (p : Params). p.format) params;
