@@ -9,7 +9,7 @@ use Rattle.call_model.specs.CodedPictures.{Coded}
 use Rattle.call_model.specs.IdealCall.{has_arrived, is_full, with_arrival, Event, Send, Deliver, Play, Back, Note, Call, Source, slices_at, after, call_from, IsNear, AllNearFrom}
 use Rattle.call_model.specs.Sending.{header_of}
 use Rattle.call_model.specs.Receiving.{TakenSlice, ReceiverRun, Late, Early, Repeat, Completed, Taken, heard, after_packet, after_play}
-use Rattle.call_model.specs.Sound.{IsSound, IsUnderstood, ReceiverIsAt, IsSoundEvent, AllSound, Packets, received, delivery_answer, AnySoundSender, NoneRefused, is_refused}
+use Rattle.call_model.specs.Sound.{IsSoundPicture, IsUnderstood, ReceiverIsAt, IsSoundEvent, AllSound, Packets, received, delivery_answer, AnySoundSender, NoneRefused, is_refused}
 use Rattle.call_model.specs.Lawful.{IsDecoding, IsRules}
 use Rattle.call_model.proofs.Matching.{slices_at_is}
 use Rattle.call_model.proofs.Fullness.{full_is}
@@ -39,7 +39,7 @@ module _ {Style Mb Picture Fault : Type 0} (decoding : Decoding Style Mb Picture
     sends : (c : Call Style Mb Picture) (run : ReceiverRun Style Mb Picture) → IsSoundEvent decoding rules source packets c Send → IsNear rules count c Send → IsAt c run → IsAt (after decoding.pictures rules source c Send) run
     sends c run sound near at = go (source c) sound
       where
-        go : (o : Option (Coded Style Mb Picture)) → ((x : Coded Style Mb Picture) → o ≡ Some x → IsSound decoding.pictures rules c x) → IsAt (record c { coded = c.coded ++ option_map_or (λ x. x ∷ []) o [] }) run
+        go : (o : Option (Coded Style Mb Picture)) → ((x : Coded Style Mb Picture) → o ≡ Some x → IsSoundPicture decoding.pictures rules c x) → IsAt (record c { coded = c.coded ++ option_map_or (λ x. x ∷ []) o [] }) run
         go None sound = record { taken = at.taken; is = at.is; good = subst (λ (xs : List (Coded Style Mb Picture)). Good decoding rules (record c { coded = xs }) at.taken) (sym (append-nil c.coded)) at.good }
         go (Some x) sound = record { taken = at.taken; is = at.is; good = step_send decoding rules lawful ruled c at.taken x at.good near.1 (sound x refl) }
 

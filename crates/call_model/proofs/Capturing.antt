@@ -11,7 +11,7 @@ use Rattle.call_model.specs.Coding.{Rules, window, period, Slice, Pictures, Enco
 use Rattle.call_model.specs.CodedPictures.{Coded, picture_at, capture, reference_for, is_among, depth_at}
 use Rattle.call_model.specs.IdealCall.{Event, Send, Deliver, Play, Back, Call, encoded, ideal}
 use Rattle.call_model.specs.Sending.{header_of, packets_of, packets_before, last_sizes, next_coded}
-use Rattle.call_model.specs.Sound.{IsSound, IsPacket, IsSoundEvent, AllSound}
+use Rattle.call_model.specs.Sound.{IsSoundPicture, IsPacket, IsSoundEvent, AllSound}
 use Rattle.call_model.specs.Lawful.{Divides, IsMade, IsChosen, IsPictures, IsEncoding, IsCoding, IsRules, IsPace, FitsHeader}
 use Rattle.call_model.proofs.ListLemmas.{slice_get_push, greatest_passes}
 use Rattle.call_model.proofs.Fullness.{mb_among_is}
@@ -123,7 +123,7 @@ module _ {Frame Style Mb Picture MessageFault : Type 0} (pictures : Pictures Sty
           ]
 
   -- the next picture is sound
-  pub capture_sound : IsPictures pictures rules → IsEncoding pictures encoding rules → (quant : ℕ) (frame : Frame) (c : Call Style Mb Picture) → (0 < quant) × (quant < 32) → AllEncoded pictures encoding c.coded → IsSound pictures rules c (capture pictures encoding quant frame c.coded (reference_for rules (depth_at c.coded) (is_among c.known) (length c.coded)))
+  pub capture_sound : IsPictures pictures rules → IsEncoding pictures encoding rules → (quant : ℕ) (frame : Frame) (c : Call Style Mb Picture) → (0 < quant) × (quant < 32) → AllEncoded pictures encoding c.coded → IsSoundPicture pictures rules c (capture pictures encoding quant frame c.coded (reference_for rules (depth_at c.coded) (is_among c.known) (length c.coded)))
   unfolding capture
   capture_sound lawful encodes quant frame c range all =
       let divides = encodes.divides (is_some (reference_for rules (depth_at c.coded) (is_among c.known) (length c.coded))) (style_of quant frame c.coded c.known) (mbs_of quant frame c.coded c.known) (mbs_chosen quant frame c.coded c.known range all) in
@@ -192,11 +192,11 @@ module _ {Frame Style Mb Picture Fault MessageFault : Type 0} (coding : Coding F
         c : Call Style Mb Picture
         c = ideal coding rules pace frames past
 
-        go : (x : Coded Style Mb Picture) (o : Option Frame) → option_map (λ frame. next_coded (pictures_of coding) coding.encoding rules pace frame (ideal coding rules pace frames past).coded (ideal coding rules pace frames past).known) o ≡ Some x → IsSound (pictures_of coding) rules (ideal coding rules pace frames past) x
+        go : (x : Coded Style Mb Picture) (o : Option Frame) → option_map (λ frame. next_coded (pictures_of coding) coding.encoding rules pace frame (ideal coding rules pace frames past).coded (ideal coding rules pace frames past).known) o ≡ Some x → IsSoundPicture (pictures_of coding) rules (ideal coding rules pace frames past) x
         go x None is = cc
         go x (Some frame) is =
             let same : next_coded (pictures_of coding) coding.encoding rules pace frame (ideal coding rules pace frames past).coded (ideal coding rules pace frames past).known ≡ x = cc in
-            subst (λ (y : Coded Style Mb Picture). IsSound (pictures_of coding) rules (ideal coding rules pace frames past) y) same
+            subst (λ (y : Coded Style Mb Picture). IsSoundPicture (pictures_of coding) rules (ideal coding rules pace frames past) y) same
             (capture_sound (pictures_of coding) coding.encoding rules lawful.decodes.pictures lawful.encodes (pace (last_sizes coding.encoding rules (ideal coding rules pace frames past).coded)) frame (ideal coding rules pace frames past) (range (last_sizes coding.encoding rules (ideal coding rules pace frames past).coded)) (all_encoded past))
     sound_event past (Deliver n j) = λ x at_n. is_packet (ideal coding rules pace frames past).coded n j x at_n (all_encoded past n x at_n)
     sound_event past Play = tt

@@ -11,7 +11,7 @@ use Rattle.call_model.specs.TwoStores.{travelling, MatchArrivals, CompleteAreFul
 
 -- A picture is sound where it is sent: its slices cover it, it is what decoding gives of them, and
 -- its reference, if it has one, is in the window and known to be full.
-pub record IsSound {Style Mb Picture : Type 0} (pictures : Pictures Style Mb Picture) (rules : Rules) (c : Call Style Mb Picture) (x : Coded Style Mb Picture) : Type 0 where
+pub record IsSoundPicture {Style Mb Picture : Type 0} (pictures : Pictures Style Mb Picture) (rules : Rules) (c : Call Style Mb Picture) (x : Coded Style Mb Picture) : Type 0 where
   pub covers : Covers rules.mbs x.slices
   pub picture : x.picture ≡ reconstruction_of_slices pictures x.style (option_and_then (picture_at c.coded) x.reference) x.slices
   pub reference : (m : ℕ) → x.reference ≡ Some m → (length c.coded ≤ m + window rules) × (is_among c.known m ≡ true)
@@ -56,7 +56,7 @@ module _ {Style Mb Picture Fault : Type 0} (decoding : Decoding Style Mb Picture
   module _ (source : Source Style Mb Picture) (packets : Packets Style Mb Picture) where
     -- a picture that is sent is sound, and what is delivered is its packet
     abbrev pub IsSoundEvent : Call Style Mb Picture → Event → Type 0
-    IsSoundEvent c Send = (x : Coded Style Mb Picture) → source c ≡ Some x → IsSound decoding.pictures rules c x
+    IsSoundEvent c Send = (x : Coded Style Mb Picture) → source c ≡ Some x → IsSoundPicture decoding.pictures rules c x
     IsSoundEvent c (Deliver n j) =
         (x : Coded Style Mb Picture) → slice_get c.coded n ≡ Some x → IsPacket decoding rules (packets c.coded n) n j x
     IsSoundEvent c Play = ⊤

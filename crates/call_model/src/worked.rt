@@ -7,18 +7,23 @@ ghost use Rattle.call_model.specs.Coding.{Ack, Exact, Held, Nack, Patched, Rules
 ghost use Rattle.call_model.specs.CodedPictures.{is_among};
 ghost use Rattle.call_model.specs.IdealCall.{Deliver, Got, Lost};
 ghost use Rattle.call_model.specs.Lawful.{IsCoding};
-ghost use Rattle.call_model.specs.Receiving.{Completed, Early, HeaderDiffers, Late, MissingReference};
+ghost use Rattle.call_model.specs.Receiving.{Completed, Early, HeaderDiffers, Late};
+ghost use Rattle.call_model.specs.Receiving.{MissingReference};
 ghost use Rattle.call_model.specs.Receiving.{OtherClock, Overlap, Refused, Repeat, Taken};
 ghost use Rattle.call_model.specs.Refusals.{Far, first_refusal};
 ghost use Rattle.call_model.specs.Sending.{last_numbers, Noted, Old};
 ghost use Rattle.call_model.specs.SmallCoding.{small, small_decoding, Unread};
 ghost use Rattle.call_model.specs.Store.{slot_of};
-ghost use Rattle.call_model.specs.Worked.{all_near, answers, bytes_of, call_of, depths, ends_of, flat};
-ghost use Rattle.call_model.specs.Worked.{marks, pictures, quants, references, rules_of, ScenesAgree, ScenesAreLawful};
+ghost use Rattle.call_model.specs.Worked.{all_near, answers, bytes_of, call_of, depths, ends_of};
+ghost use Rattle.call_model.specs.Worked.{flat};
+ghost use Rattle.call_model.specs.Worked.{marks, pictures, quants, references, rules_of};
+ghost use Rattle.call_model.specs.Worked.{ScenesAgree, ScenesAreLawful};
 ghost use Rattle.call_model.specs.Worked.{answer_after, first_flag, half_packet, no_flags};
-ghost use Rattle.call_model.specs.Worked.{other_clock_packet, sender_after, then_heard, whole_packet};
+ghost use Rattle.call_model.specs.Worked.{other_clock_packet, sender_after, then_heard};
+ghost use Rattle.call_model.specs.Worked.{whole_packet};
 ghost use Rattle.call_model.specs.Worked.{chain_scene, far_offer_scene, flags_scene, late_scene};
-ghost use Rattle.call_model.specs.Worked.{newer_offer_scene, offer_scene, paced_scene, patched_scene};
+ghost use Rattle.call_model.specs.Worked.{newer_offer_scene, offer_scene, paced_scene};
+ghost use Rattle.call_model.specs.Worked.{patched_scene};
 ghost use Rattle.call_model.specs.Worked.{shuffled_scene, wide_late_scene, wide_window_scene};
 ghost use Rattle.call_model.specs.Worked.{window_scene, wrap_scene};
 
@@ -26,9 +31,11 @@ ghost use Rattle.call_model.specs.Worked.{window_scene, wrap_scene};
 /// picture 0, picture 3 may not.
 pub fn window_ends()
     ensures near { all_near window_scene ≡ true }
-    ensures references { references (call_of window_scene).coded ≡ None ∷ Some 0 ∷ Some 0 ∷ None ∷ [] }
+    ensures references { references (call_of window_scene).coded
+        ≡ None ∷ Some 0 ∷ Some 0 ∷ None ∷ [] }
     ensures marks { marks (call_of window_scene).plays ≡ Exact ∷ Held ∷ Held ∷ Exact ∷ [] }
-    ensures sender { references (ends_of window_scene).sender.coded ≡ None ∷ Some 0 ∷ Some 0 ∷ None ∷ [] }
+    ensures sender { references (ends_of window_scene).sender.coded
+        ≡ None ∷ Some 0 ∷ Some 0 ∷ None ∷ [] }
     ensures receiver { marks (ends_of window_scene).plays ≡ Exact ∷ Held ∷ Held ∷ Exact ∷ [] }
 {}
 
@@ -38,7 +45,8 @@ pub fn nack_offers_older_picture()
     ensures near { all_near offer_scene ≡ true }
     ensures said { (call_of offer_scene).said ≡ Got 0 [] ∷ Lost 1 (Some 0) [] ∷ Got 2 [] ∷ [] }
     ensures references { references (call_of offer_scene).coded ≡ None ∷ None ∷ Some 0 ∷ [] }
-    ensures bytes { bytes_of (ends_of offer_scene).said ≡ (0 ∷ 0 ∷ []) ∷ (1 ∷ 1 ∷ 0 ∷ []) ∷ (0 ∷ 2 ∷ []) ∷ [] }
+    ensures bytes { bytes_of (ends_of offer_scene).said
+        ≡ (0 ∷ 0 ∷ []) ∷ (1 ∷ 1 ∷ 0 ∷ []) ∷ (0 ∷ 2 ∷ []) ∷ [] }
     ensures sender { references (ends_of offer_scene).sender.coded ≡ None ∷ None ∷ Some 0 ∷ [] }
     ensures receiver { marks (ends_of offer_scene).plays ≡ Exact ∷ Held ∷ Exact ∷ [] }
 {}
@@ -48,9 +56,11 @@ pub fn nack_offers_older_picture()
 pub fn offers_end()
     ensures near { all_near far_offer_scene ≡ true }
     ensures said { (call_of far_offer_scene).said
-        ≡ Got 0 [] ∷ Lost 1 (Some 0) [] ∷ Lost 2 (Some 0) [] ∷ Lost 3 (Some 0) [] ∷ Lost 4 None [] ∷ [] }
+        ≡ Got 0 [] ∷ Lost 1 (Some 0) [] ∷ Lost 2 (Some 0) [] ∷ Lost 3 (Some 0) []
+        ∷ Lost 4 None [] ∷ [] }
     ensures bytes { bytes_of (ends_of far_offer_scene).said
-        ≡ (0 ∷ 0 ∷ []) ∷ (1 ∷ 1 ∷ 0 ∷ []) ∷ (1 ∷ 2 ∷ 0 ∷ []) ∷ (1 ∷ 3 ∷ 0 ∷ []) ∷ (1 ∷ 4 ∷ 4 ∷ []) ∷ [] }
+        ≡ (0 ∷ 0 ∷ []) ∷ (1 ∷ 1 ∷ 0 ∷ []) ∷ (1 ∷ 2 ∷ 0 ∷ []) ∷ (1 ∷ 3 ∷ 0 ∷ []) ∷ (1 ∷ 4 ∷ 4
+        ∷ []) ∷ [] }
 {}
 
 /// A chain of 131 references does not grow: picture 132 is coded intra, though picture 131 is
@@ -72,8 +82,10 @@ pub fn late_packet()
     ensures answers { answers late_scene ≡ Taken ∷ Late ∷ [] }
     ensures said { (call_of late_scene).said ≡ Lost 0 None [] ∷ [] }
     ensures marks { marks (call_of late_scene).plays ≡ Patched ∷ [] }
-    ensures pictures { pictures (call_of late_scene).plays ≡ record { left = 100; right = 128 } ∷ [] }
-    ensures receiver { pictures (ends_of late_scene).plays ≡ record { left = 100; right = 128 } ∷ [] }
+    ensures pictures { pictures (call_of late_scene).plays
+        ≡ record { left = 100; right = 128 } ∷ [] }
+    ensures receiver { pictures (ends_of late_scene).plays
+        ≡ record { left = 100; right = 128 } ∷ [] }
     ensures bytes { bytes_of (ends_of late_scene).said ≡ (1 ∷ 0 ∷ 0 ∷ []) ∷ [] }
 {}
 
@@ -104,8 +116,8 @@ pub fn patched_picture_kept_out()
 /// to picture 0. To the other half picture 2 is complete. The same half again is a repeat. With
 /// another header it is refused, and so are bytes that spell nothing. Picture 3 may not refer to
 /// picture 0, which is out of its window, nor to picture 1, which is not complete. Picture 1 is
-/// late, and picture 4 is early. A packet of both halves overlaps. One of the other picture clock is
-/// refused as such, even of picture 1.
+/// late, and picture 4 is early. A packet of both halves overlaps. One of the other picture clock
+/// is refused as such, even of picture 1.
 pub fn each_answer()
     ensures completed { then_heard (half_packet 2 (Some 0) 1 1) ≡ Completed (Ack 2 []) }
     ensures repeat { then_heard (half_packet 2 (Some 0) 1 0) ≡ Repeat }
@@ -123,9 +135,11 @@ pub fn each_answer()
 /// wrap of 256. Picture 260 names it, and is decoded from picture 259.
 pub fn same_trp_after_wrap()
     ensures near { all_near wrap_scene ≡ true }
-    ensures kept { slot_of small_decoding wrap_scene.rules (ends_of wrap_scene).receiver 3 ≡ Some 3 }
+    ensures kept { slot_of small_decoding wrap_scene.rules (ends_of wrap_scene).receiver 3
+        ≡ Some 3 }
     ensures reference { slice_get (references (call_of wrap_scene).coded) 260 ≡ Some (Some 259) }
-    ensures sender { slice_get (references (ends_of wrap_scene).sender.coded) 260 ≡ Some (Some 259) }
+    ensures sender { slice_get (references (ends_of wrap_scene).sender.coded) 260
+        ≡ Some (Some 259) }
     ensures mark { slice_get (marks (ends_of wrap_scene).plays) 260 ≡ Some Exact }
     ensures picture { slice_get (pictures (ends_of wrap_scene).plays) 260 ≡ Some (flat 100) }
 {}
@@ -134,11 +148,13 @@ pub fn same_trp_after_wrap()
 /// and picture 2 refers to it.
 pub fn nack_offers_newer_picture()
     ensures near { all_near newer_offer_scene ≡ true }
-    ensures said { (call_of newer_offer_scene).said ≡ Got 1 [] ∷ Lost 0 (Some 1) [] ∷ Got 2 [] ∷ [] }
+    ensures said { (call_of newer_offer_scene).said
+        ≡ Got 1 [] ∷ Lost 0 (Some 1) [] ∷ Got 2 [] ∷ [] }
     ensures bytes { bytes_of (ends_of newer_offer_scene).said
         ≡ (0 ∷ 1 ∷ []) ∷ (1 ∷ 0 ∷ 1 ∷ []) ∷ (0 ∷ 2 ∷ []) ∷ [] }
     ensures references { references (call_of newer_offer_scene).coded ≡ None ∷ None ∷ Some 1 ∷ [] }
-    ensures sender { references (ends_of newer_offer_scene).sender.coded ≡ None ∷ None ∷ Some 1 ∷ [] }
+    ensures sender { references (ends_of newer_offer_scene).sender.coded
+        ≡ None ∷ None ∷ Some 1 ∷ [] }
     ensures marks { marks (call_of newer_offer_scene).plays ≡ Held ∷ Exact ∷ Exact ∷ [] }
     ensures receiver { marks (ends_of newer_offer_scene).plays ≡ Held ∷ Exact ∷ Exact ∷ [] }
 {}
@@ -180,7 +196,8 @@ pub fn wide_window_ends()
     ensures near { all_near wide_window_scene ≡ true }
     ensures last { slice_get (references (call_of wide_window_scene).coded) 198 ≡ Some (Some 0) }
     ensures past { slice_get (references (call_of wide_window_scene).coded) 199 ≡ Some None }
-    ensures sender { slice_get (references (ends_of wide_window_scene).sender.coded) 198 ≡ Some (Some 0) }
+    ensures sender { slice_get (references (ends_of wide_window_scene).sender.coded) 198
+        ≡ Some (Some 0) }
     ensures receiver { slice_get (marks (ends_of wide_window_scene).plays) 198 ≡ Some Exact }
 {}
 
@@ -192,7 +209,8 @@ pub fn wide_late_packet()
     ensures mark { slice_get (marks (ends_of wide_late_scene).plays) 0 ≡ Some Held }
     ensures far { first_refusal (rules_of 4 1) 511 511 511 [] (Deliver 0 0) ≡ Some (Far 0 511) }
     ensures near_enough { first_refusal (rules_of 4 1) 511 511 127 [] (Deliver 0 0) ≡ None }
-    ensures just_far { first_refusal (rules_of 4 1) 511 511 128 [] (Deliver 0 0) ≡ Some (Far 0 128) }
+    ensures just_far { first_refusal (rules_of 4 1) 511 511 128 [] (Deliver 0 0)
+        ≡ Some (Far 0 128) }
 {}
 
 /// A pace that follows the sizes: picture 0 has two packets of seven numbers, the others have two
