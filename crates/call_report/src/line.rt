@@ -1,0 +1,122 @@
+//! A line of the report.
+ghost use Rattle.std.specs.Prelude.{◌≡◌, ◌≤◌, ◌<◌, ◌+◌, ◌++◌, ◌∷◌, [], length, decimal};
+ghost use Rattle.call_report.specs.Text.{newline, with_pair, gap, HasRoom};
+ghost use Rattle.call_report.specs.View.{text_of};
+
+use arrayvec::ArrayString;
+use itoa::Buffer;
+
+/// The most bytes of a line, its newline among them.
+const MAX_BYTES: usize = 256;
+
+/// A line of the report, at most 256 bytes, that grows from left to right.
+#[derive(Clone, Copy, Debug)]
+pub struct Line {
+    text: ArrayString<MAX_BYTES>,
+}
+
+impl Line {
+    /// The line without a byte.
+    pub fn empty() -> Line
+        ensures value { text_of result ≡ [] }
+        ensures len { length (text_of result) ≡ 0 }
+    {
+        Line {
+            text: ArrayString::new(),
+        }
+    }
+
+    /// Its bytes, with the newline once it has ended.
+    pub fn text(&self) -> &[u8]
+        ensures value { result.now ≡ text_of self.now }
+        ensures fits { length result.now ≤ 256 }
+    {
+        self.text.as_str().as_bytes()
+    }
+
+    /// Appends a word and its number, each behind a space; the line's first word stands at its front.
+    pub fn pair(&mut self, word: &str, number: u64)
+        requires { HasRoom (text_of self.old) word.now number }
+        ensures value { text_of self.new ≡ with_pair (text_of self.old) word.now number }
+        ensures len { length (text_of self.new) ≤ length (text_of self.old) + length word.now + 22 }
+    {
+        self.put_pair(word, number);
+    }
+
+    /// Appends the newline.
+    pub fn end(&mut self)
+        requires { length (text_of self.old) < 256 }
+        ensures value { text_of self.new ≡ text_of self.old ++ newline }
+        ensures len { length (text_of self.new) ≡ length (text_of self.old) + 1 }
+    {
+        self.put("\n");
+    }
+
+    fn put_pair(&mut self, word: &str, number: u64)
+        requires { length (with_pair (text_of self.old) word.now number) ≤ 256 }
+        ensures { text_of self.new ≡ with_pair (text_of self.old) word.now number }
+    {
+        self.put_gap();
+        self.put(word);
+        self.put(" ");
+        self.put_digits(number);
+    }
+
+    // The line of one text.
+    pub(crate) fn of(text: &str) -> Line
+        requires { length text.now ≤ 256 }
+        ensures value { text_of result ≡ text.now }
+        ensures len { length (text_of result) ≡ length text.now }
+    {
+        let mut line = Line::empty();
+        line.put(text);
+        line
+    }
+
+    // The line of a letter and a space.
+    pub(crate) fn of_letter(letter: u8) -> Line
+        requires { letter < 128 }
+        ensures { text_of result ≡ letter ∷ 32 ∷ [] }
+    {
+        let mut text = ArrayString::new();
+        text.push(letter as char);
+        text.push(' ');
+        Line { text }
+    }
+
+    fn put_gap(&mut self)
+        requires { length (text_of self.old) < 256 }
+        ensures value { text_of self.new ≡ text_of self.old ++ gap (text_of self.old) }
+    {
+        if !self.text.is_empty() {
+            self.put(" ");
+        }
+    }
+
+    pub(crate) fn put(&mut self, text: &str)
+        requires { length (text_of self.old) + length text.now ≤ 256 }
+        ensures value { text_of self.new ≡ text_of self.old ++ text.now }
+        ensures len { length (text_of self.new) ≡ length (text_of self.old) + length text.now }
+    {
+        self.text.push_str(text);
+    }
+
+    fn put_digits(&mut self, number: u64)
+        requires { length (text_of self.old) + length (decimal number) ≤ 256 }
+        ensures value { text_of self.new ≡ text_of self.old ++ decimal number }
+        ensures len { length (text_of self.new) ≡ length (text_of self.old) + length (decimal number) }
+    {
+        let mut buffer = Buffer::new();
+        self.put(buffer.format(number));
+    }
+
+    // A number has at most 20 digits.
+    #[tactic(auto, using(crate::proofs::Digits::decimal_short))]
+    pub(crate) fn put_number(&mut self, number: u64)
+        requires { length (text_of self.old) + 20 ≤ 256 }
+        ensures value { text_of self.new ≡ text_of self.old ++ decimal number }
+        ensures len { length (text_of self.new) ≤ length (text_of self.old) + 20 }
+    {
+        self.put_digits(number);
+    }
+}

@@ -1,0 +1,10 @@
+//! Made input: the frames and the trace of `demo`, by a seed.
+#![tactic(auto)]
+
+mod frames;
+#[cfg(test)]
+mod tests;
+mod trace;
+
+pub use frames::frame;
+pub use trace::TraceMaker;
