@@ -1,5 +1,5 @@
 -- How many packets there are, and how many bytes each has.
-use Rattle.std.proofs.Common.{◌≡◌, ℕ, ◌+◌, ◌*◌, ◌%◌, ◌≤◌, Bool, List, [], ◌∷◌, ◌++◌, length, sym, ap, subst, arith}
+use Rattle.std.proofs.Common.{◌≡◌, ℕ, ◌+◌, ◌*◌, ◌%◌, ◌≤◌, Bool, List, [], ◌∷◌, ◌++◌, length, Option, sym, ap, subst, arith}
 use Rattle.std.specs.Prelude.{All}
 use Rattle.std.proofs.lemmas.List.{length-append}
 use Rattle.std.proofs.lemmas.List.Elements.{All-nil, All-cons}
@@ -9,8 +9,7 @@ use Rattle.h263_bits.specs.Written.{to_byte}
 use Rattle.h263_bits.proofs.SyntaxLaws.{length-spelled, length-bits_of, length-fields}
 use Rattle.picture_header.specs.declared.header.Header.{Header}
 use Rattle.rtp_header.specs.Written.{rtp_fields}
-use Rattle.h263_payload.specs.Written.{written_payload}
-use Rattle.h263_payload.proofs.Written.{length-written_payload}
+use Rattle.h263_payload.specs.Written.{written_payload, payload_bits}
 use Rattle.slice_layer.specs.Written.{slice_text, padded, bytes_of}
 use Rattle.packet_cutter.specs.Cut.{begins_at, extra_of, packet_bytes, IsCut}
 use Rattle.packet_cutter.specs.Packets.{timestamp_of, packet_text, is_last, ArePackets}
@@ -24,8 +23,12 @@ length-padded text =
 pub length-rtp : (marker : Bool) (sequence timestamp : ℕ) → length (fields (rtp_fields marker sequence timestamp)) ≡ 96
 length-rtp marker sequence timestamp = length-fields (rtp_fields marker sequence timestamp)
 
-pub length-packet : (number sequence : ℕ) (marker : Bool) (h : Header) (first : ℕ) (run : List Mb) → length (packet_text number sequence marker h first run) ≡ 8 * packet_bytes h first run
-length-packet number sequence marker h first run =
+-- what the payload header's laws say of its length
+abbrev pub ArePayloadsLong : Type 0
+ArePayloadsLong = (extra : Option Header) → length (written_payload extra) ≡ payload_bits extra
+
+pub length-packet : ArePayloadsLong → (number sequence : ℕ) (marker : Bool) (h : Header) (first : ℕ) (run : List Mb) → length (packet_text number sequence marker h first run) ≡ 8 * packet_bytes h first run
+length-packet many number sequence marker h first run =
     let rtp = fields (rtp_fields marker (sequence % 65536) (timestamp_of number)) in
     let payload = written_payload (extra_of h (begins_at first)) in
     let text = padded (slice_text h (begins_at first) first run) in
@@ -34,13 +37,13 @@ length-packet number sequence marker h first run =
       length-append rtp (payload ++ text),
       length-append payload text,
       length-rtp marker (sequence % 65536) (timestamp_of number),
-      length-written_payload (extra_of h (begins_at first)),
+      many (extra_of h (begins_at first)),
       length-padded (slice_text h (begins_at first) first run),
       front_whole h first,
     )
 
-pub packet_size : (number sequence : ℕ) (marker : Bool) (h : Header) (first : ℕ) (run : List Mb) (packet : List ℕ) → bits_of packet ≡ packet_text number sequence marker h first run → length packet ≡ packet_bytes h first run
-packet_size number sequence marker h first run packet e = omega (arith, length-bits_of packet, ap length e, length-packet number sequence marker h first run)
+pub packet_size : ArePayloadsLong → (number sequence : ℕ) (marker : Bool) (h : Header) (first : ℕ) (run : List Mb) (packet : List ℕ) → bits_of packet ≡ packet_text number sequence marker h first run → length packet ≡ packet_bytes h first run
+packet_size many number sequence marker h first run packet e = omega (arith, length-bits_of packet, ap length e, length-packet many number sequence marker h first run)
 
 pub count : (number sequence : ℕ) (h : Header) (first : ℕ) (runs : List (List Mb)) (packets : List (List ℕ)) → ArePackets number sequence h first runs packets → length packets ≡ length runs
 unfolding ArePackets
@@ -50,9 +53,9 @@ count number sequence h first (run ∷ runs) packets a = omega (arith, ap length
 abbrev pub IsWithin : ℕ → List ℕ → Type 0
 IsWithin limit packet = length packet ≤ limit
 
-pub within : (number sequence : ℕ) (h : Header) (limit first : ℕ) (mbs : List Mb) (runs : List (List Mb)) (packets : List (List ℕ)) → IsCut h limit first mbs runs → ArePackets number sequence h first runs packets → All (IsWithin limit) packets
+pub within : ArePayloadsLong → (number sequence : ℕ) (h : Header) (limit first : ℕ) (mbs : List Mb) (runs : List (List Mb)) (packets : List (List ℕ)) → IsCut h limit first mbs runs → ArePackets number sequence h first runs packets → All (IsWithin limit) packets
 unfolding IsCut ArePackets
-within number sequence h limit first mbs [] packets c a = subst (All (IsWithin limit)) (sym a) (All-nil (IsWithin limit))
-within number sequence h limit first mbs (run ∷ runs) packets c a =
-    let fits : length a.0 ≤ limit = omega (arith, c.2.fits, packet_size number sequence (is_last runs) h first run a.0 a.3) in
-    subst (All (IsWithin limit)) (sym a.2) (All-cons (IsWithin limit) a.0 a.1 fits (within number (sequence + 1) h limit (first + length run) c.0 runs a.1 c.3 a.4))
+within many number sequence h limit first mbs [] packets c a = subst (All (IsWithin limit)) (sym a) (All-nil (IsWithin limit))
+within many number sequence h limit first mbs (run ∷ runs) packets c a =
+    let fits : length a.0 ≤ limit = omega (arith, c.2.fits, packet_size many number sequence (is_last runs) h first run a.0 a.3) in
+    subst (All (IsWithin limit)) (sym a.2) (All-cons (IsWithin limit) a.0 a.1 fits (within many number (sequence + 1) h limit (first + length run) c.0 runs a.1 c.3 a.4))

@@ -1,7 +1,8 @@
 -- What is written of a packet is read as its header and its slice.
-use Rattle.std.proofs.Common.{◌≡◌, ℕ, ◌+◌, ◌-◌, ◌*◌, ◌%◌, ◌<◌, ◌≤◌, Bool, true, false, Some, None, List, [], ◌++◌, length, take, drop, Result, Ok, refl, sym, ap, ◌∙◌, append_assoc, arith}
+use Rattle.std.proofs.Common.{◌≡◌, ℕ, ◌+◌, ◌-◌, ◌*◌, ◌%◌, ◌<◌, ◌≤◌, Bool, true, false, Some, None, List, [], ◌∷◌, ◌++◌, length, take, drop, Result, Ok, refl, sym, ap, ◌∙◌, append_assoc, arith}
 use Rattle.std.proofs.lemmas.List.{length-append, length-drop, take-append-drop, take_at, drop_at, take_all}
 use Rattle.h263_types.specs.declared.blocks.Mb.{Mb}
+use Rattle.h263_types.specs.declared.format.Format.{Format}
 use Rattle.h263_types.specs.Sizes.{mbs_of}
 use Rattle.h263_bits.specs.declared.fault.Fault.{Fault}
 use Rattle.h263_bits.specs.Bits.{bits_of, spelled, fields}
@@ -11,16 +12,14 @@ use Rattle.h263_bits.proofs.SyntaxLaws.{length-bits_of, bits_of-take}
 use Rattle.picture_header.specs.declared.header.Header.{Header}
 use Rattle.picture_header.specs.Ranges.{IsHeader}
 use Rattle.picture_header.specs.Written.{written_header}
-use Rattle.picture_header.proofs.Texts.{header_spelt}
+use Rattle.picture_header.specs.Laws.{HeaderLaws}
 use Rattle.rtp_header.specs.declared.rtp.Rtp.{Rtp}
 use Rattle.rtp_header.specs.Faults.{rtp_in}
-use Rattle.rtp_header.specs.Written.{rtp_fields}
-use Rattle.rtp_header.proofs.Writing.{written_again}
+use Rattle.rtp_header.specs.Written.{rtp_fields, written_rtp}
 use Rattle.h263_payload.specs.declared.payload.Payload.{Payload}
 use Rattle.h263_payload.specs.Text.{IsBegun}
 use Rattle.h263_payload.specs.Faults.{payload_at}
 use Rattle.h263_payload.specs.Written.{written_payload}
-use Rattle.h263_payload.proofs.Written.{picture_again, slice_again, length-written_payload}
 use Rattle.slice_layer.specs.Around.{around}
 use Rattle.slice_layer.specs.Written.{head_text, opening_text, mbs_text, slice_text, padded, AreWritable}
 use Rattle.slice_layer.proofs.Written.{slice_spelt, zeros_are_padding}
@@ -29,7 +28,21 @@ use Rattle.packet_cutter.specs.Packets.{timestamp_of, packet_text}
 use Rattle.h263_payload.specs.Headed.{IsHeaded}
 use Rattle.packet_cutter.specs.Again.{rtp_of, IsReadAs}
 use Rattle.packet_cutter.proofs.Fronts.{front_whole}
-use Rattle.packet_cutter.proofs.Counted.{length-rtp}
+use Rattle.packet_cutter.proofs.Counted.{ArePayloadsLong, length-rtp}
+
+-- what the laws of the layers below say of what is written of an RTP header, a payload header and a picture header
+pub record AreReadAgain : Type 0 where
+  pub headers : HeaderLaws
+  pub rtp : (bytes payload : List ℕ) (marker : Bool) (sequence timestamp : ℕ) → sequence < 65536 → timestamp < 4294967296
+      → bits_of bytes ≡ fields (rtp_fields marker sequence timestamp) → length payload ≤ 65523
+      → rtp_in (bytes ++ payload) ≡ Ok (written_rtp marker sequence timestamp (length payload))
+  pub picture : (format : Format) (at : ℕ) (rest : List Bool)
+      → payload_at format (record { at = at; bits = written_payload None ++ true ∷ false ∷ rest })
+      ≡ Ok (record { extra = None; begins = true; from = at + length (written_payload None) })
+  pub slice : (h : Header) (at : ℕ) (rest : List Bool) → IsHeader h
+      → payload_at h.format (record { at = at; bits = written_payload (Some h) ++ true ∷ true ∷ rest })
+      ≡ Ok (record { extra = Some h; begins = false; from = at + length (written_payload (Some h)) })
+  pub many : ArePayloadsLong
 
 -- ---- windows of bytes whose bits are known
 
@@ -48,15 +61,15 @@ ok_payload p = Ok p
 
 -- ---- RTP's header
 
-rtp_again : (number sequence : ℕ) (marker : Bool) (bytes : List ℕ) (rest : List Bool) → bits_of bytes ≡ fields (rtp_fields marker (sequence % 65536) (timestamp_of number)) ++ rest → length bytes ≤ 65535
+rtp_again : AreReadAgain → (number sequence : ℕ) (marker : Bool) (bytes : List ℕ) (rest : List Bool) → bits_of bytes ≡ fields (rtp_fields marker (sequence % 65536) (timestamp_of number)) ++ rest → length bytes ≤ 65535
     → rtp_in bytes ≡ Ok (rtp_of number sequence marker (length bytes))
-rtp_again number sequence marker bytes rest e short =
+rtp_again below number sequence marker bytes rest e short =
     let text = fields (rtp_fields marker (sequence % 65536) (timestamp_of number)) in
     let len : length text ≡ 96 = length-rtp marker (sequence % 65536) (timestamp_of number) in
     let long : 12 ≤ length bytes = omega (arith, length-bits_of bytes, ap length e, length-append text rest, len) in
     let front : bits_of (take 12 bytes) ≡ text = bits_of-take 12 bytes long ∙ ap (take 96) e ∙ take_at text rest 96 len in
     let few : length (drop 12 bytes) ≤ 65523 = omega (arith, length-drop 12 bytes) in
-    let read = written_again (take 12 bytes) (drop 12 bytes) marker (sequence % 65536) (timestamp_of number) (omega arith) (omega arith) front few in
+    let read = below.rtp (take 12 bytes) (drop 12 bytes) marker (sequence % 65536) (timestamp_of number) (omega arith) (omega arith) front few in
     let end : 12 + length (drop 12 bytes) ≡ length bytes = omega (arith, length-drop 12 bytes) in
     ap rtp_in (sym (take-append-drop 12 bytes)) ∙ read ∙ ap (λ (n : ℕ). ok_rtp (rtp_of number sequence marker n)) end
 
@@ -67,12 +80,12 @@ unfolding spelled
 started h true first run = (drop 2 (padded (slice_text h true first run)), refl)
 started h false first run = (drop 2 (padded (slice_text h false first run)), refl)
 
-payload_again : (h : Header) (begins : Bool) (at : ℕ) (coded : List Bool) → IsHeader h → IsBegun begins coded
+payload_again : AreReadAgain → (h : Header) (begins : Bool) (at : ℕ) (coded : List Bool) → IsHeader h → IsBegun begins coded
     → payload_at h.format (record { at = at; bits = written_payload (extra_of h begins) ++ coded }) ≡ Ok (record { extra = extra_of h begins; begins = begins; from = at + length (written_payload (extra_of h begins)) })
-payload_again h true at coded is begun =
-    ap (λ (t : List Bool). payload_at h.format (record { at = at; bits = written_payload None ++ t })) begun.1 ∙ picture_again h.format at begun.0
-payload_again h false at coded is begun =
-    ap (λ (t : List Bool). payload_at h.format (record { at = at; bits = written_payload (Some h) ++ t })) begun.1 ∙ slice_again h at begun.0 is
+payload_again below h true at coded is begun =
+    ap (λ (t : List Bool). payload_at h.format (record { at = at; bits = written_payload None ++ t })) begun.1 ∙ below.picture h.format at begun.0
+payload_again below h false at coded is begun =
+    ap (λ (t : List Bool). payload_at h.format (record { at = at; bits = written_payload (Some h) ++ t })) begun.1 ∙ below.slice h at begun.0 is
 
 -- ---- the picture header and the slice
 
@@ -80,9 +93,9 @@ abbrev header_part : Header → Bool → List Bool
 header_part h true = written_header h
 header_part h false = []
 
-headed : (h : Header) (begins : Bool) → IsHeader h → IsHeaded h.format (extra_of h begins) h (header_part h begins)
-headed h true is = header_spelt h is
-headed h false is = (refl, refl)
+headed : HeaderLaws → (h : Header) (begins : Bool) → IsHeader h → IsHeaded h.format (extra_of h begins) h (header_part h begins)
+headed laws h true is = laws.spelt h is
+headed laws h false is = (refl, refl)
 
 divided : (h : Header) (begins : Bool) (first : ℕ) (texts zeros : List Bool) → (opening_text h begins first ++ texts) ++ zeros ≡ header_part h begins ++ (head_text h begins first ++ (texts ++ zeros))
 divided h true first texts zeros = regroup (written_header h) (head_text h true first) texts zeros
@@ -91,9 +104,9 @@ divided h true first texts zeros = regroup (written_header h) (head_text h true 
     regroup a b c d = simp append_assoc
 divided h false first texts zeros = append_assoc (head_text h false first) texts zeros
 
-pub read_as : (number sequence : ℕ) (marker : Bool) (h : Header) (first : ℕ) (run : List Mb) (bytes : List ℕ) → IsHeader h → 0 < length run → first + length run ≤ mbs_of h.format
+pub read_as : AreReadAgain → (number sequence : ℕ) (marker : Bool) (h : Header) (first : ℕ) (run : List Mb) (bytes : List ℕ) → IsHeader h → 0 < length run → first + length run ≤ mbs_of h.format
     → AreWritable (around h first) h.quant [] run → bits_of bytes ≡ packet_text number sequence marker h first run → length bytes ≤ 65535 → IsReadAs number sequence marker h first run bytes
-read_as number sequence marker h first run bytes is some within each e short =
+read_as below number sequence marker h first run bytes is some within each e short =
     let begins = begins_at first in
     let rtp = fields (rtp_fields marker (sequence % 65536) (timestamp_of number)) in
     let payload = written_payload (extra_of h begins) in
@@ -101,15 +114,15 @@ read_as number sequence marker h first run bytes is some within each e short =
     let texts = mbs_text (around h first) h.quant [] run in
     let zeros = spelled (to_byte (length (slice_text h begins first run))) 0 in
     let len : length rtp ≡ 96 = length-rtp marker (sequence % 65536) (timestamp_of number) in
-    let from : 96 + length payload ≡ 8 * front_bytes h first = omega (arith, length-written_payload (extra_of h begins), front_whole h first) in
+    let from : 96 + length payload ≡ 8 * front_bytes h first = omega (arith, below.many (extra_of h begins), front_whole h first) in
     let there = behind_text bytes rtp (payload ++ coded) 96 e len in
     let data_there = behind_text bytes (rtp ++ payload) coded (8 * front_bytes h first) (e ∙ sym (append_assoc rtp payload coded)) (omega (arith, length-append rtp payload, len, from)) in
     record {
       front = header_part h begins;
       behind = head_text h begins first ++ (texts ++ zeros);
-      rtp = rtp_again number sequence marker bytes (payload ++ coded) e short;
-      payload = ap (payload_at h.format) there ∙ payload_again h begins 96 coded is (started h begins first run) ∙ ap (λ (n : ℕ). ok_payload (record { extra = extra_of h begins; begins = begins; from = n })) from;
+      rtp = rtp_again below number sequence marker bytes (payload ++ coded) e short;
+      payload = ap (payload_at h.format) there ∙ payload_again below h begins 96 coded is (started h begins first run) ∙ ap (λ (n : ℕ). ok_payload (record { extra = extra_of h begins; begins = begins; from = n })) from;
       parts = ap (λ (b : Bits). b.bits) data_there ∙ divided h begins first texts zeros;
-      headed = headed h begins is;
+      headed = headed below.headers h begins is;
       text = slice_spelt h begins first run zeros is (record { within = omega (arith, some, within); at_zero = refl }) some within each (zeros_are_padding (length (slice_text h begins first run)));
     }

@@ -7,7 +7,7 @@ use Rattle.h263_types.specs.declared.format.Format.{Format}
 use Rattle.h263_types.specs.declared.blocks.Mb.{Mb}
 use Rattle.h263_bits.specs.Written.{to_byte}
 use Rattle.picture_header.specs.declared.header.Header.{Header}
-use Rattle.picture_header.specs.Written.{written_bits, reference_bits}
+use Rattle.picture_header.specs.Written.{reference_bits}
 use Rattle.h263_payload.specs.Written.{payload_bits}
 use Rattle.slice_layer.specs.Around.{around}
 use Rattle.slice_layer.specs.Head.{address_bits}
@@ -22,15 +22,12 @@ same_reference None (Some y) e = absurd cc
 same_reference (Some x) None e = absurd cc
 same_reference (Some x) (Some y) e = refl
 
-same_header : (h g : Header) → HaveOneStyle h g → written_bits h ≡ written_bits g
-same_header h g s = omega (arith, same_reference h.trp g.trp s.named, s.messages)
-
 same_payload : (h g : Header) (begins : Bool) → HaveOneStyle h g → payload_bits (extra_of h begins) ≡ payload_bits (extra_of g begins)
 same_payload h g true s = refl
-same_payload h g false s = ap (λ (n : ℕ). 16 + 8 * ((n + to_byte n) / 8)) (same_header h g s)
+same_payload h g false s = ap (λ (n : ℕ). 16 + 8 * ((n + to_byte n) / 8)) s.bits
 
 same_opening : (h g : Header) (begins : Bool) (first : ℕ) → HaveOneStyle h g → length (opening_text h begins first) ≡ length (opening_text g begins first)
-same_opening h g true first s = omega (arith, length-begins h first, length-begins g first, same_header h g s, ap address_bits s.format)
+same_opening h g true first s = omega (arith, length-begins h first, length-begins g first, s.bits, ap address_bits s.format)
 same_opening h g false first s = omega (arith, length-later h first, length-later g first, same_reference h.trp g.trp s.named, ap address_bits s.format)
 
 same_text : (h g : Header) (first : ℕ) (run : List Mb) → HaveOneStyle h g → mbs_text (around h first) h.quant [] run ≡ mbs_text (around g first) g.quant [] run

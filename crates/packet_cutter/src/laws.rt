@@ -49,4 +49,8 @@ pub fn written_again()
         → 0 < length run → first + length run ≤ mbs_of h.format → AreWritable (around h first) h.quant [] run
         → bits_of bytes ≡ packet_text number sequence marker h first run → length bytes ≤ 65535
         → IsReadAs number sequence marker h first run bytes }
-{}
+{
+    in_a_syntax();
+    rtp_header::laws::read_again();
+    h263_payload::laws::read_again();
+}
