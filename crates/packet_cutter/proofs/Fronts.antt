@@ -6,7 +6,10 @@ use Rattle.picture_header.specs.Laws.{IsShort}
 use Rattle.h263_payload.specs.Written.{payload_bits}
 use Rattle.packet_cutter.specs.Cut.{begins_at, extra_of, front_bytes}
 
-pub front_short : ((h : Header) → IsHeader h → IsShort h) → (h : Header) (first : ℕ) → IsHeader h → front_bytes h first ≤ 46
+abbrev pub AllShort : Type 0
+AllShort = (h : Header) → IsHeader h → IsShort h
+
+pub front_short : AllShort → (h : Header) (first : ℕ) → IsHeader h → front_bytes h first ≤ 46
 front_short short h first is = at (begins_at first)
   where
     at : (begins : Bool) → 12 + payload_bits (extra_of h begins) / 8 ≤ 46

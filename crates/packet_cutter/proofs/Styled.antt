@@ -7,6 +7,7 @@ use Rattle.h263_types.specs.declared.format.Format.{Format}
 use Rattle.h263_types.specs.declared.blocks.Mb.{Mb}
 use Rattle.h263_bits.specs.Written.{to_byte}
 use Rattle.picture_header.specs.declared.header.Header.{Header}
+use Rattle.picture_header.specs.Laws.{HeaderLaws}
 use Rattle.picture_header.specs.Written.{reference_bits}
 use Rattle.h263_payload.specs.Written.{payload_bits}
 use Rattle.slice_layer.specs.Around.{around}
@@ -26,35 +27,35 @@ same_payload : (h g : Header) (begins : Bool) → HaveOneStyle h g → payload_b
 same_payload h g true s = refl
 same_payload h g false s = ap (λ (n : ℕ). 16 + 8 * ((n + to_byte n) / 8)) s.bits
 
-same_opening : (h g : Header) (begins : Bool) (first : ℕ) → HaveOneStyle h g → length (opening_text h begins first) ≡ length (opening_text g begins first)
-same_opening h g true first s = omega (arith, length-begins h first, length-begins g first, s.bits, ap address_bits s.format)
-same_opening h g false first s = omega (arith, length-later h first, length-later g first, same_reference h.trp g.trp s.named, ap address_bits s.format)
+same_opening : HeaderLaws → (h g : Header) (begins : Bool) (first : ℕ) → HaveOneStyle h g → length (opening_text h begins first) ≡ length (opening_text g begins first)
+same_opening laws h g true first s = omega (arith, length-begins laws h first, length-begins laws g first, s.bits, ap address_bits s.format)
+same_opening laws h g false first s = omega (arith, length-later h first, length-later g first, same_reference h.trp g.trp s.named, ap address_bits s.format)
 
 same_text : (h g : Header) (first : ℕ) (run : List Mb) → HaveOneStyle h g → mbs_text (around h first) h.quant [] run ≡ mbs_text (around g first) g.quant [] run
 same_text h g first run s =
     let text = λ (kind : Kind) (format : Format) (quant : ℕ). mbs_text (around (record h { kind = kind; format = format }) first) quant [] run in
     ap (λ (k : Kind). text k h.format h.quant) s.kind ∙ ap (λ (f : Format). text g.kind f h.quant) s.format ∙ ap (λ (q : ℕ). text g.kind g.format q) s.quant
 
-same_packet : (h g : Header) (first : ℕ) (run : List Mb) → HaveOneStyle h g → packet_bytes h first run ≡ packet_bytes g first run
-same_packet h g first run s =
+same_packet : HeaderLaws → (h g : Header) (first : ℕ) (run : List Mb) → HaveOneStyle h g → packet_bytes h first run ≡ packet_bytes g first run
+same_packet laws h g first run s =
     let mine : length (slice_text h (begins_at first) first run) ≡ length (slice_text g (begins_at first) first run) =
     omega (
       arith,
       length-append (opening_text h (begins_at first) first) (mbs_text (around h first) h.quant [] run),
       length-append (opening_text g (begins_at first) first) (mbs_text (around g first) g.quant [] run),
-      same_opening h g (begins_at first) first s,
+      same_opening laws h g (begins_at first) first s,
       ap length (same_text h g first run s),
     ) in
     ap (λ (n : ℕ). 12 + n / 8 + bytes_of (slice_text h (begins_at first) first run)) (same_payload h g (begins_at first) s) ∙ ap (λ (n : ℕ). front_bytes g first + (n + to_byte n) / 8) mine
 
-same_longest : (h g : Header) (limit first : ℕ) (run rest : List Mb) → HaveOneStyle h g → IsLongest h limit first run rest → IsLongest g limit first run rest
-same_longest h g limit first run rest s a = record {
+same_longest : HeaderLaws → (h g : Header) (limit first : ℕ) (run rest : List Mb) → HaveOneStyle h g → IsLongest h limit first run rest → IsLongest g limit first run rest
+same_longest laws h g limit first run rest s a = record {
   some = a.some;
-  fits = omega (arith, a.fits, same_packet h g first run s);
-  longest = λ more others e some. subst (λ (n : ℕ). limit < n) (same_packet h g first (run ++ more) s) (a.longest more others e some);
+  fits = omega (arith, a.fits, same_packet laws h g first run s);
+  longest = λ more others e some. subst (λ (n : ℕ). limit < n) (same_packet laws h g first (run ++ more) s) (a.longest more others e some);
 }
 
-pub by_style : (h g : Header) (limit first : ℕ) (mbs : List Mb) (runs : List (List Mb)) → HaveOneStyle h g → IsCut h limit first mbs runs → IsCut g limit first mbs runs
+pub by_style : HeaderLaws → (h g : Header) (limit first : ℕ) (mbs : List Mb) (runs : List (List Mb)) → HaveOneStyle h g → IsCut h limit first mbs runs → IsCut g limit first mbs runs
 unfolding IsCut
-by_style h g limit first mbs [] s a = a
-by_style h g limit first mbs (run ∷ runs) s a = (a.0, a.1, same_longest h g limit first run a.0 s a.2, by_style h g limit (first + length run) a.0 runs s a.3)
+by_style laws h g limit first mbs [] s a = a
+by_style laws h g limit first mbs (run ∷ runs) s a = (a.0, a.1, same_longest laws h g limit first run a.0 s a.2, by_style laws h g limit (first + length run) a.0 runs s a.3)

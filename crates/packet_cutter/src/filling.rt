@@ -16,6 +16,7 @@ ghost use Rattle.packet_cutter.specs.Taken.{IsTaken};
 use h263_bits::BitWriter;
 use h263_payload::write_payload;
 use h263_types::Mb;
+use picture_header::laws::longest_text;
 use picture_header::{Header, header_bits};
 use slice_layer::{Added, SliceWriter};
 
@@ -76,8 +77,9 @@ fn write_slice(bytes: &mut [u8], header: &Header, first: u32, mbs: &[Mb]) -> Par
 fn front_bytes(header: &Header, first: u32) -> u32
     requires { IsHeader header.now }
     ensures bytes { result ≡ front_bytes header.now first }
-    ensures few { result ≤ 37 }
+    ensures few { result ≤ 46 }
 {
+    longest_text();
     if first == 0 {
         return 14;
     }

@@ -13,6 +13,8 @@ ghost use Rattle.packet_cutter.specs.Packets.{packet_text, ArePackets};
 ghost use Rattle.packet_cutter.specs.Styles.{HaveOneStyle};
 ghost use Rattle.packet_cutter.specs.Again.{IsReadAs};
 
+use picture_header::laws::{in_a_syntax, longest_text};
+
 /// Slices cover the macroblocks one after the other, none is empty, and each keeps its packet within the limit: so the
 /// packets are as many as the slices, and each has at most `limit` bytes.
 pub fn cut_parts()
@@ -22,7 +24,9 @@ pub fn cut_parts()
         → ArePackets number sequence h first runs packets → length packets ≡ length runs }
     ensures packets { (number sequence : ℕ) (h : Header) (limit first : ℕ) (mbs : List Mb) (runs : List (List Mb)) (packets : List (List ℕ))
         → IsCut h limit first mbs runs → ArePackets number sequence h first runs packets → All (λ p. length p ≤ limit) packets }
-{}
+{
+    h263_payload::laws::read_again();
+}
 
 /// There is one cut at most.
 pub fn one_cut()
@@ -34,13 +38,18 @@ pub fn one_cut()
 pub fn cut_exists()
     ensures { (h : Header) (limit first : ℕ) (mbs : List Mb) → IsHeader h → 1200 ≤ limit → All IsWhole mbs
         → (runs : List (List Mb)) × IsCut h limit first mbs runs }
-{}
+{
+    in_a_syntax();
+    longest_text();
+}
 
 /// The cut is the same for headers of one style: it depends on no temporal reference.
 pub fn by_style()
     ensures { (h g : Header) (limit first : ℕ) (mbs : List Mb) (runs : List (List Mb)) → HaveOneStyle h g
         → IsCut h limit first mbs runs → IsCut g limit first mbs runs }
-{}
+{
+    in_a_syntax();
+}
 
 /// What is written of a packet is read as its header and its slice, where the slice's macroblocks may be written one after
 /// the other.

@@ -7,6 +7,7 @@ use Rattle.h263_types.specs.declared.blocks.Mb.{Mb}
 use Rattle.h263_bits.specs.Written.{to_byte}
 use Rattle.picture_header.specs.declared.header.Header.{Header}
 use Rattle.macroblock_layer.specs.Prediction.{no_vector}
+use Rattle.picture_header.specs.Laws.{HeaderLaws}
 use Rattle.picture_header.specs.Ranges.{IsHeader}
 use Rattle.macroblock_layer.specs.Written.{mb_text, IsWhole}
 use Rattle.macroblock_layer.proofs.Lengths.{mb_short}
@@ -71,15 +72,15 @@ pub answer_full : (room : ℕ) (text : List Bool) → 8 * room < length text →
 answer_full room text h = rw (lt-ltb room (bytes_of text) (bytes_past room text h)) refl
 
 -- a slice of one macroblock
-pub one_short : (h : Header) (begins : Bool) (first : ℕ) (m : Mb) → IsHeader h → IsWhole m → bytes_of (slice_text h begins first (m ∷ [])) ≤ 1085
-one_short h begins first m is whole =
-    let bits : length (slice_text h begins first (m ∷ [])) ≤ 8680 =
+pub one_short : HeaderLaws → (h : Header) (begins : Bool) (first : ℕ) (m : Mb) → IsHeader h → IsWhole m → bytes_of (slice_text h begins first (m ∷ [])) ≤ 1095
+one_short laws h begins first m is whole =
+    let bits : length (slice_text h begins first (m ∷ [])) ≤ 8754 =
     omega (
       arith,
       ap length (slice_text-append h begins first [] m),
       length-append (slice_text h begins first []) (next_text h first [] m),
       ap length (no_text h begins first),
-      opening_short h begins first is,
+      opening_short laws h begins first is,
       mb_short h.kind (quant_behind h.quant []) (next_predictor h.format first []) m whole,
     ) in
-    bytes_within 1085 (slice_text h begins first (m ∷ [])) (omega (arith, bits))
+    bytes_within 1095 (slice_text h begins first (m ∷ [])) (omega (arith, bits))

@@ -8,7 +8,7 @@ use Rattle.h263_bits.proofs.SyntaxLaws.{length-fields}
 use Rattle.picture_header.specs.declared.header.Header.{Header}
 use Rattle.picture_header.specs.Ranges.{IsHeader}
 use Rattle.picture_header.specs.Written.{reference_fields, reference_bits, written_header, written_bits}
-use Rattle.picture_header.proofs.Texts.{length-written_header}
+use Rattle.picture_header.specs.Laws.{HeaderLaws}
 use Rattle.slice_layer.specs.Head.{address_bits}
 use Rattle.slice_layer.specs.Written.{gfid, first_fields, place_fields, tail_text, opening_text}
 
@@ -45,12 +45,12 @@ length-first h = omega (arith, length-fields (first_fields h))
 length-place : (h : Header) (first : ℕ) → length (fields (place_fields h first)) ≡ 8 + address_bits h.format
 length-place h first = omega (arith, length-fields (place_fields h first))
 
-pub length-begins : (h : Header) (first : ℕ) → length (opening_text h true first) ≡ written_bits h + (2 + address_bits h.format)
-length-begins h first = omega (arith, length-append (written_header h) (fields (first_fields h)), length-written_header h, length-first h)
+pub length-begins : HeaderLaws → (h : Header) (first : ℕ) → length (opening_text h true first) ≡ written_bits h + (2 + address_bits h.format)
+length-begins laws h first = omega (arith, length-append (written_header h) (fields (first_fields h)), laws.length h, length-first h)
 
 pub length-later : (h : Header) (first : ℕ) → length (opening_text h false first) ≡ 14 + address_bits h.format + reference_bits h.trp
 length-later h first = omega (arith, length-append (fields (place_fields h first)) (tail_text h), length-place h first, length-tail h)
 
-pub opening_short : (h : Header) (begins : Bool) (first : ℕ) → IsHeader h → length (opening_text h begins first) ≤ 188
-opening_short h true first is = omega (arith, length-begins h first, address_short h.format, trp_short h.trp, is.back.few)
-opening_short h false first is = omega (arith, length-later h first, address_short h.format, trp_short h.trp)
+pub opening_short : HeaderLaws → (h : Header) (begins : Bool) (first : ℕ) → IsHeader h → length (opening_text h begins first) ≤ 262
+opening_short laws h true first is = omega (arith, length-begins laws h first, address_short h.format, laws.short h is)
+opening_short laws h false first is = omega (arith, length-later h first, address_short h.format, trp_short h.trp)

@@ -17,7 +17,9 @@ use Rattle.h263_bits.specs.Written.{to_byte}
 use Rattle.h263_bits.specs.Syntax.{any, only, Spells}
 use Rattle.h263_bits.proofs.SyntaxLaws.{length-spelled, spells_field, spells_part, spells_done, spells_whole}
 use Rattle.picture_header.specs.declared.header.Header.{Header}
-use Rattle.picture_header.specs.Ranges.{IsReference, IsHeader}
+use Rattle.h263_types.specs.declared.clock.Clock.{Clock}
+use Rattle.h263_types.specs.declared.clock.Clock.TheVariants as clocks
+use Rattle.picture_header.specs.Ranges.{HasTenBits, IsReference, IsHeader}
 use Rattle.picture_header.specs.Written.{kind_code, reference_fields, written_header}
 use Rattle.macroblock_layer.specs.Written.{mb_text}
 use Rattle.macroblock_layer.proofs.Spelt.{mb_written}
@@ -65,19 +67,22 @@ place_spelt h first is later lt =
     (spells_field 5 is_quant _ _ h.quant _ (omega (arith, is.quant_low)) (quant_allowed h.quant is.quant_some)
     (spells_field 1 (only 1 faults.Marker) _ _ 1 _ (omega arith) refl (spells_done (first, h.quant))))))
 
-trp_low : (kind : Kind) (trp : ℕ) → IsReference kind (Some trp) → trp ≤ 255
-trp_low kinds.I trp is = absurd is
-trp_low kinds.P trp is = is
+-- a temporal reference of either clock has ten bits
+pub ten_bits : (clock : Clock) (kind : Kind) (trp : Option ℕ) → IsReference clock kind trp → HasTenBits trp
+ten_bits clock kind None is = tt
+ten_bits clock kinds.I (Some trp) is = absurd is
+ten_bits clocks.Standard kinds.P (Some trp) is = omega (arith, is)
+ten_bits clocks.Custom kinds.P (Some trp) is = omega (arith, is)
 
 only_itself : (value : ℕ) → only value faults.SliceReference value ≡ None
 only_itself value = rw (eq-eqb value value refl) refl
 
-reference_spelt : (kind : Kind) (trp : Option ℕ) → IsReference kind trp → Spells (reference trp) tt (fields (reference_fields trp))
+reference_spelt : (trp : Option ℕ) → HasTenBits trp → Spells (reference trp) tt (fields (reference_fields trp))
 unfolding reference
-reference_spelt kind None is = spells_field 1 (only 0 faults.SliceReference) _ _ 0 _ (omega arith) refl (spells_done tt)
-reference_spelt kind (Some trp) is =
+reference_spelt None is = spells_field 1 (only 0 faults.SliceReference) _ _ 0 _ (omega arith) refl (spells_done tt)
+reference_spelt (Some trp) is =
     spells_field 1 (only 1 faults.SliceReference) _ _ 1 _ (omega arith) refl
-    (spells_field 10 (only trp faults.SliceReference) _ _ trp _ (omega (arith, trp_low kind trp is)) (only_itself trp) (spells_done tt))
+    (spells_field 10 (only trp faults.SliceReference) _ _ trp _ (omega (arith, is)) (only_itself trp) (spells_done tt))
 
 code_low : (kind : Kind) → kind_code kind ≤ 1
 code_low kinds.I = omega arith
@@ -89,7 +94,7 @@ tail_spelt h is =
     spells_whole (tail h.trp) tt _ (tail_text h) (regroup (spelled 2 (gfid h)) (spelled 1 0) (fields (reference_fields h.trp) ++ fields ((2, 1) ∷ [])))
     (spells_field 2 any _ _ (gfid h) _ (omega (arith, is.rounding, code_low h.kind)) refl
     (spells_field 1 (only 0 faults.SliceReference) _ _ 0 _ (omega arith) refl
-    (spells_part (reference h.trp) any _ tt tt (fields (reference_fields h.trp)) _ (reference_spelt h.kind h.trp is.trp) refl
+    (spells_part (reference h.trp) any _ tt tt (fields (reference_fields h.trp)) _ (reference_spelt h.trp (ten_bits h.clock h.kind h.trp is.trp)) refl
     (spells_field 2 (only 1 faults.Bci) _ _ 1 _ (omega arith) refl (spells_done tt)))))
   where
     regroup : (a b c : List Bool) → a ++ (b ++ c) ≡ (a ++ (b ++ [])) ++ c

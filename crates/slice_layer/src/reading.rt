@@ -19,8 +19,6 @@ use h263_types::{Format, Mb, Reach, SliceHead, Vector, reach};
 use macroblock_layer::{predictor, read_mb};
 use picture_header::Header;
 
-const NO_VECTOR: Vector = Vector { x: 0, y: 0 };
-
 // Whether fewer than 8 bits are left, all 0.
 fn is_padding(reader: &BitReader<'_>) -> bool
     ensures { result ≡ is_padding reader.now.bits }
@@ -48,7 +46,7 @@ fn vector_of(mb: &Mb) -> Vector
 {
     match mb {
         Mb::Inter { vector, .. } => *vector,
-        _ => NO_VECTOR,
+        _ => Vector::ZERO,
     }
 }
 
@@ -100,7 +98,7 @@ fn read_body(
     ensures others { IfOk result (AreOthersSame out.old out.new) }
     ensures size { length out.new ≡ length out.old }
 {
-    let mut vectors = [NO_VECTOR; 396];
+    let mut vectors = [Vector::ZERO; 396];
     let mut quant = quant;
     let mut at = first;
     'mbs: while !is_padding(reader) {

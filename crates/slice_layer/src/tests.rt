@@ -5,7 +5,7 @@ ghost use Rattle.picture_header.specs.Ranges.{IsHeader};
 
 use super::*;
 use h263_bits::{BitReader, Fault, FaultKind};
-use h263_types::{Block, Format, Kind, Mb, SliceHead, Vector};
+use h263_types::{Block, Clock, Format, Kind, Mb, SliceHead, Vector};
 use picture_header::{Header, read_header};
 use std::test::Fail;
 
@@ -19,6 +19,7 @@ const P_HEADER: Header = Header {
     trp: Some(0),
     quant: 8,
     back: [None; 4],
+    clock: Clock::Standard,
 };
 
 /// An I picture of CIF.
@@ -31,6 +32,7 @@ const I_HEADER: Header = Header {
     trp: None,
     quant: 8,
     back: [None; 4],
+    clock: Clock::Standard,
 };
 
 /// The P picture of 128 x 96 whose only slice an independent encoder wrote.
@@ -43,6 +45,7 @@ const SENT_P_HEADER: Header = Header {
     trp: Some(0),
     quant: 31,
     back: [None; 4],
+    clock: Clock::Standard,
 };
 
 /// An I picture of 128 x 96 whose second slice the same encoder wrote.
@@ -55,6 +58,7 @@ const SENT_I_HEADER: Header = Header {
     trp: None,
     quant: 12,
     back: [None; 4],
+    clock: Clock::Standard,
 };
 
 /// A slice of the P picture, seven Skip from macroblock 207 on. A space stands between fields.

@@ -12,6 +12,8 @@ ghost use Rattle.slice_layer.specs.Around.{around, reach_of};
 ghost use Rattle.slice_layer.specs.Text.{is_padding, IsSliceText};
 ghost use Rattle.slice_layer.specs.Written.{head_text, opening_text, mbs_text, slice_text, padded, bytes_of, quant_behind, IsPlace, IsWritable, AreWritable};
 
+use picture_header::laws::in_a_syntax;
+
 /// What is written of a slice, with fewer than 8 zero bits behind it, is a text of it, where its macroblocks are one at least,
 /// all in the picture, and each may be written behind those before it. Zero bits up to a whole byte are fewer than 8.
 pub fn written_is_text()
@@ -28,11 +30,13 @@ pub fn written_is_text()
     ensures padding { (n : ℕ) → is_padding (spelled (to_byte n) 0) ≡ true }
 {}
 
-/// What stands before a slice's macroblocks has 188 bits at most, and with one macroblock a slice has 1,085 bytes at most.
+/// What stands before a slice's macroblocks has 262 bits at most, and with one macroblock a slice has 1,095 bytes at most.
 pub fn longest_text()
-    ensures opening { (h : Header) (begins : Bool) (first : ℕ) → IsHeader h → length (opening_text h begins first) ≤ 188 }
-    ensures one { (h : Header) (begins : Bool) (first : ℕ) (m : Mb) → IsHeader h → IsWhole m → bytes_of (slice_text h begins first (m ∷ [])) ≤ 1085 }
-{}
+    ensures opening { (h : Header) (begins : Bool) (first : ℕ) → IsHeader h → length (opening_text h begins first) ≤ 262 }
+    ensures one { (h : Header) (begins : Bool) (first : ℕ) (m : Mb) → IsHeader h → IsWhole m → bytes_of (slice_text h begins first (m ∷ [])) ≤ 1095 }
+{
+    in_a_syntax();
+}
 
 /// Macroblocks may be written one after the other where each one may behind those before it.
 pub fn one_more()

@@ -13,7 +13,7 @@ ghost use Rattle.slice_layer.specs.Writer.{kind_of, format_of, first_of, next_of
 
 use super::*;
 use h263_bits::{BitReader, Fault, FaultKind};
-use h263_types::{Format, Kind, Mb, Reach, Vector};
+use h263_types::{Clock, Format, Kind, Mb, Reach, Vector};
 use macroblock_layer::read_mb;
 use picture_header::Header;
 use std::test::Fail;
@@ -37,6 +37,7 @@ const PREDICTED: Header = Header {
     trp: Some(0),
     quant: 8,
     back: [None; 4],
+    clock: Clock::Standard,
 };
 
 /// Picture 0 of sub-QCIF, an I picture.
@@ -49,6 +50,7 @@ const FLAT: Header = Header {
     trp: None,
     quant: 8,
     back: [None; 4],
+    clock: Clock::Standard,
 };
 
 /// An I picture of CIF.
@@ -67,6 +69,7 @@ const SMALL: Header = Header {
     trp: Some(255),
     quant: 31,
     back: [None; 4],
+    clock: Clock::Standard,
 };
 
 /// The picture of 48 macroblocks with INTRADC 100.

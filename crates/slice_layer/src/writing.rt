@@ -15,8 +15,7 @@ use h263_bits::BitReader;
 use h263_types::{Format, Kind, Mb, Vector};
 use macroblock_layer::predictor;
 use picture_header::Header;
-
-const NO_VECTOR: Vector = Vector { x: 0, y: 0 };
+use picture_header::laws::in_a_syntax;
 
 /// Whether a macroblock was added.
 #[derive(Clone, Copy, Debug, PartialEq, Eq)]
@@ -56,7 +55,7 @@ fn vector_of(mb: &Mb) -> Vector
             vector,
             blocks: _,
         } => *vector,
-        _ => NO_VECTOR,
+        _ => Vector::ZERO,
     }
 }
 
@@ -101,7 +100,7 @@ impl<'a> SliceWriter<'a> {
             quant: header.quant,
             first,
             next: first,
-            vectors: [NO_VECTOR; 396],
+            vectors: [Vector::ZERO; 396],
         }
     }
 
@@ -169,6 +168,7 @@ impl<'a> SliceWriter<'a> {
         ensures loan { loan_of self.new ≡ loan_of self.old }
         ensures room { length (bytes_in self.new) ≡ length (bytes_in self.old) }
     {
+        in_a_syntax();
         let predictor = self.predictor();
         let front = self.last_bits();
         let count = self.len % 8;

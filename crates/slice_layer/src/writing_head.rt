@@ -3,14 +3,15 @@ ghost use Rattle.std.specs.Prelude.{◌≡◌, ℕ, ◌+◌, ◌*◌, ◌<◌, �
 ghost use Rattle.h263_bits.specs.Bits.{fields};
 ghost use Rattle.h263_bits.specs.Written.{Appends, len_of, room_of};
 ghost use Rattle.h263_types.specs.Sizes.{mbs_of};
-ghost use Rattle.picture_header.specs.Ranges.{IsReference, IsHeader};
-ghost use Rattle.picture_header.specs.Written.{kind_code, reference_fields, reference_bits};
+ghost use Rattle.picture_header.specs.Ranges.{HasTenBits, IsHeader};
+ghost use Rattle.picture_header.specs.Written.{reference_bits};
 ghost use Rattle.slice_layer.specs.Head.{address_bits};
 ghost use Rattle.slice_layer.specs.Written.{gfid, first_fields, place_fields, tail_text, opening_text, IsPlace};
 
 use h263_bits::BitWriter;
-use h263_types::{Format, Kind};
-use picture_header::{Header, write_header};
+use h263_types::Format;
+use picture_header::laws::in_a_syntax;
+use picture_header::{Header, kind_bits, write_header, write_reference};
 
 fn address_bits(format: Format) -> u32
     ensures bits { result ≡ address_bits format }
@@ -21,16 +22,6 @@ fn address_bits(format: Format) -> u32
         Format::SubQcif => 6,
         Format::Qcif => 7,
         Format::Cif => 9,
-    }
-}
-
-fn kind_code(kind: Kind) -> u32
-    ensures code { result ≡ kind_code kind }
-    ensures below { result < 2 }
-{
-    match kind {
-        Kind::I => 0,
-        Kind::P => 1,
     }
 }
 
@@ -60,33 +51,17 @@ fn write_place(writer: &mut BitWriter<'_>, header: &Header, first: u32)
     writer.put(1, 1);
 }
 
-// TRPI, and TRP where a reference is named.
-fn write_reference(writer: &mut BitWriter<'_>, kind: Kind, trp: Option<u16>)
-    requires trp { IsReference kind trp }
-    requires room { len_of writer.old + 11 ≤ room_of writer.old }
-    ensures bits { Appends writer.old writer.new (fields (reference_fields trp)) }
-    ensures len { len_of writer.new ≡ len_of writer.old + (1 + reference_bits trp) }
-{
-    match trp {
-        None => writer.put(0, 1),
-        Some(trp) => {
-            writer.put(1, 1);
-            writer.put(trp as u32, 10);
-        }
-    }
-}
-
 // GFID, TRI, TRPI, TRP and BCI.
 fn write_tail(writer: &mut BitWriter<'_>, header: &Header)
     requires rounding { header.now.rounding ≤ 1 }
-    requires trp { IsReference header.now.kind header.now.trp }
+    requires trp { HasTenBits header.now.trp }
     requires room { len_of writer.old + 16 ≤ room_of writer.old }
     ensures bits { Appends writer.old writer.new (tail_text header.now) }
     ensures len { len_of writer.new ≡ len_of writer.old + (6 + reference_bits header.now.trp) }
 {
-    writer.put(2 * header.rounding as u32 + kind_code(header.kind), 2);
+    writer.put(2 * header.rounding as u32 + kind_bits(header.kind), 2);
     writer.put(0, 1);
-    write_reference(writer, header.kind, header.trp);
+    write_reference(writer, header.trp);
     writer.put(0b01, 2);
 }
 
@@ -94,7 +69,7 @@ fn write_tail(writer: &mut BitWriter<'_>, header: &Header)
 fn write_later(writer: &mut BitWriter<'_>, header: &Header, first: u32)
     requires header { IsHeader header.now }
     requires first { first < mbs_of header.now.format }
-    requires room { len_of writer.old + 188 ≤ room_of writer.old }
+    requires room { len_of writer.old + 262 ≤ room_of writer.old }
     ensures bits { Appends writer.old writer.new (opening_text header.now false first) }
     ensures len { len_of writer.new ≡ len_of writer.old + length (opening_text header.now false first) }
 {
@@ -105,24 +80,26 @@ fn write_later(writer: &mut BitWriter<'_>, header: &Header, first: u32)
 // What stands before the macroblocks of a slice that begins a picture.
 fn write_beginning(writer: &mut BitWriter<'_>, header: &Header)
     requires header { IsHeader header.now }
-    requires room { len_of writer.old + 188 ≤ room_of writer.old }
+    requires room { len_of writer.old + 262 ≤ room_of writer.old }
     ensures bits { Appends writer.old writer.new (opening_text header.now true 0) }
     ensures len { len_of writer.new ≡ len_of writer.old + length (opening_text header.now true 0) }
 {
+    in_a_syntax();
     write_header(writer, header);
     write_first(writer, header);
 }
 
 /// Writes what stands before a slice's macroblocks: the picture header, where the slice begins a picture, and the header of
-/// the slice that begins with macroblock `first`. That is 188 bits at most.
+/// the slice that begins with macroblock `first`. That is 262 bits at most.
 pub fn write_opening(writer: &mut BitWriter<'_>, header: &Header, begins: bool, first: u32)
     requires header { IsHeader header.now }
     requires place { IsPlace header.now begins first }
-    requires room { len_of writer.old + 188 ≤ room_of writer.old }
+    requires room { len_of writer.old + 262 ≤ room_of writer.old }
     ensures bits { Appends writer.old writer.new (opening_text header.now begins first) }
     ensures len { len_of writer.new ≡ len_of writer.old + length (opening_text header.now begins first) }
-    ensures few { length (opening_text header.now begins first) ≤ 188 }
+    ensures few { length (opening_text header.now begins first) ≤ 262 }
 {
+    in_a_syntax();
     if begins {
         write_beginning(writer, header);
     } else {

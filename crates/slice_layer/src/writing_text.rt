@@ -33,7 +33,7 @@ pub fn write_front(bytes: &mut [u8], header: &Header, begins: bool, first: u32) 
     requires place { IsPlace header.now begins first }
     ensures text { IsFront (opening_text header.now begins first) bytes.new }
     ensures len { result ≡ length (opening_text header.now begins first) }
-    ensures few { result ≤ 188 }
+    ensures few { result ≤ 262 }
 {
     let mut writer = BitWriter::new(bytes);
     write_opening(&mut writer, header, begins, first);

@@ -18,7 +18,7 @@ returns-then-self-at-clause-answer c h begins first mbs holds =
 
 pub returns-then-self-at-clause-first : goal.returns-then-self-at-clause-first
 returns-then-self-at-clause-first c h begins first is room holds =
-    absurd (omega (arith, holds.len, ap length (no_text h begins first), opening_short h begins first is, room, c.write_apart-len.ensures.short, c.if-self-at.true))
+    absurd (omega (arith, holds.len, ap length (no_text h begins first), opening_short c.in_a_syntax.ensures h begins first is, room, c.write_apart-len.ensures.short, c.if-self-at.true))
 
 pub returns-clause-answer : goal.returns-clause-answer
 returns-clause-answer c h begins first mbs holds =
