@@ -11,7 +11,7 @@ use Rattle.h263_types.specs.declared.blocks.Mb.{Mb}
 use Rattle.h263_types.specs.Sizes.{mbs_of}
 use Rattle.picture_header.specs.declared.header.Header.{Header}
 use Rattle.picture_header.specs.Text.{header, IsHeaderText}
-use Rattle.picture_header.proofs.Loops.{header_productive}
+use Rattle.picture_header.specs.Laws.{HeaderLaws}
 use Rattle.rtp_header.specs.Faults.{rtp_in}
 use Rattle.rtp_header.proofs.Exact as rtp
 use Rattle.h263_payload.specs.declared.payload.Payload.{Payload}
@@ -30,7 +30,7 @@ use Rattle.packet_collector.specs.Filled.{slice_in, FillsPacket, IsExtraOf, IsPi
 
 pub header_format : (format : Format) (h : Header) (bits : List Bool) → IsHeaderText format h bits → h.format ≡ format
 unfolding header Spells
-header_format format h bits t = ap (λ (x : Header). x.format) t.6.6.6.6.6.6.6.0
+header_format format h bits t = ap (λ (x : Header). x.format) t.6.6.6.6.6.6.6.5.6.0
 
 pub extra_format : (format : Format) (plen pebit : ℕ) (extra : Option Header) (bits : List Bool) → IsExtra format plen pebit extra bits → IsExtraOf format extra
 extra_format format plen pebit None bits t = tt
@@ -109,23 +109,23 @@ record IsHeadedAgain (format : Format) (extra : Option Header) (h : Header) (at 
   read : headed_at format extra (record { at = at; bits = front ++ rest }) ≡ Ok (h, left)
   bits : left.bits ≡ rest
 
-headed_again : (format : Format) (extra : Option Header) (h : Header) (at : ℕ) (front rest : List Bool) → IsHeaded format extra h front → IsHeadedAgain format extra h at front rest
-headed_again format None h at front rest t =
-    record { left = record { at = at + length front; bits = rest }; read = complete (header format) h front rest at (header_productive format) t; bits = refl }
-headed_again format (Some x) h at front rest t = record {
+headed_again : HeaderLaws → (format : Format) (extra : Option Header) (h : Header) (at : ℕ) (front rest : List Bool) → IsHeaded format extra h front → IsHeadedAgain format extra h at front rest
+headed_again laws format None h at front rest t =
+    record { left = record { at = at + length front; bits = rest }; read = complete (header format) h front rest at (laws.productive format) t; bits = refl }
+headed_again laws format (Some x) h at front rest t = record {
   left = record { at = at; bits = front ++ rest };
   read = ap (λ (y : Header). Ok (y, record { at = at; bits = front ++ rest })) t.0;
   bits = ap (λ (l : List Bool). l ++ rest) t.1;
 }
 
-pub packet_complete : (format : Format) (s : Slice) (bytes : List ℕ) → IsPacket format s bytes → packet_at format bytes ≡ Ok s
+pub packet_complete : HeaderLaws → (format : Format) (s : Slice) (bytes : List ℕ) → IsPacket format s bytes → packet_at format bytes ≡ Ok s
 unfolding packet_at slice_behind
-packet_complete format s bytes t =
+packet_complete laws format s bytes t =
     let r = t.rtp in
     let p = t.payload in
     let one : rtp_in bytes ≡ Ok r = rtp.text_read r bytes t.is_rtp in
-    let two : payload_at format (payload_bits_of bytes r) ≡ Ok p = payload.text_read format p (payload_bits_of bytes r) t.is_payload in
-    let again = headed_again format p.extra s.header p.from t.front t.behind t.headed in
+    let two : payload_at format (payload_bits_of bytes r) ≡ Ok p = payload.text_read laws format p (payload_bits_of bytes r) t.is_payload in
+    let again = headed_again laws format p.extra s.header p.from t.front t.behind t.headed in
     let three : headed_at format p.extra (data_of bytes r p) ≡ Ok (s.header, again.left) =
     ap (λ (bits : List Bool). headed_at format p.extra (record { at = p.from; bits = bits })) t.parts ∙ again.read in
     let four : slice_at s.header p.begins again.left ≡ Ok (s.first, s.mbs) =
@@ -138,16 +138,16 @@ pub fills_packet : (r : Result Piece Fault) (out : List Mb) (format : Format) (b
 fills_packet (Ok piece) out format bytes g = packet_sound format (slice_in piece out) bytes g
 fills_packet (Err fault) out format bytes g = tt
 
-pub packet_fills : (r : Result Piece Fault) (out : List Mb) (format : Format) (bytes : List ℕ) → IfOk r (IsPieceIn format out) → length out ≡ mbs_of format → FillsPacket r out (packet_at format bytes)
+pub packet_fills : HeaderLaws → (r : Result Piece Fault) (out : List Mb) (format : Format) (bytes : List ℕ) → IfOk r (IsPieceIn format out) → length out ≡ mbs_of format → FillsPacket r out (packet_at format bytes)
     → (s : Slice) → IsPacket format s bytes → IsOkAnd r (λ piece. (piece.head.count ≡ length s.mbs) × (slice_in piece out ≡ s))
-packet_fills (Ok piece) out format bytes range size g s is =
-    let same = ok_is (slice_in piece out) s (sym g ∙ packet_complete format s bytes is) in
+packet_fills laws (Ok piece) out format bytes range size g s is =
+    let same = ok_is (slice_in piece out) s (sym g ∙ packet_complete laws format s bytes is) in
     let first = piece.head.first in
     let count = piece.head.count in
     let sized : length out ≡ mbs_of piece.header.format = size ∙ ap mbs_of (sym range.of-format) in
     let long : length (mbs_from first count out) ≡ count = length-take-le count (drop first out) (omega (arith, sized, length-drop first out, range.slice.head.within)) in
     (sym long ∙ ap (λ (x : Slice). length x.mbs) same, same)
-packet_fills (Err fault) out format bytes range size g s is = absurd (err_not_ok fault s (sym g ∙ packet_complete format s bytes is))
+packet_fills laws (Err fault) out format bytes range size g s is = absurd (err_not_ok fault s (sym g ∙ packet_complete laws format s bytes is))
 
 pub fault_is : (r : Result Piece Fault) (out : List Mb) (read : Result Slice Fault) → FillsPacket r out read → first_fault r ≡ first_fault read
 fault_is (Ok piece) out read g = ap first_fault (sym g)
@@ -162,5 +162,5 @@ no_fault format bytes e = at (packet_at format bytes) refl e
     at (Ok s) is e = (s, packet_sound format s bytes is)
     at (Err fault) is e = absurd cc
 
-pub one_packet : (format : Format) (s other : Slice) (bytes : List ℕ) → IsPacket format s bytes → IsPacket format other bytes → s ≡ other
-one_packet format s other bytes p q = ok_is s other (sym (packet_complete format s bytes p) ∙ packet_complete format other bytes q)
+pub one_packet : HeaderLaws → (format : Format) (s other : Slice) (bytes : List ℕ) → IsPacket format s bytes → IsPacket format other bytes → s ≡ other
+one_packet laws format s other bytes p q = ok_is s other (sym (packet_complete laws format s bytes p) ∙ packet_complete laws format other bytes q)

@@ -3,7 +3,6 @@ ghost use Rattle.h263_types.specs.Sizes.{mbs_of};
 
 use crate::marks::{all, none, put};
 use crate::piece::{Piece, Place};
-use crate::same::is_same;
 use h263_outside::OutOfMemory;
 use h263_types::{Format, Params, SliceHead};
 use picture_header::Header;
@@ -83,7 +82,7 @@ impl Collector {
         ensures { (result ≡ true) ↔ FitsKept (header_in self.now number) header.now }
     {
         match &self.headers[self.place_of(number)] {
-            Some(kept) => is_same(kept, header),
+            Some(kept) => kept.is_same(header),
             None => true,
         }
     }

@@ -8,17 +8,23 @@ ghost use Rattle.packet_collector.specs.Collected.{Collects, from_number};
 ghost use Rattle.packet_collector.specs.Packet.{Slice, IsPacket, packet_at, packet_fault};
 ghost use Rattle.packet_collector.specs.Taken.{Taken, IsPlace};
 
+use picture_header::laws::in_a_syntax;
+
 /// Bytes are read as a packet exactly where they are one, and there is no first fault exactly where they are a packet of
 /// some slice.
 pub fn exact_text()
     ensures read { (format : Format) (s : Slice) (bytes : List ℕ) → (packet_at format bytes ≡ Ok s) ↔ IsPacket format s bytes }
     ensures no_fault { (format : Format) (bytes : List ℕ) → (packet_fault format bytes ≡ None) ↔ ((s : Slice) × IsPacket format s bytes) }
-{}
+{
+    in_a_syntax();
+}
 
 /// A whole packet spells one slice: its header, its first macroblock and its macroblocks.
 pub fn one_reading()
     ensures { (format : Format) (s other : Slice) (bytes : List ℕ) → IsPacket format s bytes → IsPacket format other bytes → s ≡ other }
-{}
+{
+    in_a_syntax();
+}
 
 /// A slice stands at one place to those that were taken.
 pub fn one_place()

@@ -6,7 +6,6 @@ pub mod laws;
 mod marks;
 mod piece;
 mod reading;
-mod same;
 #[cfg(test)]
 mod tests;
 

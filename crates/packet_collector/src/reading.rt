@@ -12,6 +12,7 @@ use crate::piece::Piece;
 use h263_bits::{BitReader, Fault};
 use h263_payload::{Payload, read_payload};
 use h263_types::{Format, Mb};
+use picture_header::laws::in_a_syntax;
 use picture_header::{Header, read_header};
 use rtp_header::Rtp;
 use slice_layer::read_slice;
@@ -92,5 +93,6 @@ pub fn read_packet(bytes: &[u8], format: Format, out: &mut [Mb]) -> Result<Piece
     ensures others { IfOk result (λ piece. AreOthersSame out.old out.new piece.head) }
     ensures size { length out.new ≡ length out.old }
 {
+    in_a_syntax();
     first_found(bytes, format, out)
 }
