@@ -3,7 +3,6 @@ use Rattle.std.proofs.Common.{◌≡◌, ℕ, zero, suc, ◌+◌, ◌-◌, ◌<�
 use Rattle.std.specs.List.{flat_map}
 use Rattle.event_logs.specs.declared.entry.Side.{Side}
 use Rattle.event_logs.specs.declared.entry.Entry.{Entry}
-use Rattle.event_logs.specs.declared.fault.LogFault.{LogFault}
 use Rattle.event_logs.specs.declared.fault.LogFault.TheVariants.{BadRecord, TooMany}
 use Rattle.event_logs.specs.Entry.{bytes_of, reach_of, reach, entry_in}
 use Rattle.event_logs.specs.Log.{Parts, text_of, IsEntry, Found, Are, IsLog, BeginsNone, found_from, fault_from, found_of, fault_of, log_entries, log_fault}

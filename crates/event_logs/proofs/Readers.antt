@@ -1,5 +1,5 @@
 -- What a reader says, from what came to its buffers.
-use Rattle.std.proofs.Common.{◌≡◌, ℕ, ◌+◌, ◌<◌, ◌≤◌, ◌++◌, min, List, [], length, take, drop, Option, Some, None, Result, Ok, Err, IsErrAnd, refl, sym, ap, subst, ◌∙◌, arith, length-take, length-drop}
+use Rattle.std.proofs.Common.{◌≡◌, ℕ, ◌+◌, ◌<◌, ◌≤◌, ◌++◌, min, List, length, take, drop, Option, Some, None, Result, Err, IsErrAnd, sym, ap, subst, ◌∙◌, arith, length-take, length-drop}
 use Rattle.std.proofs.lemmas.List.{drop-drop, drop_min, take-append-le}
 use Rattle.h263_outside.specs.Desk.{FillsFront}
 use Rattle.event_logs.specs.declared.entry.Entry.{Entry}

@@ -1,5 +1,5 @@
 -- The entries of a log: a letter, the number of bytes in 16 bits with the high byte first, and the bytes.
-use Rattle.std.specs.Prelude.{ℕ, ◌+◌, ◌==◌, ◌||◌, ◌&&◌, nat_lt, nat_le, Bool, List, [], ◌∷◌, length, drop, slice_index, Option, Some, None, is_some, if◌then◌else◌}
+use Rattle.std.specs.Prelude.{ℕ, ◌+◌, ◌==◌, nat_lt, Bool, List, [], ◌∷◌, length, drop, slice_index, Option, Some, None, if◌then◌else◌}
 use Rattle.std.specs.List.{list_any}
 use Rattle.byteorder.specs.Endian.{big_number}
 use Rattle.event_logs.specs.declared.entry.Side.{Side}

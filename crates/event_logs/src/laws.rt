@@ -1,5 +1,5 @@
-//! What ties the entries that are read to the texts that are spelled. Each law is the contract of a function that does
-//! nothing.
+//! What ties the entries that are read to the texts that are spelled. Each law is the contract of a
+//! function that does nothing.
 ghost use Rattle.std.specs.Prelude.{◌≡◌, ◌<◌, ◌≤◌, ◌+◌, ◌++◌, ℕ, List, length, take, drop, Some, None};
 ghost use Rattle.std.specs.List.{flat_map};
 ghost use Rattle.event_logs.specs.declared.entry.Side.{Side};
@@ -9,7 +9,8 @@ ghost use Rattle.event_logs.specs.Entry.{entry_with, bytes_of, entry_in};
 ghost use Rattle.event_logs.specs.Text.{entry_text};
 ghost use Rattle.event_logs.specs.Log.{Parts, text_of, IsEntry, Found, Are, IsLog, BeginsNone, log_entries, log_fault};
 
-/// What `write_entry` writes is read again, whatever follows it: the entry, its bytes and where it ends.
+/// What `write_entry` writes is read again, whatever follows it: the entry, its bytes and where it
+/// ends.
 pub fn written_is_read()
     ensures entry { (side : Side) (entry : Entry) (letter : ℕ) (bytes more : List ℕ) → length bytes ≤ 65535 → entry_with side letter (length bytes) ≡ Some entry → entry_in side (entry_text letter bytes ++ more) ≡ Some entry }
     ensures bytes { (side : Side) (entry : Entry) (letter : ℕ) (bytes more : List ℕ) → length bytes ≤ 65535 → entry_with side letter (length bytes) ≡ Some entry → take (bytes_of entry) (drop 3 (entry_text letter bytes ++ more)) ≡ bytes }
@@ -38,7 +39,8 @@ pub fn read_is_a_log()
     ensures { (side : Side) (text : List ℕ) → log_fault side text ≡ None → IsLog side text (log_entries side text) }
 {}
 
-/// The first byte where no entry begins is refused, and entry 16,777,217 whatever it is; the entries before are read.
+/// The first byte where no entry begins is refused, and entry 16,777,217 whatever it is; the
+/// entries before are read.
 pub fn first_fault()
     ensures bad { (side : Side) (text rest : List ℕ) (found : List Found) (before : List Parts) → text ≡ flat_map text_of before ++ rest → Are side 0 found before → length before < 16777216 → 0 < length rest → BeginsNone side rest → (log_fault side text ≡ Some (BadRecord (length (flat_map text_of before)))) × (log_entries side text ≡ found) }
     ensures many { (side : Side) (text rest : List ℕ) (found : List Found) (before : List Parts) → text ≡ flat_map text_of before ++ rest → Are side 0 found before → length before ≡ 16777216 → 0 < length rest → (log_fault side text ≡ Some (TooMany (length (flat_map text_of before)))) × (log_entries side text ≡ found) }

@@ -1,4 +1,5 @@
-//! The logs of one end: what it met is read from a desk entry by entry, and what it sends is written to one.
+//! The logs of one end: what it met is read from a desk entry by entry, and what it sends is
+//! written to one.
 #![tactic(auto)]
 
 mod entry;

@@ -10,8 +10,8 @@ use h263_outside::laws::calls;
 /// The most entries of a log.
 pub const MAX_ENTRIES: u32 = 16_777_216;
 
-/// The reader of a log: whose it is, how many entries it gave, and the byte where the next one begins. It keeps no
-/// bytes of the log. An entry has at most 65,538 bytes.
+/// The reader of a log: whose it is, how many entries it gave, and the byte where the next one
+/// begins. It keeps no bytes of the log. An entry has at most 65,538 bytes.
 #[derive(Clone, Copy)]
 pub struct LogReader {
     side: Side,
@@ -42,8 +42,8 @@ impl LogReader {
         }
     }
 
-    /// Reads the next entry, its bytes to the front of `buf`, and answers the byte where it begins. None at the end of
-    /// the log.
+    /// Reads the next entry, its bytes to the front of `buf`, and answers the byte where it begins.
+    /// None at the end of the log. After a stop the reader is as it was.
     pub fn next<D: Desk>(
         &mut self,
         desk: &mut D,

@@ -18,7 +18,8 @@ fn head_of(letter: u8, len: u16) -> [u8; HEAD]
     head
 }
 
-/// Writes an entry: its letter, the number of its bytes and the bytes. After `Failed` some front of it was written.
+/// Writes an entry: its letter, the number of its bytes and the bytes. After `Failed` some front of
+/// it was written.
 pub fn write_entry<D: Desk>(desk: &mut D, letter: u8, bytes: &[u8]) -> Result<(), Failed>
     requires attached { (D.outside desk.old).attached Wire ≡ true }
     requires size { length bytes.now ≤ 65535 }

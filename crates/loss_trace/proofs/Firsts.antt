@@ -1,11 +1,11 @@
 -- The first line of a text, as it is found byte by byte.
-use Rattle.std.proofs.Common.{◌≡◌, ◌≢◌, ℕ, zero, suc, ◌+◌, ◌-◌, ◌<◌, ◌≤◌, ◌==◌, ◌++◌, nat_lt, min, true, false, List, [], ◌∷◌, length, take, drop, set, Option, Some, None, MatchOption, cond, refl, sym, ap, subst, ◌∙◌, arith, append-nil, length-take, length-drop, length-append}
+use Rattle.std.proofs.Common.{◌≡◌, ◌≢◌, ℕ, ◌+◌, ◌<◌, ◌≤◌, ◌++◌, min, true, false, List, [], ◌∷◌, length, take, drop, set, Option, Some, None, MatchOption, refl, sym, ap, subst, ◌∙◌, arith, append-nil, length-take, length-drop, length-append}
 use Rattle.std.proofs.Math.Seq.{take-add}
 use borrow.Author.Tests.{lt-ltb, le-ltb}
 use Rattle.std.proofs.lemmas.Bool.Decides.{nat_tests}
 use Rattle.std.proofs.lemmas.List.{take_more_set, drop-drop, take-append-drop}
 use Rattle.std.proofs.lemmas.List.Elements.{All-nil, All-cons, All-head, All-tail, All-append}
-use Rattle.loss_trace.specs.Lines.{NoNewline, first_line, is_closed, behind_line, behind_long}
+use Rattle.loss_trace.specs.Lines.{NoNewline, first_line, is_closed, behind_long}
 use Rattle.loss_trace.specs.Input.{IsFirst}
 
 abbrev Other : ℕ → Type 0

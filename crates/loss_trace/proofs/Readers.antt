@@ -1,14 +1,14 @@
 -- What a reader says, from what it finds.
-use Rattle.std.proofs.Common.{◌≡◌, ℕ, ◌+◌, ◌<◌, ◌≤◌, ◌∷◌, Bool, not, min, List, [], length, take, drop, Option, Some, None, Result, Ok, Err, IsErrAnd, sym, ap, subst, ◌∙◌, arith}
+use Rattle.std.proofs.Common.{◌≡◌, ℕ, ◌+◌, ◌≤◌, ◌∷◌, Bool, not, min, List, [], length, take, drop, Option, Some, Result, Ok, Err, IsErrAnd, sym, ap, subst, ◌∙◌, arith}
 use Rattle.loss_trace.specs.declared.event.Event.{Event}
 use Rattle.loss_trace.specs.declared.fault.TraceStop.{TraceStop}
 use Rattle.loss_trace.specs.declared.fault.TraceStop.TheVariants.{Read, Bad, TooMany}
 use Rattle.loss_trace.specs.declared.reader.TraceReader.{TraceReader}
 use Rattle.loss_trace.specs.declared.reader.Fetched.{Fetched}
-use Rattle.loss_trace.specs.Lines.{first_line, is_closed, behind_line, behind_long}
+use Rattle.loss_trace.specs.Lines.{first_line, is_closed, behind_long}
 use Rattle.loss_trace.specs.Input.{IsFirst}
 use Rattle.loss_trace.specs.Reading.{event_in}
-use Rattle.loss_trace.specs.Reader.{Passes, IsOver, IsPastAll, IsLong, EventGives, BytesGive, FetchGives}
+use Rattle.loss_trace.specs.Reader.{Passes, IsOver, IsPastAll, EventGives, BytesGive, FetchGives}
 use Rattle.loss_trace.proofs.Results.{err_is}
 use Rattle.loss_trace.proofs.Spelled.{long_says_none}
 

@@ -1,9 +1,7 @@
 -- A text is read as the events that its lines say, up to the first line that says none.
-use Rattle.std.proofs.Common.{◌≡◌, ℕ, zero, suc, ◌+◌, ◌-◌, ◌<◌, ◌≤◌, ◌++◌, List, [], ◌∷◌, length, Option, Some, None, refl, sym, ap, subst, ◌∙◌, arith, append-nil, length-append}
+use Rattle.std.proofs.Common.{◌≡◌, ℕ, zero, suc, ◌+◌, ◌-◌, ◌<◌, ◌≤◌, ◌++◌, List, [], ◌∷◌, length, Option, Some, None, refl, sym, ap, subst, ◌∙◌, arith, append-nil}
 use Rattle.loss_trace.specs.declared.event.Event.{Event}
-use Rattle.loss_trace.specs.declared.fault.TraceFault.{TraceFault}
 use Rattle.loss_trace.specs.declared.fault.TraceFault.TheVariants.{BadLine, TooMany}
-use Rattle.loss_trace.specs.Line.{IsLine}
 use Rattle.loss_trace.specs.Lines.{IsText, first_line, behind_line}
 use Rattle.loss_trace.specs.Reading.{event_in}
 use Rattle.loss_trace.specs.Trace.{Say, IsTrace, IsBad, events_from, fault_from, events_of, fault_of, trace_events, trace_fault}

@@ -1,5 +1,5 @@
 -- A whole trace, and what a reader makes of a text: events, up to the first fault.
-use Rattle.std.specs.Prelude.{ℕ, zero, suc, ◌≡◌, ◌+◌, ◌≤◌, List, [], ◌∷◌, length, Option, Some, None}
+use Rattle.std.specs.Prelude.{ℕ, zero, suc, ◌+◌, ◌≤◌, List, [], ◌∷◌, length, Option, Some, None}
 use Rattle.loss_trace.specs.declared.event.Event.{Event}
 use Rattle.loss_trace.specs.declared.fault.TraceFault.{TraceFault}
 use Rattle.loss_trace.specs.declared.fault.TraceFault.TheVariants.{BadLine, TooMany}

@@ -2,7 +2,8 @@
 ghost use Rattle.std.specs.Prelude.{◌≡◌, ◌<◌, ◌==◌, length, position, IfSome, MatchResult, Some, None};
 ghost use Rattle.loss_trace.specs.Reading.{number_in, with_place, packet_in, short_in, event_in};
 
-/// One event of a call, or nothing. Pictures, the packets of each and the messages are numbered from 0.
+/// One event of a call, or nothing. Pictures, the packets of each and the messages are numbered
+/// from 0.
 #[derive(Clone, Copy, Debug, PartialEq, Eq)]
 pub enum Event {
     /// An empty line: nothing happens.

@@ -1,5 +1,5 @@
-//! What ties the lines that are read to the texts that are spelled. Each law is the contract of a function that does
-//! nothing.
+//! What ties the lines that are read to the texts that are spelled. Each law is the contract of a
+//! function that does nothing.
 ghost use Rattle.std.specs.Prelude.{◌≡◌, ◌<◌, ◌+◌, ◌++◌, ◌∷◌, ℕ, List, length, Some, None};
 ghost use Rattle.loss_trace.specs.declared.event.Event.{Event};
 ghost use Rattle.loss_trace.specs.declared.fault.TraceFault.TheVariants.{BadLine, TooMany};
@@ -31,7 +31,8 @@ pub fn read_is_a_trace()
     ensures { (text : List ℕ) → trace_fault text ≡ None → IsTrace text (trace_events text) }
 {}
 
-/// The first line that says nothing is refused, and line 16,777,217 whatever it says; the events before it are read.
+/// The first line that says nothing is refused, and line 16,777,217 whatever it says; the events
+/// before it are read.
 pub fn first_fault()
     ensures bad { (text : List ℕ) (events : List Event) (before behind : List (List ℕ)) (line : List ℕ) → IsText text (before ++ line ∷ behind) → Say events before → length before < 16777216 → IsBad line → (trace_fault text ≡ Some (BadLine (length before + 1))) × (trace_events text ≡ events) }
     ensures many { (text : List ℕ) (events : List Event) (before behind : List (List ℕ)) (line : List ℕ) → IsText text (before ++ line ∷ behind) → Say events before → length before ≡ 16777216 → (trace_fault text ≡ Some (TooMany 16777217)) × (trace_events text ≡ events) }

@@ -1,5 +1,5 @@
-//! The trace of a call: lines that are read from a desk one by one, each with its number, and the event that a line
-//! says.
+//! The trace of a call: lines that are read from a desk one by one, each with its number, and the
+//! event that a line says.
 #![tactic(auto)]
 
 mod event;

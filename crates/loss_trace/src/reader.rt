@@ -8,8 +8,8 @@ use h263_outside::Desk;
 /// The most lines of a trace.
 pub const MAX_LINES: u32 = 16_777_216;
 
-/// The reader of a trace: how many lines it gave, and whether the last of them had no newline. It keeps no bytes of
-/// the trace.
+/// The reader of a trace: how many lines it gave, and whether the last of them had no newline. It
+/// keeps no bytes of the trace.
 #[derive(Clone, Copy)]
 pub struct TraceReader {
     lines: u32,
@@ -42,8 +42,8 @@ impl TraceReader {
         }
     }
 
-    /// Reads the next line and answers its number, from 1 on, and the event that it says. None at the end of the
-    /// trace.
+    /// Reads the next line and answers its number, from 1 on, and the event that it says. None at
+    /// the end of the trace. After a stop the reader is as it was.
     pub fn next<D: Desk>(&mut self, desk: &mut D) -> Result<Option<(u32, Event)>, TraceStop>
         requires { (D.outside desk.old).attached Events ≡ true }
         ensures gives { (rest : List ℕ) → (D.outside desk.old).left Events ≡ Some rest → EventGives result self.old rest self.new ((D.outside desk.new).left Events) }
@@ -65,8 +65,9 @@ impl TraceReader {
         Ok(Some((self.pass(fetched), event)))
     }
 
-    /// Reads the next line's bytes, without its newline, to the front of `buf`, and answers its number, from 1 on, and
-    /// its length. None at the end of the trace. A line of more than 64 bytes is bad.
+    /// Reads the next line's bytes, without its newline, to the front of `buf`, and answers its
+    /// number, from 1 on, and its length. None at the end of the trace. A line of more than 64
+    /// bytes is bad.
     pub fn raw<D: Desk>(
         &mut self,
         desk: &mut D,
@@ -86,7 +87,8 @@ impl TraceReader {
         Ok(Some((self.pass(fetched), fetched.len as u32)))
     }
 
-    // Reads the next line to the front of a buffer, if one more may come. The reader stays where it is.
+    // Reads the next line to the front of a buffer, if one more may come. The reader stays where it
+    // is.
     fn fetch<D: Desk>(&self, desk: &mut D, buf: &mut [u8]) -> Result<Option<Fetched>, TraceStop>
         requires attached { (D.outside desk.old).attached Events ≡ true }
         requires size { length buf.old ≡ 64 }

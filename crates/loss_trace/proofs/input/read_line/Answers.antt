@@ -1,4 +1,4 @@
-use Rattle.std.proofs.Common.{◌≡◌, ◌<◌, ℕ, ◌+◌, List, length, drop, Option, Some, subst, ap, ◌∙◌, arith}
+use Rattle.std.proofs.Common.{◌≡◌, ℕ, List, length, drop, Option, Some, subst, ap, ◌∙◌, arith}
 use Rattle.std.proofs.lemmas.List.{drop-drop}
 use Rattle.loss_trace.proofs.Firsts.{Came, byte_there, no_byte, nothing, unclosed, closed, goes_on, too_long}
 use Rattle.loss_trace.proofs.input.read_line.Goals as goal

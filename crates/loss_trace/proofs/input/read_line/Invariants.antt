@@ -1,4 +1,4 @@
-use Rattle.std.proofs.Common.{◌≡◌, ◌≢◌, ℕ, List, drop, true, Some}
+use Rattle.std.proofs.Common.{◌≡◌, ◌≢◌, ℕ, List, drop, Some}
 use Rattle.h263_outside.specs.Desk.{OnlyReads}
 use Rattle.h263_outside.specs.declared.desk.Role.{Role}
 use Rattle.h263_outside.specs.declared.desk.Role.TheVariants.{Events}

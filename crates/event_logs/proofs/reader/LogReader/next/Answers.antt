@@ -1,5 +1,4 @@
-use Rattle.std.proofs.Common.{◌≡◌, ◌<◌, ◌≤◌, ℕ, List, length, take, drop, Option, Some, None, refl, sym, ap, subst, ◌∙◌, arith, length-take}
-use Rattle.h263_outside.specs.Desk.{FillsFront}
+use Rattle.std.proofs.Common.{◌≡◌, ◌<◌, ℕ, List, length, take, drop, Some, None, refl, sym, ap, subst, ◌∙◌, arith}
 use Rattle.event_logs.specs.Entry.{bytes_of, begun, reach_of}
 use Rattle.event_logs.proofs.Heads.{some_came, behind_head, begun_is, none_begun}
 use Rattle.event_logs.proofs.Readers.{front_len, head_cut, stopped, bytes_cut, cut_off, there}

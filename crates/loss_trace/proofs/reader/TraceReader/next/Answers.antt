@@ -1,4 +1,4 @@
-use Rattle.std.proofs.Common.{ℕ, ◌≤◌, List, Option, Some, None, Ok, IfSome, subst}
+use Rattle.std.proofs.Common.{◌≤◌, Option, Some, None, Ok, IfSome, subst}
 use Rattle.h263_outside.specs.declared.desk.Role.TheVariants.{Events}
 use Rattle.loss_trace.specs.declared.reader.Fetched.{Fetched}
 use Rattle.loss_trace.specs.Reader.{FetchGives}
