@@ -1,5 +1,6 @@
 -- The packets of a picture are read as its slices.
 use Rattle.std.proofs.Common.{◌≡◌, ℕ, zero, suc, ◌+◌, ◌<◌, ◌≤◌, Bool, List, [], ◌∷◌, ◌++◌, length, get_or, take, refl, sym, ap, subst, ◌∙◌, arith}
+use Rattle.std.specs.Prelude.{All}
 use Rattle.std.proofs.lemmas.List.{length-append}
 use Rattle.std.proofs.lemmas.List.Elements.{All-get_or}
 use Rattle.h263_types.specs.declared.blocks.Mb.{Mb}
@@ -16,12 +17,11 @@ use Rattle.slice_layer.proofs.Reach.{reach_within}
 use Rattle.slice_layer.specs.Written.{AreWritable}
 use Rattle.rtp_header.proofs.Exact as rtp
 use Rattle.h263_payload.proofs.Exact as payload
-use Rattle.packet_cutter.specs.Cut.{joined, Fit}
+use Rattle.packet_cutter.specs.Cut.{joined, Fit, IsCut}
 use Rattle.packet_cutter.specs.Packets.{packet_text, is_last, ArePackets, ArePacketsOf}
 use Rattle.packet_cutter.specs.Again.{IsReadAs, rtp_of, payload_of}
 use Rattle.packet_cutter.proofs.Cuts.{covers, fit}
-use Rattle.packet_cutter.proofs.Counted.{count, within}
-use Rattle.packet_cutter.proofs.Reread.{read_as}
+use Rattle.packet_cutter.proofs.Counted.{count}
 use Rattle.packet_collector.specs.Packet.{IsPacket}
 use Rattle.h263rps.specs.Sent.{IsSentAt, AreSent}
 use Rattle.h263rps.proofs.Runs.{place_of, run_at, place_next, place_within, in_run}
@@ -114,15 +114,24 @@ as_many number sequence limit h mbs packets p = count number sequence h 0 p.runs
 pub all_runs : (number sequence limit : ℕ) (h : Header) (mbs : List Mb) (packets : List (List ℕ)) (p : ArePacketsOf number sequence h limit mbs packets) → joined p.runs ≡ mbs
 all_runs number sequence limit h mbs packets p = covers h limit 0 mbs p.runs p.cut
 
-pub packet_is : (number sequence limit : ℕ) (h : Header) (mbs : List Mb) (packets : List (List ℕ)) (p : ArePacketsOf number sequence h limit mbs packets) (i : ℕ)
+-- what the laws of the cut say of its packets: none is longer than the limit, and each is read as it was written
+pub record AreCutAgain : Type 0 where
+  pub packets : (number sequence : ℕ) (h : Header) (limit first : ℕ) (mbs : List Mb) (runs : List (List Mb)) (packets : List (List ℕ))
+      → IsCut h limit first mbs runs → ArePackets number sequence h first runs packets → All (λ p. length p ≤ limit) packets
+  pub written : (number sequence : ℕ) (marker : Bool) (h : Header) (first : ℕ) (run : List Mb) (bytes : List ℕ) → IsHeader h
+      → 0 < length run → first + length run ≤ mbs_of h.format → AreWritable (around h first) h.quant [] run
+      → bits_of bytes ≡ packet_text number sequence marker h first run → length bytes ≤ 65535
+      → IsReadAs number sequence marker h first run bytes
+
+pub packet_is : AreCutAgain → (number sequence limit : ℕ) (h : Header) (mbs : List Mb) (packets : List (List ℕ)) (p : ArePacketsOf number sequence h limit mbs packets) (i : ℕ)
     → IsHeader h → AreSent h mbs → limit < 65536 → i < length packets
     → IsPacket h.format (record { header = h; first = place_of p.runs i; mbs = run_at p.runs i }) (get_or packets i [])
-packet_is number sequence limit h mbs packets p i is s few below =
+packet_is cut number sequence limit h mbs packets p i is s few below =
     let inside : i < length p.runs = omega (arith, below, as_many number sequence limit h mbs packets p) in
     let whole = all_runs number sequence limit h mbs packets p in
     let zero_first : 0 + place_of p.runs i ≡ place_of p.runs i = omega arith in
     let t = subst (λ (n : ℕ). HasText number h n (run_at p.runs i) (get_or packets i [])) zero_first (text_at number sequence h 0 p.runs packets i p.each inside) in
-    let short : length (get_or packets i []) ≤ limit = All-get_or (λ (l : List ℕ). length l ≤ limit) packets i [] below (within number sequence h limit 0 mbs p.runs packets p.cut p.each) in
+    let short : length (get_or packets i []) ≤ limit = All-get_or (λ (l : List ℕ). length l ≤ limit) packets i [] below (cut.packets number sequence h limit 0 mbs p.runs packets p.cut p.each) in
     let next = place_next p.runs i inside in
     let last = place_within p.runs (i + 1) in
     let long : length (joined p.runs) ≡ mbs_of h.format = ap (λ (l : List Mb). length l) whole ∙ s.count in
@@ -137,5 +146,5 @@ packet_is number sequence limit h mbs packets p i is s few below =
     in
     let end_at : place_of p.runs i + 0 + length (run_at p.runs i) ≤ mbs_of h.format = omega (arith, end) in
     read_packet_is number t.sequence h (place_of p.runs i) t.marker (run_at p.runs i) (get_or packets i [])
-    (read_as number t.sequence t.marker h (place_of p.runs i) (run_at p.runs i) (get_or packets i []) is
+    (cut.written number t.sequence t.marker h (place_of p.runs i) (run_at p.runs i) (get_or packets i []) is
     (some_at h limit 0 p.runs i (fit h limit 0 mbs p.runs p.cut) inside) end (writable h (place_of p.runs i) [] (run_at p.runs i) end_at sent) t.text (omega (arith, short, few)))

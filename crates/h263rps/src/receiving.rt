@@ -21,6 +21,7 @@ use h263_planes::PictureMut;
 use h263_types::{Kind, Mark, Mb};
 use packet_collector::{Collector, Place, read_packet};
 use packet_cutter::Cutter;
+use packet_cutter::laws::{cut_parts, written_again};
 use picture_recon::recon_slice;
 
 // Sets the samples of a packet's slice, where nothing of it was taken before. A packet that can't be read, or that refers
@@ -92,6 +93,8 @@ pub fn take_packets(
         → IsHeader h → AreSent h all → limit < 65536 → ArePacketsOf number sequence h limit all (packets_of cutter.now)
         → (result ≡ Exact) × IsReady collector.new (number + 1) × ShowsFirst (format_of collector.old) h.rounding all (mbs_of h.format) (work out.new) }
 {
+    cut_parts();
+    written_again();
     'turns: for i in 0..cutter.count() {
         take_packet(collector, mbs, number, cutter.packet(i), out);
     }

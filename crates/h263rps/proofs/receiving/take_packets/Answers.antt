@@ -51,7 +51,7 @@ turns-preserved c = record {
       let run = run_at p.runs i in
       let below : i < length packets = omega (arith, c.turns-test.true, c.count-i-end.ensures.count) in
       let same : h.format ≡ format_of c.turns.collector = format ∙ sym c.turns.invariant.row.format in
-      let one = packet_is c.args.number sequence limit h all packets p i is s few below in
+      let one = packet_is (record { packets = c.cut_parts.ensures.packets; written = c.written_again.ensures }) c.args.number sequence limit h all packets p i is s few below in
       let packet = subst (λ (bytes : List ℕ). IsPacket (format_of c.turns.collector) (record { header = h; first = low; mbs = run }) bytes) (sym c.packet.ensures)
       (subst (λ (f : Format). IsPacket f (record { header = h; first = low; mbs = run }) (get_or packets i [])) same one) in
       let before = c.turns.invariant.has sequence limit h all p kind format is s few in
