@@ -7,7 +7,7 @@ ghost use Rattle.sent_calls.specs.Ends.{IsSender, IsHeaderFor};
 
 use h263_outside::OutOfMemory;
 use h263_planes::{PictureMut, PictureRef};
-use h263_types::Params;
+use h263_types::{Kind, Params};
 use packet_cutter::Cutter;
 use picture_coder::code_picture;
 use picture_header::Header;
