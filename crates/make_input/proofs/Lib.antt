@@ -1,2 +1,3 @@
 mod Planes
 mod Lines
+mod Near

@@ -1,3 +1,4 @@
 pub mod Frames
 pub mod Trace
 pub mod Left
+pub mod Expanded

@@ -2,6 +2,7 @@
 #![tactic(auto)]
 
 mod frames;
+pub mod laws;
 #[cfg(test)]
 mod tests;
 mod trace;

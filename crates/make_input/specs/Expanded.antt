@@ -1,0 +1,33 @@
+-- A trace as the events of a call.
+use Rattle.std.specs.Prelude.{◌≡◌, ℕ, ◌<◌, List, [], ◌∷◌, map, length, Some}
+use Rattle.std.specs.List.{range_with_len}
+use Rattle.loss_trace.specs.declared.event.Event.{Event as Line}
+use Rattle.loss_trace.specs.declared.event.Event.TheVariants as line
+use Rattle.call_model.specs.Coding.{Pictures, Rules}
+use Rattle.call_model.specs.CodedPictures.{Coded}
+use Rattle.call_model.specs.IdealCall.{Call, Event, Source, Send, Deliver, Play, Back, call_from, slices_at}
+
+-- each picture that is sent has a slice, and so many can be sent
+abbrev pub SendsSlices : {Style Mb Picture : Type 0} → Source Style Mb Picture → ℕ → Type 0
+SendsSlices {Style} {Mb} {Picture} source frames =
+    (c : Call Style Mb Picture) → length c.coded < frames → (x : Coded Style Mb Picture) × (source c ≡ Some x) × (0 < length x.slices)
+
+-- these events onto the events before them, of which the newest is the first
+abbrev pub onto : List Event → List Event → List Event
+onto [] past = past
+onto (e ∷ events) past = onto events (e ∷ past)
+
+-- the events of a line behind a call; a line that delivers all packets of a picture delivers them in their order
+abbrev pub line_events : {Style Mb Picture : Type 0} → Call Style Mb Picture → Line → List Event
+line_events c line.Nothing = []
+line_events c line.Send = Send ∷ []
+line_events c (line.Packet n i) = Deliver n i ∷ []
+line_events c (line.All n) = map (Deliver n) (range_with_len 0 (length (slices_at c.coded n)))
+line_events c (line.Back k) = Back k ∷ []
+line_events c line.Play = Play ∷ []
+
+module _ {Style Mb Picture : Type 0} (pictures : Pictures Style Mb Picture) (rules : Rules) (source : Source Style Mb Picture) where
+  -- the events of these lines behind others, the newest first
+  unfoldable pub expanded : List Event → List Line → List Event
+  expanded past [] = past
+  expanded past (l ∷ lines) = expanded (onto (line_events (call_from pictures rules source past) l) past) lines
