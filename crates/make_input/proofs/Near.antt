@@ -1,13 +1,16 @@
 -- Each event of a made trace is in place and near.
-use Rattle.std.proofs.Common.{◌≡◌, ◌≢◌, ◌∙◌, ◌<◌, ◌≤◌, ◌+◌, ◌-◌, ◌⊎◌, inl, inr, ℕ, zero, suc, Bool, true, false, not, ◌&&◌, ◌||◌, List, [], ◌∷◌, ◌++◌, map, length, Option, Some, None, refl, ap, sym, subst, arith, append_assoc, length-append}
-use Rattle.std.specs.Prelude.{◌==◌, ⊤, if◌then◌else◌, nat_lt, nat_le, slice_get}
+use Rattle.std.proofs.Common.{◌≡◌, ◌∙◌, ◌<◌, ◌≤◌, ◌+◌, ◌-◌, ◌⊎◌, inl, inr, ℕ, zero, suc, Bool, true, false, not, ◌&&◌, List, [], ◌∷◌, ◌++◌, map, length, Option, Some, refl, ap, sym, subst, arith, append_assoc, length-append}
+use Rattle.std.specs.Prelude.{◌==◌, if◌then◌else◌, nat_lt, slice_get}
 use Rattle.std.specs.List.{range_with_len}
-use Rattle.std.specs.Option.{option_map_or}
+use Rattle.std.specs.Option.{option_map, option_map_or}
 use Rattle.std.proofs.lemmas.Bool.{cases_lt, ne_eqb}
 use Rattle.std.proofs.lemmas.List.{append-nil}
-use Rattle.call_model.specs.Coding.{Pictures, Rules}
+use Rattle.call_model.specs.Coding.{Coding, Pictures, Rules, pictures_of}
+use Rattle.call_model.specs.Lawful.{IsPace, IsRules}
+use Rattle.call_model.specs.Sending.{next_coded}
+use Rattle.call_model.specs.Sound.{EncoderIsSound}
 use Rattle.call_model.specs.CodedPictures.{Coded}
-use Rattle.call_model.specs.IdealCall.{AllNearFrom, Arrival, Call, Event, IsNear, Note, Source, Send, Deliver, Play, Back, Got, Lost, about, after, call_from, delivery_counts, full_flags, has_arrived, is_full, is_open, newest_full, shown_at, slices_at, with_arrival}
+use Rattle.call_model.specs.IdealCall.{AllNear, AllNearFrom, Arrival, Call, Event, Note, Source, Send, Deliver, Play, Back, Got, Lost, about, after, call_from, delivery_counts, encoded, full_flags, has_arrived, is_full, is_open, newest_full, shown_at, slices_at, with_arrival}
 use Rattle.call_model.specs.Numbers.{AllBelowIs, all_below}
 use Rattle.loss_trace.specs.declared.event.Event.{Event as Line}
 use Rattle.loss_trace.specs.declared.event.Event.TheVariants as line
@@ -89,7 +92,6 @@ arrived_more : (arrivals : List Arrival) (n j m k : ℕ) → (n ≡ m → ⊥) �
 arrived_more arrivals n j m k apart =
     let no : (n == m) ≡ false = ne_eqb n m apart in
     rw no refl
-
 
 module _ {Style Mb Picture : Type 0} where
   -- picture n of a call is full
@@ -205,7 +207,7 @@ module _ {Style Mb Picture : Type 0} (pictures : Pictures Style Mb Picture) (rul
       let one : length (c.coded ++ x ∷ []) ≡ length c.coded + 1 = simp length-append in
       let here : length c.coded ≡ p + k = s.coded in
       let last : full next (p + k) ≡ false = subst (λ (m : ℕ). is_full (c.coded ++ x ∷ []) c.arrivals m ≡ false) here
-          (full_last below c.coded x c.arrivals some (s.fresh (length c.coded) 0 (omega arith))) in
+      (full_last below c.coded x c.arrivals some (s.fresh (length c.coded) 0 (omega arith))) in
       let before : tally (full next) p k ≡ tally (full c) p k = tally_same (full next) (full c) p k (λ m le lt. full_front c.coded x c.arrivals m (omega arith)) in
       let count : tally (full next) p (suc k) ≡ tally (full c) p k = tally_last (full next) p k ∙ rw (last, before) (omega arith) in
       subst (λ (d : Call Style Mb Picture). Standing d p (suc k)) (sym same) (record {
@@ -334,11 +336,11 @@ module _ {Style Mb Picture : Type 0} (pictures : Pictures Style Mb Picture) (rul
     near : AllNearFrom pictures rules source frames past
     stands : Standing (call_at past) p k
 
-  send_good : AllBelowIs → (frames : ℕ) → SendsSlices source frames → 4 ≤ rules.half → (past : List Event) (p k : ℕ) → k ≤ 1 → p + k < frames → Good frames past p k → Good frames (Send ∷ past) p (suc k)
+  send_good : AllBelowIs → (frames : ℕ) → SendsSlices pictures rules source frames → 4 ≤ rules.half → (past : List Event) (p k : ℕ) → k ≤ 1 → p + k < frames → Good frames past p k → Good frames (Send ∷ past) p (suc k)
   send_good below frames sends half past p k small left g =
       let coded : length (call_at past).coded ≡ p + k = g.stands.coded in
       let played : (call_at past).played ≡ p = g.stands.played in
-      let x = sends (call_at past) (omega arith) in
+      let x = sends past (omega arith) in
       record {
         near = ((omega arith, omega arith), g.near);
         stands = sent below (call_at past) p k x.0 g.stands x.1 x.2;
@@ -421,7 +423,7 @@ module _ {Style Mb Picture : Type 0} (pictures : Pictures Style Mb Picture) (rul
           rw less (line_ends frames (Play ∷ past) (line.Back p) rest (onward (Back p ∷ Play ∷ past) (back_good frames half (Play ∷ past) p played)))
 
   -- the lines of frame n, and what is behind them
-  frame_ends : AllBelowIs → (frames : ℕ) → SendsSlices source frames → 4 ≤ rules.half → (n state : ℕ) (rest : List Line) → n < frames
+  frame_ends : AllBelowIs → (frames : ℕ) → SendsSlices pictures rules source frames → 4 ≤ rules.half → (n state : ℕ) (rest : List Line) → n < frames
       → ((past : List Event) → Before frames past (suc n) → Ends frames past rest)
       → (past : List Event) → Before frames past n → Ends frames past (frame_lines n state ++ rest)
   frame_ends below frames sends half zero state rest left onward past g =
@@ -439,7 +441,7 @@ module _ {Style Mb Picture : Type 0} (pictures : Pictures Style Mb Picture) (rul
       (Send ∷ past) (send_good below frames sends half past m 1 (omega arith) (omega arith) g)))
 
   -- so many frames from frame n on, and the last line
-  frames_end : AllBelowIs → (frames : ℕ) → SendsSlices source frames → 4 ≤ rules.half → (some n state : ℕ) → n + some ≡ frames → (past : List Event) → Before frames past n
+  frames_end : AllBelowIs → (frames : ℕ) → SendsSlices pictures rules source frames → 4 ≤ rules.half → (some n state : ℕ) → n + some ≡ frames → (past : List Event) → Before frames past n
       → Ends frames past (frames_from some n state ++ last_line frames)
   unfolding frames_from
   frames_end below frames sends half zero n state sum past g = last_ends n (omega arith) past g
@@ -459,9 +461,28 @@ module _ {Style Mb Picture : Type 0} (pictures : Pictures Style Mb Picture) (rul
       (λ later behind. frames_end below frames sends half some (suc n) (after_plays n (next_state state)) (omega arith) later behind) past g)
 
   -- every event of a made trace is near
-  pub made_near : AllBelowIs → (seed frames : ℕ) → 4 ≤ rules.half → SendsSlices source frames → AllNearFrom pictures rules source frames (expanded pictures rules source [] (made_trace seed frames))
+  pub made_near : AllBelowIs → (seed frames : ℕ) → 4 ≤ rules.half → SendsSlices pictures rules source frames → AllNearFrom pictures rules source frames (expanded pictures rules source [] (made_trace seed frames))
   made_near below seed frames half sends =
       frames_end below frames sends half frames 0 seed (omega arith) [] (record {
         near = tt;
         stands = record { coded = refl; played = refl; said = refl; near = λ i note at. cc; fresh = λ m j le. refl };
       })
+
+-- an encoder's pictures have slices
+pub encoder_sends : {Frame Style Mb Picture Fault MessageFault : Type 0} (coding : Coding Frame Style Mb Picture Fault MessageFault) (rules : Rules) (pace : List ℕ → ℕ) (frames : List Frame)
+    → EncoderIsSound coding rules → IsRules rules → IsPace pace → SendsSlices (pictures_of coding) rules (encoded coding rules pace frames) (length frames)
+encoder_sends {Frame} {Style} {Mb} {Picture} coding rules pace frames sound lawful paced = λ past lt.
+    let c = call_from (pictures_of coding) rules (encoded coding rules pace frames) past in
+    let frame = some_at frames (length c.coded) lt in
+    let next : Coded Style Mb Picture = next_coded (pictures_of coding) coding.encoding rules pace frame.0 c.coded c.known in
+    let is : encoded coding rules pace frames c ≡ Some next =
+    ap (option_map (λ (f : Frame). next_coded (pictures_of coding) coding.encoding rules pace f c.coded c.known)) frame.1 in
+    let covers = ((sound pace frames (Send ∷ past) paced).0 next is).covers in
+    let first : covers.place_of 0 < length next.slices = covers.below 0 lawful.some_mbs in
+    (next, is, omega arith)
+
+pub made_taken : {Frame Style Mb Picture Fault MessageFault : Type 0} (coding : Coding Frame Style Mb Picture Fault MessageFault) (rules : Rules) (pace : List ℕ → ℕ) (frames : List Frame) (seed : ℕ)
+    → AllBelowIs → EncoderIsSound coding rules → IsRules rules → IsPace pace → 4 ≤ rules.half
+    → AllNear coding rules pace frames (expanded (pictures_of coding) rules (encoded coding rules pace frames) [] (made_trace seed (length frames)))
+made_taken coding rules pace frames seed below sound lawful paced half =
+    made_near (pictures_of coding) rules (encoded coding rules pace frames) below seed (length frames) half (encoder_sends coding rules pace frames sound lawful paced)

@@ -7,11 +7,6 @@ use Rattle.call_model.specs.Coding.{Pictures, Rules}
 use Rattle.call_model.specs.CodedPictures.{Coded}
 use Rattle.call_model.specs.IdealCall.{Call, Event, Source, Send, Deliver, Play, Back, call_from, slices_at}
 
--- each picture that is sent has a slice, and so many can be sent
-abbrev pub SendsSlices : {Style Mb Picture : Type 0} → Source Style Mb Picture → ℕ → Type 0
-SendsSlices {Style} {Mb} {Picture} source frames =
-    (c : Call Style Mb Picture) → length c.coded < frames → (x : Coded Style Mb Picture) × (source c ≡ Some x) × (0 < length x.slices)
-
 -- these events onto the events before them, of which the newest is the first
 abbrev pub onto : List Event → List Event → List Event
 onto [] past = past
@@ -31,3 +26,8 @@ module _ {Style Mb Picture : Type 0} (pictures : Pictures Style Mb Picture) (rul
   unfoldable pub expanded : List Event → List Line → List Event
   expanded past [] = past
   expanded past (l ∷ lines) = expanded (onto (line_events (call_from pictures rules source past) l) past) lines
+
+  -- after any events a picture with a slice can be sent, until there were so many
+  abbrev pub SendsSlices : ℕ → Type 0
+  SendsSlices frames = (past : List Event) → length (call_from pictures rules source past).coded < frames
+      → (x : Coded Style Mb Picture) × (source (call_from pictures rules source past) ≡ Some x) × (0 < length x.slices)

@@ -1,18 +1,30 @@
 //! Laws over the definitions alone.
-ghost use Rattle.std.specs.Prelude.{ℕ, ◌≤◌, []};
-ghost use Rattle.call_model.specs.Coding.{Pictures, Rules};
-ghost use Rattle.call_model.specs.IdealCall.{AllNearFrom, Source};
+ghost use Rattle.std.specs.Prelude.{ℕ, ◌≤◌, List, [], length};
+ghost use Rattle.call_model.specs.Coding.{Coding, Pictures, Rules, pictures_of};
+ghost use Rattle.call_model.specs.IdealCall.{AllNear, AllNearFrom, Source, encoded};
+ghost use Rattle.call_model.specs.Lawful.{IsCoding, IsPace, IsRules};
 ghost use Rattle.make_input.specs.Expanded.{SendsSlices, expanded};
 ghost use Rattle.make_input.specs.Trace.{made_trace};
 
-use call_model::laws::searches;
+use call_model::laws::{encoder_is_sound, searches};
 
-/// No line of a made trace is refused: each of its events is in place and near, where each picture that is sent has
-/// a slice.
+/// No line of a made trace is refused: each of its events is in place and near, whatever pictures with a slice are
+/// sent.
 pub fn made_traces_are_near<Style, Mb, Picture>()
     ensures { (pictures : Pictures Style Mb Picture) (rules : Rules) (source : Source Style Mb Picture) (seed frames : ℕ)
-        → 4 ≤ rules.half → SendsSlices source frames
+        → 4 ≤ rules.half → SendsSlices pictures rules source frames
         → AllNearFrom pictures rules source frames (expanded pictures rules source [] (made_trace seed frames)) }
 {
     searches();
+}
+
+/// So it is in the ideal call of as many frames.
+pub fn made_calls_are_near<Frame, Style, Mb, Picture, Fault, MessageFault>()
+    ensures { (coding : Coding Frame Style Mb Picture Fault MessageFault) (rules : Rules) (pace : List ℕ → ℕ) (frames : List Frame) (seed : ℕ)
+        → IsCoding coding rules → IsRules rules → IsPace pace → 4 ≤ rules.half
+        → AllNear coding rules pace frames
+        (expanded (pictures_of coding) rules (encoded coding rules pace frames) [] (made_trace seed (length frames))) }
+{
+    searches();
+    encoder_is_sound::<Frame, Style, Mb, Picture, Fault, MessageFault>();
 }
