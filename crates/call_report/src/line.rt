@@ -34,7 +34,8 @@ impl Line {
         self.text.as_str().as_bytes()
     }
 
-    /// Appends a word and its number, each behind a space; the line's first word stands at its front.
+    /// Appends a word and its number, each behind a space; the line's first word stands at its
+    /// front.
     pub fn pair(&mut self, word: &str, number: u64)
         requires { HasRoom (text_of self.old) word.now number }
         ensures value { text_of self.new ≡ with_pair (text_of self.old) word.now number }
@@ -104,7 +105,8 @@ impl Line {
     fn put_digits(&mut self, number: u64)
         requires { length (text_of self.old) + length (decimal number) ≤ 256 }
         ensures value { text_of self.new ≡ text_of self.old ++ decimal number }
-        ensures len { length (text_of self.new) ≡ length (text_of self.old) + length (decimal number) }
+        ensures len { length (text_of self.new)
+            ≡ length (text_of self.old) + length (decimal number) }
     {
         let mut buffer = Buffer::new();
         self.put(buffer.format(number));

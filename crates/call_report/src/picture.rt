@@ -46,8 +46,8 @@ impl Line {
     }
 }
 
-/// The line of a picture: the letter of its party where there are two, its number, its mark where it was shown, and
-/// its reference where that is told, of which None is a picture without one.
+/// The line of a picture: the letter of its party where there are two, its number, its mark where
+/// it was shown, and its reference where that is told, of which None is a picture without one.
 pub fn picture_line(
     number: u32,
     mark: Option<Mark>,

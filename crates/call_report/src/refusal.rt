@@ -1,6 +1,7 @@
 //! The line of a status.
 ghost use Rattle.std.specs.Prelude.{◌≡◌, ◌≤◌, ◌<◌, ◌+◌, ◌++◌, length, codes};
-ghost use Rattle.call_report.specs.Text.{far_text, log_text, open_text, placed, status_text, trace_text, video_text};
+ghost use Rattle.call_report.specs.Text.{far_text, log_text, open_text, placed, status_text};
+ghost use Rattle.call_report.specs.Text.{trace_text, video_text};
 ghost use Rattle.call_report.specs.View.{text_of};
 
 use crate::line::Line;
@@ -100,8 +101,8 @@ fn open_line(role: Role) -> Line
     }
 }
 
-/// The line that a run writes before it ends with a status. It is empty for `Ok`, for `WriteFault`, and where the
-/// report itself could not be attached.
+/// The line that a run writes before it ends with a status. It is empty for `Ok`, for
+/// `WriteFault`, and where the report itself could not be attached.
 pub fn refusal_line(status: &Status) -> Line
     ensures { text_of result ≡ status_text status.now }
 {

@@ -1,4 +1,5 @@
-// The forms of the commands: a first word, the names of the positional words in their order, and the options.
+// The forms of the commands: a first word, the names of the positional words in their order, and
+// the options.
 ghost use Rattle.std.specs.Prelude.{◌≡◌, ◌≤◌, length, option_map};
 ghost use Rattle.command_words.specs.Asked.{row_named};
 ghost use Rattle.command_words.specs.Clap.{texts};

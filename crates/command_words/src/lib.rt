@@ -1,6 +1,7 @@
 //! The words of the program's commands: `call`, `send`, `recv` and `demo`.
 //!
-//! The first word names a command; the others are read with `clap` as one simple command for each first word.
+//! The first word names a command; the others are read with `clap` as one simple command for each
+//! first word.
 #![tactic(auto)]
 
 mod command;

@@ -1,5 +1,6 @@
 // A simple command, read by `clap`.
-ghost use Rattle.std.specs.Prelude.{◌≡◌, ◌≢◌, ◌≤◌, ℕ, IfOk, IfErr, Some, None, MatchResult, map, drop, length, true};
+ghost use Rattle.std.specs.Prelude.{◌≡◌, ◌≢◌, ◌≤◌, ℕ, IfOk, IfErr, Some, None, MatchResult, map};
+ghost use Rattle.std.specs.Prelude.{drop, length, true};
 ghost use Rattle.clap.specs.Words.{app_of, first_value, found_of, kind_of};
 ghost use Rattle.clap.specs.declared.error.ErrorKind.TheVariants.{OutOfMemory as NoMemory};
 ghost use Rattle.command_words.specs.Simple.{taken};
@@ -48,7 +49,8 @@ fn with_places<'a>(
     command: Command<'a>,
     places: &'a [&'a str],
 ) -> Result<Command<'a>, AllocError>
-    ensures { IfOk result (λ r. app_of r ≡ with_rules (app_of command.entry) (map place_rule (texts places.now))) }
+    ensures { IfOk result (λ r. app_of r
+        ≡ with_rules (app_of command.entry) (map place_rule (texts places.now))) }
 {
     let mut command = command;
     for place in places {
@@ -62,7 +64,8 @@ fn with_options<'a>(
     command: Command<'a>,
     options: &'a [&'a str],
 ) -> Result<Command<'a>, AllocError>
-    ensures { IfOk result (λ r. app_of r ≡ with_rules (app_of command.entry) (map option_rule (texts options.now))) }
+    ensures { IfOk result (λ r. app_of r
+        ≡ with_rules (app_of command.entry) (map option_rule (texts options.now))) }
 {
     let mut command = command;
     for option in options {

@@ -2,7 +2,8 @@
 ghost use Rattle.std.specs.Prelude.{◌≡◌, ◌≤◌, ◌<◌, ◌^◌, IfSome, option_map};
 ghost use Rattle.std.specs.Char.{is_ascii_digit};
 ghost use Rattle.std.specs.List.{list_all};
-ghost use Rattle.command_words.specs.Values.{is_number, number_in, byte_in, format_in, clock_in, value_or};
+ghost use Rattle.command_words.specs.Values.{is_number, number_in, byte_in, format_in, clock_in};
+ghost use Rattle.command_words.specs.Values.{value_or};
 
 use h263_types::{Clock, Format};
 

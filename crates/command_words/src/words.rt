@@ -1,8 +1,11 @@
 // The words of a command, read.
-ghost use Rattle.std.specs.Prelude.{◌≡◌, ◌≤◌, IfOk, IfSome, MatchOption, MatchResult, None, Some, drop, option_map, codes};
+ghost use Rattle.std.specs.Prelude.{◌≡◌, ◌≤◌, IfOk, IfSome, MatchOption, MatchResult, None, Some};
+ghost use Rattle.std.specs.Prelude.{drop, option_map, codes};
 ghost use Rattle.h263_types.specs.Params.{IsParams};
 ghost use Rattle.clap.specs.Words.{first_value, found_of};
-ghost use Rattle.command_words.specs.Asked.{asked, asked_by, call_of, send_of, recv_of, demo_of, params_of, coding_of, timing_of, word_for, IsCommand, seed_in, frames_in};
+ghost use Rattle.command_words.specs.Asked.{asked, asked_by, call_of, send_of, recv_of, demo_of};
+ghost use Rattle.command_words.specs.Asked.{params_of, coding_of, timing_of, word_for, IsCommand};
+ghost use Rattle.command_words.specs.Asked.{seed_in, frames_in};
 ghost use Rattle.command_words.specs.Clap.{texts};
 ghost use Rattle.command_words.specs.View.{asked_of, row_of};
 
@@ -147,7 +150,8 @@ fn demo_words<'a>(given: &ArgMatches<'a>) -> Option<Words<'a>>
 
 /// What the values of a command's words ask for.
 fn words_of<'a>(form: Form, given: &ArgMatches<'a>) -> Option<Words<'a>>
-    ensures value { option_map asked_of result ≡ (row_of form).asks (first_value (found_of given.now)) }
+    ensures value { option_map asked_of result
+        ≡ (row_of form).asks (first_value (found_of given.now)) }
     ensures ready { IfSome result (λ w. IsCommand w.command) }
 {
     match form {
@@ -167,8 +171,8 @@ fn form_of(words: &[&str]) -> Option<Form>
 }
 
 impl<'a> Words<'a> {
-    /// The command that the words ask for, of which the first is the command's name. Only `OutOfMemory` depends on
-    /// anything but the words.
+    /// The command that the words ask for, of which the first is the command's name. Only
+    /// `OutOfMemory` depends on anything but the words.
     pub fn read(alloc: Global, words: &'a [&'a str]) -> Result<Words<'a>, WordStop>
         ensures answer { MatchResult result
             (λ w. asked (texts words.now) ≡ Some (asked_of w))

@@ -38,7 +38,8 @@ fn made_sample(seed: u32, number: u32, plane: Plane, x: u32, y: u32) -> u8
 // The samples of a row, from its first on.
 fn fill_row(seed: u32, number: u32, plane: Plane, y: u32, row: &mut [u8])
     requires { length row.old ≤ 352 }
-    ensures { (i : ℕ) → i < length row.old → slice_index row.new i ≡ made_sample seed number plane i y }
+    ensures { (i : ℕ) → i < length row.old
+        → slice_index row.new i ≡ made_sample seed number plane i y }
 {
     for x in 0..row.len() {
         row[x] = made_sample(seed, number, plane, x as u32, y);
@@ -52,8 +53,10 @@ fn put_row(seed: u32, number: u32, plane: Plane, y: u32, width: u32, out: &mut P
     ensures same_loan { loan_of out.new ≡ loan_of out.old }
     ensures format { (work out.new).format ≡ (work out.old).format }
     ensures whole { IsPicture (work out.new) }
-    ensures made { (x : ℕ) → x < width → Inside (work out.old).format plane x y 1 → sample_at (work out.new) plane x y ≡ made_sample seed number plane x y }
-    ensures others { (other : Plane) (i j : ℕ) → Inside (work out.old).format other i j 1 → in_run plane 0 y width other i j ≡ false
+    ensures made { (x : ℕ) → x < width → Inside (work out.old).format plane x y 1
+        → sample_at (work out.new) plane x y ≡ made_sample seed number plane x y }
+    ensures others { (other : Plane) (i j : ℕ) → Inside (work out.old).format other i j 1
+        → in_run plane 0 y width other i j ≡ false
         → sample_at (work out.new) other i j ≡ sample_at (work out.old) other i j }
 {
     let mut samples = [0; MAX_WIDTH];
@@ -67,8 +70,10 @@ fn put_plane(seed: u32, number: u32, plane: Plane, out: &mut PictureMut<'_>)
     ensures same_loan { loan_of out.new ≡ loan_of out.old }
     ensures format { (work out.new).format ≡ (work out.old).format }
     ensures whole { IsPicture (work out.new) }
-    ensures made { (x y : ℕ) → Inside (work out.old).format plane x y 1 → sample_at (work out.new) plane x y ≡ made_sample seed number plane x y }
-    ensures others { (other : Plane) (x y : ℕ) → Inside (work out.old).format other x y 1 → same_plane plane other ≡ false
+    ensures made { (x y : ℕ) → Inside (work out.old).format plane x y 1
+        → sample_at (work out.new) plane x y ≡ made_sample seed number plane x y }
+    ensures others { (other : Plane) (x y : ℕ) → Inside (work out.old).format other x y 1
+        → same_plane plane other ≡ false
         → sample_at (work out.new) other x y ≡ sample_at (work out.old) other x y }
 {
     let (width, height) = size_in(out.format(), plane);
@@ -89,8 +94,8 @@ fn size_in(format: Format, plane: Plane) -> (u32, u32)
     }
 }
 
-/// Makes frame `number`, counted from 0, of the video of this seed: triangle waves that move by two columns and by a
-/// row from frame to frame, in Y and half as fast in the planes of colour.
+/// Makes frame `number`, counted from 0, of the video of this seed: triangle waves that move by
+/// two columns and by a row from frame to frame, in Y and half as fast in the planes of colour.
 pub fn frame(format: Format, seed: u32, number: u32, out: &mut PictureMut<'_>)
     requires { (work out.old).format ≡ format }
     ensures same_loan { loan_of out.new ≡ loan_of out.old }

@@ -8,8 +8,8 @@ ghost use Rattle.make_input.specs.Trace.{made_trace};
 
 use call_model::laws::{encoder_is_sound, searches};
 
-/// No line of a made trace is refused: each of its events is in place and near, whatever pictures with a slice are
-/// sent.
+/// No line of a made trace is refused: each of its events is in place and near, whatever pictures
+/// with a slice are sent.
 pub fn made_traces_are_near<Style, Mb, Picture>()
     ensures { (pictures : Pictures Style Mb Picture) (rules : Rules) (source : Source Style Mb Picture) (seed frames : ℕ)
         → 4 ≤ rules.half → SendsSlices pictures rules source frames

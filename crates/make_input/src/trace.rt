@@ -41,7 +41,8 @@ fn deliveries(number: u32, drawn: u64) -> (Option<Event>, Option<Event>)
 impl TraceMaker {
     ghost use Rattle.std.specs.Prelude.{◌≡◌, ◌<◌, MatchOption, None, [], ◌∷◌, ◌++◌};
     ghost use Rattle.loss_trace.specs.declared.event.Event.TheVariants.{Send};
-    ghost use Rattle.make_input.specs.Trace.{after_plays, draw, made_trace, next_state, one_or_none, plays};
+    ghost use Rattle.make_input.specs.Trace.{after_plays, draw, made_trace, next_state};
+    ghost use Rattle.make_input.specs.Trace.{one_or_none, plays};
     ghost use Rattle.make_input.specs.Left.{lines_left};
 
     /// The maker before the first line.
@@ -122,9 +123,12 @@ impl TraceMaker {
         requires play { self.old.play ≡ None }
         requires back { self.old.back ≡ None }
         ensures state { self.new.state ≡ after_plays number self.old.state }
-        ensures plays { one_or_none self.new.play ++ one_or_none self.new.back ≡ plays number self.old.state }
-        ensures rest { (self.new.number ≡ self.old.number) × (self.new.frames ≡ self.old.frames) × (self.new.first ≡ self.old.first)
-            × (self.new.second ≡ self.old.second) × (self.new.last ≡ self.old.last) }
+        ensures plays { one_or_none self.new.play ++ one_or_none self.new.back
+            ≡ plays number self.old.state }
+        ensures rest { (self.new.number ≡ self.old.number)
+            × (self.new.frames ≡ self.old.frames)
+            × (self.new.first ≡ self.old.first) × (self.new.second ≡ self.old.second)
+            × (self.new.last ≡ self.old.last) }
     {
         if number == 0 {
             return;
