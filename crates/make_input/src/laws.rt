@@ -1,7 +1,9 @@
 //! Laws over the definitions alone.
-ghost use Rattle.std.specs.Prelude.{ℕ, ◌≤◌, List, [], length};
+ghost use Rattle.std.specs.Prelude.{◌≡◌, ℕ, ◌≤◌, ◌<◌, List, [], length, Some};
 ghost use Rattle.call_model.specs.Coding.{Coding, Pictures, Rules, pictures_of};
 ghost use Rattle.call_model.specs.IdealCall.{AllNear, AllNearFrom, Source, encoded};
+ghost use Rattle.call_model.specs.IdealCall.{Send, Deliver, Play, Back};
+ghost use Rattle.call_model.specs.Refusals.{NoFrame, NotSaid, NotSent, PlayBeforeSend, first_refusal};
 ghost use Rattle.call_model.specs.Lawful.{IsCoding, IsPace, IsRules};
 ghost use Rattle.make_input.specs.Expanded.{SendsSlices, expanded};
 ghost use Rattle.make_input.specs.Trace.{made_trace};
@@ -28,3 +30,12 @@ pub fn made_calls_are_near<Frame, Style, Mb, Picture, Fault, MessageFault>()
     searches();
     encoder_is_sound::<Frame, Style, Mb, Picture, Fault, MessageFault>();
 }
+
+/// Other traces are refused. Of a video of one frame: a second capture has no frame, a play before the capture has
+/// nothing to show, a packet before it was not sent, and a message before one was said was not said.
+pub fn other_traces_are_refused()
+    ensures capture { (rules : Rules) → 1 < rules.half → first_refusal rules 1 1 0 [] Send ≡ Some NoFrame }
+    ensures play { (rules : Rules) → first_refusal rules 1 0 0 [] Play ≡ Some PlayBeforeSend }
+    ensures packet { (rules : Rules) → first_refusal rules 1 0 0 [] (Deliver 0 0) ≡ Some NotSent }
+    ensures message { (rules : Rules) → first_refusal rules 1 1 0 [] (Back 0) ≡ Some NotSaid }
+{}
