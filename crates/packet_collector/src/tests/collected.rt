@@ -130,7 +130,7 @@ fn stand(rt: &impl Abort, alloc: Global) -> Result<(), OutOfMemory> {
         assert_eq!(rt; collector.place(2, &piece), place);
     }
     let mut back = [None; 4];
-    back[0] = Some(Message::Ack { tr: 0 });
+    back[0] = Some(Message::Ack { tr: 0, marks: None });
     for header in [
         Header { tr: 1, ..HEADER },
         Header {
@@ -148,6 +148,10 @@ fn stand(rt: &impl Abort, alloc: Global) -> Result<(), OutOfMemory> {
             ..HEADER
         },
         Header { back, ..HEADER },
+        Header {
+            clock: Clock::Custom,
+            ..HEADER
+        },
     ] {
         let piece = Piece {
             header,

@@ -88,7 +88,13 @@ const PICTURE_FAULTS: [(u32, &str, FaultKind, u32); 28] = [
     (22, "000", FaultKind::Ufep, 134),
     (25, "000", FaultKind::SourceFormat, 137),
     (25, "011", FaultKind::OtherFormat, 137),
-    (28, "1", FaultKind::CustomClock, 140),
+    // The custom clock, and what stands between it and CPCFC, whose divisor is 0.
+    (
+        28,
+        "1 0000011000 1000 001 00 0 001 0 1 0000000",
+        FaultKind::Divisor,
+        165,
+    ),
     (29, "0000011001", FaultKind::Modes, 141),
     (39, "1001", FaultKind::Marker, 151),
     (43, "010", FaultKind::PictureKind, 155),
