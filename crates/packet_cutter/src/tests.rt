@@ -53,6 +53,17 @@ const SECOND: Header = Header {
     ..FIRST
 };
 
+/// Picture 0 by the custom clock, whose header has ten bits more.
+const FIRST_OF_CUSTOM: Header = Header {
+    clock: Clock::Custom,
+    ..FIRST
+};
+
+/// The first bytes of its data.
+const CUSTOM_FRONT: [u8; 13] = [
+    0x80, 0x02, 0x1C, 0x98, 0x31, 0x00, 0x15, 0xE0, 0x72, 0x84, 0x0C, 0xD9, 0x19,
+];
+
 const FIRST_OF_CIF: Header = Header {
     format: Format::Cif,
     ..FIRST
@@ -104,8 +115,6 @@ const SECOND_FRONT: [u8; 27] = [
     0x1C, 0xB0, 0x31, 0x00, 0x11, 0xCA, 0x00, 0xD9, 0xE8, 0x83, 0x36,
 ];
 
-const NO_VECTOR: Vector = Vector { x: 0, y: 0 };
-
 const FAR: Reach = Reach {
     left: -32,
     right: 31,
@@ -120,7 +129,7 @@ fn flat_mb() -> Result<Mb, Fault>
 {
     let mut reader = BitReader::new(&FLAT_MB, 0, 53);
     let mut mb = Mb::Skip;
-    read_mb(&mut reader, Kind::I, 8, NO_VECTOR, FAR, &mut mb)?;
+    read_mb(&mut reader, Kind::I, 8, Vector::ZERO, FAR, &mut mb)?;
     Ok(mb)
 }
 
@@ -187,7 +196,7 @@ fn flat_cif_picture(rt: HostRuntime) -> Result<(), Fail> {
 
 /// The sequence numbers count on from picture to picture.
 #[test]
-fn two_small_pictures(rt: HostRuntime) -> Result<(), Fail> {
+fn small_pictures(rt: HostRuntime) -> Result<(), Fail> {
     let mb = flat_mb()?;
     assert!(rt; is_steady(&mb));
     let mut cutter = Cutter::start(rt.alloc(), &SMALL)?;
@@ -197,5 +206,9 @@ fn two_small_pictures(rt: HostRuntime) -> Result<(), Fail> {
     cut_even(&mut cutter, 1, &SECOND, &Mb::Skip);
     assert_eq!(rt; cutter.count(), 1);
     assert_eq!(rt; cutter.packet(0), SKIPPED_PACKET.as_slice());
+    cut_even(&mut cutter, 0, &FIRST_OF_CUSTOM, &mb);
+    assert_eq!(rt; cutter.count(), 1);
+    assert_eq!(rt; cutter.packet(0).len(), 343);
+    assert!(rt; cutter.packet(0)[14..].starts_with(&CUSTOM_FRONT));
     Ok(())
 }
