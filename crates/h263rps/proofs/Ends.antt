@@ -3,8 +3,8 @@ use Rattle.std.proofs.Common.{◌≡◌, ◌⊎◌, inl, inr, ℕ, List, Option,
 use Rattle.h263_outside.specs.Desk.{Outside, Faults, SomeRose}
 use Rattle.h263_outside.specs.declared.desk.Role.{Role}
 use Rattle.y4m.specs.declared.fault.Y4mFault.{Y4mFault}
-use Rattle.h263rps.specs.declared.status.Status.{Status}
-use Rattle.h263rps.specs.declared.status.Status.TheVariants.{Ok as Fine, OutOfMemory, Usage, ReadFault, WriteFault, VideoRefused, OpenFault}
+use Rattle.call_report.specs.declared.status.Status.{Status}
+use Rattle.call_report.specs.declared.status.Status.TheVariants.{Ok as Fine, OutOfMemory, Usage, ReadFault, WriteFault, VideoRefused, TraceRefused, LogRefused, Video2Refused, OpenFault}
 use Rattle.h263rps.specs.Status.{status_of}
 use Rattle.y4m.specs.Video.{video_fault}
 use Rattle.h263rps.specs.Out.{Output, Command, call_output, command_output, ended}
@@ -29,6 +29,9 @@ settled : (out : Output) (s : Status) (old new : Role → Option (List ℕ)) →
 settled out Fine old new is gives = gives
 settled out Usage old new is gives = gives
 settled out (VideoRefused fault) old new is gives = gives
+settled out (TraceRefused fault) old new is gives = gives
+settled out (LogRefused fault) old new is gives = gives
+settled out (Video2Refused fault) old new is gives = gives
 settled out OutOfMemory old new is gives = absurd is
 settled out ReadFault old new is gives = absurd is
 settled out WriteFault old new is gives = absurd is
@@ -41,6 +44,9 @@ stopped out WriteFault old new is gives = gives
 stopped out Fine old new is gives = absurd is
 stopped out Usage old new is gives = absurd is
 stopped out (VideoRefused fault) old new is gives = absurd is
+stopped out (TraceRefused fault) old new is gives = absurd is
+stopped out (LogRefused fault) old new is gives = absurd is
+stopped out (Video2Refused fault) old new is gives = absurd is
 stopped out (OpenFault role) old new is gives = absurd is
 
 known : (out : Output) (s : Status) (old new : Role → Option (List ℕ)) (a b : Faults) → Gives out s old new → HasCause s a b → SomeRose a b ⊎ (s ≡ out.status) ⊎ (s ≡ OutOfMemory)
@@ -50,6 +56,9 @@ known out Usage old new a b gives cause = inr (inl gives.status)
 known out ReadFault old new a b gives cause = inl (inr (inl cause))
 known out WriteFault old new a b gives cause = inl (inr (inr cause))
 known out (VideoRefused fault) old new a b gives cause = inr (inl gives.status)
+known out (TraceRefused fault) old new a b gives cause = inr (inl gives.status)
+known out (LogRefused fault) old new a b gives cause = inr (inl gives.status)
+known out (Video2Refused fault) old new a b gives cause = inr (inl gives.status)
 known out (OpenFault role) old new a b gives cause = inl (inl cause)
 
 refused_by : (found : Option Y4mFault) (fault : Y4mFault) → VideoRefused fault ≡ ended found → found ≡ Some fault

@@ -18,9 +18,10 @@ use Rattle.y4m.specs.Reader.{HeadGives, FrameGives, Moves}
 use Rattle.y4m.specs.Text.{head_text}
 use Rattle.y4m.specs.Video.{frames_of, fault_of, fault_behind, frames_behind, video_fault, video_frames}
 use Rattle.y4m.proofs.Cuts.{head_stays}
-use Rattle.h263rps.specs.declared.status.Status.{Status}
-use Rattle.h263rps.specs.declared.status.Status.TheVariants.{Ok as Fine, OutOfMemory, Usage, ReadFault, WriteFault, VideoRefused, OpenFault}
-use Rattle.h263rps.specs.Status.{stop_status, status_of}
+use Rattle.call_report.specs.declared.status.Status.{Status}
+use Rattle.call_report.specs.declared.status.Status.TheVariants.{Ok as Fine, OutOfMemory, Usage, ReadFault, WriteFault, VideoRefused, TraceRefused, LogRefused, Video2Refused, OpenFault}
+use Rattle.h263rps.specs.Status.{status_of}
+use Rattle.call_report.specs.Status.{video_stop}
 use Rattle.h263rps.specs.Out.{Output, call_output, shown_text, frames_text, pictures_text, ended}
 use Rattle.h263rps.specs.Run.{IsExactly, IsCutOff, TakesInput, HasCause, IsLater, KeepsRoles}
 use Rattle.h263rps.specs.Play.{GainsPictures, StopsInPictures, IsPlaying, HasEnded, FramePlays, FrameMoves}
@@ -75,11 +76,11 @@ module _ (video : List ℕ) (reader : Y4mReader) (start : Role → Option (List 
   }
 
   -- a stop of the reader: what a status ReadFault or VideoRefused says
-  frame_stop : (stop : VideoStop) (out : List ℕ) (after : Y4mReader) → FrameGives (Err stop) reader p.rest out after (new.left Video) → HasEnded video (stop_status stop) start new
+  frame_stop : (stop : VideoStop) (out : List ℕ) (after : Y4mReader) → FrameGives (Err stop) reader p.rest out after (new.left Video) → HasEnded video (video_stop stop) start new
   frame_stop Read out after gives = record { gives = cut_off; left = λ fine. absurd (cc fine); taken = λ fault. frame_lost gives.0 gives.1 gives.2 }
   frame_stop (Refused fault) out after gives = frame_refused fault gives.0 gives.1
 
-  pub frame_stops : (r : Result Bool Status) (stop : VideoStop) (out : List ℕ) (after : Y4mReader) → IsErrAnd r (λ s. s ≡ stop_status stop) → FrameGives (Err stop) reader p.rest out after (new.left Video) → FramePlays r video after start new
+  pub frame_stops : (r : Result Bool Status) (stop : VideoStop) (out : List ℕ) (after : Y4mReader) → IsErrAnd r (λ s. s ≡ video_stop stop) → FrameGives (Err stop) reader p.rest out after (new.left Video) → FramePlays r video after start new
   frame_stops (Ok b) stop out after is gives = absurd is
   frame_stops (Err s) stop out after is gives = subst (λ (s : Status). HasEnded video s start new) (sym is) (frame_stop stop out after gives)
 
@@ -264,7 +265,7 @@ module _ (video : List ℕ) (old new : Outside) (same : new.written ≡ old.writ
   kept_at : (r : Role) → new.written r ≡ old.written r
   kept_at r = ap (λ (w : Role → Option (List ℕ)). w r) same
 
-  head_stop : (stop : VideoStop) → HeadGives (Err stop) video (new.left Video) → HasEnded video (stop_status stop) old.written new
+  head_stop : (stop : VideoStop) → HeadGives (Err stop) video (new.left Video) → HasEnded video (video_stop stop) old.written new
   head_stop Read gives = record {
     gives = nothing_cut (call_output video) old.written new.written same;
     left = λ fine. absurd (cc fine);
@@ -285,8 +286,8 @@ module _ (video : List ℕ) (old new : Outside) (same : new.written ≡ old.writ
     taken = λ fault. absurd (cc fault);
   }
 
-  pub head_stops : (r : Result (Unit {0}) Status) (stop : VideoStop) → IsErrAnd r (λ s. s ≡ stop_status stop) → HeadGives (Err stop) video (new.left Video) → HasEnded video (status_of r) old.written new
-  head_stops r stop is gives = ended_err video r (stop_status stop) old.written new is (head_stop stop gives)
+  pub head_stops : (r : Result (Unit {0}) Status) (stop : VideoStop) → IsErrAnd r (λ s. s ≡ video_stop stop) → HeadGives (Err stop) video (new.left Video) → HasEnded video (status_of r) old.written new
+  head_stops r stop is gives = ended_err video r (video_stop stop) old.written new is (head_stop stop gives)
 
   pub no_memory : (r : Result (Unit {0}) Status) → IsErrAnd r (λ s. s ≡ OutOfMemory) → HasEnded video (status_of r) old.written new
   no_memory r is = ended_err video r OutOfMemory old.written new is (record { gives = nothing_cut (call_output video) old.written new.written same; left = λ fine. absurd (cc fine); taken = λ fault. absurd (cc fault) })
@@ -306,6 +307,9 @@ cause_since Usage a b c falls h = tt
 cause_since ReadFault a b c falls h = rose_since a.read b.read c.read falls.read h
 cause_since WriteFault a b c falls h = rose_since a.write b.write c.write falls.write h
 cause_since (VideoRefused fault) a b c falls h = tt
+cause_since (TraceRefused fault) a b c falls h = tt
+cause_since (LogRefused fault) a b c falls h = tt
+cause_since (Video2Refused fault) a b c falls h = tt
 cause_since (OpenFault role) a b c falls h = rose_since a.attach b.attach c.attach falls.attach h
 
 pub cause_err : (r : Result (Unit {0}) Status) (s : Status) (a b : Faults) → IsErrAnd r (λ x. x ≡ s) → HasCause s a b → HasCause (status_of r) a b

@@ -1,7 +1,6 @@
 -- What a call shows of a video.
-use Rattle.std.proofs.Common.{◌≡◌, ℕ, List, [], Option, None, Result, Ok}
+use Rattle.std.proofs.Common.{◌≡◌, ℕ, List, [], None, Ok}
 use Rattle.h263_types.specs.declared.format.Format.{Format}
-use Rattle.y4m.specs.declared.fault.Y4mFault.{Y4mFault}
 use Rattle.y4m.specs.Head.{head_of}
 use Rattle.y4m.specs.Video.{video_fault, video_frames}
 use Rattle.h263rps.specs.Out.{ended, pictures_text, call_output, shown}

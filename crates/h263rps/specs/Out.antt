@@ -5,8 +5,8 @@ use Rattle.std.specs.Borrow.{Bor}
 use Rattle.std.specs.Str.{bytes_eq}
 use Rattle.h263_outside.specs.declared.desk.Role.{Role}
 use Rattle.h263_outside.specs.declared.desk.Role.TheVariants.{Video, Pictures}
-use Rattle.h263rps.specs.declared.status.Status.{Status}
-use Rattle.h263rps.specs.declared.status.Status.TheVariants.{Ok as Fine, Usage, VideoRefused}
+use Rattle.call_report.specs.declared.status.Status.{Status}
+use Rattle.call_report.specs.declared.status.Status.TheVariants.{Ok as Fine, Usage, VideoRefused}
 use Rattle.h263_types.specs.declared.Mark.TheVariants.{Exact}
 use Rattle.h263_types.specs.declared.format.Format.{Format}
 use Rattle.y4m.specs.declared.fault.Y4mFault.{Y4mFault}

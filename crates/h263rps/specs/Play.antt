@@ -6,8 +6,8 @@ use Rattle.h263_outside.specs.declared.desk.Role.{Role}
 use Rattle.h263_outside.specs.declared.desk.Role.TheVariants.{Video, Pictures, Wire, Report}
 use Rattle.y4m.specs.declared.reader.Y4mReader.{Y4mReader}
 use Rattle.y4m.specs.Video.{frames_of, fault_of}
-use Rattle.h263rps.specs.declared.status.Status.{Status}
-use Rattle.h263rps.specs.declared.status.Status.TheVariants.{Ok as Fine, ReadFault}
+use Rattle.call_report.specs.declared.status.Status.{Status}
+use Rattle.call_report.specs.declared.status.Status.TheVariants.{Ok as Fine, ReadFault}
 use Rattle.h263rps.specs.Out.{call_output, frames_text, ended}
 use Rattle.h263rps.specs.Run.{Gives, TakesInput}
 

@@ -5,8 +5,8 @@ use Rattle.h263_outside.specs.Desk.{Outside, Faults, NoneFalls, Rose, is_role}
 use Rattle.h263_outside.specs.Gains.{gained, Front}
 use Rattle.h263_outside.specs.declared.desk.Role.{Role}
 use Rattle.h263_outside.specs.declared.desk.Role.TheVariants.{Video, Events, Pictures, Wire, Report}
-use Rattle.h263rps.specs.declared.status.Status.{Status}
-use Rattle.h263rps.specs.declared.status.Status.TheVariants.{Ok as Fine, OutOfMemory, Usage, ReadFault, WriteFault, VideoRefused, OpenFault}
+use Rattle.call_report.specs.declared.status.Status.{Status}
+use Rattle.call_report.specs.declared.status.Status.TheVariants.{Ok as Fine, OutOfMemory, Usage, ReadFault, WriteFault, VideoRefused, TraceRefused, LogRefused, Video2Refused, OpenFault}
 use Rattle.h263rps.specs.Out.{Output, call_output}
 
 -- the desk tells what its inputs hold
@@ -37,6 +37,9 @@ pub record TakesInput (video : List ℕ) (old : Role → Option (List ℕ)) (new
 abbrev pub Gives : Output → Status → (Role → Option (List ℕ)) → (Role → Option (List ℕ)) → Type 0
 Gives out Fine old new = IsExactly out Fine old new
 Gives out (VideoRefused fault) old new = IsExactly out (VideoRefused fault) old new
+Gives out (TraceRefused fault) old new = IsExactly out (TraceRefused fault) old new
+Gives out (LogRefused fault) old new = IsExactly out (LogRefused fault) old new
+Gives out (Video2Refused fault) old new = IsExactly out (Video2Refused fault) old new
 Gives out Usage old new = IsExactly out Usage old new
 Gives out (OpenFault role) old new = new ≡ old
 Gives out OutOfMemory old new = IsCutOff out old new
@@ -69,12 +72,18 @@ AttachedAt order WriteFault new = (n : ℕ) × AreAttached (take n order) new
 AttachedAt order Fine new = AreAttached order new
 AttachedAt order ReadFault new = AreAttached order new
 AttachedAt order (VideoRefused fault) new = AreAttached order new
+AttachedAt order (TraceRefused fault) new = AreAttached order new
+AttachedAt order (LogRefused fault) new = AreAttached order new
+AttachedAt order (Video2Refused fault) new = AreAttached order new
 
 -- a status after which all that it says was written
 abbrev pub IsSettled : Status → Type 0
 IsSettled Fine = Unit {0}
 IsSettled Usage = Unit {0}
 IsSettled (VideoRefused fault) = Unit {0}
+IsSettled (TraceRefused fault) = Unit {0}
+IsSettled (LogRefused fault) = Unit {0}
+IsSettled (Video2Refused fault) = Unit {0}
 IsSettled _ = ⊥
 
 -- a status after which a front was written

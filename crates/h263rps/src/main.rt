@@ -13,14 +13,13 @@ mod link;
 mod program;
 mod receiving;
 mod sending;
-mod status;
 #[cfg(test)]
 mod tests;
 mod words;
 
+pub use call_report::Status;
 use h263_outside::HostDesk;
 pub use program::run;
-pub use status::Status;
 use std::alloc::{AllocError, Global};
 use std::process::ExitCode;
 use std::{env, io};

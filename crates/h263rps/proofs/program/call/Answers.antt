@@ -1,7 +1,7 @@
 use Rattle.std.proofs.Common.{[], ◌∷◌, Option, List, ℕ, ap, ◌∙◌}
 use Rattle.h263_outside.specs.declared.desk.Role.{Role}
 use Rattle.h263_outside.specs.declared.desk.Role.TheVariants.{Video, Pictures}
-use Rattle.h263rps.proofs.Attached.{still_attached, attached_later, both_attached, video_not_pictures}
+use Rattle.h263rps.proofs.Attached.{still_attached, attached_later, both_attached, second_unattached, video_not_pictures}
 use Rattle.h263rps.proofs.Ends.{unattached, ended_since}
 use Rattle.h263rps.proofs.program.call.Goals as goal
 
@@ -31,3 +31,10 @@ returns-clause-attached g c =
     c.in_ok-attach.ensures.name (c.attach-2.ensures.other_names Video video_not_pictures) c.in_ok-attach-2.ensures.name in
     attached_later order _ (outside c.play.new.desk) c.play.ensures.later
     (still_attached order (outside c.attach-2.new.desk) (outside c.play.new.desk) c.play.ensures.rest.attached c.play.ensures.rest.name both)
+
+pub returns-in_err-attach-2-clause-attached : goal.returns-in_err-attach-2-clause-attached
+returns-in_err-attach-2-clause-attached g c =
+    let outside = g.D.Desk.outside in
+    second_unattached c.args.input.now c.args.output.now (outside c.args.desk.now) (outside c.attach.new.desk) (outside c.attach-2.new.desk) c.requires c.in_ok-attach.ensures.attached
+    c.in_err-attach-2.ensures.err c.in_ok-attach.ensures.name (c.attach-2.ensures.other_names Video video_not_pictures)
+    c.from_residual-in_err-attach-2.result c.in_err-attach-2.field-0.0 c.from_residual-in_err-attach-2.ensures.1 c.in_err-attach-2.ensures.kind

@@ -1,5 +1,5 @@
 use Rattle.std.proofs.Common.{refl}
-use Rattle.h263rps.specs.declared.status.Status.TheVariants.{Ok as Fine}
+use Rattle.call_report.specs.declared.status.Status.TheVariants.{Ok as Fine}
 use Rattle.h263rps.specs.Out.{command_of, texts}
 use Rattle.h263rps.proofs.Ends.{ends_exactly, ends_cut_off, ends_known, ends_refused}
 use Rattle.h263rps.proofs.program.run.Goals as goal
