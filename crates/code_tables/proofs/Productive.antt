@@ -5,6 +5,7 @@ use Rattle.h263_types.specs.declared.Kind.{Kind}
 use Rattle.h263_bits.specs.Syntax.{Syntax, IsProductive, any, field, done}
 use Rattle.h263_bits.proofs.SyntaxLaws.{either_productive}
 use Rattle.code_tables.specs.Mcbpc.{mcbpc, dquant}
+use Rattle.code_tables.specs.Laws.{AreProductive}
 use Rattle.code_tables.specs.Tables.{cbpy, mvd, mvd_parts, signed, event, event_parts, Event, after_word}
 
 pub mcbpc_productive : (kind : Kind) → IsProductive (mcbpc kind)
@@ -45,3 +46,6 @@ after_productive None = λ last. λ run. λ level. tt
 pub event_productive : IsProductive event
 unfolding event event_parts IsProductive
 event_productive = (λ o. after_productive o, λ e. tt)
+
+pub are_productive : AreProductive
+are_productive = record { mcbpc = mcbpc_productive; cbpy = cbpy_productive; dquant = dquant_productive; mvd = mvd_productive; event = event_productive }

@@ -1,11 +1,9 @@
 -- The words as the code has them are the texts of the standard.
 use Rattle.std.proofs.lemmas.Int.{ints}
 use Rattle.std.proofs.lemmas.List.{get_or-map}
-use Rattle.h263_bits.specs.declared.writer.BitWriter.{BitWriter}
-use Rattle.h263_bits.specs.Written.{Appends, written}
 use Rattle.code_tables.specs.Tables.{cbpy_texts, magnitude_texts, sign_text}
 use Rattle.std.proofs.lemmas.Bool.{ne_eqb}
-use Rattle.std.proofs.Common.{eqb, false, append_assoc, ◌++◌, ◌≡◌, ◌⊎◌, ℕ, zero, suc, ◌+◌, ◌<◌, Bool, refl, ap, sym, ◌∙◌, subst, arith, inl, inr, List, [], length, get_or}
+use Rattle.std.proofs.Common.{eqb, false, ◌≡◌, ◌⊎◌, ℕ, zero, suc, ◌+◌, ◌<◌, Bool, refl, ap, sym, ◌∙◌, subst, arith, inl, inr, List, [], length, get_or}
 use Rattle.std.specs.Prelude.{ℤ, pos, negsuc, slice_index_or, map, ◌<ℤ◌}
 use Rattle.h263_types.specs.declared.Kind.TheVariants as kinds
 use Rattle.h263_bits.specs.Bits.{spelled}
@@ -93,14 +91,6 @@ pattern_text n lt = place_text CBPY cbpy_texts n cbpy_same lt
 
 pub magnitude_text : (n : ℕ) → n < 33 → word_of (code_at MAGNITUDES n) ≡ text_at magnitude_texts n
 magnitude_text n lt = place_text MAGNITUDES magnitude_texts n magnitudes_same lt
-
--- one text behind the other
-pub appends_both : (a b c : BitWriter) (x y : List Bool) → Appends a b x → Appends b c y → Appends a c (x ++ y)
-appends_both a b c x y p q = record {
-  buffer = q.buffer ∙ p.buffer;
-  room = q.room ∙ p.room;
-  text = q.text ∙ ap (λ (t : List Bool). t ++ y) p.text ∙ append_assoc (written a) x y;
-}
 
 pub minus_text : (z : ℤ) → z <ℤ pos 0 → sign_text z ≡ spelled 1 1
 unfolding spelled

@@ -2,13 +2,13 @@
 use Rattle.std.proofs.lemmas.Int.{ints}
 use Rattle.std.proofs.lemmas.List.{append-nil}
 use Rattle.std.proofs.lemmas.Bool.{ne_eqb}
-use Rattle.std.proofs.Common.{zero-add, ◌≡◌, ◌⊎◌, ℕ, zero, suc, ◌+◌, ◌-◌, ◌<◌, Bool, true, false, refl, ap, sym, ◌∙◌, subst, arith, inl, inr, List, [], ◌∷◌, ◌++◌, length, eqb, Ok, None}
+use Rattle.std.proofs.Common.{zero-add, ◌≡◌, ◌⊎◌, ℕ, zero, suc, ◌+◌, ◌-◌, ◌<◌, Bool, true, false, refl, ap, sym, ◌∙◌, subst, arith, inl, inr, List, [], ◌∷◌, ◌++◌, length, eqb, None}
 use Rattle.std.specs.Prelude.{ℤ, pos, negsuc, ◌≤ℤ◌}
 use Rattle.h263_types.specs.declared.Kind.{Kind}
 use Rattle.h263_types.specs.declared.Kind.TheVariants as kinds
 use Rattle.h263_bits.specs.Bits.{spelled}
 use Rattle.h263_bits.specs.Syntax.{Syntax, Spells, IsIn, reading, any, field, done, either, found, begins, word_at}
-use Rattle.h263_bits.proofs.SyntaxLaws.{sound, spells_code, spells_done, spells_field, spells_element, spells_whole}
+use Rattle.h263_bits.proofs.SyntaxLaws.{spells_code, spells_done, spells_field, spells_element, spells_whole, spelled_whole}
 use Rattle.code_tables.specs.declared.macroblock.MbClass.TheVariants.{Inter, InterQ, Inter4, Intra, IntraQ}
 use Rattle.code_tables.specs.declared.macroblock.Mcbpc.{Mcbpc}
 use Rattle.code_tables.specs.declared.macroblock.Mcbpc.TheVariants.{Stuffing, Word}
@@ -16,12 +16,6 @@ use Rattle.code_tables.specs.Words.{from_number, text_at}
 use Rattle.code_tables.specs.Mcbpc.{mcbpc, mcbpc_table, mcbpc_words, mcbpc_text, class_texts, dquant, dquant_table, dquant_words, dquant_text, IsInTable, IsStep}
 use Rattle.code_tables.specs.Tables.{cbpy, cbpy_table, cbpy_words, cbpy_texts, cbpy_text, mvd, mvd_parts, mvd_text, magnitude_table, magnitude_words, magnitude_texts, signed, is_difference, size_of, sign_text}
 use Rattle.code_tables.proofs.Texts.{four, no_inter}
-
--- what is read of a whole text is spelled by it
-spelled_whole : {A : Type 0} (s : Syntax A) (a : A) (text : List Bool) → reading s (record { at = 0; bits = text }) ≡ Ok (a, record { at = length text; bits = [] }) → Spells s a text
-spelled_whole s a text e =
-    let found = sound s (record { at = 0; bits = text }) (record { at = length text; bits = [] }) a e in
-    spells_whole s a found.0 text (sym (append-nil found.0) ∙ sym found.1.parts) found.2
 
 inter_written : (m : Mcbpc) → IsInTable kinds.P m → Spells (mcbpc kinds.P) m (mcbpc_text kinds.P m)
 unfolding mcbpc mcbpc_table mcbpc_words mcbpc_text class_texts reading word_at found begins

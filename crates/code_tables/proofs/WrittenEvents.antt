@@ -6,7 +6,9 @@ use Rattle.std.specs.Prelude.{ℤ, pos, negsuc, slice_get, option_and_then}
 use Rattle.h263_bits.specs.Bits.{spelled, fields}
 use Rattle.h263_bits.specs.Syntax.{Spells, IsIn, any, done}
 use Rattle.h263_bits.proofs.SyntaxLaws.{spells_code, spells_done, spells_field, spells_element, spells_whole}
+use Rattle.code_tables.specs.Laws.{AreSpelt}
 use Rattle.code_tables.specs.Words.{word}
+use Rattle.code_tables.proofs.Written.{mcbpc_written, cbpy_written, dquant_written, mvd_written}
 use Rattle.code_tables.specs.Tables.{Event, Coefficient, sized, from_runs, last_0_texts, last_1_texts, tcoef_words, event_table, after_word, event_parts, event, signed, is_level, level_of, rows_of, triple_text, byte_of, bit_of, escape_fields, word_or_escape, event_text, IsEvent, size_of, sign_text}
 
 in_left : {X : Type 0} (x : X) (xs ys : List X) → IsIn x xs → IsIn x (xs ++ ys)
@@ -138,3 +140,6 @@ pub event_written : (e : Coefficient) → IsEvent e → Spells event e (event_te
 unfolding event
 event_written e is =
     spells_whole event e (event_text e ++ []) _ (append-nil _) (spells_element event_parts any (λ f. done f) e e (event_text e) [] (parts_written e is) refl (spells_done e))
+
+pub are_spelt : AreSpelt
+are_spelt = record { mcbpc = mcbpc_written; cbpy = cbpy_written; dquant = dquant_written; mvd = mvd_written; event = event_written }

@@ -1,9 +1,10 @@
 //! Laws over the definitions alone.
-ghost use Rattle.std.specs.Prelude.{◌≡◌, ℕ, ℤ, pos, negsuc, ◌≤ℤ◌, ◌<◌, ◌+◌, ◌++◌, List, [], ◌∷◌, Bool, length, map};
+ghost use Rattle.std.specs.Prelude.{◌≡◌, ℕ, ℤ, ◌+◌, ◌++◌, List, [], ◌∷◌, Bool, length, map};
 ghost use Rattle.h263_types.specs.declared.Kind.{Kind};
 ghost use Rattle.h263_bits.specs.Syntax.{Spells};
-ghost use Rattle.code_tables.specs.Mcbpc.{mcbpc, dquant, IsInTable, IsStep, mcbpc_text, dquant_text};
-ghost use Rattle.code_tables.specs.Tables.{cbpy, cbpy_text, mvd, mvd_text, tcoef_words, words_of_length, event, event_text, Coefficient, IsEvent};
+ghost use Rattle.code_tables.specs.Mcbpc.{mcbpc, dquant};
+ghost use Rattle.code_tables.specs.Tables.{cbpy, mvd, tcoef_words, words_of_length, event, Coefficient};
+ghost use Rattle.code_tables.specs.Laws.{AreSpelt, TableLaws};
 ghost use Rattle.code_tables.specs.declared.macroblock.Mcbpc.{Mcbpc};
 
 /// Of two texts of which one begins the other both are the same, and spell the same value: in each table, with the
@@ -23,11 +24,12 @@ pub fn one_reading()
 
 /// What is written for a value is a text of it.
 pub fn written_is_text()
-    ensures mcbpc { (kind : Kind) (m : Mcbpc) → IsInTable kind m → Spells (mcbpc kind) m (mcbpc_text kind m) }
-    ensures cbpy { (intra : Bool) (pattern : ℕ) → pattern < 16 → Spells (cbpy intra) pattern (cbpy_text intra pattern) }
-    ensures dquant { (step : ℤ) → IsStep step → Spells dquant step (dquant_text step) }
-    ensures mvd { (value : ℤ) → negsuc 31 ≤ℤ value → value ≤ℤ pos 31 → Spells mvd value (mvd_text value) }
-    ensures event { (e : Coefficient) → IsEvent e → Spells event e (event_text e) }
+    ensures { AreSpelt }
+{}
+
+/// What a syntax that has words of these tables in it needs to know of them.
+pub fn in_a_syntax()
+    ensures { TableLaws }
 {}
 
 /// There are 102 words of events; of 2 bits to 12 bits so many.

@@ -65,17 +65,11 @@ pub fn read_mvd(reader: &mut BitReader<'_>) -> Result<i8, Fault>
     match read_mvd_parts(reader) {
         Ok(value) => {
             if value == 32 {
-                return Err(Fault {
-                    kind: FaultKind::BadCode,
-                    at,
-                });
+                return Err(FaultKind::BadCode.at(at));
             }
             Ok(value)
         }
-        Err(fault) => Err(Fault {
-            kind: fault.kind,
-            at,
-        }),
+        Err(fault) => Err(fault.kind.at(at)),
     }
 }
 
@@ -110,10 +104,7 @@ fn read_event_parts(reader: &mut BitReader<'_>) -> Result<Coefficient, Fault>
     let at = reader.at();
     let level = reader.bits(8)?;
     if level == 0 || level == 128 {
-        return Err(Fault {
-            kind: FaultKind::BadLevel,
-            at,
-        });
+        return Err(FaultKind::BadLevel.at(at));
     }
     Ok(Coefficient {
         last: last == 1,
@@ -143,10 +134,7 @@ pub fn read_event(reader: &mut BitReader<'_>) -> Result<Coefficient, Fault>
     let at = reader.at();
     match read_event_parts(reader) {
         Ok(event) => Ok(event),
-        Err(fault) => Err(Fault {
-            kind: fault.kind,
-            at,
-        }),
+        Err(fault) => Err(fault.kind.at(at)),
     }
 }
 

@@ -4,7 +4,7 @@ use Rattle.std.proofs.lemmas.Int.{to_z-of_z}
 use Rattle.h263_bits.specs.Written.{Appends, len_of, room_of}
 use Rattle.code_tables.specs.Words.{text_at}
 use Rattle.code_tables.specs.Tables.{magnitude_texts, size_of, sign_text, mvd_text}
-use Rattle.code_tables.proofs.Texts.{appends_both}
+use Rattle.h263_bits.proofs.SyntaxLaws.{appends_both}
 use Rattle.code_tables.proofs.words.write_mvd.Goals as goal
 
 pub write_magnitude-requires-clause-room : goal.write_magnitude-requires-clause-room
