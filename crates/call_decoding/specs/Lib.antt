@@ -1,0 +1,3 @@
+pub mod Rules
+pub mod Styles
+pub mod Samples
