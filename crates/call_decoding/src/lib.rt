@@ -3,6 +3,10 @@
 //!
 //! The definitions are in `specs/`: `rules_of`, `Style` with `header_of`, and `pictures`, which is
 //! the `Pictures` of `call_model` for a format. `laws` has what the laws of a call ask of these.
+//! `Styled` and `Pictured` name the types of values at which those laws are called.
 #![tactic(auto)]
 
 pub mod laws;
+mod values;
+
+pub use values::{Pictured, Styled};
