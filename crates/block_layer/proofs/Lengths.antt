@@ -3,9 +3,11 @@ use Rattle.std.proofs.Common.{◌≡◌, ℕ, zero, suc, ◌+◌, ◌-◌, ◌*�
 use Rattle.std.specs.Prelude.{ℤ, pos, negsuc, nat_le, slice_get, option_and_then, not}
 use Rattle.std.specs.List.{list_all}
 use Rattle.std.proofs.lemmas.Bool.{leb-true}
+use Rattle.h263_types.specs.Marks.{is_zero}
 use Rattle.h263_bits.proofs.SyntaxLaws.{and_both, length-fields}
 use Rattle.code_tables.specs.Tables.{Coefficient, rows_of, last_0_texts, last_1_texts, triple_text, word_or_escape, escape_fields, event_text, size_of, sign_text}
-use Rattle.block_layer.specs.Text.{is_zero, none_left, events_of, events_text, levels_text, coded_text, intra_text, inter_text}
+use Rattle.block_layer.specs.Text.{none_left, events_of, events_text, levels_text, coded_text, intra_text, inter_text}
+use Rattle.block_layer.specs.Laws.{AreShort}
 use Rattle.block_layer.specs.Step.{one_event}
 use Rattle.block_layer.proofs.Steps.{intra_length}
 
@@ -14,11 +16,11 @@ use Rattle.block_layer.proofs.Steps.{intra_length}
 is_short : List Bool → Bool
 is_short w = nat_le (length w) 12
 
-are_short : List (List Bool) → Bool
-are_short row = list_all is_short row
+row_short : List (List Bool) → Bool
+row_short row = list_all is_short row
 
-all_short : (last : Bool) → list_all are_short (rows_of last) ≡ true
-unfolding last_0_texts last_1_texts is_short are_short
+all_short : (last : Bool) → list_all row_short (rows_of last) ≡ true
+unfolding last_0_texts last_1_texts is_short row_short
 all_short false = refl
 all_short true = refl
 
@@ -31,16 +33,16 @@ at_place {X} test (y ∷ xs) zero x all e =
 at_place test (y ∷ xs) (suc i) x all e = let p = and_both (test y) (list_all test xs) all in at_place test xs i x p.1 e
 
 word_short : (last : Bool) (run size : ℕ) (w : List Bool) → triple_text last run size ≡ Some w → length w ≤ 12
-unfolding triple_text is_short are_short
+unfolding triple_text is_short row_short
 word_short last run size w e = at (slice_get (rows_of last) run) refl e
   where
     at : (o : Option (List (List Bool))) → slice_get (rows_of last) run ≡ o → option_and_then (λ row. slice_get row (size - 1)) o ≡ Some w → length w ≤ 12
     at None is got = cc
     at (Some row) is got =
-        let short : are_short row ≡ true = at_place are_short (rows_of last) run row (all_short last) is in
+        let short : row_short row ≡ true = at_place row_short (rows_of last) run row (all_short last) is in
         leb-true (length w) 12 (at_place is_short row (size - 1) w short got)
 
-pub sign_short : (z : ℤ) → length (sign_text z) ≤ 1
+sign_short : (z : ℤ) → length (sign_text z) ≤ 1
 sign_short (negsuc n) = omega arith
 sign_short (pos n) = at (eqb n 0)
   where
@@ -48,7 +50,7 @@ sign_short (pos n) = at (eqb n 0)
     at true = omega arith
     at false = omega arith
 
-pub event_short : (e : Coefficient) → length (event_text e) ≤ 22
+event_short : (e : Coefficient) → length (event_text e) ≤ 22
 unfolding event_text
 event_short e = at (triple_text e.last e.run (size_of e.level)) refl
   where
@@ -68,7 +70,7 @@ events_short run (z ∷ zs) = at (is_zero z) (events_short (run + 1) zs) (events
     at true more again = omega arith
     at false more again = omega (arith, event_short (one_event (none_left zs) run z), length-append (event_text (one_event (none_left zs) run z)) (events_text (events_of 0 zs)))
 
-pub inter_short : (levels : List ℤ) → length levels ≡ 64 → length (inter_text levels) ≤ 64 * 22
+inter_short : (levels : List ℤ) → length levels ≡ 64 → length (inter_text levels) ≤ 64 * 22
 unfolding inter_text levels_text
 inter_short levels long = omega (arith, events_short 0 levels)
 
@@ -80,5 +82,8 @@ coded_short levels long = at (none_left (drop 1 levels))
     at true = omega arith
     at false = omega (arith, events_short 0 (drop 1 levels), length-drop 1 levels)
 
-pub intra_short : (levels : List ℤ) → length levels ≡ 64 → length (intra_text levels) ≤ 8 + 63 * 22
+intra_short : (levels : List ℤ) → length levels ≡ 64 → length (intra_text levels) ≤ 8 + 63 * 22
 intra_short levels long = omega (arith, intra_length levels, coded_short levels long)
+
+pub are_short : AreShort
+are_short = record { intra = intra_short; inter = inter_short }

@@ -1,5 +1,5 @@
--- The levels of a block as bits, and the events that these give.
-use Rattle.std.proofs.Common.{◌≡◌, ℕ, zero, suc, ◌+◌, ◌-◌, ◌*◌, ◌/◌, ◌^◌, ◌<◌, Bool, true, false, cond, List, [], ◌∷◌, ◌++◌, drop, length, refl, sym, ap, ◌∙◌, subst, arith, add-one, append_assoc, eqb, not, w16, of_z, length-drop, length-append}
+-- The events that the marks of a block give.
+use Rattle.std.proofs.Common.{◌≡◌, ℕ, zero, suc, ◌+◌, ◌-◌, ◌*◌, ◌/◌, ◌^◌, ◌<◌, Bool, true, false, cond, List, [], ◌∷◌, ◌++◌, drop, length, refl, sym, ap, ◌∙◌, subst, arith, add-one, append_assoc, eqb, not, length-drop, length-append}
 use Rattle.std.specs.Prelude.{ℤ, pos, negsuc, map, ◌&&◌}
 use Rattle.std.specs.Simd.Lanes.{mask_l}
 use Rattle.std.specs.List.{prefix_len}
@@ -9,39 +9,11 @@ use Rattle.std.proofs.lemmas.List.{drop-drop, get_or-drop}
 use Rattle.std.proofs.lemmas.List.Sums.{prefix_len_stops}
 use Rattle.std.proofs.lemmas.Simd.{trailing_mask_l}
 use lib.Count.{count_trailing_zeros}
-use lib.Signed.{mag}
-use mir.Val.{Val}
-use denote.Signed.{SInt}
-use denote.Array.{each}
-use denote.Shadow.{shadow}
+use Rattle.h263_types.specs.Marks.{is_zero, marks_of}
 use Rattle.code_tables.specs.Tables.{Coefficient, event_text}
-use Rattle.block_layer.specs.Text.{is_zero, none_left, events_of, events_text}
+use Rattle.block_layer.specs.Text.{none_left, events_of, events_text}
 use Rattle.block_layer.specs.Step.{level_at, one_event}
-use Rattle.block_layer.specs.Marks.{marks_of}
-use Rattle.block_layer.proofs.Written.{zero_is}
 use Rattle.block_layer.proofs.Steps.{left_text}
-
--- ---- of an array: owning it tells of each level that it fits 16 bits
-
-not_zero : (n : ℕ) → is_zero (pos (suc n)) ≡ false
-not_zero n = at (is_zero (pos (suc n))) refl
-  where
-    at : (t : Bool) → is_zero (pos (suc n)) ≡ t → t ≡ false
-    at true e = let same : pos (suc n) ≡ pos 0 = zero_is (pos (suc n)) e in cc
-    at false e = refl
-
--- a level of 16 bits is 0 exactly where its bits are
-zero_bits : (z : ℤ) → mag z < 2 ^ 15 → eqb (of_z w16 z) 0 ≡ is_zero z
-zero_bits (pos zero) small = refl
-zero_bits (pos (suc n)) small = ne_eqb (suc n) 0 (λ e. omega (arith, e)) ∙ sym (not_zero n)
-zero_bits (negsuc n) small = ne_eqb (2 ^ 16 - suc n) 0 (λ e. let k : n < 2 ^ 15 = small in omega (arith, e, k))
-
--- so the bits of an array of levels have its marks
-pub marks_are : (levels : List ℤ) (us : List Val) → shadow (each ℤ (SInt w16).own_val levels us) → mask_l (map (λ x. not (eqb x 0)) (map (of_z w16) levels)) ≡ marks_of levels
-unfolding marks_of
-marks_are [] us h = refl
-marks_are (z ∷ levels) [] h = absurd h
-marks_are (z ∷ levels) (u ∷ us) h = rw (zero_bits z h.0.1) (ap (λ n. cond (not (is_zero z)) 1 0 + 2 * n) (marks_are levels us h.1))
 
 -- ---- behind the first ones
 

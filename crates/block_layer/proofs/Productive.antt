@@ -3,21 +3,22 @@ use Rattle.std.proofs.Common.{ℕ, Bool, List}
 use Rattle.std.specs.Prelude.{ℤ}
 use Rattle.h263_bits.specs.Syntax.{Syntax, IsProductive, done}
 use Rattle.h263_bits.proofs.SyntaxLaws.{either_productive}
-use Rattle.code_tables.proofs.Productive.{event_productive}
+use Rattle.code_tables.specs.Laws.{TableLaws}
+use Rattle.block_layer.specs.Laws.{AreProductive}
 use Rattle.block_layer.specs.Text.{Events, placed, event_turn, events, intra_dc, intra_block, inter_block, no_levels}
 use Rattle.block_layer.proofs.Turns.{turn_some}
 
-placed_productive : (place : ℕ) → IsProductive (placed place)
+placed_productive : TableLaws → (place : ℕ) → IsProductive (placed place)
 unfolding placed IsProductive
-placed_productive place = (event_productive, λ e. tt)
+placed_productive tables place = (tables.productive.event, λ e. tt)
 
-turn_productive : (s : Events) → IsProductive (event_turn s)
+turn_productive : TableLaws → (s : Events) → IsProductive (event_turn s)
 unfolding event_turn IsProductive
-turn_productive s = (placed_productive s.place, λ p. tt)
+turn_productive tables s = (placed_productive tables s.place, λ p. tt)
 
-events_productive : (place : ℕ) (levels : List ℤ) → IsProductive (events place levels)
+events_productive : TableLaws → (place : ℕ) (levels : List ℤ) → IsProductive (events place levels)
 unfolding events IsProductive
-events_productive place levels = (turn_some, λ s. turn_productive s)
+events_productive tables place levels = (turn_some, λ s. turn_productive tables s)
 
 dc_productive : IsProductive intra_dc
 unfolding intra_dc IsProductive
@@ -30,10 +31,13 @@ nothing_productive : (levels : List ℤ) → IsProductive (nothing levels)
 unfolding nothing IsProductive
 nothing_productive levels = tt
 
-pub intra_productive : (coded : Bool) → IsProductive (intra_block coded)
+pub intra_productive : TableLaws → (coded : Bool) → IsProductive (intra_block coded)
 unfolding intra_block nothing IsProductive
-intra_productive coded = (dc_productive, λ levels. either_productive coded (events 1 levels) (nothing levels) (events_productive 1 levels) (nothing_productive levels))
+intra_productive tables coded = (dc_productive, λ levels. either_productive coded (events 1 levels) (nothing levels) (events_productive tables 1 levels) (nothing_productive levels))
 
-pub inter_productive : IsProductive inter_block
+pub inter_productive : TableLaws → IsProductive inter_block
 unfolding inter_block
-inter_productive = events_productive 0 no_levels
+inter_productive tables = events_productive tables 0 no_levels
+
+pub are_productive : TableLaws → AreProductive
+are_productive tables = record { intra = intra_productive tables; inter = inter_productive tables }

@@ -8,16 +8,11 @@ use Rattle.h263_types.specs.Blocks.{IsLevel, IsDc, IsIntraBlock, IsInterBlock}
 use Rattle.h263_bits.specs.declared.fault.Fault.{Fault}
 use Rattle.h263_bits.specs.Reading.{Bits, Gives}
 use Rattle.h263_bits.specs.Syntax.{Syntax, IsIn, Turn, again, finally, Turns, Spells, reading, done, either}
-use Rattle.h263_bits.proofs.SyntaxLaws.{sound, and_both}
+use Rattle.h263_bits.proofs.SyntaxLaws.{stands_within}
 use Rattle.code_tables.specs.Tables.{Event, Coefficient, event, event_parts, event_table, tcoef_words, last_0_texts, last_1_texts, signed, is_level, level_of, after_word, size_of}
+use Rattle.block_layer.specs.Laws.{AreInRange}
 use Rattle.block_layer.specs.Text.{Events, Placed, placed, after_event, event_turn, events, is_dc, dc_of, intra_dc, intra_block, inter_block, no_levels}
 use Rattle.block_layer.specs.Step.{level_at}
-
--- what holds of each spelled value holds of the value that was read
-pub reads_within : {X A : Type 0} (view : X → A) (s : Syntax A) (r : Result X Fault) (old new : Bits) (P : A → Type 0) → Gives view r new (reading s old)
-    → ((a : A) (text : List Bool) → Spells s a text → P a) → IfOk r (λ x. P (view x))
-reads_within view s (Ok x) old new P g each = let f = sound s old new (view x) g in each (view x) f.0 f.2
-reads_within view s (Err e) old new P g each = tt
 
 -- ---- an event
 
@@ -28,16 +23,6 @@ is_small (Some e) = nat_lt e.size 128
 all_small : list_all (λ w. is_small w.1) tcoef_words ≡ true
 unfolding tcoef_words last_0_texts last_1_texts is_small
 all_small = refl
-
--- a test that holds of what each word of a table stands for holds of one
-pub stands_within : {S : Type 0} (test : S → Bool) (words : List (List Bool × S)) (w : List Bool × S) → list_all (λ v. test v.1) words ≡ true → IsIn w words → test w.1 ≡ true
-stands_within test [] w e h = absurd h
-stands_within {S} test (v ∷ words) w e (inl same) =
-    let p = and_both (test v.1) (list_all (λ v. test v.1) words) e in
-    subst (λ (x : List Bool × S). test x.1 ≡ true) same p.0
-stands_within test (v ∷ words) w e (inr later) =
-    let p = and_both (test v.1) (list_all (λ v. test v.1) words) e in
-    stands_within test words w p.1 later
 
 neg_size : (n : ℕ) → size_of (neg_ℤ (pos n)) ≡ n
 neg_size zero = refl
@@ -213,3 +198,6 @@ unfolding Spells intra_block IsPlaced
 intra_within coded levels text h =
     let all = either_within coded h.0 levels h.2 (dc_within h.0 h.1 h.4) h.6 in
     record { dc = all 0; levels = λ k after lt. placed_level k (level_at levels k) after (all k) }
+
+pub are_in_range : AreInRange
+are_in_range = record { intra = intra_within; inter = inter_within }

@@ -11,13 +11,17 @@ use Rattle.h263_types.specs.Blocks.{IsLevel, IsDc, IsIntraBlock, IsInterBlock}
 use Rattle.h263_bits.specs.Bits.{spelled}
 use Rattle.h263_bits.specs.Syntax.{Spells, any, done, either, repeat}
 use Rattle.h263_bits.proofs.SyntaxLaws.{spells_field, spells_part, spells_done, spells_whole}
+use Rattle.code_tables.specs.Laws.{TableLaws}
 use Rattle.code_tables.specs.Tables.{size_of}
+use Rattle.block_layer.specs.Laws.{AreSpelt, IsEmpty}
 use Rattle.block_layer.specs.Text.{events, event_turn, is_dc, dc_of, dc_code, intra_dc, intra_block, inter_block, no_levels, none_left, is_coded, levels_text, coded_text, intra_text, inter_text}
 use Rattle.block_layer.specs.Step.{level_at}
 use Rattle.block_layer.proofs.Written.{events_spelt, IsWritten, all_zeros}
 use Rattle.block_layer.proofs.Turns.{at_place}
+use Rattle.block_layer.proofs.Steps.{none_inter}
+use Rattle.block_layer.proofs.Ranges.{no_levels_within}
 
-size_is : (z : ℤ) → IsLevel z → size_of z < 128
+pub size_is : (z : ℤ) → IsLevel z → size_of z < 128
 size_is (pos n) is = omega (arith, ints, is.low, is.high)
 size_is (negsuc n) is = omega (arith, ints, is.low, is.high)
 
@@ -66,40 +70,52 @@ dc_spelt z is =
 
 -- ---- whole blocks
 
-events_behind : (z : ℤ) (rest : List ℤ) → length rest ≡ 63 → none_left rest ≡ false → ((k : ℕ) → IsWritten (level_at rest k)) → Spells (events 1 (alone z)) (z ∷ rest) (levels_text 1 (z ∷ rest))
+events_behind : TableLaws → (z : ℤ) (rest : List ℤ) → length rest ≡ 63 → none_left rest ≡ false → ((k : ℕ) → IsWritten (level_at rest k)) → Spells (events 1 (alone z)) (z ∷ rest) (levels_text 1 (z ∷ rest))
 unfolding events levels_text alone
-events_behind z rest long some range =
+events_behind tables z rest long some range =
     subst (λ (n : ℕ). Spells (repeat (at_place 1 (z ∷ replicate n (pos 0))) event_turn) (z ∷ rest) (levels_text 1 (z ∷ rest))) long
-    (events_spelt (z ∷ []) rest 1 0 refl (omega arith) some range)
+    (events_spelt tables (z ∷ []) rest 1 0 refl (omega arith) some range)
 
 nothing_behind : (z : ℤ) (rest : List ℤ) → length rest ≡ 63 → none_left rest ≡ true → z ∷ rest ≡ alone z
 unfolding alone
 nothing_behind z rest long none = ap (λ (l : List ℤ). z ∷ l) (all_zeros rest none ∙ ap (λ (n : ℕ). replicate n (pos 0)) long)
 
-behind_spelt : (z : ℤ) (rest : List ℤ) → length rest ≡ 63 → ((k : ℕ) → IsWritten (level_at rest k))
+behind_spelt : TableLaws → (z : ℤ) (rest : List ℤ) → length rest ≡ 63 → ((k : ℕ) → IsWritten (level_at rest k))
     → Spells (either (is_coded (z ∷ rest)) (events 1 (alone z)) (done (alone z))) (z ∷ rest) (coded_text (z ∷ rest))
-behind_spelt z rest long range = at (none_left rest) refl
+behind_spelt tables z rest long range = at (none_left rest) refl
   where
     at : (t : Bool) → none_left rest ≡ t → Spells (either (not t) (events 1 (alone z)) (done (alone z))) (z ∷ rest) (cond (not t) (levels_text 1 (z ∷ rest)) [])
     at true none =
         let same : z ∷ rest ≡ alone z = nothing_behind z rest long none in
         subst (λ (l : List ℤ). Spells (done l) (z ∷ rest) []) same (spells_done (z ∷ rest))
-    at false some = events_behind z rest long some range
+    at false some = events_behind tables z rest long some range
 
-intra_at : (z : ℤ) (rest : List ℤ) → length rest ≡ 63 → IsDc z → ((k : ℕ) → IsWritten (level_at rest k)) → Spells (intra_block (is_coded (z ∷ rest))) (z ∷ rest) (intra_text (z ∷ rest))
+intra_at : TableLaws → (z : ℤ) (rest : List ℤ) → length rest ≡ 63 → IsDc z → ((k : ℕ) → IsWritten (level_at rest k)) → Spells (intra_block (is_coded (z ∷ rest))) (z ∷ rest) (intra_text (z ∷ rest))
 unfolding intra_block intra_text
-intra_at z rest long dc range =
-    spells_part intra_dc any (λ levels. either (is_coded (z ∷ rest)) (events 1 levels) (done levels)) (z ∷ rest) (alone z) (spelled 8 (dc_code z)) (coded_text (z ∷ rest)) (dc_spelt z dc) refl (behind_spelt z rest long range)
+intra_at tables z rest long dc range =
+    spells_part intra_dc any (λ levels. either (is_coded (z ∷ rest)) (events 1 levels) (done levels)) (z ∷ rest) (alone z) (spelled 8 (dc_code z)) (coded_text (z ∷ rest)) (dc_spelt z dc) refl (behind_spelt tables z rest long range)
 
-pub intra_written : (b : Block) → length b.levels ≡ 64 → IsIntraBlock b → Spells (intra_block (is_coded b.levels)) b.levels (intra_text b.levels)
-intra_written b long is = at b.levels long is.dc is.levels
+pub intra_written : TableLaws → (b : Block) → length b.levels ≡ 64 → IsIntraBlock b → Spells (intra_block (is_coded b.levels)) b.levels (intra_text b.levels)
+intra_written tables b long is = at b.levels long is.dc is.levels
   where
     at : (levels : List ℤ) → length levels ≡ 64 → IsDc (level_at levels 0) → ((k : ℕ) → 1 ≤ k → k < 64 → IsLevel (level_at levels k)) → Spells (intra_block (is_coded levels)) levels (intra_text levels)
     at [] long dc each = absurd (omega arith)
-    at (z ∷ rest) long dc each = intra_at z rest (omega arith) dc (all_written rest (λ k lt. each (suc k) (omega arith) (omega arith)))
+    at (z ∷ rest) long dc each = intra_at tables z rest (omega arith) dc (all_written rest (λ k lt. each (suc k) (omega arith) (omega arith)))
 
-pub inter_written : (b : Block) → length b.levels ≡ 64 → IsInterBlock b → none_left b.levels ≡ false → Spells inter_block b.levels (inter_text b.levels)
+pub inter_written : TableLaws → (b : Block) → length b.levels ≡ 64 → IsInterBlock b → none_left b.levels ≡ false → Spells inter_block b.levels (inter_text b.levels)
 unfolding inter_block inter_text events levels_text
-inter_written b long is some =
+inter_written tables b long is some =
     subst (λ (n : ℕ). Spells (repeat (at_place 0 (replicate n (pos 0))) event_turn) b.levels (levels_text 0 b.levels)) long
-    (events_spelt [] b.levels 0 0 refl (omega arith) some (all_written b.levels (λ k lt. is.levels k (omega arith))))
+    (events_spelt tables [] b.levels 0 0 refl (omega arith) some (all_written b.levels (λ k lt. is.levels k (omega arith))))
+
+pub are_spelt : TableLaws → AreSpelt
+are_spelt tables = record { intra = intra_written tables; inter = inter_written tables }
+
+-- ---- a block whose levels are all 0
+
+pub is_empty : IsEmpty
+is_empty = record {
+  in_range = no_levels_within;
+  levels = λ levels long none. all_zeros levels none ∙ ap (λ (n : ℕ). replicate n (pos 0)) long;
+  text = none_inter;
+}

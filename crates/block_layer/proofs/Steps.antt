@@ -5,8 +5,6 @@ use Rattle.std.proofs.lemmas.List.{append-nil}
 use Rattle.block_layer.proofs.Written.{no_events}
 use Rattle.code_tables.specs.Tables.{size_of}
 use Rattle.h263_bits.specs.Bits.{spelled}
-use Rattle.h263_bits.specs.Written.{Appends, written}
-use Rattle.h263_bits.specs.declared.writer.BitWriter.{BitWriter}
 use Rattle.h263_bits.proofs.SyntaxLaws.{length-spelled}
 use Rattle.block_layer.specs.Text.{none_left, events_of, events_text, levels_text, coded_text, dc_code, intra_text, inter_text}
 use Rattle.block_layer.specs.Step.{level_at, AreWritten}
@@ -18,11 +16,6 @@ left_text run place levels = events_text (events_of run (drop place levels))
 pub none_text : (run place : ℕ) (levels : List ℤ) → none_left (drop place levels) ≡ true → left_text run place levels ≡ []
 unfolding events_text
 none_text run place levels none = rw (no_events run (drop place levels) none) refl
-
-pub size_at : (from place : ℕ) (levels : List ℤ) → AreWritten from levels → from ≤ place → size_of (level_at levels place) < 128
-size_at from place levels h le =
-    let e : from + (place - from) ≡ place = omega arith in
-    subst (λ (k : ℕ). size_of (level_at levels k) < 128) e (h.sizes (place - from))
 
 pub ended : (run place : ℕ) (levels : List ℤ) (new all : List Bool) → none_left (drop place levels) ≡ true → new ++ left_text run place levels ≡ all → new ≡ all
 ended run place levels new all none h = sym (append-nil new) ∙ ap (λ (l : List Bool). new ++ l) (sym (none_text run place levels none)) ∙ h
@@ -44,10 +37,6 @@ coded_is levels = at (none_left (drop 1 levels)) refl
 pub intra_is : (levels : List ℤ) (dc : ℕ) → dc ≡ dc_code (level_at levels 0) → spelled 8 dc ++ levels_text 1 levels ≡ intra_text levels
 unfolding intra_text
 intra_is levels dc is = ap (λ (n : ℕ). spelled 8 n ++ levels_text 1 levels) is ∙ ap (λ (l : List Bool). spelled 8 (dc_code (level_at levels 0)) ++ l) (sym (coded_is levels))
-
--- nothing is appended
-pub nothing_more : (w : BitWriter) (text : List Bool) → text ≡ [] → Appends w w text
-nothing_more w text e = record { buffer = refl; room = refl; text = sym (ap (λ (t : List Bool). written w ++ t) e ∙ append-nil (written w)) }
 
 pub intra_length : (levels : List ℤ) → length (intra_text levels) ≡ 8 + length (coded_text levels)
 unfolding intra_text

@@ -4,11 +4,12 @@ use Rattle.std.specs.Prelude.{ℤ, pos, negsuc, slice_set, replicate}
 use Rattle.std.proofs.lemmas.Bool.{lt-ltb}
 use Rattle.std.proofs.lemmas.Bool.Decides.{Decides-int_eq}
 use Rattle.std.proofs.lemmas.List.{append-nil}
+use Rattle.h263_types.specs.Marks.{is_zero}
 use Rattle.h263_bits.specs.Syntax.{any, again, finally, repeat, Spells}
 use Rattle.h263_bits.proofs.SyntaxLaws.{and_both, spells_done, spells_part, spells_last, spells_turn, spells_whole}
 use Rattle.code_tables.specs.Tables.{Coefficient, event, event_text, size_of}
-use Rattle.code_tables.proofs.WrittenEvents.{event_written}
-use Rattle.block_layer.specs.Text.{placed, is_inside, event_turn, after_event, is_zero, none_left, events_of, events_text}
+use Rattle.code_tables.specs.Laws.{TableLaws}
+use Rattle.block_layer.specs.Text.{placed, is_inside, event_turn, after_event, none_left, events_of, events_text}
 use Rattle.block_layer.proofs.Turns.{at_place, next}
 
 pub true_not_false : true ≡ false → ⊥
@@ -26,18 +27,18 @@ some_size (pos zero) e = absurd (true_not_false e)
 some_size (pos (suc n)) e = omega arith
 some_size (negsuc n) e = omega arith
 
-event_spelt : (last : Bool) (run : ℕ) (z : ℤ) → run < 64 → is_zero z ≡ false → IsWritten z → let e : Coefficient = record { last = last; run = run; level = z } in Spells event e (event_text e)
-event_spelt last run z few some range = event_written (record { last = last; run = run; level = z }) (record { run = few; some = some_size z some; level = range })
+event_spelt : TableLaws → (last : Bool) (run : ℕ) (z : ℤ) → run < 64 → is_zero z ≡ false → IsWritten z → let e : Coefficient = record { last = last; run = run; level = z } in Spells event e (event_text e)
+event_spelt tables last run z few some range = tables.spelt.event (record { last = last; run = run; level = z }) (record { run = few; some = some_size z some; level = range })
 
 -- ---- one event
 
-event_at : (p r k : ℕ) (z : ℤ) (last : Bool) (levels : List ℤ) → p + r ≡ k → k < 64 → is_zero z ≡ false → IsWritten z
+event_at : TableLaws → (p r k : ℕ) (z : ℤ) (last : Bool) (levels : List ℤ) → p + r ≡ k → k < 64 → is_zero z ≡ false → IsWritten z
     → Spells (event_turn (at_place p levels)) (after_event levels (next k z last)) (event_text (record { last = last; run = r; level = z }))
 unfolding event_turn placed
-event_at p r k z last levels e lt some range =
+event_at tables p r k z last levels e lt some range =
     let one : Coefficient = record { last = last; run = r; level = z } in
     let inside : is_inside p one ≡ None = rw (lt-ltb (p + r) 64 (omega arith)) refl in
-    let at : Spells (placed p) (next (p + r) z last) (event_text one ++ []) = spells_part event (is_inside p) _ _ one (event_text one) [] (event_spelt last r z (omega arith) some range) inside (spells_done _) in
+    let at : Spells (placed p) (next (p + r) z last) (event_text one ++ []) = spells_part event (is_inside p) _ _ one (event_text one) [] (event_spelt tables last r z (omega arith) some range) inside (spells_done _) in
     let turn : Spells (event_turn (at_place p levels)) (after_event levels (next (p + r) z last)) ((event_text one ++ []) ++ []) = spells_part (placed p) any _ _ (next (p + r) z last) (event_text one ++ []) [] at refl (spells_done _) in
     let whole : (event_text one ++ []) ++ [] ≡ event_text one = append-nil (event_text one ++ []) ∙ append-nil (event_text one) in
     subst (λ (n : ℕ). Spells (event_turn (at_place p levels)) (after_event levels (next n z last)) (event_text one)) e (spells_whole _ _ _ _ whole turn)
@@ -87,12 +88,12 @@ goes : (p k : ℕ) (z : ℤ) (levels after whole : List ℤ) (text rest : List B
 goes p k z levels after whole text rest is h more =
     spells_turn (at_place p levels) (at_place (k + 1) after) event_turn whole text rest (subst (λ (l : List ℤ). Spells (event_turn (at_place p levels)) (again (at_place (k + 1) l)) text) is h) more
 
-pub events_spelt : (front rest : List ℤ) (p r : ℕ) → p + r ≡ length front → length front + length rest ≡ 64 → none_left rest ≡ false → ((k : ℕ) → IsWritten (get_or rest k (pos 0)))
+pub events_spelt : TableLaws → (front rest : List ℤ) (p r : ℕ) → p + r ≡ length front → length front + length rest ≡ 64 → none_left rest ≡ false → ((k : ℕ) → IsWritten (get_or rest k (pos 0)))
     → Spells (repeat (at_place p (front ++ zeros (length rest))) event_turn) (front ++ rest) (events_text (events_of r rest))
 unfolding events_of events_text
-events_spelt front [] p r e long some range = absurd cc
-events_spelt front (z ∷ zs) p r e long some range =
-    step (λ p' r' e' some'. events_spelt (front ++ z ∷ []) zs p' r' e' (length_moves front zs z long) some' (λ k. range (suc k))) (is_zero z) refl
+events_spelt tables front [] p r e long some range = absurd cc
+events_spelt tables front (z ∷ zs) p r e long some range =
+    step (λ p' r' e' some'. events_spelt tables (front ++ z ∷ []) zs p' r' e' (length_moves front zs z long) some' (λ k. range (suc k))) (is_zero z) refl
   where
     Spelt : List Bool → Type 0
     Spelt text = Spells (repeat (at_place p (front ++ zeros (length (z ∷ zs)))) event_turn) (front ++ (z ∷ zs)) text
@@ -105,7 +106,7 @@ events_spelt front (z ∷ zs) p r e long some range =
         let h1 = subst (λ (l : List ℤ). Spells (repeat (at_place p l) event_turn) ((front ++ z ∷ []) ++ zs) (events_text (events_of (r + 1) zs))) (append_assoc front (z ∷ []) (zeros (length zs))) h0 in
         let h2 = subst (λ (l : List ℤ). Spells (repeat (at_place p (front ++ (z ∷ zeros (length zs)))) event_turn) l (events_text (events_of (r + 1) zs))) (append_assoc front (z ∷ []) zs) h1 in
         subst (λ (x : ℤ). Spells (repeat (at_place p (front ++ (x ∷ zeros (length zs)))) event_turn) (front ++ (z ∷ zs)) (events_text (events_of (r + 1) zs))) (zero_is z t) h2
-    step more false t = at (none_left zs) refl (event_at p r (length front) z (none_left zs) (front ++ (pos 0 ∷ zeros (length zs))) e (omega arith) t (range 0))
+    step more false t = at (none_left zs) refl (event_at tables p r (length front) z (none_left zs) (front ++ (pos 0 ∷ zeros (length zs))) e (omega arith) t (range 0))
       where
         one : Bool → Coefficient
         one last = record { last = last; run = r; level = z }

@@ -1,4 +1,4 @@
 pub mod Text
 pub mod Placed
 pub mod Step
-pub mod Marks
+pub mod Laws

@@ -2,6 +2,7 @@
 use Rattle.std.specs.Prelude.{ℕ, ◌+◌, ◌++◌, ◌∷◌, [], List, drop, not, slice_index_or, unsigned_abs, Bool, Option, Some, None, nat_lt, ◌==◌, ◌||◌, if◌then◌else◌, slice_set, replicate, ℤ, pos}
 use Rattle.std.specs.Ordering.{int_eq}
 use Rattle.std.specs.List.{list_all}
+use Rattle.h263_types.specs.Marks.{is_zero}
 use Rattle.h263_bits.specs.Bits.{spelled}
 use Rattle.h263_bits.specs.declared.fault.Fault.{Fault}
 use Rattle.h263_bits.specs.declared.fault.FaultKind.TheVariants as faults
@@ -81,10 +82,7 @@ inter_block_fault b = first_fault (reading inter_block b)
 
 -- ---- what is written
 
--- whether a level is 0, and whether each of these is
-abbrev pub is_zero : ℤ → Bool
-is_zero z = int_eq z (pos 0)
-
+-- whether each of these levels is 0
 abbrev pub none_left : List ℤ → Bool
 none_left zs = list_all is_zero zs
 

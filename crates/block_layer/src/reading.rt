@@ -6,6 +6,7 @@ ghost use Rattle.h263_types.specs.Blocks.{IsIntraBlock, IsInterBlock};
 ghost use Rattle.block_layer.specs.Text.{event_turn, events, is_inside, placed, dc_of, intra_dc, intra_block, inter_block, IsIntraText, IsInterText, intra_block_fault, inter_block_fault};
 ghost use Rattle.block_layer.specs.Placed.{placed_of};
 
+use code_tables::laws::in_a_syntax;
 use code_tables::read_event;
 use h263_bits::{BitReader, Fault, FaultKind};
 use h263_types::Block;
@@ -31,10 +32,7 @@ fn read_placed(reader: &mut BitReader<'_>, place: usize) -> Result<Placed, Fault
     let event = read_event(reader)?;
     let place = place + event.run as usize;
     if place > 63 {
-        return Err(Fault {
-            kind: FaultKind::PastEnd,
-            at,
-        });
+        return Err(FaultKind::PastEnd.at(at));
     }
     Ok(Placed {
         place: place as u8,
@@ -75,10 +73,7 @@ fn read_dc(reader: &mut BitReader<'_>) -> Result<[i16; 64], Fault>
     let at = reader.at();
     let code = reader.bits(8)?;
     if code == 0 || code == 128 {
-        return Err(Fault {
-            kind: FaultKind::BadDc,
-            at,
-        });
+        return Err(FaultKind::BadDc.at(at));
     }
     let mut levels = [0; 64];
     levels[0] = dc_value(code);
@@ -117,6 +112,7 @@ pub fn read_intra(reader: &mut BitReader<'_>, coded: bool, out: &mut Block) -> R
     ensures exact { Gives (λ _. out.new.levels) result reader.new (reading (intra_block coded) reader.old) }
     ensures range { IfOk result (λ _. IsIntraBlock out.new) }
 {
+    in_a_syntax();
     intra_at(reader, coded, out)
 }
 
@@ -132,5 +128,6 @@ pub fn read_inter(reader: &mut BitReader<'_>, out: &mut Block) -> Result<(), Fau
     ensures exact { Gives (λ _. out.new.levels) result reader.new (reading inter_block reader.old) }
     ensures range { IfOk result (λ _. IsInterBlock out.new) }
 {
+    in_a_syntax();
     inter_at(reader, out)
 }

@@ -7,34 +7,23 @@ ghost use Rattle.code_tables.specs.Events.{coefficient_of};
 ghost use Rattle.code_tables.specs.Tables.{size_of};
 ghost use Rattle.block_layer.specs.Text.{none_left, events_of, events_text, dc_code, is_coded, levels_text, coded_text, intra_text, inter_text, IsIntraText, IsInterText};
 ghost use Rattle.block_layer.specs.Step.{AreWritten, level_at, one_event};
-ghost use Rattle.block_layer.specs.Marks.{marks_of};
 
+use code_tables::laws::in_a_syntax;
 use code_tables::{Coefficient, write_event};
 use h263_bits::BitWriter;
 use h263_types::Block;
-use std::simd::prelude::*;
 
 // The event of a level that isn't 0.
-fn event_at(levels: &[i16; 64], place: usize, run: u8, last: bool) -> Coefficient
+fn event_at(block: &Block, place: usize, run: u8, last: bool) -> Coefficient
     requires place { place < 64 }
-    requires size { size_of (level_at levels.now place) < 128 }
-    ensures { coefficient_of result ≡ one_event last run (level_at levels.now place) }
+    requires size { size_of (level_at block.now.levels place) < 128 }
+    ensures { coefficient_of result ≡ one_event last run (level_at block.now.levels place) }
 {
     Coefficient {
         last,
         run,
-        level: levels[place] as i8,
+        level: block.levels[place] as i8,
     }
-}
-
-// A bit for each level that isn't 0, the lowest for the first. All levels are compared at once.
-#[inline(always)]
-fn marks(levels: [i16; 64]) -> u64
-    ensures marks { result ≡ marks_of levels }
-    ensures whole { length levels ≡ 64 }
-{
-    let zeros = i16x64::splat(0);
-    i16x64::from_array(levels).simd_ne(zeros).to_bitmask()
 }
 
 /// Whether a block of an intra macroblock is coded: a level other than INTRADC isn't 0.
@@ -42,7 +31,7 @@ pub fn is_intra_coded(block: &Block) -> bool
     ensures coded { result ≡ is_coded block.now.levels }
     ensures whole { length block.now.levels ≡ 64 }
 {
-    marks(block.levels) >> 1 != 0
+    block.marks() >> 1 != 0
 }
 
 /// Whether a block of an inter macroblock is coded: a level isn't 0.
@@ -50,24 +39,25 @@ pub fn is_inter_coded(block: &Block) -> bool
     ensures coded { result ≡ not (none_left block.now.levels) }
     ensures whole { length block.now.levels ≡ 64 }
 {
-    marks(block.levels) != 0
+    block.marks() != 0
 }
 
 // Writes the events of the levels from a place on: one for each that isn't 0.
-fn write_levels(writer: &mut BitWriter<'_>, levels: &[i16; 64], from: usize)
+fn write_levels(writer: &mut BitWriter<'_>, block: &Block, from: usize)
     requires from { from < 64 }
-    requires levels { AreWritten from levels.now }
-    requires room { len_of writer.old + length (levels_text from levels.now) ≤ room_of writer.old }
-    ensures bits { Appends writer.old writer.new (levels_text from levels.now) }
-    ensures len { len_of writer.new ≡ len_of writer.old + length (levels_text from levels.now) }
+    requires levels { AreWritten from block.now.levels }
+    requires room { len_of writer.old + length (levels_text from block.now.levels) ≤ room_of writer.old }
+    ensures bits { Appends writer.old writer.new (levels_text from block.now.levels) }
+    ensures len { len_of writer.new ≡ len_of writer.old + length (levels_text from block.now.levels) }
+    ensures whole { length block.now.levels ≡ 64 }
 {
-    let mut left = marks(*levels) >> from;
+    let mut left = block.marks() >> from;
     let mut place = from;
     'events: while left != 0 {
         let run = left.trailing_zeros();
         place += run as usize;
         left = left >> run >> 1;
-        write_event(writer, &event_at(levels, place, run as u8, left == 0));
+        write_event(writer, &event_at(block, place, run as u8, left == 0));
         place += 1;
     }
 }
@@ -95,8 +85,9 @@ pub fn write_intra(writer: &mut BitWriter<'_>, block: &Block)
     ensures spells { IsIntraText (is_coded block.now.levels) block.now.levels (intra_text block.now.levels) }
     ensures len { len_of writer.new ≡ len_of writer.old + length (intra_text block.now.levels) }
 {
+    in_a_syntax();
     writer.put(dc_bits(block), 8);
-    write_levels(writer, &block.levels, 1);
+    write_levels(writer, block, 1);
 }
 
 /// Writes a coded block of an inter macroblock: the events of its levels, of which one at least isn't 0
@@ -111,5 +102,6 @@ pub fn write_inter(writer: &mut BitWriter<'_>, block: &Block)
     ensures spells { IsInterText block.now.levels (inter_text block.now.levels) }
     ensures len { len_of writer.new ≡ len_of writer.old + length (inter_text block.now.levels) }
 {
-    write_levels(writer, &block.levels, 0);
+    in_a_syntax();
+    write_levels(writer, block, 0);
 }

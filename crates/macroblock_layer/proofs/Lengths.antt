@@ -9,6 +9,7 @@ use Rattle.h263_types.specs.declared.vector.Vector.{Vector}
 use Rattle.h263_types.specs.declared.blocks.Block.{Block}
 use Rattle.h263_types.specs.declared.blocks.Mb.{Mb}
 use Rattle.h263_types.specs.declared.blocks.Mb.TheVariants.{Skip, Intra, Inter}
+use Rattle.h263_types.specs.Blocks.{AreWhole}
 use Rattle.h263_bits.proofs.SyntaxLaws.{and_both}
 use Rattle.code_tables.specs.declared.macroblock.MbClass.{MbClass}
 use Rattle.code_tables.specs.declared.macroblock.MbClass.TheVariants as classes
@@ -17,9 +18,10 @@ use Rattle.code_tables.specs.Words.{word, text_at}
 use Rattle.code_tables.specs.Mcbpc.{class_texts, mcbpc_text, dquant_text}
 use Rattle.code_tables.specs.Tables.{cbpy_texts, cbpy_text, magnitude_texts, mvd_text, size_of, sign_text}
 use Rattle.block_layer.specs.Text.{is_coded, intra_text, inter_text}
-use Rattle.block_layer.proofs.Lengths.{intra_short, inter_short, sign_short}
+use Rattle.block_layer.specs.Laws.{BlockLaws}
 use Rattle.macroblock_layer.specs.Text.{wrapped}
-use Rattle.macroblock_layer.specs.Written.{has_levels, cbpy_of, cbpc_of, class_of, cod_text, class_text, step_text, head_text, vector_text, blocks_text, intra_mb_text, inter_mb_text, mb_text, AreWhole, IsWhole}
+use Rattle.macroblock_layer.specs.Written.{has_levels, cbpy_of, cbpc_of, class_of, cod_text, class_text, step_text, head_text, vector_text, blocks_text, intra_mb_text, inter_mb_text, mb_text}
+use Rattle.macroblock_layer.specs.Laws.{AreShort}
 
 -- words of a table of at most so many bits
 are_within : ℕ → List (List Bool) → Bool
@@ -95,6 +97,14 @@ magnitudes_within : are_within 12 magnitude_texts ≡ true
 unfolding magnitude_texts are_within
 magnitudes_within = refl
 
+sign_short : (z : ℤ) → length (sign_text z) ≤ 1
+sign_short (negsuc n) = omega arith
+sign_short (pos n) = at (n == 0)
+  where
+    at : (t : Bool) → length (cond t [] (false ∷ [])) ≤ 1
+    at true = omega arith
+    at false = omega arith
+
 mvd_short : (z : ℤ) → length (mvd_text z) ≤ 13
 unfolding mvd_text
 mvd_short z = omega (arith, word_within 12 magnitude_texts (size_of z) magnitudes_within, sign_short z, length-append (text_at magnitude_texts (size_of z)) (sign_text z))
@@ -115,14 +125,14 @@ blocks_within text each (b ∷ blocks) all =
     let more : length (blocks_text text blocks) ≤ 1408 * length blocks = blocks_within text each blocks (λ k d lt. all (suc k) d (omega arith)) in
     omega (arith, first, more, length-append (text b.levels) (blocks_text text blocks))
 
-pub intra_blocks_short : (blocks : List Block) → AreWhole blocks → length (blocks_text intra_text blocks) ≤ 8448
-intra_blocks_short blocks whole =
-    let most : length (blocks_text intra_text blocks) ≤ 1408 * length blocks = blocks_within intra_text (λ levels long. omega (arith, intra_short levels long)) blocks whole.each in
+pub intra_blocks_short : BlockLaws → (blocks : List Block) → AreWhole blocks → length (blocks_text intra_text blocks) ≤ 8448
+intra_blocks_short of_blocks blocks whole =
+    let most : length (blocks_text intra_text blocks) ≤ 1408 * length blocks = blocks_within intra_text (λ levels long. omega (arith, of_blocks.short.intra levels long)) blocks whole.each in
     omega (arith, most, whole.count)
 
-pub inter_blocks_short : (blocks : List Block) → AreWhole blocks → length (blocks_text inter_text blocks) ≤ 8448
-inter_blocks_short blocks whole =
-    let most : length (blocks_text inter_text blocks) ≤ 1408 * length blocks = blocks_within inter_text (λ levels long. inter_short levels long) blocks whole.each in
+pub inter_blocks_short : BlockLaws → (blocks : List Block) → AreWhole blocks → length (blocks_text inter_text blocks) ≤ 8448
+inter_blocks_short of_blocks blocks whole =
+    let most : length (blocks_text inter_text blocks) ≤ 1408 * length blocks = blocks_within inter_text (λ levels long. of_blocks.short.inter levels long) blocks whole.each in
     omega (arith, most, whole.count)
 
 pub intra_mb_length : (kind : Kind) (quant new : ℕ) (blocks : List Block)
@@ -138,15 +148,15 @@ inter_mb_length quant predictor new v blocks =
     let head = head_text kinds.P quant new false (cbpy_of has_levels blocks) (cbpc_of has_levels blocks) in
     omega (arith, length-append head (vector_text predictor v ++ blocks_text inter_text blocks), length-append (vector_text predictor v) (blocks_text inter_text blocks))
 
-pub intra_mb_short : (kind : Kind) (quant new : ℕ) (blocks : List Block) → AreWhole blocks → length (intra_mb_text kind quant new blocks) ≤ 8492
-intra_mb_short kind quant new blocks whole =
-    omega (arith, intra_mb_length kind quant new blocks, head_short kind quant new true (cbpy_of is_coded blocks) (cbpc_of is_coded blocks), intra_blocks_short blocks whole)
+intra_mb_short : BlockLaws → (kind : Kind) (quant new : ℕ) (blocks : List Block) → AreWhole blocks → length (intra_mb_text kind quant new blocks) ≤ 8492
+intra_mb_short of_blocks kind quant new blocks whole =
+    omega (arith, intra_mb_length kind quant new blocks, head_short kind quant new true (cbpy_of is_coded blocks) (cbpc_of is_coded blocks), intra_blocks_short of_blocks blocks whole)
 
-pub inter_mb_short : (quant : ℕ) (predictor : Vector) (new : ℕ) (v : Vector) (blocks : List Block) → AreWhole blocks → length (inter_mb_text quant predictor new v blocks) ≤ 8492
-inter_mb_short quant predictor new v blocks whole =
-    omega (arith, inter_mb_length quant predictor new v blocks, head_short kinds.P quant new false (cbpy_of has_levels blocks) (cbpc_of has_levels blocks), vector_short predictor v, inter_blocks_short blocks whole)
+inter_mb_short : BlockLaws → (quant : ℕ) (predictor : Vector) (new : ℕ) (v : Vector) (blocks : List Block) → AreWhole blocks → length (inter_mb_text quant predictor new v blocks) ≤ 8492
+inter_mb_short of_blocks quant predictor new v blocks whole =
+    omega (arith, inter_mb_length quant predictor new v blocks, head_short kinds.P quant new false (cbpy_of has_levels blocks) (cbpc_of has_levels blocks), vector_short predictor v, inter_blocks_short of_blocks blocks whole)
 
-pub mb_short : (kind : Kind) (quant : ℕ) (predictor : Vector) (m : Mb) → IsWhole m → length (mb_text kind quant predictor m) ≤ 8492
-mb_short kind quant predictor Skip whole = omega arith
-mb_short kind quant predictor (Intra new blocks) whole = intra_mb_short kind quant new blocks whole
-mb_short kind quant predictor (Inter new v blocks) whole = inter_mb_short quant predictor new v blocks whole
+pub mb_short : BlockLaws → AreShort
+mb_short of_blocks kind quant predictor Skip whole = omega arith
+mb_short of_blocks kind quant predictor (Intra new blocks) whole = intra_mb_short of_blocks kind quant new blocks whole
+mb_short of_blocks kind quant predictor (Inter new v blocks) whole = inter_mb_short of_blocks quant predictor new v blocks whole

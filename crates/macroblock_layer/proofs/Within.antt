@@ -15,12 +15,13 @@ use Rattle.h263_types.specs.declared.blocks.Mb.TheVariants as mbs
 use Rattle.h263_types.specs.Blocks.{IsQuant, IsComponent, IsVector, IsIntraBlock, IsInterBlock, IsMb, IsOfKind}
 use Rattle.h263_bits.specs.Bits.{is_set}
 use Rattle.h263_bits.specs.Syntax.{Syntax, Turn, finally, either, Turns, Spells}
+use Rattle.h263_bits.proofs.SyntaxLaws.{stands_within}
 use Rattle.code_tables.specs.declared.macroblock.MbClass.{MbClass}
 use Rattle.code_tables.specs.declared.macroblock.MbClass.TheVariants as classes
 use Rattle.code_tables.specs.declared.macroblock.Mcbpc.{Mcbpc}
 use Rattle.code_tables.specs.declared.macroblock.Mcbpc.TheVariants.{Stuffing, Word}
 use Rattle.code_tables.specs.Mcbpc.{mcbpc, mcbpc_table, mcbpc_words, class_texts}
-use Rattle.block_layer.proofs.Ranges.{stands_within, intra_within, inter_within, no_levels_within}
+use Rattle.block_layer.specs.Laws.{BlockLaws}
 use Rattle.macroblock_layer.specs.declared.reading.Lead.{Lead}
 use Rattle.macroblock_layer.specs.declared.reading.Lead.TheVariants.{Skipped, Coded}
 use Rattle.macroblock_layer.specs.Text.{after_mcbpc, class_turn, lead_turn, lead, is_intra, limited, quantiser, wrapped, vector, intra, inter, blocks, intra_mb, inter_mb, coded_mb, behind, mb}
@@ -99,14 +100,14 @@ vector_within reach predictor v text h =
 
 -- ---- blocks
 
-intra_is : (coded : Bool) (b : Block) (text : List Bool) → Spells (intra coded) b text → IsIntraBlock b
+intra_is : BlockLaws → (coded : Bool) (b : Block) (text : List Bool) → Spells (intra coded) b text → IsIntraBlock b
 unfolding Spells intra
-intra_is coded b text h = subst (λ (x : Block). IsIntraBlock x) (sym h.6.0) (intra_within coded h.0 h.1 h.4)
+intra_is of_blocks coded b text h = subst (λ (x : Block). IsIntraBlock x) (sym h.6.0) (of_blocks.in_range.intra coded h.0 h.1 h.4)
 
-inter_is : (coded : Bool) (b : Block) (text : List Bool) → Spells (inter coded) b text → IsInterBlock b
+inter_is : BlockLaws → (coded : Bool) (b : Block) (text : List Bool) → Spells (inter coded) b text → IsInterBlock b
 unfolding Spells inter
-inter_is true b text h = subst (λ (x : Block). IsInterBlock x) (sym h.6.0) (inter_within h.0 h.1 h.4)
-inter_is false b text h = subst (λ (x : Block). IsInterBlock x) (sym h.0) no_levels_within
+inter_is of_blocks true b text h = subst (λ (x : Block). IsInterBlock x) (sym h.6.0) (of_blocks.in_range.inter h.0 h.1 h.4)
+inter_is of_blocks false b text h = subst (λ (x : Block). IsInterBlock x) (sym h.0) of_blocks.empty.in_range
 
 none_all : {X : Type 0} (P : X → Type 0) → All P []
 none_all P = λ k d lt. absurd (omega arith)
@@ -137,24 +138,24 @@ blocks_within block P each cbpy cbpc bs text h =
 
 -- ---- whole macroblocks
 
-intra_mb_within : (quant cbpy cbpc : ℕ) (m : Mb) (text : List Bool) → IsQuant quant → Spells (intra_mb quant cbpy cbpc) m text → IsMb m × IsOfKind kinds.I m
+intra_mb_within : BlockLaws → (quant cbpy cbpc : ℕ) (m : Mb) (text : List Bool) → IsQuant quant → Spells (intra_mb quant cbpy cbpc) m text → IsMb m × IsOfKind kinds.I m
 unfolding Spells intra_mb
-intra_mb_within quant cbpy cbpc m text is h =
-    subst (λ (x : Mb). IsMb x × IsOfKind kinds.I x) (sym h.6.0) (record { quant_in_range = is; each = blocks_within intra (λ b. IsIntraBlock b) intra_is cbpy cbpc h.0 h.1 h.4 }, tt)
+intra_mb_within of_blocks quant cbpy cbpc m text is h =
+    subst (λ (x : Mb). IsMb x × IsOfKind kinds.I x) (sym h.6.0) (record { quant_in_range = is; each = blocks_within intra (λ b. IsIntraBlock b) (intra_is of_blocks) cbpy cbpc h.0 h.1 h.4 }, tt)
 
-inter_mb_within : (reach : Reach) (predictor : Vector) (quant cbpy cbpc : ℕ) (m : Mb) (text : List Bool) → IsQuant quant → Spells (inter_mb reach predictor quant cbpy cbpc) m text → IsMb m
+inter_mb_within : BlockLaws → (reach : Reach) (predictor : Vector) (quant cbpy cbpc : ℕ) (m : Mb) (text : List Bool) → IsQuant quant → Spells (inter_mb reach predictor quant cbpy cbpc) m text → IsMb m
 unfolding Spells inter_mb
-inter_mb_within reach predictor quant cbpy cbpc m text is h =
+inter_mb_within of_blocks reach predictor quant cbpy cbpc m text is h =
     let more = h.6 in
     subst (λ (x : Mb). IsMb x) (sym more.6.0)
-    (record { quant_in_range = is; vector_in_range = vector_within reach predictor h.0 h.1 h.4; each = blocks_within inter (λ b. IsInterBlock b) inter_is cbpy cbpc more.0 more.1 more.4 })
+    (record { quant_in_range = is; vector_in_range = vector_within reach predictor h.0 h.1 h.4; each = blocks_within inter (λ b. IsInterBlock b) (inter_is of_blocks) cbpy cbpc more.0 more.1 more.4 })
 
-either_within : (kind : Kind) (test : Bool) (reach : Reach) (predictor : Vector) (quant cbpy cbpc : ℕ) (m : Mb) (text : List Bool) → (kind ≡ kinds.I → test ≡ true) → IsQuant quant
+either_within : BlockLaws → (kind : Kind) (test : Bool) (reach : Reach) (predictor : Vector) (quant cbpy cbpc : ℕ) (m : Mb) (text : List Bool) → (kind ≡ kinds.I → test ≡ true) → IsQuant quant
     → Spells (either test (intra_mb quant cbpy cbpc) (inter_mb reach predictor quant cbpy cbpc)) m text → IsMb m × IsOfKind kind m
-either_within kinds.I true reach predictor quant cbpy cbpc m text only is h = intra_mb_within quant cbpy cbpc m text is h
-either_within kinds.I false reach predictor quant cbpy cbpc m text only is h = let e : false ≡ true = only refl in absurd cc
-either_within kinds.P true reach predictor quant cbpy cbpc m text only is h = ((intra_mb_within quant cbpy cbpc m text is h).0, tt)
-either_within kinds.P false reach predictor quant cbpy cbpc m text only is h = (inter_mb_within reach predictor quant cbpy cbpc m text is h, tt)
+either_within of_blocks kinds.I true reach predictor quant cbpy cbpc m text only is h = intra_mb_within of_blocks quant cbpy cbpc m text is h
+either_within of_blocks kinds.I false reach predictor quant cbpy cbpc m text only is h = let e : false ≡ true = only refl in absurd cc
+either_within of_blocks kinds.P true reach predictor quant cbpy cbpc m text only is h = ((intra_mb_within of_blocks quant cbpy cbpc m text is h).0, tt)
+either_within of_blocks kinds.P false reach predictor quant cbpy cbpc m text only is h = (inter_mb_within of_blocks reach predictor quant cbpy cbpc m text is h, tt)
 
 only_intra : (kind : Kind) (class : MbClass) (cbpc : ℕ) → LeadOfKind kind (Coded class cbpc) → kind ≡ kinds.I → is_intra class ≡ true
 unfolding LeadOfKind
@@ -166,13 +167,13 @@ unfolding LeadOfKind
 skip_of kinds.I is = is
 skip_of kinds.P is = tt
 
-behind_within : (kind : Kind) (quant : ℕ) (reach : Reach) (predictor : Vector) (l : Lead) (m : Mb) (text : List Bool) → IsQuant quant → LeadOfKind kind l → Spells (behind quant reach predictor l) m text → IsMb m × IsOfKind kind m
+behind_within : BlockLaws → (kind : Kind) (quant : ℕ) (reach : Reach) (predictor : Vector) (l : Lead) (m : Mb) (text : List Bool) → IsQuant quant → LeadOfKind kind l → Spells (behind quant reach predictor l) m text → IsMb m × IsOfKind kind m
 unfolding Spells behind coded_mb
-behind_within kind quant reach predictor Skipped m text is of h = subst (λ (x : Mb). IsMb x × IsOfKind kind x) (sym h.0) (tt, skip_of kind of)
-behind_within kind quant reach predictor (Coded class cbpc) m text is of h =
+behind_within of_blocks kind quant reach predictor Skipped m text is of h = subst (λ (x : Mb). IsMb x × IsOfKind kind x) (sym h.0) (tt, skip_of kind of)
+behind_within of_blocks kind quant reach predictor (Coded class cbpc) m text is of h =
     let more = h.6 in
-    either_within kind (is_intra class) reach predictor more.0 h.0 cbpc m more.2 (only_intra kind class cbpc of) (quantiser_within class quant more.0 more.1 is more.4) more.6
+    either_within of_blocks kind (is_intra class) reach predictor more.0 h.0 cbpc m more.2 (only_intra kind class cbpc of) (quantiser_within class quant more.0 more.1 is more.4) more.6
 
-pub mb_within : (kind : Kind) (quant : ℕ) (reach : Reach) (predictor : Vector) → IsQuant quant → (m : Mb) (text : List Bool) → Spells (mb kind quant reach predictor) m text → IsMb m × IsOfKind kind m
+pub mb_within : BlockLaws → (kind : Kind) (quant : ℕ) (reach : Reach) (predictor : Vector) → IsQuant quant → (m : Mb) (text : List Bool) → Spells (mb kind quant reach predictor) m text → IsMb m × IsOfKind kind m
 unfolding Spells mb
-mb_within kind quant reach predictor is m text h = behind_within kind quant reach predictor h.0 m h.2 is (lead_within kind h.0 h.1 h.4) h.6
+mb_within of_blocks kind quant reach predictor is m text h = behind_within of_blocks kind quant reach predictor h.0 m h.2 is (lead_within kind h.0 h.1 h.4) h.6

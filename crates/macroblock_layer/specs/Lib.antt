@@ -2,3 +2,4 @@ pub mod Prediction
 pub mod Text
 pub mod Turns
 pub mod Written
+pub mod Laws

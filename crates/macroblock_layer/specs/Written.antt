@@ -104,13 +104,3 @@ abbrev pub IsReached : Reach → Mb → Type 0
 IsReached reach Skip = Unit {0}
 IsReached reach (Intra new blocks) = Unit {0}
 IsReached reach (Inter new v blocks) = IsWithin reach v.x v.y
-
--- six blocks of 64 levels
-pub record AreWhole (blocks : List Block) : Type 0 where
-  pub count : length blocks ≡ 6
-  pub each : All (λ b. length b.levels ≡ 64) blocks
-
-abbrev pub IsWhole : Mb → Type 0
-IsWhole Skip = Unit {0}
-IsWhole (Intra new blocks) = AreWhole blocks
-IsWhole (Inter new v blocks) = AreWhole blocks

@@ -10,6 +10,7 @@ ghost use Rattle.macroblock_layer.specs.Text.{class_turn, lead_turn, lead, is_in
 ghost use Rattle.macroblock_layer.specs.Turns.{turn_of};
 ghost use Rattle.macroblock_layer.specs.declared.reading.Lead.{Lead};
 
+use crate::laws;
 use block_layer::{read_inter, read_intra};
 use code_tables::{MbClass, Mcbpc, read_cbpy, read_dquant, read_mcbpc, read_mvd};
 use h263_bits::{BitReader, Fault, FaultKind};
@@ -33,10 +34,7 @@ fn read_class_turn(reader: &mut BitReader<'_>, kind: Kind) -> Result<Option<Lead
         Mcbpc::Word {
             class: MbClass::Inter4,
             ..
-        } => Err(Fault {
-            kind: FaultKind::FourVectors,
-            at,
-        }),
+        } => Err(FaultKind::FourVectors.at(at)),
         Mcbpc::Word { class, cbpc } => Ok(Some(Lead::Coded { class, cbpc })),
     }
 }
@@ -129,10 +127,7 @@ fn read_vector(reader: &mut BitReader<'_>, reach: Reach, predictor: Vector) -> R
     let difference = read_difference(reader)?;
     let vector = moved(predictor, difference);
     if !is_within(reach, vector) {
-        return Err(Fault {
-            kind: FaultKind::BadVector,
-            at,
-        });
+        return Err(FaultKind::BadVector.at(at));
     }
     Ok(vector)
 }
@@ -337,5 +332,7 @@ pub fn read_mb(
     ensures exact { Gives (λ _. out.new) result reader.new (reading (mb kind quant reach predictor) reader.old) }
     ensures range { IsQuant quant → IfOk result (λ _. IsMb out.new × IsOfKind kind out.new) }
 {
+    block_layer::laws::in_a_syntax();
+    laws::in_a_syntax();
     mb_at(reader, kind, quant, predictor, reach, out)
 }

@@ -4,15 +4,16 @@ ghost use Rattle.h263_bits.specs.Written.{Appends, len_of, room_of};
 ghost use Rattle.h263_types.specs.declared.Kind.TheVariants as kinds;
 ghost use Rattle.h263_types.specs.declared.vector.Reach.{Reach};
 ghost use Rattle.h263_types.specs.declared.blocks.Block.{Block};
-ghost use Rattle.h263_types.specs.Blocks.{IsQuant, IsVector, IsIntraBlock, IsInterBlock, IsIntraMb, IsInterMb, IsMb, IsOfKind};
+ghost use Rattle.h263_types.specs.Blocks.{IsQuant, IsVector, IsIntraBlock, IsInterBlock, IsIntraMb, IsInterMb, IsMb, IsOfKind, AreWhole};
 ghost use Rattle.code_tables.specs.declared.macroblock.MbClass.{MbClass};
 ghost use Rattle.code_tables.specs.declared.macroblock.Mcbpc.TheVariants.{Word};
 ghost use Rattle.code_tables.specs.Mcbpc.{IsInTable};
 ghost use Rattle.code_tables.specs.Tables.{bit_of, cbpy_text};
 ghost use Rattle.block_layer.specs.Text.{none_left, is_coded, intra_text, inter_text};
 ghost use Rattle.macroblock_layer.specs.Text.{wrapped, IsMbText};
-ghost use Rattle.macroblock_layer.specs.Written.{levels_at, has_levels, cbpy_of, cbpc_of, class_of, cod_text, class_text, step_text, head_text, vector_text, blocks_text, intra_mb_text, inter_mb_text, mb_text, IsNear, IsStepped, IsReached, AreWhole};
+ghost use Rattle.macroblock_layer.specs.Written.{levels_at, has_levels, cbpy_of, cbpc_of, class_of, cod_text, class_text, step_text, head_text, vector_text, blocks_text, intra_mb_text, inter_mb_text, mb_text, IsNear, IsStepped, IsReached};
 
+use crate::laws;
 use crate::reading::wrapped;
 use block_layer::{is_inter_coded, is_intra_coded, write_inter, write_intra};
 use code_tables::{MbClass, Mcbpc, write_cbpy, write_dquant, write_mcbpc, write_mvd};
@@ -196,6 +197,7 @@ fn write_inter_block(writer: &mut BitWriter<'_>, block: &Block)
     ensures bits { Appends writer.old writer.new (inter_text block.now.levels) }
     ensures len { len_of writer.new ≡ len_of writer.old + length (inter_text block.now.levels) }
 {
+    block_layer::laws::in_a_syntax();
     if is_inter_coded(block) {
         write_inter(writer, block);
     }
@@ -223,6 +225,7 @@ fn write_intra_mb(writer: &mut BitWriter<'_>, kind: Kind, quant: u8, new: u8, bl
     ensures len { len_of writer.new ≡ len_of writer.old + length (intra_mb_text kind quant new blocks.now) }
     ensures whole { AreWhole blocks.now }
 {
+    block_layer::laws::in_a_syntax();
     let pattern = intra_pattern(blocks);
     write_head(writer, kind, quant, new, true, pattern);
     write_intra_blocks(writer, blocks);
@@ -245,6 +248,7 @@ fn write_inter_mb(
     ensures len { len_of writer.new ≡ len_of writer.old + length (inter_mb_text quant predictor new vector blocks.now) }
     ensures whole { AreWhole blocks.now }
 {
+    block_layer::laws::in_a_syntax();
     let pattern = inter_pattern(blocks);
     write_head(writer, Kind::P, quant, new, false, pattern);
     write_vector(writer, predictor, vector);
@@ -265,6 +269,7 @@ pub fn write_mb(writer: &mut BitWriter<'_>, kind: Kind, quant: u8, predictor: Ve
     // It is a text of the macroblock, where its vector, if it has one, is in reach.
     ensures spells { (reach : Reach) → IsReached reach mb.now → IsMbText kind quant reach predictor mb.now (mb_text kind quant predictor mb.now) }
 {
+    laws::in_a_syntax();
     match mb {
         Mb::Skip => writer.put(1, 1),
         Mb::Intra { quant: new, blocks } => write_intra_mb(writer, kind, quant, *new, blocks),

@@ -1,11 +1,15 @@
 use Rattle.std.proofs.Common.{◌≡◌, Bool, List, length, ap, subst, arith}
 use Rattle.h263_bits.specs.Bits.{spelled}
 use Rattle.h263_bits.specs.Written.{Appends}
-use Rattle.code_tables.proofs.Texts.{appends_both}
+use Rattle.h263_bits.proofs.SyntaxLaws.{appends_both}
 use Rattle.block_layer.specs.Text.{levels_text}
+use Rattle.block_layer.specs.Step.{level_at}
 use Rattle.block_layer.proofs.Steps.{intra_length, intra_is, coded_is}
-use Rattle.block_layer.proofs.Spelt.{intra_written}
+use Rattle.block_layer.proofs.Spelt.{size_is, intra_written}
 use Rattle.block_layer.proofs.writing.write_intra.Goals as goal
+
+pub write_levels-requires-clause-levels : goal.write_levels-requires-clause-levels
+write_levels-requires-clause-levels c = record { sizes = λ k after inside. size_is (level_at c.args.block.now.levels k) (c.requires.block.levels k after inside) }
 
 pub put-requires-clause-room : goal.put-requires-clause-room
 put-requires-clause-room c = omega (arith, intra_length c.args.block.now.levels)
@@ -29,4 +33,4 @@ returns-clause-len c =
 pub returns-clause-spells : goal.returns-clause-spells
 returns-clause-spells c =
     let long : length c.args.block.now.levels ≡ 64 = omega arith in
-    intra_written c.args.block.now long c.requires.block
+    intra_written c.in_a_syntax.ensures c.args.block.now long c.requires.block

@@ -3,7 +3,7 @@ use lib.Count.{count_trailing_zeros}
 use Rattle.h263_bits.specs.Written.{written}
 use Rattle.code_tables.specs.Tables.{IsEvent}
 use Rattle.block_layer.specs.Step.{level_at}
-use Rattle.block_layer.proofs.Steps.{left_text, none_text, ended, text_is, size_at}
+use Rattle.block_layer.proofs.Steps.{left_text, none_text, ended, text_is}
 use Rattle.block_layer.proofs.Written.{some_size}
 use Rattle.block_layer.proofs.Marks.{behind, next, goes, none_next}
 use Rattle.block_layer.proofs.writing.write_levels.Goals as goal
@@ -12,9 +12,9 @@ pub events-init : goal.events-init
 events-init c = record {
   buffer = refl;
   room = refl;
-  text = ap (λ (l : List Bool). written c.args.writer.now ++ l) (text_is c.args.from c.args.levels.now);
-  len = ap (λ (l : List Bool). c.args.writer.now.len + length l) (text_is c.args.from c.args.levels.now);
-  marked = ap (λ n. n / 2 ^ c.args.from) c.marks.ensures.marks ∙ behind c.args.from c.args.levels.now;
+  text = ap (λ (l : List Bool). written c.args.writer.now ++ l) (text_is c.args.from c.args.block.now.levels);
+  len = ap (λ (l : List Bool). c.args.writer.now.len + length l) (text_is c.args.from c.args.block.now.levels);
+  marked = ap (λ n. n / 2 ^ c.args.from) c.marks.ensures.marks ∙ behind c.args.from c.args.block.now.levels;
   since = omega arith;
   within = omega arith;
 }
@@ -22,27 +22,30 @@ events-init c = record {
 pub event_at-requires-clause-place : goal.event_at-requires-clause-place
 event_at-requires-clause-place c =
     let e = c.events in
-    (next e.place (count_trailing_zeros 64 e.left) e.left c.args.levels.now c.marks.ensures.whole e.invariant.marked c.events-test.true refl).inside
+    (next e.place (count_trailing_zeros 64 e.left) e.left c.args.block.now.levels c.marks.ensures.whole e.invariant.marked c.events-test.true refl).inside
 
 pub event_at-requires-clause-size : goal.event_at-requires-clause-size
-event_at-requires-clause-size c = size_at c.args.from (c.events.place + count_trailing_zeros 64 c.events.left) c.args.levels.now c.requires.levels (omega arith)
+event_at-requires-clause-size c =
+    let e = c.events in
+    let n = next e.place (count_trailing_zeros 64 e.left) e.left c.args.block.now.levels c.marks.ensures.whole e.invariant.marked c.events-test.true refl in
+    c.requires.levels.sizes (e.place + count_trailing_zeros 64 e.left) (omega arith) (omega (arith, n.inside))
 
 pub write_event-requires-clause-event : goal.write_event-requires-clause-event
 write_event-requires-clause-event c =
     let e = c.events in
-    let levels = c.args.levels.now in
+    let levels = c.args.block.now.levels in
     let run = count_trailing_zeros 64 e.left in
     let n = next e.place run e.left levels c.marks.ensures.whole e.invariant.marked c.events-test.true refl in
     subst IsEvent (sym c.event_at.ensures) (record {
       run = omega (arith, n.inside);
       some = some_size (level_at levels (e.place + run)) n.some;
-      level = size_at c.args.from (e.place + run) levels c.requires.levels (omega arith);
+      level = c.requires.levels.sizes (e.place + run) (omega arith) (omega (arith, n.inside));
     })
 
 pub write_event-requires-clause-room : goal.write_event-requires-clause-room
 write_event-requires-clause-room c =
     let e = c.events in
-    let levels = c.args.levels.now in
+    let levels = c.args.block.now.levels in
     let run = count_trailing_zeros 64 e.left in
     let n = next e.place run e.left levels c.marks.ensures.whole e.invariant.marked c.events-test.true refl in
     rw c.event_at.ensures (omega (arith, n.length))
@@ -50,7 +53,7 @@ write_event-requires-clause-room c =
 pub events-preserved : goal.events-preserved
 events-preserved c =
     let e = c.events in
-    let levels = c.args.levels.now in
+    let levels = c.args.block.now.levels in
     let run = count_trailing_zeros 64 e.left in
     let n = next e.place run e.left levels c.marks.ensures.whole e.invariant.marked c.events-test.true refl in
     let bits = c.write_event.ensures.bits in
@@ -68,16 +71,16 @@ events-preserved c =
 pub returns-clause-bits : goal.returns-clause-bits
 returns-clause-bits c =
     let e = c.events in
-    let none = none_next e.place e.left c.args.levels.now e.invariant.marked c.events-test.false in
+    let none = none_next e.place e.left c.args.block.now.levels e.invariant.marked c.events-test.false in
     record {
       buffer = e.invariant.buffer;
       room = e.invariant.room;
-      text = ended 0 e.place c.args.levels.now (written e.writer) _ none e.invariant.text;
+      text = ended 0 e.place c.args.block.now.levels (written e.writer) _ none e.invariant.text;
     }
 
 pub returns-clause-len : goal.returns-clause-len
 returns-clause-len c =
     let e = c.events in
-    let none = none_next e.place e.left c.args.levels.now e.invariant.marked c.events-test.false in
-    let nothing : length (left_text 0 e.place c.args.levels.now) ≡ 0 = ap length (none_text 0 e.place c.args.levels.now none) in
+    let none = none_next e.place e.left c.args.block.now.levels e.invariant.marked c.events-test.false in
+    let nothing : length (left_text 0 e.place c.args.block.now.levels) ≡ 0 = ap length (none_text 0 e.place c.args.block.now.levels none) in
     omega (arith, nothing)

@@ -2,4 +2,4 @@ use Rattle.macroblock_layer.proofs.Lengths.{mb_short}
 use Rattle.macroblock_layer.proofs.laws.longest_text.Goals as goal
 
 pub returns : goal.returns
-returns c = λ kind quant predictor m whole. mb_short kind quant predictor m whole
+returns c = mb_short c.in_a_syntax.ensures

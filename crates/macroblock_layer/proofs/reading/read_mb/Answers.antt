@@ -1,10 +1,8 @@
 use Rattle.h263_bits.specs.Syntax.{reading}
-use Rattle.h263_bits.proofs.SyntaxLaws.{reads_texts, texts_read, reads_fault}
+use Rattle.h263_bits.proofs.SyntaxLaws.{reads_texts, texts_read, reads_within, reads_fault}
 use Rattle.h263_types.specs.declared.blocks.Mb.{Mb}
 use Rattle.h263_types.specs.Blocks.{IsMb, IsOfKind}
-use Rattle.block_layer.proofs.Ranges.{reads_within}
 use Rattle.macroblock_layer.specs.Text.{mb}
-use Rattle.macroblock_layer.proofs.Productive.{mb_productive}
 use Rattle.macroblock_layer.proofs.Within.{mb_within}
 use Rattle.macroblock_layer.proofs.reading.read_mb.Goals as goal
 
@@ -16,7 +14,7 @@ returns-clause-found c =
 pub returns-clause-only : goal.returns-clause-only
 returns-clause-only c = λ m text rest spelt parts.
     let a = c.args in
-    texts_read (λ u. c.mb_at.new.out) (mb a.kind a.quant a.reach a.predictor) c.mb_at.result a.reader.now c.mb_at.new.reader (mb_productive a.kind a.quant a.reach a.predictor) c.mb_at.ensures m text rest spelt parts
+    texts_read (λ u. c.mb_at.new.out) (mb a.kind a.quant a.reach a.predictor) c.mb_at.result a.reader.now c.mb_at.new.reader (c.in_a_syntax-2.ensures.productive a.kind a.quant a.reach a.predictor) c.mb_at.ensures m text rest spelt parts
 
 pub returns-clause-fault : goal.returns-clause-fault
 returns-clause-fault c =
@@ -26,4 +24,4 @@ returns-clause-fault c =
 pub returns-clause-range : goal.returns-clause-range
 returns-clause-range c = λ is.
     let a = c.args in
-    reads_within (λ u. c.mb_at.new.out) (mb a.kind a.quant a.reach a.predictor) c.mb_at.result a.reader.now c.mb_at.new.reader (λ (m : Mb). IsMb m × IsOfKind a.kind m) c.mb_at.ensures (mb_within a.kind a.quant a.reach a.predictor is)
+    reads_within (λ u. c.mb_at.new.out) (mb a.kind a.quant a.reach a.predictor) c.mb_at.result a.reader.now c.mb_at.new.reader (λ (m : Mb). IsMb m × IsOfKind a.kind m) c.mb_at.ensures (mb_within c.in_a_syntax.ensures a.kind a.quant a.reach a.predictor is)

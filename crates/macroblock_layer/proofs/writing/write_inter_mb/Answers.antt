@@ -17,7 +17,7 @@ write_vector-requires c =
 pub write_inter_blocks-requires-clause-room : goal.write_inter_blocks-requires-clause-room
 write_inter_blocks-requires-clause-room c =
     let p = c.inter_pattern-pattern.result in
-    omega (arith, head_short kinds.P c.args.quant c.args.new false p.cbpy p.cbpc, vector_short c.args.predictor c.args.vector, inter_blocks_short c.args.blocks.now c.inter_pattern-pattern.ensures.whole, c.write_head.ensures.bits.room, c.write_vector.ensures.bits.room)
+    omega (arith, head_short kinds.P c.args.quant c.args.new false p.cbpy p.cbpc, vector_short c.args.predictor c.args.vector, inter_blocks_short c.in_a_syntax.ensures c.args.blocks.now c.inter_pattern-pattern.ensures.whole, c.write_head.ensures.bits.room, c.write_vector.ensures.bits.room)
 
 pub returns-clause-len : goal.returns-clause-len
 returns-clause-len c =

@@ -2,9 +2,8 @@ use Rattle.std.proofs.Common.{sym, subst}
 use Rattle.h263_bits.specs.Bits.{spelled}
 use Rattle.h263_bits.specs.Written.{Appends}
 use Rattle.h263_types.specs.declared.blocks.Mb.{Mb}
-use Rattle.macroblock_layer.specs.Written.{mb_text, IsWhole}
-use Rattle.macroblock_layer.proofs.Lengths.{mb_short}
-use Rattle.macroblock_layer.proofs.Spelt.{mb_written}
+use Rattle.h263_types.specs.Blocks.{IsWhole}
+use Rattle.macroblock_layer.specs.Written.{mb_text}
 use Rattle.macroblock_layer.proofs.writing.write_mb.Goals as goal
 
 pub returns-in-Skip-clause-bits : goal.returns-in-Skip-clause-bits
@@ -17,28 +16,28 @@ pub returns-in-Skip-clause-spells : goal.returns-in-Skip-clause-spells
 returns-in-Skip-clause-spells c = λ reach within.
     let a = c.args in
     let whole : IsWhole a.mb.now = subst (λ (m : Mb). IsWhole m) (sym c.in-Skip.is) tt in
-    mb_written a.kind a.quant reach a.predictor a.mb.now c.requires.mb c.requires.kind c.requires.step whole within
+    c.in_a_syntax.ensures.spelt a.kind a.quant reach a.predictor a.mb.now c.requires.mb c.requires.kind c.requires.step whole within
 
 pub returns-in-Intra-clause-short : goal.returns-in-Intra-clause-short
 returns-in-Intra-clause-short c =
     let a = c.args in
     let whole : IsWhole a.mb.now = subst (λ (m : Mb). IsWhole m) (sym c.in-Intra.is) c.write_intra_mb.ensures.whole in
-    mb_short a.kind a.quant a.predictor a.mb.now whole
+    c.in_a_syntax.ensures.short a.kind a.quant a.predictor a.mb.now whole
 
 pub returns-in-Intra-clause-spells : goal.returns-in-Intra-clause-spells
 returns-in-Intra-clause-spells c = λ reach within.
     let a = c.args in
     let whole : IsWhole a.mb.now = subst (λ (m : Mb). IsWhole m) (sym c.in-Intra.is) c.write_intra_mb.ensures.whole in
-    mb_written a.kind a.quant reach a.predictor a.mb.now c.requires.mb c.requires.kind c.requires.step whole within
+    c.in_a_syntax.ensures.spelt a.kind a.quant reach a.predictor a.mb.now c.requires.mb c.requires.kind c.requires.step whole within
 
 pub returns-in-Inter-clause-short : goal.returns-in-Inter-clause-short
 returns-in-Inter-clause-short c =
     let a = c.args in
     let whole : IsWhole a.mb.now = subst (λ (m : Mb). IsWhole m) (sym c.in-Inter.is) c.write_inter_mb.ensures.whole in
-    mb_short a.kind a.quant a.predictor a.mb.now whole
+    c.in_a_syntax.ensures.short a.kind a.quant a.predictor a.mb.now whole
 
 pub returns-in-Inter-clause-spells : goal.returns-in-Inter-clause-spells
 returns-in-Inter-clause-spells c = λ reach within.
     let a = c.args in
     let whole : IsWhole a.mb.now = subst (λ (m : Mb). IsWhole m) (sym c.in-Inter.is) c.write_inter_mb.ensures.whole in
-    mb_written a.kind a.quant reach a.predictor a.mb.now c.requires.mb c.requires.kind c.requires.step whole within
+    c.in_a_syntax.ensures.spelt a.kind a.quant reach a.predictor a.mb.now c.requires.mb c.requires.kind c.requires.step whole within

@@ -4,8 +4,8 @@ use Rattle.std.specs.Int.{w8}
 use mir.Val.{to_z, of_z}
 use Rattle.std.proofs.lemmas.Int.{to_z-of_z}
 use Rattle.h263_bits.specs.Written.{Appends}
+use Rattle.h263_bits.proofs.SyntaxLaws.{appends_both}
 use Rattle.code_tables.specs.Tables.{mvd_text}
-use Rattle.code_tables.proofs.Texts.{appends_both}
 use Rattle.macroblock_layer.specs.Text.{wrapped}
 use Rattle.macroblock_layer.specs.Written.{vector_text}
 use Rattle.macroblock_layer.proofs.Ranges.{component_fits}
