@@ -4,14 +4,16 @@ use Rattle.std.proofs.lemmas.List.{length-append, append-nil, map-append}
 use Rattle.std.proofs.lemmas.Bool.{lt-ltb, le-ltb}
 use Rattle.h263_types.specs.declared.vector.Vector.{Vector}
 use Rattle.h263_types.specs.declared.blocks.Mb.{Mb}
+use Rattle.h263_types.specs.Blocks.{IsWhole}
 use Rattle.h263_bits.specs.Written.{to_byte}
 use Rattle.picture_header.specs.declared.header.Header.{Header}
 use Rattle.macroblock_layer.specs.Prediction.{no_vector}
 use Rattle.picture_header.specs.Laws.{HeaderLaws}
 use Rattle.picture_header.specs.Ranges.{IsHeader}
-use Rattle.macroblock_layer.specs.Written.{mb_text, IsWhole}
-use Rattle.macroblock_layer.proofs.Lengths.{mb_short}
-use Rattle.slice_layer.proofs.Openings.{opening_short}
+use Rattle.macroblock_layer.specs.Written.{mb_text}
+use Rattle.macroblock_layer.specs.Laws.{MbLaws}
+use Rattle.slice_layer.specs.Laws.{AreShort}
+use Rattle.slice_layer.proofs.Openings.{length-begins, length-later, opening_short}
 use Rattle.slice_layer.specs.Around.{Around, around, vector_of, vectors_of, next_predictor, quant_after}
 use Rattle.slice_layer.specs.Written.{opening_text, mbs_text, slice_text, bytes_of, quant_behind}
 use Rattle.slice_layer.specs.declared.writing.Added.TheVariants.{Fits, Full}
@@ -72,8 +74,8 @@ pub answer_full : (room : ℕ) (text : List Bool) → 8 * room < length text →
 answer_full room text h = rw (lt-ltb room (bytes_of text) (bytes_past room text h)) refl
 
 -- a slice of one macroblock
-pub one_short : HeaderLaws → (h : Header) (begins : Bool) (first : ℕ) (m : Mb) → IsHeader h → IsWhole m → bytes_of (slice_text h begins first (m ∷ [])) ≤ 1095
-one_short laws h begins first m is whole =
+one_short : HeaderLaws → MbLaws → (h : Header) (begins : Bool) (first : ℕ) (m : Mb) → IsHeader h → IsWhole m → bytes_of (slice_text h begins first (m ∷ [])) ≤ 1095
+one_short laws of_mbs h begins first m is whole =
     let bits : length (slice_text h begins first (m ∷ [])) ≤ 8754 =
     omega (
       arith,
@@ -81,6 +83,9 @@ one_short laws h begins first m is whole =
       length-append (slice_text h begins first []) (next_text h first [] m),
       ap length (no_text h begins first),
       opening_short laws h begins first is,
-      mb_short h.kind (quant_behind h.quant []) (next_predictor h.format first []) m whole,
+      of_mbs.short h.kind (quant_behind h.quant []) (next_predictor h.format first []) m whole,
     ) in
     bytes_within 1095 (slice_text h begins first (m ∷ [])) (omega (arith, bits))
+
+pub are_short : HeaderLaws → MbLaws → AreShort
+are_short laws of_mbs = record { begins = length-begins laws; later = length-later; opening = opening_short laws; one = one_short laws of_mbs }

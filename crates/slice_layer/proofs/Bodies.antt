@@ -11,10 +11,11 @@ use Rattle.h263_bits.specs.Reading.{Bits, first_fault, ◌>>=◌}
 use Rattle.h263_bits.specs.Syntax.{reading}
 use Rattle.h263_bits.proofs.SyntaxLaws.{bind_ok, ok_is, err_not_ok, sound, complete}
 use Rattle.picture_header.specs.declared.header.Header.{Header}
-use Rattle.macroblock_layer.proofs.Productive.{mb_productive}
+use Rattle.macroblock_layer.specs.Laws.{MbLaws}
 use Rattle.slice_layer.specs.Around.{Around, around, quant_after, next_mb}
 use Rattle.slice_layer.specs.Head.{head}
 use Rattle.slice_layer.specs.Text.{is_padding, AreTexts, IsSliceText, stops, mbs_at, numbered, body_at, slice_at, slice_fault}
+use Rattle.slice_layer.specs.Laws.{AreRead}
 use Rattle.slice_layer.specs.Filled.{Fills, IsSliceIn, mbs_from}
 use Rattle.slice_layer.proofs.Heads.{head_productive}
 use Rattle.slice_layer.proofs.Marked.{mb_marked}
@@ -71,10 +72,10 @@ mbs_sound a (suc room) quant before mbs b e = at_end (is_padding b.bits) refl e 
           some = r.some;
         }
 
-mbs_complete : (a : Around) (new : List Mb) (room quant at : ℕ) (before : List Mb) (text padding : List Bool) → length new ≤ room → 0 < length (before ++ new) → is_padding padding ≡ true → AreTexts a quant before new text
+mbs_complete : MbLaws → (a : Around) (new : List Mb) (room quant at : ℕ) (before : List Mb) (text padding : List Bool) → length new ≤ room → 0 < length (before ++ new) → is_padding padding ≡ true → AreTexts a quant before new text
     → mbs_at a room quant before (record { at = at; bits = text ++ padding }) ≡ Ok (before ++ new)
 unfolding mbs_at AreTexts
-mbs_complete a [] room quant at before text padding le some z h = rw h (at_room room before (append-nil before) some)
+mbs_complete laws a [] room quant at before text padding le some z h = rw h (at_room room before (append-nil before) some)
   where
     at_stop : (l : List Mb) → l ++ [] ≡ l → 0 < length (l ++ []) → stops l (record { at = at; bits = padding }) ≡ Ok (l ++ [])
     at_stop [] e some = absurd (omega arith)
@@ -83,16 +84,16 @@ mbs_complete a [] room quant at before text padding le some z h = rw h (at_room 
     at_room : (room : ℕ) (l : List Mb) → l ++ [] ≡ l → 0 < length (l ++ []) → mbs_at a room quant l (record { at = at; bits = padding }) ≡ Ok (l ++ [])
     at_room zero l e some = rw z (at_stop l e some)
     at_room (suc room) l e some = rw z (at_stop l e some)
-mbs_complete a (m ∷ new) zero quant at before text padding le some z h = absurd (omega arith)
-mbs_complete a (m ∷ new) (suc room) quant at before text padding le some z h =
+mbs_complete laws a (m ∷ new) zero quant at before text padding le some z h = absurd (omega arith)
+mbs_complete laws a (m ∷ new) (suc room) quant at before text padding le some z h =
     let front = h.0 in
     let tail = h.1 in
     let reach = a.reaches (a.first + length before) in
     let e : text ++ padding ≡ front ++ (tail ++ padding) = ap (λ (x : List Bool). x ++ padding) h.2 ∙ append_assoc front tail padding in
     let marked = mb_marked a.kind quant reach (a.predictor before) m front (tail ++ padding) h.3 in
-    let one = complete (next_mb a quant before) m front (tail ++ padding) at (mb_productive a.kind quant reach (a.predictor before)) h.3 in
+    let one = complete (next_mb a quant before) m front (tail ++ padding) at (laws.productive a.kind quant reach (a.predictor before)) h.3 in
     let all : (before ++ m ∷ []) ++ new ≡ before ++ (m ∷ new) = append_assoc before (m ∷ []) new in
-    let more = mbs_complete a new room (quant_after quant m) (at + length front) (before ++ m ∷ []) tail padding (omega (arith, le)) (omega (arith, length-append (before ++ m ∷ []) new, length-append before (m ∷ []))) z h.4 in
+    let more = mbs_complete laws a new room (quant_after quant m) (at + length front) (before ++ m ∷ []) tail padding (omega (arith, le)) (omega (arith, length-append (before ++ m ∷ []) new, length-append before (m ∷ []))) z h.4 in
     rw (e, marked, one, more) (ap Ok all)
 
 -- ---- a whole slice
@@ -102,7 +103,7 @@ numbered_ok first n mbs (Ok found) e = let f = ok_is (n, found) (first, mbs) e i
 numbered_ok first n mbs (Err fault) e = absurd cc
 
 -- what is read is a text
-pub slice_sound : (h : Header) (begins : Bool) (first : ℕ) (mbs : List Mb) (b : Bits) → slice_at h begins b ≡ Ok (first, mbs) → IsSliceText h begins first mbs b.bits
+slice_sound : (h : Header) (begins : Bool) (first : ℕ) (mbs : List Mb) (b : Bits) → slice_at h begins b ≡ Ok (first, mbs) → IsSliceText h begins first mbs b.bits
 unfolding slice_at
 slice_sound h begins first mbs b e =
     let one = bind_ok (reading (head h begins) b) (λ x. body_at h x.0.0 x.0.1 x.1) (first, mbs) e in
@@ -131,16 +132,19 @@ slice_sound h begins first mbs b e =
     subst (λ (k : ℕ). IsSliceText h begins k mbs b.bits) r.0 whole
 
 -- a text is read
-pub slice_complete : (h : Header) (begins : Bool) (first : ℕ) (mbs : List Mb) (b : Bits) → IsSliceText h begins first mbs b.bits → slice_at h begins b ≡ Ok (first, mbs)
+pub slice_complete : MbLaws → (h : Header) (begins : Bool) (first : ℕ) (mbs : List Mb) (b : Bits) → IsSliceText h begins first mbs b.bits → slice_at h begins b ≡ Ok (first, mbs)
 unfolding slice_at
-slice_complete h begins first mbs b is =
+slice_complete laws h begins first mbs b is =
     let one = complete (head h begins) (first, is.quant) is.front is.behind b.at (head_productive h begins) is.opened in
     let opened : reading (head h begins) b ≡ Ok ((first, is.quant), record { at = b.at + length is.front; bits = is.behind }) = ap (λ (t : List Bool). reading (head h begins) (record { at = b.at; bits = t })) is.parts ∙ one in
     let body = is.body in
-    let all = mbs_complete (around h first) mbs (mbs_of h.format - first) is.quant (b.at + length is.front) [] body.text body.padding body.within body.some body.zeros body.each in
+    let all = mbs_complete laws (around h first) mbs (mbs_of h.format - first) is.quant (b.at + length is.front) [] body.text body.padding body.within body.some body.zeros body.each in
     let found : mbs_at (around h first) (mbs_of h.format - first) is.quant [] (record { at = b.at + length is.front; bits = is.behind }) ≡ Ok mbs =
     ap (λ (t : List Bool). mbs_at (around h first) (mbs_of h.format - first) is.quant [] (record { at = b.at + length is.front; bits = t })) body.whole ∙ all in
     rw (opened, found) refl
+
+pub are_read : MbLaws → AreRead
+are_read laws = λ h begins first mbs b. (slice_sound h begins first mbs b, slice_complete laws h begins first mbs b)
 
 -- ---- in the picture's macroblocks
 
@@ -149,14 +153,14 @@ pub fills_texts : (r : Result SliceHead Fault) (out : List Mb) (h : Header) (beg
 fills_texts (Ok slice) out h begins b g = slice_sound h begins slice.first (mbs_from slice.first slice.count out) b g
 fills_texts (Err fault) out h begins b g = tt
 
-pub texts_fill : (r : Result SliceHead Fault) (out : List Mb) (h : Header) (begins : Bool) (b : Bits) → IfOk r (IsSliceIn h out) → length out ≡ mbs_of h.format → Fills r out (slice_at h begins b)
+pub texts_fill : MbLaws → (r : Result SliceHead Fault) (out : List Mb) (h : Header) (begins : Bool) (b : Bits) → IfOk r (IsSliceIn h out) → length out ≡ mbs_of h.format → Fills r out (slice_at h begins b)
     → (first : ℕ) (mbs : List Mb) → IsSliceText h begins first mbs b.bits → IsOkAnd r (λ head. (head.first ≡ first) × (head.count ≡ length mbs) × (mbs_from head.first head.count out ≡ mbs))
-texts_fill (Ok slice) out h begins b range size g first mbs is =
-    let f = ok_is (slice.first, mbs_from slice.first slice.count out) (first, mbs) (sym g ∙ slice_complete h begins first mbs b is) in
+texts_fill laws (Ok slice) out h begins b range size g first mbs is =
+    let f = ok_is (slice.first, mbs_from slice.first slice.count out) (first, mbs) (sym g ∙ slice_complete laws h begins first mbs b is) in
     let same : mbs_from slice.first slice.count out ≡ mbs = ap (λ (p : ℕ × List Mb). p.1) f in
     let long : length (mbs_from slice.first slice.count out) ≡ slice.count = length-take-le slice.count (drop slice.first out) (omega (arith, length-drop slice.first out, range.head.within)) in
     (ap (λ (p : ℕ × List Mb). p.0) f, sym long ∙ ap length same, same)
-texts_fill (Err fault) out h begins b range size g first mbs is = err_not_ok fault (first, mbs) (sym g ∙ slice_complete h begins first mbs b is)
+texts_fill laws (Err fault) out h begins b range size g first mbs is = err_not_ok fault (first, mbs) (sym g ∙ slice_complete laws h begins first mbs b is)
 
 -- ---- laws
 
@@ -167,8 +171,8 @@ no_fault h begins b e = at (slice_at h begins b) refl e
     at (Ok (first, mbs)) is e = (first, mbs, slice_sound h begins first mbs b is)
     at (Err fault) is e = absurd cc
 
-pub one_slice : (h : Header) (begins : Bool) (first other : ℕ) (mbs others : List Mb) (bits : List Bool) → IsSliceText h begins first mbs bits → IsSliceText h begins other others bits → (first ≡ other) × (mbs ≡ others)
-one_slice h begins first other mbs others bits p q =
+pub one_slice : MbLaws → (h : Header) (begins : Bool) (first other : ℕ) (mbs others : List Mb) (bits : List Bool) → IsSliceText h begins first mbs bits → IsSliceText h begins other others bits → (first ≡ other) × (mbs ≡ others)
+one_slice laws h begins first other mbs others bits p q =
     let b : Bits = record { at = 0; bits = bits } in
-    let f = ok_is (first, mbs) (other, others) (sym (slice_complete h begins first mbs b p) ∙ slice_complete h begins other others b q) in
+    let f = ok_is (first, mbs) (other, others) (sym (slice_complete laws h begins first mbs b p) ∙ slice_complete laws h begins other others b q) in
     (ap (λ (x : ℕ × List Mb). x.0) f, ap (λ (x : ℕ × List Mb). x.1) f)

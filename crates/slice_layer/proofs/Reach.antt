@@ -9,6 +9,7 @@ use Rattle.h263_types.specs.declared.vector.Reach.{Reach}
 use Rattle.h263_types.specs.Sizes.{width_of, height_of, columns_of, mbs_of}
 use Rattle.h263_types.specs.Vectors.{InSide, InReach, IsWithin}
 use Rattle.slice_layer.specs.Around.{least, most, reach_of}
+use Rattle.slice_layer.specs.Laws.{AreReached}
 
 -- ---- one component
 
@@ -71,7 +72,7 @@ along_fits SubQcif k lt = omega arith
 along_fits Qcif k lt = omega arith
 along_fits Cif k lt = omega arith
 
-pub reach_within : (f : Format) (k : ℕ) (x y : ℤ) → k < mbs_of f → InReach f k x y ↔ IsWithin (reach_of f k) x y
+pub reach_within : AreReached
 reach_within f k x y lt =
     let a = across_fits f k in
     let b = along_fits f k lt in (

@@ -7,7 +7,7 @@ use Rattle.h263_types.specs.declared.format.Format.TheVariants.{SubQcif, Qcif, C
 use Rattle.h263_types.specs.declared.vector.Vector.{Vector}
 use Rattle.h263_types.specs.declared.blocks.Mb.{Mb}
 use Rattle.h263_types.specs.declared.blocks.Mb.TheVariants.{Skip, Intra, Inter}
-use Rattle.h263_types.specs.Blocks.{IsQuant, IsMb}
+use Rattle.h263_types.specs.Blocks.{IsQuant, IsMb, mb_in}
 use Rattle.h263_types.specs.Sizes.{columns_of, mbs_of}
 use Rattle.h263_bits.specs.declared.fault.Fault.{Fault}
 use Rattle.h263_bits.specs.declared.fault.FaultKind.TheVariants as faults
@@ -18,7 +18,7 @@ use Rattle.macroblock_layer.specs.Prediction.{no_vector, predictor_of}
 use Rattle.macroblock_layer.specs.Text.{mb}
 use Rattle.slice_layer.specs.Around.{Around, around, quant_after, next_mb, reach_of, vector_of, vectors_of}
 use Rattle.slice_layer.specs.Text.{is_padding, stops, mbs_at}
-use Rattle.slice_layer.specs.Filled.{IsMbAt, IsSliceIn, AreOthersSame, mb_in, mbs_from}
+use Rattle.slice_layer.specs.Filled.{IsMbAt, IsSliceIn, AreOthersSame, mbs_from}
 
 mbs_few : (f : Format) → mbs_of f ≤ 396
 mbs_few SubQcif = omega arith

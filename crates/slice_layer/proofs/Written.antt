@@ -19,13 +19,15 @@ use Rattle.h263_bits.proofs.SyntaxLaws.{length-spelled, spells_field, spells_par
 use Rattle.picture_header.specs.declared.header.Header.{Header}
 use Rattle.h263_types.specs.declared.clock.Clock.{Clock}
 use Rattle.h263_types.specs.declared.clock.Clock.TheVariants as clocks
+use Rattle.picture_header.specs.Text.{is_quant}
 use Rattle.picture_header.specs.Ranges.{HasTenBits, IsReference, IsHeader}
 use Rattle.picture_header.specs.Written.{kind_code, reference_fields, written_header}
 use Rattle.macroblock_layer.specs.Written.{mb_text}
-use Rattle.macroblock_layer.proofs.Spelt.{mb_written}
+use Rattle.macroblock_layer.specs.Laws.{MbLaws}
 use Rattle.slice_layer.specs.Around.{Around, around, quant_after, reach_of}
-use Rattle.slice_layer.specs.Head.{address_bits, is_later, is_quant, reference, first_head, place, tail, later_head, head}
+use Rattle.slice_layer.specs.Head.{address_bits, is_later, reference, first_head, place, tail, later_head, head}
 use Rattle.slice_layer.specs.Text.{is_padding, AreTexts, IsSliceText}
+use Rattle.slice_layer.specs.Laws.{AreSpelt, IsOneMore}
 use Rattle.slice_layer.specs.Written.{gfid, place_fields, tail_text, head_text, mbs_text, slice_text, padded, quant_behind, IsPlace, IsWritable, AreWritable}
 
 -- ---- the header
@@ -115,20 +117,20 @@ head_spelt h false first is at = later_spelt h first is at.at_zero at.within
 
 -- ---- the macroblocks
 
-texts_spelt : (a : Around) (quant : ℕ) (before mbs : List Mb) → AreWritable a quant before mbs → AreTexts a quant before mbs (mbs_text a quant before mbs)
+texts_spelt : MbLaws → (a : Around) (quant : ℕ) (before mbs : List Mb) → AreWritable a quant before mbs → AreTexts a quant before mbs (mbs_text a quant before mbs)
 unfolding AreWritable AreTexts mbs_text
-texts_spelt a quant before [] w = refl
-texts_spelt a quant before (m ∷ mbs) w =
-    let one = mb_written a.kind quant (a.reaches (a.first + length before)) (a.predictor before) m w.0.in_range w.0.of_kind w.0.step w.0.whole w.0.reached in
-    let more = texts_spelt a (quant_after quant m) (before ++ m ∷ []) mbs w.1 in
+texts_spelt laws a quant before [] w = refl
+texts_spelt laws a quant before (m ∷ mbs) w =
+    let one = laws.spelt a.kind quant (a.reaches (a.first + length before)) (a.predictor before) m w.0.in_range w.0.of_kind w.0.step w.0.whole w.0.reached in
+    let more = texts_spelt laws a (quant_after quant m) (before ++ m ∷ []) mbs w.1 in
     (mb_text a.kind quant (a.predictor before) m, mbs_text a (quant_after quant m) (before ++ m ∷ []) mbs, refl, one, more)
 
 -- ---- the slice
 
-pub slice_spelt : (h : Header) (begins : Bool) (first : ℕ) (mbs : List Mb) (padding : List Bool) → IsHeader h → IsPlace h begins first
+slice_spelt : MbLaws → (h : Header) (begins : Bool) (first : ℕ) (mbs : List Mb) (padding : List Bool) → IsHeader h → IsPlace h begins first
     → 0 < length mbs → first + length mbs ≤ mbs_of h.format → AreWritable (around h first) h.quant [] mbs → is_padding padding ≡ true
     → IsSliceText h begins first mbs (head_text h begins first ++ (mbs_text (around h first) h.quant [] mbs ++ padding))
-slice_spelt h begins first mbs padding is at some within each zeros = record {
+slice_spelt laws h begins first mbs padding is at some within each zeros = record {
   front = head_text h begins first;
   behind = mbs_text (around h first) h.quant [] mbs ++ padding;
   quant = h.quant;
@@ -140,7 +142,7 @@ slice_spelt h begins first mbs padding is at some within each zeros = record {
     whole = refl;
     some = some;
     within = omega (arith, within);
-    each = texts_spelt (around h first) h.quant [] mbs each;
+    each = texts_spelt laws (around h first) h.quant [] mbs each;
     zeros = zeros;
   };
 }
@@ -157,32 +159,35 @@ unfolding spelled
 all_zero zero = refl
 all_zero (suc n) = rw (zero_bit n, all_zero n) refl
 
-pub zeros_are_padding : (n : ℕ) → is_padding (spelled (to_byte n) 0) ≡ true
+zeros_are_padding : (n : ℕ) → is_padding (spelled (to_byte n) 0) ≡ true
 zeros_are_padding n = rw (lt-ltb (length (spelled (to_byte n) 0)) 8 (omega (arith, length-spelled (to_byte n) 0)), all_zero (to_byte n)) refl
 
 -- ---- as a writer leaves it
 
-pub later_padded : (h : Header) (first : ℕ) (mbs : List Mb) → IsHeader h → IsPlace h false first
+later_padded : MbLaws → (h : Header) (first : ℕ) (mbs : List Mb) → IsHeader h → IsPlace h false first
     → 0 < length mbs → first + length mbs ≤ mbs_of h.format → AreWritable (around h first) h.quant [] mbs
     → IsSliceText h false first mbs (padded (slice_text h false first mbs))
-later_padded h first mbs is at some within each =
+later_padded laws h first mbs is at some within each =
     let n = length (slice_text h false first mbs) in
     let zeros : List Bool = spelled (to_byte n) 0 in
     let text = mbs_text (around h first) h.quant [] mbs in
     subst (λ (t : List Bool). IsSliceText h false first mbs t) (sym (append_assoc (head_text h false first) text zeros))
-    (slice_spelt h false first mbs zeros is at some within each (zeros_are_padding n))
+    (slice_spelt laws h false first mbs zeros is at some within each (zeros_are_padding n))
 
-pub first_padded : (h : Header) (first : ℕ) (mbs : List Mb) → IsHeader h → IsPlace h true first
+first_padded : MbLaws → (h : Header) (first : ℕ) (mbs : List Mb) → IsHeader h → IsPlace h true first
     → 0 < length mbs → first + length mbs ≤ mbs_of h.format → AreWritable (around h first) h.quant [] mbs
     → (text : List Bool) × (padded (slice_text h true first mbs) ≡ written_header h ++ text) × IsSliceText h true first mbs text
-first_padded h first mbs is at some within each =
+first_padded laws h first mbs is at some within each =
     let n = length (slice_text h true first mbs) in
     let zeros : List Bool = spelled (to_byte n) 0 in
     let text = mbs_text (around h first) h.quant [] mbs in
-    (head_text h true first ++ (text ++ zeros), regroup (written_header h) (head_text h true first) text zeros, slice_spelt h true first mbs zeros is at some within each (zeros_are_padding n))
+    (head_text h true first ++ (text ++ zeros), regroup (written_header h) (head_text h true first) text zeros, slice_spelt laws h true first mbs zeros is at some within each (zeros_are_padding n))
   where
     regroup : (a b c d : List Bool) → ((a ++ b) ++ c) ++ d ≡ a ++ (b ++ (c ++ d))
     regroup a b c d = simp (append_assoc)
+
+pub are_spelt : MbLaws → AreSpelt
+are_spelt laws = record { text = slice_spelt laws; later = later_padded laws; first = first_padded laws; padding = zeros_are_padding }
 
 -- ---- one macroblock more
 
@@ -199,6 +204,9 @@ more_writable a quant before (n ∷ mbs) m w one =
     let next = subst (λ (l : List Mb). IsWritable a.kind (quant_behind (quant_after quant n) mbs) (a.reaches (a.first + length l)) m) e one in
     (w.0, more_writable a (quant_after quant n) (before ++ n ∷ []) mbs m w.1 next)
 
-pub one_more : (h : Header) (first : ℕ) (mbs : List Mb) (m : Mb) → AreWritable (around h first) h.quant [] mbs
+one_more : (h : Header) (first : ℕ) (mbs : List Mb) (m : Mb) → AreWritable (around h first) h.quant [] mbs
     → IsWritable h.kind (quant_behind h.quant mbs) (reach_of h.format (first + length mbs)) m → AreWritable (around h first) h.quant [] (mbs ++ m ∷ [])
 one_more h first mbs m w one = more_writable (around h first) h.quant [] mbs m w one
+
+pub is_one_more : IsOneMore
+is_one_more = record { none = none_writable; more = one_more }

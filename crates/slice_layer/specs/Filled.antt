@@ -1,17 +1,12 @@
 -- What a slice's reader leaves in the picture's macroblocks.
-use Rattle.std.specs.Prelude.{◌≡◌, ℕ, ◌+◌, ◌<◌, ◌≤◌, List, take, drop, slice_index_or, Result, Ok, Err}
+use Rattle.std.specs.Prelude.{◌≡◌, ℕ, ◌+◌, ◌<◌, ◌≤◌, List, take, drop, Result, Ok, Err}
 use Rattle.h263_types.specs.declared.format.Format.{Format}
 use Rattle.h263_types.specs.declared.blocks.Mb.{Mb}
-use Rattle.h263_types.specs.declared.blocks.Mb.TheVariants.{Skip}
 use Rattle.h263_types.specs.declared.blocks.SliceHead.{SliceHead}
-use Rattle.h263_types.specs.Blocks.{IsMb, IsOfKind, IsHeadOf}
+use Rattle.h263_types.specs.Blocks.{IsMb, IsOfKind, IsHeadOf, mb_in}
 use Rattle.h263_types.specs.References.{ReachesInside}
 use Rattle.h263_bits.specs.declared.fault.Fault.{Fault}
 use Rattle.picture_header.specs.declared.header.Header.{Header}
-
--- macroblock k of a picture's
-abbrev pub mb_in : List Mb → ℕ → Mb
-mb_in out k = slice_index_or out k Skip
 
 -- so many macroblocks of a picture's from number `first` on
 abbrev pub mbs_from : ℕ → ℕ → List Mb → List Mb

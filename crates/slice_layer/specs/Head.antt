@@ -6,6 +6,7 @@ use Rattle.h263_types.specs.Sizes.{mbs_of}
 use Rattle.h263_bits.specs.declared.fault.FaultKind.TheVariants as faults
 use Rattle.h263_bits.specs.Syntax.{Syntax, Allowed, any, only, done, field, part}
 use Rattle.picture_header.specs.declared.header.Header.{Header}
+use Rattle.picture_header.specs.Text.{is_quant}
 
 -- the bits of a macroblock's number (MBA, K.2.5)
 abbrev pub address_bits : Format → ℕ
@@ -16,10 +17,6 @@ address_bits Cif = 9
 -- a later slice begins with a macroblock of the picture, and not with its first
 abbrev pub is_later : Format → Allowed ℕ
 is_later f n = if n == 0 then Some faults.Address else (if nat_lt n (mbs_of f) then None else Some faults.Address)
-
--- a quantiser (SQUANT, K.2.7)
-abbrev pub is_quant : Allowed ℕ
-is_quant n = if n == 0 then Some faults.Quant else None
 
 -- TRPI, and in P the picture header's TRP again (Annex N)
 unfoldable pub reference : Option ℕ → Syntax (Unit {0})

@@ -4,3 +4,4 @@ pub mod Head
 pub mod Text
 pub mod Written
 pub mod Writer
+pub mod Laws

@@ -3,13 +3,13 @@ use Rattle.std.specs.Prelude.{◌≡◌, ℕ, ◌+◌, ◌*◌, ◌/◌, ◌<◌
 use Rattle.h263_types.specs.declared.Kind.{Kind}
 use Rattle.h263_types.specs.declared.vector.Reach.{Reach}
 use Rattle.h263_types.specs.declared.blocks.Mb.{Mb}
-use Rattle.h263_types.specs.Blocks.{IsMb, IsOfKind}
+use Rattle.h263_types.specs.Blocks.{IsMb, IsOfKind, IsWhole}
 use Rattle.h263_types.specs.Sizes.{mbs_of}
 use Rattle.h263_bits.specs.Bits.{bits_of, spelled, fields}
 use Rattle.h263_bits.specs.Written.{to_byte}
 use Rattle.picture_header.specs.declared.header.Header.{Header}
 use Rattle.picture_header.specs.Written.{written_header, kind_code, reference_fields}
-use Rattle.macroblock_layer.specs.Written.{mb_text, IsStepped, IsReached, IsWhole}
+use Rattle.macroblock_layer.specs.Written.{mb_text, IsStepped, IsReached}
 use Rattle.slice_layer.specs.Around.{Around, around, quant_after}
 use Rattle.slice_layer.specs.Head.{address_bits}
 

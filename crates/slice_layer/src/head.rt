@@ -1,40 +1,16 @@
 //! Reads the header of a slice.
 ghost use Rattle.std.specs.Prelude.{◌≡◌, ℕ, ◌≤◌, ◌<◌, IfOk};
 ghost use Rattle.h263_bits.specs.Reading.{Gives};
-ghost use Rattle.h263_bits.specs.Syntax.{only, field_at, reading};
+ghost use Rattle.h263_bits.specs.Syntax.{field_at, reading};
 ghost use Rattle.h263_types.specs.Blocks.{IsQuant};
 ghost use Rattle.h263_types.specs.Sizes.{mbs_of};
 ghost use Rattle.picture_header.specs.Ranges.{IsHeader};
-ghost use Rattle.slice_layer.specs.Head.{address_bits, is_later, is_quant, reference, first_head, place, tail, later_head, head};
+ghost use Rattle.slice_layer.specs.Head.{address_bits, is_later, reference, first_head, place, tail, later_head, head};
 
+use crate::shared::address_bits;
 use h263_bits::{BitReader, Fault, FaultKind};
 use h263_types::Format;
-use picture_header::Header;
-
-// A field that has one value.
-fn fixed(reader: &mut BitReader<'_>, n: u32, value: u32, kind: FaultKind) -> Result<(), Fault>
-    requires { n ≤ 32 }
-    ensures { Gives (λ _. value) result reader.new (field_at n (only value kind) reader.old) }
-{
-    let at = reader.at();
-    let found = reader.bits(n)?;
-    if found != value {
-        return Err(Fault { kind, at });
-    }
-    Ok(())
-}
-
-// The bits of a macroblock's number (MBA, K.2.5).
-fn address_bits(format: Format) -> u32
-    ensures bits { result ≡ address_bits format }
-    ensures few { result ≤ 9 }
-{
-    match format {
-        Format::SubQcif => 6,
-        Format::Qcif => 7,
-        Format::Cif => 9,
-    }
-}
+use picture_header::{Header, read_quant};
 
 // The first macroblock of a later slice.
 fn read_address(reader: &mut BitReader<'_>, format: Format) -> Result<u32, Fault>
@@ -44,28 +20,9 @@ fn read_address(reader: &mut BitReader<'_>, format: Format) -> Result<u32, Fault
     let at = reader.at();
     let first = reader.bits(address_bits(format))?;
     if first == 0 || first >= format.mbs() {
-        return Err(Fault {
-            kind: FaultKind::Address,
-            at,
-        });
+        return Err(FaultKind::Address.at(at));
     }
     Ok(first)
-}
-
-// SQUANT.
-fn read_quant(reader: &mut BitReader<'_>) -> Result<u8, Fault>
-    ensures reads { Gives (λ (v : ℕ). v) result reader.new (field_at 5 is_quant reader.old) }
-    ensures range { IfOk result IsQuant }
-{
-    let at = reader.at();
-    let quant = reader.bits(5)?;
-    if quant == 0 {
-        return Err(Fault {
-            kind: FaultKind::Quant,
-            at,
-        });
-    }
-    Ok(quant as u8)
 }
 
 // What begins behind the picture header: the first macroblock, and the picture's quantiser.
@@ -75,9 +32,9 @@ fn read_first_head(reader: &mut BitReader<'_>, header: &Header) -> Result<(u32, 
     ensures first { IfOk result (λ x. x.0 ≡ 0) }
     ensures quant { IfOk result (λ x. x.1 ≡ header.now.quant) }
 {
-    fixed(reader, 1, 1, FaultKind::Marker)?;
-    fixed(reader, address_bits(header.format), 0, FaultKind::Address)?;
-    fixed(reader, 1, 1, FaultKind::Marker)?;
+    reader.fixed(1, 1, FaultKind::Marker)?;
+    reader.fixed(address_bits(header.format), 0, FaultKind::Address)?;
+    reader.fixed(1, 1, FaultKind::Marker)?;
     Ok((0, header.quant))
 }
 
@@ -88,11 +45,11 @@ fn read_place(reader: &mut BitReader<'_>, format: Format) -> Result<(u32, u8), F
     ensures below { IfOk result (λ x. x.0 < mbs_of format) }
     ensures range { IfOk result (λ x. IsQuant x.1) }
 {
-    fixed(reader, 1, 1, FaultKind::NoStart)?;
-    fixed(reader, 1, 1, FaultKind::Marker)?;
+    reader.fixed(1, 1, FaultKind::NoStart)?;
+    reader.fixed(1, 1, FaultKind::Marker)?;
     let first = read_address(reader, format)?;
     let quant = read_quant(reader)?;
-    fixed(reader, 1, 1, FaultKind::Marker)?;
+    reader.fixed(1, 1, FaultKind::Marker)?;
     Ok((first, quant))
 }
 
@@ -103,12 +60,12 @@ fn read_reference(reader: &mut BitReader<'_>, trp: Option<u16>) -> Result<(), Fa
 {
     match trp {
         None => {
-            fixed(reader, 1, 0, FaultKind::SliceReference)?;
+            reader.fixed(1, 0, FaultKind::SliceReference)?;
             Ok(())
         }
         Some(trp) => {
-            fixed(reader, 1, 1, FaultKind::SliceReference)?;
-            fixed(reader, 10, trp as u32, FaultKind::SliceReference)?;
+            reader.fixed(1, 1, FaultKind::SliceReference)?;
+            reader.fixed(10, trp as u32, FaultKind::SliceReference)?;
             Ok(())
         }
     }
@@ -120,9 +77,9 @@ fn read_tail(reader: &mut BitReader<'_>, trp: Option<u16>) -> Result<(), Fault>
     ensures { Gives (λ _. tt) result reader.new (reading (tail trp) reader.old) }
 {
     reader.bits(2)?;
-    fixed(reader, 1, 0, FaultKind::SliceReference)?;
+    reader.fixed(1, 0, FaultKind::SliceReference)?;
     read_reference(reader, trp)?;
-    fixed(reader, 2, 0b01, FaultKind::Bci)?;
+    reader.fixed(2, 0b01, FaultKind::Bci)?;
     Ok(())
 }
 

@@ -7,9 +7,9 @@
 mod head;
 pub mod laws;
 mod reading;
+mod shared;
 #[cfg(test)]
 mod tests;
-pub mod writer_laws;
 #[cfg(test)]
 mod writer_tests;
 mod writing;

@@ -9,13 +9,15 @@ ghost use Rattle.h263_types.specs.declared.blocks.Mb.{Mb};
 ghost use Rattle.picture_header.specs.Ranges.{IsHeader};
 ghost use Rattle.macroblock_layer.specs.Prediction.{predictor_of};
 ghost use Rattle.macroblock_layer.specs.Text.{mb};
-ghost use Rattle.slice_layer.specs.Around.{quant_after, vector_of, reach_of};
+ghost use Rattle.slice_layer.specs.Around.{reach_of};
 ghost use Rattle.slice_layer.specs.Text.{IsSliceText, is_padding, body_at, slice_at, slice_fault};
 ghost use Rattle.slice_layer.specs.Filled.{Fills, IsMbAt, IsSliceIn, AreOthersSame, mbs_from};
 
 use crate::head::read_head;
+use crate::shared::{quant_after, vector_of};
 use h263_bits::{BitReader, Fault, FaultKind};
 use h263_types::{Format, Mb, Reach, SliceHead, Vector, reach};
+use macroblock_layer::laws::in_a_syntax;
 use macroblock_layer::{predictor, read_mb};
 use picture_header::Header;
 
@@ -28,26 +30,6 @@ fn is_padding(reader: &BitReader<'_>) -> bool
         return false;
     }
     reader.peek(rest) == 0
-}
-
-// The quantiser behind a macroblock.
-fn quant_after(quant: u8, mb: &Mb) -> u8
-    ensures { result ≡ quant_after quant mb.now }
-{
-    match mb {
-        Mb::Skip => quant,
-        Mb::Intra { quant, .. } | Mb::Inter { quant, .. } => *quant,
-    }
-}
-
-// The vector by which a macroblock's neighbours are predicted.
-fn vector_of(mb: &Mb) -> Vector
-    ensures { result ≡ vector_of mb.now }
-{
-    match mb {
-        Mb::Inter { vector, .. } => *vector,
-        _ => Vector::ZERO,
-    }
 }
 
 // How far the vector of macroblock `at` reaches.
@@ -103,10 +85,7 @@ fn read_body(
     let mut at = first;
     'mbs: while !is_padding(reader) {
         if at == header.format.mbs() {
-            return Err(Fault {
-                kind: FaultKind::Trailing,
-                at: reader.at(),
-            });
+            return Err(FaultKind::Trailing.at(reader.at()));
         }
         let k = at as usize;
         read_next(reader, header, first, at, quant, &vectors[..k], &mut out[k])?;
@@ -115,10 +94,7 @@ fn read_body(
         at += 1;
     }
     if at == first {
-        return Err(Fault {
-            kind: FaultKind::Empty,
-            at: reader.at(),
-        });
+        return Err(FaultKind::Empty.at(reader.at()));
     }
     Ok(SliceHead {
         first,
@@ -171,5 +147,6 @@ pub fn read_slice(
     ensures others { IfOk result (AreOthersSame out.old out.new) }
     ensures size { length out.new ≡ length out.old }
 {
+    in_a_syntax();
     slice_at(reader, header, begins, out)
 }

@@ -1,15 +1,16 @@
 //! Writes slices.
 ghost use Rattle.std.specs.Prelude.{◌≡◌, ℕ, ◌+◌, ◌*◌, ◌/◌, ◌%◌, ◌<◌, ◌≤◌, ◌^◌, ◌++◌, [], ◌∷◌, length, take, drop, List, Bool};
 ghost use Rattle.h263_bits.specs.Bits.{bits_of, spelled};
-ghost use Rattle.h263_types.specs.Blocks.{IsQuant, IsMb, IsOfKind};
+ghost use Rattle.h263_types.specs.Blocks.{IsQuant, IsMb, IsOfKind, IsWhole};
 ghost use Rattle.h263_types.specs.Sizes.{mbs_of, columns_of};
 ghost use Rattle.h263_types.specs.declared.blocks.Mb.{Mb};
 ghost use Rattle.picture_header.specs.declared.header.Header.{Header};
 ghost use Rattle.picture_header.specs.Ranges.{IsHeader};
 ghost use Rattle.macroblock_layer.specs.Prediction.{predictor_of};
-ghost use Rattle.macroblock_layer.specs.Written.{IsStepped, IsWhole};
+ghost use Rattle.macroblock_layer.specs.Written.{IsStepped};
 ghost use Rattle.slice_layer.specs.Around.{vector_of, quant_after};
 
+use crate::shared::{quant_after, vector_of};
 use crate::writing_text::{paste, write_apart, write_front};
 use h263_bits::BitReader;
 use h263_types::{Format, Kind, Mb, Vector};
@@ -44,36 +45,6 @@ pub struct SliceWriter<'a> {
     ghost force: { IsQuant quant },
     ghost order: { first ≤ next },
     ghost within: { next ≤ 396 },
-}
-
-fn vector_of(mb: &Mb) -> Vector
-    ensures { result ≡ vector_of mb.now }
-{
-    match mb {
-        Mb::Inter {
-            quant: _,
-            vector,
-            blocks: _,
-        } => *vector,
-        _ => Vector::ZERO,
-    }
-}
-
-fn quant_after(quant: u8, mb: &Mb) -> u8
-    requires quant { IsQuant quant }
-    requires mb { IsMb mb.now }
-    ensures quant { result ≡ quant_after quant mb.now }
-    ensures range { IsQuant result }
-{
-    match mb {
-        Mb::Skip => quant,
-        Mb::Intra { quant, blocks: _ } => *quant,
-        Mb::Inter {
-            quant,
-            vector: _,
-            blocks: _,
-        } => *quant,
-    }
 }
 
 impl<'a> SliceWriter<'a> {

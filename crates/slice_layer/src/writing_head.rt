@@ -8,22 +8,10 @@ ghost use Rattle.picture_header.specs.Written.{reference_bits};
 ghost use Rattle.slice_layer.specs.Head.{address_bits};
 ghost use Rattle.slice_layer.specs.Written.{gfid, first_fields, place_fields, tail_text, opening_text, IsPlace};
 
+use crate::shared::address_bits;
 use h263_bits::BitWriter;
-use h263_types::Format;
 use picture_header::laws::in_a_syntax;
 use picture_header::{Header, kind_bits, write_header, write_reference};
-
-fn address_bits(format: Format) -> u32
-    ensures bits { result ≡ address_bits format }
-    ensures few { result ≤ 9 }
-    ensures enough { mbs_of format ≤ 2 ^ result }
-{
-    match format {
-        Format::SubQcif => 6,
-        Format::Qcif => 7,
-        Format::Cif => 9,
-    }
-}
 
 // SEPB1, MBA and SEPB3 behind the picture header.
 fn write_first(writer: &mut BitWriter<'_>, header: &Header)

@@ -2,14 +2,14 @@
 ghost use Rattle.std.specs.Prelude.{◌≡◌, ℕ, ◌+◌, ◌*◌, ◌<◌, ◌≤◌, ◌^◌, ◌++◌, length, take};
 ghost use Rattle.h263_bits.specs.Bits.{spelled};
 ghost use Rattle.h263_bits.specs.Written.{Appends, len_of, to_byte};
-ghost use Rattle.h263_types.specs.Blocks.{IsQuant, IsMb, IsOfKind};
+ghost use Rattle.h263_types.specs.Blocks.{IsQuant, IsMb, IsOfKind, IsWhole};
 ghost use Rattle.picture_header.specs.Ranges.{IsHeader};
-ghost use Rattle.macroblock_layer.specs.Written.{mb_text, IsStepped, AreWhole, IsWhole};
+ghost use Rattle.macroblock_layer.specs.Written.{mb_text, IsStepped};
 ghost use Rattle.slice_layer.specs.Written.{opening_text, IsPlace, IsFront};
 
 use crate::writing_head::write_opening;
 use h263_bits::BitWriter;
-use h263_types::{Block, Kind, Mb, Vector};
+use h263_types::{Kind, Mb, Vector};
 use macroblock_layer::write_mb;
 use picture_header::Header;
 
@@ -61,7 +61,7 @@ pub fn write_apart(
     ensures short { result ≤ 8499 }
     ensures whole { IsWhole mb.now }
 {
-    see_mb(mb);
+    mb.is_whole();
     let mut writer = BitWriter::new(bytes);
     writer.put(front, count);
     write_mb(&mut writer, kind, quant, predictor, mb);
@@ -74,37 +74,4 @@ pub fn paste(bytes: &mut [u8], at: usize, text: &[u8])
     ensures front { take (at + length text.now) bytes.new ≡ take at bytes.old ++ text.now }
 {
     bytes[at..at + text.len()].copy_from_slice(text);
-}
-
-// A block has 64 levels. This is known of the array once it is seen as a slice.
-fn see_block(block: &Block)
-    ensures { length block.now.levels ≡ 64 }
-{
-    let levels: &[i16] = &block.levels;
-    let _count = levels.len();
-}
-
-fn see_blocks(blocks: &[Block; 6])
-    ensures { AreWhole blocks.now }
-{
-    see_block(&blocks[0]);
-    see_block(&blocks[1]);
-    see_block(&blocks[2]);
-    see_block(&blocks[3]);
-    see_block(&blocks[4]);
-    see_block(&blocks[5]);
-}
-
-fn see_mb(mb: &Mb)
-    ensures { IsWhole mb.now }
-{
-    match mb {
-        Mb::Skip => {}
-        Mb::Intra { quant: _, blocks } => see_blocks(blocks),
-        Mb::Inter {
-            quant: _,
-            vector: _,
-            blocks,
-        } => see_blocks(blocks),
-    }
 }
