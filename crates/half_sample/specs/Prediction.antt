@@ -1,8 +1,9 @@
 -- The predicted sample: vectors by H.263, 6.1.1, and samples between samples by 6.1.2.
-use Rattle.std.specs.Prelude.{ℕ, ◌+◌, ◌%◌, Bool, true, false, not, cond, ℤ, pos, ◌+ℤ◌, unsigned_abs, nat_eq}
+use Rattle.std.specs.Prelude.{◌≡◌, ℕ, ◌+◌, ◌*◌, ◌/◌, ◌%◌, ◌<◌, Bool, true, false, not, cond, ℤ, pos, ◌+ℤ◌, unsigned_abs, nat_eq, List, slice_index}
 use Rattle.std.specs.Int.{int_shr}
 use Rattle.h263_types.specs.declared.format.Format.{Format}
 use Rattle.h263_types.specs.declared.vector.Vector.{Vector}
+use Rattle.h263_types.specs.Sizes.{columns_of}
 use Rattle.h263_planes.specs.Picture.{Picture}
 use Rattle.h263_planes.specs.Samples.{sample_at, Inside}
 use Rattle.h263_planes.specs.declared.Plane.{Plane}
@@ -43,6 +44,12 @@ moved x whole = unsigned_abs (pos x +ℤ whole)
 abbrev pub predicted_sample : Picture → Plane → ℕ → ℕ → Vector → ℕ → ℕ
 predicted_sample p plane x y v r =
     interpolated p plane (is_half plane v.x) (is_half plane v.y) r (moved x (whole_part plane v.x)) (moved y (whole_part plane v.y))
+
+-- the samples of macroblock `at` in a plane, by rows of n, are those that a vector predicts
+abbrev pub ArePredicted : ℕ → Picture → Plane → ℕ → Vector → ℕ → List ℕ → Type 0
+ArePredicted n p plane at v r samples =
+    (j i : ℕ) → j < n → i < n → slice_index samples (n * j + i)
+    ≡ predicted_sample p plane (n * (at % columns_of p.format) + i) (n * (at / columns_of p.format) + j) v r
 
 -- the samples that n predicted ones in a row read lie inside the plane
 abbrev pub ReadsInside : Format → Plane → Bool → Bool → ℕ → ℕ → ℕ → Type 0

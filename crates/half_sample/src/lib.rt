@@ -6,7 +6,7 @@ mod macroblock;
 mod place;
 mod rows;
 
-pub use macroblock::{chroma, luma};
+pub use macroblock::{Predicted, chroma, luma, predict};
 
 #[cfg(test)]
 mod tests;

@@ -1,15 +1,44 @@
 //! The predicted samples of a macroblock.
-ghost use Rattle.std.specs.Prelude.{◌≡◌, ℕ, ◌+◌, ◌*◌, ◌%◌, ◌/◌, ◌≤◌, ◌<◌, slice_index};
-ghost use Rattle.h263_types.specs.Sizes.{mbs_of, columns_of};
+ghost use Rattle.std.specs.Prelude.{◌≤◌, ◌<◌};
+ghost use Rattle.h263_types.specs.Sizes.{mbs_of};
 ghost use Rattle.h263_types.specs.Vectors.{InReach};
 ghost use Rattle.h263_planes.specs.Lent.{picture};
 ghost use Rattle.h263_planes.specs.declared.Plane.TheVariants.{Y};
-ghost use Rattle.half_sample.specs.Prediction.{predicted_sample, IsColour};
+ghost use Rattle.half_sample.specs.Macroblock.{IsPredicted};
+ghost use Rattle.half_sample.specs.Prediction.{ArePredicted, IsColour};
 
 use crate::block::block;
 use crate::place::{chroma_place, is_chroma_half, is_luma_half, luma_place};
 use h263_planes::{PictureRef, Plane, mb_place};
 use h263_types::Vector;
+
+/// The samples that a vector predicts for a macroblock, by rows from the top: 16 x 16 of Y, 8 x 8 of Cb and of Cr.
+#[derive(Drop)]
+pub struct Predicted {
+    pub y: [u8; 256],
+    pub cb: [u8; 64],
+    pub cr: [u8; 64],
+}
+
+/// The samples that a vector predicts for macroblock `mb` in the three planes. `rounding` is the picture's rounding bit,
+/// 0 or 1 (H.263, 6.1).
+#[inline]
+pub fn predict(reference: PictureRef<'_>, mb: u32, vector: Vector, rounding: u8) -> Predicted
+    requires mb { mb < mbs_of (picture reference).format }
+    requires reach { InReach (picture reference).format mb vector.x vector.y }
+    requires rounding { rounding ≤ 1 }
+    ensures { IsPredicted (picture reference.entry) mb vector rounding result }
+{
+    let mut samples = Predicted {
+        y: [0; 256],
+        cb: [0; 64],
+        cr: [0; 64],
+    };
+    luma(reference, mb, vector, rounding, &mut samples.y);
+    chroma(reference, Plane::Cb, mb, vector, rounding, &mut samples.cb);
+    chroma(reference, Plane::Cr, mb, vector, rounding, &mut samples.cr);
+    samples
+}
 
 /// The 16 x 16 luma samples that a vector predicts for macroblock `mb`, by rows from the top. `rounding` is the
 /// picture's rounding bit, 0 or 1 (H.263, 6.1.2).
@@ -17,7 +46,7 @@ pub fn luma(reference: PictureRef<'_>, mb: u32, vector: Vector, rounding: u8, ou
     requires mb { mb < mbs_of (picture reference).format }
     requires reach { InReach (picture reference).format mb vector.x vector.y }
     requires rounding { rounding ≤ 1 }
-    ensures { (j i : ℕ) → j < 16 → i < 16 → slice_index out.new (16 * j + i) ≡ predicted_sample (picture reference.entry) Y (16 * (mb % columns_of (picture reference.entry).format) + i) (16 * (mb / columns_of (picture reference.entry).format) + j) vector rounding }
+    ensures { ArePredicted 16 (picture reference.entry) Y mb vector rounding out.new }
 {
     let (column, row) = mb_place(reference.format(), mb);
     block::<16>(
@@ -46,7 +75,7 @@ pub fn chroma(
     requires mb { mb < mbs_of (picture reference).format }
     requires reach { InReach (picture reference).format mb vector.x vector.y }
     requires rounding { rounding ≤ 1 }
-    ensures { (j i : ℕ) → j < 8 → i < 8 → slice_index out.new (8 * j + i) ≡ predicted_sample (picture reference.entry) plane (8 * (mb % columns_of (picture reference.entry).format) + i) (8 * (mb / columns_of (picture reference.entry).format) + j) vector rounding }
+    ensures { ArePredicted 8 (picture reference.entry) plane mb vector rounding out.new }
 {
     let (column, row) = mb_place(reference.format(), mb);
     block::<8>(

@@ -8,18 +8,13 @@ use Rattle.h263_planes.specs.declared.Plane.{Plane}
 use Rattle.h263_planes.specs.declared.Plane.TheVariants.{Y, Cb, Cr}
 use Rattle.h263_planes.specs.Picture.{Picture}
 use Rattle.h263_planes.specs.Samples.{sample_at}
-use Rattle.half_sample.specs.Prediction.{predicted_sample, moved, whole_part}
+use Rattle.half_sample.specs.Prediction.{ArePredicted, predicted_sample, moved, whole_part}
 use Rattle.motion_search.specs.Cost as luma
 use Rattle.mode_choice.specs.Choice.{predicted_in_block, residuals_of, sample_in_block, samples_of}
 
 -- block b of the four of 16 x 16 samples
 abbrev pub IsQuarter : List ℕ → ℕ → List ℕ → Type 0
 IsQuarter luma b q = (j i : ℕ) → j < 8 → i < 8 → get_or q (8 * j + i) 0 ≡ get_or luma (16 * (8 * (b / 2) + j) + (8 * (b % 2) + i)) 0
-
--- the samples of a macroblock in one plane, by rows of n, are predicted
-abbrev pub ArePredicted : ℕ → Picture → Plane → ℕ → Vector → ℕ → List ℕ → Type 0
-ArePredicted n p plane mb v r samples =
-    (j i : ℕ) → j < n → i < n → get_or samples (n * j + i) 0 ≡ predicted_sample p plane (n * (mb % columns_of p.format) + i) (n * (mb / columns_of p.format) + j) v r
 
 -- the sample at a place of a block, by the place's row and column
 by_rows : (block : List ℕ) (k : ℕ) → get_or block k 0 ≡ get_or block (8 * (k / 8) + k % 8) 0

@@ -4,3 +4,4 @@ pub mod Differences
 pub mod Choices
 pub mod Small
 pub mod Walk
+pub mod Whole

@@ -5,9 +5,9 @@ ghost use Rattle.h263_types.specs.Vectors.{InReach};
 ghost use Rattle.h263_planes.specs.Lent.{picture};
 ghost use Rattle.mode_choice.specs.Choice.{predicted_in_block};
 
-use h263_planes::{PictureRef, Plane};
+use h263_planes::PictureRef;
 use h263_types::Vector;
-use half_sample::{chroma, luma};
+use half_sample::predict;
 
 // The samples that a vector predicts for a macroblock's six blocks, each by rows.
 pub(crate) fn predicted_blocks(
@@ -21,19 +21,14 @@ pub(crate) fn predicted_blocks(
     requires rounding { rounding ≤ 1 }
     ensures { (b k : ℕ) → b < 6 → k < 64 → slice_index (slice_index_or result b []) k ≡ predicted_in_block (picture reference.entry) rounding mb vector b k }
 {
-    let mut y = [0; 256];
-    let mut cb = [0; 64];
-    let mut cr = [0; 64];
-    luma(reference, mb, vector, rounding, &mut y);
-    chroma(reference, Plane::Cb, mb, vector, rounding, &mut cb);
-    chroma(reference, Plane::Cr, mb, vector, rounding, &mut cr);
+    let samples = predict(reference, mb, vector, rounding);
     [
-        quarter(&y, 0),
-        quarter(&y, 1),
-        quarter(&y, 2),
-        quarter(&y, 3),
-        cb,
-        cr,
+        quarter(&samples.y, 0),
+        quarter(&samples.y, 1),
+        quarter(&samples.y, 2),
+        quarter(&samples.y, 3),
+        samples.cb,
+        samples.cr,
     ]
 }
 

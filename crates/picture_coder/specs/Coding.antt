@@ -1,13 +1,10 @@
 -- A picture in the middle of its coding.
-use Rattle.std.specs.Prelude.{◌≡◌, ℕ, ◌<◌, List, Option, take}
+use Rattle.std.specs.Prelude.{◌≡◌, ℕ, List, Option, take}
 use Rattle.h263_types.specs.declared.blocks.Mb.{Mb}
-use Rattle.h263_planes.specs.declared.Plane.{Plane}
-use Rattle.h263_planes.specs.Blocks.{mb_of}
 use Rattle.h263_planes.specs.Picture.{Picture}
-use Rattle.h263_planes.specs.Samples.{Inside, IsPicture, sample_at}
+use Rattle.h263_planes.specs.Samples.{IsPicture}
 use Rattle.picture_header.specs.declared.header.Header.{Header}
-use Rattle.h263_types.specs.Blocks.{mb_in}
-use Rattle.picture_recon.specs.Samples.{sample_in}
+use Rattle.picture_recon.specs.Shown.{ShowsFirst}
 use Rattle.packet_cutter.specs.declared.cutter.Cutter.{Cutter}
 use Rattle.packet_cutter.specs.Cutting.{Holds, IsBegun, added_of, format_of, kind_of, quant_of}
 
@@ -20,9 +17,8 @@ pub record HoldsFirst (number : ℕ) (h : Header) (mbs : List Mb) (count : ℕ) 
   pub quant : quant_of c ≡ h.quant
   pub format : format_of c ≡ h.format
 
--- the picture shows the first `count` macroblocks: each of their samples is the reconstructed one
-pub record ShowsFirst (h : Header) (reference : Option Picture) (mbs : List Mb) (count : ℕ) (p : Picture) : Type 0 where
+-- the picture shows the first `count` macroblocks
+pub record HasShown (h : Header) (reference : Option Picture) (mbs : List Mb) (count : ℕ) (p : Picture) : Type 0 where
   pub whole : IsPicture p
   pub format : p.format ≡ h.format
-  pub samples : (plane : Plane) (x y : ℕ) → Inside h.format plane x y 1 → mb_of h.format plane x y < count →
-      sample_at p plane x y ≡ sample_in h.rounding reference (mb_in mbs (mb_of h.format plane x y)) plane x y
+  pub shows : ShowsFirst h.format h.rounding reference mbs count p

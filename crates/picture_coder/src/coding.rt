@@ -16,9 +16,10 @@ ghost use Rattle.packet_cutter.specs.Packets.{ArePacketsOf};
 use h263_planes::{PictureMut, PictureRef};
 use h263_types::Params;
 use mode_choice::choose;
+use mode_choice::laws::one_for_each_place;
 use packet_cutter::Cutter;
 use picture_header::Header;
-use picture_recon::laws::samples_are_reconstruction;
+use picture_recon::laws::shown_one_by_one;
 use picture_recon::recon_mb;
 
 /// Codes `frame` as picture `number` with this header. `cutter`, which was started with these parameters, then holds the
@@ -55,8 +56,9 @@ pub fn code_picture(
     ensures format { (lent.work work.new).format ≡ params.now.format }
     ensures whole { IsPicture (lent.work work.new) }
 {
-    // A picture of these samples is the reconstruction, and no other.
-    samples_are_reconstruction();
+    // One choice for each place, and a picture that shows them all is their reconstruction.
+    one_for_each_place();
+    shown_one_by_one();
     cutter.begin(number, header);
     for at in 0..params.format.mbs() {
         let mb = choose(frame, reference, at, header, params);

@@ -8,13 +8,8 @@ use Rattle.h263_planes.specs.declared.Plane.{Plane}
 use Rattle.h263_planes.specs.declared.Plane.TheVariants.{Y, Cb, Cr}
 use Rattle.h263_planes.specs.Blocks.{mb_of}
 use Rattle.h263_planes.specs.Picture.{Picture}
-use Rattle.h263_planes.specs.Samples.{in_block, same_plane}
-use Rattle.half_sample.specs.Prediction.{IsColour, predicted_sample}
-
--- the samples of a macroblock in one plane, by rows of n, are predicted
-abbrev pub ArePredicted : ℕ → Picture → Plane → ℕ → Vector → ℕ → List ℕ → Type 0
-ArePredicted n p plane at v r samples =
-    (j i : ℕ) → j < n → i < n → get_or samples (n * j + i) 0 ≡ predicted_sample p plane (n * (at % columns_of p.format) + i) (n * (at / columns_of p.format) + j) v r
+use Rattle.h263_planes.specs.Samples.{Inside, in_block, same_plane}
+use Rattle.half_sample.specs.Prediction.{ArePredicted, predicted_sample}
 
 in_square : (p : Picture) (plane : Plane) (at n : ℕ) (v : Vector) (r : ℕ) (samples : List ℕ) (left top x y : ℕ) → ArePredicted n p plane at v r samples →
     left ≡ n * (at % columns_of p.format) → top ≡ n * (at / columns_of p.format) → left ≤ x → x < left + n → top ≤ y → y < top + n →
@@ -85,8 +80,20 @@ predicted_small f p plane at n v r samples left top x y e h column row same here
     (in_square p plane at n v r samples left top x y h (column ∙ ap (λ (g : Format). n * (at % columns_of g)) (sym e)) (row ∙ ap (λ (g : Format). n * (at / columns_of g)) (sym e)) place.from place.to place.below place.above)
     (small (n * (y - top) + (x - left)))
 
--- the size of a square of a colour
-pub colour_size : (plane : Plane) → IsColour plane → (size : ℕ) → size ≡ cond (same_plane plane Y) 16 8 → size ≡ 8
-colour_size Y colour size e = absurd colour
-colour_size Cb colour size e = e
-colour_size Cr colour size e = e
+-- what is put into one plane after the other
+pub each_plane : (plane : Plane) (t : Bool) (now with_cb with_y old v : ℕ) →
+    now ≡ cond (same_plane Cr plane && t) v with_cb → with_cb ≡ cond (same_plane Cb plane && t) v with_y →
+    with_y ≡ cond (same_plane Y plane && t) v old → now ≡ cond t v old
+each_plane Y t now with_cb with_y old v cr cb y = cr ∙ cb ∙ y
+each_plane Cb t now with_cb with_y old v cr cb y = cr ∙ cb ∙ ap (λ (n : ℕ). cond t v n) y
+each_plane Cr t now with_cb with_y old v cr cb y = cr ∙ ap (λ (n : ℕ). cond t v n) (cb ∙ y)
+
+-- the predicted samples of macroblock `at` in a plane are below 256
+abbrev AreSmall : Format → Picture → ℕ → Vector → ℕ → Plane → Type 0
+AreSmall f p at v r plane = (x y : ℕ) → Inside f plane x y 1 → mb_of f plane x y ≡ at → predicted_sample p plane x y v r < 256
+
+pub small_in_each : (f : Format) (p : Picture) (at : ℕ) (v : Vector) (r : ℕ) → AreSmall f p at v r Y → AreSmall f p at v r Cb → AreSmall f p at v r Cr →
+    (plane : Plane) → AreSmall f p at v r plane
+small_in_each f p at v r y cb cr Y = y
+small_in_each f p at v r y cb cr Cb = cb
+small_in_each f p at v r y cb cr Cr = cr

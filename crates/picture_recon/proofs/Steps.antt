@@ -1,5 +1,5 @@
 -- The steps of the loops that fill a block, a macroblock and a slice.
-use Rattle.std.proofs.Common.{◌≡◌, ◌≢◌, ℕ, zero, suc, ◌+◌, ◌*◌, ◌-◌, ◌%◌, ◌<◌, ◌≤◌, ℤ, pos, List, length, get_or, drop, slice_set, slice_range, map, Bool, true, false, cond, ◌&&◌, nat_eq, nat_le, nat_lt, refl, ap, subst, sym, ◌∙◌, arith, lit<, below_more, length-set, get_or-set_same, get_or-set_other, get_or-take, get_or-drop}
+use Rattle.std.proofs.Common.{◌≡◌, ◌≢◌, ℕ, zero, suc, ◌+◌, ◌*◌, ◌-◌, ◌%◌, ◌<◌, ◌≤◌, ℤ, pos, List, length, get_or, drop, slice_set, slice_range, map, Bool, true, false, cond, ◌&&◌, nat_eq, nat_le, nat_lt, refl, ap, ◌∙◌, arith, lit<, length-set, get_or-set_same, get_or-set_other, get_or-take, get_or-drop}
 use Rattle.std.specs.List.{range_with_len}
 use Rattle.std.proofs.lemmas.List.FromFn.{fill_by_all}
 use Rattle.std.proofs.lemmas.Bool.Decides.{nat_tests}

@@ -1,3 +1,4 @@
 pub mod Marks
 pub mod Samples
 pub mod Squares
+pub mod Shown

@@ -13,6 +13,7 @@ ghost use Rattle.h263_planes.specs.References.{HasReference};
 ghost use Rattle.h263_planes.specs.Samples.{Inside, IsPicture, sample_at};
 ghost use Rattle.h263_planes.specs.Work.{loan_of, work};
 ghost use Rattle.picture_recon.specs.Samples.{sample_in};
+ghost use Rattle.picture_recon.specs.Shown.{SetsMb};
 
 use crate::blocks::put_block;
 use crate::predicted::put_inter;
@@ -41,7 +42,7 @@ pub fn recon_mb(
     ensures same_loan { loan_of out.new ≡ loan_of out.old }
     ensures format { (work out.new).format ≡ header.now.format }
     ensures whole { IsPicture (work out.new) }
-    ensures samples { (plane : Plane) (x y : ℕ) → Inside header.now.format plane x y 1 → sample_at (work out.new) plane x y ≡ (if nat_eq (mb_of header.now.format plane x y) at then sample_in header.now.rounding (option_map picture reference.entry) mb.now plane x y else sample_at (work out.old) plane x y) }
+    ensures samples { SetsMb header.now.format header.now.rounding (option_map picture reference.entry) at mb.now (work out.old) (work out.new) }
 {
     match mb {
         Mb::Skip => {
@@ -79,7 +80,7 @@ fn put_intra(quant: u8, blocks: &[Block; 6], at: u32, format: Format, out: &mut 
     ensures same_loan { loan_of out.new ≡ loan_of out.old }
     ensures format { (work out.new).format ≡ format }
     ensures whole { IsPicture (work out.new) }
-    ensures samples { (plane : Plane) (x y : ℕ) (rounding : ℕ) (reference : Option Picture) → Inside format plane x y 1 → sample_at (work out.new) plane x y ≡ (if nat_eq (mb_of format plane x y) at then sample_in rounding reference (Intra quant blocks.now) plane x y else sample_at (work out.old) plane x y) }
+    ensures samples { (rounding : ℕ) (reference : Option Picture) → SetsMb format rounding reference at (Intra quant blocks.now) (work out.old) (work out.new) }
 {
     for block in 0..6u32 {
         let samples = intra_samples(quant, &blocks[block as usize]);

@@ -2,11 +2,10 @@
 ghost use Rattle.std.specs.Prelude.{◌≡◌, ℕ, ◌+◌, ◌-◌, ◌*◌, ◌/◌, ◌%◌, ◌<◌, ◌≤◌, ◌&&◌, length, nat_eq, slice_index, if◌then◌else◌};
 ghost use Rattle.h263_types.specs.Sizes.{columns_of, mbs_of};
 ghost use Rattle.h263_planes.specs.declared.Plane.{Plane};
-ghost use Rattle.h263_planes.specs.declared.Plane.TheVariants.{Y};
 ghost use Rattle.h263_planes.specs.Blocks.{mb_of};
 ghost use Rattle.h263_planes.specs.Samples.{Inside, IsPicture, in_block, same_plane, sample_at};
 ghost use Rattle.h263_planes.specs.Work.{loan_of, work};
-ghost use Rattle.picture_recon.specs.Squares.{IsInside};
+ghost use Rattle.picture_recon.specs.Squares.{IsInside, columns_in};
 
 use h263_planes::{PictureMut, Plane, mb_place};
 use h263_types::Format;
@@ -23,7 +22,7 @@ pub(crate) struct Square {
 #[inline(always)]
 pub(crate) fn square_of(format: Format, plane: Plane, at: u32) -> Square
     requires { at < mbs_of format }
-    ensures size { result.size ≡ (if same_plane plane Y then 16 else 8) }
+    ensures size { result.size ≡ columns_in plane }
     ensures column { result.x ≡ result.size * (at % columns_of format) }
     ensures row { result.y ≡ result.size * (at / columns_of format) }
     ensures inside { IsInside format plane result }

@@ -7,6 +7,7 @@ use Rattle.motion_search.specs.Cost as luma
 use Rattle.motion_search.specs.Order.{least}
 use Rattle.motion_search.specs.Vectors.{in_reach, neighbours, whole_vectors, zero_vector}
 use Rattle.mode_choice.proofs.Choices.{chosen_in_range, chosen_reaches, one_of_candidates, reaching_vectors}
+use Rattle.mode_choice.proofs.Whole.{chosen_whole}
 use Rattle.mode_choice.proofs.laws.chosen_is_in_range.Goals as goal
 
 zero_in_range : IsVector zero_vector
@@ -27,3 +28,6 @@ returns-clause-in_range c = chosen_in_range (λ frame reference mb radius r.
 
 pub returns-clause-reach : goal.returns-clause-reach
 returns-clause-reach c = chosen_reaches c.best_is_a_candidate.ensures
+
+pub returns-clause-whole : goal.returns-clause-whole
+returns-clause-whole c = chosen_whole

@@ -4,7 +4,7 @@ use Rattle.h263_planes.specs.Lent.{picture}
 use Rattle.h263_planes.specs.Work as lent
 use Rattle.mode_choice.specs.Choice.{choices_of}
 use Rattle.packet_cutter.specs.Cutting.{limit_of, sequence_of}
-use Rattle.picture_coder.specs.Coding.{HoldsFirst, ShowsFirst}
+use Rattle.picture_coder.specs.Coding.{HoldsFirst, HasShown}
 use Rattle.picture_coder.proofs.coding.code_picture.Given as goal
 
 -- the macroblocks before `at` were chosen, are added, and are shown
@@ -13,6 +13,6 @@ invariant-loop-at l = record {
   added : HoldsFirst l.number l.header (choices_of (picture l.frame) (option_map picture l.reference) l.header l.params) l.at l.cutter;
   limit : limit_of l.cutter ≡ limit_of l.fn.cutter;
   sequence : sequence_of l.cutter ≡ sequence_of l.fn.cutter;
-  shown : ShowsFirst l.header (option_map picture l.reference) (choices_of (picture l.frame) (option_map picture l.reference) l.header l.params) l.at (lent.work l.work);
+  shown : HasShown l.header (option_map picture l.reference) (choices_of (picture l.frame) (option_map picture l.reference) l.header l.params) l.at (lent.work l.work);
   same_loan : lent.loan_of l.work ≡ lent.loan_of l.fn.work;
 }

@@ -18,7 +18,7 @@ loop-block-preserved c = (
 )
 
 pub returns-clause-samples : goal.returns-clause-samples
-returns-clause-samples c = λ plane x y rounding reference h.
+returns-clause-samples c = λ rounding reference plane x y h.
     let six : block_of plane x y < 6 = six_blocks plane x y in
     let all : block_of plane x y < c.loop-block.block = omega arith in
     all_blocks (mb_of c.args.format plane x y) c.args.at (block_of plane x y) c.loop-block.block _ _ _ all

@@ -13,4 +13,4 @@ returns-in-Intra-clause-samples c = λ plane x y h.
     let header = c.args.header.now in
     let reference = option_map picture c.args.reference in
     subst (λ (mb : Mb). sample_at (work c.put_intra.new.out) plane x y ≡ cond (nat_eq (mb_of header.format plane x y) c.args.at) (sample_in header.rounding reference mb plane x y) (sample_at (work c.args.out.now) plane x y)) (sym c.in-Intra.is)
-    (c.put_intra.ensures.samples plane x y header.rounding reference h)
+    (c.put_intra.ensures.samples header.rounding reference plane x y h)

@@ -1,6 +1,5 @@
 use Rattle.std.proofs.Common.{ℕ, pos, ◌+ℤ◌, ◌%◌, subst, sym}
 use Rattle.idct8.specs.Transform.{inverse_at}
-use Rattle.h263_types.specs.Blocks.{level_at}
 use Rattle.h263_planes.specs.Blocks.{mb_of, block_of}
 use Rattle.h263_types.specs.declared.format.Format.{Format}
 use Rattle.h263_planes.specs.Lent.{picture}
