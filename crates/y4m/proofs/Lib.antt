@@ -12,3 +12,4 @@ pub mod Videos
 pub mod Words
 pub mod Writes
 pub mod Written
+mod ByFrames

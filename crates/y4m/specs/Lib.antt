@@ -6,3 +6,4 @@ pub mod Spelled
 pub mod Video
 pub mod Reader
 pub mod Text
+pub mod Laws

@@ -5,6 +5,7 @@ use Rattle.h263_types.specs.declared.format.Format.{Format}
 use Rattle.h263_types.specs.Sizes.{size_of_picture}
 use Rattle.y4m.specs.Line.{NoNewline, is_gap, tags_of}
 use Rattle.y4m.specs.Head.{tag_fault, format_in}
+use Rattle.y4m.specs.Video.{most_frames}
 
 -- nothing, or something that a space stands before
 abbrev pub StandsApart : List ℕ → Type 0
@@ -62,4 +63,4 @@ pub record IsVideo (video : List ℕ) (f : Format) (planes : List (List ℕ)) : 
   pub of_head : IsHead head f
   pub of_frames : All (IsFrame f) frames
   pub of_planes : planes ≡ map (λ frame. frame.planes) frames
-  pub count : length frames ≤ 1048576
+  pub count : length frames ≤ most_frames

@@ -6,6 +6,14 @@ use Rattle.y4m.specs.declared.fault.Y4mFault.TheVariants.{TooMany}
 use Rattle.y4m.specs.Head.{head_of, head_size}
 use Rattle.y4m.specs.Frame.{frame_of, frame_size}
 
+-- the most frames of a video
+abbrev pub most_frames : ℕ
+most_frames = 1048576
+
+-- the bytes behind the frame that stands first
+abbrev pub behind_frame : Format → List ℕ → List ℕ
+behind_frame f rest = drop (frame_size f rest) rest
+
 -- a frame, and those behind it
 abbrev pub frames_from : Result (List ℕ) Y4mFault → List (List ℕ) → List (List ℕ)
 frames_from (Ok frame) more = frame ∷ more
@@ -32,11 +40,11 @@ fault_of f (suc n) at (b ∷ rest) =
 -- behind a head
 abbrev pub fault_behind : Result Format Y4mFault → ℕ → List ℕ → Option Y4mFault
 fault_behind (Err fault) at body = Some fault
-fault_behind (Ok f) at body = fault_of f 1048576 at body
+fault_behind (Ok f) at body = fault_of f most_frames at body
 
 abbrev pub frames_behind : Result Format Y4mFault → ℕ → List ℕ → List (List ℕ)
 frames_behind (Err fault) at body = []
-frames_behind (Ok f) at body = frames_of f 1048576 at body
+frames_behind (Ok f) at body = frames_of f most_frames at body
 
 -- the first fault of a video, and its frames up to there
 unfoldable pub video_fault : List ℕ → Option Y4mFault

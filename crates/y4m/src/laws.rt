@@ -7,12 +7,13 @@ ghost use Rattle.h263_types.specs.declared.Mark.{Mark};
 ghost use Rattle.h263_planes.specs.Picture.{Picture};
 ghost use Rattle.h263_planes.specs.Samples.{IsPicture, bytes_of};
 ghost use Rattle.y4m.specs.Head.{head_of, head_size};
-ghost use Rattle.y4m.specs.Video.{video_fault, video_frames};
+ghost use Rattle.y4m.specs.Video.{most_frames, video_fault, video_frames};
 ghost use Rattle.y4m.specs.Frame.{frame_of, frame_size};
 ghost use Rattle.y4m.specs.Line.{tags_of};
 ghost use Rattle.y4m.specs.Spelled.{IsVideo, Word, IsWord, spaced};
 ghost use Rattle.y4m.specs.declared.fault.Y4mFault.TheVariants.{ShortFrame};
 ghost use Rattle.y4m.specs.Text.{head_text, frame_text};
+ghost use Rattle.y4m.specs.Laws.{FrameLaws};
 
 use h263_planes::laws::planes_are_bytes;
 
@@ -30,7 +31,7 @@ pub fn a_video_is_accepted()
 
 /// What `write_head` and `write_frame` write is a video of the head's format, whose frames are those pictures.
 pub fn written_is_a_video()
-    ensures { (f : Format) (shown : List (Mark × Picture)) → All (λ s. IsPicture s.1 × (s.1.format ≡ f)) shown → length shown ≤ 1048576 → IsVideo (head_text f ++ flat_map (λ s. frame_text s.0 s.1) shown) f (map (λ s. bytes_of s.1) shown) }
+    ensures { (f : Format) (shown : List (Mark × Picture)) → All (λ s. IsPicture s.1 × (s.1.format ≡ f)) shown → length shown ≤ most_frames → IsVideo (head_text f ++ flat_map (λ s. frame_text s.0 s.1) shown) f (map (λ s. bytes_of s.1) shown) }
 {
     planes_are_bytes();
 }
@@ -49,4 +50,9 @@ pub fn short_at_the_end()
 pub fn cut_behind()
     ensures head { (video : List ℕ) (f : Format) (k : ℕ) → head_of video ≡ Ok f → head_size video ≤ k → (head_of (take k video) ≡ Ok f) × (head_size (take k video) ≡ head_size video) }
     ensures frame { (f : Format) (at k : ℕ) (rest planes : List ℕ) → frame_of f at rest ≡ Ok planes → frame_size f rest ≤ k → (frame_of f at (take k rest) ≡ Ok planes) × (frame_size f (take k rest) ≡ frame_size f rest) }
+{}
+
+/// The frames of a video and its first fault, frame by frame.
+pub fn frame_by_frame()
+    ensures { FrameLaws }
 {}

@@ -11,7 +11,7 @@ mod reader;
 mod writer;
 
 pub use fault::{VideoStop, Y4mFault};
-pub use reader::Y4mReader;
+pub use reader::{MAX_FRAMES, Y4mReader};
 pub use writer::{write_frame, write_head};
 
 #[cfg(test)]

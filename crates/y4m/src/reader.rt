@@ -27,12 +27,13 @@ impl Y4mReader {
     ghost use Rattle.h263_outside.specs.Desk.{Rose, OnlyReads};
     ghost use Rattle.h263_outside.specs.declared.desk.Role.TheVariants.{Video};
     ghost use Rattle.y4m.specs.Reader.{HeadGives, FrameGives, Moves};
+    ghost use Rattle.y4m.specs.Video.{most_frames};
 
     /// Reads the head's line, up to its newline.
     pub fn head<D: Desk>(desk: &mut D) -> Result<Y4mReader, VideoStop>
         requires { (D.outside desk.old).attached Video ≡ true }
         ensures gives { (video : List ℕ) → (D.outside desk.old).left Video ≡ Some video → HeadGives result video ((D.outside desk.new).left Video) }
-        ensures more { IfOk result (λ reader. reader.more ≡ 1048576) }
+        ensures more { IfOk result (λ reader. reader.more ≡ most_frames) }
         ensures cause { IsErrOf result VideoStop.Read → Rose (D.outside desk.old).faults.read (D.outside desk.new).faults.read }
         ensures rest { OnlyReads (D.outside desk.old) (D.outside desk.new) }
     {
