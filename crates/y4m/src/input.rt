@@ -1,6 +1,7 @@
 // Bytes and lines of the video, from a desk.
-ghost use Rattle.std.specs.Prelude.{◌≡◌, ◌<◌, ◌≤◌, ◌^◌, ◌∷◌, ℕ, List, [], length, true, take, drop, MatchOption, OnErr, IfOk, IfErr, IsErrOf, Some};
+ghost use Rattle.std.specs.Prelude.{◌≡◌, ◌≢◌, ◌<◌, ◌≤◌, ◌^◌, ◌∷◌, ℕ, List, [], length, true, take, drop, MatchOption, OnErr, IfOk, IfErr, IsErrOf, Some};
 ghost use Rattle.h263_outside.specs.Desk.{FillsFront, Rose, OnlyReads};
+ghost use Rattle.h263_outside.specs.declared.desk.Role.{Role};
 ghost use Rattle.h263_outside.specs.declared.desk.Role.TheVariants.{Video};
 ghost use Rattle.y4m.specs.Line.{line_within};
 ghost use Rattle.y4m.specs.Planes.{PlanesGive, IsCut};
@@ -17,6 +18,7 @@ pub fn read<D: Desk>(desk: &mut D, buf: &mut [u8]) -> Result<usize, VideoStop>
     ensures lost { (left : List ℕ) → (D.outside desk.old).left Video ≡ Some left → OnErr result ((k : ℕ) × (k < length buf.old) × ((D.outside desk.new).left Video ≡ Some (drop k left))) }
     ensures err { IfErr result (λ stop. stop ≡ VideoStop.Read) }
     ensures cause { OnErr result (Rose (D.outside desk.old).faults.read (D.outside desk.new).faults.read) }
+    ensures others { (r : Role) → r ≢ Video → (D.outside desk.new).left r ≡ (D.outside desk.old).left r }
     ensures rest { OnlyReads (D.outside desk.old) (D.outside desk.new) }
 {
     match read_full(desk, Role::Video, buf) {
@@ -32,6 +34,7 @@ fn read_byte<D: Desk>(desk: &mut D) -> Result<Option<u8>, VideoStop>
     ensures lost { (left : List ℕ) → (D.outside desk.old).left Video ≡ Some left → OnErr result ((D.outside desk.new).left Video ≡ Some left) }
     ensures err { IfErr result (λ stop. stop ≡ VideoStop.Read) }
     ensures cause { OnErr result (Rose (D.outside desk.old).faults.read (D.outside desk.new).faults.read) }
+    ensures others { (r : Role) → r ≢ Video → (D.outside desk.new).left r ≡ (D.outside desk.old).left r }
     ensures rest { OnlyReads (D.outside desk.old) (D.outside desk.new) }
 {
     let mut byte = [0; 1];
@@ -49,6 +52,7 @@ pub fn read_line<D: Desk>(desk: &mut D, line: &mut [u8]) -> Result<usize, VideoS
     ensures cut { (left : List ℕ) → (D.outside desk.old).left Video ≡ Some left → OnErr result (IsCut left ((D.outside desk.new).left Video)) }
     ensures err { IfErr result (λ stop. stop ≡ VideoStop.Read) }
     ensures cause { OnErr result (Rose (D.outside desk.old).faults.read (D.outside desk.new).faults.read) }
+    ensures others { (r : Role) → r ≢ Video → (D.outside desk.new).left r ≡ (D.outside desk.old).left r }
     ensures rest { OnlyReads (D.outside desk.old) (D.outside desk.new) }
 {
     calls();
@@ -71,6 +75,7 @@ pub fn read_planes<D: Desk>(desk: &mut D, at: u64, out: &mut [u8]) -> Result<(),
     requires size { length out.old < 2 ^ 62 }
     ensures gives { (left : List ℕ) → (D.outside desk.old).left Video ≡ Some left → PlanesGive result at left out.new ((D.outside desk.new).left Video) }
     ensures cause { IsErrOf result VideoStop.Read → Rose (D.outside desk.old).faults.read (D.outside desk.new).faults.read }
+    ensures others { (r : Role) → r ≢ Video → (D.outside desk.new).left r ≡ (D.outside desk.old).left r }
     ensures rest { OnlyReads (D.outside desk.old) (D.outside desk.new) }
 {
     let count = read(desk, out)?;

@@ -22,9 +22,10 @@ pub struct Y4mReader {
 }
 
 impl Y4mReader {
-    ghost use Rattle.std.specs.Prelude.{◌≡◌, ◌<◌, ◌≤◌, ◌+◌, ◌*◌, ◌^◌, ℕ, List, length, true, OnOk, OnErr, IfOk, IsErrOf, Some};
+    ghost use Rattle.std.specs.Prelude.{◌≡◌, ◌≢◌, ◌<◌, ◌≤◌, ◌+◌, ◌*◌, ◌^◌, ℕ, List, length, true, OnOk, OnErr, IfOk, IsErrOf, Some};
     ghost use Rattle.h263_types.specs.Sizes.{size_of_picture};
     ghost use Rattle.h263_outside.specs.Desk.{Rose, OnlyReads};
+    ghost use Rattle.h263_outside.specs.declared.desk.Role.{Role};
     ghost use Rattle.h263_outside.specs.declared.desk.Role.TheVariants.{Video};
     ghost use Rattle.y4m.specs.Reader.{HeadGives, FrameGives, Moves};
     ghost use Rattle.y4m.specs.Video.{most_frames};
@@ -35,6 +36,7 @@ impl Y4mReader {
         ensures gives { (video : List ℕ) → (D.outside desk.old).left Video ≡ Some video → HeadGives result video ((D.outside desk.new).left Video) }
         ensures more { IfOk result (λ reader. reader.more ≡ most_frames) }
         ensures cause { IsErrOf result VideoStop.Read → Rose (D.outside desk.old).faults.read (D.outside desk.new).faults.read }
+        ensures others { (r : Role) → r ≢ Video → (D.outside desk.new).left r ≡ (D.outside desk.old).left r }
         ensures rest { OnlyReads (D.outside desk.old) (D.outside desk.new) }
     {
         let mut line = [0; 256];
@@ -62,6 +64,7 @@ impl Y4mReader {
         ensures gives { (rest : List ℕ) → (D.outside desk.old).left Video ≡ Some rest → FrameGives result self.old rest out.new self.new ((D.outside desk.new).left Video) }
         ensures moves { Moves result self.old self.new }
         ensures cause { IsErrOf result VideoStop.Read → Rose (D.outside desk.old).faults.read (D.outside desk.new).faults.read }
+        ensures others { (r : Role) → r ≢ Video → (D.outside desk.new).left r ≡ (D.outside desk.old).left r }
         ensures rest { OnlyReads (D.outside desk.old) (D.outside desk.new) }
     {
         // One byte more than a line may have, to tell a line that is too long from an end of the input.
