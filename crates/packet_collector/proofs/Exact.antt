@@ -1,5 +1,5 @@
 -- Bytes are read as a packet exactly where they are one.
-use Rattle.std.proofs.Common.{◌≡◌, ℕ, ◌+◌, List, [], ◌++◌, length, drop, Option, Some, None, Bool, Result, Ok, Err, refl, sym, ap, subst, ◌∙◌, arith}
+use Rattle.std.proofs.Common.{◌≡◌, ℕ, ◌+◌, ◌<◌, ◌≤◌, List, [], ◌++◌, length, drop, Option, Some, None, Bool, Result, Ok, Err, refl, sym, ap, subst, ◌∙◌, arith}
 use Rattle.std.specs.Prelude.{IfOk, IsOkAnd}
 use Rattle.std.proofs.lemmas.List.{length-take-le, length-drop}
 use Rattle.h263_bits.specs.declared.fault.Fault.{Fault}
@@ -13,17 +13,15 @@ use Rattle.picture_header.specs.declared.header.Header.{Header}
 use Rattle.picture_header.specs.Text.{header, IsHeaderText}
 use Rattle.picture_header.specs.Laws.{HeaderLaws}
 use Rattle.rtp_header.specs.Faults.{rtp_in}
-use Rattle.rtp_header.proofs.Exact as rtp
 use Rattle.h263_payload.specs.declared.payload.Payload.{Payload}
 use Rattle.h263_payload.specs.Text.{IsExtra}
 use Rattle.h263_payload.specs.Faults.{payload_at, payload_bits_of}
-use Rattle.h263_payload.proofs.Exact as payload
 use Rattle.slice_layer.specs.Text.{IsSliceText, slice_at}
 use Rattle.slice_layer.specs.Filled.{mbs_from}
-use Rattle.slice_layer.proofs.Bodies.{slice_sound, slice_complete}
 use Rattle.packet_collector.specs.declared.piece.Piece.{Piece}
 use Rattle.h263_payload.specs.Headed.{IsHeaded}
 use Rattle.packet_collector.specs.Packet.{Slice, data_of, IsPacket, headed_at, with_header, slice_behind, packet_at, packet_fault}
+use Rattle.packet_collector.specs.Laws.{PartLaws}
 use Rattle.packet_collector.specs.Filled.{slice_in, FillsPacket, IsExtraOf, IsPieceIn}
 
 -- ---- the format of a header
@@ -66,9 +64,9 @@ record IsBehindText (format : Format) (p : Payload) (s : Slice) (bits : List Boo
   headed : IsHeaded format p.extra s.header front
   text : IsSliceText s.header p.begins s.first s.mbs behind
 
-behind_sound : (format : Format) (p : Payload) (s : Slice) (b : Bits) → slice_behind format p b ≡ Ok s → IsBehindText format p s b.bits
+behind_sound : PartLaws → (format : Format) (p : Payload) (s : Slice) (b : Bits) → slice_behind format p b ≡ Ok s → IsBehindText format p s b.bits
 unfolding slice_behind
-behind_sound format p s b e =
+behind_sound laws format p s b e =
     let one = bind_ok (headed_at format p.extra b) (λ x. with_header x.0 (slice_at x.0 p.begins x.1)) s e in
     let h = one.0.0 in
     let c = one.0.1 in
@@ -79,24 +77,24 @@ behind_sound format p s b e =
       behind = c.bits;
       parts = front.1;
       headed = subst (λ (x : Header). IsHeaded format p.extra x front.0) (sym w.header) front.2;
-      text = subst (λ (x : Header). IsSliceText x p.begins s.first s.mbs c.bits) (sym w.header) (slice_sound h p.begins s.first s.mbs c w.read);
+      text = subst (λ (x : Header). IsSliceText x p.begins s.first s.mbs c.bits) (sym w.header) ((laws.slices h p.begins s.first s.mbs c).0 w.read);
     }
 
-pub packet_sound : (format : Format) (s : Slice) (bytes : List ℕ) → packet_at format bytes ≡ Ok s → IsPacket format s bytes
+pub packet_sound : PartLaws → (format : Format) (s : Slice) (bytes : List ℕ) → packet_at format bytes ≡ Ok s → IsPacket format s bytes
 unfolding packet_at
-packet_sound format s bytes e =
+packet_sound laws format s bytes e =
     let one = bind_ok (rtp_in bytes) (λ r. payload_at format (payload_bits_of bytes r) >>= λ p. slice_behind format p (data_of bytes r p)) s e in
     let r = one.0 in
     let two = bind_ok (payload_at format (payload_bits_of bytes r)) (λ p. slice_behind format p (data_of bytes r p)) s one.2 in
     let p = two.0 in
-    let t = behind_sound format p s (data_of bytes r p) two.2 in
+    let t = behind_sound laws format p s (data_of bytes r p) two.2 in
     record {
       rtp = r;
       payload = p;
       front = t.front;
       behind = t.behind;
-      is_rtp = rtp.read_text r bytes one.1;
-      is_payload = payload.read_text format p (payload_bits_of bytes r) two.1;
+      is_rtp = laws.rtp_read r bytes one.1;
+      is_payload = laws.payload_read format p (payload_bits_of bytes r) two.1;
       parts = t.parts;
       headed = t.headed;
       text = t.text;
@@ -118,27 +116,27 @@ headed_again laws format (Some x) h at front rest t = record {
   bits = ap (λ (l : List Bool). l ++ rest) t.1;
 }
 
-pub packet_complete : HeaderLaws → (format : Format) (s : Slice) (bytes : List ℕ) → IsPacket format s bytes → packet_at format bytes ≡ Ok s
+pub packet_complete : PartLaws → (format : Format) (s : Slice) (bytes : List ℕ) → IsPacket format s bytes → packet_at format bytes ≡ Ok s
 unfolding packet_at slice_behind
 packet_complete laws format s bytes t =
     let r = t.rtp in
     let p = t.payload in
-    let one : rtp_in bytes ≡ Ok r = rtp.text_read r bytes t.is_rtp in
-    let two : payload_at format (payload_bits_of bytes r) ≡ Ok p = payload.text_read laws format p (payload_bits_of bytes r) t.is_payload in
-    let again = headed_again laws format p.extra s.header p.from t.front t.behind t.headed in
+    let one : rtp_in bytes ≡ Ok r = laws.rtp_written r bytes t.is_rtp in
+    let two : payload_at format (payload_bits_of bytes r) ≡ Ok p = laws.payload_written format p (payload_bits_of bytes r) t.is_payload in
+    let again = headed_again laws.headers format p.extra s.header p.from t.front t.behind t.headed in
     let three : headed_at format p.extra (data_of bytes r p) ≡ Ok (s.header, again.left) =
     ap (λ (bits : List Bool). headed_at format p.extra (record { at = p.from; bits = bits })) t.parts ∙ again.read in
     let four : slice_at s.header p.begins again.left ≡ Ok (s.first, s.mbs) =
-    slice_complete s.header p.begins s.first s.mbs again.left (subst (λ (bits : List Bool). IsSliceText s.header p.begins s.first s.mbs bits) (sym again.bits) t.text) in
+    (laws.slices s.header p.begins s.first s.mbs again.left).1 (subst (λ (bits : List Bool). IsSliceText s.header p.begins s.first s.mbs bits) (sym again.bits) t.text) in
     rw (one, two, three, four) refl
 
 -- ---- what a call leaves
 
-pub fills_packet : (r : Result Piece Fault) (out : List Mb) (format : Format) (bytes : List ℕ) → FillsPacket r out (packet_at format bytes) → IfOk r (λ piece. IsPacket format (slice_in piece out) bytes)
-fills_packet (Ok piece) out format bytes g = packet_sound format (slice_in piece out) bytes g
-fills_packet (Err fault) out format bytes g = tt
+pub fills_packet : PartLaws → (r : Result Piece Fault) (out : List Mb) (format : Format) (bytes : List ℕ) → FillsPacket r out (packet_at format bytes) → IfOk r (λ piece. IsPacket format (slice_in piece out) bytes)
+fills_packet laws (Ok piece) out format bytes g = packet_sound laws format (slice_in piece out) bytes g
+fills_packet laws (Err fault) out format bytes g = tt
 
-pub packet_fills : HeaderLaws → (r : Result Piece Fault) (out : List Mb) (format : Format) (bytes : List ℕ) → IfOk r (IsPieceIn format out) → length out ≡ mbs_of format → FillsPacket r out (packet_at format bytes)
+pub packet_fills : PartLaws → (r : Result Piece Fault) (out : List Mb) (format : Format) (bytes : List ℕ) → IfOk r (IsPieceIn format out) → length out ≡ mbs_of format → FillsPacket r out (packet_at format bytes)
     → (s : Slice) → IsPacket format s bytes → IsOkAnd r (λ piece. (piece.head.count ≡ length s.mbs) × (slice_in piece out ≡ s))
 packet_fills laws (Ok piece) out format bytes range size g s is =
     let same = ok_is (slice_in piece out) s (sym g ∙ packet_complete laws format s bytes is) in
@@ -155,12 +153,30 @@ fault_is (Err fault) out read g = ap first_fault (sym g)
 
 -- ---- laws
 
-pub no_fault : (format : Format) (bytes : List ℕ) → packet_fault format bytes ≡ None → (s : Slice) × IsPacket format s bytes
-no_fault format bytes e = at (packet_at format bytes) refl e
+pub no_fault : PartLaws → (format : Format) (bytes : List ℕ) → packet_fault format bytes ≡ None → (s : Slice) × IsPacket format s bytes
+no_fault laws format bytes e = at (packet_at format bytes) refl e
   where
     at : (r : Result Slice Fault) → packet_at format bytes ≡ r → first_fault r ≡ None → (s : Slice) × IsPacket format s bytes
-    at (Ok s) is e = (s, packet_sound format s bytes is)
+    at (Ok s) is e = (s, packet_sound laws format s bytes is)
     at (Err fault) is e = absurd cc
 
-pub one_packet : HeaderLaws → (format : Format) (s other : Slice) (bytes : List ℕ) → IsPacket format s bytes → IsPacket format other bytes → s ≡ other
+pub one_packet : PartLaws → (format : Format) (s other : Slice) (bytes : List ℕ) → IsPacket format s bytes → IsPacket format other bytes → s ≡ other
 one_packet laws format s other bytes p q = ok_is s other (sym (packet_complete laws format s bytes p) ∙ packet_complete laws format other bytes q)
+
+-- ---- where a slice lies
+
+pub record IsInside (format : Format) (s : Slice) : Type 0 where
+  pub format_is : s.header.format ≡ format
+  pub some : 0 < length s.mbs
+  pub within : s.first + length s.mbs ≤ mbs_of format
+
+headed_format : (format : Format) (plen pebit : ℕ) (extra : Option Header) (middle : List Bool) (h : Header) (front : List Bool) → IsExtra format plen pebit extra middle → IsHeaded format extra h front → h.format ≡ format
+headed_format format plen pebit None middle h front t headed = header_format format h front headed
+headed_format format plen pebit (Some x) middle h front t headed = ap (λ (y : Header). y.format) (sym headed.0) ∙ extra_format format plen pebit (Some x) middle t
+
+pub packet_inside : (format : Format) (s : Slice) (bytes : List ℕ) → IsPacket format s bytes → IsInside format s
+packet_inside format s bytes p =
+    let payload = p.is_payload in
+    let same = headed_format format payload.opening.plen payload.opening.pebit p.payload.extra payload.middle s.header p.front payload.extra p.headed in
+    let body = p.text.body in
+    record { format_is = same; some = body.some; within = omega (arith, body.some, body.within, ap mbs_of same) }

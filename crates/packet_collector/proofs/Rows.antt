@@ -1,13 +1,11 @@
 -- A collector after its places were changed.
-use Rattle.std.proofs.Common.{◌≡◌, ◌≢◌, ◌⊎◌, ℕ, zero, suc, ◌+◌, ◌*◌, ◌%◌, ◌<◌, ◌≤◌, Bool, true, false, List, [], ◌∷◌, length, set, get_or, replicate, Option, Some, None, refl, sym, ap, subst, ◌∙◌, arith, inl, inr}
+use Rattle.std.proofs.Common.{◌≡◌, ◌≢◌, ◌⊎◌, ℕ, zero, suc, ◌+◌, ◌*◌, ◌/◌, ◌%◌, ◌<◌, ◌≤◌, Bool, true, false, List, [], ◌∷◌, length, set, get_or, replicate, Option, Some, None, refl, sym, ap, subst, ◌∙◌, arith, inl, inr}
 use Rattle.std.proofs.lemmas.Bool.{cases_lt, cases_eq}
 use Rattle.std.proofs.lemmas.List.{length-set, get_or-set_same, get_or-set_other, with_items_is}
 use Rattle.std.specs.Vec.{with_items}
 use Rattle.std.specs.declared.vec.Vec.{Vec}
-use Rattle.std.proofs.lemmas.Nat.{mod_below, mul-le}
+use Rattle.std.proofs.lemmas.Nat.{mod_below, mul-le, div-add-mod'}
 use Rattle.std.proofs.Math.Nat.{add-mod_right}
-use Rattle.call_model.specs.Numbers.{first_from}
-use Rattle.call_model.proofs.NumberLemmas.{first_from_is}
 use Rattle.h263_bits.specs.Syntax.{IsIn}
 use Rattle.h263_types.specs.declared.blocks.SliceHead.{SliceHead}
 use Rattle.h263_types.specs.Sizes.{mbs_of}
@@ -18,15 +16,26 @@ use Rattle.packet_collector.specs.Taken.{Taken, holds, has_taken, has_any}
 use Rattle.packet_collector.specs.Collected.{Collects, IsInRow, IsKept, FitsKept, format_of, first_of, row_of, place_in, header_in, has_in}
 use Rattle.packet_collector.proofs.Pieces.{none_ever, never_ever, none_of, never, kept_more, kept_other, taken_held, taken_not_held, taken_other}
 
+-- numbers with one rest that are less than a period apart are one
+same_rest : (period n m : ℕ) → n % period ≡ m % period → n ≤ m → m < n + period → n ≡ m
+same_rest period n m e order near =
+    elim (cases_lt (n / period) (m / period)) [
+      | inl less ↦
+          let far : (n / period + 1) * period ≤ m / period * period = mul-le (n / period + 1) period (m / period) period (omega arith) (omega arith) in
+          let more : (n / period + 1) * period ≡ n / period * period + period = omega arith in
+          absurd (omega (arith, far, more, div-add-mod' n period, div-add-mod' m period))
+      | inr most ↦
+          let back : m / period * period ≤ n / period * period = mul-le (m / period) period (n / period) period most (omega arith) in
+          omega (arith, back, div-add-mod' n period, div-add-mod' m period)
+    ]
+
 -- two numbers of a row have two places
 apart : (c : Collector) (n m : ℕ) → IsInRow c n → IsInRow c m → place_in c n ≡ place_in c m → n ≡ m
 apart c n m a b e =
-    sym (first_from_is (row_of c) (first_of c) n (omega (arith, c.some)) a.low a.high)
-    ∙ ap (λ (r : ℕ). first_from' r) e
-    ∙ first_from_is (row_of c) (first_of c) m (omega (arith, c.some)) b.low b.high
-  where
-    first_from' : ℕ → ℕ
-    first_from' r = first_from (row_of c) (first_of c) r
+    elim (cases_lt m n) [
+      | inl less ↦ sym (same_rest (row_of c) m n (sym e) (omega arith) (omega (arith, a.high, b.low)))
+      | inr most ↦ same_rest (row_of c) n m e most (omega (arith, a.low, b.high))
+    ]
 
 pub below : (c : Collector) (n : ℕ) → place_in c n < row_of c
 below c n = mod_below n (row_of c) (omega (arith, c.some))

@@ -1,4 +1,5 @@
 pub mod Packet
+pub mod Laws
 pub mod Filled
 pub mod Taken
 pub mod Collected

@@ -1,5 +1,5 @@
 -- Which slices were taken of which pictures, and where another one stands to them.
-use Rattle.std.specs.Prelude.{◌≡◌, ◌≢◌, ℕ, ◌+◌, Bool, true, false, ◌&&◌, not, ◌==◌, nat_le, nat_lt, List}
+use Rattle.std.specs.Prelude.{◌≡◌, ◌≢◌, ℕ, ◌+◌, Bool, true, false, ◌&&◌, not, ◌==◌, nat_le, nat_lt, List, ◌∷◌}
 use Rattle.std.specs.List.{list_any}
 use Rattle.call_model.specs.Numbers.{all_below}
 use Rattle.h263_bits.specs.Syntax.{IsIn}
@@ -56,3 +56,17 @@ IsPlace taken n piece Overlap =
     HasNoOther taken n piece.header × (all_in piece.head (has_taken taken n) ≡ false) × (none_in piece.head (has_taken taken n) ≡ false)
 IsPlace taken n piece Fresh =
     HasNoOther taken n piece.header × (all_in piece.head (has_taken taken n) ≡ false) × (none_in piece.head (has_taken taken n) ≡ true)
+
+-- What lists of taken slices say of a picture and of its macroblocks.
+pub record TakenLaws : Type 0 where
+  -- something of a picture was taken where it is in the list, and nowhere else
+  pub member : (taken : List Taken) (n : ℕ) → has_any taken n ≡ true → (t : Taken) × IsIn t taken × (t.number ≡ n)
+  pub absent : (taken : List Taken) (n : ℕ) → has_any taken n ≡ false → (t : Taken) → IsIn t taken → t.number ≢ n
+  -- a picture of which nothing was taken has no macroblock
+  pub never : (taken : List Taken) (n k : ℕ) → has_any taken n ≡ false → has_taken taken n k ≡ false
+  -- with one slice more
+  pub same : (t : Taken) (taken : List Taken) → has_any (t ∷ taken) t.number ≡ true
+  pub other : (t : Taken) (taken : List Taken) (n : ℕ) → t.number ≢ n → has_any (t ∷ taken) n ≡ has_any taken n
+  pub held : (t : Taken) (taken : List Taken) (k : ℕ) → holds t.piece.head k ≡ true → has_taken (t ∷ taken) t.number k ≡ true
+  pub not_held : (t : Taken) (taken : List Taken) (n k : ℕ) → holds t.piece.head k ≡ false → has_taken (t ∷ taken) n k ≡ has_taken taken n k
+  pub other_held : (t : Taken) (taken : List Taken) (n k : ℕ) → t.number ≢ n → has_taken (t ∷ taken) n k ≡ has_taken taken n k

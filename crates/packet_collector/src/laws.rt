@@ -1,14 +1,26 @@
 //! Laws about packets, over the definitions alone.
-ghost use Rattle.std.specs.Prelude.{◌≡◌, ◌↔◌, ℕ, List, Ok, None};
+ghost use Rattle.std.specs.Prelude.{◌≡◌, ◌↔◌, ℕ, ◌+◌, ◌<◌, ◌≤◌, List, length, Ok, None};
 ghost use Rattle.h263_types.specs.declared.format.Format.{Format};
+ghost use Rattle.h263_types.specs.Sizes.{mbs_of};
 ghost use Rattle.packet_collector.specs.declared.collector.Collector.{Collector};
 ghost use Rattle.packet_collector.specs.declared.piece.Piece.{Piece};
 ghost use Rattle.packet_collector.specs.declared.piece.Place.{Place};
 ghost use Rattle.packet_collector.specs.Collected.{Collects, from_number};
+ghost use Rattle.packet_collector.specs.Laws.{PartLaws};
 ghost use Rattle.packet_collector.specs.Packet.{Slice, IsPacket, packet_at, packet_fault};
-ghost use Rattle.packet_collector.specs.Taken.{Taken, IsPlace};
+ghost use Rattle.packet_collector.specs.Taken.{Taken, IsPlace, TakenLaws};
 
 use picture_header::laws::in_a_syntax;
+
+// Each part of a packet is read exactly where it is spelled.
+pub(crate) fn of_the_parts()
+    ensures { PartLaws }
+{
+    in_a_syntax();
+    rtp_header::laws::exact_text();
+    h263_payload::laws::exact_text();
+    slice_layer::laws::exact_text();
+}
 
 /// Bytes are read as a packet exactly where they are one, and there is no first fault exactly where they are a packet of
 /// some slice.
@@ -16,14 +28,24 @@ pub fn exact_text()
     ensures read { (format : Format) (s : Slice) (bytes : List ℕ) → (packet_at format bytes ≡ Ok s) ↔ IsPacket format s bytes }
     ensures no_fault { (format : Format) (bytes : List ℕ) → (packet_fault format bytes ≡ None) ↔ ((s : Slice) × IsPacket format s bytes) }
 {
-    in_a_syntax();
+    of_the_parts();
 }
 
 /// A whole packet spells one slice: its header, its first macroblock and its macroblocks.
 pub fn one_reading()
     ensures { (format : Format) (s other : Slice) (bytes : List ℕ) → IsPacket format s bytes → IsPacket format other bytes → s ≡ other }
 {
-    in_a_syntax();
+    of_the_parts();
+}
+
+/// What is read is of the expected format, and has a macroblock and none past the picture.
+pub fn read_inside()
+    ensures format { (format : Format) (s : Slice) (bytes : List ℕ) → packet_at format bytes ≡ Ok s
+        → s.header.format ≡ format }
+    ensures inside { (format : Format) (s : Slice) (bytes : List ℕ) → packet_at format bytes ≡ Ok s
+        → (0 < length s.mbs) × (s.first + length s.mbs ≤ mbs_of format) }
+{
+    of_the_parts();
 }
 
 /// A slice stands at one place to those that were taken.
@@ -34,4 +56,9 @@ pub fn one_place()
 /// What was taken of the pictures before the row is forgotten: a collector stands for the others alone as well.
 pub fn forgets()
     ensures { (c : Collector) (first : ℕ) (taken : List Taken) → Collects c first taken → Collects c first (from_number first taken) }
+{}
+
+/// Of which pictures and macroblocks something is in a list of slices that were taken, and in one with a slice more.
+pub fn what_is_taken()
+    ensures { TakenLaws }
 {}

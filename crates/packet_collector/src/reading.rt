@@ -8,11 +8,11 @@ ghost use Rattle.slice_layer.specs.Filled.{AreOthersSame};
 ghost use Rattle.packet_collector.specs.Packet.{Slice, IsPacket, headed_at, slice_behind, packet_at, packet_fault};
 ghost use Rattle.packet_collector.specs.Filled.{IsExtraOf, FillsPacket, IsPieceIn, slice_in};
 
+use crate::laws::of_the_parts;
 use crate::piece::Piece;
 use h263_bits::{BitReader, Fault};
 use h263_payload::{Payload, read_payload};
 use h263_types::{Format, Mb};
-use picture_header::laws::in_a_syntax;
 use picture_header::{Header, read_header};
 use rtp_header::Rtp;
 use slice_layer::read_slice;
@@ -93,6 +93,6 @@ pub fn read_packet(bytes: &[u8], format: Format, out: &mut [Mb]) -> Result<Piece
     ensures others { IfOk result (λ piece. AreOthersSame out.old out.new piece.head) }
     ensures size { length out.new ≡ length out.old }
 {
-    in_a_syntax();
+    of_the_parts();
     first_found(bytes, format, out)
 }
