@@ -12,7 +12,8 @@ use Rattle.rtp_header.specs.Written.{rtp_fields}
 use Rattle.h263_payload.specs.Written.{written_payload, payload_bits}
 use Rattle.slice_layer.specs.Written.{slice_text, padded, bytes_of}
 use Rattle.packet_cutter.specs.Cut.{begins_at, extra_of, packet_bytes, IsCut}
-use Rattle.packet_cutter.specs.Packets.{timestamp_of, packet_text, is_last, ArePackets}
+use Rattle.packet_cutter.specs.Packets.{timestamp_of, packet_text, packet_of, is_last, ArePackets}
+use Rattle.packet_cutter.proofs.Bytes.{length-bytes_in}
 use Rattle.packet_cutter.proofs.Fronts.{front_whole}
 
 pub length-padded : (text : List Bool) → length (padded text) ≡ 8 * bytes_of text
@@ -42,8 +43,9 @@ length-packet many number sequence marker h first run =
       front_whole h first,
     )
 
-pub packet_size : ArePayloadsLong → (number sequence : ℕ) (marker : Bool) (h : Header) (first : ℕ) (run : List Mb) (packet : List ℕ) → bits_of packet ≡ packet_text number sequence marker h first run → length packet ≡ packet_bytes h first run
-packet_size many number sequence marker h first run packet e = omega (arith, length-bits_of packet, ap length e, length-packet many number sequence marker h first run)
+pub packet_size : (number sequence : ℕ) (marker : Bool) (h : Header) (first : ℕ) (run : List Mb) → length (packet_of number sequence marker h first run) ≡ packet_bytes h first run
+unfolding packet_of
+packet_size number sequence marker h first run = length-bytes_in (packet_bytes h first run) (packet_text number sequence marker h first run)
 
 pub count : (number sequence : ℕ) (h : Header) (first : ℕ) (runs : List (List Mb)) (packets : List (List ℕ)) → ArePackets number sequence h first runs packets → length packets ≡ length runs
 unfolding ArePackets
@@ -53,9 +55,9 @@ count number sequence h first (run ∷ runs) packets a = omega (arith, ap length
 abbrev pub IsWithin : ℕ → List ℕ → Type 0
 IsWithin limit packet = length packet ≤ limit
 
-pub within : ArePayloadsLong → (number sequence : ℕ) (h : Header) (limit first : ℕ) (mbs : List Mb) (runs : List (List Mb)) (packets : List (List ℕ)) → IsCut h limit first mbs runs → ArePackets number sequence h first runs packets → All (IsWithin limit) packets
+pub within : (number sequence : ℕ) (h : Header) (limit first : ℕ) (mbs : List Mb) (runs : List (List Mb)) (packets : List (List ℕ)) → IsCut h limit first mbs runs → ArePackets number sequence h first runs packets → All (IsWithin limit) packets
 unfolding IsCut ArePackets
-within many number sequence h limit first mbs [] packets c a = subst (All (IsWithin limit)) (sym a) (All-nil (IsWithin limit))
-within many number sequence h limit first mbs (run ∷ runs) packets c a =
-    let fits : length a.0 ≤ limit = omega (arith, c.2.fits, packet_size many number sequence (is_last runs) h first run a.0 a.3) in
-    subst (All (IsWithin limit)) (sym a.2) (All-cons (IsWithin limit) a.0 a.1 fits (within many number (sequence + 1) h limit (first + length run) c.0 runs a.1 c.3 a.4))
+within number sequence h limit first mbs [] packets c a = subst (All (IsWithin limit)) (sym a) (All-nil (IsWithin limit))
+within number sequence h limit first mbs (run ∷ runs) packets c a =
+    let fits : length a.0 ≤ limit = omega (arith, c.2.fits, ap length a.3, packet_size number sequence (is_last runs) h first run) in
+    subst (All (IsWithin limit)) (sym a.2) (All-cons (IsWithin limit) a.0 a.1 fits (within number (sequence + 1) h limit (first + length run) c.0 runs a.1 c.3 a.4))

@@ -1,7 +1,10 @@
 pub mod Fronts
+pub mod Bytes
 pub mod Cuts
 pub mod Styled
 pub mod Counted
+pub mod Sliced
+pub mod Sent
 pub mod Reread
 pub mod Packed
 pub mod Places

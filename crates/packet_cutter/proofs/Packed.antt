@@ -3,7 +3,7 @@ use Rattle.std.proofs.Common.{◌≡◌, ℕ, suc, ◌+◌, ◌*◌, ◌%◌, �
 use Rattle.std.specs.Prelude.{◌==◌}
 use Rattle.std.proofs.Math.Nat.{mod-eq_of_lt}
 use Rattle.std.proofs.Math.Seq.{drop-cons, take-append-add}
-use Rattle.std.proofs.lemmas.List.{length-drop, length-take-le, take_all, take_more}
+use Rattle.std.proofs.lemmas.List.{length-append, length-drop, length-take-le, take_all, take_more}
 use Rattle.h263_types.specs.declared.blocks.Mb.{Mb}
 use Rattle.h263_bits.specs.Bits.{bits_of, fields}
 use Rattle.h263_bits.proofs.SyntaxLaws.{length-bits_of, bits_of-append}
@@ -12,7 +12,8 @@ use Rattle.rtp_header.specs.Written.{rtp_fields}
 use Rattle.h263_payload.specs.Written.{written_payload}
 use Rattle.slice_layer.specs.Written.{slice_text, padded, bytes_of}
 use Rattle.packet_cutter.specs.Cut.{begins_at, extra_of, front_bytes, packet_bytes, IsLongest}
-use Rattle.packet_cutter.specs.Packets.{timestamp_of, BeginsWith}
+use Rattle.packet_cutter.specs.Packets.{timestamp_of, packet_text, bytes_in, packet_of, BeginsWith}
+use Rattle.packet_cutter.proofs.Bytes.{AreBytes, AreBytes-take, bytes_of_bits}
 use Rattle.packet_cutter.proofs.Cuts.{longest_by_next}
 
 -- bytes whose bits were all written
@@ -38,13 +39,19 @@ longest_there h limit first mbs n room parts some few fits full =
         let more : take (n + 1) mbs ≡ take n mbs ++ m ∷ [] = take_more mbs n m lt ∙ ap (λ (k : Mb). take n mbs ++ k ∷ []) (next_is mbs n m others e lt) in
         subst (λ (l : List Mb). limit < packet_bytes h first l) more (omega (arith, parts, full lt))
 
+-- bytes are a packet where their bits are its
+packet_by_bits : (number sequence : ℕ) (marker : Bool) (h : Header) (first : ℕ) (run : List Mb) (bytes : List ℕ) → AreBytes bytes → length bytes ≡ packet_bytes h first run
+    → bits_of bytes ≡ packet_text number sequence marker h first run → bytes ≡ packet_of number sequence marker h first run
+unfolding packet_of
+packet_by_bits number sequence marker h first run bytes fit long e = sym (bytes_of_bits bytes fit) ∙ ap (λ (n : ℕ). bytes_in n (bits_of bytes)) long ∙ ap (bytes_in (packet_bytes h first run)) e
+
 pub packet_begun : (number sequence : ℕ) (h : Header) (limit first : ℕ) (mbs : List Mb) (count size : ℕ) (front coded : List ℕ) → sequence < 65536
     → length front ≡ front_bytes h first → front_bytes h first + length coded ≡ limit → 0 < count → count ≤ length mbs
     → size ≡ bytes_of (slice_text h (begins_at first) first (take count mbs)) → bits_of (take size coded) ≡ padded (slice_text h (begins_at first) first (take count mbs)) → size ≤ length coded
     → (count < length mbs → length coded < bytes_of (slice_text h (begins_at first) first (take (count + 1) mbs)))
     → bits_of front ≡ fields (rtp_fields (count == length mbs) sequence (timestamp_of number)) ++ written_payload (extra_of h (begins_at first))
-    → BeginsWith number sequence h limit first mbs count (front_bytes h first + size) (front ++ coded)
-packet_begun number sequence h limit first mbs count size front coded range long parts some few size_is text fits full written =
+    → AreBytes (front ++ coded) → BeginsWith number sequence h limit first mbs count (front_bytes h first + size) (front ++ coded)
+packet_begun number sequence h limit first mbs count size front coded range long parts some few size_is text fits full written bytes =
     let rtp = λ (s : ℕ). fields (rtp_fields (count == length mbs) s (timestamp_of number)) in
     let payload = written_payload (extra_of h (begins_at first)) in
     let slice = padded (slice_text h (begins_at first) first (take count mbs)) in
@@ -54,7 +61,8 @@ packet_begun number sequence h limit first mbs count size front coded range long
       few = few;
       longest = longest_there h limit first mbs count (length coded) parts some few (omega (arith, size_is, fits)) full;
       size_is = ap (λ (n : ℕ). front_bytes h first + n) size_is;
-      text =
-          ap bits_of there ∙ bits_joined front (take size coded) (rtp sequence ++ payload) slice written text ∙ append_assoc (rtp sequence) payload slice
-          ∙ ap (λ (s : ℕ). rtp s ++ (payload ++ slice)) same;
+      packet = packet_by_bits number sequence (count == length mbs) h first (take count mbs) (take (front_bytes h first + size) (front ++ coded)) (AreBytes-take (front_bytes h first + size) (front ++ coded) bytes)
+          (omega (arith, length-take-le (front_bytes h first + size) (front ++ coded) (omega (arith, length-append front coded, long, fits)), size_is))
+          (ap bits_of there ∙ bits_joined front (take size coded) (rtp sequence ++ payload) slice written text ∙ append_assoc (rtp sequence) payload slice
+          ∙ ap (λ (s : ℕ). rtp s ++ (payload ++ slice)) same);
     }

@@ -22,7 +22,7 @@ use Rattle.h263_payload.specs.Faults.{payload_at}
 use Rattle.h263_payload.specs.Written.{written_payload}
 use Rattle.slice_layer.specs.Around.{around}
 use Rattle.slice_layer.specs.Written.{head_text, opening_text, mbs_text, slice_text, padded, AreWritable}
-use Rattle.slice_layer.proofs.Written.{slice_spelt, zeros_are_padding}
+use Rattle.slice_layer.specs.Laws.{AreSpelt}
 use Rattle.packet_cutter.specs.Cut.{begins_at, extra_of, front_bytes}
 use Rattle.packet_cutter.specs.Packets.{timestamp_of, packet_text}
 use Rattle.h263_payload.specs.Headed.{IsHeaded}
@@ -30,7 +30,7 @@ use Rattle.packet_cutter.specs.Again.{rtp_of, IsReadAs}
 use Rattle.packet_cutter.proofs.Fronts.{front_whole}
 use Rattle.packet_cutter.proofs.Counted.{ArePayloadsLong, length-rtp}
 
--- what the laws of the layers below say of what is written of an RTP header, a payload header and a picture header
+-- what the laws of the layers below say of what is written of an RTP header, a payload header, a picture header and a slice
 pub record AreReadAgain : Type 0 where
   pub headers : HeaderLaws
   pub rtp : (bytes payload : List ℕ) (marker : Bool) (sequence timestamp : ℕ) → sequence < 65536 → timestamp < 4294967296
@@ -43,6 +43,7 @@ pub record AreReadAgain : Type 0 where
       → payload_at h.format (record { at = at; bits = written_payload (Some h) ++ true ∷ true ∷ rest })
       ≡ Ok (record { extra = Some h; begins = false; from = at + length (written_payload (Some h)) })
   pub many : ArePayloadsLong
+  pub slices : AreSpelt
 
 -- ---- windows of bytes whose bits are known
 
@@ -124,5 +125,5 @@ read_as below number sequence marker h first run bytes is some within each e sho
       payload = ap (payload_at h.format) there ∙ payload_again below h begins 96 coded is (started h begins first run) ∙ ap (λ (n : ℕ). ok_payload (record { extra = extra_of h begins; begins = begins; from = n })) from;
       parts = ap (λ (b : Bits). b.bits) data_there ∙ divided h begins first texts zeros;
       headed = headed below.headers h begins is;
-      text = slice_spelt h begins first run zeros is (record { within = omega (arith, some, within); at_zero = refl }) some within each (zeros_are_padding (length (slice_text h begins first run)));
+      text = below.slices.text h begins first run zeros is (record { within = omega (arith, some, within); at_zero = refl }) some within each (below.slices.padding (length (slice_text h begins first run)));
     }

@@ -4,13 +4,10 @@ use Rattle.std.specs.Prelude.{◌==◌}
 use Rattle.std.proofs.lemmas.Bool.{eq-eqb, ne_eqb}
 use Rattle.std.proofs.lemmas.List.{length-append, length-drop, length-take-le, take-append-drop, drop-drop, drop_all}
 use Rattle.h263_types.specs.declared.blocks.Mb.{Mb}
-use Rattle.h263_bits.specs.Bits.{bits_of, fields}
 use Rattle.picture_header.specs.declared.header.Header.{Header}
-use Rattle.rtp_header.specs.Written.{rtp_fields}
-use Rattle.h263_payload.specs.Written.{written_payload}
-use Rattle.slice_layer.specs.Written.{slice_text, padded}
-use Rattle.packet_cutter.specs.Cut.{begins_at, extra_of, IsLongest, IsCut}
-use Rattle.packet_cutter.specs.Packets.{timestamp_of, packet_text, is_last, ArePackets, ArePacketsOf}
+use Rattle.packet_cutter.specs.Cut.{IsLongest, IsCut}
+use Rattle.packet_cutter.specs.Packets.{packet_of, is_last, ArePackets, ArePacketsOf}
+use Rattle.packet_cutter.proofs.Sent.{same_packet}
 
 -- the packets so far begin those of the picture, whatever the others are
 abbrev pub Goes : ℕ → ℕ → Header → ℕ → List Mb → ℕ → List (List ℕ) → Type 0
@@ -31,10 +28,6 @@ begun number sequence h limit mbs packets some none = subst (IsUnderWay number s
         let s : sequence + 0 ≡ sequence = omega arith in
         record { runs = others; cut = cut; each = subst (λ (k : ℕ). ArePackets number k h 0 others more) s each }
 
-same_text : (number s t : ℕ) (marker : Bool) (h : Header) (first : ℕ) (run : List Mb) → s % 65536 ≡ t % 65536 → packet_text number s marker h first run ≡ packet_text number t marker h first run
-same_text number s t marker h first run e =
-    ap (λ (k : ℕ). fields (rtp_fields marker k (timestamp_of number)) ++ (written_payload (extra_of h (begins_at first)) ++ padded (slice_text h (begins_at first) first run))) e
-
 not_last : (runs : List (List Mb)) → 0 < length runs → is_last runs ≡ false
 not_last [] some = absurd (omega arith)
 not_last (run ∷ runs) some = refl
@@ -43,7 +36,7 @@ not_last (run ∷ runs) some = refl
 pub record IsNext (number sequence : ℕ) (h : Header) (limit : ℕ) (mbs : List Mb) (first n : ℕ) (packet : List ℕ) : Type 0 where
   pub few : n ≤ length (drop first mbs)
   pub longest : IsLongest h limit first (take n (drop first mbs)) (drop n (drop first mbs))
-  pub text : bits_of packet ≡ packet_text number sequence (n == length (drop first mbs)) h first (take n (drop first mbs))
+  pub packet_is : packet ≡ packet_of number sequence (n == length (drop first mbs)) h first (take n (drop first mbs))
 
 pub turned : (number sequence s : ℕ) (h : Header) (limit : ℕ) (mbs : List Mb) (first n : ℕ) (packets : List (List ℕ)) (packet : List ℕ) → IsUnderWay number sequence h limit mbs first packets → first < length mbs
     → s % 65536 ≡ (sequence + length packets) % 65536 → IsNext number s h limit mbs first n packet → IsUnderWay number sequence h limit mbs (first + n) (packets ++ packet ∷ [])
@@ -62,20 +55,20 @@ turned number sequence s h limit mbs first n packets packet u lt same next = rec
     longest : IsLongest h limit first (take n (drop first mbs)) (drop (first + n) mbs)
     longest = subst (λ (t : List Mb). IsLongest h limit first (take n (drop first mbs)) t) left_is next.longest
 
-    text : (last : Bool) → (n == length (drop first mbs)) ≡ last → bits_of packet ≡ packet_text number (sequence + length packets) last h first (take n (drop first mbs))
-    text last e = next.text ∙ ap (λ (b : Bool). packet_text number s b h first (take n (drop first mbs))) e ∙ same_text number s (sequence + length packets) last h first (take n (drop first mbs)) same
+    is : (last : Bool) → (n == length (drop first mbs)) ≡ last → packet ≡ packet_of number (sequence + length packets) last h first (take n (drop first mbs))
+    is last e = next.packet_is ∙ ap (λ (b : Bool). packet_of number s b h first (take n (drop first mbs))) e ∙ same_packet number s (sequence + length packets) last h first (take n (drop first mbs)) same
 
     ends : first + n ≡ length mbs → ArePacketsOf number sequence h limit mbs (packets ++ packet ∷ [])
     ends e =
         let none : drop (first + n) mbs ≡ [] = drop_all (first + n) mbs (omega (arith, e)) in
         let all : n ≡ length (drop first mbs) = omega (arith, e, length-drop first mbs) in
-        let last = text true (eq-eqb n (length (drop first mbs)) all) in
+        let last = is true (eq-eqb n (length (drop first mbs)) all) in
         u.goes lt (take n (drop first mbs) ∷ []) (packet ∷ []) (omega arith) (drop (first + n) mbs, parts, longest, none) (packet, [], refl, last, refl)
 
     goes : first + n < length mbs → Goes number sequence h limit mbs (first + n) (packets ++ packet ∷ [])
     goes further others more some cut each =
         let part : (n == length (drop first mbs)) ≡ false = ne_eqb n (length (drop first mbs)) (λ e. omega (arith, e, further, length-drop first mbs)) in
-        let here = text (is_last others) (part ∙ sym (not_last others some)) in
+        let here = is (is_last others) (part ∙ sym (not_last others some)) in
         let cut_behind = subst (λ (k : ℕ). IsCut h limit (first + k) (drop (first + n) mbs) others) (sym len) cut in
         let next_sequence : sequence + length (packets ++ packet ∷ []) ≡ sequence + length packets + 1 = omega (arith, length-append packets (packet ∷ [])) in
         let each_behind = subst (λ (k : ℕ). ArePackets number (sequence + length packets + 1) h (first + k) others more) (sym len) (subst (λ (k : ℕ). ArePackets number k h (first + n) others more) next_sequence each) in

@@ -1,11 +1,10 @@
 -- The packets of one picture, as they are kept.
 use Rattle.std.specs.Prelude.{◌≡◌, ℕ, ◌≤◌, ◌==◌, List, [], ◌∷◌, ◌++◌, length, take, drop}
 use Rattle.h263_types.specs.declared.blocks.Mb.{Mb}
-use Rattle.h263_bits.specs.Bits.{bits_of}
 use Rattle.picture_header.specs.declared.header.Header.{Header}
 use Rattle.packet_cutter.specs.declared.packets.Packets.{Packets}
 use Rattle.packet_cutter.specs.Cut.{IsLongest}
-use Rattle.packet_cutter.specs.Packets.{packet_text}
+use Rattle.packet_cutter.specs.Packets.{packet_of}
 use Rattle.packet_cutter.specs.Taken.{packets_in}
 
 -- the most bytes of a packet
@@ -28,4 +27,4 @@ pub record Appends (old new : Packets) (number sequence : ℕ) (h : Header) (fir
   pub packets : kept_packets new ≡ kept_packets old ++ packet ∷ []
   pub few : count ≤ length mbs
   pub longest : IsLongest h (most_bytes old) first (take count mbs) (drop count mbs)
-  pub text : bits_of packet ≡ packet_text number sequence (count == length mbs) h first (take count mbs)
+  pub packet_is : packet ≡ packet_of number sequence (count == length mbs) h first (take count mbs)

@@ -1,4 +1,5 @@
 pub mod Cut
+pub mod Slices
 pub mod Packets
 pub mod Styles
 pub mod Again

@@ -1,8 +1,9 @@
 -- The packets of a picture, one a slice (RFC 3550, 5.1, and RFC 4629).
-use Rattle.std.specs.Prelude.{◌≡◌, ℕ, ◌+◌, ◌*◌, ◌%◌, ◌^◌, ◌==◌, ◌≤◌, Bool, true, false, List, [], ◌∷◌, ◌++◌, length, take, drop}
+use Rattle.std.specs.Prelude.{◌≡◌, ℕ, zero, suc, ◌+◌, ◌*◌, ◌%◌, ◌^◌, ◌==◌, ◌≤◌, Bool, true, false, List, [], ◌∷◌, ◌++◌, length, take, drop}
+use Rattle.call_model.specs.Coding.{Slice}
 use Rattle.h263_types.specs.declared.blocks.Mb.{Mb}
 use Rattle.picture_header.specs.declared.header.Header.{Header}
-use Rattle.h263_bits.specs.Bits.{bits_of, fields}
+use Rattle.h263_bits.specs.Bits.{number, fields}
 use Rattle.rtp_header.specs.Written.{rtp_fields}
 use Rattle.h263_payload.specs.Written.{written_payload}
 use Rattle.slice_layer.specs.Written.{slice_text, padded}
@@ -18,16 +19,32 @@ packet_text number sequence marker h first run =
     fields (rtp_fields marker (sequence % 65536) (timestamp_of number))
     ++ (written_payload (extra_of h (begins_at first)) ++ padded (slice_text h (begins_at first) first run))
 
-abbrev pub is_last : List (List Mb) → Bool
+-- the first so many bytes that bits fill
+unfoldable pub bytes_in : ℕ → List Bool → List ℕ
+bytes_in zero bits = []
+bytes_in (suc count) bits = number (take 8 bits) ∷ bytes_in count (drop 8 bits)
+
+-- its bytes
+unfoldable pub packet_of : ℕ → ℕ → Bool → Header → ℕ → List Mb → List ℕ
+packet_of number sequence marker h first run =
+    bytes_in (packet_bytes h first run) (packet_text number sequence marker h first run)
+
+abbrev pub is_last : {Run : Type 0} → List Run → Bool
 is_last [] = true
 is_last (run ∷ runs) = false
 
--- the packets of the slices, one after the other, with sequence numbers from `sequence` on
+-- the packets of slices, one after the other, with sequence numbers from `sequence` on
+unfoldable pub packets_of : ℕ → ℕ → Header → List (Slice Mb) → List (List ℕ)
+packets_of number sequence h [] = []
+packets_of number sequence h (slice ∷ slices) =
+    packet_of number sequence (is_last slices) h slice.first slice.mbs ∷ packets_of number (sequence + 1) h slices
+
+-- the same of slices by their macroblocks alone
 unfoldable pub ArePackets : ℕ → ℕ → Header → ℕ → List (List Mb) → List (List ℕ) → Type 0
 ArePackets number sequence h first [] packets = packets ≡ []
 ArePackets number sequence h first (run ∷ runs) packets =
     (packet : List ℕ) × (others : List (List ℕ)) × (packets ≡ packet ∷ others)
-    × (bits_of packet ≡ packet_text number sequence (is_last runs) h first run)
+    × (packet ≡ packet_of number sequence (is_last runs) h first run)
     × ArePackets number (sequence + 1) h (first + length run) runs others
 
 -- the packets of a picture, with sequence numbers from `sequence` on
@@ -41,4 +58,4 @@ pub record BeginsWith (number sequence : ℕ) (h : Header) (limit first : ℕ) (
   pub few : count ≤ length mbs
   pub longest : IsLongest h limit first (take count mbs) (drop count mbs)
   pub size_is : size ≡ packet_bytes h first (take count mbs)
-  pub text : bits_of (take size bytes) ≡ packet_text number sequence (count == length mbs) h first (take count mbs)
+  pub packet : take size bytes ≡ packet_of number sequence (count == length mbs) h first (take count mbs)

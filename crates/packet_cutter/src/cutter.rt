@@ -7,9 +7,12 @@ ghost use Rattle.h263_types.specs.Sizes.{mbs_of};
 ghost use Rattle.picture_header.specs.declared.header.Header.{Header};
 ghost use Rattle.picture_header.specs.Ranges.{IsHeader};
 ghost use Rattle.packet_cutter.specs.Kept.{most_bytes, room_of, kept_packets};
+ghost use Rattle.packet_cutter.specs.Packets as sent;
 ghost use Rattle.packet_cutter.specs.Packets.{ArePacketsOf};
+ghost use Rattle.packet_cutter.specs.Slices.{cut_of};
 ghost use Rattle.packet_cutter.specs.Taken.{IsTaken};
 
+use crate::laws::by_functions;
 use crate::packets::Packets;
 use h263_outside::OutOfMemory;
 use h263_types::{Mb, Params};
@@ -131,6 +134,10 @@ impl Cutter {
         requires all { added_of self.old ≡ mbs_of (format_of self.old) }
         ensures packets { (number : ℕ) (h : Header) (mbs : List Mb) → Holds self.old number h mbs
             → ArePacketsOf number (sequence_of self.old) h (limit_of self.old) mbs (packets_of self.new) }
+        // As functions of the picture.
+        ensures function { (number : ℕ) (h : Header) (mbs : List Mb) → Holds self.old number h mbs
+            → packets_of self.new
+            ≡ sent.packets_of number (sequence_of self.old) h (cut_of h (limit_of self.old) mbs) }
         // The numbers count on from picture to picture.
         ensures sequence { sequence_of self.new ≡ (sequence_of self.old + length (packets_of self.new)) % 65536 }
         ensures holds { (number : ℕ) (h : Header) (mbs : List Mb) → Holds self.old number h mbs → Holds self.new number h mbs }
@@ -138,6 +145,7 @@ impl Cutter {
         ensures format { format_of self.new ≡ format_of self.old }
         ensures limit { limit_of self.new ≡ limit_of self.old }
     {
+        by_functions();
         cut(
             &mut self.packets,
             &self.header,

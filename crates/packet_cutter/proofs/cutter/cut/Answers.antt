@@ -21,7 +21,7 @@ packets-preserved c =
     subst (λ (l : List Mb). Appends old c.append-first.new.self c.args.number next h c.packets.first l c.append-first.result) left a.packet in
     let longest : IsLongest h limit c.packets.first (take c.append-first.result (drop c.packets.first c.args.mbs.now)) (drop c.append-first.result (drop c.packets.first c.args.mbs.now)) =
     subst (λ (k : ℕ). IsLongest h k c.packets.first (take c.append-first.result (drop c.packets.first c.args.mbs.now)) (drop c.append-first.result (drop c.packets.first c.args.mbs.now))) u.limit app.longest in
-    let n : IsNext c.args.number next h limit c.args.mbs.now c.packets.first c.append-first.result app.packet = record { few = app.few; longest = longest; text = app.text } in
+    let n : IsNext c.args.number next h limit c.args.mbs.now c.packets.first c.append-first.result app.packet = record { few = app.few; longest = longest; packet_is = app.packet_is } in
     let goes = turned c.args.number c.args.sequence next h limit c.args.mbs.now c.packets.first c.append-first.result (kept_packets old) app.packet u.under_way c.packets-test.true same n in
     record {
       under_way = subst (IsUnderWay c.args.number c.args.sequence h limit c.args.mbs.now (c.packets.first + c.append-first.result)) (sym app.packets) goes;

@@ -26,5 +26,5 @@ returns-clause-packet c =
       packets = ap (λ (l : List ℕ). packets_in l places (p.count + 1)) (with_items_is p.bytes written long) ∙ kept;
       few = begins.few;
       longest = begins.longest;
-      text = begins.text;
+      packet_is = begins.packet;
     }
