@@ -1,13 +1,11 @@
 -- The levels that a text spells are in their ranges.
-use Rattle.std.proofs.Common.{◌≡◌, ℕ, zero, suc, ◌+◌, ◌-◌, ◌<◌, ◌≤◌, Bool, true, false, cond, List, [], ◌∷◌, Option, Some, None, Result, Ok, Err, refl, sym, ap, ◌∙◌, subst, arith, eqb, inl, inr}
-use Rattle.std.specs.Prelude.{ℤ, pos, negsuc, neg_ℤ, nat_lt, slice_set, replicate, IfOk, ◌⊎◌}
+use Rattle.std.proofs.Common.{◌≡◌, ℕ, zero, suc, ◌+◌, ◌-◌, ◌<◌, ◌≤◌, Bool, true, false, cond, List, [], ◌∷◌, Option, Some, None, refl, sym, ap, ◌∙◌, subst, arith, eqb, inl, inr}
+use Rattle.std.specs.Prelude.{ℤ, pos, negsuc, neg_ℤ, nat_lt, slice_set, replicate, ◌⊎◌}
 use Rattle.std.specs.List.{list_all}
 use Rattle.std.proofs.lemmas.Int.{ints}
 use Rattle.std.proofs.lemmas.Bool.{cases_lt, ltb-true, lt-ltb, le-ltb, eqb-false}
 use Rattle.h263_types.specs.Blocks.{IsLevel, IsDc, IsIntraBlock, IsInterBlock}
-use Rattle.h263_bits.specs.declared.fault.Fault.{Fault}
-use Rattle.h263_bits.specs.Reading.{Bits, Gives}
-use Rattle.h263_bits.specs.Syntax.{Syntax, IsIn, Turn, again, finally, Turns, Spells, reading, done, either}
+use Rattle.h263_bits.specs.Syntax.{Turn, again, finally, Turns, Spells, done, either}
 use Rattle.h263_bits.proofs.SyntaxLaws.{stands_within}
 use Rattle.code_tables.specs.Tables.{Event, Coefficient, event, event_parts, event_table, tcoef_words, last_0_texts, last_1_texts, signed, is_level, level_of, after_word, size_of}
 use Rattle.block_layer.specs.Laws.{AreInRange}

@@ -1,13 +1,12 @@
 -- Level after level: what is still to be written, and what is written in all.
-use Rattle.std.proofs.Common.{◌≡◌, ℕ, ◌+◌, ◌-◌, ◌<◌, ◌≤◌, Bool, true, false, cond, List, [], ◌++◌, length, drop, not, refl, sym, ap, ◌∙◌, subst, arith, length-append}
+use Rattle.std.proofs.Common.{◌≡◌, ℕ, ◌+◌, ◌-◌, Bool, true, false, cond, List, [], ◌++◌, length, drop, not, refl, sym, ap, ◌∙◌, length-append}
 use Rattle.std.specs.Prelude.{ℤ}
 use Rattle.std.proofs.lemmas.List.{append-nil}
 use Rattle.block_layer.proofs.Written.{no_events}
-use Rattle.code_tables.specs.Tables.{size_of}
 use Rattle.h263_bits.specs.Bits.{spelled}
 use Rattle.h263_bits.proofs.SyntaxLaws.{length-spelled}
 use Rattle.block_layer.specs.Text.{none_left, events_of, events_text, levels_text, coded_text, dc_code, intra_text, inter_text}
-use Rattle.block_layer.specs.Step.{level_at, AreWritten}
+use Rattle.block_layer.specs.Step.{level_at}
 
 -- the text of what is left, behind a run of zeros
 abbrev pub left_text : ℕ → ℕ → List ℤ → List Bool

@@ -12,13 +12,17 @@ pub record AreProductive : Type 0 where
 
 -- what is written is spelled
 pub record AreSpelt : Type 0 where
-  pub intra : (b : Block) → length b.levels ≡ 64 → IsIntraBlock b → IsIntraText (is_coded b.levels) b.levels (intra_text b.levels)
-  pub inter : (b : Block) → length b.levels ≡ 64 → IsInterBlock b → none_left b.levels ≡ false → IsInterText b.levels (inter_text b.levels)
+  pub intra : (b : Block) → length b.levels ≡ 64 → IsIntraBlock b
+      → IsIntraText (is_coded b.levels) b.levels (intra_text b.levels)
+  pub inter : (b : Block) → length b.levels ≡ 64 → IsInterBlock b → none_left b.levels ≡ false
+      → IsInterText b.levels (inter_text b.levels)
 
 -- the levels that are spelled are in their ranges
 pub record AreInRange : Type 0 where
-  pub intra : (coded : Bool) (levels : List ℤ) (text : List Bool) → IsIntraText coded levels text → IsIntraBlock (record { levels = levels })
-  pub inter : (levels : List ℤ) (text : List Bool) → IsInterText levels text → IsInterBlock (record { levels = levels })
+  pub intra : (coded : Bool) (levels : List ℤ) (text : List Bool) → IsIntraText coded levels text
+      → IsIntraBlock (record { levels = levels })
+  pub inter : (levels : List ℤ) (text : List Bool) → IsInterText levels text
+      → IsInterBlock (record { levels = levels })
 
 -- a block whose levels are all 0, and what is written of it
 pub record IsEmpty : Type 0 where

@@ -7,7 +7,6 @@ use Rattle.h263_types.specs.declared.Kind.{Kind}
 use Rattle.h263_types.specs.declared.Kind.TheVariants as kinds
 use Rattle.h263_types.specs.declared.vector.Vector.{Vector}
 use Rattle.h263_types.specs.declared.blocks.Block.{Block}
-use Rattle.h263_types.specs.declared.blocks.Mb.{Mb}
 use Rattle.h263_types.specs.declared.blocks.Mb.TheVariants.{Skip, Intra, Inter}
 use Rattle.h263_types.specs.Blocks.{AreWhole}
 use Rattle.h263_bits.proofs.SyntaxLaws.{and_both}
@@ -20,7 +19,7 @@ use Rattle.code_tables.specs.Tables.{cbpy_texts, cbpy_text, magnitude_texts, mvd
 use Rattle.block_layer.specs.Text.{is_coded, intra_text, inter_text}
 use Rattle.block_layer.specs.Laws.{BlockLaws}
 use Rattle.macroblock_layer.specs.Text.{wrapped}
-use Rattle.macroblock_layer.specs.Written.{has_levels, cbpy_of, cbpc_of, class_of, cod_text, class_text, step_text, head_text, vector_text, blocks_text, intra_mb_text, inter_mb_text, mb_text}
+use Rattle.macroblock_layer.specs.Written.{has_levels, cbpy_of, cbpc_of, class_of, cod_text, class_text, step_text, head_text, vector_text, blocks_text, intra_mb_text, inter_mb_text}
 use Rattle.macroblock_layer.specs.Laws.{AreShort}
 
 -- words of a table of at most so many bits

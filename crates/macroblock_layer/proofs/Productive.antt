@@ -1,6 +1,5 @@
 -- The only repeated part of a macroblock before its blocks is stuffing.
 use Rattle.std.proofs.Common.{ℕ, Bool}
-use Rattle.h263_types.specs.declared.Kind.{Kind}
 use Rattle.h263_types.specs.declared.vector.Vector.{Vector}
 use Rattle.h263_types.specs.declared.vector.Reach.{Reach}
 use Rattle.h263_types.specs.declared.blocks.Block.{Block}

@@ -1,5 +1,5 @@
 -- What a syntax that has macroblocks in it needs to know of them.
-use Rattle.std.specs.Prelude.{ℕ, ◌≤◌, List, Bool, length}
+use Rattle.std.specs.Prelude.{ℕ, ◌≤◌, length}
 use Rattle.h263_types.specs.declared.Kind.{Kind}
 use Rattle.h263_types.specs.declared.vector.Vector.{Vector}
 use Rattle.h263_types.specs.declared.vector.Reach.{Reach}
@@ -11,17 +11,22 @@ use Rattle.macroblock_layer.specs.Written.{mb_text, IsStepped, IsReached}
 
 -- stuffing and events are all that is read again and again, and each takes a bit at least
 abbrev pub AreProductive : Type 0
-AreProductive = (kind : Kind) (quant : ℕ) (reach : Reach) (predictor : Vector) → IsProductive (mb kind quant reach predictor)
+AreProductive =
+    (kind : Kind) (quant : ℕ) (reach : Reach) (predictor : Vector)
+    → IsProductive (mb kind quant reach predictor)
 
 -- what is written is spelled, where the macroblock's vector, if it has one, is in reach
 abbrev pub AreSpelt : Type 0
 AreSpelt =
-    (kind : Kind) (quant : ℕ) (reach : Reach) (predictor : Vector) (m : Mb) → IsMb m → IsOfKind kind m → IsStepped quant m → IsWhole m → IsReached reach m
+    (kind : Kind) (quant : ℕ) (reach : Reach) (predictor : Vector) (m : Mb)
+    → IsMb m → IsOfKind kind m → IsStepped quant m → IsWhole m → IsReached reach m
     → IsMbText kind quant reach predictor m (mb_text kind quant predictor m)
 
 -- no text that is written is longer
 abbrev pub AreShort : Type 0
-AreShort = (kind : Kind) (quant : ℕ) (predictor : Vector) (m : Mb) → IsWhole m → length (mb_text kind quant predictor m) ≤ 8492
+AreShort =
+    (kind : Kind) (quant : ℕ) (predictor : Vector) (m : Mb)
+    → IsWhole m → length (mb_text kind quant predictor m) ≤ 8492
 
 pub record MbLaws : Type 0 where
   pub productive : AreProductive

@@ -1,6 +1,5 @@
 -- What a slice's reader leaves in the picture's macroblocks.
 use Rattle.std.specs.Prelude.{◌≡◌, ℕ, ◌+◌, ◌<◌, ◌≤◌, List, take, drop, Result, Ok, Err}
-use Rattle.h263_types.specs.declared.format.Format.{Format}
 use Rattle.h263_types.specs.declared.blocks.Mb.{Mb}
 use Rattle.h263_types.specs.declared.blocks.SliceHead.{SliceHead}
 use Rattle.h263_types.specs.Blocks.{IsMb, IsOfKind, IsHeadOf, mb_in}

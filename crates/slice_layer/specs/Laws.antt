@@ -18,36 +18,48 @@ use Rattle.slice_layer.specs.Written.{head_text, opening_text, mbs_text, slice_t
 
 -- bits are read as a slice exactly where they are its text
 abbrev pub AreRead : Type 0
-AreRead = (h : Header) (begins : Bool) (first : ℕ) (mbs : List Mb) (b : Bits) → (slice_at h begins b ≡ Ok (first, mbs)) ↔ IsSliceText h begins first mbs b.bits
+AreRead =
+    (h : Header) (begins : Bool) (first : ℕ) (mbs : List Mb) (b : Bits)
+    → (slice_at h begins b ≡ Ok (first, mbs)) ↔ IsSliceText h begins first mbs b.bits
 
 -- What is written of a slice, with fewer than 8 zero bits behind it, is a text of it, where its macroblocks are one at
 -- least, all in the picture, and each may be written behind those before it.
 pub record AreSpelt : Type 0 where
-  pub text : (h : Header) (begins : Bool) (first : ℕ) (mbs : List Mb) (padding : List Bool) → IsHeader h → IsPlace h begins first
-      → 0 < length mbs → first + length mbs ≤ mbs_of h.format → AreWritable (around h first) h.quant [] mbs → is_padding padding ≡ true
+  pub text : (h : Header) (begins : Bool) (first : ℕ) (mbs : List Mb) (padding : List Bool)
+      → IsHeader h → IsPlace h begins first → 0 < length mbs → first + length mbs ≤ mbs_of h.format
+      → AreWritable (around h first) h.quant [] mbs → is_padding padding ≡ true
       → IsSliceText h begins first mbs (head_text h begins first ++ (mbs_text (around h first) h.quant [] mbs ++ padding))
   -- so is what a writer leaves of a later slice, and of the first one, behind the picture header
-  pub later : (h : Header) (first : ℕ) (mbs : List Mb) → IsHeader h → IsPlace h false first
-      → 0 < length mbs → first + length mbs ≤ mbs_of h.format → AreWritable (around h first) h.quant [] mbs
+  pub later : (h : Header) (first : ℕ) (mbs : List Mb)
+      → IsHeader h → IsPlace h false first → 0 < length mbs → first + length mbs ≤ mbs_of h.format
+      → AreWritable (around h first) h.quant [] mbs
       → IsSliceText h false first mbs (padded (slice_text h false first mbs))
-  pub first : (h : Header) (first : ℕ) (mbs : List Mb) → IsHeader h → IsPlace h true first
-      → 0 < length mbs → first + length mbs ≤ mbs_of h.format → AreWritable (around h first) h.quant [] mbs
-      → (text : List Bool) × (padded (slice_text h true first mbs) ≡ written_header h ++ text) × IsSliceText h true first mbs text
+  pub first : (h : Header) (first : ℕ) (mbs : List Mb)
+      → IsHeader h → IsPlace h true first → 0 < length mbs → first + length mbs ≤ mbs_of h.format
+      → AreWritable (around h first) h.quant [] mbs
+      → (text : List Bool) × (padded (slice_text h true first mbs) ≡ written_header h ++ text)
+      × IsSliceText h true first mbs text
   -- zero bits up to a whole byte are fewer than 8
   pub padding : (n : ℕ) → is_padding (spelled (to_byte n) 0) ≡ true
 
 -- how long it is, what stands before a slice's macroblocks, and a slice of one macroblock at most
 pub record AreShort : Type 0 where
-  pub begins : (h : Header) (first : ℕ) → length (opening_text h true first) ≡ written_bits h + (2 + address_bits h.format)
-  pub later : (h : Header) (first : ℕ) → length (opening_text h false first) ≡ 14 + address_bits h.format + reference_bits h.trp
-  pub opening : (h : Header) (begins : Bool) (first : ℕ) → IsHeader h → length (opening_text h begins first) ≤ 262
-  pub one : (h : Header) (begins : Bool) (first : ℕ) (m : Mb) → IsHeader h → IsWhole m → bytes_of (slice_text h begins first (m ∷ [])) ≤ 1095
+  pub begins : (h : Header) (first : ℕ)
+      → length (opening_text h true first) ≡ written_bits h + (2 + address_bits h.format)
+  pub later : (h : Header) (first : ℕ)
+      → length (opening_text h false first) ≡ 14 + address_bits h.format + reference_bits h.trp
+  pub opening : (h : Header) (begins : Bool) (first : ℕ) → IsHeader h
+      → length (opening_text h begins first) ≤ 262
+  pub one : (h : Header) (begins : Bool) (first : ℕ) (m : Mb) → IsHeader h → IsWhole m
+      → bytes_of (slice_text h begins first (m ∷ [])) ≤ 1095
 
 -- macroblocks may be written one after the other where each one may behind those before it
 pub record IsOneMore : Type 0 where
   pub none : (h : Header) (first : ℕ) → AreWritable (around h first) h.quant [] []
-  pub more : (h : Header) (first : ℕ) (mbs : List Mb) (m : Mb) → AreWritable (around h first) h.quant [] mbs
-      → IsWritable h.kind (quant_behind h.quant mbs) (reach_of h.format (first + length mbs)) m → AreWritable (around h first) h.quant [] (mbs ++ m ∷ [])
+  pub more : (h : Header) (first : ℕ) (mbs : List Mb) (m : Mb)
+      → AreWritable (around h first) h.quant [] mbs
+      → IsWritable h.kind (quant_behind h.quant mbs) (reach_of h.format (first + length mbs)) m
+      → AreWritable (around h first) h.quant [] (mbs ++ m ∷ [])
 
 -- the closed form of a reach has the vectors whose block lies in the picture
 abbrev pub AreReached : Type 0

@@ -1,5 +1,5 @@
 //! Reads the header of a slice.
-ghost use Rattle.std.specs.Prelude.{◌≡◌, ℕ, ◌≤◌, ◌<◌, IfOk};
+ghost use Rattle.std.specs.Prelude.{◌≡◌, ℕ, ◌<◌, IfOk};
 ghost use Rattle.h263_bits.specs.Reading.{Gives};
 ghost use Rattle.h263_bits.specs.Syntax.{field_at, reading};
 ghost use Rattle.h263_types.specs.Blocks.{IsQuant};

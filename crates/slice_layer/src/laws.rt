@@ -32,7 +32,8 @@ pub fn written_is_text()
     macroblock_layer::laws::in_a_syntax();
 }
 
-/// What stands before a slice's macroblocks has 262 bits at most, and a slice of one macroblock has 1,095 bytes at most.
+/// What stands before a slice's macroblocks has 262 bits at most, and a slice of one macroblock has 1,095 bytes
+/// at most.
 pub fn longest_text()
     ensures { AreShort }
 {
