@@ -1,0 +1,171 @@
+-- Texts and counts, role by role: one write after another, one read after another.
+use Rattle.std.proofs.Common.{if◌then◌else◌, ◌≡◌, ◌≢◌, ℕ, Bool, true, false, List, [], ◌++◌, drop, Option, Some, Result, Ok, Err, IsErrAnd, refl, sym, ap, ◌∙◌, subst, append_assoc}
+use Rattle.std.proofs.lemmas.List.{drop-drop}
+use Rattle.h263_outside.specs.Desk.{Outside, IsInput, is_role, appended, GainsFront}
+use Rattle.h263_outside.specs.Gains.{gained}
+use Rattle.h263_outside.specs.declared.desk.Role.{Role}
+use Rattle.h263_outside.specs.declared.desk.Role.TheVariants.{Video, Events, Pictures, Wire, Report, Video2, Pictures2}
+use Rattle.call_report.specs.declared.status.Status.{Status}
+use Rattle.call_report.specs.declared.status.Status.TheVariants.{WriteFault}
+use Rattle.desk_program.specs.Run.{Step, behind, refusal}
+use Rattle.desk_program.specs.Run.Step.{Ends}
+use Rattle.desk_program.specs.Ends.{Tells, Gains, GainsFronts, Ended, TurnGives, step_texts}
+use Rattle.desk_program.proofs.Gained.{gained-nil, gained-gained}
+use Rattle.desk_program.specs.Texts.{no_texts, on, then_also, no_bytes, of, and_of}
+
+-- ---- writes
+
+gained_if : (b : Bool) (bytes : List ℕ) (o : Option (List ℕ)) → (if b then gained o bytes else o) ≡ gained o (if b then bytes else [])
+gained_if true bytes o = refl
+gained_if false bytes o = sym (gained-nil o)
+
+pub gains_on : (role : Role) (bytes : List ℕ) (old new : Role → Option (List ℕ)) → new ≡ appended old role bytes → Gains (on role bytes) old new
+gains_on role bytes old new is = λ r. ap (λ (w : Role → Option (List ℕ)). w r) is ∙ gained_if (is_role role r) bytes (old r)
+
+joined : (b : Bool) (x y all : List ℕ) → x ++ y ≡ all → (if b then x else []) ++ (if b then y else []) ≡ (if b then all else [])
+joined true x y all is = is
+joined false x y all is = refl
+
+pub fronts_on : (role : Role) (bytes : List ℕ) (old new : Role → Option (List ℕ)) → GainsFront role bytes old new → GainsFronts (on role bytes) old new
+fronts_on role bytes old new f = λ r. record {
+  rest = on role f.rest r;
+  so_far = record { front = on role f.front r; whole = joined (is_role role r) f.front f.rest bytes f.whole; gains = gains_on role f.front old new f.gained r };
+}
+
+-- nothing was written
+pub gains_none : (old new : Role → Option (List ℕ)) → new ≡ old → Gains no_texts old new
+gains_none old new same = λ r. ap (λ (w : Role → Option (List ℕ)). w r) same ∙ sym (gained-nil (old r))
+
+-- one after another
+pub gains_both : (first second : Role → List ℕ) (old mid new : Role → Option (List ℕ)) → Gains first old mid → Gains second mid new → Gains (then_also first second) old new
+gains_both first second old mid new p q = λ r. q r ∙ ap (λ (o : Option (List ℕ)). gained o (second r)) (p r) ∙ gained-gained (old r) (first r) (second r)
+
+pub fronts_first : (first second : Role → List ℕ) (old new : Role → Option (List ℕ)) → GainsFronts first old new → GainsFronts (then_also first second) old new
+fronts_first first second old new p = λ r. record {
+  rest = (p r).rest ++ second r;
+  so_far = record {
+    front = (p r).so_far.front;
+    whole = sym (append_assoc (p r).so_far.front (p r).rest (second r)) ∙ ap (λ (l : List ℕ). l ++ second r) (p r).so_far.whole;
+    gains = (p r).so_far.gains;
+  };
+}
+
+pub fronts_second : (first second : Role → List ℕ) (old mid new : Role → Option (List ℕ)) → Gains first old mid → GainsFronts second mid new → GainsFronts (then_also first second) old new
+fronts_second first second old mid new p q = λ r. record {
+  rest = (q r).rest;
+  so_far = record {
+    front = first r ++ (q r).so_far.front;
+    whole = append_assoc (first r) (q r).so_far.front (q r).rest ∙ ap (λ (l : List ℕ). first r ++ l) (q r).so_far.whole;
+    gains = (q r).so_far.gains ∙ ap (λ (o : Option (List ℕ)). gained o (q r).so_far.front) (p r) ∙ gained-gained (old r) (first r) (q r).so_far.front;
+  };
+}
+
+-- the same from an earlier desk, where nothing was written since
+pub gains_since : (texts : Role → List ℕ) (old mid new : Role → Option (List ℕ)) → mid ≡ old → Gains texts mid new → Gains texts old new
+gains_since texts old mid new same p = subst (λ (w : Role → Option (List ℕ)). Gains texts w new) same p
+
+pub fronts_since : (texts : Role → List ℕ) (old mid new : Role → Option (List ℕ)) → mid ≡ old → GainsFronts texts mid new → GainsFronts texts old new
+fronts_since texts old mid new same p = subst (λ (w : Role → Option (List ℕ)). GainsFronts texts w new) same p
+
+-- ---- reads
+
+-- nothing was taken
+pub tells_none : (old new : Outside) (inputs : Role → List ℕ) → new.left ≡ old.left → Tells old inputs → Tells new (behind inputs no_bytes)
+tells_none old new inputs same told = λ r input. ap (λ (l : Role → Option (List ℕ)). l r) same ∙ told r input
+
+-- bytes of one input were taken, and the others stay
+is_same : (role r : Role) → is_role role r ≡ true → role ≡ r
+is_same Video Video is = refl
+is_same Events Events is = refl
+is_same Pictures Pictures is = refl
+is_same Wire Wire is = refl
+is_same Report Report is = refl
+is_same Video2 Video2 is = refl
+is_same Pictures2 Pictures2 is = refl
+is_same Video Events is = absurd cc
+is_same Video Pictures is = absurd cc
+is_same Video Wire is = absurd cc
+is_same Video Report is = absurd cc
+is_same Video Video2 is = absurd cc
+is_same Video Pictures2 is = absurd cc
+is_same Events Video is = absurd cc
+is_same Events Pictures is = absurd cc
+is_same Events Wire is = absurd cc
+is_same Events Report is = absurd cc
+is_same Events Video2 is = absurd cc
+is_same Events Pictures2 is = absurd cc
+is_same Pictures Video is = absurd cc
+is_same Pictures Events is = absurd cc
+is_same Pictures Wire is = absurd cc
+is_same Pictures Report is = absurd cc
+is_same Pictures Video2 is = absurd cc
+is_same Pictures Pictures2 is = absurd cc
+is_same Wire Video is = absurd cc
+is_same Wire Events is = absurd cc
+is_same Wire Pictures is = absurd cc
+is_same Wire Report is = absurd cc
+is_same Wire Video2 is = absurd cc
+is_same Wire Pictures2 is = absurd cc
+is_same Report Video is = absurd cc
+is_same Report Events is = absurd cc
+is_same Report Pictures is = absurd cc
+is_same Report Wire is = absurd cc
+is_same Report Video2 is = absurd cc
+is_same Report Pictures2 is = absurd cc
+is_same Video2 Video is = absurd cc
+is_same Video2 Events is = absurd cc
+is_same Video2 Pictures is = absurd cc
+is_same Video2 Wire is = absurd cc
+is_same Video2 Report is = absurd cc
+is_same Video2 Pictures2 is = absurd cc
+is_same Pictures2 Video is = absurd cc
+is_same Pictures2 Events is = absurd cc
+is_same Pictures2 Pictures is = absurd cc
+is_same Pictures2 Wire is = absurd cc
+is_same Pictures2 Report is = absurd cc
+is_same Pictures2 Video2 is = absurd cc
+
+same_is : (role : Role) → is_role role role ≡ true
+same_is Video = refl
+same_is Events = refl
+same_is Pictures = refl
+same_is Wire = refl
+same_is Report = refl
+same_is Video2 = refl
+same_is Pictures2 = refl
+
+apart : (role r : Role) → is_role role r ≡ false → r ≢ role
+apart role r differ same = absurd (cc (same_is role, ap (λ (x : Role). is_role role x) same))
+
+pub tells_one : (role : Role) (n : ℕ) (old new : Outside) (inputs : Role → List ℕ) → Tells old inputs → new.left role ≡ Some (drop n (inputs role)) → ((r : Role) → r ≢ role → new.left r ≡ old.left r) → Tells new (behind inputs (of role n))
+tells_one role n old new inputs told lost others = λ r input. at r input (is_role role r) refl
+  where
+    at : (r : Role) → IsInput r → (t : Bool) → is_role role r ≡ t → new.left r ≡ Some (behind inputs (of role n) r)
+    at r input true is = ap new.left (sym (is_same role r is)) ∙ lost ∙ (λ i. Some (drop (if sym is i then n else 0) (inputs (is_same role r is i))))
+    at r input false is = others r (apart role r is) ∙ told r input ∙ ap (λ (t : Bool). Some (drop (if t then n else 0) (inputs r))) (sym is)
+
+pub tells_both : (first second : Role → ℕ) (new : Outside) (inputs : Role → List ℕ) → Tells new (behind (behind inputs first) second) → Tells new (behind inputs (and_of first second))
+tells_both first second new inputs told = λ r input. told r input ∙ ap (λ (l : List ℕ). Some l) (drop-drop (second r) (first r) (inputs r))
+
+-- ---- the answers of a turn
+
+-- a turn that gives up with a status
+pub turn_err : {State : Type 0} (r : Result Bool Status) (s : Status) (step : Step State) (after : State → (Role → List ℕ) → Type 0) (reads : State → Bool) (now : Bool) (inputs : Role → List ℕ) (old new : Outside)
+    → IsErrAnd r (λ x. x ≡ s) → TurnGives (Err s) step after reads now inputs old new → TurnGives r step after reads now inputs old new
+turn_err (Ok b) s step after reads now inputs old new gave gives = absurd gave
+turn_err (Err x) s step after reads now inputs old new gave gives = subst (λ (x : Status). TurnGives (Err x) step after reads now inputs old new) (sym gave) gives
+
+-- a turn whose write failed
+pub turn_cut : {State : Type 0} (r : Result Bool Status) (s : Status) (step : Step State) (after : State → (Role → List ℕ) → Type 0) (reads : State → Bool) (now : Bool) (inputs : Role → List ℕ) (old new : Outside)
+    → IsErrAnd r (λ x. x ≡ s) → s ≡ WriteFault → GainsFronts (step_texts step) old.written new.written → TurnGives r step after reads now inputs old new
+turn_cut r s step after reads now inputs old new gave is fronts = turn_err r s step after reads now inputs old new gave (subst (λ (x : Status). TurnGives (Err x) step after reads now inputs old new) (sym is) fronts)
+
+-- a turn that refuses
+pub refuses : {State : Type 0} (step : Step State) (status : Status) (inputs : Role → List ℕ) (old new : Outside) → step ≡ Ends (refusal status) → new.written ≡ old.written → Ended step status inputs old new
+refuses step status inputs old new is same = record {
+  last = refusal status;
+  is = is;
+  known = refl;
+  left = λ r input k said. absurd (cc said);
+  written = gains_none old.written new.written same;
+}

@@ -1,0 +1,333 @@
+-- A run, turn by turn.
+use Rattle.std.proofs.Common.{inl, IfSome, ◌≡◌, ℕ, zero, suc, ◌+◌, Bool, true, false, List, [], ◌∷◌, ◌++◌, drop, Option, Some, Ok, All, refl, sym, ap, ◌∙◌, subst, arith, append_assoc, append-nil, add-one, add-zero, zero-add}
+use Rattle.std.proofs.lemmas.List.{drop-drop}
+use Rattle.std.proofs.lemmas.List.Elements.{All-append, All-cons, All-nil}
+use Rattle.h263_outside.specs.Desk.{Outside}
+use Rattle.h263_outside.specs.Gains.{gained}
+use Rattle.h263_outside.specs.declared.desk.Role.{Role}
+use Rattle.call_report.specs.declared.status.Status.{Status}
+use Rattle.call_report.specs.declared.status.Status.TheVariants.{Ok as Fine}
+use Rattle.call_report.specs.Status.{Phase, phase}
+use Rattle.call_report.specs.Status.Phase.{finished, refused, unread, unwritten, starved, unasked, unopened}
+use Rattle.desk_program.specs.Run.{Turn, End, Step, Run, run_of, run_from, end_state, follow_state, follow, silence, behind, texts_of, text_of, taken_of, IsWhole}
+use Rattle.desk_program.specs.Run.Step.{Goes, Ends}
+use Rattle.desk_program.specs.Ends.{Tells, Gains, GainsFronts, IsPart, KeepsRoles, Went, Ended, Lost, TurnGives, GivesUp, step_texts, step_turns, IsExactly, IsSoFar, IsWholeOnly, EndedIn, HasEnded, silent, Falls, OnGoing, OnEnd, OnceSettled, OnSettled, ComesAtOpening, ComesAtStop, ComesLater, ReadOutIn}
+use Rattle.desk_program.specs.UnderWay.{IsUnderWay, EndsIn}
+use Rattle.desk_program.proofs.Gained.{gained-nil, gained-gained, front_behind}
+
+-- ---- lists of turns
+
+pub texts-append : (a b : List Turn) (r : Role) → texts_of (a ++ b) r ≡ texts_of a r ++ texts_of b r
+texts-append [] b r = refl
+texts-append (t ∷ a) b r = ap (λ (l : List ℕ). t.texts r ++ l) (texts-append a b r) ∙ sym (append_assoc (t.texts r) (texts_of a r) (texts_of b r))
+
+taken-append : (a b : List Turn) (r : Role) → taken_of (a ++ b) r ≡ taken_of a r + taken_of b r
+taken-append [] b r = sym (zero-add (taken_of b r))
+taken-append (t ∷ a) b r = omega (arith, taken-append a b r)
+
+whole-append : (a : List Turn) (t : Turn) → All IsWhole a → t.whole ≡ true → All IsWhole (a ++ t ∷ [])
+whole-append a t all is = All-append IsWhole a (t ∷ []) all (All-cons IsWhole t [] is (All-nil IsWhole))
+
+-- ---- the run, unfolded once
+
+-- what comes behind a step
+pub behind_step : {State : Type 0} → (State → (Role → List ℕ) → Step State) → ℕ → (Role → List ℕ) → State → (Role → ℕ) → Run
+behind_step step zero inputs next taken = silence
+behind_step step (suc n) inputs next taken = run_of step n next (behind inputs taken)
+
+pub run_is : {State : Type 0} (step : State → (Role → List ℕ) → Step State) (n : ℕ) (s : State) (inputs : Role → List ℕ) → run_of step n s inputs ≡ follow (step s inputs) (behind_step step n inputs)
+unfolding run_of behind_step
+run_is step zero s inputs = refl
+run_is step (suc n) s inputs = refl
+
+run_goes : {State : Type 0} (step : State → (Role → List ℕ) → Step State) (n : ℕ) (s : State) (inputs : Role → List ℕ) (next : State) (t : Turn) → step s inputs ≡ Goes next t
+    → run_of step (suc n) s inputs ≡ record { turns = t ∷ (run_of step n next (behind inputs t.taken)).turns; last = (run_of step n next (behind inputs t.taken)).last }
+unfolding run_of
+run_goes {State} step n s inputs next t is = ap (λ (x : Step State). follow x (λ next taken. run_of step n next (behind inputs taken))) is
+
+-- where these bytes don't hold the first turn of a step, they don't hold the first of the run
+part_follow : {State : Type 0} (x : Step State) (rest : State → (Role → ℕ) → Run) (k : Role → ℕ) → IsPart (step_turns x) k → IsPart (follow x rest).turns k
+part_follow (Goes next t) rest k part = part
+part_follow (Ends last) rest k part = tt
+
+-- what comes behind the text of a step
+tail_of : {State : Type 0} → Step State → (State → (Role → ℕ) → Run) → Role → List ℕ
+tail_of (Goes next t) rest r = text_of (rest next t.taken) r
+tail_of (Ends last) rest r = []
+
+text_follow : {State : Type 0} (x : Step State) (rest : State → (Role → ℕ) → Run) (r : Role) → text_of (follow x rest) r ≡ step_texts x r ++ tail_of x rest r
+unfolding tail_of
+text_follow (Goes next t) rest r = append_assoc (t.texts r) (texts_of (rest next t.taken).turns r) ((rest next t.taken).last.texts r)
+text_follow (Ends last) rest r = sym (append-nil (last.texts r))
+
+-- ---- a run before a step
+
+-- some turns are done, and the run goes on with a step and what comes behind it
+pub record IsBefore {State : Type 0} (x : Step State) (cont : State → (Role → ℕ) → Run) (run : Run) (inputs : Role → List ℕ) (start : Role → Option (List ℕ)) (reads : Bool) (now : Outside) : Type 0 where
+  pub done : List Turn
+  pub rest : Role → List ℕ
+  pub turns : done ++ (follow x cont).turns ≡ run.turns
+  pub last : (follow x cont).last ≡ run.last
+  pub place : rest ≡ behind inputs (taken_of done)
+  pub whole : reads ≡ true → All IsWhole done
+  pub written : Gains (texts_of done) start now.written
+
+module _ {State : Type 0} (x : Step State) (cont : State → (Role → ℕ) → Run) (run : Run) (inputs : Role → List ℕ) (start : Role → Option (List ℕ)) (old new : Outside) (reads : Bool) (p : IsBefore x cont run inputs start reads old) where
+  -- what is left behind so many bytes more
+  place_at : (k : ℕ) (r : Role) → drop k (p.rest r) ≡ drop (taken_of p.done r + k) (inputs r)
+  place_at k r = ap (λ (f : Role → List ℕ). drop k (f r)) p.place ∙ drop-drop k (taken_of p.done r) (inputs r)
+
+  place_behind : (k : ℕ) (r : Role) → drop k (p.rest r) ≡ drop (taken_of (p.done) r + (k + 0)) (inputs r)
+  place_behind k r = place_at k r ∙ ap (λ (n : ℕ). drop (taken_of p.done r + n) (inputs r)) (sym (add-zero k))
+
+  -- a text behind that of the turns so far
+  gains_more : (bytes : List ℕ) (r : Role) → new.written r ≡ gained (old.written r) bytes → new.written r ≡ gained (start r) (texts_of p.done r ++ bytes)
+  gains_more bytes r is = is ∙ ap (λ (o : Option (List ℕ)). gained o bytes) (p.written r) ∙ gained-gained (start r) (texts_of p.done r) bytes
+
+  -- one turn more is done
+  pub more_place : (t : Turn) → behind p.rest t.taken ≡ behind inputs (taken_of (p.done ++ t ∷ []))
+  more_place t = λ i r. (place_behind (t.taken r) r ∙ ap (λ (n : ℕ). drop n (inputs r)) (sym (taken-append p.done (t ∷ []) r))) i
+
+  pub more_written : (t : Turn) → Gains t.texts old.written new.written → Gains (texts_of (p.done ++ t ∷ [])) start new.written
+  more_written t w = λ r.
+      gains_more (t.texts r) r (w r) ∙ ap (λ (l : List ℕ). gained (start r) l) (ap (λ (l : List ℕ). texts_of p.done r ++ l) (sym (append-nil (t.texts r))) ∙ sym (texts-append p.done (t ∷ []) r))
+
+  pub more_turns : (t : Turn) (next : Run) → follow x cont ≡ record { turns = t ∷ next.turns; last = next.last } → (p.done ++ t ∷ []) ++ next.turns ≡ run.turns
+  more_turns t next is = append_assoc p.done (t ∷ []) next.turns ∙ ap (λ (y : Run). p.done ++ y.turns) (sym is) ∙ p.turns
+
+  pub ended : (status : Status) → Ended x status p.rest old new → IsExactly run silent status inputs start new
+  ended status e =
+      let is : follow x cont ≡ record { turns = []; last = e.last } = ap (λ (y : Step State). follow y cont) e.is in
+      let turns : p.done ≡ run.turns = sym (append-nil p.done) ∙ ap (λ (y : Run). p.done ++ y.turns) (sym is) ∙ p.turns in
+      let last : e.last ≡ run.last = ap (λ (y : Run). y.last) (sym is) ∙ p.last in
+      record {
+        known = e.known ∙ ap (λ (y : End). y.status) last;
+        written = λ r. gains_more (e.last.texts r) r (e.written r) ∙ (λ i. gained (start r) (texts_of (turns i) r ++ (last i).texts r)) ∙ ap (λ (l : List ℕ). gained (start r) l) (sym (append-nil (text_of run r)));
+        left = λ r input k said.
+            e.left r input k (ap (λ (y : End). y.taken r) last ∙ said)
+            ∙ ap (λ (l : List ℕ). Some l) (ap (λ (n : ℕ). drop n (p.rest r)) (zero-add k) ∙ place_at k r ∙ ap (λ (l : List Turn). drop (taken_of l r + k) (inputs r)) turns);
+      }
+
+  lost : Lost x reads p.rest old new → IsWholeOnly run (λ _. []) inputs start new
+  lost e = record {
+    done = p.done;
+    rest = (follow x cont).turns;
+    front = p.turns;
+    whole = p.whole e.could;
+    part = e.part;
+    partly = part_follow x cont e.part e.partly;
+    left = λ r input. e.left r input ∙ ap (λ (l : List ℕ). Some l) (place_at (e.part r) r);
+    written = λ r. ap (λ (w : Role → Option (List ℕ)). w r) e.written ∙ p.written r ∙ ap (λ (l : List ℕ). gained (start r) l) (sym (append-nil (texts_of p.done r)));
+  }
+
+  no_memory : new.written ≡ old.written → IsSoFar run (λ _. []) start new
+  no_memory same = record {
+    done = p.done;
+    rest = (follow x cont).turns;
+    front = p.turns;
+    written = λ r. ap (λ (w : Role → Option (List ℕ)). w r) same ∙ p.written r ∙ ap (λ (l : List ℕ). gained (start r) l) (sym (append-nil (texts_of p.done r)));
+  }
+
+  whole_text : (r : Role) → texts_of p.done r ++ (step_texts x r ++ tail_of x cont r) ≡ text_of run r
+  whole_text r =
+      let now = follow x cont in
+      ap (λ (l : List ℕ). texts_of p.done r ++ l) (sym (text_follow x cont r))
+      ∙ sym (append_assoc (texts_of p.done r) (texts_of now.turns r) (now.last.texts r))
+      ∙ ap (λ (l : List ℕ). l ++ now.last.texts r) (sym (texts-append p.done now.turns r))
+      ∙ (λ i. texts_of (p.turns i) r ++ (p.last i).texts r)
+
+  cut : GainsFronts (step_texts x) old.written new.written → GainsFronts (λ r. text_of run r ++ []) start new.written
+  cut fronts = λ r.
+      front_behind (texts_of p.done r) (step_texts x r) (tail_of x cont r) (text_of run r ++ []) (start r) (old.written r) (new.written r)
+      (whole_text r ∙ sym (append-nil (text_of run r))) (p.written r) (fronts r)
+
+  -- a step that doesn't go on ends the run
+  pub gives_up : (phase : Phase) (status : Status) → GivesUp phase status x reads p.rest old new → EndedIn phase run silent status inputs start new
+  gives_up finished status e = absurd e
+  gives_up refused status e = ended status e
+  gives_up unread status e = lost e
+  gives_up unwritten status e = inl (cut e)
+  gives_up starved status e = no_memory e
+  gives_up unasked status e = absurd e
+  gives_up (unopened role) status e = absurd e
+
+-- ---- the start
+
+-- before the first step nothing is done
+abbrev pub at_start : {State : Type 0} (first : Step State) (step : State → (Role → List ℕ) → Step State) (most : ℕ) (inputs : Role → List ℕ) (now : Outside)
+    → IsBefore first (λ next taken. run_of step most next (behind inputs taken)) (run_from first step most inputs) inputs now.written true now
+at_start first step most inputs now = record {
+  done = [];
+  rest = inputs;
+  turns = refl;
+  last = refl;
+  place = refl;
+  whole = λ _. All-nil IsWhole;
+  written = λ r. sym (gained-nil (now.written r));
+}
+
+pub started : {State : Type 0} (first : Step State) (step : State → (Role → List ℕ) → Step State) (reads : State → Bool) (most : ℕ) (inputs : Role → List ℕ) (old new : Outside) (stands : State → (Role → List ℕ) → Type 0)
+    → Went first stands reads true inputs old new → IsUnderWay step reads (run_from first step most inputs) inputs old.written stands most new
+started {State} first step reads most inputs old new stands w =
+    let p = at_start first step most inputs old in
+    let next = run_of step most w.next (behind inputs w.turn.taken) in
+    record {
+      done = w.turn ∷ [];
+      state = w.next;
+      rest = behind inputs w.turn.taken;
+      kept = w.kept;
+      turns = more_turns _ _ _ _ _ _ old _ p w.turn next (ap (λ (y : Step State). follow y (λ next taken. run_of step most next (behind inputs taken))) w.is);
+      last = ap (λ (y : Step State). (follow y (λ next taken. run_of step most next (behind inputs taken))).last) (sym w.is);
+      place = more_place _ _ _ _ _ _ old _ p w.turn;
+      told = w.left;
+      whole = λ can. All-cons IsWhole w.turn [] (w.whole ∙ can) (All-nil IsWhole);
+      written = more_written _ _ _ _ _ _ new _ p w.turn w.written;
+    }
+
+-- ---- a run in its middle
+
+pub begun : {State : Type 0} (step : State → (Role → List ℕ) → Step State) (reads : State → Bool) (stands : State → (Role → List ℕ) → Type 0) (more : ℕ) (s : State) (inputs : Role → List ℕ) (now : Outside)
+    → stands s inputs → Tells now inputs → IsUnderWay step reads (run_of step more s inputs) inputs now.written stands more now
+begun step reads stands more s inputs now kept told = record {
+  done = [];
+  state = s;
+  rest = inputs;
+  kept = kept;
+  turns = refl;
+  last = refl;
+  place = refl;
+  told = told;
+  whole = λ _. All-nil IsWhole;
+  written = λ r. sym (gained-nil (now.written r));
+}
+
+module _ {State : Type 0} (step : State → (Role → List ℕ) → Step State) (reads : State → Bool) (run : Run) (inputs : Role → List ℕ) (start : Role → Option (List ℕ)) (old new : Outside) (stands : State → (Role → List ℕ) → Type 0) (more : ℕ) (p : IsUnderWay step reads run inputs start stands more old) where
+  -- the same run, before its next step
+  abbrev pub before_step : IsBefore (step p.state p.rest) (behind_step step more p.rest) run inputs start (reads p.state) old
+  before_step = record {
+    done = p.done;
+    rest = p.rest;
+    turns = ap (λ (y : Run). p.done ++ y.turns) (sym (run_is step more p.state p.rest)) ∙ p.turns;
+    last = ap (λ (y : Run). y.last) (sym (run_is step more p.state p.rest)) ∙ p.last;
+    place = p.place;
+    whole = p.whole;
+    written = p.written;
+  }
+
+  pub goes_on : (after : State → (Role → List ℕ) → Type 0) (fewer : ℕ) → fewer + 1 ≡ more → Went (step p.state p.rest) after reads (reads p.state) p.rest old new → IsUnderWay step reads run inputs start after fewer new
+  goes_on after fewer less w =
+      let next = run_of step fewer w.next (behind p.rest w.turn.taken) in
+      let is : run_of step more p.state p.rest ≡ record { turns = w.turn ∷ next.turns; last = next.last } =
+      ap (λ (n : ℕ). run_of step n p.state p.rest) (sym less ∙ add-one fewer) ∙ run_goes step fewer p.state p.rest w.next w.turn w.is in
+      let b = before_step in
+      record {
+        done = p.done ++ w.turn ∷ [];
+        state = w.next;
+        rest = behind p.rest w.turn.taken;
+        kept = w.kept;
+        turns = append_assoc p.done (w.turn ∷ []) next.turns ∙ ap (λ (y : Run). p.done ++ y.turns) (sym is) ∙ p.turns;
+        last = ap (λ (y : Run). y.last) (sym is) ∙ p.last;
+        place = more_place _ _ _ _ _ old new _ b w.turn;
+        told = w.left;
+        whole = λ can. whole-append p.done w.turn (p.whole w.could) (w.whole ∙ can);
+        written = more_written _ _ _ _ _ old new _ b w.turn w.written;
+      }
+
+  pub comes_to_its_end : Ended (step p.state p.rest) Fine p.rest old new → HasEnded run silent Fine inputs start new
+  comes_to_its_end e = ended _ _ _ _ _ old new _ before_step Fine e
+
+  pub stops : (phase : Phase) (status : Status) → GivesUp phase status (step p.state p.rest) (reads p.state) p.rest old new → EndedIn phase run silent status inputs start new
+  stops phase status e = gives_up _ _ _ _ _ old new _ before_step phase status e
+
+-- what a turn says, by what it answered
+pub gave : {State : Type 0} (b known : Bool) (step : Step State) (after : State → (Role → List ℕ) → Type 0) (reads : State → Bool) (now : Bool) (inputs : Role → List ℕ) (old new : Outside) → b ≡ known → TurnGives (Ok b) step after reads now inputs old new → TurnGives (Ok known) step after reads now inputs old new
+gave b known step after reads now inputs old new is gives = subst (λ (x : Bool). TurnGives (Ok x) step after reads now inputs old new) is gives
+
+-- and what it says besides, where it goes on
+pub fell : (b : Bool) (old new : ℕ) → b ≡ true → Falls (Ok b) old new → new + 1 ≡ old
+fell b old new is falls = subst (λ (x : Bool). Falls (Ok x) old new) is falls
+
+pub on_going : (b : Bool) (P : Type 0) → b ≡ true → OnGoing (Ok b) P → P
+on_going b P is h = subst (λ (x : Bool). OnGoing (Ok x) P) is h
+
+pub on_end : (b : Bool) (P : Type 0) → b ≡ false → OnEnd (Ok b) P → P
+on_end b P is h = subst (λ (x : Bool). OnEnd (Ok x) P) is h
+
+-- the input that is read out is the one of the beginning
+pub read_out_since : (source first : Option Role) (now : Outside) → source ≡ first → IfSome source (λ role. now.left role ≡ Some []) → IfSome first (λ role. now.left role ≡ Some [])
+read_out_since source first now same h = subst (λ (o : Option Role). IfSome o (λ role. now.left role ≡ Some [])) same h
+
+-- a failed turn reads nothing out
+pub not_read_out : (phase : Phase) (source : Option Role) (now : Outside) → ComesAtStop phase → ReadOutIn phase source now
+not_read_out finished source now stop = absurd stop
+not_read_out refused source now stop = tt
+not_read_out unread source now stop = tt
+not_read_out unwritten source now stop = tt
+not_read_out starved source now stop = tt
+not_read_out unasked source now stop = tt
+not_read_out (unopened role) source now stop = tt
+
+pub later_stop : (phase : Phase) → ComesAtStop phase → ComesLater phase
+later_stop finished stop = absurd stop
+later_stop refused stop = tt
+later_stop unread stop = tt
+later_stop unwritten stop = tt
+later_stop starved stop = tt
+later_stop unasked stop = absurd stop
+later_stop (unopened role) stop = absurd stop
+
+pub roles_on : (a b c : Outside) → KeepsRoles a b → KeepsRoles b c → KeepsRoles a c
+roles_on a b c p q = record {
+  attached = q.attached ∙ p.attached;
+  name = q.name ∙ p.name;
+  faults = record { attach = omega arith; read = omega arith; write = omega arith };
+}
+
+-- what the desk tells, where nothing was read
+pub tells_still : (old new : Outside) (inputs : Role → List ℕ) → new.left ≡ old.left → Tells old inputs → Tells new inputs
+tells_still old new inputs same told = λ r input. ap (λ (l : Role → Option (List ℕ)). l r) same ∙ told r input
+
+pub not_read_opening : (phase : Phase) (source : Option Role) (now : Outside) → ComesAtOpening phase → ReadOutIn phase source now
+not_read_opening finished source now is = absurd is
+not_read_opening refused source now is = tt
+not_read_opening unread source now is = tt
+not_read_opening unwritten source now is = tt
+not_read_opening starved source now is = tt
+not_read_opening unasked source now is = tt
+not_read_opening (unopened role) source now is = tt
+
+-- ---- the state at the end
+
+state_goes : {State : Type 0} (step : State → (Role → List ℕ) → Step State) (n : ℕ) (s : State) (inputs : Role → List ℕ) (next : State) (t : Turn) → step s inputs ≡ Goes next t → end_state step (suc n) s inputs ≡ end_state step n next (behind inputs t.taken)
+unfolding end_state
+state_goes {State} step n s inputs next t is = ap (λ (x : Step State). follow_state x s (λ next taken. end_state step n next (behind inputs taken))) is
+
+state_ends : {State : Type 0} (step : State → (Role → List ℕ) → Step State) (n : ℕ) (s : State) (inputs : Role → List ℕ) (last : End) → step s inputs ≡ Ends last → end_state step n s inputs ≡ s
+unfolding end_state
+state_ends {State} step zero s inputs last is = refl
+state_ends {State} step (suc n) s inputs last is = ap (λ (x : Step State). follow_state x s (λ next taken. end_state step n next (behind inputs taken))) is
+
+module _ {State : Type 0} (step : State → (Role → List ℕ) → Step State) (reads : State → Bool) (final : State) (old new : Outside) (stands : State → (Role → List ℕ) → Type 0) (more : ℕ) (p : EndsIn step final stands more old) where
+  pub state_on : (after : State → (Role → List ℕ) → Type 0) (fewer : ℕ) → fewer + 1 ≡ more → Went (step p.state p.rest) after reads (reads p.state) p.rest old new → EndsIn step final after fewer new
+  state_on after fewer less w = record {
+    state = w.next;
+    rest = behind p.rest w.turn.taken;
+    kept = w.kept;
+    told = w.left;
+    ends = sym (ap (λ (n : ℕ). end_state step n p.state p.rest) (sym less ∙ add-one fewer) ∙ state_goes step fewer p.state p.rest w.next w.turn w.is) ∙ p.ends;
+  }
+
+  pub state_last : (status : Status) (keeps : State → Type 0) → Ended (step p.state p.rest) status p.rest old new → keeps p.state → keeps final
+  state_last status keeps e kept = subst keeps (sym (state_ends step more p.state p.rest e.last e.is) ∙ p.ends) kept
+
+  pub state_err : (phase : Phase) (status : Status) (keeps : State → Type 0) → GivesUp phase status (step p.state p.rest) (reads p.state) p.rest old new → OnceSettled phase (keeps p.state) → OnceSettled phase (keeps final)
+  state_err finished status keeps e kept = absurd e
+  state_err refused status keeps e kept = state_last status keeps e kept
+  state_err unread status keeps e kept = tt
+  state_err unwritten status keeps e kept = tt
+  state_err starved status keeps e kept = tt
+  state_err unasked status keeps e kept = tt
+  state_err (unopened role) status keeps e kept = tt
+
+pub on_settled : (b : Bool) (P : Type 0) → b ≡ false → OnSettled (Ok b) P → P
+on_settled b P is h = subst (λ (x : Bool). OnSettled (Ok x) P) is h

@@ -1,0 +1,35 @@
+use Rattle.std.proofs.Common.{Bool, [], ◌∙◌, ap, arith}
+use Rattle.h263_outside.specs.declared.desk.Role.{Role}
+use Rattle.h263_outside.specs.declared.desk.Role.TheVariants.{Video}
+use Rattle.desk_program.proofs.Attaching.{Pair, stays_attached, first_free, rest_free, next_attached, not_attached}
+use Rattle.desk_program.proofs.attach.attach_all.Goals as goal
+
+none : Pair
+none = (Video, record { ref_ptr = (0, 0); now = [] })
+
+pub loop-role-preserved : goal.loop-role-preserved
+unfolding none
+loop-role-preserved g c =
+    let outside = g.D.Desk.outside in
+    let said = c.in_ok-attach.ensures in
+    let free = first_free (outside c.loop-role.desk).attached c.args.order.now c.loop-role.role-index none c.loop-role-test.true c.loop-role.invariant.free in
+    record {
+      free = rest_free (outside c.loop-role.desk).attached c.args.order.now c.loop-role.role-index none c.loop-role-test.true c.loop-role.invariant.free (outside c.attach.new.desk).attached said.attached;
+      attached = λ first before. next_attached first c.args.order.now c.loop-role.role-index none (outside c.loop-role.desk) (outside c.attach.new.desk) c.loop-role-test.true (c.loop-role.invariant.attached first before) free said.attached said.name said.other_names;
+      kept = λ r there. stays_attached r _ _ _ said.attached (c.loop-role.invariant.kept r there);
+      rest = record {
+        left = said.rest.left ∙ c.loop-role.invariant.rest.left;
+        written = said.rest.written ∙ c.loop-role.invariant.rest.written;
+        faults = record { attach = omega arith; read = omega arith; write = omega arith };
+      };
+    }
+
+pub returns-in_err-attach-clause-attached : goal.returns-in_err-attach-clause-attached
+unfolding none
+returns-in_err-attach-clause-attached g c = λ first before.
+    let outside = g.D.Desk.outside in
+    let said = c.in_err-attach.ensures in
+    not_attached c.from_residual.result c.in_err-attach.field-0.0 first c.args.order.now c.loop-role.role-index none (outside c.loop-role.desk) (outside c.attach.new.desk) c.loop-role-test.true (c.loop-role.invariant.attached first before) said.err said.err_name c.from_residual.ensures.1 said.kind
+
+pub returns-in_err-attach-clause-kept : goal.returns-in_err-attach-clause-kept
+returns-in_err-attach-clause-kept g c = λ r there. ap (λ (f : Role → Bool). f r) c.in_err-attach.ensures.err ∙ c.loop-role.invariant.kept r there

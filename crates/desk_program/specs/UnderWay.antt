@@ -1,0 +1,27 @@
+-- A run in its middle.
+use Rattle.std.specs.Prelude.{ℕ, ◌≡◌, Bool, true, List, ◌++◌, Option, All}
+use Rattle.h263_outside.specs.Desk.{Outside}
+use Rattle.h263_outside.specs.declared.desk.Role.{Role}
+use Rattle.desk_program.specs.Run.{Turn, Step, Run, run_of, end_state, behind, texts_of, taken_of, IsWhole}
+use Rattle.desk_program.specs.Ends.{Tells, Gains}
+
+-- some turns of the run are done, and the others are those of the state that the machine keeps in mind, over what is left
+pub record IsUnderWay {State : Type 0} (step : State → (Role → List ℕ) → Step State) (reads : State → Bool) (run : Run) (inputs : Role → List ℕ) (start : Role → Option (List ℕ)) (stands : State → (Role → List ℕ) → Type 0) (more : ℕ) (now : Outside) : Type 0 where
+  pub done : List Turn
+  pub state : State
+  pub rest : Role → List ℕ
+  pub kept : stands state rest
+  pub turns : done ++ (run_of step more state rest).turns ≡ run.turns
+  pub last : (run_of step more state rest).last ≡ run.last
+  pub place : rest ≡ behind inputs (taken_of done)
+  pub told : Tells now rest
+  pub whole : reads state ≡ true → All IsWhole done
+  pub written : Gains (texts_of done) start now.written
+
+-- besides, it will end in this state
+pub record EndsIn {State : Type 0} (step : State → (Role → List ℕ) → Step State) (final : State) (stands : State → (Role → List ℕ) → Type 0) (more : ℕ) (now : Outside) : Type 0 where
+  pub state : State
+  pub rest : Role → List ℕ
+  pub kept : stands state rest
+  pub told : Tells now rest
+  pub ends : end_state step more state rest ≡ final

@@ -1,0 +1,19 @@
+//! One loop for every command: a machine takes one event after another, over any desk.
+//!
+//! A command says in definitions what it does next, and how a machine in memory does that over a [`Desk`](h263_outside::Desk).
+//! What a run as a whole writes, takes and answers follows here, once for all commands.
+#![tactic(auto)]
+
+mod attach;
+mod command;
+mod lines;
+mod play;
+mod turns;
+mod write;
+
+pub use attach::attach_all;
+pub use command::perform;
+pub use lines::finish;
+pub use play::take_turns;
+pub use turns::Turns;
+pub use write::put;
