@@ -1,0 +1,11 @@
+use Rattle.packets_read_again.proofs.Again.{slice_again}
+use Rattle.packets_read_again.proofs.laws.read_again.Goals as goal
+
+pub returns : goal.returns
+returns c = slice_again (record {
+  again = c.packet_again.ensures;
+  divides = c.cut_divides.ensures.divides;
+  fits = c.cut_divides.ensures.fits;
+  each = c.packet_of_each.ensures.each;
+  reach = c.reaches.ensures;
+})
