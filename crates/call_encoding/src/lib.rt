@@ -1,0 +1,12 @@
+//! Encoding as a call uses it: frames with the messages that their headers carry, the styles of
+//! pictures, choice and cut by them, packets and messages. Nothing is done at run time.
+//!
+//! The definitions are in `specs/`: `Frame`, and `encoding`, which is the `Encoding` of
+//! `call_model` for a call's parameters. `laws` has what the laws of a call ask of it. `Framed`
+//! names the type of frames at which those laws are called.
+#![tactic(auto)]
+
+pub mod laws;
+mod values;
+
+pub use values::Framed;
