@@ -1,0 +1,4 @@
+pub mod Decoding
+pub mod State
+pub mod Answers
+pub mod Steps

@@ -1,0 +1,121 @@
+//! Whether a slice is taken.
+ghost use Rattle.std.specs.Prelude.{◌≡◌, ◌↔◌, ◌+◌, ◌^◌, ◌≤◌, true, Ok, IfOk, IfSome, is_some};
+ghost use Rattle.h263_types.specs.declared.blocks.Mb.{Mb};
+ghost use Rattle.h263_types.specs.Blocks.{IsHeadOf};
+ghost use Rattle.call_model.specs.Coding as call;
+ghost use Rattle.call_model.specs.ReceiverStanding.{heard_by_kept};
+ghost use Rattle.call_model.specs.Stands.{judged, reference_is_kept};
+ghost use Rattle.call_decoding.specs.Rules.{rules_of};
+ghost use Rattle.call_decoding.specs.Styles.{Style};
+ghost use Rattle.receiver_end.specs.declared.answers.Heard.TheVariants as heards;
+ghost use Rattle.receiver_end.specs.Decoding.{decoding};
+
+use crate::answers::{Heard, PacketFault};
+use crate::kept::Kept;
+use crate::numbers::{nearest, nearest_below};
+use call_decoding::laws::whole_header;
+use h263_types::Clock;
+use packet_collector::{Piece, Place};
+use picture_header::Header;
+
+/// A slice that may be taken: the number of its picture, and its reference, which is kept.
+#[derive(Clone, Copy, Debug, PartialEq, Eq)]
+pub struct Fresh {
+    pub number: u32,
+    pub reference: Option<u32>,
+}
+
+fn is_same_clock(a: Clock, b: Clock) -> bool
+    ensures { (result ≡ true) ↔ (a ≡ b) }
+{
+    a == b
+}
+
+fn refused(fault: PacketFault) -> Heard
+    ensures { result ≡ heards.Refused fault 0 }
+{
+    Heard::Refused { fault, at: 0 }
+}
+
+impl Kept {
+    ghost use Rattle.receiver_end.specs.State.{Fits, seen};
+    ghost use Rattle.receiver_end.specs.Steps.{IsFresh, IsFreshOf, IsJudged, IsReferenceOf};
+    ghost use Rattle.receiver_end.specs.Steps.{IsUntaken, Spells};
+
+    // The reference that the header of an open picture names, if it names one. None where that one
+    // isn't complete, or not in the window.
+    fn reference_of(&self, number: u32, header: &Header) -> Option<Option<u32>>
+        requires fits { Fits self.now }
+        requires number { number ≤ 2 ^ 21 }
+        ensures there { is_some result
+            ≡ reference_is_kept (decoding self.now.params.format) (rules_of self.now.params)
+            (seen self.now) number header.now.trp }
+        ensures is { IfSome result (IsReferenceOf self.now number header.now.trp) }
+    {
+        let Some(rest) = header.trp else {
+            return Some(None);
+        };
+        let m = nearest_below(number, rest, self.params.clock)?;
+        if number > m + (self.params.slots - self.params.lead - 1) {
+            return None;
+        }
+        if self.holds(m) {
+            return Some(Some(m));
+        }
+        None
+    }
+
+    // What becomes of a slice of an open picture.
+    fn judge_open(&self, number: u32, piece: &Piece) -> Result<Fresh, Heard>
+        requires fits { Fits self.now }
+        requires number { number ≤ 2 ^ 21 }
+        requires low { self.now.played ≤ number }
+        requires high { number ≤ self.now.played + self.now.params.lead }
+        requires head { IsHeadOf self.now.params.format piece.now.head }
+        ensures answer { (p : call.Piece Style Mb) → Spells piece.now p
+            → IsJudged self.now result p (judged (decoding self.now.params.format)
+            (rules_of self.now.params) (seen self.now) number p) }
+        ensures fresh { IfOk result (IsFreshOf self.now number piece.now) }
+        ensures untaken { IsUntaken result }
+    {
+        whole_header();
+        let place = self.collector.place(number, piece);
+        if let Place::HeaderDiffers = place {
+            return Err(refused(PacketFault::HeaderDiffers));
+        }
+        let Some(reference) = self.reference_of(number, &piece.header) else {
+            return Err(refused(PacketFault::MissingReference));
+        };
+        match place {
+            Place::HeaderDiffers => Err(refused(PacketFault::HeaderDiffers)),
+            Place::Repeat => Err(Heard::Repeat),
+            Place::Overlap => Err(refused(PacketFault::Overlap)),
+            Place::Fresh => Ok(Fresh { number, reference }),
+        }
+    }
+
+    /// What becomes of a slice: its picture and its reference where it may be taken, or the answer.
+    pub fn judge(&self, piece: &Piece) -> Result<Fresh, Heard>
+        requires fits { Fits self.now }
+        requires head { IsHeadOf self.now.params.format piece.now.head }
+        ensures answer { (p : call.Piece Style Mb) → Spells piece.now p
+            → IsJudged self.now result p (heard_by_kept (decoding self.now.params.format)
+            (rules_of self.now.params) (seen self.now) (Ok p)) }
+        ensures fresh { IfOk result (IsFresh self.now piece.now) }
+        ensures untaken { IsUntaken result }
+    {
+        if !is_same_clock(piece.header.clock, self.params.clock) {
+            return Err(refused(PacketFault::OtherClock));
+        }
+        let Some(number) = nearest(self.played, piece.header.tr, self.params.clock) else {
+            return Err(Heard::Late);
+        };
+        if number < self.played {
+            return Err(Heard::Late);
+        }
+        if number > self.played + self.params.lead {
+            return Err(Heard::Early);
+        }
+        self.judge_open(number, piece)
+    }
+}

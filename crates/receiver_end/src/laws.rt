@@ -1,0 +1,32 @@
+//! What is known of a receiver's run by its definitions alone. Each law is the contract of a
+//! function that does nothing else.
+ghost use Rattle.h263_types.specs.declared.params.Params.{Params};
+ghost use Rattle.h263_types.specs.Params.{IsParams};
+ghost use Rattle.call_model.specs.Lawful.{IsDecoding};
+ghost use Rattle.call_model.specs.Order.{AnyOrder};
+ghost use Rattle.call_decoding.specs.Rules.{rules_of};
+ghost use Rattle.receiver_end.specs.Decoding.{decoding};
+
+use call_decoding::laws::{are_pictures, are_rules};
+use call_decoding::{Pictured, Styled};
+use h263_bits::Fault;
+use h263_types::Mb;
+use packet_collector::laws::read_inside;
+
+/// A receiver decodes as the laws of a call ask.
+pub fn is_decoding()
+    ensures { (p : Params) → IsDecoding (decoding p.format) (rules_of p) }
+{
+    are_pictures();
+    read_inside();
+}
+
+/// The packets of one picture may come in any order: each play up to the picture's own shows the
+/// same picture with the same mark.
+pub fn order()
+    ensures { (p : Params) → IsParams p → AnyOrder (decoding p.format) (rules_of p) }
+{
+    is_decoding();
+    are_rules();
+    call_model::laws::order::<Styled, Mb, Pictured, Fault>();
+}

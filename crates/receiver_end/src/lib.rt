@@ -1,0 +1,19 @@
+//! The receiver of a call: it takes packets as they come, decodes their slices at once, shows a
+//! picture at each play, and says what it has and what it lacks (H.263, Annex N).
+#![tactic(auto)]
+
+mod answers;
+mod drawing;
+mod judging;
+mod kept;
+pub mod laws;
+mod messages;
+mod numbers;
+mod patching;
+mod playing;
+mod receiver;
+mod starting;
+mod taking;
+
+pub use answers::{Heard, PacketFault, Played};
+pub use receiver::Receiver;

@@ -1,0 +1,119 @@
+//! The receiver.
+ghost use Rattle.std.specs.Prelude.{◌≡◌, ◌+◌, ◌^◌, ◌<◌, List, [], ◌∷◌, IfOk, false};
+ghost use Rattle.h263_types.specs.Params.{IsParams};
+
+use crate::answers::{Heard, PacketFault, Played};
+use crate::kept::Kept;
+use crate::laws::is_decoding;
+use call_decoding::laws::are_rules;
+use call_decoding::{Pictured, Styled};
+use call_model::laws::receiver_stands;
+use h263_bits::Fault;
+use h263_outside::OutOfMemory;
+use h263_planes::PictureRef;
+use h263_types::{Mb, Params};
+use packet_collector::read_packet;
+use std::alloc::Global;
+use std::marker::Model;
+
+/// The receiving end of a call. It must be finished, since it has no `Drop`.
+pub struct Receiver {
+    kept: Kept,
+    // Room for the macroblocks of a packet, which has that of a whole picture.
+    mbs: Vec<Mb>,
+}
+
+impl Model for Receiver {
+    ghost use Rattle.std.specs.Prelude.{◌≡◌, length};
+    ghost use Rattle.h263_types.specs.Sizes.{mbs_of};
+    ghost use Rattle.receiver_end.specs.declared.kept.Kept.{Kept};
+    ghost use Rattle.receiver_end.specs.State.{Fits};
+
+    ghost Value = { Kept };
+
+    ghost view = { λ r. r.kept };
+
+    ghost invariant = { λ r. Fits r.kept × (length r.mbs.items ≡ mbs_of r.kept.params.format) };
+}
+
+impl Receiver {
+    ghost use Rattle.h263_planes.specs.Lent.{picture};
+    ghost use Rattle.call_model.specs.Receiving.{ReceiverEntry, Packet, PlayNext};
+    ghost use Rattle.receiver_end.specs.Answers.{IsHeard, IsPlayed, takes};
+    ghost use Rattle.receiver_end.specs.State.{Stands, answer_after, mark_after, message_after};
+    ghost use Rattle.receiver_end.specs.State.{run_of};
+
+    /// Nothing was heard or played. All memory of the receiver is taken here.
+    pub fn start(alloc: Global, params: &Params) -> Result<Receiver, OutOfMemory>
+        requires { IsParams params.now }
+        ensures params { IfOk result (λ r. r.params ≡ params.now) }
+        ensures played { IfOk result (λ r. r.played ≡ 0) }
+        ensures stands { IfOk result (λ r. Stands r []) }
+    {
+        let mbs = vec![in alloc; Mb::Skip; params.format.mbs() as usize]?;
+        let kept = Kept::start(alloc, params)?;
+        Ok(Receiver { kept, mbs })
+    }
+
+    /// Hears a packet. Only where it is taken is anything changed.
+    pub fn packet(&mut self, bytes: &[u8]) -> Heard
+        ensures params { self.new.params ≡ self.old.params }
+        ensures played { self.new.played ≡ self.old.played }
+        ensures same { takes result ≡ false → self.new ≡ self.old }
+        ensures answer { (past : List ReceiverEntry) → Stands self.old past
+            → IsHeard self.old.params.clock result (answer_after self.old.params past bytes.now) }
+        ensures stands { (past : List ReceiverEntry) → Stands self.old past
+            → Stands self.new (Packet bytes.now ∷ past) }
+    {
+        is_decoding();
+        are_rules();
+        receiver_stands::<Styled, Mb, Pictured, Fault>();
+        match read_packet(bytes, self.kept.params.format, &mut self.mbs) {
+            Err(fault) => Heard::Refused {
+                fault: PacketFault::Bytes(fault.kind),
+                at: fault.at,
+            },
+            Ok(piece) => self.kept.hear(&piece, &self.mbs),
+        }
+    }
+
+    /// Plays the next picture, which is on the screen then. At most 1,048,576 are played.
+    pub fn play(&mut self) -> Played
+        requires { self.old.played < 2 ^ 20 }
+        ensures params { self.new.params ≡ self.old.params }
+        ensures played { self.new.played ≡ self.old.played + 1 }
+        ensures told { (past : List ReceiverEntry) → Stands self.old past
+            → IsPlayed self.old.params.clock result (mark_after self.old.params past)
+            (message_after self.old.params past) }
+        ensures stands { (past : List ReceiverEntry) → Stands self.old past
+            → Stands self.new (PlayNext ∷ past) }
+    {
+        is_decoding();
+        are_rules();
+        receiver_stands::<Styled, Mb, Pictured, Fault>();
+        self.kept.play()
+    }
+
+    /// The picture on the screen: the one played last, and before the first all samples are 128.
+    pub fn shown(&self) -> PictureRef<'_>
+        ensures { (past : List ReceiverEntry) → Stands self.now past → picture result
+            ≡ (run_of self.now.params past).screen }
+    {
+        self.kept.screen()
+    }
+
+    /// How many pictures were played.
+    pub fn played(&self) -> u32
+        ensures count { result ≡ self.now.played }
+        ensures run { (past : List ReceiverEntry) → Stands self.now past → result
+            ≡ (run_of self.now.params past).played }
+    {
+        self.kept.played
+    }
+
+    /// Gives the memory back.
+    pub fn finish(self) {
+        let Receiver { kept, mbs: _ } = self;
+        kept.finish();
+    }
+}

@@ -1,0 +1,70 @@
+//! A receiver before its first packet.
+ghost use Rattle.std.specs.Prelude.{◌≡◌, ◌<◌, [], length, IfOk};
+ghost use Rattle.h263_types.specs.Params.{IsParams};
+ghost use Rattle.h263_types.specs.Sizes.{size_of_picture};
+ghost use Rattle.h263_planes.specs.Layout.{picture_of};
+ghost use Rattle.h263_planes.specs.Spots.{picture_by};
+ghost use Rattle.picture_store.specs.Pictures.{work_in, works_of};
+ghost use Rattle.receiver_end.specs.Steps.{IsSameBut};
+
+use crate::kept::Kept;
+use crate::laws::is_decoding;
+use call_decoding::laws::are_rules;
+use call_decoding::{Pictured, Styled};
+use call_model::laws::receiver_stands;
+use h263_bits::Fault;
+use h263_outside::OutOfMemory;
+use h263_planes::laws::{planes_are_bytes, samples_are_picture};
+use h263_types::{Format, Mb, Params};
+use packet_collector::Collector;
+use picture_store::PictureStore;
+use std::alloc::Global;
+
+// Makes all samples of a picture 128.
+fn grey(format: Format, bytes: &mut [u8])
+    requires { length bytes.old ≡ size_of_picture format }
+    ensures size { length bytes.new ≡ size_of_picture format }
+    ensures picture { picture_of format bytes.new ≡ picture_by format (λ s. 128) }
+{
+    planes_are_bytes();
+    samples_are_picture();
+    bytes.fill(128);
+}
+
+// The same of a work picture.
+#[tactic(auto, using(crate::proofs::Works::same_but, crate::proofs::Works::work_is))]
+fn clear(store: &mut PictureStore, format: Format, w: u32)
+    requires format { format ≡ store.old.format }
+    requires inside { w < works_of store.old }
+    ensures rest { IsSameBut store.old store.new w }
+    ensures picture { work_in store.new w ≡ picture_by format (λ s. 128) }
+{
+    grey(format, store.work(w));
+}
+
+impl Kept {
+    ghost use Rattle.receiver_end.specs.State.{Fits, Stands};
+
+    /// Nothing was taken or played. All memory is taken here.
+    pub fn start(alloc: Global, params: &Params) -> Result<Kept, OutOfMemory>
+        requires { IsParams params.now }
+        ensures fits { IfOk result Fits }
+        ensures params { IfOk result (λ r. r.params ≡ params.now) }
+        ensures played { IfOk result (λ r. r.played ≡ 0) }
+        ensures stands { IfOk result (λ r. Stands r []) }
+    {
+        is_decoding();
+        are_rules();
+        receiver_stands::<Styled, Mb, Pictured, Fault>();
+        let collector = Collector::start(alloc, params)?;
+        let mut store = PictureStore::start(alloc, params.format, params.slots, params.lead + 2)?;
+        clear(&mut store, params.format, params.lead + 1);
+        Ok(Kept {
+            params: *params,
+            played: 0,
+            exact: false,
+            collector,
+            store,
+        })
+    }
+}
