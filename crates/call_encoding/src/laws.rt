@@ -14,6 +14,7 @@ ghost use Rattle.picture_header.specs.declared.header.Header as picture;
 ghost use Rattle.picture_header.specs.Ranges.{AreMessages, IsHeader};
 ghost use Rattle.mode_choice.specs.Choice.{choices_of};
 ghost use Rattle.packet_cutter.specs.Packets.{ArePacketsOf};
+ghost use Rattle.packet_cutter.specs.Slices.{cut_of};
 ghost use Rattle.call_model.specs.Coding.{Header, Slice};
 ghost use Rattle.call_model.specs.Lawful.{FitsHeader, IsEncoding};
 ghost use Rattle.call_decoding.specs.Rules.{rules_of};
@@ -62,13 +63,17 @@ pub fn header_in_range()
         → FitsHeader (rules_of p) predicted h → IsHeader (header_from h) }
 {}
 
-/// The packets that are written of a frame's macroblocks, with a header of the call, are those of
-/// the encoding: choice and cut depend on no temporal reference (`packets`). There is one for each
-/// slice (`count`), and none has more than the limit (`small`).
+/// The macroblocks that are chosen for a frame, with a header of the call, their slices and their
+/// packets are those of the encoding, since choice and cut depend on no temporal reference
+/// (`choice`, `cut`, `packets`). There is a packet for each slice (`count`), and none has more
+/// bytes than the limit (`small`).
 pub fn written_packets()
     ensures choice { (p : Params) (frame : Frame) (reference : Option Picture) (h : Header Style)
         → frame.picture.format ≡ p.format → choices_of frame.picture reference (header_from h) p
         ≡ (encoding p).choice frame reference h.style }
+    ensures cut { (p : Params) (predicted : Bool) (h : Header Style) (mbs : List Mb)
+        → FitsHeader (rules_of p) predicted h → h.style.kind ≡ kind_of predicted
+        → cut_of (header_from h) p.limit mbs ≡ (encoding p).cut h.style mbs }
     ensures packets { (p : Params) (predicted : Bool) (number sequence : ℕ) (h : Header Style)
         (mbs : List Mb) (packets : List (List ℕ)) → FitsHeader (rules_of p) predicted h
         → h.style.kind ≡ kind_of predicted

@@ -2,6 +2,7 @@
 ghost use Rattle.std.specs.Prelude.{◌≡◌, ◌+◌, ◌%◌, length};
 ghost use Rattle.std.specs.Option.{option_map};
 ghost use Rattle.h263_types.specs.Params.{IsParams};
+ghost use Rattle.h263_types.specs.Sizes.{mbs_of};
 ghost use Rattle.h263_planes.specs.Lent.{picture};
 ghost use Rattle.h263_planes.specs.References.{HasReferenceOnlyInP};
 ghost use Rattle.h263_planes.specs.Samples.{IsPicture};
@@ -10,7 +11,7 @@ ghost use Rattle.h263_planes.specs.Work as lent;
 ghost use Rattle.picture_header.specs.Ranges.{IsHeader};
 ghost use Rattle.mode_choice.specs.Choice.{choices_of};
 ghost use Rattle.picture_recon.specs.Samples.{reconstruction};
-ghost use Rattle.packet_cutter.specs.Cutting.{format_of, limit_of, packets_of, sequence_of};
+ghost use Rattle.packet_cutter.specs.Cutting.{Holds, added_of, format_of, limit_of, packets_of, sequence_of};
 ghost use Rattle.packet_cutter.specs.Packets.{ArePacketsOf};
 
 use h263_planes::{PictureMut, PictureRef};
@@ -49,6 +50,10 @@ pub fn code_picture(
     ensures sequence { sequence_of cutter.new ≡ (sequence_of cutter.old + length (packets_of cutter.new)) % 65536 }
     ensures cutter_format { format_of cutter.new ≡ params.now.format }
     ensures cutter_limit { limit_of cutter.new ≡ params.now.limit }
+    // No other picture is begun: the cutter holds all macroblocks of this one.
+    ensures held { Holds cutter.new number header.now
+        (choices_of (picture frame.entry) (option_map picture reference.entry) header.now params.now) }
+    ensures all_added { added_of cutter.new ≡ mbs_of params.now.format }
 
     ensures reconstruction { lent.work work.new ≡ reconstruction params.now.format header.now.rounding (option_map picture reference.entry)
         (choices_of (picture frame.entry) (option_map picture reference.entry) header.now params.now) }

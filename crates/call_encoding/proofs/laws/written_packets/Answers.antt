@@ -10,6 +10,10 @@ use Rattle.call_encoding.proofs.laws.written_packets.Goals as goal
 pub returns-clause-choice : goal.returns-clause-choice
 returns-clause-choice c p frame reference h format = choice_is p frame.picture reference h format
 
+pub returns-clause-cut : goal.returns-clause-cut
+returns-clause-cut c p predicted h mbs fits kind =
+    c.cut_divides.ensures.style (header_from h) (header_in p.clock h.style) p.limit mbs (one_style p predicted h fits kind)
+
 pub returns-clause-packets : goal.returns-clause-packets
 returns-clause-packets c p predicted number sequence h mbs packets fits kind written =
     c.by_functions.ensures.packets number sequence (header_from h) p.limit mbs packets written

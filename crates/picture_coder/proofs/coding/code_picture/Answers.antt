@@ -47,21 +47,32 @@ loop-at-preserved c =
       same_loan = c.recon_mb.ensures.same_loan ∙ c.loop-at.invariant.same_loan;
     }
 
-pub returns-clause-packets : goal.returns-clause-packets
-returns-clause-packets c =
+-- at the loop's end the cutter holds all that was chosen
+holds_all : (c : goal.After-finish) → Holds c.loop-at.cutter c.args.number c.args.header.now (choices_of (picture c.args.frame) (option_map picture c.args.reference) c.args.header.now c.args.params.now)
+holds_all c =
     let frame = picture c.args.frame in
     let reference = option_map picture c.args.reference in
     let h = c.args.header.now in
     let params = c.args.params.now in
     let mbs = choices_of frame reference h params in
-    let packets = packets_of c.finish.new.self in
     let format : mbs_of params.format ≡ mbs_of frame.format = ap mbs_of (sym c.requires.frame_format) in
     let all : c.loop-at.at ≡ mbs_of frame.format = omega (arith, format, c.mbs-at-end.ensures, c.loop-at-test.false) in
     let each : take c.loop-at.at mbs ≡ mbs = ap (λ (n : ℕ). take n mbs) all ∙ c.one_for_each_place.ensures.all frame reference h params in
-    let held = subst (λ (l : List Mb). Holds c.loop-at.cutter c.args.number h l) each c.loop-at.invariant.added.holds in
+    subst (λ (l : List Mb). Holds c.loop-at.cutter c.args.number h l) each c.loop-at.invariant.added.holds
+
+pub returns-clause-packets : goal.returns-clause-packets
+returns-clause-packets c =
+    let h = c.args.header.now in
+    let params = c.args.params.now in
+    let mbs = choices_of (picture c.args.frame) (option_map picture c.args.reference) h params in
+    let packets = packets_of c.finish.new.self in
     subst (λ (n : ℕ). ArePacketsOf c.args.number n h params.limit mbs packets) c.loop-at.invariant.sequence
     (subst (λ (n : ℕ). ArePacketsOf c.args.number (sequence_of c.loop-at.cutter) h n mbs packets) (c.loop-at.invariant.limit ∙ c.requires.cutter_limit)
-    (c.finish.ensures.packets c.args.number h mbs held))
+    (c.finish.ensures.packets c.args.number h mbs (holds_all c)))
+
+pub returns-clause-held : goal.returns-clause-held
+returns-clause-held c =
+    c.finish.ensures.holds c.args.number c.args.header.now (choices_of (picture c.args.frame) (option_map picture c.args.reference) c.args.header.now c.args.params.now) (holds_all c)
 
 pub returns-clause-reconstruction : goal.returns-clause-reconstruction
 returns-clause-reconstruction c =

@@ -1,0 +1,8 @@
+//! The coding of a call's pictures, packets and messages as one record, and the law of a call's two
+//! ends for it. Nothing is done at run time.
+//!
+//! `coding` in `specs/` is the `Coding` of `call_model`: what a receiver decodes by and what a
+//! sender encodes by.
+#![tactic(auto)]
+
+pub mod laws;

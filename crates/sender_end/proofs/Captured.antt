@@ -1,0 +1,50 @@
+-- That the next picture was coded.
+use Rattle.std.proofs.Common.{◌≡◌, ℕ, ◌+◌, ◌%◌, ◌<◌, ◌≤◌, Bool, false, refl, sym, ap, ◌∙◌, subst, Option, List, is_some}
+use Rattle.std.specs.Option.{option_map, option_map_or}
+use Rattle.h263_types.specs.declared.blocks.Mb.{Mb}
+use Rattle.h263_types.specs.declared.params.Params.{Params}
+use Rattle.h263_planes.specs.Picture.{Picture}
+use Rattle.call_model.specs.Coding.{reconstruction}
+use Rattle.call_model.specs.CodedPictures.{Coded, reference_for}
+use Rattle.call_model.specs.Sending.{header_of}
+use Rattle.call_model.specs.Stands.{Sender}
+use Rattle.call_model.specs.SenderStanding.{next_by_kept, reference_by_kept}
+use Rattle.call_decoding.specs.Rules.{rules_of}
+use Rattle.call_decoding.specs.Samples.{pictures}
+use Rattle.call_decoding.specs.Styles.{Style}
+use Rattle.call_encoding.specs.Encoding.{encoding}
+use Rattle.call_encoding.specs.Frames.{Frame, style_with}
+use Rattle.sender_end.specs.Headers.{numbered}
+use Rattle.sender_end.specs.Stands.{next}
+
+-- the rule of references for picture n, by what a sender keeps
+abbrev pub reference_at : Params → Sender Picture → ℕ → Option ℕ
+reference_at p s n = reference_for (rules_of p) (λ m. s.depth (m % p.slots)) (λ m. s.known (m % p.slots)) n
+
+-- the picture of a frame with this reference, depth, quantiser and picture that it refers to
+abbrev pub made : Params → Frame → Option ℕ → ℕ → ℕ → Option Picture → Coded Style Mb Picture
+made p frame reference depth quant before =
+    let style = style_with p frame.messages (is_some reference) depth quant in
+    let mbs = (encoding p).choice frame before style in
+    record { reference = reference; depth = depth; style = style; slices = (encoding p).cut style mbs; picture = reconstruction (pictures p.format) style before mbs }
+
+-- it is the next one, if all these are what is kept
+pub made_is_next : (p : Params) (pace : List ℕ → ℕ) (frame : Frame) (s : Sender Picture) (reference : Option ℕ) (depth quant : ℕ) (before : Option Picture)
+    → reference ≡ reference_by_kept (rules_of p) s → depth ≡ option_map_or (λ m. s.depth (m % p.slots) + 1) reference 0 → quant ≡ pace s.sizes
+    → before ≡ option_map (λ m. s.picture (m % p.slots)) reference → made p frame reference depth quant before ≡ next p pace frame s
+unfolding next_by_kept
+made_is_next p pace frame s reference depth quant before reference_is depth_is quant_is before_is =
+    ap (λ (d : ℕ). made p frame reference d quant before) depth_is
+    ∙ ap (λ (q : ℕ). made p frame reference (option_map_or (λ m. s.depth (m % p.slots) + 1) reference 0) q before) quant_is
+    ∙ ap (λ (b : Option Picture). made p frame reference (option_map_or (λ m. s.depth (m % p.slots) + 1) reference 0) (pace s.sizes) b) before_is
+    ∙ ap (λ (r : Option ℕ). made p frame r (option_map_or (λ m. s.depth (m % p.slots) + 1) r 0) (pace s.sizes) (option_map (λ m. s.picture (m % p.slots)) r)) reference_is
+
+-- the packets of the next picture
+pub packets_are : (p : Params) (s : Sender Picture) (n sequence : ℕ) (x : Coded Style Mb Picture) (packets : List (List ℕ)) → s.sent ≡ n → s.sequence ≡ sequence
+    → packets ≡ (encoding p).packets n sequence (numbered p.clock n x.reference x.style) x.slices
+    → packets ≡ (encoding p).packets s.sent s.sequence (header_of (rules_of p) s.sent x) x.slices
+unfolding header_of
+packets_are p s n sequence x packets sent sequence_is are =
+    are
+    ∙ ap (λ (k : ℕ). (encoding p).packets k sequence (numbered p.clock k x.reference x.style) x.slices) (sym sent)
+    ∙ ap (λ (k : ℕ). (encoding p).packets s.sent k (numbered p.clock s.sent x.reference x.style) x.slices) (sym sequence_is)

@@ -1,0 +1,5 @@
+pub mod Choosing
+pub mod Numbering
+pub mod Keeping
+pub mod Storing
+pub mod Captured

@@ -1,0 +1,4 @@
+pub mod Headers
+pub mod Coding
+pub mod Selecting
+pub mod Stands
