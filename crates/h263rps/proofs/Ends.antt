@@ -5,6 +5,7 @@ use Rattle.h263_outside.specs.declared.desk.Role.{Role}
 use Rattle.y4m.specs.declared.fault.Y4mFault.{Y4mFault}
 use Rattle.call_report.specs.declared.status.Status.{Status}
 use Rattle.call_report.specs.declared.status.Status.TheVariants.{Ok as Fine, OutOfMemory, Usage, ReadFault, WriteFault, VideoRefused, TraceRefused, LogRefused, Video2Refused, OpenFault}
+use Rattle.h263rps.specs.Laws.{PlayLaws}
 use Rattle.h263rps.specs.Status.{status_of}
 use Rattle.y4m.specs.Video.{video_fault}
 use Rattle.h263rps.specs.Out.{Output, Command, call_output, command_output, ended}
@@ -14,12 +15,12 @@ use Rattle.h263rps.specs.Play.{HasEnded}
 use Rattle.h263rps.proofs.Plays.{ended_err, nothing_cut}
 
 -- a role was not attached
-not_opened : (video : List ℕ) (role : Role) (s : Status) (old : Role → Option (List ℕ)) (new : Outside) → (s ≡ OpenFault role) ⊎ (s ≡ OutOfMemory) → new.written ≡ old → HasEnded video s old new
-not_opened video role s old new (inl is) same = subst (λ (s : Status). HasEnded video s old new) (sym is) (record { gives = same; left = λ fine. absurd (cc fine); taken = λ fault. absurd (cc fault) })
-not_opened video role s old new (inr is) same = subst (λ (s : Status). HasEnded video s old new) (sym is) (record { gives = nothing_cut (call_output video) old new.written same; left = λ fine. absurd (cc fine); taken = λ fault. absurd (cc fault) })
+not_opened : PlayLaws → (video : List ℕ) (role : Role) (s : Status) (old : Role → Option (List ℕ)) (new : Outside) → (s ≡ OpenFault role) ⊎ (s ≡ OutOfMemory) → new.written ≡ old → HasEnded video s old new
+not_opened laws video role s old new (inl is) same = subst (λ (s : Status). HasEnded video s old new) (sym is) (record { gives = same; left = λ fine. absurd (cc fine); taken = λ fault. absurd (cc fault) })
+not_opened laws video role s old new (inr is) same = subst (λ (s : Status). HasEnded video s old new) (sym is) (record { gives = nothing_cut laws (call_output video) old new.written same; left = λ fine. absurd (cc fine); taken = λ fault. absurd (cc fault) })
 
-pub unattached : (video : List ℕ) (r : Result (Unit {0}) Status) (role : Role) (s : Status) (old : Role → Option (List ℕ)) (new : Outside) → IsErrAnd r (λ x. x ≡ s) → (s ≡ OpenFault role) ⊎ (s ≡ OutOfMemory) → new.written ≡ old → HasEnded video (status_of r) old new
-unattached video r role s old new gave kind same = ended_err video r s old new gave (not_opened video role s old new kind same)
+pub unattached : PlayLaws → (video : List ℕ) (r : Result (Unit {0}) Status) (role : Role) (s : Status) (old : Role → Option (List ℕ)) (new : Outside) → IsErrAnd r (λ x. x ≡ s) → (s ≡ OpenFault role) ⊎ (s ≡ OutOfMemory) → new.written ≡ old → HasEnded video (status_of r) old new
+unattached laws video r role s old new gave kind same = ended_err video r s old new gave (not_opened laws video role s old new kind same)
 
 -- from an earlier start, where nothing was written
 pub ended_since : (video : List ℕ) (s : Status) (old middle : Role → Option (List ℕ)) (new : Outside) → middle ≡ old → HasEnded video s middle new → HasEnded video s old new

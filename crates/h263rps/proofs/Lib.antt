@@ -2,7 +2,6 @@ pub mod Attached
 pub mod Choices
 pub mod Collecting
 pub mod Ends
-pub mod Frames
 pub mod Packets
 pub mod Plays
 pub mod Runs

@@ -1,13 +1,15 @@
 -- The slices of a picture, one after the other: where each begins, and its macroblocks among the picture's.
-use Rattle.std.proofs.Common.{◌≡◌, ℕ, ◌+◌, ◌-◌, ◌<◌, ◌≤◌, List, [], ◌∷◌, ◌++◌, length, take, drop, get_or, All, refl, sym, ap, subst, ◌∙◌, append_assoc, append-nil, add-one, arith}
+use Rattle.std.proofs.Common.{◌≡◌, ℕ, zero, suc, ◌+◌, ◌<◌, ◌≤◌, List, [], ◌∷◌, ◌++◌, length, take, drop, get_or, refl, sym, ap, ◌∙◌, append_assoc, append-nil, add-one, arith}
 use Rattle.std.specs.List.{flat_map}
+use Rattle.std.specs.Prelude.{slice_get, Option, Some}
+use Rattle.call_model.specs.Coding.{Slice}
 use Rattle.std.proofs.Math.Seq.{take-suc}
 use Rattle.std.proofs.lemmas.List.{length-append, take_all, take-append-drop}
 use Rattle.std.proofs.lemmas.List.Concat.{get_or-flat_map}
-use Rattle.std.proofs.lemmas.List.Elements.{All-get_or, All-from_get_or}
 use Rattle.h263_types.specs.declared.blocks.Mb.{Mb}
 use Rattle.h263_types.specs.declared.blocks.Mb.TheVariants.{Skip}
 use Rattle.packet_cutter.specs.Cut.{joined}
+use Rattle.packet_cutter.specs.Slices.{slices_at}
 
 joined-append : (a b : List (List Mb)) → joined (a ++ b) ≡ joined a ++ joined b
 joined-append [] b = refl
@@ -50,15 +52,15 @@ in_run runs i j inside below =
     ∙ ap (λ (l : List Mb). get_or (flat_map (λ (run : List Mb). run) runs) (length l + j) Skip) (sym (flat_is (take i runs)))
     ∙ get_or-flat_map (λ (run : List Mb). run) runs i j [] Skip inside below
 
--- and macroblock k of the picture, where it is in slice i
-pub at_place : (runs : List (List Mb)) (i k : ℕ) → i < length runs → place_of runs i ≤ k → k < place_of runs i + length (run_at runs i) → get_or (run_at runs i) (k - place_of runs i) Skip ≡ get_or (joined runs) k Skip
-at_place runs i k inside low high =
-    let sum : place_of runs i + (k - place_of runs i) ≡ k = omega (arith, low) in
-    sym (in_run runs i (k - place_of runs i) inside (omega (arith, low, high))) ∙ ap (λ (n : ℕ). get_or (joined runs) n Skip) sum
+abbrev some_slice : Slice Mb → Option (Slice Mb)
+some_slice s = Some s
 
--- what holds of each macroblock holds of each in a slice
-pub all_in_run : (P : Mb → Type 0) (runs : List (List Mb)) (i : ℕ) → i < length runs → All P (joined runs) → All P (run_at runs i)
-all_in_run P runs i inside all =
-    All-from_get_or P (run_at runs i) Skip (λ j below.
-    subst P (in_run runs i j inside below)
-    (All-get_or P (joined runs) (place_of runs i + j) Skip (omega (arith, below, place_next runs i inside, place_within runs (i + 1))) all))
+-- slice i, in its place
+pub slice_is : (first : ℕ) (runs : List (List Mb)) (i : ℕ) → i < length runs → slice_get (slices_at first runs) i ≡ Some (record { first = first + place_of runs i; mbs = run_at runs i })
+slice_is first [] i inside = absurd (omega arith)
+slice_is first (run ∷ runs) zero inside =
+    let start : first ≡ first + 0 = omega arith in
+    ap (λ (n : ℕ). some_slice (record { first = n; mbs = run })) start
+slice_is first (run ∷ runs) (suc i) inside =
+    let more : first + length run + place_of runs i ≡ first + place_of (run ∷ runs) (suc i) = omega (arith, length-append run (joined (take i runs))) in
+    slice_is (first + length run) runs i (omega (arith, inside)) ∙ ap (λ (n : ℕ). some_slice (record { first = n; mbs = run_at runs i })) more

@@ -1,7 +1,7 @@
 -- The picture's samples, packet after packet.
 use Rattle.std.proofs.Common.{◌≡◌, ℕ, ◌+◌, ◌-◌, ◌<◌, ◌≤◌, Bool, true, false, List, length, drop, get_or, refl, sym, ap, subst, ◌∙◌, arith}
 use Rattle.std.specs.Prelude.{◌&&◌, nat_le, nat_lt, if◌then◌else◌, None}
-use Rattle.std.proofs.lemmas.Bool.{lt-ltb, leb-true, leb-false, ltb-true}
+use Rattle.std.proofs.lemmas.Bool.{leb-true, ltb-true}
 use Rattle.std.proofs.lemmas.List.{get_or-take, get_or-drop}
 use Rattle.h263_types.specs.declared.format.Format.{Format}
 use Rattle.h263_types.specs.Sizes.{mbs_of}
@@ -18,19 +18,12 @@ use Rattle.packet_collector.specs.Packet.{Slice}
 use Rattle.packet_collector.specs.Filled.{slice_in}
 use Rattle.h263_types.specs.Blocks.{mb_in}
 use Rattle.picture_recon.specs.Samples.{sample_in}
+use Rattle.picture_recon.specs.Shown.{IsPartFrom, SetsSlice, ShowsFirst}
 use Rattle.packet_cutter.specs.Packets.{ArePacketsOf}
-use Rattle.h263rps.specs.Sent.{AreSent}
-use Rattle.h263rps.specs.Received.{SetsSlice, ShowsFirst}
-use Rattle.h263rps.proofs.Runs.{place_of, run_at, place_next, place_all, at_place}
+use Rattle.packets_read_again.specs.Sent.{AreSent}
+use Rattle.h263rps.specs.Laws.{PictureLaws}
+use Rattle.h263rps.proofs.Runs.{place_of, run_at, place_next, place_all, in_run}
 use Rattle.h263rps.proofs.Packets.{as_many, all_runs}
-
--- the value of a choice by the place k, where both sides give v
-by_place : (low n k a b v : ℕ) → (k < low → b ≡ v) → (low ≤ k → a ≡ v) → k < low + n → (if nat_le low k && nat_lt k (low + n) then a else b) ≡ v
-by_place low n k a b v before there below = at_test (nat_le low k) refl
-  where
-    at_test : (t : Bool) → nat_le low k ≡ t → (if t && nat_lt k (low + n) then a else b) ≡ v
-    at_test true e = rw (lt-ltb k (low + n) below) (there (leb-true low k e))
-    at_test false e = before (leb-false low k e)
 
 -- two choices by the same place are equal where what is chosen there is
 pub same_there : (low n k a c b : ℕ) → (low ≤ k → k < low + n → a ≡ c) → (if nat_le low k && nat_lt k (low + n) then a else b) ≡ (if nat_le low k && nat_lt k (low + n) then c else b)
@@ -41,27 +34,22 @@ same_there low n k a c b same = at_low (nat_le low k) refl (nat_lt k (low + n)) 
     at_low true e false f = refl
     at_low false e u f = refl
 
-pub more_shown : (number sequence limit : ℕ) (h : Header) (mbs : List Mb) (packets : List (List ℕ)) (p : ArePacketsOf number sequence h limit mbs packets) (i : ℕ) (old new : Picture) → i < length packets
-    → ShowsFirst h.format h.rounding mbs (place_of p.runs i) old → SetsSlice h.format h.rounding (place_of p.runs i) (run_at p.runs i) old new → ShowsFirst h.format h.rounding mbs (place_of p.runs (i + 1)) new
-more_shown number sequence limit h mbs packets p i old new below shows sets = λ plane x y inside under.
-    let k = mb_of h.format plane x y in
-    let low = place_of p.runs i in
-    let in_list : i < length p.runs = omega (arith, below, as_many number sequence limit h mbs packets p) in
-    let high : k < low + length (run_at p.runs i) = omega (arith, under, place_next p.runs i in_list) in
-    sets plane x y inside
-    ∙ by_place low (length (run_at p.runs i)) k _ _ (sample_in h.rounding None (mb_in mbs k) plane x y)
-    (λ before. shows plane x y inside before)
-    (λ there. ap (λ (m : Mb). sample_in h.rounding None m plane x y) (at_place p.runs i k in_list there high ∙ ap (λ (l : List Mb). get_or l k Skip) (all_runs number sequence limit h mbs packets p)))
-    high
+-- one slice more of the picture's
+pub more_shown : PictureLaws → (number sequence limit : ℕ) (h : Header) (mbs : List Mb) (packets : List (List ℕ)) (p : ArePacketsOf number sequence h limit mbs packets) (i : ℕ) (old new : Picture) → i < length packets
+    → ShowsFirst h.format h.rounding None mbs (place_of p.runs i) old → SetsSlice h.format h.rounding None (place_of p.runs i) (run_at p.runs i) old new → ShowsFirst h.format h.rounding None mbs (place_of p.runs (i + 1)) new
+more_shown laws number sequence limit h mbs packets p i old new below shows sets =
+    let inside : i < length p.runs = omega (arith, below, as_many laws number sequence limit h mbs packets p) in
+    let part : IsPartFrom mbs (place_of p.runs i) (run_at p.runs i) = λ k lt.
+    sym (in_run p.runs i k inside lt) ∙ ap (λ (l : List Mb). get_or l (place_of p.runs i + k) Skip) (all_runs laws number sequence limit h mbs packets p)
+    in
+    subst (λ (n : ℕ). ShowsFirst h.format h.rounding None mbs n new) (sym (place_next p.runs i inside))
+    (laws.slice h.format h.rounding None mbs (place_of p.runs i) (run_at p.runs i) old new shows part sets)
 
-pub all_shown : (number sequence limit : ℕ) (h : Header) (mbs : List Mb) (packets : List (List ℕ)) (p : ArePacketsOf number sequence h limit mbs packets) (i : ℕ) (new : Picture) → AreSent h mbs → length packets ≤ i
-    → ShowsFirst h.format h.rounding mbs (place_of p.runs i) new → ShowsFirst h.format h.rounding mbs (mbs_of h.format) new
-all_shown number sequence limit h mbs packets p i new s end shows = λ plane x y inside under.
-    let all : place_of p.runs i ≡ mbs_of h.format = place_all p.runs i (omega (arith, end, as_many number sequence limit h mbs packets p)) ∙ ap (λ (l : List Mb). length l) (all_runs number sequence limit h mbs packets p) ∙ s.count in
-    shows plane x y inside (omega (arith, under, all))
-
-pub none_shown : (f : Format) (rounding : ℕ) (mbs : List Mb) (new : Picture) → ShowsFirst f rounding mbs 0 new
-none_shown f rounding mbs new = λ plane x y inside under. absurd (omega (arith, under))
+pub all_shown : PictureLaws → (number sequence limit : ℕ) (h : Header) (mbs : List Mb) (packets : List (List ℕ)) (p : ArePacketsOf number sequence h limit mbs packets) (i : ℕ) (new : Picture) → AreSent h mbs → length packets ≤ i
+    → ShowsFirst h.format h.rounding None mbs (place_of p.runs i) new → ShowsFirst h.format h.rounding None mbs (mbs_of h.format) new
+all_shown laws number sequence limit h mbs packets p i new s end shows =
+    let all : place_of p.runs i ≡ mbs_of h.format = place_all p.runs i (omega (arith, end, as_many laws number sequence limit h mbs packets p)) ∙ ap (λ (l : List Mb). length l) (all_runs laws number sequence limit h mbs packets p) ∙ s.count in
+    subst (λ (n : ℕ). ShowsFirst h.format h.rounding None mbs n new) all shows
 
 -- ---- what one packet sets
 
@@ -84,7 +72,7 @@ SliceSamples piece mbs old new =
     else sample_at old plane x y)
 
 pub slice_is_set : (f : Format) (h : Header) (first : ℕ) (run mbs : List Mb) (piece : Piece) (old new : Picture) → piece.head.count ≡ length run
-    → slice_in piece mbs ≡ record { header = h; first = first; mbs = run } → piece.header.format ≡ f → SliceSamples piece mbs old new → SetsSlice f h.rounding first run old new
+    → slice_in piece mbs ≡ record { header = h; first = first; mbs = run } → piece.header.format ≡ f → SliceSamples piece mbs old new → SetsSlice f h.rounding None first run old new
 slice_is_set f h first run mbs piece old new many is format samples = λ plane x y inside.
     let value : Format → ℕ → ℕ → ℕ → ℕ = λ g l n r.
     if nat_le l (mb_of g plane x y) && nat_lt (mb_of g plane x y) (l + n) then sample_in r None (mb_in mbs (mb_of g plane x y)) plane x y else sample_at old plane x y in

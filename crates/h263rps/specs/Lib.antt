@@ -1,4 +1,5 @@
 pub mod Coded
+pub mod Laws
 pub mod Link
 pub mod Out
 pub mod Play

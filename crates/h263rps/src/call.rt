@@ -6,21 +6,21 @@ ghost use Rattle.h263_outside.specs.Desk.{Rose, OnlyWrites};
 ghost use Rattle.h263_outside.specs.declared.desk.Role.{Role};
 ghost use Rattle.h263_outside.specs.declared.desk.Role.TheVariants.{Video, Pictures};
 ghost use Rattle.y4m.specs.Text.{head_text, frame_text};
+ghost use Rattle.y4m.specs.Video.{most_frames};
 ghost use Rattle.h263rps.specs.Status.{status_of};
 ghost use Rattle.h263rps.specs.Link.{IsBefore};
 ghost use Rattle.h263rps.specs.Run.{HasCause, IsLater, KeepsRoles};
 ghost use Rattle.h263rps.specs.Play.{GainsPictures, StopsInPictures, IsPlaying, HasEnded, FrameMoves, FramePlays, step_status};
 
 use crate::Status;
+use crate::laws::of_the_parts;
 use crate::link::Link;
 use h263_outside::Desk;
 use h263_planes::PictureRef;
+use h263_planes::laws::bytes_are_planes;
 use h263_types::{Format, Mark};
 use std::alloc::Global;
-use y4m::{Y4mReader, write_frame, write_head};
-
-// The most frames of a video.
-const MAX_FRAMES: u32 = 1_048_576;
+use y4m::{MAX_FRAMES, Y4mReader, write_frame, write_head};
 
 // Writes the head of the pictures.
 fn open<D: Desk>(desk: &mut D, format: Format) -> Result<(), Status>
@@ -64,7 +64,7 @@ fn play_frame<D: Desk>(
 ) -> Result<bool, Status>
     requires video { (D.outside desk.old).attached Video ≡ true }
     requires pictures { (D.outside desk.old).attached Pictures ≡ true }
-    requires more { reader.old.more + number ≡ 1048576 }
+    requires more { reader.old.more + number ≡ most_frames }
     requires before { IsBefore reader.old.format number link.old }
     requires frame { length frame.old ≡ size_of_picture reader.old.format }
     requires picture { length picture.old ≡ size_of_picture reader.old.format }
@@ -75,6 +75,8 @@ fn play_frame<D: Desk>(
     ensures cause { HasCause (step_status result) (D.outside desk.old).faults (D.outside desk.new).faults }
     ensures rest { KeepsRoles (D.outside desk.old) (D.outside desk.new) }
 {
+    of_the_parts();
+    bytes_are_planes();
     if !reader.frame(desk, frame)? {
         return Ok(false);
     }
@@ -93,7 +95,7 @@ fn play_frames<D: Desk>(
 ) -> Result<(), Status>
     requires video { (D.outside desk.old).attached Video ≡ true }
     requires pictures { (D.outside desk.old).attached Pictures ≡ true }
-    requires more { reader.old.more ≡ 1048576 }
+    requires more { reader.old.more ≡ most_frames }
     requires before { IsBefore reader.old.format 0 link.old }
     requires frame { length frame.old ≡ size_of_picture reader.old.format }
     requires picture { length picture.old ≡ size_of_picture reader.old.format }
@@ -121,6 +123,7 @@ pub fn play<D: Desk>(alloc: Global, desk: &mut D) -> Result<(), Status>
     ensures cause { HasCause (status_of result) (D.outside desk.old).faults (D.outside desk.new).faults }
     ensures rest { KeepsRoles (D.outside desk.old) (D.outside desk.new) }
 {
+    of_the_parts();
     let mut reader = Y4mReader::head(desk)?;
     let format = reader.format();
     let mut link = Link::start(alloc, format)?;

@@ -3,9 +3,11 @@ ghost use Rattle.std.specs.Prelude.{◌≡◌, ◌+◌, ◌<◌, length, IfOk};
 ghost use Rattle.h263_types.specs.declared.Mark.TheVariants.{Exact};
 ghost use Rattle.h263_types.specs.Sizes.{size_of_picture};
 ghost use Rattle.h263_planes.specs.Samples.{bytes_of};
+ghost use Rattle.y4m.specs.Video.{most_frames};
 ghost use Rattle.h263rps.specs.Coded.{coded};
 ghost use Rattle.h263rps.specs.Link.{IsBefore};
 
+use crate::laws::{of_a_picture, of_choices};
 use crate::receiving::take_packets;
 use crate::sending::send;
 use h263_outside::OutOfMemory;
@@ -49,7 +51,7 @@ impl Link {
     /// Codes a frame as picture `number` into packets, and makes of their bytes the picture in `out`, both of
     /// `format().size()` bytes. The mark tells how much of it arrived.
     pub fn pass(&mut self, number: u32, frame: &[u8], out: &mut [u8]) -> Mark
-        requires number { number < 1048576 }
+        requires number { number < most_frames }
         requires before { IsBefore self.old.params.format number self.old }
         requires frame { length frame.now ≡ size_of_picture self.old.params.format }
         requires out { length out.old ≡ size_of_picture self.old.params.format }
@@ -57,6 +59,8 @@ impl Link {
         ensures shows { out.new ≡ bytes_of (coded self.old.params.format frame.now) }
         ensures before { IsBefore self.old.params.format (number + 1) self.new }
     {
+        of_choices();
+        of_a_picture();
         let format = self.params.format;
         let frame = PictureRef::new(format, frame);
         send(

@@ -13,6 +13,7 @@ ghost use Rattle.h263rps.specs.Play.{HasEnded};
 
 use crate::Status;
 use crate::call::play;
+use crate::laws::of_the_parts;
 use crate::words::read_words;
 use h263_outside::{Desk, Role, Unattached};
 use std::alloc::Global;
@@ -43,6 +44,7 @@ fn call<D: Desk>(alloc: Global, desk: &mut D, input: &str, output: &str) -> Resu
     ensures cause { HasCause (status_of result) (D.outside desk.old).faults (D.outside desk.new).faults }
     ensures attached { AttachedAt (order_of (Call input.now output.now)) (status_of result) (D.outside desk.new) }
 {
+    of_the_parts();
     attach(desk, Role::Video, input)?;
     attach(desk, Role::Pictures, output)?;
     play(alloc, desk)

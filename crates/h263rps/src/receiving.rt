@@ -1,5 +1,5 @@
 // The receiver's side: packets become a picture.
-ghost use Rattle.std.specs.Prelude.{◌≡◌, ℕ, ◌+◌, ◌<◌, List, length};
+ghost use Rattle.std.specs.Prelude.{◌≡◌, ℕ, ◌+◌, ◌<◌, ◌≤◌, List, length, None};
 ghost use Rattle.h263_types.specs.declared.Kind.TheVariants.{I};
 ghost use Rattle.h263_types.specs.declared.Mark.TheVariants.{Exact};
 ghost use Rattle.h263_types.specs.declared.format.Format.{Format};
@@ -14,14 +14,18 @@ ghost use Rattle.packet_collector.specs.Packet.{IsPacket};
 ghost use Rattle.packet_collector.specs.Taken.{Taken};
 ghost use Rattle.packet_cutter.specs.Cutting.{packets_of};
 ghost use Rattle.packet_cutter.specs.Packets.{ArePacketsOf};
-ghost use Rattle.h263rps.specs.Sent.{AreSent};
-ghost use Rattle.h263rps.specs.Received.{HasFirst, IsReady, SetsSlice, ShowsFirst, mark_of};
+ghost use Rattle.y4m.specs.Video.{most_frames};
+ghost use Rattle.packets_read_again.specs.Sent.{AreSent};
+ghost use Rattle.h263rps.specs.Received.{HasFirst, IsReady, mark_of};
+ghost use Rattle.picture_recon.specs.Shown.{SetsSlice, ShowsFirst};
 
+use crate::laws::of_a_picture;
 use h263_planes::PictureMut;
+use h263_planes::laws::bytes_are_planes;
 use h263_types::{Kind, Mark, Mb};
+use packet_collector::laws::what_is_taken;
 use packet_collector::{Collector, Place, read_packet};
 use packet_cutter::Cutter;
-use packet_cutter::laws::{cut_parts, written_again};
 use picture_recon::recon_slice;
 
 // Sets the samples of a packet's slice, where nothing of it was taken before. A packet that can't be read, or that refers
@@ -44,8 +48,10 @@ fn take_packet(
     ensures takes { (h : Header) (first : ℕ) (run : List Mb) → h.kind ≡ I
         → IsPacket (format_of collector.old) (record { header = h; first = first; mbs = run }) bytes.now
         → HasFirst collector.old number h first
-        → HasFirst collector.new number h (first + length run) × SetsSlice (format_of collector.old) h.rounding first run (work out.old) (work out.new) }
+        → HasFirst collector.new number h (first + length run) × SetsSlice (format_of collector.old) h.rounding None first run (work out.old) (work out.new) }
 {
+    what_is_taken();
+    bytes_are_planes();
     let Ok(piece) = read_packet(bytes, out.format(), mbs) else {
         return;
     };
@@ -83,18 +89,17 @@ pub fn take_packets(
     requires format { (work out.old).format ≡ format_of collector.old }
     requires mbs { length mbs.old ≡ mbs_of (format_of collector.old) }
     requires ready { IsReady collector.old number }
-    requires number { number < 1048576 }
+    requires number { number < most_frames }
     ensures same_loan { loan_of out.new ≡ loan_of out.old }
     ensures format { (work out.new).format ≡ (work out.old).format }
     ensures whole { IsPicture (work out.new) }
     ensures mbs { length mbs.new ≡ length mbs.old }
     ensures row { format_of collector.new ≡ format_of collector.old }
     ensures shows { (sequence limit : ℕ) (h : Header) (all : List Mb) → h.kind ≡ I → h.format ≡ format_of collector.old
-        → IsHeader h → AreSent h all → limit < 65536 → ArePacketsOf number sequence h limit all (packets_of cutter.now)
-        → (result ≡ Exact) × IsReady collector.new (number + 1) × ShowsFirst (format_of collector.old) h.rounding all (mbs_of h.format) (work out.new) }
+        → IsHeader h → AreSent h all → 1200 ≤ limit → limit < 65536 → ArePacketsOf number sequence h limit all (packets_of cutter.now)
+        → (result ≡ Exact) × IsReady collector.new (number + 1) × ShowsFirst (format_of collector.old) h.rounding None all (mbs_of h.format) (work out.new) }
 {
-    cut_parts();
-    written_again();
+    of_a_picture();
     'turns: for i in 0..cutter.count() {
         take_packet(collector, mbs, number, cutter.packet(i), out);
     }

@@ -8,12 +8,12 @@ use Rattle.h263rps.proofs.program.call.Goals as goal
 pub returns-in_err-attach-clause-plays : goal.returns-in_err-attach-clause-plays
 returns-in_err-attach-clause-plays g c = λ video told.
     let outside = g.D.Desk.outside in
-    unattached video c.from_residual.result Video c.in_err-attach.field-0.0 (outside c.args.desk.now).written (outside c.attach.new.desk) c.from_residual.ensures.1 c.in_err-attach.ensures.kind c.attach.ensures.rest.written
+    unattached c.of_the_parts.ensures video c.from_residual.result Video c.in_err-attach.field-0.0 (outside c.args.desk.now).written (outside c.attach.new.desk) c.from_residual.ensures.1 c.in_err-attach.ensures.kind c.attach.ensures.rest.written
 
 pub returns-in_err-attach-2-clause-plays : goal.returns-in_err-attach-2-clause-plays
 returns-in_err-attach-2-clause-plays g c = λ video told.
     let outside = g.D.Desk.outside in
-    unattached video c.from_residual-in_err-attach-2.result Pictures c.in_err-attach-2.field-0.0 (outside c.args.desk.now).written (outside c.attach-2.new.desk) c.from_residual-in_err-attach-2.ensures.1 c.in_err-attach-2.ensures.kind
+    unattached c.of_the_parts.ensures video c.from_residual-in_err-attach-2.result Pictures c.in_err-attach-2.field-0.0 (outside c.args.desk.now).written (outside c.attach-2.new.desk) c.from_residual-in_err-attach-2.ensures.1 c.in_err-attach-2.ensures.kind
     (c.attach-2.ensures.rest.written ∙ c.attach.ensures.rest.written)
 
 pub returns-clause-plays : goal.returns-clause-plays
