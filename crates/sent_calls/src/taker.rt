@@ -1,12 +1,11 @@
 //! The reader of a call's packets, which also writes them again.
 ghost use Rattle.std.specs.Prelude.{◌≡◌, ℕ, ◌+◌, ◌<◌, ◌≤◌, ◌↔◌, true, length, IfOk, OnOk, IsTrue};
-ghost use Rattle.h263_types.specs.Blocks.{HasQuant, IsHeadOf, IsMb, IsOfKind};
+ghost use Rattle.h263_types.specs.Blocks.{HasQuant, IsHeadOf, IsMb, IsOfKind, mb_in};
 ghost use Rattle.h263_types.specs.Params.{IsParams};
 ghost use Rattle.h263_types.specs.Sizes.{mbs_of, size_of_picture};
 ghost use Rattle.packet_collector.specs.Filled.{IsPieceIn};
 ghost use Rattle.packet_cutter.specs.Cutting.{IsBegun, added_of, format_of, kind_of, quant_of};
 ghost use Rattle.picture_header.specs.Ranges.{IsHeader};
-ghost use Rattle.slice_layer.specs.Filled.{mb_in};
 ghost use Rattle.sent_calls.specs.Ends.{IsTaker, IsTaking};
 
 use crate::difference::Difference;

@@ -48,8 +48,8 @@ returns c p in_range = record {
       let has : HasReferenceOnlyInP style.kind p.format reference =
       subst (λ (k : Kind). HasReferenceOnlyInP k p.format reference) (sym kind)
       (has_reference p.format predicted reference chosen.has_reference (λ q is.
-          let made = chosen.reference_made q is in
-          ap (λ (r : Picture). r.format) made.1 ∙ c.samples_are_picture.ensures.format p.format _))
+      let made = chosen.reference_made q is in
+      ap (λ (r : Picture). r.format) made.1 ∙ c.samples_are_picture.ensures.format p.format _))
       in
       let sent_at : (k : ℕ) → k < mbs_of p.format → IsSentAt h k (choice_of frame reference g p k) =
       λ k below. record {
@@ -72,13 +72,12 @@ returns c p in_range = record {
       let read =
       c.read_again.ensures n sequence h p.limit mbs j slice ranged (omega (arith, in_range.limit_low)) (omega (arith, in_range.limit_high)) sent
       (ap (λ (l : List (call.Slice Mb)). slice_get l j) same_cut ∙ at)
-      in
-      (
+      in (
         read.0,
         ap (λ (l : List (call.Slice Mb)). slice_get (packets_of n sequence h l) j) (sym same_cut) ∙ read.1,
         ap (λ (f : Format). with_piece (packet_at f read.0)) (sym format)
-        ∙ ap with_piece read.2
-        ∙ ap (λ (x : call.Header Style). let r : Result (call.Piece Style Mb) Fault = Ok (record { header = x; slice = slice }) in r) (header_back p.clock header fits.half),
+            ∙ ap with_piece read.2
+            ∙ ap (λ (x : call.Header Style). let r : Result (call.Piece Style Mb) Fault = Ok (record { header = x; slice = slice }) in r) (header_back p.clock header fits.half),
       );
   no_packet = λ n sequence header slices j none. c.packet_of_each.ensures.none n sequence (header_from header) slices j none;
 }
