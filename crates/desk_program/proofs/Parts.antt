@@ -1,15 +1,14 @@
 -- Texts and counts, role by role: one write after another, one read after another.
-use Rattle.std.proofs.Common.{if◌then◌else◌, ◌≡◌, ◌≢◌, ℕ, Bool, true, false, List, [], ◌++◌, drop, Option, Some, Result, Ok, Err, IsErrAnd, refl, sym, ap, ◌∙◌, subst, append_assoc}
+use Rattle.std.proofs.Common.{if◌then◌else◌, ◌≡◌, ◌≢◌, ℕ, Bool, true, false, List, [], ◌++◌, drop, Option, Some, refl, sym, ap, ◌∙◌, subst, append_assoc}
 use Rattle.std.proofs.lemmas.List.{drop-drop}
 use Rattle.h263_outside.specs.Desk.{Outside, IsInput, is_role, appended, GainsFront}
 use Rattle.h263_outside.specs.Gains.{gained}
 use Rattle.h263_outside.specs.declared.desk.Role.{Role}
 use Rattle.h263_outside.specs.declared.desk.Role.TheVariants.{Video, Events, Pictures, Wire, Report, Video2, Pictures2}
 use Rattle.call_report.specs.declared.status.Status.{Status}
-use Rattle.call_report.specs.declared.status.Status.TheVariants.{WriteFault}
 use Rattle.desk_program.specs.Run.{Step, behind, refusal}
 use Rattle.desk_program.specs.Run.Step.{Ends}
-use Rattle.desk_program.specs.Ends.{Tells, Gains, GainsFronts, Ended, TurnGives, step_texts}
+use Rattle.desk_program.specs.Ends.{Tells, Gains, GainsFronts, Ended}
 use Rattle.desk_program.proofs.Gained.{gained-nil, gained-gained}
 use Rattle.desk_program.specs.Texts.{no_texts, on, then_also, no_bytes, of, and_of}
 
@@ -148,17 +147,6 @@ pub tells_both : (first second : Role → ℕ) (new : Outside) (inputs : Role �
 tells_both first second new inputs told = λ r input. told r input ∙ ap (λ (l : List ℕ). Some l) (drop-drop (second r) (first r) (inputs r))
 
 -- ---- the answers of a turn
-
--- a turn that gives up with a status
-pub turn_err : {State : Type 0} (r : Result Bool Status) (s : Status) (step : Step State) (after : State → (Role → List ℕ) → Type 0) (reads : State → Bool) (now : Bool) (inputs : Role → List ℕ) (old new : Outside)
-    → IsErrAnd r (λ x. x ≡ s) → TurnGives (Err s) step after reads now inputs old new → TurnGives r step after reads now inputs old new
-turn_err (Ok b) s step after reads now inputs old new gave gives = absurd gave
-turn_err (Err x) s step after reads now inputs old new gave gives = subst (λ (x : Status). TurnGives (Err x) step after reads now inputs old new) (sym gave) gives
-
--- a turn whose write failed
-pub turn_cut : {State : Type 0} (r : Result Bool Status) (s : Status) (step : Step State) (after : State → (Role → List ℕ) → Type 0) (reads : State → Bool) (now : Bool) (inputs : Role → List ℕ) (old new : Outside)
-    → IsErrAnd r (λ x. x ≡ s) → s ≡ WriteFault → GainsFronts (step_texts step) old.written new.written → TurnGives r step after reads now inputs old new
-turn_cut r s step after reads now inputs old new gave is fronts = turn_err r s step after reads now inputs old new gave (subst (λ (x : Status). TurnGives (Err x) step after reads now inputs old new) (sym is) fronts)
 
 -- a turn that refuses
 pub refuses : {State : Type 0} (step : Step State) (status : Status) (inputs : Role → List ℕ) (old new : Outside) → step ≡ Ends (refusal status) → new.written ≡ old.written → Ended step status inputs old new

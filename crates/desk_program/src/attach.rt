@@ -8,7 +8,8 @@ ghost use Rattle.desk_program.specs.Ends.{HasCause, IsOpening, start_status};
 use call_report::Status;
 use h263_outside::{Desk, Role, Unattached};
 
-fn attach<D: Desk>(desk: &mut D, role: Role, name: &str) -> Result<(), Status>
+/// Attaches a role by a name.
+pub fn attach_role<D: Desk>(desk: &mut D, role: Role, name: &str) -> Result<(), Status>
     requires { (D.outside desk.old).attached role ≡ false }
     ensures attached { OnOk result ((D.outside desk.new).attached ≡ with_role (D.outside desk.old).attached role true) }
     ensures name { OnOk result (IfSome ((D.outside desk.new).name role) (λ told. told ≡ name.now)) }
@@ -37,7 +38,7 @@ pub fn attach_all<D: Desk>(desk: &mut D, order: &[(Role, &str)]) -> Result<(), S
     ensures rest { OnlyAttaches (D.outside desk.old) (D.outside desk.new) }
 {
     for (role, name) in order {
-        attach(desk, *role, name)?;
+        attach_role(desk, *role, name)?;
     }
     Ok(())
 }

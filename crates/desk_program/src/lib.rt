@@ -6,14 +6,15 @@
 
 mod attach;
 mod command;
+pub mod laws;
 mod lines;
 mod play;
 mod turns;
 mod write;
 
-pub use attach::attach_all;
+pub use attach::{attach_all, attach_role};
 pub use command::perform;
 pub use lines::finish;
 pub use play::take_turns;
 pub use turns::Turns;
-pub use write::put;
+pub use write::{put, put_entry, put_head, put_line, put_picture};

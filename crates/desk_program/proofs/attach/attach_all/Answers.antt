@@ -11,11 +11,11 @@ pub loop-role-preserved : goal.loop-role-preserved
 unfolding none
 loop-role-preserved g c =
     let outside = g.D.Desk.outside in
-    let said = c.in_ok-attach.ensures in
+    let said = c.in_ok-attach_role.ensures in
     let free = first_free (outside c.loop-role.desk).attached c.args.order.now c.loop-role.role-index none c.loop-role-test.true c.loop-role.invariant.free in
     record {
-      free = rest_free (outside c.loop-role.desk).attached c.args.order.now c.loop-role.role-index none c.loop-role-test.true c.loop-role.invariant.free (outside c.attach.new.desk).attached said.attached;
-      attached = λ first before. next_attached first c.args.order.now c.loop-role.role-index none (outside c.loop-role.desk) (outside c.attach.new.desk) c.loop-role-test.true (c.loop-role.invariant.attached first before) free said.attached said.name said.other_names;
+      free = rest_free (outside c.loop-role.desk).attached c.args.order.now c.loop-role.role-index none c.loop-role-test.true c.loop-role.invariant.free (outside c.attach_role.new.desk).attached said.attached;
+      attached = λ first before. next_attached first c.args.order.now c.loop-role.role-index none (outside c.loop-role.desk) (outside c.attach_role.new.desk) c.loop-role-test.true (c.loop-role.invariant.attached first before) free said.attached said.name said.other_names;
       kept = λ r there. stays_attached r _ _ _ said.attached (c.loop-role.invariant.kept r there);
       rest = record {
         left = said.rest.left ∙ c.loop-role.invariant.rest.left;
@@ -24,12 +24,12 @@ loop-role-preserved g c =
       };
     }
 
-pub returns-in_err-attach-clause-attached : goal.returns-in_err-attach-clause-attached
+pub returns-in_err-attach_role-clause-attached : goal.returns-in_err-attach_role-clause-attached
 unfolding none
-returns-in_err-attach-clause-attached g c = λ first before.
+returns-in_err-attach_role-clause-attached g c = λ first before.
     let outside = g.D.Desk.outside in
-    let said = c.in_err-attach.ensures in
-    not_attached c.from_residual.result c.in_err-attach.field-0.0 first c.args.order.now c.loop-role.role-index none (outside c.loop-role.desk) (outside c.attach.new.desk) c.loop-role-test.true (c.loop-role.invariant.attached first before) said.err said.err_name c.from_residual.ensures.1 said.kind
+    let said = c.in_err-attach_role.ensures in
+    not_attached c.from_residual.result c.in_err-attach_role.field-0.0 first c.args.order.now c.loop-role.role-index none (outside c.loop-role.desk) (outside c.attach_role.new.desk) c.loop-role-test.true (c.loop-role.invariant.attached first before) said.err said.err_name c.from_residual.ensures.1 said.kind
 
-pub returns-in_err-attach-clause-kept : goal.returns-in_err-attach-clause-kept
-returns-in_err-attach-clause-kept g c = λ r there. ap (λ (f : Role → Bool). f r) c.in_err-attach.ensures.err ∙ c.loop-role.invariant.kept r there
+pub returns-in_err-attach_role-clause-kept : goal.returns-in_err-attach_role-clause-kept
+returns-in_err-attach_role-clause-kept g c = λ r there. ap (λ (f : Role → Bool). f r) c.in_err-attach_role.ensures.err ∙ c.loop-role.invariant.kept r there

@@ -1,0 +1,8 @@
+//! How the reads and writes of one turn add up, and how a turn that refuses is answered. Each law is
+//! the contract of a function that does nothing.
+ghost use Rattle.desk_program.specs.Laws.{TurnLaws};
+
+/// What the turns of a machine rest on that keeps such a state in mind.
+pub fn of_turns<State>()
+    ensures { TurnLaws State }
+{}
