@@ -3,5 +3,6 @@ mod Givens
 mod Rules
 mod Walking
 mod Parsing
+mod Named
 mod Numbers
 mod Reading

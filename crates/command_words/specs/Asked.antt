@@ -1,5 +1,5 @@
 -- What words ask for: a command with its parameters, and the words by which roles are attached.
-use Rattle.std.specs.Prelude.{ℕ, ◌&&◌, ◌≤◌, List, [], ◌∷◌, Option, Some, None, Result, Ok, Err, is_some, nat_le, if◌then◌else◌, codes, find, option_and_then, option_map}
+use Rattle.std.specs.Prelude.{ℕ, true, false, ◌&&◌, ◌≤◌, List, [], ◌∷◌, Option, Some, None, Result, Ok, Err, is_some, nat_le, if◌then◌else◌, codes, find, option_and_then, option_map}
 use Rattle.std.specs.Str.{bytes_eq}
 use Rattle.h263_outside.specs.declared.desk.Role.{Role}
 use Rattle.h263_outside.specs.declared.desk.Role.TheVariants.{Video, Events, Pictures, Wire, Report, Video2, Pictures2}
@@ -193,3 +193,18 @@ IsCommand (Call params traced) = IsParams params
 IsCommand (Send params) = IsParams params
 IsCommand (Recv params) = IsParams params
 IsCommand (Demo params seed frames) = IsParams params × (seed ≤ 999999999) × (1 ≤ frames) × (frames ≤ 10000)
+
+-- the words by which a command's roles are attached are all there
+abbrev pub IsGiven : Option Text → Type 0
+IsGiven None = ⊥
+IsGiven (Some text) = Unit {0}
+
+abbrev pub HasNamesOf : Command → Asked → Type 0
+HasNamesOf (Call params true) a = IsGiven a.video × IsGiven a.events × IsGiven a.pictures
+HasNamesOf (Call params false) a = IsGiven a.video × IsGiven a.pictures
+HasNamesOf (Send params) a = IsGiven a.video × IsGiven a.events × IsGiven a.wire
+HasNamesOf (Recv params) a = IsGiven a.events × IsGiven a.pictures × IsGiven a.wire
+HasNamesOf (Demo params seed frames) a = Unit {0}
+
+abbrev pub HasNames : Asked → Type 0
+HasNames a = HasNamesOf a.command a

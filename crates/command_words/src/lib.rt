@@ -6,6 +6,7 @@
 
 mod command;
 mod forms;
+pub mod laws;
 mod simple;
 #[cfg(test)]
 mod tests;
