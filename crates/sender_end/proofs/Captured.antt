@@ -1,5 +1,5 @@
 -- That the next picture was coded.
-use Rattle.std.proofs.Common.{◌≡◌, ℕ, ◌+◌, ◌%◌, ◌<◌, ◌≤◌, Bool, false, refl, sym, ap, ◌∙◌, subst, Option, List, is_some}
+use Rattle.std.proofs.Common.{◌≡◌, ℕ, ◌+◌, ◌%◌, sym, ap, ◌∙◌, Option, List, is_some}
 use Rattle.std.specs.Option.{option_map, option_map_or}
 use Rattle.h263_types.specs.declared.blocks.Mb.{Mb}
 use Rattle.h263_types.specs.declared.params.Params.{Params}

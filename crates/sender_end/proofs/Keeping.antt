@@ -1,11 +1,10 @@
 -- What is kept of the last pictures, and of one more.
-use Rattle.std.proofs.Common.{◌≡◌, ◌≢◌, ℕ, ◌+◌, ◌%◌, ◌<◌, ◌≤◌, Bool, true, false, refl, sym, ap, ◌∙◌, subst, arith, inl, inr, Option, Some, None, IfSome, List, length, eqb, get_or, set, is_some}
+use Rattle.std.proofs.Common.{◌≡◌, ℕ, ◌+◌, ◌%◌, ◌<◌, ◌≤◌, Bool, false, refl, sym, ap, ◌∙◌, subst, arith, inl, inr, Option, Some, None, IfSome, List, length, eqb, get_or, set, is_some}
 use Rattle.std.specs.Prelude.{if◌then◌else◌}
 use Rattle.std.specs.Option.{option_map}
 use Rattle.std.proofs.lemmas.Bool.{cases_eq, eq-eqb, ne_eqb}
 use Rattle.std.proofs.lemmas.List.{get_or-set_same, get_or-set_other, length-set}
 use Rattle.std.proofs.Math.Nat.{mod-lt}
-use Rattle.h263_types.specs.declared.Kind.{Kind}
 use Rattle.h263_planes.specs.Picture.{Picture}
 use Rattle.picture_store.specs.Pictures.{Pictures, IsKept, picture_in, slot_of, slots_of}
 use Rattle.reference_selector.specs.declared.Selector.{Selector}

@@ -1,7 +1,6 @@
 -- Headers with the numbers of a call.
-use Rattle.std.proofs.Common.{◌≡◌, ℕ, ◌*◌, ◌%◌, ◌<◌, refl, sym, ap, subst, arith, Option, Some, None, is_some}
+use Rattle.std.proofs.Common.{◌≡◌, ℕ, ◌%◌, ◌<◌, refl, subst, arith, Option, Some, None, is_some}
 use Rattle.std.specs.Option.{option_map}
-use Rattle.std.proofs.Math.Nat.{mod-lt}
 use Rattle.h263_types.specs.declared.clock.Clock.{Clock}
 use Rattle.h263_types.specs.declared.clock.Clock.TheVariants.{Standard, Custom}
 use Rattle.h263_types.specs.declared.params.Params.{Params}

@@ -1,5 +1,5 @@
 -- What a sender keeps, and the entries that it stands for.
-use Rattle.std.specs.Prelude.{◌≡◌, ℕ, ◌+◌, ◌-◌, ◌%◌, ◌<◌, ◌≤◌, false, List, length, slice_index, slice_index_or}
+use Rattle.std.specs.Prelude.{◌≡◌, All, ℕ, ◌+◌, ◌-◌, ◌%◌, ◌<◌, ◌≤◌, false, List, length, slice_index, slice_index_or}
 use Rattle.std.specs.Result.{result_ok}
 use Rattle.h263_types.specs.declared.blocks.Mb.{Mb}
 use Rattle.h263_types.specs.declared.params.Params.{Params}
@@ -50,6 +50,7 @@ pub record IsReady (state : State) : Type 0 where
       (λ m. slice_index state.selector.depths (m % state.params.slots))
       (λ m. slice_index_or state.selector.known (m % state.params.slots) false)
   pub few : state.sent ≤ 1048576
+  pub small : All (λ packet. length packet ≤ state.params.limit) (packets_of state.cutter)
 
 -- The state stands for these entries, the newest first, with this pace.
 pub record Stands (pace : List ℕ → ℕ) (state : State) (entries : List (SenderEntry Frame)) : Type 0

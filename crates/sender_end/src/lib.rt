@@ -9,5 +9,7 @@ mod coding;
 mod headers;
 mod sender;
 mod state;
+#[cfg(test)]
+mod tests;
 
 pub use sender::{Coded, Feedback, Sender};

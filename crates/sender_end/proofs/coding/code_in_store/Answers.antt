@@ -1,4 +1,4 @@
-use Rattle.std.proofs.Common.{rules, ◌≡◌, ℕ, refl, sym, ap, ◌∙◌, subst, Option, Some, None, length}
+use Rattle.std.proofs.Common.{rules, ◌≡◌, ℕ, sym, ap, ◌∙◌, Option, Some, length}
 use Rattle.h263_types.specs.Sizes.{size_of_picture}
 use Rattle.h263_types.specs.declared.format.Format.{Format}
 use Rattle.h263_planes.specs.Layout.{picture_of}

@@ -1,6 +1,5 @@
-use Rattle.std.proofs.Common.{◌≡◌, ℕ, ◌+◌, ◌<◌, ◌≤◌, Bool, Some, sym, ap, subst, ◌∙◌, arith}
+use Rattle.std.proofs.Common.{◌≡◌, ℕ, ◌+◌, ◌<◌, ◌≤◌, Bool, sym, ap, ◌∙◌, arith}
 use Rattle.call_model.specs.Coding.{Rules, window}
-use Rattle.call_model.specs.CodedPictures.{reference_for}
 use Rattle.reference_selector.specs.Stands.{Stands}
 use Rattle.sender_end.proofs.Choosing.{reference_parts}
 use Rattle.sender_end.proofs.state.next_from.Goals as goal

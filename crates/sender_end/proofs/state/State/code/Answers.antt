@@ -1,10 +1,8 @@
-use Rattle.std.proofs.Common.{◌≡◌, ℕ, ◌+◌, ◌%◌, ◌<◌, ◌≤◌, Bool, false, refl, sym, ap, ◌∙◌, subst, arith, IfSome, List, Option, length, is_some}
-use Rattle.std.specs.Option.{option_map, option_map_or}
+use Rattle.std.proofs.Common.{◌≡◌, ℕ, ◌+◌, ◌%◌, ◌<◌, ◌≤◌, false, refl, sym, ap, ◌∙◌, subst, arith, IfSome, List, Option, length, is_some}
 use Rattle.std.proofs.lemmas.Option.{IfSome_then}
 use Rattle.std.proofs.lemmas.List.{length-set}
 use Rattle.h263_types.specs.declared.Kind.{Kind}
 use Rattle.h263_types.specs.declared.blocks.Mb.{Mb}
-use Rattle.h263_types.specs.declared.format.Format.{Format}
 use Rattle.h263_planes.specs.Lent.{picture}
 use Rattle.h263_planes.specs.Picture.{Picture}
 use Rattle.back_messages.specs.declared.message.Message.{Message}
@@ -15,7 +13,6 @@ use Rattle.picture_recon.specs.Samples as recon
 use Rattle.packet_cutter.specs.Cutting.{packets_of, sequence_of}
 use Rattle.packet_cutter.specs.Packets.{ArePacketsOf}
 use Rattle.picture_store.specs.Pictures.{IsKept, picture_in, slot_of, slots_of}
-use Rattle.call_model.specs.Coding as call
 use Rattle.call_model.specs.CodedPictures.{Coded as CodedPicture}
 use Rattle.call_model.specs.Sending.{bytes_in}
 use Rattle.call_model.specs.Stands.{Sender}
@@ -24,10 +21,10 @@ use Rattle.call_decoding.specs.Rules.{rules_of}
 use Rattle.call_decoding.specs.Samples.{pictures}
 use Rattle.call_decoding.specs.Styles.{Style, header_from}
 use Rattle.call_encoding.specs.Encoding.{encoding}
-use Rattle.call_encoding.specs.Frames.{Frame, carried, kind_of, style_in, style_with}
+use Rattle.call_encoding.specs.Frames.{Frame, carried, style_in}
 use Rattle.sender_end.specs.Coding.{HasKept, kept_picture}
 use Rattle.sender_end.specs.Headers.{numbered}
-use Rattle.sender_end.specs.Stands.{IsSeen, next}
+use Rattle.sender_end.specs.Stands.{next}
 use Rattle.sender_end.proofs.Captured.{made, made_is_next, packets_are, reference_at}
 use Rattle.sender_end.proofs.Keeping.{at_new, at_other, at_same, coded_numbers, coded_rests, has_kept, own_numbers, same_picture, still_kept}
 use Rattle.sender_end.proofs.Numbering.{numbered_fits}
@@ -73,6 +70,7 @@ returns-clause-ready c =
           own_numbers (rules_of old.params) c.coded.new.self (n + 1) _ _
           (coded_numbers (rules_of old.params) old.selector c.coded.new.self n d _ _ c.coded.ensures ready.selects);
       few = omega (arith, c.requires.left);
+      small = c.written_packets.ensures.small _ _ _ _ _ _ c.code_in_store.ensures.packets;
     }
 
 pub returns-clause-coded : goal.returns-clause-coded

@@ -1,4 +1,4 @@
-use Rattle.std.proofs.Common.{◌≡◌, ℕ, sym, ap, ◌∙◌, subst, List, length}
+use Rattle.std.proofs.Common.{ℕ, sym, ap, ◌∙◌, subst}
 use Rattle.h263_types.specs.declared.params.Params.{Params}
 use Rattle.call_model.specs.Sending.{feedback_answer}
 use Rattle.call_model.specs.Stands.{SenderStands}

@@ -1,12 +1,10 @@
-use Rattle.std.proofs.Common.{◌≡◌, ℕ, ◌+◌, ◌%◌, ◌<◌, ◌≤◌, ◌||◌, Bool, false, Ok, Result, List, Some, subst, refl, sym, ap, ◌∙◌, get_or}
+use Rattle.std.proofs.Common.{◌≡◌, ℕ, ◌+◌, ◌%◌, ◌<◌, ◌≤◌, ◌||◌, false, Ok, Result, List, Some, subst, refl, sym, ap, ◌∙◌, get_or}
 use Rattle.std.specs.Result.{result_ok}
-use Rattle.h263_planes.specs.Picture.{Picture}
 use Rattle.reference_selector.specs.Messages.{message_of}
 use Rattle.back_messages.specs.declared.message.MessageFault.{MessageFault}
 use Rattle.call_model.specs.Coding as call
 use Rattle.call_model.specs.CodedPictures.{is_among}
 use Rattle.call_model.specs.Sending.{known_by_feedback}
-use Rattle.call_model.specs.Stands.{Sender}
 use Rattle.call_decoding.specs.Rules.{rules_of}
 use Rattle.call_encoding.specs.Messages.{as_read, read_message}
 use Rattle.sender_end.proofs.Keeping.{own_known, own_numbers}
@@ -26,6 +24,7 @@ returns-then-note-clause-ready c =
       kept = ready.kept;
       selects = own_numbers (rules_of old.params) c.note.new.self old.sent _ _ (c.note.ensures.known (rules_of old.params) _ _ ready.selects);
       few = ready.few;
+      small = ready.small;
     }
 
 pub returns-then-note-clause-after : goal.returns-then-note-clause-after

@@ -1,9 +1,8 @@
-use Rattle.std.proofs.Common.{rules, ◌≡◌, ℕ, ◌%◌, Bool, false, refl, ap, ◌∙◌, arith, List, [], Option, length}
+use Rattle.std.proofs.Common.{rules, All, ◌≡◌, ◌≤◌, ℕ, false, refl, sym, subst, ap, ◌∙◌, arith, List, [], Option, length}
 use Rattle.std.proofs.lemmas.List.{length-replicate}
 use Rattle.h263_planes.specs.Picture.{Picture}
 use Rattle.packet_cutter.specs.Cutting.{packets_of, sequence_of}
 use Rattle.picture_store.specs.Pictures.{picture_in}
-use Rattle.reference_selector.specs.Stands.{Stands}
 use Rattle.call_model.specs.Stands.{Sender}
 use Rattle.call_decoding.specs.Rules.{rules_of}
 use Rattle.call_decoding.specs.Samples.{pictures}
@@ -26,6 +25,9 @@ returns-clause-ready c =
           own_numbers (rules_of p) c.start-3.result 0 (λ m. 0) (λ m. false)
           (c.start-3.ensures (rules_of p) (λ m. 0) (λ m. false) refl refl refl refl);
       few = omega arith;
+      small =
+          subst (λ (l : List (List ℕ)). All (λ packet. length packet ≤ p.limit) l) (sym c.in_ok-cutter.ensures.none)
+          (λ k d below. absurd (omega (arith, below)));
     }
 
 pub returns-clause-stands : goal.returns-clause-stands
