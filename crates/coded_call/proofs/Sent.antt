@@ -1,11 +1,8 @@
 -- What is chosen for a frame of a call may be sent.
-use Rattle.std.proofs.Common.{◌≡◌, ℕ, ◌<◌, ◌≤◌, Bool, true, false, refl, sym, ap, ◌∙◌, subst, List, length, Option, Some, None, is_some, get_or}
-use Rattle.h263_types.specs.declared.Kind.{Kind}
-use Rattle.h263_types.specs.declared.blocks.Mb.{Mb}
+use Rattle.std.proofs.Common.{◌≡◌, ℕ, Bool, true, false, refl, sym, ap, subst, Option, Some, None, is_some}
 use Rattle.h263_types.specs.declared.clock.Clock.{Clock}
 use Rattle.h263_types.specs.declared.clock.Clock.TheVariants.{Standard, Custom}
 use Rattle.h263_types.specs.declared.format.Format.{Format}
-use Rattle.h263_types.specs.declared.params.Params.{Params}
 use Rattle.h263_types.specs.Clocks.{half_of}
 use Rattle.h263_planes.specs.Picture.{Picture}
 use Rattle.h263_planes.specs.References.{HasReferenceOnlyInP}

@@ -1,17 +1,25 @@
 //! What the program cites of a whole call. Each law is the contract of a function that does nothing
 //! else.
-ghost use Rattle.std.specs.Prelude.{ℕ, List};
+ghost use Rattle.std.specs.Prelude.{◌≡◌, ℕ, List};
+ghost use Rattle.h263_types.specs.declared.clock.Clock.{Clock};
 ghost use Rattle.h263_types.specs.declared.params.Params.{Params};
 ghost use Rattle.h263_types.specs.Params.{IsParams};
+ghost use Rattle.back_messages.specs.Said.{text_of};
+ghost use Rattle.back_messages.specs.declared.writing.Said.{Said};
+ghost use Rattle.call_model.specs.Coding.{Message};
 ghost use Rattle.call_model.specs.IdealCall.{AllNear, Event, ideal};
 ghost use Rattle.call_model.specs.JoinedRun.{joined, new_receiver};
 ghost use Rattle.call_model.specs.Lawful.{IsCoding, IsPace};
 ghost use Rattle.call_model.specs.TwoStores.{EndsFollow};
 ghost use Rattle.call_decoding.specs.Rules.{rules_of};
 ghost use Rattle.call_encoding.specs.Frames.{Frame};
+ghost use Rattle.call_encoding.specs.Messages.{write_message};
+ghost use Rattle.coded_call.specs.Bytes.{AreBytes};
 ghost use Rattle.coded_call.specs.Coding.{coding};
+ghost use Rattle.receiver_end.specs.Answers.{IsSaid};
 
 use back_messages::MessageFault;
+use back_messages::laws::{exact_text, in_a_syntax};
 use call_decoding::laws::are_rules;
 use call_decoding::{Pictured, Styled};
 use call_encoding::Framed;
@@ -52,4 +60,13 @@ pub fn two_stores()
     is_coding();
     are_rules();
     call_model::laws::two_stores::<Framed, Styled, Mb, Pictured, Fault, MessageFault>();
+}
+
+/// The bytes that a receiver says of a message are those that are written of it.
+pub fn said_bytes()
+    ensures { (clock : Clock) (said : Said) (message : Message) → AreBytes (text_of said)
+        → IsSaid clock said message → text_of said ≡ write_message message }
+{
+    exact_text();
+    in_a_syntax();
 }

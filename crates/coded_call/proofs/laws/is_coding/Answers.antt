@@ -1,4 +1,4 @@
-use Rattle.std.proofs.Common.{◌≡◌, ℕ, ◌<◌, ◌≤◌, Ok, Result, refl, sym, ap, ◌∙◌, subst, arith, List, Option, Some, length}
+use Rattle.std.proofs.Common.{◌≡◌, ℕ, ◌<◌, Ok, Result, sym, ap, ◌∙◌, subst, arith, List, length}
 use Rattle.std.specs.Prelude.{slice_get, slice_index_or}
 use Rattle.h263_bits.specs.declared.fault.Fault.{Fault}
 use Rattle.h263_types.specs.declared.Kind.{Kind}
@@ -7,10 +7,8 @@ use Rattle.h263_types.specs.declared.format.Format.{Format}
 use Rattle.h263_types.specs.declared.blocks.Mb.TheVariants.{Skip}
 use Rattle.h263_types.specs.References.{ReachesInside}
 use Rattle.h263_types.specs.Sizes.{mbs_of}
-use Rattle.h263_planes.specs.Given.{picture_with}
 use Rattle.h263_planes.specs.Picture.{Picture}
 use Rattle.h263_planes.specs.References.{HasReferenceOnlyInP}
-use Rattle.picture_header.specs.declared.header.Header.{Header}
 use Rattle.picture_header.specs.Ranges.{IsHeader}
 use Rattle.mode_choice.specs.Choice.{choice_of}
 use Rattle.packet_cutter.specs.Packets.{packets_of}
@@ -18,14 +16,10 @@ use Rattle.packet_cutter.specs.Slices.{cut_of}
 use Rattle.packet_collector.specs.Packet.{packet_at}
 use Rattle.packets_read_again.specs.Sent.{AreSent, IsSentAt}
 use Rattle.call_model.specs.Coding as call
-use Rattle.call_model.specs.Lawful.{FitsHeader, IsChosen}
-use Rattle.call_decoding.specs.Rules.{rules_of}
-use Rattle.call_decoding.specs.Samples.{pictures}
-use Rattle.call_decoding.specs.Styles.{Style, header_from, header_of}
+use Rattle.call_decoding.specs.Styles.{Style, header_from}
 use Rattle.call_encoding.specs.Encoding.{encoding}
 use Rattle.call_encoding.specs.Frames.{header_in, in_format, kind_of}
 use Rattle.receiver_end.specs.Decoding.{with_piece}
-use Rattle.coded_call.specs.Coding.{coding}
 use Rattle.coded_call.proofs.Sent.{has_reference, header_back}
 use Rattle.coded_call.proofs.laws.is_coding.Goals as goal
 
