@@ -1,0 +1,66 @@
+-- What a receiver answers and says, against its run.
+use Rattle.std.proofs.Common.{◌≡◌, ℕ, List, Option, Some, None, refl, ap, subst}
+use Rattle.h263_bits.specs.declared.fault.Fault.{Fault}
+use Rattle.h263_outside.specs.declared.desk.Role.TheVariants.{Wire}
+use Rattle.h263_types.specs.declared.clock.Clock.{Clock}
+use Rattle.back_messages.specs.Said.{text_of}
+use Rattle.back_messages.specs.declared.writing.Said.{Said}
+use Rattle.event_logs.specs.Text.{entry_text}
+use Rattle.desk_program.specs.Texts.{no_texts, on}
+use Rattle.call_model.specs.Coding.{Message}
+use Rattle.call_model.specs.Receiving as runs
+use Rattle.call_encoding.specs.Messages.{write_message}
+use Rattle.receiver_end.specs.Answers.{IsHeard, IsMessage, IsSaid}
+use Rattle.receiver_end.specs.declared.answers.Heard.{Heard}
+use Rattle.coded_call.specs.Bytes.{AreBytes}
+use Rattle.recv_command.specs.declared.tally.Tally.{Tally}
+use Rattle.recv_command.specs.Said.{back_text, message_in, said_in}
+use Rattle.recv_command.specs.Tally.{with_answer, with_heard}
+
+-- ---- answers
+
+pub heard_message : (clock : Clock) (h : Heard) (answer : runs.Heard Fault) → IsHeard clock h answer → IsMessage clock (said_in h) (message_in answer)
+heard_message clock h (runs.Refused fault) is = ap said_in is
+heard_message clock h runs.OtherClock is = ap said_in is
+heard_message clock h runs.Late is = ap said_in is
+heard_message clock h runs.Early is = ap said_in is
+heard_message clock h runs.HeaderDiffers is = ap said_in is
+heard_message clock h runs.MissingReference is = ap said_in is
+heard_message clock h runs.Repeat is = ap said_in is
+heard_message clock h runs.Overlap is = ap said_in is
+heard_message clock h (runs.Completed message) is = (is.0, ap said_in is.1, is.2)
+heard_message clock h runs.Taken is = ap said_in is
+
+pub heard_count : (clock : Clock) (h : Heard) (answer : runs.Heard Fault) (t : Tally) → IsHeard clock h answer → with_heard h t ≡ with_answer answer t
+heard_count clock h (runs.Refused fault) t is = ap (λ (x : Heard). with_heard x t) is
+heard_count clock h runs.OtherClock t is = ap (λ (x : Heard). with_heard x t) is
+heard_count clock h runs.Late t is = ap (λ (x : Heard). with_heard x t) is
+heard_count clock h runs.Early t is = ap (λ (x : Heard). with_heard x t) is
+heard_count clock h runs.HeaderDiffers t is = ap (λ (x : Heard). with_heard x t) is
+heard_count clock h runs.MissingReference t is = ap (λ (x : Heard). with_heard x t) is
+heard_count clock h runs.Repeat t is = ap (λ (x : Heard). with_heard x t) is
+heard_count clock h runs.Overlap t is = ap (λ (x : Heard). with_heard x t) is
+heard_count clock h (runs.Completed message) t is = ap (λ (x : Heard). with_heard x t) is.1
+heard_count clock h runs.Taken t is = ap (λ (x : Heard). with_heard x t) is
+
+-- ---- messages
+
+-- the bytes that are said of a message are those that are written of it
+abbrev pub SaysBytes : Type 0
+SaysBytes =
+    (clock : Clock) (said : Said) (message : Message) → AreBytes (text_of said) → IsSaid clock said message
+    → text_of said ≡ write_message message
+
+some_is : (a b : Said) (o : Option Said) → o ≡ Some a → o ≡ Some b → a ≡ b
+some_is a b o p q = cc (p, q)
+
+pub said_text : SaysBytes → (clock : Clock) (o : Option Said) (said : Said) (message : Option Message) → o ≡ Some said → AreBytes (text_of said)
+    → IsMessage clock o message → on Wire (entry_text 66 (text_of said)) ≡ back_text message
+said_text law clock o said None is fit none = absurd (cc (none, is))
+said_text law clock o said (Some message) is fit m =
+    let same : m.0 ≡ said = some_is m.0 said o m.1 is in
+    ap (λ (bytes : List ℕ). on Wire (entry_text 66 bytes)) (law clock said message fit (subst (λ (x : Said). IsSaid clock x message) same m.2))
+
+pub none_said : (clock : Clock) (o : Option Said) (message : Option Message) → o ≡ None → IsMessage clock o message → no_texts ≡ back_text message
+none_said clock o None is none = refl
+none_said clock o (Some message) is m = absurd (cc (m.1, is))

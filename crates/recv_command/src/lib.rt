@@ -1,0 +1,14 @@
+//! The receiver alone, as a command: packets and plays come from a log, and what it shows, says and counts goes to
+//! the pictures, the wire and the report.
+#![tactic(auto)]
+
+pub mod laws;
+mod mind;
+mod parts;
+mod recv;
+mod tally;
+#[cfg(test)]
+mod tests;
+
+pub use recv::Recv;
+pub use tally::Tally;
