@@ -1,0 +1,10 @@
+pub mod Held
+pub mod Answering
+pub mod Captured
+pub mod Counting
+pub mod Wiring
+pub mod Entering
+pub mod Framing
+pub mod Starting
+pub mod Keeping
+pub mod Refusing

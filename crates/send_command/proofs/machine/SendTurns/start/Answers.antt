@@ -1,0 +1,75 @@
+use Rattle.std.proofs.Common.{◌≡◌, ℕ, Bool, [], refl, sym, ap, ◌∙◌, subst, arith}
+use Rattle.h263_outside.specs.declared.desk.Role.{Role}
+use Rattle.h263_outside.specs.declared.desk.Role.TheVariants.{Video, Events, Wire, Report}
+use Rattle.h263_types.specs.declared.pace.FixedPace.{FixedPace}
+use Rattle.h263_types.specs.declared.params.Params.{Params}
+use Rattle.h263_types.specs.Sizes.{size_of_picture}
+use Rattle.call_report.specs.Status.{video_stop}
+use Rattle.sender_end.specs.Stands.{Stands}
+use Rattle.send_command.specs.declared.machine.Send.{Send}
+use Rattle.send_command.specs.Stands.{SendStands}
+use Rattle.send_command.specs.Tally.{IsOf, no_counts}
+use Rattle.send_command.proofs.Answering.{start_err}
+use Rattle.send_command.proofs.Captured.{fixed}
+use Rattle.send_command.proofs.Starting.{head_stops, head_goes}
+use Rattle.send_command.proofs.machine.SendTurns.start.Goals as goal
+
+pub returns-in_err-video-clause-gives : goal.returns-in_err-video-clause-gives
+returns-in_err-video-clause-gives g c = λ inputs told.
+    let outside = g.D.Desk.outside in
+    let stop = c.in_err-video.field-0.0 in
+    start_err c.from_residual.result (video_stop stop) _ _ inputs (outside c.args.desk.now) (outside c.head.new.desk) c.from_residual.ensures.1
+    (head_stops c.turn_laws.ensures c.args.setup.now inputs (outside c.args.desk.now) (outside c.head.new.desk) told c.head.ensures.others c.head.ensures.rest.written c.cut_behind.ensures.head stop (c.in_err-video.ensures.gives (inputs Video) (told Video refl)))
+
+pub returns-clause-gives : goal.returns-clause-gives
+returns-clause-gives g c = λ inputs told.
+    let outside = g.D.Desk.outside in
+    let p = c.args.setup.now in
+    let reader = c.in_ok-video.video in
+    let started = c.in_ok-sender.ensures in
+    let state = c.in_ok-sender.sender.state in
+    let new : Send = record { video = reader; log = c.new.result; sender = c.in_ok-sender.sender; tally = c.new-2.result; frame = c.in_ok-frame.frame; bytes = c.in_ok-bytes.bytes } in
+    let e = c.in_ok-video.ensures.gives (inputs Video) (told Video refl) in
+    let params_is : record p { format = reader.format } ≡ state.params =
+    (λ i. record p { format = sym c.format.ensures i }) ∙ sym started.params
+    in
+    let sender : Stands (fixed p.quant) state [] =
+    subst (λ (q : ℕ). Stands (fixed q) state []) (ap (λ (x : FixedPace). x.quant) started.pace) started.stands
+    in
+    head_goes c.turn_laws.ensures p inputs (outside c.args.desk.now) (outside c.head.new.desk) told c.head.ensures.others c.head.ensures.rest.written reader (SendStands new) e
+    (record {
+      is = λ i. record {
+        params = params_is i;
+        entries = [];
+        tally = sym c.new-2.ensures i;
+        at = sym c.new.ensures.at i;
+        read = sym c.new.ensures.entries i;
+        video_at = sym e.1 i;
+        more = sym c.in_ok-video.ensures.more i;
+      };
+      sender = sender;
+    })
+
+none_of : (n : ℕ) → IsOf n no_counts
+none_of n = record { sent = omega arith; packets = omega arith; noted = omega arith; outdated = omega arith; refused = omega arith }
+
+pub returns-clause-ready : goal.returns-clause-ready
+returns-clause-ready g c =
+    let started = c.in_ok-sender.ensures in
+    let attached = c.head.ensures.rest.attached in
+    record {
+      fit = record {
+        video = ap (λ (f : Role → Bool). f Video) attached ∙ c.requires.video;
+        events = ap (λ (f : Role → Bool). f Events) attached ∙ c.requires.events;
+        wire = ap (λ (f : Role → Bool). f Wire) attached ∙ c.requires.wire;
+        report = ap (λ (f : Role → Bool). f Report) attached ∙ c.requires.report;
+        sender = started.ready;
+        format = ap (λ (q : Params). q.format) started.params ∙ c.format.ensures;
+        pace = ap (λ (x : FixedPace). x.quant) started.pace ∙ ap (λ (q : Params). q.quant) (sym started.params);
+        frame = omega (arith, c.in_ok-frame.ensures.len, c.in_ok-frame.frame.ok.0, c.size.ensures, ap size_of_picture c.format.ensures);
+        bytes = omega (arith, c.in_ok-bytes.ensures.len, c.in_ok-bytes.bytes.ok.0);
+        side = c.new.ensures.side;
+        count = omega (arith, c.in_ok-video.ensures.more, started.sent);
+      };
+      tally = subst (IsOf c.new.result.entries) (sym c.new-2.ensures) (none_of c.new.result.entries);
+    }

@@ -1,0 +1,3 @@
+pub mod Tally
+pub mod Send
+pub mod Stands

@@ -1,0 +1,175 @@
+-- What the command of a sender alone makes of a video and of a log.
+use Rattle.std.specs.Prelude.{ℕ, ◌+◌, ◌-◌, nat_lt, true, List, [], ◌∷◌, length, take, drop, Option, Some, None, Result, Ok, Err, if◌then◌else◌}
+use Rattle.std.specs.List.{flat_map}
+use Rattle.h263_outside.specs.declared.desk.Role.{Role}
+use Rattle.h263_outside.specs.declared.desk.Role.TheVariants.{Video, Events, Wire, Report}
+use Rattle.h263_types.specs.declared.format.Format.{Format}
+use Rattle.h263_types.specs.declared.params.Params.{Params}
+use Rattle.h263_planes.specs.Layout.{picture_of}
+use Rattle.y4m.specs.declared.fault.Y4mFault.{Y4mFault}
+use Rattle.y4m.specs.Head.{head_of, head_size}
+use Rattle.y4m.specs.Frame.{next_frame, frame_size}
+use Rattle.y4m.specs.Video.{most_frames}
+use Rattle.event_logs.specs.declared.entry.Side.TheVariants as sides
+use Rattle.event_logs.specs.declared.entry.Entry.{Entry}
+use Rattle.event_logs.specs.declared.entry.Entry.TheVariants as log_entry
+use Rattle.event_logs.specs.declared.fault.LogFault.TheVariants.{BadRecord, NoFrame, TooMany}
+use Rattle.event_logs.specs.Entry.{entry_in}
+use Rattle.event_logs.specs.Text.{entry_text}
+use Rattle.call_report.specs.declared.status.Status.TheVariants.{Ok as Fine, VideoRefused, LogRefused}
+use Rattle.call_report.specs.Text.{picture_text}
+use Rattle.call_model.specs.Sending.{SenderEntry, Capture, Feedback, feedback_answer}
+use Rattle.call_decoding.specs.Rules.{rules_of}
+use Rattle.call_encoding.specs.Frames.{Frame}
+use Rattle.call_encoding.specs.Messages.{read_message}
+use Rattle.sender_end.specs.Stands.{run_of, next_after, last_packets}
+use Rattle.desk_program.specs.Run.{End, Step, refusal}
+use Rattle.desk_program.specs.Run.Step.{Goes, Ends}
+use Rattle.desk_program.specs.Texts.{no_texts, on, then_also, of, and_of}
+use Rattle.send_command.specs.declared.tally.Tally.{Tally}
+use Rattle.send_command.specs.Tally.{no_counts, with_picture, with_reply, count_text}
+
+-- the parameters, the entries so far, the newest first, and what was counted of them; the byte
+-- where the next entry begins, and how many were read; the byte where the next frame begins, and
+-- how many may still come
+pub record SendState : Type 0 where
+  pub params : Params
+  pub entries : List (SenderEntry Frame)
+  pub tally : Tally
+  pub at : ℕ
+  pub read : ℕ
+  pub video_at : ℕ
+  pub more : ℕ
+
+-- the most entries of a log
+abbrev pub most_entries : ℕ
+most_entries = 16777216
+
+-- the pace that answers the parameters' quantiser to all
+abbrev pub pace_of : Params → List ℕ → ℕ
+pace_of p sizes = p.quant
+
+-- a frame of the video, captured without messages
+abbrev pub captured : Format → List ℕ → Frame
+captured f frame = record { picture = picture_of f frame; messages = [] }
+
+-- packets as entries of the log that the other end meets
+abbrev pub packets_text : List (List ℕ) → List ℕ
+packets_text packets = flat_map (entry_text 75) packets
+
+-- the packets of a picture on the wire, and a line with its number and its reference
+abbrev pub picture_texts : List (List ℕ) → ℕ → Option ℕ → Role → List ℕ
+picture_texts packets number reference =
+    then_also (on Wire (packets_text packets)) (on Report (picture_text number None (Some reference) None))
+
+-- the texts of a frame that is captured after these entries
+abbrev pub capture_texts : Params → Frame → List (SenderEntry Frame) → Role → List ℕ
+capture_texts p frame entries =
+    picture_texts (last_packets p (pace_of p) (Capture frame ∷ entries))
+    (length (run_of p (pace_of p) entries).coded)
+    (next_after p (pace_of p) frame entries).reference
+
+-- the state after a capture: three bytes of the log and a frame of the video are gone
+abbrev pub after_capture : SendState → ℕ → Frame → SendState
+after_capture s size frame =
+    record {
+      params = s.params;
+      entries = Capture frame ∷ s.entries;
+      tally = with_picture (length (last_packets s.params (pace_of s.params) (Capture frame ∷ s.entries))) s.tally;
+      at = s.at + 3;
+      read = s.read + 1;
+      video_at = s.video_at + size;
+      more = s.more - 1;
+    }
+
+-- the next frame is captured, or refused
+abbrev pub frame_step : SendState → ℕ → Result (List ℕ) Y4mFault → Step SendState
+frame_step s size (Ok frame) =
+    Goes (after_capture s size (captured s.params.format frame))
+    (record {
+      taken = and_of (of Events 3) (of Video size);
+      whole = true;
+      texts = capture_texts s.params (captured s.params.format frame) s.entries;
+    })
+frame_step s size (Err fault) = Ends (refusal (VideoRefused fault))
+
+-- the capture was taken, and the video is at its end
+abbrev pub no_frame : ℕ → End
+no_frame at = record { status = LogRefused (NoFrame at); taken = λ r. Some (of Events 3 r); texts = no_texts }
+
+-- a capture: it asks for the next frame
+abbrev pub capture_step : SendState → List ℕ → Step SendState
+capture_step s [] = Ends (no_frame s.at)
+capture_step s (b ∷ video) =
+    frame_step s (frame_size s.params.format (b ∷ video))
+    (next_frame s.more s.params.format s.video_at (b ∷ video))
+
+-- the state after the bytes of a message
+abbrev pub after_feedback : SendState → List ℕ → SendState
+after_feedback s bytes =
+    record {
+      params = s.params;
+      entries = Feedback bytes ∷ s.entries;
+      tally = with_reply (feedback_answer (rules_of s.params)
+          (length (run_of s.params (pace_of s.params) s.entries).coded)
+          (read_message s.params.clock bytes)) s.tally;
+      at = s.at + (3 + length bytes);
+      read = s.read + 1;
+      video_at = s.video_at;
+      more = s.more;
+    }
+
+-- feedback: the sender's answer is counted
+abbrev pub feedback_step : SendState → ℕ → List ℕ → Step SendState
+feedback_step s size bytes =
+    Goes (after_feedback s bytes)
+    (record { taken = of Events size; whole = true; texts = no_texts })
+
+abbrev pub no_entry : SendState → Step SendState
+no_entry s = Ends (refusal (LogRefused (BadRecord s.at)))
+
+-- the entry that stands first in the log; one of a receiver's log never does
+abbrev pub entry_step : SendState → (Role → List ℕ) → Option Entry → Step SendState
+entry_step s inputs None = no_entry s
+entry_step s inputs (Some log_entry.Capture) = capture_step s (inputs Video)
+entry_step s inputs (Some (log_entry.Back len)) =
+    feedback_step s (3 + len) (take len (drop 3 (inputs Events)))
+entry_step s inputs (Some (log_entry.Packet len)) = no_entry s
+entry_step s inputs (Some log_entry.Play) = no_entry s
+
+-- the log is at its end: the counts are told, and nothing more is taken
+abbrev pub all_read : Tally → End
+all_read t = record { status = Fine; taken = λ _. Some 0; texts = on Report (count_text t) }
+
+-- what is left of the log
+abbrev pub log_step : SendState → (Role → List ℕ) → List ℕ → Step SendState
+log_step s inputs [] = Ends (all_read s.tally)
+log_step s inputs (b ∷ log) =
+    if nat_lt s.read most_entries then entry_step s inputs (entry_in sides.Send (b ∷ log))
+    else Ends (refusal (LogRefused (TooMany s.at)))
+
+-- a turn: one entry of the log
+abbrev pub send_step : SendState → (Role → List ℕ) → Step SendState
+send_step s inputs = log_step s inputs (inputs Events)
+
+-- before the first entry, behind a head of so many bytes
+abbrev pub first_state : Params → Format → ℕ → SendState
+first_state p f size =
+    record {
+      params = record p { format = f };
+      entries = [];
+      tally = no_counts;
+      at = 0;
+      read = 0;
+      video_at = size;
+      more = most_frames;
+    }
+
+-- the video's head gives the format, or is refused
+abbrev pub head_step : Params → ℕ → Result Format Y4mFault → Step SendState
+head_step p size (Ok f) = Goes (first_state p f size) (record { taken = of Video size; whole = true; texts = no_texts })
+head_step p size (Err fault) = Ends (refusal (VideoRefused fault))
+
+-- before the first turn the video's head is read
+abbrev pub send_begin : Params → (Role → List ℕ) → Step SendState
+send_begin p inputs = head_step p (head_size (inputs Video)) (head_of (inputs Video))

@@ -1,0 +1,92 @@
+-- What the machine keeps of a state, and what it is ready for.
+use Rattle.std.specs.Prelude.{◌≡◌, ℕ, ◌+◌, ◌-◌, ◌<◌, Bool, true, List, ◌∷◌, length}
+use Rattle.h263_outside.specs.Desk.{Outside}
+use Rattle.h263_outside.specs.declared.desk.Role.{Role}
+use Rattle.h263_outside.specs.declared.desk.Role.TheVariants.{Video, Events, Wire, Report}
+use Rattle.h263_types.specs.declared.params.Params.{Params}
+use Rattle.h263_types.specs.Params.{IsParams}
+use Rattle.h263_types.specs.Sizes.{size_of_picture}
+use Rattle.y4m.specs.Video.{most_frames}
+use Rattle.event_logs.specs.declared.entry.Side.TheVariants as sides
+use Rattle.packet_cutter.specs.Cutting.{packets_of}
+use Rattle.call_model.specs.Sending.{SenderEntry, Capture}
+use Rattle.call_encoding.specs.Frames.{Frame}
+use Rattle.sender_end.specs.declared.state.State.{State}
+use Rattle.sender_end.specs.declared.state.Coded.{Coded}
+use Rattle.sender_end.specs.Stands.{IsReady, Stands, run_of, next_after, last_packets}
+use Rattle.desk_program.specs.Run.{behind}
+use Rattle.desk_program.specs.Ends.{Tells}
+use Rattle.desk_program.specs.Texts.{of}
+use Rattle.send_command.specs.declared.machine.Send.{Send}
+use Rattle.send_command.specs.Tally.{IsOf}
+use Rattle.send_command.specs.Send.{SendState, pace_of}
+
+-- it may begin: the parameters are in their ranges, and the roles attached
+pub record CanSend (p : Params) (attached : Role → Bool) : Type 0 where
+  pub params : IsParams p
+  pub video : attached Video ≡ true
+  pub events : attached Events ≡ true
+  pub wire : attached Wire ≡ true
+  pub report : attached Report ≡ true
+
+-- the state that the machine keeps in mind, but for the entries
+abbrev pub state_of : Send → List (SenderEntry Frame) → SendState
+state_of m entries =
+    record {
+      params = m.sender.state.params;
+      entries = entries;
+      tally = m.tally;
+      at = m.log.at;
+      read = m.log.entries;
+      video_at = m.video.at;
+      more = m.video.more;
+    }
+
+-- the machine keeps this state in mind: its sender stands for the entries
+pub record SendStands (m : Send) (s : SendState) (inputs : Role → List ℕ) : Type 0 where
+  pub is : s ≡ state_of m s.entries
+  pub sender : Stands (pace_of s.params) m.sender.state s.entries
+
+-- the roles are attached, the parts fit each other, and as many frames may still come as pictures
+-- may still be sent
+pub record IsFit (m : Send) (attached : Role → Bool) : Type 0 where
+  pub video : attached Video ≡ true
+  pub events : attached Events ≡ true
+  pub wire : attached Wire ≡ true
+  pub report : attached Report ≡ true
+  pub sender : IsReady m.sender.state
+  pub format : m.sender.state.params.format ≡ m.video.format
+  pub pace : m.sender.pace.quant ≡ m.sender.state.params.quant
+  pub frame : length m.frame.items ≡ size_of_picture m.video.format
+  pub bytes : length m.bytes.items ≡ 65535
+  pub side : m.log.side ≡ sides.Send
+  pub count : m.video.more + m.sender.state.sent ≡ most_frames
+
+-- the machine may take a turn
+pub record SendReady (m : Send) (attached : Role → Bool) : Type 0 where
+  pub fit : IsFit m attached
+  pub tally : IsOf m.log.entries m.tally
+
+-- the machine may do what the entry asks that was read last
+pub record IsAtEntry (m : Send) (attached : Role → Bool) : Type 0 where
+  pub fit : IsFit m attached
+  pub some : 0 < m.log.entries
+  pub tally : IsOf (m.log.entries - 1) m.tally
+
+-- this was the state before the entry of so many bytes that was read last
+pub record StoodBefore (m : Send) (s : SendState) (size : ℕ) : Type 0 where
+  pub is : record s { at = s.at + size; read = s.read + 1 } ≡ state_of m s.entries
+  pub sender : Stands (pace_of s.params) m.sender.state s.entries
+
+-- since then so many bytes of the log were taken, and nothing was written
+pub record HasTaken (size : ℕ) (inputs : Role → List ℕ) (old new : Outside) : Type 0 where
+  pub left : Tells new (behind inputs (of Events size))
+  pub written : new.written ≡ old.written
+
+-- the sender has captured a frame after these entries: it stands for the longer list, its packets
+-- are those of the picture, and the answer tells its number and its reference
+pub record IsCaptured (frame : Frame) (p : Params) (entries : List (SenderEntry Frame)) (new : State) (answer : Coded) : Type 0 where
+  pub stands : Stands (pace_of p) new (Capture frame ∷ entries)
+  pub packets : packets_of new.cutter ≡ last_packets p (pace_of p) (Capture frame ∷ entries)
+  pub number_is : answer.number ≡ length (run_of p (pace_of p) entries).coded
+  pub reference : answer.reference ≡ (next_after p (pace_of p) frame entries).reference

@@ -1,0 +1,194 @@
+//! The command as a machine.
+ghost use Rattle.std.specs.Prelude.{◌≡◌, ◌+◌, ◌-◌, ◌<◌, ◌≤◌, ℕ, Bool, true, List, length, take};
+ghost use Rattle.std.specs.Prelude.{OnOk, IfErr};
+ghost use Rattle.h263_outside.specs.Desk.{Outside};
+ghost use Rattle.h263_outside.specs.declared.desk.Role.{Role};
+ghost use Rattle.h263_outside.specs.declared.desk.Role.TheVariants.{Video};
+
+use crate::Tally;
+use crate::capture::{capture, put_picture};
+use crate::mind::turn_laws;
+use call_report::Status;
+use desk_program::{Turns, put_line};
+use event_logs::{Entry, LogFault, LogReader, Side};
+use h263_outside::Desk;
+use h263_outside::laws::calls;
+use h263_planes::PictureRef;
+use h263_types::{FixedPace, Params};
+use sender_end::Sender;
+use std::alloc::Global;
+use y4m::Y4mReader;
+
+/// The most bytes of an entry.
+const MAX_BYTES: usize = 65_535;
+
+/// A sender alone: the readers of its video and of its log, what it counted, and room for a frame
+/// and for the bytes of an entry.
+pub struct Send {
+    video: Y4mReader,
+    log: LogReader,
+    sender: Sender<FixedPace>,
+    tally: Tally,
+    frame: Vec<u8>,
+    bytes: Vec<u8>,
+}
+
+impl Send {
+    ghost use Rattle.desk_program.specs.Ends.{GivesUp, HasCause, IsStop, KeepsRoles, Went};
+    ghost use Rattle.desk_program.specs.Ends.{start_status};
+    ghost use Rattle.call_report.specs.Status.{phase};
+    ghost use Rattle.sender_end.specs.Stands.{IsReady};
+    ghost use Rattle.send_command.specs.Send.{SendState, capture_step, after_feedback};
+    ghost use Rattle.send_command.specs.Stands.{HasTaken, IsAtEntry, IsFit, SendReady, SendStands};
+    ghost use Rattle.send_command.specs.Stands.{StoodBefore};
+    ghost use Rattle.send_command.specs.Tally.{IsOf};
+
+    // Does what the capture asks for that was read last, at this byte.
+    fn take_frame<D: Desk>(&mut self, desk: &mut D, at: u64) -> Result<(), Status>
+        requires { IsAtEntry self.old (D.outside desk.old).attached }
+        ensures ok { (before : Outside) (s : SendState) (inputs : Role → List ℕ)
+            → StoodBefore self.old s 3 → HasTaken 3 inputs before (D.outside desk.old)
+            → OnOk result (Went (capture_step s (inputs Video)) (SendStands self.new) (λ _. true)
+            true inputs before (D.outside desk.new)) }
+        ensures err { (before : Outside) (s : SendState) (inputs : Role → List ℕ)
+            → StoodBefore self.old s 3 → at ≡ s.at
+            → HasTaken 3 inputs before (D.outside desk.old)
+            → IfErr result (λ status. GivesUp (phase status) status
+            (capture_step s (inputs Video)) true inputs before (D.outside desk.new)) }
+        ensures log { self.new.log ≡ self.old.log }
+        ensures ready { OnOk result (SendReady self.new (D.outside desk.new).attached) }
+        ensures stop { IfErr result IsStop }
+        ensures cause { HasCause (start_status result)
+            (D.outside desk.old).faults (D.outside desk.new).faults }
+        ensures rest { KeepsRoles (D.outside desk.old) (D.outside desk.new) }
+    {
+        turn_laws();
+        calls();
+        y4m::laws::cut_behind();
+        if !self.video.frame(desk, &mut self.frame)? {
+            return Err(Status::LogRefused {
+                fault: LogFault::NoFrame { at },
+            });
+        }
+        let frame = PictureRef::new(self.video.format(), &self.frame);
+        let coded = capture(&mut self.sender, frame);
+        self.tally.picture(coded.packets);
+        put_picture(desk, &self.sender, &coded)
+    }
+
+    // Takes the feedback that was read last, of so many bytes.
+    fn take_feedback(&mut self, len: u32)
+        requires bytes { length self.old.bytes.items ≡ 65535 }
+        requires ready { IsReady self.old.sender.state }
+        requires pace { self.old.sender.pace.quant ≡ self.old.sender.state.params.quant }
+        requires few { self.old.log.entries ≤ 16777216 }
+        requires some { 0 < self.old.log.entries }
+        requires tally { IsOf (self.old.log.entries - 1) self.old.tally }
+        ensures stands { (s : SendState) (inputs : Role → List ℕ) → len ≤ 65535
+            → StoodBefore self.old s (3 + len)
+            → SendStands self.new (after_feedback s (take len self.old.bytes.items)) inputs }
+        ensures log { self.new.log ≡ self.old.log }
+        ensures fit { (attached : Role → Bool) → IsFit self.old attached → IsFit self.new attached }
+        ensures tally { IsOf self.new.log.entries self.new.tally }
+    {
+        let len = self.bytes.len().min(len as usize);
+        let answer = self.sender.feedback(&self.bytes[..len]);
+        self.tally.feedback(answer);
+    }
+}
+
+impl Turns for Send {
+    ghost use Rattle.std.specs.Prelude.{◌≡◌, ◌-◌, true, Some};
+    ghost use Rattle.h263_outside.specs.declared.desk.Role.TheVariants.{Events};
+    ghost use Rattle.send_command.specs.Send.{SendState, most_entries, send_begin, send_step};
+    ghost use Rattle.send_command.specs.Stands.{CanSend, SendReady, SendStands};
+
+    type Setup = Params;
+
+    ghost State = { SendState };
+
+    ghost begin = { send_begin };
+
+    ghost step = { send_step };
+
+    ghost reads = { λ _. true };
+
+    ghost stands = { SendStands };
+
+    ghost keeps = { λ _ _. Unit {0} };
+
+    ghost Loan = { Unit {0} };
+
+    ghost loan = { λ _. tt };
+
+    ghost most = { λ _. most_entries };
+
+    ghost more = { λ m. most_entries - m.log.entries };
+
+    ghost opens = { CanSend };
+
+    ghost ready = { SendReady };
+
+    ghost source = { λ _. Some Events };
+
+    ghost reading = { λ _. Some Events };
+
+    fn start<D: Desk>(alloc: Global, setup: &Params, desk: &mut D) -> Result<Send, Status> {
+        turn_laws();
+        y4m::laws::cut_behind();
+        let video = Y4mReader::head(desk)?;
+        let params = Params {
+            format: video.format(),
+            ..*setup
+        };
+        let frame = vec![in alloc; 0; params.format.size() as usize]?;
+        let bytes = vec![in alloc; 0; MAX_BYTES]?;
+        let pace = FixedPace {
+            quant: params.quant,
+        };
+        let sender = Sender::start(alloc, &params, pace)?;
+        Ok(Send {
+            video,
+            log: LogReader::new(Side::Send),
+            sender,
+            tally: Tally::new(),
+            frame,
+            bytes,
+        })
+    }
+
+    fn turn<D: Desk>(&mut self, desk: &mut D) -> Result<bool, Status> {
+        turn_laws();
+        calls();
+        event_logs::laws::cut_behind();
+        let Some((at, entry)) = self.log.next(desk, &mut self.bytes)? else {
+            put_line(desk, &self.tally.line())?;
+            return Ok(false);
+        };
+        match entry {
+            Entry::Capture => {
+                self.take_frame(desk, at)?;
+                Ok(true)
+            }
+            Entry::Back { len } => {
+                self.take_feedback(len);
+                Ok(true)
+            }
+            Entry::Packet { .. } | Entry::Play => Err(Status::LogRefused {
+                fault: LogFault::BadRecord { at },
+            }),
+        }
+    }
+
+    fn finish(self) {
+        let Send {
+            video: _,
+            log: _,
+            sender,
+            tally: _,
+            frame: _,
+            bytes: _,
+        } = self;
+        sender.finish();
+    }
+}

@@ -1,0 +1,27 @@
+//! The laws of turns, for the state of a sender alone.
+ghost use Rattle.desk_program.specs.Laws.{TurnLaws};
+ghost use Rattle.send_command.specs.Send.{SendState};
+
+use desk_program::laws::of_turns;
+use h263_types::Params;
+use std::marker::Model;
+
+// A type whose values are states, before the first entry; nothing is made of it.
+struct Mind {
+    params: Params,
+}
+
+impl Model for Mind {
+    ghost use Rattle.send_command.specs.Send.{SendState, first_state};
+
+    ghost Value = { SendState };
+
+    ghost view = { λ mind. first_state mind.params mind.params.format 0 };
+}
+
+/// How the reads and writes of a turn add up.
+pub fn turn_laws()
+    ensures { TurnLaws SendState }
+{
+    of_turns::<Mind>();
+}
