@@ -1,0 +1,9 @@
+mod Trace
+mod Joining
+mod Events
+mod Passing
+mod Turning
+mod After
+mod Writing
+mod Plain
+mod EachFrame

@@ -1,0 +1,244 @@
+// Runs over a desk in memory. Where memory ran out in a test its steps are taken again, and are
+// then to reach their end.
+ghost use Rattle.std.specs.Prelude.{◌<◌};
+ghost use Rattle.h263_types.specs.Params.{IsParams};
+ghost use Rattle.h263_outside.specs.Desk.{NoneAttached};
+
+use crate::Call;
+use call_report::Status;
+use desk_program::{attach_all, perform};
+use h263_outside::{Desk, MemoryDesk, OutOfMemory, Role};
+use h263_types::{Clock, Format, Params};
+use std::alloc::Global;
+use std::process::Abort;
+use std::test::Fail;
+use y4m::Y4mFault;
+
+const HEAD_LINE: &[u8] = b"YUV4MPEG2 W128 H96\n";
+
+const FRAME_LINE: &[u8] = b"FRAME\n";
+
+const OUT_HEAD: &[u8] = b"YUV4MPEG2 W128 H96 F30000:1001 Ip C420jpeg\n";
+
+const EXACT_LINE: &[u8] = b"FRAME XEXACT\n";
+
+// Bytes of a plane of luma, and of a picture, flat 64.
+const LUMA: &[u8] = &[64; 12_288];
+
+const PICTURE: &[u8] = &[64; 18_432];
+
+fn joined(alloc: Global, parts: &[&[u8]]) -> Result<Vec<u8>, OutOfMemory> {
+    let mut bytes = Vec::new(alloc);
+    for part in parts {
+        bytes.extend_from_slice(part)?;
+    }
+    Ok(bytes)
+}
+
+// How the command ends over a desk on which nothing is attached.
+fn performed<D: Desk>(alloc: Global, params: &Params, desk: &mut D) -> Status
+    requires params { IsParams params.now }
+    requires desk { NoneAttached (D.outside desk.old).attached }
+{
+    if let Err(status) = attach_all(desk, &[(Role::Report, "")]) {
+        return status;
+    }
+    let order = &[(Role::Video, "in"), (Role::Pictures, "out")];
+    perform::<D, Call>(alloc, params, order, desk)
+}
+
+// What is read, the call that fails, how the run ends, and what it writes on both outputs.
+type Case<'a> = (&'a [&'a [u8]], u64, Status, &'a [&'a [u8]], &'a [u8]);
+
+fn run_cases(
+    rt: &impl Abort,
+    alloc: Global,
+    params: &Params,
+    piece: usize,
+    cases: &[Case],
+) -> Result<(), OutOfMemory>
+    requires piece { 0 < piece }
+    requires params { IsParams params.now }
+{
+    for (video, failing, ends, pictures, report) in cases {
+        let mut desk = MemoryDesk::new(alloc, piece, 200_000)?;
+        desk.put(Role::Video, &joined(alloc, video)?)?;
+        desk.fail(*failing)?;
+        let status = performed(alloc, params, &mut desk);
+        if status == Status::OutOfMemory {
+            return Err(OutOfMemory);
+        }
+        assert_eq!(rt; status, *ends);
+        let shown = joined(alloc, pictures)?;
+        assert_eq!(rt;
+            desk.text(Role::Pictures),
+            shown.as_slice(),
+            "where {status:?}"
+        );
+        assert_eq!(rt; desk.text(Role::Report), *report, "where {status:?}");
+    }
+    Ok(())
+}
+
+fn run_twice(
+    rt: &impl Abort,
+    alloc: Global,
+    params: &Params,
+    piece: usize,
+    cases: &[Case],
+) -> Result<(), OutOfMemory>
+    requires piece { 0 < piece }
+    requires params { IsParams params.now }
+{
+    if let Err(OutOfMemory) = run_cases(rt, alloc, params, piece, cases) {
+        run_cases(rt, alloc, params, piece, cases)?;
+    }
+    Ok(())
+}
+
+const NONE: u64 = 1_000_000;
+
+const ONE: &[&[u8]] = &[HEAD_LINE, FRAME_LINE, PICTURE];
+
+const SHOWN: &[&[u8]] = &[OUT_HEAD, EXACT_LINE, PICTURE];
+
+const NO_COUNTS: &[u8] = b"played 0 sent 0 exact 0 patched 0 held 0\n";
+
+const ONE_EXACT: &[u8] = b"0 exact intra\nplayed 1 sent 1 exact 1 patched 0 held 0\n";
+
+#[test]
+fn the_head_alone_and_one_flat_picture(rt: HostRuntime) -> Result<(), Fail> {
+    let params = Params::of(Format::Cif);
+    let head: Case = (&[HEAD_LINE], NONE, Status::Ok, &[OUT_HEAD], NO_COUNTS);
+    let flat: Case = (ONE, NONE, Status::Ok, SHOWN, ONE_EXACT);
+    run_twice(&rt, rt.alloc(), &params, 1, &[head, flat])?;
+    run_twice(&rt, rt.alloc(), &params, 4096, &[head, flat])?;
+    Ok(())
+}
+
+fn custom() -> Params
+    ensures { IsParams result }
+{
+    Params {
+        clock: Clock::Custom,
+        ..Params::of(Format::SubQcif)
+    }
+}
+
+#[test]
+fn one_flat_picture_by_the_custom_clock(rt: HostRuntime) -> Result<(), Fail> {
+    let flat: Case = (ONE, NONE, Status::Ok, SHOWN, ONE_EXACT);
+    run_twice(&rt, rt.alloc(), &custom(), 4096, &[flat])?;
+    Ok(())
+}
+
+const BLACK: &[u8] = &[0; 18_432];
+
+const GREY: &[u8] = &[128; 18_432];
+
+const WHITE: &[u8] = &[255; 18_432];
+
+const DARKEST: &[u8] = &[1; 18_432];
+
+const BRIGHTEST: &[u8] = &[254; 18_432];
+
+const THREE: &[&[u8]] = &[
+    HEAD_LINE, FRAME_LINE, BLACK, FRAME_LINE, GREY, FRAME_LINE, WHITE,
+];
+
+const THREE_SHOWN: &[&[u8]] = &[
+    OUT_HEAD, EXACT_LINE, DARKEST, EXACT_LINE, GREY, EXACT_LINE, BRIGHTEST,
+];
+
+const THREE_EXACT: &[u8] = b"0 exact intra\n1 exact intra\n2 exact intra\n\
+played 3 sent 3 exact 3 patched 0 held 0\n";
+
+// INTRADC is from 1 to 254.
+#[test]
+fn three_flat_pictures(rt: HostRuntime) -> Result<(), Fail> {
+    let params = Params::of(Format::SubQcif);
+    let three: Case = (THREE, NONE, Status::Ok, THREE_SHOWN, THREE_EXACT);
+    run_twice(&rt, rt.alloc(), &params, 4096, &[three])?;
+    Ok(())
+}
+
+// Its second frame ends after its first plane.
+const CUT_FRAME: &[&[u8]] = &[HEAD_LINE, FRAME_LINE, PICTURE, FRAME_LINE, LUMA];
+
+const CUT_REPORT: &[u8] = b"0 exact intra\nvideo refused: short frame at byte 30751\n";
+
+const NO_VIDEO: &[u8] = b"video refused: not y4m at byte 0\n";
+
+#[test]
+fn refused_videos(rt: HostRuntime) -> Result<(), Fail> {
+    let params = Params::of(Format::SubQcif);
+    let short = Status::VideoRefused {
+        fault: Y4mFault::ShortFrame { at: 30_751 },
+    };
+    let other = Status::VideoRefused {
+        fault: Y4mFault::NotY4m { at: 0 },
+    };
+    let cases: &[Case] = &[
+        (CUT_FRAME, NONE, short, SHOWN, CUT_REPORT),
+        (&[b"RIFF"], NONE, other, &[], NO_VIDEO),
+    ];
+    run_twice(&rt, rt.alloc(), &params, 4096, cases)?;
+    Ok(())
+}
+
+const ONE_LINE: &[u8] = b"0 exact intra\n";
+
+const READ_LINE: &[u8] = b"read fault\n";
+
+const BOTH_LINES: &[u8] = b"0 exact intra\nread fault\n";
+
+// Two of the pieces in which a picture is written.
+const TWO_PIECES: &[u8] = &[64; 8192];
+
+const CUT_SHOWN: &[&[u8]] = &[OUT_HEAD, EXACT_LINE, TWO_PIECES];
+
+const NOTHING: &[u8] = b"";
+
+const NO_PICTURES: &[&[u8]] = &[];
+
+const HEAD_SHOWN: &[&[u8]] = &[OUT_HEAD];
+
+const LINE_SHOWN: &[&[u8]] = &[OUT_HEAD, EXACT_LINE];
+
+const UNOPENED_VIDEO: &[u8] = b"cannot open video\n";
+
+const UNOPENED_PICTURES: &[u8] = b"cannot open pictures\n";
+
+// Calls 0 to 2 attach, 3 to 21 read the head byte by byte, 22 writes it, 23 to 28 read the
+// frame's line, and 29 to 33 its planes in pieces of 4,096 bytes; 34 writes the picture's line, 35
+// to 39 its planes, and 40 the line of the report; 41 comes to the end of the video, and 42 writes
+// the counts.
+#[test]
+fn each_failing_call(rt: HostRuntime) -> Result<(), Fail> {
+    let params = Params::of(Format::SubQcif);
+    let report = Status::OpenFault { role: Role::Report };
+    let video = Status::OpenFault { role: Role::Video };
+    let pictures = Status::OpenFault {
+        role: Role::Pictures,
+    };
+    let cases: &[Case] = &[
+        (ONE, 0, report, NO_PICTURES, NOTHING),
+        (ONE, 1, video, NO_PICTURES, UNOPENED_VIDEO),
+        (ONE, 2, pictures, NO_PICTURES, UNOPENED_PICTURES),
+        (ONE, 3, Status::ReadFault, NO_PICTURES, READ_LINE),
+        (ONE, 21, Status::ReadFault, NO_PICTURES, READ_LINE),
+        (ONE, 22, Status::WriteFault, NO_PICTURES, NOTHING),
+        (ONE, 23, Status::ReadFault, HEAD_SHOWN, READ_LINE),
+        (ONE, 28, Status::ReadFault, HEAD_SHOWN, READ_LINE),
+        (ONE, 29, Status::ReadFault, HEAD_SHOWN, READ_LINE),
+        (ONE, 33, Status::ReadFault, HEAD_SHOWN, READ_LINE),
+        (ONE, 34, Status::WriteFault, HEAD_SHOWN, NOTHING),
+        (ONE, 35, Status::WriteFault, LINE_SHOWN, NOTHING),
+        (ONE, 37, Status::WriteFault, CUT_SHOWN, NOTHING),
+        (ONE, 40, Status::WriteFault, SHOWN, NOTHING),
+        (ONE, 41, Status::ReadFault, SHOWN, BOTH_LINES),
+        (ONE, 42, Status::WriteFault, SHOWN, ONE_LINE),
+    ];
+    run_twice(&rt, rt.alloc(), &params, 4096, cases)?;
+    Ok(())
+}
