@@ -1,0 +1,5 @@
+pub mod Slots
+pub mod Parts
+pub mod Kept
+pub mod Steps
+pub mod Rooms
