@@ -1,90 +1,80 @@
-//! A test of the codec by calls that an independent program made, which works by the formulas of the formats.
+//! A test of both ends by calls that an independent program made, which works by the formulas of
+//! the formats.
 //!
-//! Of a call `NAME` there are the frames in `NAME.y4m`, the packets in `NAME.wire`, each as the letter `K`, a length of 16
-//! bits and its bytes, and the pictures that are shown in `NAME.out.y4m`. Each frame is coded, each packet is read and its
-//! macroblocks are written again, and all packets and all samples are compared. Where anything differs or is refused the
-//! program says where, and ends with status 1.
+//! Of a call `NAME` there are the video `NAME.y4m` and the sender's log `NAME.send.log`, of which
+//! `send` is to make the packets `NAME.wire`; and the receiver's log `NAME.recv.log`, of which
+//! `recv` is to make the pictures `NAME.out.y4m` and the messages `NAME.feedback.wire`. The reports
+//! are in `NAME.send.txt` and `NAME.recv.txt`, each with a line for the number that the process
+//! ends with. Each command is run by its words over a desk in memory, and all that it writes is
+//! compared byte for byte. Where anything differs the program says where, and ends with status 1.
 #![tactic(auto)]
 
-mod call;
-mod difference;
-mod files;
-mod sender;
-mod taker;
-mod tally;
+mod command;
+mod compare;
+mod stop;
 
-use call::compare;
-use h263_types::{Clock, Format, Params};
+use compare::compare_run;
 use std::io;
 use std::process::ExitCode;
 
-// The defaults of a call; the format is that of its frames.
-const DEFAULTS: Params = Params {
-    format: Format::SubQcif,
-    quant: 8,
-    keep: 64,
-    radius: 7,
-    limit: 1400,
-    slots: 16,
-    lead: 3,
-    messages: 1,
-    clock: Clock::Standard,
-};
-
-// A textured object that moves; slices begin inside a row.
-const OBJECT: Params = Params {
-    quant: 5,
-    limit: 1200,
-    ..DEFAULTS
-};
-
-// A cut to another scene: intra macroblocks in P pictures.
-const CUT: Params = Params {
-    quant: 12,
-    limit: 1200,
-    ..DEFAULTS
-};
-
-// Coarse, with few coefficients.
-const GRAIN: Params = Params {
-    quant: 31,
-    keep: 10,
-    ..DEFAULTS
-};
-
-// QCIF, fine, with a wide search: levels by escapes, and many slices.
-const PAN: Params = Params {
-    quant: 3,
-    limit: 1200,
-    radius: 15,
-    ..DEFAULTS
-};
-
-const CALLS: [(&str, Params); 4] = [
-    ("object", OBJECT),
-    ("cut", CUT),
-    ("grain", GRAIN),
-    ("pan", PAN),
+// The calls: the name of their files, and the options of `send` and of `recv`.
+const CALLS: [(&str, &str, &str); 7] = [
+    // A textured object that moves; slices begin inside a row.
+    ("object", "--quant 5 --limit 1200", "--format sub-qcif"),
+    // A cut to another scene.
+    ("cut", "--quant 12 --limit 1200", "--format sub-qcif"),
+    // Coarse, with few coefficients.
+    ("grain", "--quant 31 --keep 10", "--format sub-qcif"),
+    // QCIF, fine, with a wide search: levels by escapes, and many slices.
+    ("pan", "--quant 3 --limit 1200 --radius 15", ""),
+    // QCIF: a picture is lost, and one in part; packets come out of order, twice and late, and
+    // acknowledgements late or never.
+    (
+        "lossy",
+        "--quant 3 --limit 1200 --slots 6 --lead 2",
+        "--slots 6 --lead 2",
+    ),
+    // Messages of version 2: an acknowledgement is lost, and a flag of a later one tells of it.
+    (
+        "marks",
+        "--quant 6 --limit 1200 --slots 6 --lead 2",
+        "--format sub-qcif --slots 6 --lead 2 --messages 2",
+    ),
+    // The custom clock; intra macroblocks in P pictures.
+    (
+        "levels",
+        "--quant 9 --clock custom",
+        "--format sub-qcif --messages 2 --clock custom",
+    ),
 ];
 
-// Compares a call and prints what came out. Whether it could be compared, and nothing differs.
-fn report_call(rt: &HostRuntime, name: &str, params: Params) -> io::Result<bool> {
-    match compare(rt, name, params) {
-        Ok(tally) => {
-            println!(rt; "{name}: {tally}")?;
-            Ok(tally.differ == 0)
-        }
+// Compares a run and prints what came out. Whether it could be compared, and nothing differs.
+fn report_run(rt: &HostRuntime, report: &str, words: &str) -> io::Result<bool> {
+    match compare_run(rt, report, words) {
+        Ok(same) => Ok(same),
         Err(stop) => {
-            println!(rt; "{name}: {stop}")?;
+            println!(rt; "{report}: {stop}")?;
             Ok(false)
         }
     }
 }
 
+// Both commands of a call.
+fn report_call(rt: &HostRuntime, name: &str, sends: &str, receives: &str) -> io::Result<bool> {
+    let alloc = rt.alloc();
+    let send = format!(in alloc; "send {name}.y4m {name}.send.log {name}.wire {sends}")?;
+    let recv = format!(in alloc;
+        "recv {name}.recv.log {name}.out.y4m {name}.feedback.wire {receives}"
+    )?;
+    let sent = report_run(rt, &format!(in alloc; "{name}.send.txt")?, &send)?;
+    let received = report_run(rt, &format!(in alloc; "{name}.recv.txt")?, &recv)?;
+    Ok(sent && received)
+}
+
 fn report_calls(rt: &HostRuntime) -> io::Result<bool> {
     let mut same = true;
-    for (name, params) in CALLS {
-        if !report_call(rt, name, params)? {
+    for (name, sends, receives) in CALLS {
+        if !report_call(rt, name, sends, receives)? {
             same = false;
         }
     }

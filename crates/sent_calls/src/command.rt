@@ -1,0 +1,46 @@
+//! The commands of one end, over a desk with nothing attached.
+ghost use Rattle.h263_outside.specs.Desk.{NoneAttached};
+ghost use Rattle.command_words.specs.Asked.{IsCommand};
+ghost use Rattle.command_words.specs.View.{asked_of};
+
+use call_report::Status;
+use command_words::{Command, Words};
+use desk_program::{attach_role, finish, perform};
+use h263_outside::{Desk, Role};
+use recv_command::Recv;
+use send_command::Send;
+use std::alloc::Global;
+
+// The word by which the command attaches a role.
+fn name_of<'a>(words: &Words<'a>, role: Role) -> &'a str {
+    words.name(role).unwrap_or("")
+}
+
+/// Runs the command that the words ask for, where it is one of one end.
+pub fn run<D: Desk>(alloc: Global, words: &Words<'_>, desk: &mut D) -> Status
+    requires none { NoneAttached (D.outside desk.old).attached }
+    requires command { IsCommand (asked_of words.now).command }
+{
+    if let Err(status) = attach_role(desk, Role::Report, "") {
+        return status;
+    }
+    match words.command() {
+        Command::Send { params } => {
+            let order = [
+                (Role::Video, name_of(words, Role::Video)),
+                (Role::Events, name_of(words, Role::Events)),
+                (Role::Wire, name_of(words, Role::Wire)),
+            ];
+            perform::<D, Send>(alloc, &params, &order, desk)
+        }
+        Command::Recv { params } => {
+            let order = [
+                (Role::Events, name_of(words, Role::Events)),
+                (Role::Pictures, name_of(words, Role::Pictures)),
+                (Role::Wire, name_of(words, Role::Wire)),
+            ];
+            perform::<D, Recv>(alloc, &params, &order, desk)
+        }
+        Command::Call { .. } | Command::Demo { .. } => finish(desk, Status::Usage),
+    }
+}
