@@ -1,9 +1,2 @@
-pub mod Attached
-pub mod Choices
-pub mod Collecting
-pub mod Ends
-pub mod Packets
-pub mod Plays
-pub mod Runs
-pub mod Shown
-pub mod Shows
+mod Promised
+mod Asked

@@ -1,9 +1,2 @@
-pub mod Coded
-pub mod Laws
-pub mod Link
-pub mod Out
-pub mod Play
-pub mod Received
-pub mod Run
-pub mod Sent
-pub mod Status
+pub mod Output
+pub mod Promises

@@ -1,24 +1,22 @@
 //! The picture half of a video telephone: a call from a Y4M video to the Y4M video that is shown.
 #![tactic(auto)]
 
-ghost use Rattle.std.specs.Prelude.{◌≡◌, ◌⊎◌, None, IfOk, map};
-ghost use Rattle.h263rps.specs.Out.{command_of, texts};
+ghost use Rattle.std.specs.Prelude.{◌≡◌, IfOk, map};
 ghost use Rattle.std.specs.String.{string_bytes};
+ghost use Rattle.h263_outside.specs.Desk.{NoneAttached};
+ghost use Rattle.command_words.specs.Clap.{texts};
+ghost use Rattle.h263rps.specs.Output.{command_of};
+ghost use Rattle.h263rps.specs.Promises.{IsRun};
 
-mod call;
+mod commands;
 #[cfg(test)]
 mod host_tests;
-pub mod laws;
-mod link;
 mod program;
-mod receiving;
-mod sending;
 #[cfg(test)]
 mod tests;
-mod words;
 
 pub use call_report::Status;
-use h263_outside::HostDesk;
+use h263_outside::{Desk, HostDesk};
 pub use program::run;
 use std::alloc::{AllocError, Global};
 use std::process::ExitCode;
@@ -35,14 +33,13 @@ fn texts_of(alloc: Global, words: &[String]) -> Result<Vec<&str>, AllocError>
     Ok(texts)
 }
 
-// Runs the words on the host's files.
-fn run_words(alloc: Global, rt: HostRuntime, words: &[String]) -> Status
-    ensures usage { result ≡ Status.Usage → command_of (map string_bytes words.now) ≡ None }
-    ensures command { command_of (map string_bytes words.now) ≡ None → (result ≡ Status.Usage) ⊎ (result ≡ Status.OutOfMemory) }
+// Runs the words behind the program's name.
+fn run_words<D: Desk>(alloc: Global, words: &[String], desk: &mut D) -> Status
+    requires { NoneAttached (D.outside desk.old).attached }
+    ensures { IsRun (command_of (map string_bytes words.now)) result (D.outside desk.old) (D.outside desk.new) }
 {
-    let mut desk = HostDesk::new(rt);
     match texts_of(alloc, words) {
-        Ok(texts) => run(alloc, &texts, &mut desk),
+        Ok(texts) => run(alloc, &texts, desk),
         Err(_) => Status::OutOfMemory,
     }
 }
@@ -54,7 +51,10 @@ fn read_words(rt: &HostRuntime) -> io::Result<Vec<String>> {
 
 fn main(rt: HostRuntime) -> ExitCode {
     let code = match read_words(&rt) {
-        Ok(words) => run_words(rt.alloc(), rt, &words).code(),
+        Ok(words) => {
+            let alloc = rt.alloc();
+            run_words(alloc, &words, &mut HostDesk::new(rt)).code()
+        }
         Err(fault) if fault.kind() == io::ErrorKind::OutOfMemory => 1,
         Err(_) => 2,
     };

@@ -1,8 +1,10 @@
-// Runs over a desk in memory. Where memory ran out in a test its steps are taken again, and are then to reach
-// their end.
+//! Runs over a desk in memory. Where memory ran out in a test its steps are taken again, and are then
+//! to reach their end.
 ghost use Rattle.std.specs.Prelude.{◌<◌};
+ghost use Rattle.h263_outside.specs.Desk.{IsOutput};
 
 use super::*;
+use event_logs::LogFault;
 use h263_outside::{MemoryDesk, OutOfMemory, Role};
 use std::process::Abort;
 use std::test::Fail;
@@ -16,12 +18,19 @@ const OUT_HEAD: &[u8] = b"YUV4MPEG2 W128 H96 F30000:1001 Ip C420jpeg\n";
 
 const EXACT_LINE: &[u8] = b"FRAME XEXACT\n";
 
+const HELD_LINE: &[u8] = b"FRAME XHELD\n";
+
 // Bytes of a plane of luma, and of a picture, flat 64.
 const LUMA: &[u8] = &[64; 12_288];
 
 const PICTURE: &[u8] = &[64; 18_432];
 
-fn joined(alloc: Global, parts: &[&[u8]]) -> Result<Vec<u8>, OutOfMemory> {
+// Parts that are joined.
+type Parts<'a> = &'a [&'a [u8]];
+
+const NOTHING: Parts<'static> = &[];
+
+fn joined(alloc: Global, parts: Parts) -> Result<Vec<u8>, OutOfMemory> {
     let mut bytes = Vec::new(alloc);
     for part in parts {
         bytes.extend_from_slice(part)?;
@@ -29,309 +38,379 @@ fn joined(alloc: Global, parts: &[&[u8]]) -> Result<Vec<u8>, OutOfMemory> {
     Ok(bytes)
 }
 
-// How `call in out` ends on a video, and what it writes, where this call of the desk fails.
-fn called(
-    alloc: Global,
-    video: &[&[u8]],
-    piece: usize,
+// What a run is given: its words, what its inputs hold, and the call of the desk that fails.
+#[derive(Clone, Copy)]
+struct Given<'a> {
+    words: &'a [&'a str],
+    video: Parts<'a>,
+    events: Parts<'a>,
     failing: u64,
-) -> Result<(Status, Vec<u8>), OutOfMemory>
-    requires { 0 < piece }
-{
-    let mut desk = MemoryDesk::new(alloc, piece, 200_000)?;
-    let video = joined(alloc, video)?;
-    desk.put(Role::Video, &video)?;
-    desk.fail(failing)?;
-    let status = run(alloc, &["call", "in", "out"], &mut desk);
-    if status == Status::OutOfMemory {
-        return Err(OutOfMemory);
-    }
-    Ok((status, joined(alloc, &[desk.text(Role::Pictures)])?))
 }
 
-// A case: what is read, the call that fails, how the run ends, and what it writes.
-type Case<'a> = (&'a [&'a [u8]], u64, Status, &'a [&'a [u8]]);
+// No call fails.
+const NONE: u64 = 1_000_000;
 
-fn run_cases(
+// How it is to end, and what it is to write.
+#[derive(Clone, Copy)]
+struct Wanted<'a> {
+    ends: Status,
+    pictures: Parts<'a>,
+    wire: Parts<'a>,
+    report: Parts<'a>,
+}
+
+// Compares what a role has gained with what was wanted.
+fn compare(
+    rt: &impl Abort,
+    alloc: Global,
+    desk: &MemoryDesk,
+    role: Role,
+    parts: Parts,
+) -> Result<(), OutOfMemory>
+    requires { IsOutput role }
+{
+    assert_eq!(rt;
+        desk.text(role),
+        joined(alloc, parts)?.as_slice(),
+        "{role:?}"
+    );
+    Ok(())
+}
+
+fn run_once(
     rt: &impl Abort,
     alloc: Global,
     piece: usize,
-    cases: &[Case],
+    given: &Given,
+    wanted: &Wanted,
 ) -> Result<(), OutOfMemory>
     requires { 0 < piece }
 {
-    for (video, failing, ends, pictures) in cases {
-        let (status, written) = called(alloc, video, piece, *failing)?;
-        assert_eq!(rt; status, *ends);
-        assert_eq!(rt;
-            written.as_slice(),
-            joined(alloc, pictures)?.as_slice(),
-            "where {status:?}"
-        );
+    let mut desk = MemoryDesk::new(alloc, piece, 200_000)?;
+    desk.put(Role::Video, &joined(alloc, given.video)?)?;
+    desk.put(Role::Events, &joined(alloc, given.events)?)?;
+    desk.fail(given.failing)?;
+    let ends = run(alloc, given.words, &mut desk);
+    if ends == Status::OutOfMemory {
+        return Err(OutOfMemory);
     }
-    Ok(())
+    assert_eq!(rt; ends, wanted.ends);
+    compare(rt, alloc, &desk, Role::Pictures, wanted.pictures)?;
+    compare(rt, alloc, &desk, Role::Wire, wanted.wire)?;
+    compare(rt, alloc, &desk, Role::Report, wanted.report)
 }
 
 fn run_twice(
     rt: &impl Abort,
     alloc: Global,
     piece: usize,
-    cases: &[Case],
+    given: &Given,
+    wanted: &Wanted,
 ) -> Result<(), OutOfMemory>
     requires { 0 < piece }
 {
-    if let Err(OutOfMemory) = run_cases(rt, alloc, piece, cases) {
-        run_cases(rt, alloc, piece, cases)?;
+    match run_once(rt, alloc, piece, given, wanted) {
+        Ok(()) => Ok(()),
+        Err(OutOfMemory) => run_once(rt, alloc, piece, given, wanted),
     }
-    Ok(())
 }
 
-const NONE: u64 = 1_000_000;
+// ---- call
 
-const ONE: &[&[u8]] = &[HEAD_LINE, FRAME_LINE, PICTURE];
+const CALL: &[&str] = &["call", "in", "out"];
 
-#[test]
-fn the_head_alone_and_a_flat_picture(rt: HostRuntime) -> Result<(), Fail> {
-    run_twice(
-        &rt,
-        rt.alloc(),
-        1,
-        &[(&[HEAD_LINE], NONE, Status::Ok, &[OUT_HEAD])],
-    )?;
-    run_twice(
-        &rt,
-        rt.alloc(),
-        4096,
-        &[
-            (&[HEAD_LINE], NONE, Status::Ok, &[OUT_HEAD]),
-            (ONE, NONE, Status::Ok, &[OUT_HEAD, EXACT_LINE, PICTURE]),
-        ],
-    )?;
-    Ok(())
-}
-
-// A textured picture, by its bytes in order.
-fn textured() -> [u8; 18_432] {
-    let mut picture = [0; 18_432];
-    for k in 0..18_432u32 {
-        picture[k as usize] = ((k * k / 64 + 5 * (k / 128)) % 251) as u8;
-    }
-    picture
-}
-
-// The two sums of Adler-32 (RFC 1950).
-fn sums(bytes: &[u8]) -> (u32, u32)
-    ensures { (result.0 < 65521) × (result.1 < 65521) }
-{
-    let mut a = 1;
-    let mut b = 0;
-    for byte in bytes {
-        a = (a + *byte as u32) % 65_521;
-        b = (b + a) % 65_521;
-    }
-    (a, b)
-}
-
-// What is shown for it, by another program's double sums: single bytes, and the sums over all.
-#[test]
-fn a_textured_picture(rt: HostRuntime) -> Result<(), Fail> {
-    let picture = textured();
-    let video: &[&[u8]] = &[HEAD_LINE, FRAME_LINE, &picture];
-    let (status, written) = match called(rt.alloc(), video, 4096, NONE) {
-        Ok(run) => run,
-        Err(OutOfMemory) => called(rt.alloc(), video, 4096, NONE)?,
+// A call on a video, in pieces of 4,096 bytes: how it ends, its pictures and its report.
+fn calls(
+    rt: &impl Abort,
+    alloc: Global,
+    video: Parts,
+    ends: Status,
+    pictures: Parts,
+    report: Parts,
+) -> Result<(), OutOfMemory> {
+    let given = Given {
+        words: CALL,
+        video,
+        events: NOTHING,
+        failing: NONE,
     };
-    assert_eq!(rt; status, Status::Ok);
-    let front = OUT_HEAD.len() + EXACT_LINE.len();
-    assert!(rt; written.len() == front + 18_432);
-    let shown = &written[front..];
-    let table = [
-        (127, 2),
-        (200, 120),
-        (5000, 20),
-        (12_287, 230),
-        (12_288, 122),
-        (15_360, 59),
-        (18_431, 154),
-    ];
-    for (at, want) in table {
-        assert!(rt; at < 18_432);
-        assert_eq!(rt; shown[at], want, "at {at}");
-    }
-    assert_eq!(rt; sums(shown), (5544, 40_035));
-    Ok(())
+    let wanted = Wanted {
+        ends,
+        pictures,
+        wire: NOTHING,
+        report,
+    };
+    run_twice(rt, alloc, 4096, &given, &wanted)
 }
 
-const BLACK: &[u8] = &[0; 18_432];
+const ONE: Parts<'static> = &[HEAD_LINE, FRAME_LINE, PICTURE];
 
-const GREY: &[u8] = &[128; 18_432];
+const ONE_LINE: &[u8] = b"0 exact intra\n";
 
-const WHITE: &[u8] = &[255; 18_432];
+const ONE_COUNT: &[u8] = b"played 1 sent 1 exact 1 patched 0 held 0\n";
+
+const NO_COUNT: &[u8] = b"played 0 sent 0 exact 0 patched 0 held 0\n";
+
+#[test]
+fn one_flat_picture(rt: HostRuntime) -> Result<(), Fail> {
+    let shown: Parts = &[OUT_HEAD, EXACT_LINE, PICTURE];
+    calls(
+        &rt,
+        rt.alloc(),
+        ONE,
+        Status::Ok,
+        shown,
+        &[ONE_LINE, ONE_COUNT],
+    )?;
+    calls(
+        &rt,
+        rt.alloc(),
+        &[HEAD_LINE],
+        Status::Ok,
+        &[OUT_HEAD],
+        &[NO_COUNT],
+    )?;
+    Ok(())
+}
 
 // INTRADC is from 1 to 254.
 #[test]
 fn three_flat_pictures(rt: HostRuntime) -> Result<(), Fail> {
-    let video: &[&[u8]] = &[
-        HEAD_LINE, FRAME_LINE, BLACK, FRAME_LINE, GREY, FRAME_LINE, WHITE,
-    ];
+    let black: &[u8] = &[0; 18_432];
+    let grey: &[u8] = &[128; 18_432];
+    let white: &[u8] = &[255; 18_432];
     let darkest: &[u8] = &[1; 18_432];
     let brightest: &[u8] = &[254; 18_432];
-    let shown: &[&[u8]] = &[
-        OUT_HEAD, EXACT_LINE, darkest, EXACT_LINE, GREY, EXACT_LINE, brightest,
+    let video: Parts = &[
+        HEAD_LINE, FRAME_LINE, black, FRAME_LINE, grey, FRAME_LINE, white,
     ];
-    run_twice(&rt, rt.alloc(), 4096, &[(video, NONE, Status::Ok, shown)])?;
+    let shown: Parts = &[
+        OUT_HEAD, EXACT_LINE, darkest, EXACT_LINE, grey, EXACT_LINE, brightest,
+    ];
+    let report: Parts = &[
+        ONE_LINE,
+        b"1 exact intra\n2 exact intra\n",
+        b"played 3 sent 3 exact 3 patched 0 held 0\n",
+    ];
+    calls(&rt, rt.alloc(), video, Status::Ok, shown, report)?;
     Ok(())
 }
-
-// A user's head, with tags that are passed over and an aspect ratio that isn't 1; and a frame with a tag.
-const USER_HEAD: &[u8] = b"YUV4MPEG2 W176 H144 F30000:1001 Ip A128:117 C420mpeg2 XYSCSS=420MPEG2\n";
-
-const TAGGED_LINE: &[u8] = b"FRAME Xanything\n";
-
-const QCIF_HEAD: &[u8] = b"YUV4MPEG2 W176 H144 F30000:1001 Ip C420jpeg\n";
-
-const CIF_HEAD: &[u8] = b"YUV4MPEG2 W352 H288 F30000:1001 Ip C420jpeg\n";
-
-const QCIF_PICTURE: &[u8] = &[100; 38_016];
-
-// Its packets are two.
-const CIF_PICTURE: &[u8] = &[100; 152_064];
-
-#[test]
-fn the_larger_formats(rt: HostRuntime) -> Result<(), Fail> {
-    let qcif: &[&[u8]] = &[USER_HEAD, TAGGED_LINE, QCIF_PICTURE];
-    let cif: &[&[u8]] = &[b"YUV4MPEG2 H288 W352\n", FRAME_LINE, CIF_PICTURE];
-    let cases: &[Case] = &[
-        (&[b"YUV4MPEG2 W176 H144\n"], NONE, Status::Ok, &[QCIF_HEAD]),
-        (
-            qcif,
-            NONE,
-            Status::Ok,
-            &[QCIF_HEAD, EXACT_LINE, QCIF_PICTURE],
-        ),
-        (cif, NONE, Status::Ok, &[CIF_HEAD, EXACT_LINE, CIF_PICTURE]),
-    ];
-    run_twice(&rt, rt.alloc(), 4096, cases)?;
-    run_twice(
-        &rt,
-        rt.alloc(),
-        1,
-        &[(&[USER_HEAD], NONE, Status::Ok, &[QCIF_HEAD])],
-    )?;
-    Ok(())
-}
-
-const RIFF: &[&[u8]] = &[b"RIFF"];
-
-const CUT_HEAD: &[&[u8]] = &[b"YUV4MPEG2 W128 H9"];
-
-const OTHER_SIZE: &[&[u8]] = &[b"YUV4MPEG2 W128 H144\n"];
-
-const INTERLACED: &[&[u8]] = &[b"YUV4MPEG2 W128 H96 It\n"];
-
-const OTHER_COLOUR: &[&[u8]] = &[b"YUV4MPEG2 W128 H96 C422\n"];
-
-const OTHER_LINE: &[&[u8]] = &[HEAD_LINE, b"FRAMES"];
-
-const CUT_LINE: &[&[u8]] = &[HEAD_LINE, b"FRA"];
 
 // Its second frame ends after its first plane.
-const CUT_FRAME: &[&[u8]] = &[HEAD_LINE, FRAME_LINE, PICTURE, FRAME_LINE, LUMA];
+const CUT_FRAME: Parts<'static> = &[HEAD_LINE, FRAME_LINE, PICTURE, FRAME_LINE, LUMA];
 
-// A video, its fault, and what is shown of it.
-type Refused<'a> = (&'a [&'a [u8]], Y4mFault, &'a [&'a [u8]]);
+const SHOWN: Parts<'static> = &[OUT_HEAD, EXACT_LINE, PICTURE];
 
 #[test]
 fn refused_videos(rt: HostRuntime) -> Result<(), Fail> {
-    let shown: &[&[u8]] = &[OUT_HEAD, EXACT_LINE, PICTURE];
-    let cases: &[Refused] = &[
-        (RIFF, Y4mFault::NotY4m { at: 0 }, &[]),
-        (CUT_HEAD, Y4mFault::NotY4m { at: 17 }, &[]),
-        (OTHER_SIZE, Y4mFault::Size { at: 19 }, &[]),
-        (INTERLACED, Y4mFault::Interlaced { at: 19 }, &[]),
-        (OTHER_COLOUR, Y4mFault::Colour { at: 19 }, &[]),
-        (OTHER_LINE, Y4mFault::NotY4m { at: 24 }, &[OUT_HEAD]),
-        (CUT_LINE, Y4mFault::ShortFrame { at: 22 }, &[OUT_HEAD]),
-        (CUT_FRAME, Y4mFault::ShortFrame { at: 30_751 }, shown),
-    ];
-    for (video, fault, pictures) in cases {
-        let ends = Status::VideoRefused { fault: *fault };
-        run_twice(&rt, rt.alloc(), 4096, &[(video, NONE, ends, pictures)])?;
+    let no_head = Status::VideoRefused {
+        fault: Y4mFault::NotY4m { at: 0 },
+    };
+    let line: &[u8] = b"video refused: not y4m at byte 0\n";
+    calls(&rt, rt.alloc(), &[b"RIFF"], no_head, NOTHING, &[line])?;
+    let cut = Status::VideoRefused {
+        fault: Y4mFault::ShortFrame { at: 30_751 },
+    };
+    let line: &[u8] = b"video refused: short frame at byte 30751\n";
+    calls(&rt, rt.alloc(), CUT_FRAME, cut, SHOWN, &[ONE_LINE, line])?;
+    Ok(())
+}
+
+const READ: &[u8] = b"read fault\n";
+
+// Call 0 attaches the report, 1 the video and 2 the pictures; 3 to 21 read the head byte by byte, 22
+// writes it, 23 to 28 read the frame's line, and 29 to 33 its planes in pieces of 4,096 bytes; 34
+// writes the picture's line, 35 to 39 its planes, and 40 its line of the report; 41 reads the end of
+// the video, and 42 writes the counts. A refusal's line is one more write.
+const FAULTS: &[(u64, Status, Parts<'static>, Parts<'static>)] = &[
+    (
+        0,
+        Status::OpenFault { role: Role::Report },
+        NOTHING,
+        NOTHING,
+    ),
+    (
+        1,
+        Status::OpenFault { role: Role::Video },
+        NOTHING,
+        &[b"cannot open video\n"],
+    ),
+    (
+        2,
+        Status::OpenFault {
+            role: Role::Pictures,
+        },
+        NOTHING,
+        &[b"cannot open pictures\n"],
+    ),
+    (3, Status::ReadFault, NOTHING, &[READ]),
+    (21, Status::ReadFault, NOTHING, &[READ]),
+    (22, Status::WriteFault, NOTHING, NOTHING),
+    (23, Status::ReadFault, &[OUT_HEAD], &[READ]),
+    (31, Status::ReadFault, &[OUT_HEAD], &[READ]),
+    (34, Status::WriteFault, &[OUT_HEAD], NOTHING),
+    (35, Status::WriteFault, &[OUT_HEAD, EXACT_LINE], NOTHING),
+    (40, Status::WriteFault, SHOWN, NOTHING),
+    (41, Status::ReadFault, SHOWN, &[ONE_LINE, READ]),
+    (42, Status::WriteFault, SHOWN, &[ONE_LINE]),
+    (43, Status::Ok, SHOWN, &[ONE_LINE, ONE_COUNT]),
+];
+
+#[test]
+fn faults_of_the_desk_in_a_call(rt: HostRuntime) -> Result<(), Fail> {
+    for (failing, ends, pictures, report) in FAULTS {
+        let given = Given {
+            words: CALL,
+            video: ONE,
+            events: NOTHING,
+            failing: *failing,
+        };
+        let wanted = Wanted {
+            ends: *ends,
+            pictures,
+            wire: NOTHING,
+            report,
+        };
+        run_twice(&rt, rt.alloc(), 4096, &given, &wanted)?;
     }
     Ok(())
 }
 
-const SHOWN: &[&[u8]] = &[OUT_HEAD, EXACT_LINE, PICTURE];
+// ---- a sender and a receiver, each by itself
 
-// Two of the pieces in which a picture is written.
-const TWO_PIECES: &[u8] = &[64; 8192];
+const SEND: &[&str] = &["send", "in", "log", "wire"];
 
-const TWO: &[&[u8]] = &[HEAD_LINE, FRAME_LINE, PICTURE, FRAME_LINE, PICTURE];
+const RECV: &[&str] = &["recv", "log", "out", "wire", "--format", "sub-qcif"];
 
-// Calls 0 and 1 attach, 2 to 20 read the head byte by byte, 21 writes it, 22 to 27 read the frame's line, and 28 to 32 its
-// planes in pieces of 4,096 bytes; 33 writes the picture's line, and 34 to 38 its planes. The next frame comes then.
-#[test]
-fn faults_of_the_desk(rt: HostRuntime) -> Result<(), Fail> {
-    let cases: &[Case] = &[
-        (ONE, 0, Status::OpenFault { role: Role::Video }, &[]),
-        (
-            ONE,
-            1,
-            Status::OpenFault {
-                role: Role::Pictures,
-            },
-            &[],
-        ),
-        (ONE, 2, Status::ReadFault, &[]),
-        (ONE, 20, Status::ReadFault, &[]),
-        (ONE, 21, Status::WriteFault, &[]),
-        (ONE, 22, Status::ReadFault, &[OUT_HEAD]),
-        (ONE, 30, Status::ReadFault, &[OUT_HEAD]),
-        (ONE, 33, Status::WriteFault, &[OUT_HEAD]),
-        (ONE, 34, Status::WriteFault, &[OUT_HEAD, EXACT_LINE]),
-        (
-            ONE,
-            36,
-            Status::WriteFault,
-            &[OUT_HEAD, EXACT_LINE, TWO_PIECES],
-        ),
-        (TWO, 39, Status::ReadFault, SHOWN),
-        (TWO, 46, Status::ReadFault, SHOWN),
-    ];
-    run_twice(&rt, rt.alloc(), 4096, cases)?;
-    Ok(())
-}
-
-// No video was put on this desk, so the words of a command end at its attach.
-#[test]
-fn words(rt: HostRuntime) -> Result<(), Fail> {
-    let opens = Status::OpenFault { role: Role::Video };
-    let cases: &[(&[&str], Status)] = &[
-        (&[], Status::Usage),
-        (&["call"], Status::Usage),
-        (&["call", "in"], Status::Usage),
-        (&["call", "in", "out", "more"], Status::Usage),
-        (&["recall", "in", "out"], Status::Usage),
-        (&["call", "-in", "out"], Status::Usage),
-        (&["call", "in", "-"], Status::Usage),
-        (&["call", "in", "out"], opens),
-        (&["call", "", "out"], opens),
-    ];
-    if let Err(OutOfMemory) = read_cases(&rt, rt.alloc(), cases) {
-        read_cases(&rt, rt.alloc(), cases)?;
+// The packets of a video's one picture, as entries.
+fn sent(alloc: Global, words: &[&str]) -> Result<Vec<u8>, OutOfMemory> {
+    let mut desk = MemoryDesk::new(alloc, 4096, 200_000)?;
+    desk.put(Role::Video, &joined(alloc, ONE)?)?;
+    desk.put(Role::Events, b"S\0\0")?;
+    if run(alloc, words, &mut desk) == Status::OutOfMemory {
+        return Err(OutOfMemory);
     }
-    assert_eq!(rt; opens.code(), 8);
-    Ok(())
+    Ok(joined(alloc, &[desk.text(Role::Wire)])?)
 }
 
-fn read_cases(
+// What is sent by one program and received by another is shown exactly, and acknowledged.
+fn received(
     rt: &impl Abort,
     alloc: Global,
-    cases: &[(&[&str], Status)],
+    sender: &[&str],
+    receiver: &[&str],
+    wanted: &Wanted,
 ) -> Result<(), OutOfMemory> {
-    for (words, ends) in cases {
-        let mut desk = MemoryDesk::new(alloc, 7, 100)?;
-        assert_eq!(rt; run(alloc, words, &mut desk), *ends);
+    let mut log = sent(alloc, sender)?;
+    log.extend_from_slice(b"P\0\0")?;
+    let given = Given {
+        words: receiver,
+        video: NOTHING,
+        events: &[&log],
+        failing: NONE,
+    };
+    run_twice(rt, alloc, 4096, &given, wanted)
+}
+
+#[test]
+fn sent_and_received(rt: HostRuntime) -> Result<(), Fail> {
+    let wanted = Wanted {
+        ends: Status::Ok,
+        pictures: SHOWN,
+        wire: &[b"B\0\x03\xC0\x04\x00"],
+        report: &[
+            b"0 exact\n",
+            b"played 1 exact 1 patched 0 held 0 taken 1 late 0 early 0 repeat 0 refused 0\n",
+        ],
+    };
+    received(&rt, rt.alloc(), SEND, RECV, &wanted)?;
+    let held: &[u8] = &[128; 18_432];
+    let other = Wanted {
+        ends: Status::Ok,
+        pictures: &[OUT_HEAD, HELD_LINE, held],
+        wire: &[b"B\0\x03\x80\x04\x00"],
+        report: &[
+            b"0 held\n",
+            b"played 1 exact 0 patched 0 held 1 taken 0 late 0 early 0 repeat 0 refused 1\n",
+        ],
+    };
+    let custom: &[&str] = &[
+        "recv", "--clock", "custom", "log", "out", "wire", "--format", "sub-qcif",
+    ];
+    received(&rt, rt.alloc(), SEND, custom, &other)?;
+    Ok(())
+}
+
+#[test]
+fn refused_logs(rt: HostRuntime) -> Result<(), Fail> {
+    let given = Given {
+        words: RECV,
+        video: NOTHING,
+        events: &[b"K\x01"],
+        failing: NONE,
+    };
+    let bad = Status::LogRefused {
+        fault: LogFault::BadRecord { at: 0 },
+    };
+    let wanted = Wanted {
+        ends: bad,
+        pictures: &[OUT_HEAD],
+        wire: NOTHING,
+        report: &[b"log refused: bad record at byte 0\n"],
+    };
+    run_twice(&rt, rt.alloc(), 1, &given, &wanted)?;
+    let given = Given {
+        words: SEND,
+        video: &[HEAD_LINE],
+        events: &[b"S\0\0"],
+        failing: NONE,
+    };
+    let none = Status::LogRefused {
+        fault: LogFault::NoFrame { at: 0 },
+    };
+    let wanted = Wanted {
+        ends: none,
+        pictures: NOTHING,
+        wire: NOTHING,
+        report: &[b"log refused: no frame at byte 0\n"],
+    };
+    run_twice(&rt, rt.alloc(), 1, &given, &wanted)?;
+    Ok(())
+}
+
+// ---- words
+
+// A role with nothing on it, so that the words of a command end at the end of an input.
+#[test]
+fn words(rt: HostRuntime) -> Result<(), Fail> {
+    let usage: &[u8] =
+        b"usage: h263rps call IN OUT [--trace FILE] | send IN LOG WIRE | recv LOG OUT WIRE | demo SEED FRAMES\n";
+    let wrong: &[&[&str]] = &[
+        &[],
+        &["call"],
+        &["call", "in"],
+        &["call", "in", "out", "more"],
+        &["recall", "in", "out"],
+        &["call", "in", "out", "--slots", "4", "--lead", "3"],
+        &["send", "in", "log"],
+        &["recv", "log", "out", "wire", "--quant", "8"],
+        &["demo", "1", "60"],
+        &["call", "in", "out", "--trace", "file"],
+    ];
+    for words in wrong {
+        let given = Given {
+            words,
+            video: NOTHING,
+            events: NOTHING,
+            failing: NONE,
+        };
+        let wanted = Wanted {
+            ends: Status::Usage,
+            pictures: NOTHING,
+            wire: NOTHING,
+            report: &[usage],
+        };
+        run_twice(&rt, rt.alloc(), 4096, &given, &wanted)?;
     }
     Ok(())
 }

@@ -1,7 +1,7 @@
 use Rattle.std.proofs.Common.{◌≡◌, map}
 use Rattle.std.proofs.Common.{take}
 use Rattle.std.specs.String.{string_bytes}
-use Rattle.h263rps.specs.Out.{texts}
+use Rattle.command_words.specs.Clap.{texts}
 use Rattle.h263rps.proofs.texts_of.Given as goal
 
 abbrev pub invariant-loop-word : goal.invariant-loop-word

@@ -1,40 +1,37 @@
-use Rattle.std.proofs.Common.{refl}
-use Rattle.call_report.specs.declared.status.Status.TheVariants.{Ok as Fine}
-use Rattle.h263rps.specs.Out.{command_of, texts}
-use Rattle.h263rps.proofs.Ends.{ends_exactly, ends_cut_off, ends_known, ends_refused}
+use Rattle.std.proofs.Common.{◌≡◌, sym, ap, ◌∙◌, subst}
+use Rattle.call_report.specs.declared.status.Status.{Status}
+use Rattle.command_words.specs.Clap.{texts}
+use Rattle.command_words.specs.View.{asked_of}
+use Rattle.desk_program.specs.Lines.{Finishes}
+use Rattle.h263rps.specs.Output.{command_of}
+use Rattle.h263rps.proofs.Asked.{report_failed, report_alone, run_since, stopped_run, asked_run}
 use Rattle.h263rps.proofs.program.run.Goals as goal
 
-pub returns-in-Ok-clause-texts : goal.returns-in-Ok-clause-texts
-returns-in-Ok-clause-texts g c = λ video events told settled.
+pub returns-in-Err : goal.returns-in-Err
+returns-in-Err g c =
     let outside = g.D.Desk.outside in
-    ends_exactly (command_of (texts c.args.words.now)) c.in-Some.input.now c.in-Some.output.now video events c.in-Some.ensures Fine (outside c.args.desk.now).written (outside c.call.new.desk) (c.in-Ok.ensures.plays video told.video) settled
+    let failed = c.in-Err.ensures in
+    report_failed (command_of (texts c.args.words.now)) (outside c.args.desk.now) (outside c.attach_role.new.desk) c.in-Err.status
+    (failed.err ∙ c.requires) failed.rest.written failed.cause failed.kind
 
-pub returns-in-Ok-clause-whole_input : goal.returns-in-Ok-clause-whole_input
-returns-in-Ok-clause-whole_input g c = λ video events told fine. (c.in-Ok.ensures.plays video told.video).left refl
-
-pub returns-in-Err-clause-status : goal.returns-in-Err-clause-status
-returns-in-Err-clause-status g c = λ video events told.
+pub returns-in-Ok : goal.returns-in-Ok
+returns-in-Ok g c =
     let outside = g.D.Desk.outside in
-    ends_known (command_of (texts c.args.words.now)) c.in-Some.input.now c.in-Some.output.now video events c.in-Some.ensures c.in-Err.status (outside c.args.desk.now).written (outside c.call.new.desk) (c.in-Err.ensures.plays video told.video)
-    (outside c.args.desk.now).faults (outside c.call.new.desk).faults c.in-Err.ensures.cause
+    let old = outside c.args.desk.now in
+    let mid = outside c.attach_role.new.desk in
+    let new = outside c.command.new.desk in
+    let words = texts c.args.words.now in
+    run_since (command_of words) old mid new c.command.result c.attach_role.ensures.rest
+    (asked_run words (asked_of c.in-Ok.words) mid new c.command.result c.in-Ok.ensures.answer c.command.ensures)
 
-pub returns-in-Err-clause-texts : goal.returns-in-Err-clause-texts
-returns-in-Err-clause-texts g c = λ video events told settled.
+pub returns-in-Err-read : goal.returns-in-Err-read
+returns-in-Err-read g c =
     let outside = g.D.Desk.outside in
-    ends_exactly (command_of (texts c.args.words.now)) c.in-Some.input.now c.in-Some.output.now video events c.in-Some.ensures c.in-Err.status (outside c.args.desk.now).written (outside c.call.new.desk) (c.in-Err.ensures.plays video told.video) settled
-
-pub returns-in-Err-clause-prefixes : goal.returns-in-Err-clause-prefixes
-returns-in-Err-clause-prefixes g c = λ video events told stopped.
-    let outside = g.D.Desk.outside in
-    ends_cut_off (command_of (texts c.args.words.now)) c.in-Some.input.now c.in-Some.output.now video events c.in-Some.ensures c.in-Err.status (outside c.args.desk.now).written (outside c.call.new.desk) (c.in-Err.ensures.plays video told.video) stopped
-
-pub returns-in-Err-clause-whole_input : goal.returns-in-Err-clause-whole_input
-returns-in-Err-clause-whole_input g c = λ video events told fine. (c.in-Err.ensures.plays video told.video).left fine
-
-pub returns-in-Err-clause-taken_input : goal.returns-in-Err-clause-taken_input
-returns-in-Err-clause-taken_input g c = λ video events told fault. (c.in-Err.ensures.plays video told.video).taken fault
-
-pub returns-in-Err-clause-refused : goal.returns-in-Err-clause-refused
-returns-in-Err-clause-refused g c = λ video events told fault is.
-    let outside = g.D.Desk.outside in
-    ends_refused video c.in-Err.status (outside c.args.desk.now).written (outside c.call.new.desk) fault is (c.in-Err.ensures.plays video told.video)
+    let old = outside c.args.desk.now in
+    let mid = outside c.attach_role.new.desk in
+    let new = outside c.finish.new.desk in
+    let words = texts c.args.words.now in
+    let attached = c.in_default.ensures in
+    run_since (command_of words) old mid new c.finish.result c.attach_role.ensures.rest
+    (stopped_run words c.in-Err-read.stop mid new c.in-Err-read.ensures.answer (report_alone old mid c.requires attached.attached attached.name)
+    c.finish.ensures.rest c.finish.result (subst (λ (s : Status). Finishes s c.finish.result mid new) c.unasked.ensures c.finish.ensures.told))

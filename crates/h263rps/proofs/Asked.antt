@@ -1,0 +1,168 @@
+-- A run by what its words ask for.
+use Rattle.std.proofs.Common.{◌≡◌, ◌⊎◌, inl, inr, ℕ, Bool, true, false, List, [], ◌∷◌, ◌||◌, Option, Some, None, IfSome, if◌then◌else◌, refl, sym, ap, ◌∙◌, subst}
+use Rattle.std.specs.Prelude.{option_and_then}
+use Rattle.h263_outside.specs.Desk.{Outside, NoneAttached, OnlyAttaches, OnlyWrites, SomeRose, Rose, with_role, is_role}
+use Rattle.h263_outside.specs.declared.desk.Role.{Role}
+use Rattle.h263_outside.specs.declared.desk.Role.TheVariants.{Video, Report}
+use Rattle.y4m.specs.declared.fault.Y4mFault.{Y4mFault}
+use Rattle.y4m.specs.Video.{video_fault}
+use Rattle.call_report.specs.declared.status.Status.{Status}
+use Rattle.call_report.specs.declared.status.Status.TheVariants.{OutOfMemory, Usage, WriteFault, VideoRefused, OpenFault}
+use Rattle.command_words.specs.declared.command.Command.{Command}
+use Rattle.command_words.specs.declared.simple.WordStop.{WordStop}
+use Rattle.command_words.specs.declared.simple.WordStop.TheVariants as stops
+use Rattle.command_words.specs.Simple.{Text}
+use Rattle.command_words.specs.Asked.{Asked, asked}
+use Rattle.desk_program.specs.Ends.{HasCause}
+use Rattle.desk_program.specs.Attached.{AreAttached}
+use Rattle.desk_program.specs.Lines.{Finishes}
+use Rattle.desk_program.specs.Promises.{IsSettled, IsNotUsage}
+use Rattle.call_command.specs.Plain.{status_for}
+use Rattle.h263rps.specs.Output.{word_stop, is_built, built, command_of, roles_of, source_of, run_of, output_from, order_from, source_from}
+use Rattle.h263rps.specs.Promises.{IsRunOf, IsRun}
+use Rattle.h263rps.proofs.Promised.{some_since, nothing_done, report_unopened, words_unread, usage_told, since_attached}
+
+-- ---- a command
+
+-- where its run refuses the video, the video has that fault
+abbrev pub IsRefusedRightly : Command → Type 0
+IsRefusedRightly c = (inputs : Role → List ℕ) (fault : Y4mFault) → (run_of c inputs).last.status ≡ VideoRefused fault → video_fault (inputs Video) ≡ Some fault
+
+-- the status of a call tells its video's fault
+pub by_status : (o : Option Y4mFault) (status : Status) (fault : Y4mFault) → status ≡ status_for o → status ≡ VideoRefused fault → o ≡ Some fault
+by_status None status fault is ends = absurd (cc (is, ends))
+by_status (Some broken) status fault is ends = cc (is, ends)
+
+built_is : (a : Asked) (c : Command) → a.command ≡ c → is_built c ≡ true → built a ≡ Some a
+built_is a c e is = ap (λ (b : Bool). if b then Some a else None) (ap is_built e ∙ is)
+
+unbuilt : (a : Asked) (c : Command) → a.command ≡ c → is_built c ≡ false → built a ≡ None
+unbuilt a c e is = ap (λ (b : Bool). if b then Some a else None) (ap is_built e ∙ is)
+
+-- a command was carried out
+pub as_run : (a : Asked) (c : Command) → a.command ≡ c → is_built c ≡ true → IsRefusedRightly c → (result : Status) (old new : Outside)
+    → IsRunOf (run_of c) ((Report, []) ∷ roles_of c a) (source_of c) result old new → IsNotUsage result → IsRun (built a) result old new
+as_run a c e is rightly result old new run words =
+    subst (λ (o : Option Asked). IsRun o result old new) (sym (built_is a c e is)) (record {
+      run = subst (λ (k : Command). IsRunOf (run_of k) ((Report, []) ∷ roles_of k a) (source_of k) result old new) (sym e) run;
+      usage = λ u. absurd (subst IsNotUsage u words);
+      no_command = λ n. absurd (cc n);
+      refused = λ inputs told fault r. rightly inputs fault (sym (run.texts inputs told (subst IsSettled (sym r) tt)).known ∙ r);
+    })
+
+-- Usage was told, since there is no command
+pub usage_run : (mid new : Outside) → AreAttached ((Report, []) ∷ []) mid → OnlyWrites mid new → (result : Status) → Finishes Usage result mid new → IsRun None result mid new
+usage_run mid new are rest result told = record {
+  run = usage_told (output_from None) None mid new are rest (λ inputs. refl) result told;
+  usage = λ u. refl;
+  no_command = λ n. ends told;
+  refused = λ inputs tells fault r. absurd (not_refused told fault r);
+}
+  where
+    not_refused : Finishes Usage result mid new → (fault : Y4mFault) → result ≡ VideoRefused fault → ⊥
+    not_refused (inl told) fault r = absurd (cc (told.same, r))
+    not_refused (inr cut) fault r = absurd (cc (cut.fault, r))
+
+    ends : Finishes Usage result mid new → (result ≡ Usage) ⊎ (result ≡ OutOfMemory) ⊎ SomeRose mid.faults new.faults
+    ends (inl told) = inl told.same
+    ends (inr cut) = inr (inr (inr (inr cut.cause)))
+
+pub unbuilt_run : (a : Asked) (c : Command) → a.command ≡ c → is_built c ≡ false → (mid new : Outside) → AreAttached ((Report, []) ∷ []) mid → OnlyWrites mid new
+    → (result : Status) → Finishes Usage result mid new → IsRun (built a) result mid new
+unbuilt_run a c e is mid new are rest result told =
+    subst (λ (o : Option Asked). IsRun o result mid new) (sym (unbuilt a c e is)) (usage_run mid new are rest result told)
+
+-- ---- words
+
+abbrev rest_of : Option Asked → List (Role × Text)
+rest_of None = []
+rest_of (Some a) = roles_of a.command a
+
+begins_with_report : (o : Option Asked) → (Report, []) ∷ rest_of o ≡ order_from o
+begins_with_report None = refl
+begins_with_report (Some a) = refl
+
+-- there was no memory for them
+pub unread_run : (o : Option Asked) (mid new : Outside) → AreAttached ((Report, []) ∷ []) mid → OnlyWrites mid new → (result : Status) → Finishes OutOfMemory result mid new → IsRun o result mid new
+unread_run o mid new are rest result told = record {
+  run = subst (λ (order : List (Role × Text)). IsRunOf (output_from o) order (source_from o) result mid new) (begins_with_report o)
+      (words_unread (output_from o) (rest_of o) (source_from o) mid new are rest result told);
+  usage = λ u. absurd (not_usage told u);
+  no_command = λ n. ends told;
+  refused = λ inputs tells fault r. absurd (not_refused told fault r);
+}
+  where
+    not_refused : Finishes OutOfMemory result mid new → (fault : Y4mFault) → result ≡ VideoRefused fault → ⊥
+    not_refused (inl told) fault r = absurd (cc (told.same, r))
+    not_refused (inr cut) fault r = absurd (cc (cut.fault, r))
+
+    not_usage : Finishes OutOfMemory result mid new → result ≡ Usage → ⊥
+    not_usage (inl told) u = absurd (cc (told.same, u))
+    not_usage (inr cut) u = absurd (cc (cut.fault, u))
+
+    ends : Finishes OutOfMemory result mid new → (result ≡ Usage) ⊎ (result ≡ OutOfMemory) ⊎ SomeRose mid.faults new.faults
+    ends (inl told) = inr (inl told.same)
+    ends (inr cut) = inr (inr (inr (inr cut.cause)))
+
+-- nothing was done, for want of memory
+pub starved_run : (o : Option Asked) (old new : Outside) → NoneAttached new.attached → new.written ≡ old.written → IsRun o OutOfMemory old new
+starved_run o old new none same = record {
+  run = subst (λ (order : List (Role × Text)). IsRunOf (output_from o) order (source_from o) OutOfMemory old new) (begins_with_report o)
+      (nothing_done (output_from o) (rest_of o) (source_from o) old new none same);
+  usage = λ u. absurd (cc u);
+  no_command = λ n. inr (inl refl);
+  refused = λ inputs told fault r. absurd (cc r);
+}
+
+unopened_run : (o : Option Asked) (old new : Outside) → NoneAttached new.attached → new.written ≡ old.written → Rose old.faults.attach new.faults.attach → IsRun o (OpenFault Report) old new
+unopened_run o old new none same rose = record {
+  run = subst (λ (order : List (Role × Text)). IsRunOf (output_from o) order (source_from o) (OpenFault Report) old new) (begins_with_report o)
+      (report_unopened (output_from o) (rest_of o) (source_from o) old new none same rose);
+  usage = λ u. absurd (cc u);
+  no_command = λ n. inr (inr (inl rose));
+  refused = λ inputs told fault r. absurd (cc r);
+}
+
+-- the report could not be attached
+pub report_failed : (o : Option Asked) (old new : Outside) (status : Status) → NoneAttached new.attached → new.written ≡ old.written
+    → HasCause status old.faults new.faults → (status ≡ OpenFault Report) ⊎ (status ≡ OutOfMemory) → IsRun o status old new
+report_failed o old new status none same cause (inl is) =
+    subst (λ (s : Status). IsRun o s old new) (sym is)
+    (unopened_run o old new none same (subst (λ (s : Status). HasCause s old.faults new.faults) is cause))
+report_failed o old new status none same cause (inr is) =
+    subst (λ (s : Status). IsRun o s old new) (sym is) (starved_run o old new none same)
+
+-- the report alone is attached
+pub report_alone : (old mid : Outside) → NoneAttached old.attached → mid.attached ≡ with_role old.attached Report true → IfSome (mid.name Report) (λ told. told ≡ []) → AreAttached ((Report, []) ∷ []) mid
+report_alone old mid none attached named = record { roles = λ r. ap (λ (f : Role → Bool). f r) attached ∙ at r (is_role Report r); names = (named, tt) }
+  where
+    at : (r : Role) (t : Bool) → (if t then true else old.attached r) ≡ (t || false)
+    at r true = refl
+    at r false = ap (λ (f : Role → Bool). f r) none
+
+-- the same from before the report was attached
+pub run_since : (o : Option Asked) (old mid new : Outside) (result : Status) → OnlyAttaches old mid → IsRun o result mid new → IsRun o result old new
+run_since o old mid new result attaches run = record {
+  run = since_attached (output_from o) (order_from o) (source_from o) old mid new attaches result run.run;
+  usage = run.usage;
+  no_command = λ n. ends (run.no_command n);
+  refused = λ inputs told fault r. run.refused inputs (λ role input. ap (λ (l : Role → Option (List ℕ)). l role) attaches.left ∙ told role input) fault r;
+}
+  where
+    ends : (result ≡ Usage) ⊎ (result ≡ OutOfMemory) ⊎ SomeRose mid.faults new.faults → (result ≡ Usage) ⊎ (result ≡ OutOfMemory) ⊎ SomeRose old.faults new.faults
+    ends (inl is) = inl is
+    ends (inr (inl is)) = inr (inl is)
+    ends (inr (inr some)) = inr (inr (some_since old.faults mid.faults new.faults attaches.faults some))
+
+-- the words were no command, or there was no memory for them
+pub stopped_run : (words : List Text) (stop : WordStop) (mid new : Outside) → (stop ≡ stops.Usage → asked words ≡ None)
+    → AreAttached ((Report, []) ∷ []) mid → OnlyWrites mid new → (result : Status) → Finishes (word_stop stop) result mid new → IsRun (command_of words) result mid new
+unfolding command_of
+stopped_run words stops.OutOfMemory mid new none are rest result told = unread_run (command_of words) mid new are rest result told
+stopped_run words stops.Usage mid new none are rest result told =
+    subst (λ (o : Option Asked). IsRun (option_and_then built o) result mid new) (sym (none refl)) (usage_run mid new are rest result told)
+
+-- the words were a command
+pub asked_run : (words : List Text) (a : Asked) (old new : Outside) (result : Status) → asked words ≡ Some a → IsRun (built a) result old new → IsRun (command_of words) result old new
+unfolding command_of
+asked_run words a old new result is run = subst (λ (o : Option Asked). IsRun (option_and_then built o) result old new) (sym is) run

@@ -1,0 +1,89 @@
+-- What the program makes of its words and of its inputs.
+use Rattle.std.specs.Prelude.{ℕ, Bool, true, false, not, List, [], ◌∷◌, Option, Some, None, option_and_then, if◌then◌else◌}
+use Rattle.h263_outside.specs.declared.desk.Role.{Role}
+use Rattle.h263_outside.specs.declared.desk.Role.TheVariants.{Video, Events, Pictures, Wire, Report}
+use Rattle.h263_types.specs.declared.params.Params.{Params}
+use Rattle.call_report.specs.declared.status.Status.{Status}
+use Rattle.call_report.specs.declared.status.Status.TheVariants.{OutOfMemory, Usage}
+use Rattle.command_words.specs.declared.simple.WordStop.{WordStop}
+use Rattle.command_words.specs.declared.simple.WordStop.TheVariants as stops
+use Rattle.command_words.specs.declared.command.Command.{Command}
+use Rattle.command_words.specs.declared.command.Command.TheVariants.{Call, Send, Recv, Demo}
+use Rattle.command_words.specs.Simple.{Text}
+use Rattle.command_words.specs.Asked.{Asked, asked}
+use Rattle.desk_program.specs.Run.{Run, run_from, refusal}
+use Rattle.recv_command.specs.Recv.{recv_begin, recv_step}
+use Rattle.send_command.specs.Send.{send_begin, send_step}
+use Rattle.call_command.specs.Call.{call_begin, call_step}
+
+-- ---- the words
+
+-- what can be asked for today: no recorded trace, and no made input
+abbrev pub is_built : Command → Bool
+is_built (Call params traced) = not traced
+is_built (Send params) = true
+is_built (Recv params) = true
+is_built (Demo params seed frames) = false
+
+abbrev pub built : Asked → Option Asked
+built a = if is_built a.command then Some a else None
+
+-- the command that the words are, if they are one
+unfoldable pub command_of : List Text → Option Asked
+command_of words = option_and_then built (asked words)
+
+-- how a run ends whose words were not read
+abbrev pub word_stop : WordStop → Status
+word_stop stops.OutOfMemory = OutOfMemory
+word_stop stops.Usage = Usage
+
+-- ---- the roles
+
+-- the word by which a role is attached; a command has one for each of its roles
+abbrev pub the_word : Option Text → Text
+the_word None = []
+the_word (Some word) = word
+
+-- the roles of a command in their order, with their words
+abbrev pub roles_of : Command → Asked → List (Role × Text)
+roles_of (Call params traced) a = (Video, the_word a.video) ∷ (Pictures, the_word a.pictures) ∷ []
+roles_of (Send params) a = (Video, the_word a.video) ∷ (Events, the_word a.events) ∷ (Wire, the_word a.wire) ∷ []
+roles_of (Recv params) a = (Events, the_word a.events) ∷ (Pictures, the_word a.pictures) ∷ (Wire, the_word a.wire) ∷ []
+roles_of (Demo params seed frames) a = []
+
+-- the report comes first, by the empty word
+abbrev pub order_from : Option Asked → List (Role × Text)
+order_from None = (Report, []) ∷ []
+order_from (Some a) = (Report, []) ∷ roles_of a.command a
+
+-- the input whose end is the end of the run
+abbrev pub source_of : Command → Option Role
+source_of (Call params traced) = Some Video
+source_of (Send params) = Some Events
+source_of (Recv params) = Some Events
+source_of (Demo params seed frames) = None
+
+abbrev pub source_from : Option Asked → Option Role
+source_from None = None
+source_from (Some a) = source_of a.command
+
+-- ---- the output
+
+-- words that are no command
+abbrev pub no_command : Run
+no_command = record { turns = []; last = refusal Usage }
+
+-- what a command makes of its inputs, turn by turn
+abbrev pub run_of : Command → (Role → List ℕ) → Run
+run_of (Call params traced) inputs = run_from (call_begin params inputs) call_step 1048576 inputs
+run_of (Send params) inputs = run_from (send_begin params inputs) send_step 16777216 inputs
+run_of (Recv params) inputs = run_from (recv_begin params inputs) recv_step 16777216 inputs
+run_of (Demo params seed frames) inputs = no_command
+
+abbrev pub output_from : Option Asked → (Role → List ℕ) → Run
+output_from None inputs = no_command
+output_from (Some a) inputs = run_of a.command inputs
+
+-- what the words give where the inputs hold these bytes: texts turn by turn, and a status
+abbrev pub output_of : List Text → (Role → List ℕ) → Run
+output_of words inputs = output_from (command_of words) inputs
