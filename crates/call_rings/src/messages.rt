@@ -11,7 +11,7 @@ use std::alloc::Global;
 /// The last 1,024 messages, each with the number of the picture that it is about.
 #[derive(Drop)]
 pub struct MessageRing {
-    said: u32,
+    said: u64,
     entries: HeapCircularBuffer<(u32, Said)>,
 }
 
@@ -28,7 +28,7 @@ impl MessageRing {
 
     /// One more message, about picture `about`.
     pub fn push(&mut self, about: u32, said: Said)
-        requires { said_of self.old + 1 < 2 ^ 32 }
+        requires { said_of self.old + 1 < 2 ^ 64 }
         ensures pushes { (messages : List (ℕ × Said)) → Holds self.old messages
             → Holds self.new (messages ++ (about, said) ∷ []) }
         ensures said { said_of self.new ≡ said_of self.old + 1 }
@@ -38,7 +38,7 @@ impl MessageRing {
     }
 
     /// How many messages were said.
-    pub fn said(&self) -> u32
+    pub fn said(&self) -> u64
         ensures count { result ≡ said_of self.now }
         ensures messages { (messages : List (ℕ × Said)) → Holds self.now messages
             → result ≡ length messages }
