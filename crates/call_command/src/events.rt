@@ -201,8 +201,8 @@ pub fn play_event(
     ensures counted { total_of carrier.new.tally ≡ receiver.new.played }
     ensures few { said_of carrier.new.messages ≤ said_of carrier.old.messages + 1 }
     ensures others { carrier.new ≡ record carrier.old {
-        messages = carrier.new.messages;
-        tally = carrier.new.tally;
+      messages = carrier.new.messages;
+      tally = carrier.new.tally;
     } }
     ensures done { (before : List ReceiverEntry) (frames : List Frame) (past : List Event)
         → (receiver_end.run_of terms.now.params before).played ≡ 0

@@ -92,7 +92,7 @@ pub fn brought(
         → IsBrought result line message pairs
         (first_refusal rules (sent + 1) sent played (map about_of pairs) (Back message)) }
 {
-    if messages.said() <= message {
+    if messages.said() <= u64::from(message) {
         return Err(TraceFault::NotSaid { line });
     }
     match messages.get(message) {

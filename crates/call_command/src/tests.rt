@@ -398,7 +398,13 @@ const TWO_SHOWN: &[&[u8]] = &[OUT_HEAD, EXACT_LINE, PICTURE, EXACT_LINE, PICTURE
 const CARRIED: &[Recorded] = &[
     (ONE, b"", Status::Ok, HEAD_SHOWN, NO_COUNTS),
     (ONE, b"S\n\nD 0.*\nP", Status::Ok, SHOWN, ONE_EXACT),
-    (ONE, b"S\nD 0.1\nD 0.0\nD 0.0\nP\n", Status::Ok, SHOWN, ONE_EXACT),
+    (
+        ONE,
+        b"S\nD 0.1\nD 0.0\nD 0.0\nP\n",
+        Status::Ok,
+        SHOWN,
+        ONE_EXACT,
+    ),
     (
         ONE,
         b"S\nP\nB 0\n",
@@ -425,11 +431,7 @@ fn traces_of_one_and_two_pictures(rt: HostRuntime) -> Result<(), Fail> {
 // ---- with ends that are lent
 
 // The receiver hears the packets of another sender, which codes a picture flat 64.
-fn hear_another(
-    alloc: Global,
-    params: &Params,
-    receiver: &mut Receiver,
-) -> Result<(), OutOfMemory>
+fn hear_another(alloc: Global, params: &Params, receiver: &mut Receiver) -> Result<(), OutOfMemory>
     requires { IsParams params.now }
     ensures params { receiver.new.params ≡ receiver.old.params }
     ensures played { receiver.new.played ≡ receiver.old.played }

@@ -16,8 +16,9 @@ ghost use Rattle.call_command.specs.Counts.{counts_of};
 ghost use Rattle.call_command.specs.Standing.{EndsStand, HasTaken, PartsReady, PartsStand};
 ghost use Rattle.call_command.specs.Standing.{StoodBefore, going_of, more_of, parts_of, source_of};
 
-use crate::events::{all_event, back_event, packet_event, play_event};
-use crate::events::{reference_of_next, send_kept};
+use crate::events::{
+    all_event, back_event, packet_event, play_event, reference_of_next, send_kept,
+};
 use crate::laws::{ends_run, of_the_video};
 use crate::mind::turn_laws;
 use crate::pass::pass;
