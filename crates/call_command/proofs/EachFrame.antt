@@ -36,7 +36,7 @@ use Rattle.call_command.specs.Counts.{count_of, counts_text, one_exact, one_held
 use Rattle.call_command.specs.declared.terms.Terms.{Terms}
 use Rattle.call_command.specs.Call.{CallState, all_played, by_call, call_begin, call_step, first_state, frame_step, head_step, newest_texts, play_texts, shown_texts, steady, video_step, with_picture}
 use Rattle.call_command.specs.Laws.{CallLaws}
-use Rattle.call_command.specs.Plain.{ShowsEachFrame, lines_of_frames, pictures_of_frames, reconstruction_of}
+use Rattle.call_command.specs.Plain.{ShowsEachFrame, counts_for, status_for, lines_of_frames, pictures_of_frames, reconstruction_of}
 use Rattle.call_command.proofs.After.{at_end, below_end, longer, push_then}
 use Rattle.call_command.proofs.Passing.{half_some}
 use Rattle.call_command.proofs.Plain.{count_is, known_after, plays_after, reference_after}
@@ -117,18 +117,10 @@ module _ (p : Params) (laws : CallLaws p) (below : AllBelowIs) where
 
   -- ---- what a run from a state comes to
 
-  abbrev status_for : Option Y4mFault → Status
-  status_for None = Fine
-  status_for (Some fault) = VideoRefused fault
-
-  abbrev ending_for : Option Y4mFault → ℕ → Text
-  ending_for None n = counts_text n n n 0 0
-  ending_for (Some fault) n = []
-
   record Comes (n : ℕ) (planes : List (List ℕ)) (fault : Option Y4mFault) (run : Run) : Type 0 where
     status : run.last.status ≡ status_for fault
     pictures : text_of run Pictures ≡ pictures_of_frames p planes
-    report : text_of run Report ≡ lines_of_frames n planes ++ ending_for fault (n + length planes)
+    report : text_of run Report ≡ lines_of_frames n planes ++ counts_for fault (n + length planes)
 
   abbrev state : List Frame → List Event → ℕ → ℕ → CallState
   state frames past at more =
@@ -172,8 +164,8 @@ module _ (p : Params) (laws : CallLaws p) (below : AllBelowIs) where
         append_assoc (turn.texts Report) (texts_of run.turns Report) (run.last.texts Report)
         ∙ ap (λ (t : Role → List ℕ). t Report ++ text_of run Report) texts
         ∙ ap (λ (l : List ℕ). picture_text n (Some marks.Exact) (Some None) None ++ l) comes.report
-        ∙ ap (λ (k : ℕ). picture_text n (Some marks.Exact) (Some None) None ++ (lines_of_frames (n + 1) more ++ ending_for fault k)) (one_further n (length more))
-        ∙ sym (append_assoc (picture_text n (Some marks.Exact) (Some None) None) (lines_of_frames (n + 1) more) (ending_for fault (n + length (planes ∷ more))));
+        ∙ ap (λ (k : ℕ). picture_text n (Some marks.Exact) (Some None) None ++ (lines_of_frames (n + 1) more ++ counts_for fault k)) (one_further n (length more))
+        ∙ sym (append_assoc (picture_text n (Some marks.Exact) (Some None) None) (lines_of_frames (n + 1) more) (counts_for fault (n + length (planes ∷ more))));
   }
     where
       one_further : (n k : ℕ) → n + 1 + k ≡ n + suc k
@@ -253,12 +245,18 @@ plain_terms p = record { params = p; plain = true }
 none_before : (n : ℕ) → 0 + n ≡ n
 none_before n = omega arith
 
-module _ (p : Params) (f : Format) (laws : CallLaws (record p { format = f })) (below : AllBelowIs) (frame_laws : FrameLaws) (inputs : Role → List ℕ) (frames : List (List ℕ)) (head : head_of (inputs Video) ≡ Ok f) (planes : video_frames (inputs Video) ≡ frames) (fault : video_fault (inputs Video) ≡ None) where
+module _ (p : Params) (f : Format) (laws : CallLaws (record p { format = f })) (below : AllBelowIs) (frame_laws : FrameLaws) (inputs : Role → List ℕ) (head : head_of (inputs Video) ≡ Ok f) where
   abbrev here : Params
   here = record p { format = f }
 
   abbrev video : List ℕ
   video = inputs Video
+
+  abbrev frames : List (List ℕ)
+  frames = video_frames video
+
+  abbrev fault : Option Y4mFault
+  fault = video_fault video
 
   abbrev rest : CallState → (Role → ℕ) → Run
   rest next taken = run_of call_step 1048576 next (behind inputs taken)
@@ -266,17 +264,33 @@ module _ (p : Params) (f : Format) (laws : CallLaws (record p { format = f })) (
   abbrev run : Run
   run = rest (first_state (plain_terms here) [] (head_size video)) (of Video (head_size video))
 
-  comes : Comes here laws below 0 frames None run
+  comes : Comes here laws below 0 frames fault run
   comes =
-      subst (λ (l : List (List ℕ)). Comes here laws below 0 l None run) (sym (frames_are video f head) ∙ planes)
-      (subst (λ (o : Option Y4mFault). Comes here laws below 0 (frames_of f 1048576 (head_size video) (drop (head_size video) video)) o run) (sym (fault_is video f head) ∙ fault)
+      subst (λ (l : List (List ℕ)). Comes here laws below 0 l fault run) (sym (frames_are video f head))
+      (subst (λ (o : Option Y4mFault). Comes here laws below 0 (frames_of f 1048576 (head_size video) (drop (head_size video) video)) o run) (sym (fault_is video f head))
       (run_comes here laws below frame_laws 1048576 [] [] (head_size video) (behind inputs (of Video (head_size video))) (plain_first here)))
 
-  pub each_frame : ShowsEachFrame p f frames (run_from (call_begin (plain_terms p) inputs) call_step 1048576 inputs)
+  pub each_frame : ShowsEachFrame p f frames fault (run_from (call_begin (plain_terms p) inputs) call_step 1048576 inputs)
   each_frame =
-      subst (λ (r : Result Format Y4mFault). ShowsEachFrame p f frames (follow (head_step (plain_terms p) video r) rest)) (sym head)
+      subst (λ (r : Result Format Y4mFault). ShowsEachFrame p f frames fault (follow (head_step (plain_terms p) video r) rest)) (sym head)
       (record {
         status = comes.status;
         pictures = append_assoc (head_text f) (texts_of run.turns Pictures) (run.last.texts Pictures) ∙ ap (λ (l : List ℕ). head_text f ++ l) comes.pictures;
-        report = comes.report ∙ ap (λ (k : ℕ). lines_of_frames 0 frames ++ counts_text k k k 0 0) (none_before (length frames));
+        report = comes.report ∙ ap (λ (k : ℕ). lines_of_frames 0 frames ++ counts_for fault k) (none_before (length frames));
       })
+
+-- the status of any video
+pub status_is : (p : Params) (inputs : Role → List ℕ) → ((f : Format) → CallLaws (record p { format = f })) → AllBelowIs → FrameLaws
+    → (run_from (call_begin (plain_terms p) inputs) call_step 1048576 inputs).last.status ≡ status_for (video_fault (inputs Video))
+unfolding video_fault
+status_is p inputs laws below frame_laws = by_head (head_of (inputs Video)) refl
+  where
+    refused : (broken : Y4mFault) → head_of (inputs Video) ≡ Err broken → video_fault (inputs Video) ≡ Some broken
+    refused broken is = ap (λ (r : Result Format Y4mFault). fault_behind r (head_size (inputs Video)) (drop (head_size (inputs Video)) (inputs Video))) is
+
+    by_head : (r : Result Format Y4mFault) → head_of (inputs Video) ≡ r
+        → (run_from (call_begin (plain_terms p) inputs) call_step 1048576 inputs).last.status ≡ status_for (video_fault (inputs Video))
+    by_head (Ok f) is = (each_frame p f (laws f) below frame_laws inputs is).status
+    by_head (Err broken) is =
+        ap (λ (r : Result Format Y4mFault). (follow (head_step (plain_terms p) (inputs Video) r) (λ next taken. run_of call_step 1048576 next (behind inputs taken))).last.status) is
+        ∙ sym (ap status_for (refused broken is))

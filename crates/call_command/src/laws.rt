@@ -1,12 +1,13 @@
-//! What a call comes to, and what its machine rests on. Each law is the contract of a function that does nothing
-//! else.
-ghost use Rattle.std.specs.Prelude.{ℕ, List, [], true};
+//! What a call comes to, and what its machine rests on. Each law is the contract of a function that
+//! does nothing else.
+ghost use Rattle.std.specs.Prelude.{◌≡◌, ℕ, List, [], true, Ok};
 ghost use Rattle.h263_types.specs.declared.format.Format.{Format};
 ghost use Rattle.h263_types.specs.declared.params.Params.{Params};
 ghost use Rattle.h263_types.specs.Params.{IsParams};
 ghost use Rattle.h263_outside.specs.declared.desk.Role.{Role};
 ghost use Rattle.h263_outside.specs.declared.desk.Role.TheVariants.{Video};
-ghost use Rattle.y4m.specs.Spelled.{IsVideo};
+ghost use Rattle.y4m.specs.Head.{head_of};
+ghost use Rattle.y4m.specs.Video.{video_fault, video_frames};
 ghost use Rattle.desk_program.specs.Run.{run_from};
 ghost use Rattle.call_model.specs.JoinedRun.{EachEndRuns};
 ghost use Rattle.call_decoding.specs.Rules.{rules_of};
@@ -18,7 +19,7 @@ ghost use Rattle.receiver_end.specs.State.{run_of};
 ghost use Rattle.call_command.specs.Call.{call_begin, call_step, steady};
 ghost use Rattle.call_command.specs.Laws.{CallLaws, MessageLaws, NearLaws, PacketLaws};
 ghost use Rattle.call_command.specs.Laws.{ShowTheSame, VideoLaws};
-ghost use Rattle.call_command.specs.Plain.{ShowsEachFrame};
+ghost use Rattle.call_command.specs.Plain.{ShowsEachFrame, status_for};
 
 use back_messages::MessageFault;
 use call_decoding::laws::are_rules;
@@ -30,19 +31,22 @@ use call_rings::laws::room_of_a_picture;
 use coded_call::laws::{is_coding, said_bytes, two_stores};
 use h263_bits::Fault;
 use h263_types::Mb;
-use y4m::laws::{a_video_is_accepted, cut_behind, frame_by_frame};
+use y4m::laws::{cut_behind, frame_by_frame};
 
-/// Of a video a call shows each frame's reconstruction, as it was coded by itself, in order, and ends
-/// with `Ok`.
+/// Of a video a call shows each frame's reconstruction, as it was coded by itself, in order, up to
+/// the video's first fault (`frames`). So it ends with `Ok` where the video has no fault, and else
+/// refuses the video for its first one (`status`).
 pub fn a_call_shows_each_frame()
-    ensures { (p : Params) (inputs : Role → List ℕ) (f : Format) (frames : List (List ℕ))
-        → IsParams p → IsVideo (inputs Video) f frames
-        → ShowsEachFrame p f frames (run_from (call_begin (record { params = p; plain = true }) inputs) call_step 1048576
-        inputs) }
+    ensures frames { (p : Params) (inputs : Role → List ℕ) (f : Format)
+        → IsParams p → head_of (inputs Video) ≡ Ok f
+        → ShowsEachFrame p f (video_frames (inputs Video)) (video_fault (inputs Video))
+        (run_from (call_begin (record { params = p; plain = true }) inputs) call_step 1048576 inputs) }
+    ensures status { (p : Params) (inputs : Role → List ℕ) → IsParams p
+        → (run_from (call_begin (record { params = p; plain = true }) inputs) call_step 1048576
+        inputs).last.status ≡ status_for (video_fault (inputs Video)) }
 {
     of_the_ends();
     searches();
-    a_video_is_accepted();
     frame_by_frame();
 }
 

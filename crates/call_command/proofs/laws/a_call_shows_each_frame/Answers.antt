@@ -1,8 +1,7 @@
 use Rattle.h263_types.specs.declared.format.Format.{Format}
 use Rattle.h263_types.specs.declared.params.Params.{Params}
 use Rattle.h263_types.specs.Params.{IsParams}
-use Rattle.h263_outside.specs.declared.desk.Role.TheVariants.{Video}
-use Rattle.call_command.proofs.EachFrame.{each_frame}
+use Rattle.call_command.proofs.EachFrame.{each_frame, status_is}
 use Rattle.call_command.proofs.laws.a_call_shows_each_frame.Goals as goal
 
 -- parameters stay in their ranges in another format
@@ -22,7 +21,10 @@ in_format p f is = record {
   messages_high = is.messages_high;
 }
 
-pub returns : goal.returns
-returns c = λ p inputs f frames in_range is.
-    each_frame p f (c.of_the_ends.ensures (record p { format = f }) (in_format p f in_range)) c.searches.ensures.all_below c.frame_by_frame.ensures inputs frames
-    (c.a_video_is_accepted.ensures.format (inputs Video) f frames is) (c.a_video_is_accepted.ensures.frames (inputs Video) f frames is) (c.a_video_is_accepted.ensures.fault (inputs Video) f frames is)
+pub returns-clause-frames : goal.returns-clause-frames
+returns-clause-frames c = λ p inputs f in_range head.
+    each_frame p f (c.of_the_ends.ensures (record p { format = f }) (in_format p f in_range)) c.searches.ensures.all_below c.frame_by_frame.ensures inputs head
+
+pub returns-clause-status : goal.returns-clause-status
+returns-clause-status c = λ p inputs in_range.
+    status_is p inputs (λ f. c.of_the_ends.ensures (record p { format = f }) (in_format p f in_range)) c.searches.ensures.all_below c.frame_by_frame.ensures
