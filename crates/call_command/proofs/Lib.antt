@@ -17,6 +17,7 @@ mod Cutting
 mod LineTurning
 mod Capturing
 mod Networking
+mod Doing
 mod Sent
 mod Saying
 mod Ring

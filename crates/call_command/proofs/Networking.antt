@@ -59,7 +59,7 @@ pub half_few : (clock : Clock) → half_of clock ≤ 512
 half_few Standard = omega arith
 half_few Custom = omega arith
 
-module _ (t : Terms) (near_laws : NearLaws t.params) (recorded : t.plain ≡ false) (sender : State) (receiver : Kept) (carrier : Carrier) (before : List ReceiverEntry) (frames : List Frame) (past : List Event) (begun : (receiver_end.run_of t.params before).played ≡ 0) (h : Holds t sender receiver carrier before frames past) where
+module _ (t : Terms) (near_laws : NearLaws t.params) (recorded : t.plain ≡ false) (sender : State) (receiver : Kept) (carrier : Carrier) (before : List ReceiverEntry) (frames : List Frame) (past : List Event) (h : Holds t sender receiver carrier before frames past) where
   abbrev p : Params
   p = t.params
 
@@ -74,14 +74,14 @@ module _ (t : Terms) (near_laws : NearLaws t.params) (recorded : t.plain ≡ fal
 
   -- ---- a packet
 
-  near_packet : (n j : ℕ) → refusal_after p before frames past (Deliver n j) ≡ None → Near (Deliver n j ∷ past)
+  pub near_packet : (n j : ℕ) → refusal_after p before frames past (Deliver n j) ≡ None → Near (Deliver n j ∷ past)
   near_packet n j none =
       ((near_laws.both frames (both past) (Deliver n j)).0 (any_packet (rules_of p) (length seen.coded) seen.played seen.abouts (length frames) (length seen.coded + 1) n j ∙ none), h.near)
 
   -- its picture is in the ring
-  pub packet_there : (n j : ℕ) → HasCallSizes p carrier.packets → refusal_after p before frames past (Deliver n j) ≡ None
+  pub packet_there : (receiver_end.run_of p before).played ≡ 0 → (n j : ℕ) → HasCallSizes p carrier.packets → refusal_after p before frames past (Deliver n j) ≡ None
       → IsAmongLast p carrier.packets (length (both past).sender.coded) n
-  packet_there n j sizes none =
+  packet_there begun n j sizes none =
       let near = near_packet n j none in
       (near.0.0, omega (arith, near_laws.packets (receiver_end.run_of p before) (steady p) frames past n j begun near, sizes.period_is))
 
@@ -124,8 +124,8 @@ module _ (t : Terms) (near_laws : NearLaws t.params) (recorded : t.plain ≡ fal
       ((near_laws.both frames (both past) (Back k)).0 (any_back (rules_of p) (length seen.coded) seen.played seen.abouts (length frames) (length seen.coded + 1) k ∙ none), h.near)
 
   -- and it is still in the ring
-  pub message_there : IsParams p → (k : ℕ) → refusal_after p before frames past (Back k) ≡ None → length (both past).said ≤ k + 1024
-  message_there in_range k none =
+  pub message_there : (receiver_end.run_of p before).played ≡ 0 → IsParams p → (k : ℕ) → refusal_after p before frames past (Back k) ≡ None → length (both past).said ≤ k + 1024
+  message_there begun in_range k none =
       omega (arith, near_laws.messages (receiver_end.run_of p before) (steady p) frames past k begun (steady_is p in_range) (near_message k none), half_few p.clock, in_range.lead, in_range.slots_high)
 
   pub holds_play : (new : Kept) (messages : MessageRing) (tally : Tally) (mark : Mark) → refusal_after p before frames past Play ≡ None

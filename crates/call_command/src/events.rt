@@ -43,6 +43,7 @@ pub fn send_kept(
     frame: PictureRef<'_>,
 )
     requires params { IsParams terms.now.params }
+    requires recorded { terms.now.plain ≡ false }
     requires ready { IsReady sender.old.state }
     requires sender_params { sender.old.state.params ≡ terms.now.params }
     requires standing { IsStanding (steady terms.now.params) sender.old.state }
@@ -100,6 +101,7 @@ pub fn packet_event(
         (Holds terms.now sender.now.state receiver.new carrier.new before frames
         (Deliver number place ∷ past)) }
 {
+    ends_run();
     of_near_events();
     let half = terms.params.clock.half();
     check_packet(line, half, number, sender.sent(), receiver.played())?;
@@ -142,6 +144,7 @@ pub fn all_event(
         (slices_at (both_after terms.now.params (steady terms.now.params) frames before past).sender.coded number))
         ++ past)) }
 {
+    ends_run();
     of_near_events();
     let half = terms.params.clock.half();
     check_packet(line, half, number, sender.sent(), receiver.played())?;
@@ -175,6 +178,7 @@ pub fn back_event(
         (Holds terms.now sender.new.state receiver carrier.now before frames
         (Back message ∷ past)) }
 {
+    ends_run();
     of_near_events();
     let half = terms.params.clock.half();
     let said = brought(line, half, message, sender.sent(), &carrier.messages)?;
@@ -216,6 +220,7 @@ pub fn play_event(
         ≡ mark_of (played_mark (decoding terms.now.params.format) (rules_of terms.now.params)
         (both_after terms.now.params (steady terms.now.params) frames before past).receiver)) }
 {
+    ends_run();
     of_near_events();
     check_play(line, sender.sent(), receiver.played())?;
     let mark = play_kept(&mut carrier.messages, receiver);
@@ -239,6 +244,6 @@ pub fn reference_of_next(
         (both_after terms.now.params (steady terms.now.params) frames before past).sender.coded
         receiver.now.played }
 {
-    of_near_events();
+    ends_run();
     carrier.references.get(receiver.played())
 }
