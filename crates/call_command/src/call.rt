@@ -19,15 +19,15 @@ use sender_end::Sender;
 use std::alloc::Global;
 use y4m::Y4mReader;
 
-// Both ends of a call. They must be finished.
-struct Both {
-    sender: Sender<FixedPace>,
-    receiver: Receiver,
+/// Both ends of a call. They must be finished.
+pub struct Both {
+    pub sender: Sender<FixedPace>,
+    pub receiver: Receiver,
 }
 
 impl Both {
-    // Both before the first picture.
-    fn start(alloc: Global, params: &Params) -> Result<Both, OutOfMemory>
+    /// Both before the first picture.
+    pub fn start(alloc: Global, params: &Params) -> Result<Both, OutOfMemory>
         requires { IsParams params.now }
         ensures ready { IfOk result (λ both. IsReady both.sender.state) }
         ensures sender_params { IfOk result (λ both. both.sender.state.params ≡ params.now) }
@@ -52,7 +52,8 @@ impl Both {
         }
     }
 
-    fn finish(self) {
+    /// Gives back what they hold.
+    pub fn finish(self) {
         let Both { sender, receiver } = self;
         sender.finish();
         receiver.finish();

@@ -24,9 +24,11 @@ mod tests;
 mod turning;
 mod way;
 
-pub use call::Call;
+pub use call::{Both, Call};
 pub use carrier::Carrier;
 pub use converse::converse;
+pub use events::{all_event, back_event, packet_event, play_event, send_kept};
 pub use references::References;
 pub use tally::Tally;
 pub use terms::Terms;
+pub use turning::tell_counts;

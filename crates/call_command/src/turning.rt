@@ -78,8 +78,8 @@ pub fn take_turn<D: Desk>(
     }
 }
 
-// The counts, at the end of the trace.
-fn tell_counts<D: Desk>(
+/// Writes the counts, at the end of the trace.
+pub fn tell_counts<D: Desk>(
     desk: &mut D,
     sender: &Sender<FixedPace>,
     receiver: &Receiver,
