@@ -23,3 +23,4 @@ mod Saying
 mod Ring
 mod Plain
 mod EachFrame
+mod FaultOfVideo

@@ -1,13 +1,15 @@
 //! What a call comes to, and what its machine rests on. Each law is the contract of a function that
 //! does nothing else.
-ghost use Rattle.std.specs.Prelude.{◌≡◌, ℕ, List, [], true, Ok};
+ghost use Rattle.std.specs.Prelude.{◌≡◌, ℕ, List, [], true, Ok, Some};
 ghost use Rattle.h263_types.specs.declared.format.Format.{Format};
 ghost use Rattle.h263_types.specs.declared.params.Params.{Params};
 ghost use Rattle.h263_types.specs.Params.{IsParams};
 ghost use Rattle.h263_outside.specs.declared.desk.Role.{Role};
 ghost use Rattle.h263_outside.specs.declared.desk.Role.TheVariants.{Video};
+ghost use Rattle.y4m.specs.declared.fault.Y4mFault.{Y4mFault};
 ghost use Rattle.y4m.specs.Head.{head_of};
 ghost use Rattle.y4m.specs.Video.{video_fault, video_frames};
+ghost use Rattle.call_report.specs.declared.status.Status.TheVariants.{VideoRefused};
 ghost use Rattle.desk_program.specs.Run.{run_from};
 ghost use Rattle.call_model.specs.JoinedRun.{EachEndRuns};
 ghost use Rattle.call_decoding.specs.Rules.{rules_of};
@@ -16,7 +18,8 @@ ghost use Rattle.call_model.specs.IdealCall.{Event};
 ghost use Rattle.call_model.specs.JoinedRun.{AllNearBoth};
 ghost use Rattle.call_encoding.specs.Frames.{Frame};
 ghost use Rattle.receiver_end.specs.State.{run_of};
-ghost use Rattle.call_command.specs.Call.{call_begin, call_step, steady};
+ghost use Rattle.call_command.specs.declared.terms.Terms.{Terms};
+ghost use Rattle.call_command.specs.Call.{call_begin, call_step, most_turns, steady};
 ghost use Rattle.call_command.specs.Laws.{CallLaws, MessageLaws, NearLaws, PacketLaws};
 ghost use Rattle.call_command.specs.Laws.{ShowTheSame, VideoLaws};
 ghost use Rattle.call_command.specs.Plain.{ShowsEachFrame, status_for};
@@ -47,6 +50,15 @@ pub fn a_call_shows_each_frame()
 {
     of_the_ends();
     searches();
+    frame_by_frame();
+}
+
+/// A video that is refused has that fault, and no earlier one.
+pub fn refused_videos()
+    ensures { (t : Terms) (inputs : Role → List ℕ) (fault : Y4mFault)
+        → (run_from (call_begin t inputs) call_step (most_turns t.plain) inputs).last.status
+        ≡ VideoRefused fault → video_fault (inputs Video) ≡ Some fault }
+{
     frame_by_frame();
 }
 
