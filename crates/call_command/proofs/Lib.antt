@@ -15,6 +15,7 @@ mod Readying
 mod Alone
 mod Cutting
 mod LineTurning
+mod Behind
 mod Capturing
 mod Networking
 mod Doing

@@ -1,6 +1,6 @@
 //! The events of a line, at both ends and in the network: each is done, or refused.
 ghost use Rattle.std.specs.Prelude.{◌≡◌, ◌+◌, ◌^◌, ◌<◌, ◌≤◌, false, List, ◌∷◌, ◌++◌, None, Some};
-ghost use Rattle.std.specs.Prelude.{IfOk, OnOk, length, slice_get};
+ghost use Rattle.std.specs.Prelude.{IfOk, OnErr, OnOk, length, slice_get};
 ghost use Rattle.h263_types.specs.Params.{IsParams};
 ghost use Rattle.h263_planes.specs.Lent.{picture as lent};
 ghost use Rattle.call_rings.specs.Messages.{said_of};
@@ -93,6 +93,8 @@ pub fn packet_event(
     ensures played { receiver.new.played ≡ receiver.old.played }
     ensures few { said_of carrier.new.messages ≤ said_of carrier.old.messages + 1 }
     ensures others { carrier.new ≡ record carrier.old { messages = carrier.new.messages } }
+    ensures same { OnErr result
+        ((receiver.new ≡ receiver.old) × (carrier.new ≡ carrier.old)) }
     ensures done { (before : List ReceiverEntry) (frames : List Frame) (past : List Event)
         → (receiver_end.run_of terms.now.params before).played ≡ 0
         → Holds terms.now sender.now.state receiver.old carrier.old before frames past
@@ -133,6 +135,8 @@ pub fn all_event(
     ensures played { receiver.new.played ≡ receiver.old.played }
     ensures few { said_of carrier.new.messages ≤ said_of carrier.old.messages + 400 }
     ensures others { carrier.new ≡ record carrier.old { messages = carrier.new.messages } }
+    ensures same { OnErr result
+        ((receiver.new ≡ receiver.old) × (carrier.new ≡ carrier.old)) }
     ensures done { (before : List ReceiverEntry) (frames : List Frame) (past : List Event)
         → (receiver_end.run_of terms.now.params before).played ≡ 0
         → Holds terms.now sender.now.state receiver.old carrier.old before frames past
@@ -170,6 +174,7 @@ pub fn back_event(
     ensures sent { sender.new.state.sent ≡ sender.old.state.sent }
     ensures pace { sender.new.pace ≡ sender.old.pace }
     ensures standing { IsStanding (steady terms.now.params) sender.new.state }
+    ensures same { OnErr result (sender.new ≡ sender.old) }
     ensures done { (receiver : Kept) (before : List ReceiverEntry) (frames : List Frame)
         (past : List Event) → (receiver_end.run_of terms.now.params before).played ≡ 0
         → Holds terms.now sender.old.state receiver carrier.now before frames past
@@ -208,6 +213,8 @@ pub fn play_event(
       messages = carrier.new.messages;
       tally = carrier.new.tally;
     } }
+    ensures same { OnErr result
+        ((receiver.new ≡ receiver.old) × (carrier.new ≡ carrier.old)) }
     ensures done { (before : List ReceiverEntry) (frames : List Frame) (past : List Event)
         → (receiver_end.run_of terms.now.params before).played ≡ 0
         → Holds terms.now sender.now.state receiver.old carrier.old before frames past

@@ -2,7 +2,7 @@
 //!
 //! Every part is lent, so that a machine may own its ends or have them from its caller.
 ghost use Rattle.std.specs.Prelude.{◌≡◌, ◌+◌, ◌*◌, ◌≤◌, ℕ, true, false, List, [], Some, IfErr, OnOk, OnErr};
-ghost use Rattle.h263_outside.specs.Desk.{OnlyWrites, Outside, Rose};
+ghost use Rattle.h263_outside.specs.Desk.{Faults, OnlyWrites, Outside, Rose};
 ghost use Rattle.h263_outside.specs.declared.desk.Role.{Role};
 ghost use Rattle.h263_outside.specs.declared.desk.Role.TheVariants.{Events, Report};
 ghost use Rattle.loss_trace.specs.declared.event.Event.TheVariants as says;
@@ -195,11 +195,51 @@ fn line_turn<D: Desk>(
     ensures rest { KeepsRoles (D.outside desk.old) (D.outside desk.new) }
 {
     turn_laws();
+    ends_run();
     calls();
     let Some((line, event)) = carrier.trace.next(desk)? else {
         tell_counts(desk, sender, receiver, carrier)?;
         return Ok(false);
     };
+    event_turn(desk, line, event, terms, video, sender, receiver, carrier)
+}
+
+// What the line says that was read last is done, or refused.
+fn event_turn<D: Desk>(
+    desk: &mut D,
+    line: u32,
+    event: Event,
+    terms: &Terms,
+    video: &mut Y4mReader,
+    sender: &mut Sender<FixedPace>,
+    receiver: &mut Receiver,
+    carrier: &mut Carrier,
+) -> Result<bool, Status>
+    requires ready { PartsReady
+        (parts_of terms.now video.old sender.old.state receiver.old carrier.old)
+        sender.old.pace.quant (D.outside desk.old).attached }
+    requires recorded { terms.now.plain ≡ false }
+    requires room { said_of carrier.old.messages + 400 ≤ 400 * carrier.old.trace.lines }
+    ensures gives { (before : Outside) (s : CallState) (inputs : Role → List ℕ)
+        → StoodBefore (parts_of terms.now video.old sender.old.state receiver.old carrier.old)
+        s inputs → line ≡ s.lines + 1 → HasTaken inputs before (D.outside desk.old)
+        → TurnGives result (event_step by_ends s inputs (inputs Events) event)
+        (PartsStand (parts_of terms.now video.new sender.new.state receiver.new carrier.new))
+        may_read true inputs before (D.outside desk.new) }
+    ensures trace { carrier.new.trace ≡ carrier.old.trace }
+    ensures goes { OnEnd result ⊥ }
+    ensures ready { OnGoing result (PartsReady
+        (parts_of terms.now video.new sender.new.state receiver.new carrier.new)
+        sender.new.pace.quant (D.outside desk.new).attached) }
+    ensures keeps { (s : CallState) (inputs : Role → List ℕ)
+        → StoodBefore (parts_of terms.now video.old sender.old.state receiver.old carrier.old)
+        s inputs → OnSettled result (EndsStand terms.now sender.new.state receiver.new s) }
+    ensures stop { IfErr result IsStop }
+    ensures cause { HasCause (turn_status result)
+        (D.outside desk.old).faults (D.outside desk.new).faults }
+    ensures rest { KeepsRoles (D.outside desk.old) (D.outside desk.new) }
+{
+    turn_laws();
     match event {
         Event::Nothing => Ok(true),
         Event::Send => send_line(desk, line, terms, video, sender, receiver, carrier),
@@ -216,7 +256,10 @@ fn line_turn<D: Desk>(
 
 // The status of a line that was refused; else the call goes on.
 fn going(done: Result<(), TraceFault>) -> Result<bool, Status>
-    ensures { result ≡ going_of done }
+    ensures value { result ≡ going_of done }
+    ensures goes { OnEnd result ⊥ }
+    ensures stop { IfErr result IsStop }
+    ensures cause { (old new : Faults) → HasCause (turn_status result) old new }
 {
     match done {
         Ok(()) => Ok(true),

@@ -1,0 +1,165 @@
+-- The parts of a call behind the event of a line.
+use Rattle.std.proofs.Common.{◌≡◌, ℕ, zero, suc, ◌+◌, ◌-◌, ◌<◌, ◌≤◌, Bool, true, false, List, [], ◌∷◌, ◌++◌, length, drop, Option, Some, None, Result, Ok, Err, refl, sym, ap, subst, ◌∙◌, arith}
+use Rattle.std.specs.Prelude.{slice_get}
+use Rattle.std.proofs.lemmas.List.{append-nil}
+use Rattle.h263_types.specs.declared.blocks.Mb.{Mb}
+use Rattle.h263_types.specs.declared.params.Params.{Params}
+use Rattle.h263_types.specs.declared.Mark.{Mark}
+use Rattle.h263_planes.specs.Layout.{picture_of}
+use Rattle.h263_planes.specs.Picture.{Picture}
+use Rattle.h263_outside.specs.Desk.{Outside}
+use Rattle.h263_outside.specs.declared.desk.Role.{Role}
+use Rattle.h263_outside.specs.declared.desk.Role.TheVariants.{Video, Events, Pictures, Report}
+use Rattle.y4m.specs.Text.{frame_text}
+use Rattle.y4m.specs.declared.reader.Y4mReader.{Y4mReader}
+use Rattle.loss_trace.specs.declared.event.Event.{Event as Line}
+use Rattle.loss_trace.specs.declared.fault.TraceFault.{TraceFault}
+use Rattle.loss_trace.specs.declared.reader.TraceReader.{TraceReader}
+use Rattle.call_report.specs.declared.status.Status.{Status}
+use Rattle.call_report.specs.Text.{picture_text}
+use Rattle.desk_program.specs.Run.{Step, behind}
+use Rattle.desk_program.specs.Run.Step.{Goes}
+use Rattle.desk_program.specs.Ends.{OnGoing, TurnGives}
+use Rattle.desk_program.specs.Laws.{TurnLaws}
+use Rattle.desk_program.specs.Texts.{and_of, no_texts, of, on, then_also}
+use Rattle.call_model.specs.Coding.{Coding, Rules, Shown}
+use Rattle.call_model.specs.IdealCall.{Event, Send, Deliver, Play, Back, slices_at}
+use Rattle.call_model.specs.JoinedRun.{AllNearBoth, EachEndRuns, Joined, after_both, joined, sender_with_frame}
+use Rattle.call_model.specs.Receiving.{ReceiverRun, ReceiverEntry, played_mark}
+use Rattle.call_model.specs.Refusals.{Refusal}
+use Rattle.call_decoding.specs.Rules.{rules_of}
+use Rattle.call_decoding.specs.Styles.{Style}
+use Rattle.call_encoding.specs.Frames.{Frame}
+use Rattle.coded_call.specs.Coding.{coding}
+use Rattle.sender_end.specs.declared.state.State.{State}
+use Rattle.receiver_end.specs.declared.kept.Kept.{Kept}
+use Rattle.receiver_end.specs.Answers.{mark_of}
+use Rattle.receiver_end.specs.Decoding.{decoding}
+use Rattle.receiver_end.specs.State as receiver_end
+use Rattle.call_command.specs.declared.carrier.Carrier.{Carrier}
+use Rattle.call_command.specs.Trace.{delivered}
+use Rattle.call_command.specs.Both.{bare, both_after}
+use Rattle.call_command.specs.Call.{CallState, after_line, by_ends, event_step, line_size, line_turn, may_read, newest_texts, play_texts, refusal_at, steady, unless, with_frame, with_play}
+use Rattle.call_command.specs.Seen.{Seen, in_both, reference_in}
+use Rattle.call_command.specs.Standing.{EndsStand, HasTaken, Holds, IsDone, Parts, PartsStand, StoodBefore, going_of, refusal_after, row_texts, state_of}
+use Rattle.call_command.proofs.After.{longer, push_then}
+use Rattle.call_command.proofs.Events.{heard_in, played_is, screen_is}
+use Rattle.call_command.proofs.LineTurning.{event_done}
+
+-- ---- frames that come behind
+
+module _ {Frame Style Mb Picture Fault MessageFault : Type 0} (coding : Coding Frame Style Mb Picture Fault MessageFault) (rules : Rules) (begun : ReceiverRun Style Mb Picture) (pace : List ℕ → ℕ) (frames later : List Frame) where
+  get_front : (xs ys : List Frame) (n : ℕ) → n < length xs → slice_get (xs ++ ys) n ≡ slice_get xs n
+  get_front [] ys n few = absurd (omega (arith, few))
+  get_front (x ∷ xs) ys zero few = refl
+  get_front (x ∷ xs) ys (suc n) few = get_front xs ys n (omega (arith, few))
+
+  -- both ends do the same of near events, whatever frames come behind those that were sent
+  pub same_before : (past : List Event) → AllNearBoth coding rules begun pace frames past → joined coding rules begun pace (frames ++ later) past ≡ joined coding rules begun pace frames past
+  same_before [] near = refl
+  same_before (Send ∷ past) near =
+      let w = joined coding rules begun pace frames past in
+      ap (λ (w : Joined Style Mb Picture). after_both coding rules pace (frames ++ later) w Send) (same_before past near.1)
+      ∙ ap (λ (o : Option Frame). after_frame w o) (get_front frames later (length w.sender.coded) near.0.0)
+    where
+      after_frame : Joined Style Mb Picture → Option Frame → Joined Style Mb Picture
+      after_frame w o = record w { sender = sender_with_frame coding rules pace w.sender o }
+  same_before (Deliver n j ∷ past) near = ap (λ (w : Joined Style Mb Picture). after_both coding rules pace frames w (Deliver n j)) (same_before past near.1)
+  same_before (Play ∷ past) near = ap (λ (w : Joined Style Mb Picture). after_both coding rules pace frames w Play) (same_before past near.1)
+  same_before (Back k ∷ past) near = ap (λ (w : Joined Style Mb Picture). after_both coding rules pace frames w (Back k)) (same_before past near.1)
+
+-- ---- an event of a line
+
+-- what the turn gives, where the line says this event and it is answered so
+pub said_gives : (r known : Result Bool Status) (event said : Line) (s : CallState) (inputs : Role → List ℕ) (stands : CallState → (Role → List ℕ) → Type 0) (before now : Outside)
+    → r ≡ known → event ≡ said
+    → TurnGives known (event_step by_ends s inputs (inputs Events) said) stands may_read true inputs before now
+    → TurnGives r (event_step by_ends s inputs (inputs Events) event) stands may_read true inputs before now
+said_gives r known event said s inputs stands before now is says gives =
+    subst (λ (q : Result Bool Status). TurnGives q (event_step by_ends s inputs (inputs Events) event) stands may_read true inputs before now) (sym is)
+    (subst (λ (e : Line). TurnGives known (event_step by_ends s inputs (inputs Events) e) stands may_read true inputs before now) (sym says) gives)
+
+pub on_going : (r : Result Unit TraceFault) (known : Result Bool Status) (P : Type 0) → known ≡ going_of r → P → OnGoing known P
+on_going r known P is p = subst (λ (q : Result Bool Status). OnGoing q P) (sym is) (by_answer r)
+  where
+    by_answer : (r : Result Unit TraceFault) → OnGoing (going_of r) P
+    by_answer (Ok x) = p
+    by_answer (Err fault) = tt
+
+module _ (x : Parts) (s : CallState) (inputs : Role → List ℕ) (k : StoodBefore x s inputs) where
+  abbrev trace : List ℕ
+  trace = inputs Events
+
+  abbrev p : Params
+  p = x.terms.params
+
+  abbrev taken_line : Role → ℕ
+  taken_line = of Events (line_size trace)
+
+  params_is : s.params ≡ p
+  params_is = ap (λ (st : CallState). st.params) k.is
+
+  pub holds_here : Holds x.terms x.sender x.receiver x.carrier s.before s.frames s.past
+  holds_here = subst (λ (l : List Frame). Holds x.terms x.sender x.receiver x.carrier s.before l s.past) (append-nil s.frames) (k.holds [])
+
+  pub ends_stood : EndsStand x.terms x.sender x.receiver s
+  ends_stood = holds_here.joined
+
+  -- the refusal by the state is that by both ends
+  pub refusal_here : (e : Event) → refusal_at by_ends s e ≡ refusal_after p s.before s.frames s.past e
+  refusal_here e = ap (λ (q : Params). refusal_after q s.before s.frames s.past e) params_is
+
+  -- whatever frames come behind
+  refusal_nil : (e : Event) → refusal_at by_ends s e ≡ refusal_after p s.before (s.frames ++ []) s.past e
+  refusal_nil e = refusal_here e ∙ sym (ap (λ (l : List Frame). refusal_after p s.before l s.past e) (append-nil s.frames))
+
+  pub all_done : (r : Result Unit TraceFault) (line : ℕ) (e : Event) (H : List Frame → Type 0)
+      → ((later : List Frame) → IsDone r line e (refusal_after p s.before (s.frames ++ later) s.past e) (H later))
+      → IsDone r line e (refusal_at by_ends s e) ((later : List Frame) → H later)
+  all_done (Ok y) line e H done = (refusal_nil e ∙ (done []).0, λ later. (done later).1)
+  all_done (Err fault) line e H done =
+      let refused = done [] in
+      (refused.0, refusal_nil e ∙ refused.1, refused.2)
+
+  -- ---- an event that takes no frame
+
+  module _ (sender : State) (receiver : Kept) (carrier : Carrier) (trace_same : carrier.trace ≡ x.carrier.trace) (sent_same : sender.sent ≡ x.sender.sent) where
+    abbrev y : Parts
+    y = record { terms = x.terms; video = x.video; sender = sender; receiver = receiver; carrier = carrier }
+
+    pub stands_event : (events : List Event) → ((later : List Frame) → Holds x.terms sender receiver carrier s.before (s.frames ++ later) events)
+        → PartsStand y (after_line (record s { past = events }) trace) (behind inputs taken_line)
+    stands_event events holds = record {
+      is = ap (λ (st : CallState). with_events st events) k.is ∙ (λ i. read_to (sym trace_same i) events);
+      begun = k.begun;
+      sent = sent_same ∙ k.sent;
+      over = λ ended. k.over (ap (λ (r : TraceReader). r.ended) (sym trace_same) ∙ ended);
+      holds = holds;
+    }
+      where
+        with_events : CallState → List Event → CallState
+        with_events st events = record st { past = events }
+
+        read_to : TraceReader → List Event → CallState
+        read_to reader events = record (state_of x s.before s.frames events) { lines = reader.lines; ended = reader.ended }
+
+    pub event_gives : TurnLaws CallState → (before mid : Outside) → HasTaken inputs before mid → (r : Result Unit TraceFault) (line : ℕ) (e : Event) (events : List Event)
+        → line ≡ s.lines + 1
+        → ((later : List Frame) → IsDone r line e (refusal_after p s.before (s.frames ++ later) s.past e) (Holds x.terms sender receiver carrier s.before (s.frames ++ later) events))
+        → TurnGives (going_of r) (unless s trace e (refusal_at by_ends s e) (Goes (after_line (record s { past = events }) trace) (line_turn trace no_texts))) (PartsStand y) may_read true inputs before mid
+    event_gives laws before mid taken r line e events number done =
+        event_done laws s inputs before mid taken r line e (refusal_at by_ends s e) (record s { past = events }) (PartsStand y)
+        ((later : List Frame) → Holds x.terms sender receiver carrier s.before (s.frames ++ later) events)
+        number (all_done r line e (λ later. Holds x.terms sender receiver carrier s.before (s.frames ++ later) events) done)
+        (λ holds. stands_event events holds)
+
+  -- ---- all packets of a picture
+
+  abbrev count_in : Params → List Frame → ℕ → ℕ
+  count_in q frames n = length (slices_at (both_after q (steady q) frames s.before s.past).sender.coded n)
+
+  -- their number is the same whatever frames come behind, and by the state
+  pub count_same : (n : ℕ) (later : List Frame) → count_in p (s.frames ++ later) n ≡ count_in s.params s.frames n
+  count_same n later =
+      ap (λ (both : Joined Style Mb Picture). length (slices_at both.sender.coded n)) (same_before (coding p) (rules_of p) (receiver_end.run_of p s.before) (steady p) s.frames later s.past holds_here.near)
+      ∙ sym (ap (λ (q : Params). count_in q s.frames n) params_is)
