@@ -65,15 +65,15 @@ module _ (rules : Rules) (sent played : ℕ) (abouts : List ℕ) where
   told_by k about = option_map_or (λ t. if nat_le (t + rules.half) sent then Some (Far t sent) else None) about (Some NotSaid)
 
   pub back_unsaid : (pictures k : ℕ) → slice_get abouts k ≡ None → first_refusal rules pictures sent played abouts (Back k) ≡ Some NotSaid
-  unfolding first_refusal
+  unfolding first_refusal told_by
   back_unsaid pictures k none = ap (told_by k) none
 
   pub back_far : (pictures k t : ℕ) → slice_get abouts k ≡ Some t → t + rules.half ≤ sent → first_refusal rules pictures sent played abouts (Back k) ≡ Some (Far t sent)
-  unfolding first_refusal
+  unfolding first_refusal told_by
   back_far pictures k t some far = ap (told_by k) some ∙ ap (λ (b : Bool). if b then Some (Far t sent) else None) (le-leb (t + rules.half) sent far)
 
   pub back_near : (pictures k t : ℕ) → slice_get abouts k ≡ Some t → sent < t + rules.half → first_refusal rules pictures sent played abouts (Back k) ≡ None
-  unfolding first_refusal
+  unfolding first_refusal told_by
   back_near pictures k t some near = ap (told_by k) some ∙ ap (λ (b : Bool). if b then Some (Far t sent) else None) (lt-leb (t + rules.half) sent near)
 
   -- but of a capture it makes no difference how many pictures are there to be sent
