@@ -99,8 +99,8 @@ fn code_predicted(
     );
 }
 
-// Codes a picture into work picture 0 of a store. A P picture refers to the kept picture of this
-// number.
+/// Codes a picture into work picture 0 of a store. A P picture refers to the kept picture of this
+/// number.
 pub fn code_in_store(
     store: &mut PictureStore,
     cutter: &mut Cutter,
@@ -140,7 +140,7 @@ pub fn code_in_store(
     }
 }
 
-// How many bytes the packets have together.
+/// How many bytes the packets have together.
 pub fn size_of(cutter: &Cutter) -> u32
     requires { All (λ p. length p ≤ 9000) (packets_of cutter.now) }
     ensures { result ≡ bytes_in (packets_of cutter.now) }

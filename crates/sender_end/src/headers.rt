@@ -25,7 +25,7 @@ fn places(back: &[Message]) -> [Option<Message>; 4]
     ]
 }
 
-// The header of picture `number`, which has this depth, and whose reference is this one.
+/// The header of picture `number`, which has this depth, and whose reference is this one.
 pub fn header_of(
     params: &Params,
     number: u32,
