@@ -1,22 +1,24 @@
 -- The parts of a call against the state at which they stand.
-use Rattle.std.proofs.Common.{◌≡◌, ◌≢◌, ℕ, Bool, true, false, List, [], ◌++◌, Result, Ok, Err, sym, ap, subst, ◌∙◌}
+use Rattle.std.proofs.Common.{◌≡◌, ℕ, ◌+◌, ◌≤◌, Bool, true, false, List, [], ◌++◌, Result, Ok, Err, OnErr, sym, ap, subst, ◌∙◌, arith}
 use Rattle.std.specs.Prelude.{if◌then◌else◌}
 use Rattle.std.proofs.lemmas.List.{append-nil}
+use Rattle.h263_outside.specs.Desk.{Faults, NoneFalls, Outside, Rose}
 use Rattle.h263_outside.specs.declared.desk.Role.{Role}
 use Rattle.h263_outside.specs.declared.desk.Role.TheVariants.{Video, Events}
+use Rattle.loss_trace.specs.declared.fault.TraceFault.{TraceFault}
 use Rattle.call_report.specs.declared.status.Status.{Status}
 use Rattle.call_report.specs.declared.status.Status.TheVariants.{WriteFault}
 use Rattle.call_report.specs.Status.{Phase, phase}
 use Rattle.call_report.specs.Status.Phase.{finished, refused, unread, unwritten, starved, unasked, unopened}
 use Rattle.desk_program.specs.Run.{Step}
-use Rattle.desk_program.specs.Ends.{OnceSettled, OnSettled}
+use Rattle.desk_program.specs.Ends.{CauseIn, Falls, HasCause, KeepsRoles, OnEnd, OnceSettled, OnSettled}
 use Rattle.call_model.specs.JoinedRun.{EachEndRuns}
 use Rattle.call_decoding.specs.Rules.{rules_of}
 use Rattle.call_encoding.specs.Frames.{Frame}
 use Rattle.coded_call.specs.Coding.{coding}
 use Rattle.call_command.specs.Call.{CallState, by_ends, may_read, steady, talk_step, trace_step, video_step}
 use Rattle.call_command.specs.Counts.{call_text, counts_of, counts_text}
-use Rattle.call_command.specs.Standing.{EndsStand, Holds, Parts, PartsStand, state_of}
+use Rattle.call_command.specs.Standing.{EndsStand, Holds, Parts, PartsStand, going_of, state_of}
 use Rattle.call_command.proofs.Events.{played_is, sent_is}
 
 -- ---- which step it is
@@ -81,3 +83,49 @@ unsettled r P is = subst (λ (y : Result Bool Status). OnSettled y P) (sym is) t
 
 pub ends_stand : (x : Parts) (s : CallState) (inputs : Role → List ℕ) → PartsStand x s inputs → EndsStand x.terms x.sender x.receiver s
 ends_stand x s inputs k = (holds_now x s inputs k).joined
+
+-- ---- how the answers of two steps add up
+
+-- it never comes to its end, or goes on
+pub never_ends : (r : Result Bool Status) (P : Type 0) → OnEnd r ⊥ → OnEnd r P
+never_ends (Ok true) P never = tt
+never_ends (Ok false) P never = absurd never
+never_ends (Err status) P never = tt
+
+-- one turn more was taken, where it goes on
+pub falls_so : (r : Result Bool Status) (old new : ℕ) → new + 1 ≡ old → Falls r old new
+falls_so (Ok true) old new is = is
+falls_so (Ok false) old new is = tt
+falls_so (Err status) old new is = tt
+
+-- a count that rose behind a read rose since before it
+pub cause_since : (status : Status) (old mid new : Faults) → NoneFalls old mid → ((a b c : ℕ) → a ≤ b → Rose b c → Rose a c) → HasCause status mid new → HasCause status old new
+cause_since status old mid new still rose cause = by_phase (phase status) cause
+  where
+    by_phase : (ph : Phase) → CauseIn ph mid new → CauseIn ph old new
+    by_phase unread cause = rose old.read mid.read new.read still.read cause
+    by_phase unwritten cause = rose old.write mid.write new.write still.write cause
+    by_phase (unopened role) cause = rose old.attach mid.attach new.attach still.attach cause
+    by_phase finished cause = tt
+    by_phase refused cause = tt
+    by_phase starved cause = tt
+    by_phase unasked cause = tt
+
+pub keeps_since : (old mid new : Outside) → mid.attached ≡ old.attached → mid.name ≡ old.name → NoneFalls old.faults mid.faults → KeepsRoles mid new → KeepsRoles old new
+keeps_since old mid new attached name still keeps = record {
+  attached = keeps.attached ∙ attached;
+  name = keeps.name ∙ name;
+  faults = record {
+    attach = omega (arith, still.attach, keeps.faults.attach);
+    read = omega (arith, still.read, keeps.faults.read);
+    write = omega (arith, still.write, keeps.faults.write);
+  };
+}
+
+-- what a refusal left as it was is kept
+pub keeps_so : (r : Result Unit TraceFault) (known : Result Bool Status) (Q P : Type 0) → known ≡ going_of r → OnErr r Q → (Q → P) → OnSettled known P
+keeps_so r known Q P is same keeps = subst (λ (q : Result Bool Status). OnSettled q P) (sym is) (by_answer r same)
+  where
+    by_answer : (r : Result Unit TraceFault) → OnErr r Q → OnSettled (going_of r) P
+    by_answer (Ok x) same = tt
+    by_answer (Err fault) same = keeps same

@@ -20,12 +20,13 @@ use Rattle.call_report.specs.declared.status.Status.TheVariants.{Ok as Fine, Tra
 use Rattle.call_report.specs.Status.{phase, trace_stop}
 use Rattle.desk_program.specs.Run.{End, Step, Turn, behind, refusal}
 use Rattle.desk_program.specs.Run.Step.{Goes, Ends}
-use Rattle.desk_program.specs.Ends.{Tells, Gains, GainsFronts, LeavesBehind, Went, Ended, GivesUp, TurnGives}
-use Rattle.desk_program.specs.Texts.{no_texts, of}
+use Rattle.desk_program.specs.Ends.{Tells, Gains, GainsFronts, LeavesBehind, Went, Ended, GivesUp, TurnGives, step_texts}
+use Rattle.desk_program.specs.Texts.{no_texts, of, on}
 use Rattle.desk_program.specs.Laws.{TurnLaws}
 use Rattle.call_model.specs.IdealCall.{Event}
 use Rattle.call_model.specs.Refusals.{Refusal}
-use Rattle.call_command.specs.Call.{CallState, after_line, by_ends, event_step, line_size, line_step, line_turn, may_read, refused_line, trace_step, unless}
+use Rattle.call_command.specs.Call.{CallState, after_line, all_played, by_ends, event_step, line_size, line_step, line_turn, may_read, refused_line, trace_step, unless}
+use Rattle.call_command.specs.Counts.{call_text}
 use Rattle.call_command.specs.Refused.{fault_of}
 use Rattle.call_command.specs.Standing.{HasTaken, IsDone, going_of}
 use Rattle.call_command.proofs.Cutting.{trace_part}
@@ -175,3 +176,49 @@ module _ (laws : TurnLaws CallState) (s : CallState) (inputs : Role → List ℕ
 
     pub found_could : may_read s ≡ true
     found_could = going moves.0
+
+  -- ---- the end of the trace: it was read out before, or is now
+
+  module _ (e : EventGives (Ok None) reader (inputs Events) after (mid.left Events)) (over : reader.ended ≡ true → inputs Events ≡ []) (new : Outside) (still : new.left ≡ mid.left) where
+    nothing : inputs Events ≡ []
+    nothing = by_end reader.ended refl
+      where
+        by_end : (b : Bool) → reader.ended ≡ b → inputs Events ≡ []
+        by_end true is = over is
+        by_end false is = e.1 is
+
+    end_is : trace_step by_ends s inputs (inputs Events) ≡ step_of (all_played (by_ends s))
+    end_is = ap (trace_step by_ends s inputs) nothing
+
+    left_at : (r : Role) → IsInput r → new.left r ≡ Some (inputs r)
+    left_at r input = ap (λ (l : Role → Option (List ℕ)). l r) still ∙ go r input
+      where
+        go : (r : Role) → IsInput r → mid.left r ≡ Some (inputs r)
+        go Video input = others Video (λ same. cc) ∙ told Video input
+        go Events input = e.0
+        go Video2 input = others Video2 (λ same. cc) ∙ told Video2 input
+        go Pictures input = absurd (cc input)
+        go Wire input = absurd (cc input)
+        go Report input = absurd (cc input)
+        go Pictures2 input = absurd (cc input)
+
+    pub read_out : new.left Events ≡ Some []
+    read_out = left_at Events refl ∙ ap (λ (l : List ℕ). Some l) nothing
+
+    pub trace_ends : (text : List ℕ) → text ≡ call_text (by_ends s) → Gains (on Report text) mid.written new.written → Ended (trace_step by_ends s inputs (inputs Events)) Fine inputs old new
+    trace_ends text is gains = record {
+      last = all_played (by_ends s);
+      is = end_is;
+      known = refl;
+      left = λ r input k said. left_at r input ∙ ap (λ (n : ℕ). Some (drop n (inputs r))) (zero_is k (cc said));
+      written = subst (λ (w : Role → Option (List ℕ)). Gains (on Report (call_text (by_ends s))) w new.written) same (subst (λ (l : List ℕ). Gains (on Report l) mid.written new.written) is gains);
+    }
+      where
+        zero_is : (k : ℕ) → 0 ≡ k → 0 ≡ 0 + k
+        zero_is k is = omega (arith, is)
+
+    pub trace_cut : (text : List ℕ) → text ≡ call_text (by_ends s) → GainsFronts (on Report text) mid.written new.written → GainsFronts (step_texts (trace_step by_ends s inputs (inputs Events))) old.written new.written
+    trace_cut text is gains =
+        subst (λ (x : Step CallState). GainsFronts (step_texts x) old.written new.written) (sym end_is)
+        (subst (λ (w : Role → Option (List ℕ)). GainsFronts (on Report (call_text (by_ends s))) w new.written) same
+        (subst (λ (l : List ℕ). GainsFronts (on Report l) mid.written new.written) is gains))
