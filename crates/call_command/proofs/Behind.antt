@@ -23,7 +23,7 @@ use Rattle.call_report.specs.declared.status.Status.TheVariants.{TraceRefused}
 use Rattle.call_report.specs.Text.{picture_text}
 use Rattle.desk_program.specs.Run.{Step, behind}
 use Rattle.desk_program.specs.Run.Step.{Goes}
-use Rattle.desk_program.specs.Ends.{Ended, OnGoing, TurnGives}
+use Rattle.desk_program.specs.Ends.{Ended, Gains, GainsFronts, OnGoing, TurnGives, Went, step_texts}
 use Rattle.desk_program.specs.Laws.{TurnLaws}
 use Rattle.desk_program.specs.Texts.{and_of, no_texts, of, on, then_also}
 use Rattle.call_model.specs.Coding.{Coding, Rules, Shown}
@@ -49,7 +49,7 @@ use Rattle.call_command.specs.Seen.{Seen, in_both, reference_in}
 use Rattle.call_command.specs.Standing.{EndsStand, HasTaken, Holds, IsDone, Parts, PartsStand, StoodBefore, going_of, refusal_after, row_texts, state_of}
 use Rattle.call_command.proofs.After.{longer, push_then}
 use Rattle.call_command.proofs.Events.{heard_in, played_is, screen_is}
-use Rattle.call_command.proofs.LineTurning.{event_done, line_refused, nothing_behind}
+use Rattle.call_command.proofs.LineTurning.{double_not, event_done, line_refused, nothing_behind}
 
 -- ---- frames that come behind
 
@@ -268,3 +268,30 @@ module _ (x : Parts) (s : CallState) (inputs : Role → List ℕ) (k : StoodBefo
       texts_at q n =
           let both : Joined Style Mb Picture = both_after q (steady q) s.frames s.before (Play ∷ s.past) in
           newest_texts n (reference_in both.sender.coded n) both.plays
+
+  -- that row was written, behind the read of the line
+  module _ (before old new : Outside) (taken : HasTaken inputs before old) (still : new.left ≡ old.left) (none : refusal_after p s.before s.frames s.past Play ≡ None)
+      (texts : Role → List ℕ) (texts_are : texts ≡ play_texts (by_ends (with_play s)) (by_ends s).played) where
+    abbrev shown : Role → List ℕ
+    shown = play_texts (by_ends (with_play s)) (by_ends s).played
+
+    play_is : event_step by_ends s inputs trace says.Play ≡ Goes (after_line (with_play s) trace) (line_turn trace shown)
+    play_is = ap (λ (o : Option Refusal). unless s trace Play o (Goes (after_line (with_play s) trace) (line_turn trace shown))) (refusal_here Play ∙ none)
+
+    pub play_goes : (stands : CallState → (Role → List ℕ) → Type 0) → stands (after_line (with_play s) trace) (behind inputs taken_line)
+        → Gains texts old.written new.written → Went (event_step by_ends s inputs trace says.Play) stands may_read true inputs before new
+    play_goes stands kept gains = record {
+      next = after_line (with_play s) trace;
+      turn = line_turn trace shown;
+      could = refl;
+      is = play_is;
+      kept = kept;
+      whole = sym (double_not (is_closed trace));
+      left = λ r input. ap (λ (l : Role → Option (List ℕ)). l r) still ∙ taken.left r input;
+      written = subst (λ (w : Role → Option (List ℕ)). Gains shown w new.written) taken.written (subst (λ (t : Role → List ℕ). Gains t old.written new.written) texts_are gains);
+    }
+
+    pub play_cut : GainsFronts texts old.written new.written → GainsFronts (step_texts (event_step by_ends s inputs trace says.Play)) before.written new.written
+    play_cut gains =
+        subst (λ (step : Step CallState). GainsFronts (step_texts step) before.written new.written) (sym play_is)
+        (subst (λ (w : Role → Option (List ℕ)). GainsFronts shown w new.written) taken.written (subst (λ (t : Role → List ℕ). GainsFronts t old.written new.written) texts_are gains))

@@ -53,7 +53,7 @@ pub nothing_behind : (trace : List ℕ) → is_closed trace ≡ false → drop (
 nothing_behind trace open_end =
     line_gone trace ∙ drop_all trace (length (first_line trace) + 1) (omega (arith, ltb-false (length (first_line trace)) (length trace) open_end))
 
-double_not : (b : Bool) → not (not b) ≡ b
+pub double_not : (b : Bool) → not (not b) ≡ b
 double_not true = refl
 double_not false = refl
 

@@ -231,9 +231,8 @@ fn event_turn<D: Desk>(
     ensures ready { OnGoing result (PartsReady
         (parts_of terms.now video.new sender.new.state receiver.new carrier.new)
         sender.new.pace.quant (D.outside desk.new).attached) }
-    ensures keeps { (s : CallState) (inputs : Role → List ℕ)
-        → StoodBefore (parts_of terms.now video.old sender.old.state receiver.old carrier.old)
-        s inputs → OnSettled result (EndsStand terms.now sender.new.state receiver.new s) }
+    ensures keeps { (s : CallState) → EndsStand terms.now sender.old.state receiver.old s
+        → OnSettled result (EndsStand terms.now sender.new.state receiver.new s) }
     ensures stop { IfErr result IsStop }
     ensures cause { HasCause (turn_status result)
         (D.outside desk.old).faults (D.outside desk.new).faults }
@@ -292,15 +291,15 @@ fn send_line<D: Desk>(
     ensures ready { OnGoing result (PartsReady
         (parts_of terms.now video.new sender.new.state receiver.now carrier.new)
         sender.new.pace.quant (D.outside desk.new).attached) }
-    ensures keeps { (s : CallState) (inputs : Role → List ℕ)
-        → StoodBefore (parts_of terms.now video.old sender.old.state receiver.now carrier.old)
-        s inputs → OnSettled result (EndsStand terms.now sender.new.state receiver.now s) }
+    ensures keeps { (s : CallState) → EndsStand terms.now sender.old.state receiver.now s
+        → OnSettled result (EndsStand terms.now sender.new.state receiver.now s) }
     ensures stop { IfErr result IsStop }
     ensures cause { HasCause (turn_status result)
         (D.outside desk.old).faults (D.outside desk.new).faults }
     ensures rest { KeepsRoles (D.outside desk.old) (D.outside desk.new) }
 {
     turn_laws();
+    ends_run();
     of_the_video();
     let half = terms.params.clock.half();
     if let Err(fault) = check_capture(line, half, sender.sent(), receiver.played()) {
@@ -348,15 +347,15 @@ fn play_line<D: Desk>(
     ensures ready { OnGoing result (PartsReady
         (parts_of terms.now video.now sender.now.state receiver.new carrier.new)
         sender.now.pace.quant (D.outside desk.new).attached) }
-    ensures keeps { (s : CallState) (inputs : Role → List ℕ)
-        → StoodBefore (parts_of terms.now video.now sender.now.state receiver.old carrier.old)
-        s inputs → OnSettled result (EndsStand terms.now sender.now.state receiver.new s) }
+    ensures keeps { (s : CallState) → EndsStand terms.now sender.now.state receiver.old s
+        → OnSettled result (EndsStand terms.now sender.now.state receiver.new s) }
     ensures stop { IfErr result IsStop }
     ensures cause { HasCause (turn_status result)
         (D.outside desk.old).faults (D.outside desk.new).faults }
     ensures rest { KeepsRoles (D.outside desk.old) (D.outside desk.new) }
 {
     turn_laws();
+    ends_run();
     let number = receiver.played();
     let reference = reference_of_next(terms, sender, receiver, carrier);
     match play_event(line, terms, sender, receiver, carrier) {
