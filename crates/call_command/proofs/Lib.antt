@@ -22,6 +22,7 @@ mod Doing
 mod Sent
 mod Saying
 mod Ring
+mod Packing
 mod Plain
 mod EachFrame
 mod FaultOfVideo

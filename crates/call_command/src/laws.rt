@@ -28,12 +28,14 @@ use back_messages::MessageFault;
 use call_decoding::laws::are_rules;
 use call_decoding::{Pictured, Styled};
 use call_encoding::Framed;
-use call_encoding::laws::written_packets;
+use call_encoding::laws::{header_in_range, written_packets};
 use call_model::laws::{by_events, each_end_runs, in_a_call, refusals, rings, searches};
 use call_rings::laws::room_of_a_picture;
 use coded_call::laws::{is_coding, said_bytes, two_stores};
 use h263_bits::Fault;
 use h263_types::Mb;
+use mode_choice::laws::{chosen_is_in_range, one_for_each_place};
+use packet_cutter::laws::by_functions;
 use y4m::laws::{cut_behind, frame_by_frame};
 
 /// Of a video a call shows each frame's reconstruction, as it was coded by itself, in order, up to
@@ -101,8 +103,11 @@ pub fn ends_agree()
 pub fn of_packets()
     ensures { (p : Params) → IsParams p → PacketLaws p }
 {
-    is_coding();
+    header_in_range();
+    one_for_each_place();
+    chosen_is_in_range();
     written_packets();
+    by_functions();
     room_of_a_picture();
 }
 
