@@ -6,5 +6,11 @@
 #![tactic(auto)]
 
 mod demo;
+mod line;
+mod mind;
+mod terms;
+#[cfg(test)]
+mod tests;
 
-pub use demo::DemoTerms;
+pub use demo::Demo;
+pub use terms::DemoTerms;
