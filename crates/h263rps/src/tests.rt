@@ -395,7 +395,6 @@ fn words(rt: HostRuntime) -> Result<(), Fail> {
         &["send", "in", "log"],
         &["recv", "log", "out", "wire", "--quant", "8"],
         &["demo", "1", "60"],
-        &["call", "in", "out", "--trace", "file"],
     ];
     for words in wrong {
         let given = Given {
