@@ -48,7 +48,7 @@ use Rattle.call_command.specs.Refused.{IsAllowed, fault_of}
 use Rattle.call_command.specs.Seen.{Seen, in_both, reference_in}
 use Rattle.call_command.specs.Standing.{EndsStand, HasTaken, Holds, IsDone, Parts, PartsStand, StoodBefore, going_of, refusal_after, row_texts, state_of}
 use Rattle.call_command.proofs.After.{longer, push_then}
-use Rattle.call_command.proofs.Events.{heard_in, played_is, screen_is}
+use Rattle.call_command.proofs.OneMore.{heard_in, played_is, screen_is}
 use Rattle.call_command.proofs.LineTurning.{double_not, event_done, line_refused, nothing_behind}
 
 -- ---- frames that come behind

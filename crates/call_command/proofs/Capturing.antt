@@ -24,7 +24,7 @@ use Rattle.call_command.specs.Both.{bare}
 use Rattle.call_command.specs.Call.{CallState, after_line, capture_step, captured_step, line_size, may_read, refused_line, with_frame}
 use Rattle.call_command.specs.Laws.{VideoLaws}
 use Rattle.call_command.specs.Standing.{HasTaken}
-use Rattle.call_command.proofs.Turning.{Gives, next_is, not_an_err, not_held}
+use Rattle.call_command.proofs.FrameTurning.{Gives, next_is, not_an_err, not_held}
 
 -- ---- a part of a frame holds no turn
 

@@ -19,7 +19,7 @@ use Rattle.coded_call.specs.Coding.{coding}
 use Rattle.call_command.specs.Call.{CallState, by_ends, may_read, steady, talk_step, trace_step, video_step}
 use Rattle.call_command.specs.Counts.{call_text, counts_of, counts_text}
 use Rattle.call_command.specs.Standing.{EndsStand, Holds, Parts, PartsStand, going_of, state_of}
-use Rattle.call_command.proofs.Events.{played_is, sent_is}
+use Rattle.call_command.proofs.OneMore.{played_is, sent_is}
 
 -- ---- which step it is
 

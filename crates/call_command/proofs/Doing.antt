@@ -48,7 +48,7 @@ use Rattle.call_command.specs.Refused.{IsAllowed, fault_of}
 use Rattle.call_command.specs.Seen.{Seen, in_both, reference_in}
 use Rattle.call_command.specs.Standing.{Holds, IsDone, refusal_after}
 use Rattle.call_command.proofs.BothAfter.{counts_near, near_delivered, plays_delivered, sender_delivered}
-use Rattle.call_command.proofs.Events.{played_is, sent_is}
+use Rattle.call_command.proofs.OneMore.{played_is, sent_is}
 use Rattle.call_command.proofs.Networking.{half_few, near_packet}
 use Rattle.call_command.proofs.Refusing.{play_early}
 use Rattle.call_command.proofs.Ring.{abouts_are}

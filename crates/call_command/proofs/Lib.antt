@@ -1,11 +1,11 @@
 mod Trace
 mod Joining
 mod BothAfter
-mod Events
+mod OneMore
 mod Passing
 mod Agreeing
 mod Refusing
-mod Turning
+mod FrameTurning
 mod After
 mod Writing
 mod Starting

@@ -44,7 +44,7 @@ use Rattle.call_command.specs.Network.{HasCallSizes, HasMessages, HasPackets, Ha
 use Rattle.call_command.specs.Seen.{Seen, in_both}
 use Rattle.call_command.specs.Standing.{Holds, refusal_after, with_packets_kept}
 use Rattle.call_command.proofs.BothAfter.{coded_brought}
-use Rattle.call_command.proofs.Events.{packets_are, sent_is}
+use Rattle.call_command.proofs.OneMore.{packets_are, sent_is}
 use Rattle.call_command.proofs.Joining.{coded_sent}
 use Rattle.call_command.proofs.Passing.{count_more, steady_is}
 use Rattle.call_command.proofs.Refusing.{any_back, any_packet, any_play, capture_not_far}

@@ -41,7 +41,7 @@ use Rattle.call_command.specs.Standing.{Holds, Parts, PartsStand, row_texts, sta
 use Rattle.call_model.specs.JoinedRun.{EachEndRuns}
 use Rattle.call_command.proofs.After.{at_end, below_end, longer, push_then}
 use Rattle.call_command.proofs.BothAfter.{near_delivered, played_delivered, plays_delivered, sender_delivered}
-use Rattle.call_command.proofs.Events.{heard_in, played_is, screen_is, sent_is}
+use Rattle.call_command.proofs.OneMore.{heard_in, played_is, screen_is, sent_is}
 use Rattle.call_command.proofs.Joining.{coded_sent, last_is}
 use Rattle.call_command.proofs.Passing.{count_more, half_some}
 

@@ -5,7 +5,7 @@ use Rattle.call_report.specs.declared.status.Status.TheVariants.{OutOfMemory}
 use Rattle.call_model.specs.Receiving.{ReceiverEntry}
 use Rattle.desk_program.specs.Run.{Run, Step, run_of, end_state, refusal}
 use Rattle.desk_program.specs.Run.Step.{Ends}
-use Rattle.call_command.specs.declared.converse.World.{World}
+use Rattle.call_command.specs.declared.lent.World.{World}
 use Rattle.call_command.specs.declared.terms.Terms.{Terms}
 use Rattle.call_command.specs.Call.{CallState, first_state, most_turns, talk_step}
 use Rattle.call_command.specs.Standing.{EndsStand, Parts, PartsReady, PartsStand}

@@ -8,10 +8,10 @@
 
 mod call;
 mod carrier;
-mod converse;
 mod ends;
 mod events;
 pub mod laws;
+mod lent;
 mod mind;
 mod pass;
 mod references;
@@ -26,8 +26,8 @@ mod way;
 
 pub use call::{Both, Call};
 pub use carrier::Carrier;
-pub use converse::converse;
 pub use events::{all_event, back_event, packet_event, play_event, send_kept};
+pub use lent::converse;
 pub use references::References;
 pub use tally::Tally;
 pub use terms::Terms;

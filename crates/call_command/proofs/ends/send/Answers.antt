@@ -1,6 +1,6 @@
 use Rattle.call_command.specs.Both.{bare}
 use Rattle.h263_planes.specs.Lent.{picture}
-use Rattle.call_command.proofs.Events.{sent_in, after_send, send_tells}
+use Rattle.call_command.proofs.OneMore.{sent_in, after_send, send_tells}
 use Rattle.call_command.proofs.ends.send.Goals as goal
 
 pub returns-clause-joined : goal.returns-clause-joined

@@ -26,7 +26,7 @@ use Rattle.call_command.specs.Standing.{PartsStand, parts_of, state_of}
 use Rattle.call_command.proofs.Counting.{counts_are, ends_stand, plainly, settled}
 use Rattle.call_command.proofs.PassedOn.{passed_so, row_is, stands_behind}
 use Rattle.call_command.proofs.Readying.{ready_frame}
-use Rattle.call_command.proofs.Turning.{cut_gives, end_cut, frame_cut, frame_goes, frame_stops, given, gives_so, turn_gives, video_ends}
+use Rattle.call_command.proofs.FrameTurning.{cut_gives, end_cut, frame_cut, frame_goes, frame_stops, given, gives_so, turn_gives, video_ends}
 use Rattle.call_command.proofs.turning.frame_turn.Goals as goal
 
 pub returns-in_err-frame-clause-gives : goal.returns-in_err-frame-clause-gives

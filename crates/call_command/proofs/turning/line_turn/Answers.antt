@@ -19,7 +19,7 @@ use Rattle.call_command.proofs.Behind.{stood_behind}
 use Rattle.call_command.proofs.Counting.{cause_since, counts_are, ends_stand, falls_so, keeps_since, line_by_line, never_ends, settled, unsettled}
 use Rattle.call_command.proofs.LineTurning.{found_could, found_is, found_number, found_taken, read_out, trace_cut, trace_ends, trace_stops}
 use Rattle.call_command.proofs.Readying.{ready_read}
-use Rattle.call_command.proofs.Turning.{cut_gives, turn_gives}
+use Rattle.call_command.proofs.FrameTurning.{cut_gives, turn_gives}
 use Rattle.call_command.proofs.turning.line_turn.Goals as goal
 
 -- what the reader says, where its answer is known

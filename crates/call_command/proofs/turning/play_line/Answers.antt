@@ -17,7 +17,7 @@ use Rattle.call_command.specs.Standing.{EndsStand, PartsStand, parts_of, row_tex
 use Rattle.call_command.proofs.Behind.{event_refused, holds_here, play_cut, play_goes, row_played, stands_event}
 use Rattle.call_command.proofs.Counting.{settled, unsettled}
 use Rattle.call_command.proofs.Readying.{opens_still, ready_line}
-use Rattle.call_command.proofs.Turning.{cut_gives, turn_gives}
+use Rattle.call_command.proofs.FrameTurning.{cut_gives, turn_gives}
 use Rattle.call_command.proofs.turning.play_line.Goals as goal
 
 pub returns-in-Err-clause-gives : goal.returns-in-Err-clause-gives

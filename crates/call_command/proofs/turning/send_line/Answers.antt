@@ -35,7 +35,7 @@ use Rattle.call_command.proofs.Capturing.{frame_missing, frame_sent, frame_stops
 use Rattle.call_command.proofs.Counting.{settled}
 use Rattle.call_command.proofs.Doing.{told_is}
 use Rattle.call_command.proofs.Readying.{ready_sent}
-use Rattle.call_command.proofs.Turning.{given, gives_so, turn_gives}
+use Rattle.call_command.proofs.FrameTurning.{given, gives_so, turn_gives}
 use Rattle.call_command.proofs.turning.send_line.Goals as goal
 
 pub returns-in-Err-clause-gives : goal.returns-in-Err-clause-gives

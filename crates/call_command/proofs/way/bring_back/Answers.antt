@@ -4,7 +4,7 @@ use Rattle.call_model.specs.Sending.{SenderEntry, Feedback}
 use Rattle.call_encoding.specs.Frames.{Frame}
 use Rattle.sender_end.specs.Stands as sender_end
 use Rattle.call_command.specs.Network.{told_in}
-use Rattle.call_command.proofs.Events.{after_message, sent_in}
+use Rattle.call_command.proofs.OneMore.{after_message, sent_in}
 use Rattle.call_command.proofs.way.bring_back.Goals as goal
 
 pub returns-clause-standing : goal.returns-clause-standing

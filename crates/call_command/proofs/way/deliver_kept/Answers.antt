@@ -14,7 +14,7 @@ use Rattle.receiver_end.specs.Answers.{IsMessage}
 use Rattle.receiver_end.specs.Decoding.{decoding}
 use Rattle.call_command.specs.Both.{both_after}
 use Rattle.call_command.specs.Network.{HasMessages, told_in, with_said}
-use Rattle.call_command.proofs.Events.{after_none}
+use Rattle.call_command.proofs.OneMore.{after_none}
 use Rattle.call_command.proofs.Ring.{kept_is}
 use Rattle.call_command.proofs.Saying.{heard_message, heard_told, kept_told, message_in}
 use Rattle.call_command.proofs.way.deliver_kept.Goals as goal

@@ -6,7 +6,7 @@ use Rattle.call_decoding.specs.Rules.{rules_of}
 use Rattle.receiver_end.specs.Decoding.{decoding}
 use Rattle.call_command.specs.Both.{both_after}
 use Rattle.call_command.specs.Network.{HasMessages, with_said}
-use Rattle.call_command.proofs.Events.{played_is}
+use Rattle.call_command.proofs.OneMore.{played_is}
 use Rattle.call_command.proofs.Saying.{kept_told, told_of}
 use Rattle.call_command.proofs.way.play_kept.Goals as goal
 

@@ -14,7 +14,7 @@ use Rattle.call_command.specs.Call.{CallState, call_begin, first_state, may_read
 use Rattle.call_command.specs.Machine.{CallStands, parts_in}
 use Rattle.call_command.specs.Standing.{PartsStand}
 use Rattle.call_command.proofs.Starting.{ready_first, stands_first}
-use Rattle.call_command.proofs.Turning.{cut_gives, head_cut, head_goes, head_stops, start_gives}
+use Rattle.call_command.proofs.FrameTurning.{cut_gives, head_cut, head_goes, head_stops, start_gives}
 use Rattle.call_command.proofs.call.CallTurns.start.Goals as goal
 
 pub returns-in_err-video-clause-gives : goal.returns-in_err-video-clause-gives

@@ -1,9 +1,9 @@
 use Rattle.std.proofs.Common.{◌≡◌, refl, sym, subst, ◌∙◌}
-use Rattle.call_command.specs.declared.converse.World.{World}
+use Rattle.call_command.specs.declared.lent.World.{World}
 use Rattle.call_command.specs.Call.{first_state, may_read, most_turns, talk_step}
 use Rattle.call_command.specs.Converse.{WorldStands, parts_of_world, talk_end}
 use Rattle.call_command.proofs.Starting.{stands_first}
-use Rattle.call_command.proofs.converse.converse.Goals as goal
+use Rattle.call_command.proofs.lent.converse.Goals as goal
 
 -- the machine stands before the first event
 first_stands : goal.returns-in-Ok-clause-gives
