@@ -48,7 +48,7 @@ pub fn send_kept(
     requires sender_params { sender.old.state.params ≡ terms.now.params }
     requires standing { IsStanding (steady terms.now.params) sender.old.state }
     requires quant { sender.old.pace.quant ≡ terms.now.params.quant }
-    requires frame { (lent frame.entry).format ≡ sender.old.state.params.format }
+    requires frame { (lent frame).format ≡ sender.old.state.params.format }
     requires left { sender.old.state.sent < 1048576 }
     requires packets { ArePacketsReady terms.now sender.old.state packets.old }
     ensures ready { IsReady sender.new.state }

@@ -16,7 +16,7 @@ returns-in_err-check_packet-clause-done c = λ before frames past begun h.
     let event = Deliver c.args.number 0 in
     is_refused c.from_residual.result c.in_err-check_packet.field-0.0 c.args.line event _ _ _ c.from_residual.ensures.1
     (told_is t runs c.args.sender.now.state c.args.receiver.now c.args.carrier.now before frames past h c.sent.result c.played.result seen.abouts event c.sent.ensures.value c.played.ensures.count refl)
-    (c.in_err-check_packet.ensures (rules_of t.params) seen.abouts 0 c.half.ensures)
+    (c.in_err-check_packet.ensures (rules_of t.params) seen.abouts 0 c.half-half.ensures)
 
 pub returns-clause-done : goal.returns-clause-done
 returns-clause-done c = λ before frames past begun h.
@@ -29,7 +29,7 @@ returns-clause-done c = λ before frames past begun h.
     let both = both_after t.params (steady t.params) frames before past in
     let event = Deliver c.args.number 0 in
     let none = sym (told_is t runs sender receiver carrier before frames past h c.sent.result c.played.result (in_both both).abouts event c.sent.ensures.value c.played.ensures.count refl)
-    ∙ c.in_ok-check_packet.ensures (rules_of t.params) (in_both both).abouts 0 c.half.ensures
+    ∙ c.in_ok-check_packet.ensures (rules_of t.params) (in_both both).abouts 0 c.half-half.ensures
     in
     let kept = h.network c.requires.recorded in
     let among = packet_there t near_laws c.requires.recorded sender receiver carrier before frames past h begun c.args.number 0 c.requires.packets.sizes none in (

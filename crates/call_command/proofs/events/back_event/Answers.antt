@@ -26,7 +26,7 @@ returns-in_err-said-clause-done c = λ receiver before frames past begun h.
     in
     let there = message_there t near_laws c.requires.recorded sender receiver carrier before frames past h begun c.requires.params c.args.message in
     is_refused c.from_residual.result c.in_err-said.field-0.0 c.args.line event _ _ _ c.from_residual.ensures.1 told
-    (c.in_err-said.ensures (rules_of t.params) receiver.played said.pairs c.half.ensures said.holds
+    (c.in_err-said.ensures (rules_of t.params) receiver.played said.pairs c.half-half.ensures said.holds
     (λ none. omega (arith, there (sym told ∙ none), ap (λ (l : List Told). length l) said.same, as_many told_in said.pairs)))
 
 pub returns-clause-standing : goal.returns-clause-standing
@@ -47,7 +47,7 @@ returns-clause-done c = λ receiver before frames past begun h.
     (abouts_in_all t runs sender receiver carrier before frames past h said.pairs said.same)
     in
     let there = message_there t near_laws c.requires.recorded sender receiver carrier before frames past h begun c.requires.params c.args.message in
-    let found = c.in_ok-said.ensures (rules_of t.params) receiver.played said.pairs c.half.ensures said.holds
+    let found = c.in_ok-said.ensures (rules_of t.params) receiver.played said.pairs c.half-half.ensures said.holds
     (λ none. omega (arith, there (sym told ∙ none), ap (λ (l : List Told). length l) said.same, as_many told_in said.pairs))
     in
     let none = sym told ∙ found.0 in

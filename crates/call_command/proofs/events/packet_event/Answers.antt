@@ -17,7 +17,7 @@ returns-in_err-check_packet-clause-done c = λ before frames past begun h.
     let event = Deliver c.args.number c.args.place in
     is_refused c.from_residual.result c.in_err-check_packet.field-0.0 c.args.line event _ _ _ c.from_residual.ensures.1
     (told_is t runs c.args.sender.now.state c.args.receiver.now c.args.carrier.now before frames past h c.sent.result c.played.result seen.abouts event c.sent.ensures.value c.played.ensures.count refl)
-    (c.in_err-check_packet.ensures (rules_of t.params) seen.abouts c.args.place c.half.ensures)
+    (c.in_err-check_packet.ensures (rules_of t.params) seen.abouts c.args.place c.half-half.ensures)
 
 pub returns-clause-done : goal.returns-clause-done
 returns-clause-done c = λ before frames past begun h.
@@ -30,7 +30,7 @@ returns-clause-done c = λ before frames past begun h.
     let seen = in_both (both_after t.params (steady t.params) frames before past) in
     let event = Deliver c.args.number c.args.place in
     let none = sym (told_is t runs sender receiver carrier before frames past h c.sent.result c.played.result seen.abouts event c.sent.ensures.value c.played.ensures.count refl)
-    ∙ c.in_ok-check_packet.ensures (rules_of t.params) seen.abouts c.args.place c.half.ensures
+    ∙ c.in_ok-check_packet.ensures (rules_of t.params) seen.abouts c.args.place c.half-half.ensures
     in
     let kept = h.network c.requires.recorded in
     let among = packet_there t near_laws c.requires.recorded sender receiver carrier before frames past h begun c.args.number c.args.place c.requires.packets.sizes none in (

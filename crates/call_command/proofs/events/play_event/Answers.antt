@@ -1,4 +1,4 @@
-use Rattle.std.proofs.Common.{refl, sym, ◌∙◌, arith, []}
+use Rattle.std.proofs.Common.{◌+◌, refl, sym, ◌∙◌, arith, []}
 use Rattle.call_model.specs.IdealCall.{Play}
 use Rattle.call_decoding.specs.Rules.{rules_of}
 use Rattle.call_command.specs.Both.{both_after}
@@ -17,8 +17,8 @@ returns-in_err-check_play-clause-done c = λ before frames past begun h.
     (told_is t runs c.args.sender.now.state c.args.receiver.now c.args.carrier.now before frames past h c.sent.result c.played.result seen.abouts Play c.sent.ensures.value c.played.ensures.count refl)
     (c.in_err-check_play.ensures (rules_of t.params) seen.abouts)
 
-pub play_kept-requires-clause-played : goal.play_kept-requires-clause-played
-play_kept-requires-clause-played c =
+pub play_kept-mark-requires-clause-played : goal.play_kept-mark-requires-clause-played
+play_kept-mark-requires-clause-played c =
     let rules = rules_of c.args.terms.now.params in
     let ahead = play_not_early rules (c.sent.result + 1) c.sent.result c.played.result [] (c.in_ok-check_play.ensures rules []) in
     omega (arith, ahead, c.sent.ensures.value, c.played.ensures.count, c.requires.few)

@@ -46,7 +46,7 @@ returns-in-Err-clause-gives g c = λ before s inputs k number taken.
     let seen = in_both (both_after t.params (steady t.params) s.frames s.before s.past) in
     let told = told_is t (c.ends_run.ensures t.params) x.sender x.receiver x.carrier s.before s.frames s.past (holds_here x s inputs k) c.sent.result c.played.result seen.abouts Send c.sent.ensures.value c.played.ensures.count refl in
     event_refused x s inputs k c.turn_laws.ensures before (outside c.args.desk.now) taken c.in-Err.fault c.args.line Send (capture_step s (inputs Events) (inputs Video)) number
-    (subst (λ (o : Option Refusal). IsAllowed (Err c.in-Err.fault) c.args.line Send o) told (c.in-Err.ensures (rules_of t.params) seen.abouts c.half.ensures))
+    (subst (λ (o : Option Refusal). IsAllowed (Err c.in-Err.fault) c.args.line Send o) told (c.in-Err.ensures (rules_of t.params) seen.abouts c.half-half.ensures))
 
 pub returns-in_err-frame-clause-gives : goal.returns-in_err-frame-clause-gives
 returns-in_err-frame-clause-gives g c = λ before s inputs k number taken.
@@ -57,7 +57,7 @@ returns-in_err-frame-clause-gives g c = λ before s inputs k number taken.
     let x = parts_of t c.args.video.now c.args.sender.now.state c.args.receiver.now c.args.carrier.now in
     let seen = in_both (both_after t.params (steady t.params) s.frames s.before s.past) in
     let told = told_is t (c.ends_run.ensures t.params) x.sender x.receiver x.carrier s.before s.frames s.past (holds_here x s inputs k) c.sent.result c.played.result seen.abouts Send c.sent.ensures.value c.played.ensures.count refl in
-    let none = sym told ∙ c.in_default.ensures (rules_of t.params) seen.abouts c.half.ensures in
+    let none = sym told ∙ c.in_default.ensures (rules_of t.params) seen.abouts c.half-half.ensures in
     let stop = c.in_err-frame.field-0.0 in
     let out = c.frame.new.out in
     let stands = PartsStand (parts_of t c.frame.new.self x.sender x.receiver (record c.args.carrier.now { frame = with_items c.args.carrier.now.frame out })) in
@@ -78,7 +78,7 @@ returns-then-not-branch-clause-gives g c = λ before s inputs k number taken.
     let x = parts_of t c.args.video.now c.args.sender.now.state c.args.receiver.now c.args.carrier.now in
     let seen = in_both (both_after t.params (steady t.params) s.frames s.before s.past) in
     let told = told_is t (c.ends_run.ensures t.params) x.sender x.receiver x.carrier s.before s.frames s.past (holds_here x s inputs k) c.sent.result c.played.result seen.abouts Send c.sent.ensures.value c.played.ensures.count refl in
-    let none = sym told ∙ c.in_default.ensures (rules_of t.params) seen.abouts c.half.ensures in
+    let none = sym told ∙ c.in_default.ensures (rules_of t.params) seen.abouts c.half-half.ensures in
     let out = c.frame.new.out in
     let e = gives_so (Ok false) s c.args.video.now c.frame.new.self (inputs Video) out _ (video_more x s inputs k) (video_place x s inputs k) (video_format x s inputs k c.requires.ready.format)
     (given (Ok c.in_ok-frame.field-0) (Ok false) c.args.video.now c.frame.new.self (inputs Video) out _ (ap (λ (b : Bool). Ok b) c.if-not-branch.true) (c.in_ok-frame.ensures.gives (inputs Video) (taken.left Video refl)))
@@ -100,7 +100,7 @@ returns-clause-gives g c = λ before s inputs k number taken.
     let mid = outside c.frame.new.desk in
     let x = parts_of t c.args.video.now c.args.sender.now.state c.args.receiver.now c.args.carrier.now in
     let told = λ (frames : List Frame) h. told_is t runs x.sender x.receiver x.carrier s.before frames s.past h c.sent.result c.played.result (in_both (both_after p (steady p) frames s.before s.past)).abouts Send c.sent.ensures.value c.played.ensures.count refl in
-    let none = λ (frames : List Frame) h. sym (told frames h) ∙ c.in_default.ensures (rules_of p) (in_both (both_after p (steady p) frames s.before s.past)).abouts c.half.ensures in
+    let none = λ (frames : List Frame) h. sym (told frames h) ∙ c.in_default.ensures (rules_of p) (in_both (both_after p (steady p) frames s.before s.past)).abouts c.half-half.ensures in
     let out = c.frame.new.out in
     let e = gives_so (Ok true) s c.args.video.now c.frame.new.self (inputs Video) out _ (video_more x s inputs k) (video_place x s inputs k) (video_format x s inputs k c.requires.ready.format)
     (given (Ok c.in_ok-frame.field-0) (Ok true) c.args.video.now c.frame.new.self (inputs Video) out _ (ap (λ (b : Bool). Ok b) c.if-not-branch.false) (c.in_ok-frame.ensures.gives (inputs Video) (taken.left Video refl)))
