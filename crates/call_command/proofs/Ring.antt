@@ -1,13 +1,15 @@
 -- What the rings have is what was sent and said.
-use Rattle.std.proofs.Common.{◌≡◌, ℕ, zero, suc, ◌+◌, ◌<◌, ◌≤◌, Bool, true, List, [], ◌∷◌, ◌++◌, length, Option, Some, None, refl, sym, ap, subst, ◌∙◌, arith}
+use Rattle.std.proofs.Common.{◌≡◌, ℕ, zero, suc, ◌+◌, ◌<◌, ◌≤◌, Bool, true, List, [], ◌∷◌, ◌++◌, length, take, Option, Some, None, refl, sym, ap, subst, ◌∙◌, arith}
 use Rattle.std.specs.Prelude.{map, nat_le, nat_lt, slice_get, slice_index_or, if◌then◌else◌}
-use Rattle.std.specs.Option.{option_map}
+use Rattle.std.specs.Option.{option_map, option_map_or}
 use Rattle.std.proofs.lemmas.Bool.{and_from, le-leb, lt-ltb}
 use Rattle.h263_types.specs.declared.blocks.Mb.{Mb}
 use Rattle.h263_types.specs.declared.params.Params.{Params}
 use Rattle.h263_planes.specs.Picture.{Picture}
 use Rattle.back_messages.specs.declared.writing.Said.{Said}
+use Rattle.call_model.specs.Coding.{Header, Slice}
 use Rattle.call_model.specs.CodedPictures.{Coded}
+use Rattle.call_model.specs.IdealCall.{slices_at}
 use Rattle.call_model.specs.JoinedRun.{Told}
 use Rattle.call_model.specs.Sending as call
 use Rattle.call_decoding.specs.Rules.{rules_of}
@@ -29,6 +31,19 @@ kept_is p packets coded n has among =
 -- a packet that is there
 pub some_packet : (o : Option (List ℕ)) (got : Option (List ℕ)) (bytes : List ℕ) → o ≡ got → o ≡ Some bytes → got ≡ Some bytes
 some_packet o got bytes same is = sym same ∙ is
+
+-- a picture has as many packets as slices
+pub count_is : (p : Params) (coded : List (Coded Style Mb Picture)) (n : ℕ)
+    → ((number sequence : ℕ) (h : Header Style) (slices : List (Slice Mb)) → length ((encoding p).packets number sequence h slices) ≡ length slices)
+    → length (call.packets_of (encoding p) (rules_of p) coded n) ≡ length (slices_at coded n)
+unfolding call.packets_of slices_at
+count_is p coded n count = by_slot (slice_get coded n)
+  where
+    by_slot : (o : Option (Coded Style Mb Picture))
+        → length (option_map_or (λ (x : Coded Style Mb Picture). (encoding p).packets n (call.packets_before (take n coded)) (call.header_of (rules_of p) n x) x.slices) o [])
+        ≡ length (option_map_or (λ (x : Coded Style Mb Picture). x.slices) o [])
+    by_slot None = refl
+    by_slot (Some x) = count n (call.packets_before (take n coded)) (call.header_of (rules_of p) n x) x.slices
 
 -- ---- messages
 

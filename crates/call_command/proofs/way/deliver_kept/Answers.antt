@@ -16,7 +16,7 @@ use Rattle.call_command.specs.Both.{both_after}
 use Rattle.call_command.specs.Network.{HasMessages, told_in, with_said}
 use Rattle.call_command.proofs.OneMore.{after_none}
 use Rattle.call_command.proofs.Ring.{kept_is}
-use Rattle.call_command.proofs.Saying.{heard_message, heard_told, kept_told, message_in}
+use Rattle.call_command.proofs.Saying.{heard_message, heard_told, kept_told, message_in, told_of}
 use Rattle.call_command.proofs.way.deliver_kept.Goals as goal
 
 -- no such packet is there
@@ -70,7 +70,7 @@ returns-clause-kept c = λ p pace sender frames before past both has among messa
       pairs = with_said messages.pairs n c.said_in.result;
       holds = c.keep_message.ensures.kept messages.pairs messages.holds;
       same = kept_told laws.said p.clock messages.pairs n c.said_in.result (message_in answer) says c.keep_message.ensures.bytes
-          ∙ ap (λ (l : List Told). l ++ _) messages.same
+          ∙ ap (λ (l : List Told). l ++ told_of n (message_in answer)) messages.same
           ∙ ap (λ (l : List Told). w.said ++ l) (sym (heard_told n answer));
     } in
     subst (λ (o : Option (List ℕ)). HasMessages c.keep_message.new.messages (option_map_or (after_bytes (coding p) (rules_of p) w n) o w).said) (sym there) said
