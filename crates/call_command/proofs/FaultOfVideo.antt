@@ -1,5 +1,5 @@
 -- A video that a call refuses has that fault.
-use Rattle.std.proofs.Common.{◌≡◌, ℕ, zero, suc, ◌+◌, ◌-◌, ◌<◌, Bool, true, false, List, [], ◌∷◌, length, drop, Option, Some, None, Result, Ok, Err, refl, sym, ap, ◌∙◌, arith, nat_lt}
+use Rattle.std.proofs.Common.{◌≡◌, ℕ, zero, suc, ◌+◌, ◌-◌, ◌<◌, Bool, true, false, List, [], ◌∷◌, length, drop, Option, Some, None, Result, Ok, Err, refl, sym, ap, ◌∙◌, subst, arith, nat_lt, if◌then◌else◌}
 use Rattle.h263_outside.specs.declared.desk.Role.{Role}
 use Rattle.h263_outside.specs.declared.desk.Role.TheVariants.{Video, Events}
 use Rattle.h263_types.specs.declared.format.Format.{Format}
@@ -18,7 +18,7 @@ use Rattle.call_model.specs.Refusals.{Refusal}
 use Rattle.desk_program.specs.Run.{Run, Step, behind, follow, run_from, run_of, silence}
 use Rattle.desk_program.specs.Texts.{of, and_of}
 use Rattle.call_command.specs.declared.terms.Terms.{Terms}
-use Rattle.call_command.specs.Call.{CallState, by_call, call_begin, call_step, capture_step, captured_step, event_step, first_state, frame_step, head_step, line_size, line_step, most_turns, refusal_at, step_by, trace_step, unless, video_step, with_format}
+use Rattle.call_command.specs.Call.{CallState, by_call, call_begin, call_step, capture_step, captured_step, event_step, first_state, frame_step, head_step, line_size, line_step, most_turns, refusal_at, trace_step, unless, video_step, with_format}
 
 refused_is : (a b : Y4mFault) → VideoRefused a ≡ VideoRefused b → a ≡ b
 refused_is a b is = cc is
@@ -72,8 +72,8 @@ module _ (frame_laws : FrameLaws) (fault : Y4mFault) where
           let size = frame_size f (b ∷ v) in
           let taken : 0 + size ≡ size = omega arith in
           behind_it b v planes video is
-          (sym (λ i. fault_of f (s.more - 1) (s.at + size) (drop (taken i) (inputs Video)))
-          ∙ more _ (and_of (of Events (line_size trace)) (of Video size)) ends)
+          (subst (λ (k : ℕ). fault_of f (s.more - 1) (s.at + size) (drop k (inputs Video)) ≡ Some fault) taken
+          (more _ (and_of (of Events (line_size trace)) (of Video size)) ends))
       at_captured b v video (Err broken) is ends = at_fault b v broken is ends
 
       at_capture : (video : List ℕ) → inputs Video ≡ video → Refuses (capture_step s trace video) → fault_of s.params.format s.more s.at video ≡ Some fault
@@ -84,8 +84,8 @@ module _ (frame_laws : FrameLaws) (fault : Y4mFault) where
       at_unless : (e : Event) (o : Option Refusal) (step : Step CallState)
           → (Refuses step → fault_of s.params.format s.more s.at (inputs Video) ≡ Some fault)
           → Refuses (unless s trace e o step) → fault_of s.params.format s.more s.at (inputs Video) ≡ Some fault
-      at_unless e None step then ends = then ends
-      at_unless e (Some refusal) step then ends = absurd (cc ends)
+      at_unless e None step later ends = later ends
+      at_unless e (Some refusal) step later ends = absurd (cc ends)
 
       at_line : (o : Option Line) → Refuses (line_step by_call s inputs trace o) → fault_of s.params.format s.more s.at (inputs Video) ≡ Some fault
       at_line None ends = absurd (cc ends)
@@ -108,16 +108,17 @@ module _ (frame_laws : FrameLaws) (fault : Y4mFault) where
         within true is ends = at_line (b ∷ trace) (event_in (first_line (b ∷ trace))) (rw is at ends)
         within false is ends = absurd (cc (rw is at ends))
 
-    at_turn : (plain : Bool) → s.plain ≡ plain → Refuses (step_by by_call s inputs) → fault_of s.params.format s.more s.at (inputs Video) ≡ Some fault
-    at_turn true is ends = at_video (inputs Video) refl (rw is at ends)
-    at_turn false is ends = at_trace (inputs Events) (rw is at ends)
+    at_turn : (plain : Bool) → Refuses (if plain then video_step by_call s (inputs Video) else trace_step by_call s inputs (inputs Events))
+        → fault_of s.params.format s.more s.at (inputs Video) ≡ Some fault
+    at_turn true ends = at_video (inputs Video) refl ends
+    at_turn false ends = at_trace (inputs Events) ends
 
   run_refused : (n : ℕ) (s : CallState) (inputs : Role → List ℕ) → (run_of call_step n s inputs).last.status ≡ VideoRefused fault
       → fault_of s.params.format s.more s.at (inputs Video) ≡ Some fault
   unfolding run_of
-  run_refused zero s inputs ends = at_turn s inputs (λ next taken. silence) (λ next taken is. absurd (cc is)) s.plain refl ends
+  run_refused zero s inputs ends = at_turn s inputs (λ next taken. silence) (λ next taken is. absurd (cc is)) s.plain ends
   run_refused (suc n) s inputs ends =
-      at_turn s inputs (λ next taken. run_of call_step n next (behind inputs taken)) (λ next taken is. run_refused n next (behind inputs taken) is) s.plain refl ends
+      at_turn s inputs (λ next taken. run_of call_step n next (behind inputs taken)) (λ next taken is. run_refused n next (behind inputs taken) is) s.plain ends
 
   pub video_refused : (t : Terms) (inputs : Role → List ℕ) → (run_from (call_begin t inputs) call_step (most_turns t.plain) inputs).last.status ≡ VideoRefused fault
       → video_fault (inputs Video) ≡ Some fault
