@@ -1,12 +1,32 @@
 -- Before the first event.
 use Rattle.std.proofs.Common.{◌≡◌, ℕ, ◌+◌, ◌≤◌, Bool, List, [], refl, sym, ◌∙◌, arith}
 use Rattle.h263_outside.specs.declared.desk.Role.{Role}
+use Rattle.h263_types.specs.declared.format.Format.{Format}
+use Rattle.h263_types.specs.declared.params.Params.{Params}
+use Rattle.h263_types.specs.Params.{IsParams}
 use Rattle.call_model.specs.Receiving.{ReceiverEntry}
 use Rattle.sender_end.specs.Stands as sender_end
 use Rattle.sender_end.specs.Stands.{IsReady}
 use Rattle.receiver_end.specs.State as receiver_end
 use Rattle.call_command.specs.Call.{first_state, steady}
 use Rattle.call_command.specs.Standing.{CallOpens, IsFresh, Parts, PartsReady, PartsStand}
+
+-- parameters stay in their ranges in another format
+pub in_format : (p : Params) (f : Format) → IsParams p → IsParams (record p { format = f })
+in_format p f is = record {
+  quant_low = is.quant_low;
+  quant_high = is.quant_high;
+  keep_low = is.keep_low;
+  keep_high = is.keep_high;
+  radius = is.radius;
+  limit_low = is.limit_low;
+  limit_high = is.limit_high;
+  slots_low = is.slots_low;
+  slots_high = is.slots_high;
+  lead = is.lead;
+  messages_low = is.messages_low;
+  messages_high = is.messages_high;
+}
 
 module _ (x : Parts) (fresh : IsFresh x.terms x.carrier) (sender_params : x.sender.params ≡ x.terms.params) (sends : sender_end.Stands (steady x.terms.params) x.sender []) (sent : x.sender.sent ≡ 0) (more : x.video.more ≡ 1048576) where
   pub stands_first : (before : List ReceiverEntry) (at : ℕ) (inputs : Role → List ℕ) → x.video.at ≡ at → x.receiver.params ≡ x.terms.params
