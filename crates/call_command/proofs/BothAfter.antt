@@ -2,10 +2,10 @@
 use Rattle.std.proofs.Common.{◌≡◌, ℕ, zero, suc, ◌+◌, ◌<◌, ◌≤◌, List, [], ◌∷◌, ◌++◌, length, Option, Some, None, refl, ap, ◌∙◌, arith}
 use Rattle.std.specs.Prelude.{slice_get}
 use Rattle.std.specs.Option.{option_map_or}
-use Rattle.call_model.specs.Coding.{Rules, Coding}
+use Rattle.call_model.specs.Coding.{Rules, Coding, pictures_of}
 use Rattle.call_model.specs.CodedPictures.{Coded}
 use Rattle.call_model.specs.IdealCall.{Event, Send, Deliver, Play, Back}
-use Rattle.call_model.specs.Sending.{SenderRun, packets_of}
+use Rattle.call_model.specs.Sending.{SenderRun, next_coded, packets_of}
 use Rattle.call_model.specs.Receiving.{ReceiverRun}
 use Rattle.call_model.specs.JoinedRun.{AllNearBoth, Joined, Told, after_bytes, joined, sender_with_frame, sender_with_message}
 use Rattle.call_command.specs.Trace.{delivered}
@@ -74,7 +74,7 @@ module _ {Frame Style Mb Picture Fault MessageFault : Type 0} (coding : Coding F
       × (length (sender_with_frame coding rules pace w.sender o).coded ≤ length w.sender.coded + 1)
   sent_counts w None = (omega arith, omega arith)
   sent_counts w (Some frame) =
-      let longer = one_longer w.sender.coded _ in
+      let longer = one_longer w.sender.coded (next_coded (pictures_of coding) coding.encoding rules pace frame w.sender.coded w.sender.known) in
       (omega (arith, longer), omega (arith, longer))
 
   -- the sender is ahead of the play, by half a period at most

@@ -22,6 +22,7 @@ mod Doing
 mod Sent
 mod Saying
 mod Ring
+mod Bringing
 mod Packing
 mod Plain
 mod EachFrame

@@ -72,6 +72,10 @@ module _ (p : Params) where
   packets_past coded n few =
       ap (λ (o : Option (Coded Style Mb Picture)). option_map_or (λ (y : Coded Style Mb Picture). (encoding p).packets n (call.packets_before (take n coded)) (call.header_of (rules_of p) n y) y.slices) o []) (get_past coded n few)
 
+  -- before the first picture
+  pub none_sent : (n : ℕ) → slice_index_or [] n [] ≡ packets_of [] n
+  none_sent n = or_past [] [] n (omega arith) ∙ sym (packets_past [] n (omega arith))
+
   -- with those of one picture more
   pub has_one_more : (ring new : PacketRing) (coded : List (Coded Style Mb Picture)) (x : Coded Style Mb Picture) (packets : List (List ℕ))
       → HasPackets p ring coded → ((pictures : Pictures) → Keeps ring pictures → Keeps new (pictures ++ packets ∷ []))
