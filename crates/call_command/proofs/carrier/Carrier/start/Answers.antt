@@ -1,4 +1,4 @@
-use Rattle.std.proofs.Common.{◌≡◌, [], refl, ap, ◌∙◌}
+use Rattle.std.proofs.Common.{rules, ◌≡◌, [], refl, ap, ◌∙◌}
 use Rattle.call_command.specs.Network.{HasMessages, HasPackets}
 use Rattle.call_command.specs.declared.tally.Tally.{Tally}
 use Rattle.call_command.specs.Counts.{total_of}
@@ -9,7 +9,7 @@ pub returns : goal.returns
 returns c = record {
   lines = c.new.ensures.lines;
   ended = c.new.ensures.ended;
-  frame = ap (λ (l : List ℕ). length l) c.in_ok-vec.ensures.items ∙ search;
+  frame = search rules;
   tally = ap total_of c.new-2.ensures;
   counted = record {
     exact = ap (λ (t : Tally). t.exact) c.new-2.ensures;
