@@ -12,10 +12,11 @@ use Rattle.call_report.specs.declared.status.Status.TheVariants.{Ok as Fine}
 use Rattle.desk_program.specs.Run.{Turn, End, Step}
 use Rattle.desk_program.specs.Run.Step.{Goes, Ends}
 use Rattle.desk_program.specs.Texts.{no_bytes, no_texts, on}
-use Rattle.make_input.specs.Expanded.{line_events, onto}
+use Rattle.make_input.specs.Expanded.{expanded, line_events, onto}
 use Rattle.make_input.specs.Frames.{made_sample}
 use Rattle.make_input.specs.Trace.{made_trace}
-use Rattle.call_model.specs.IdealCall.{Call, Event, ideal}
+use Rattle.call_model.specs.Coding.{pictures_of}
+use Rattle.call_model.specs.IdealCall.{Call, Event, encoded, ideal}
 use Rattle.call_decoding.specs.Rules.{rules_of}
 use Rattle.call_decoding.specs.Styles.{Style}
 use Rattle.call_encoding.specs.Frames.{Frame}
@@ -48,6 +49,11 @@ made_call t past = ideal (coding t.params) (rules_of t.params) (steady t.params)
 -- the events behind those of a line, the newest first
 abbrev pub with_line : DemoTerms → List Event → Line → List Event
 with_line t past line = onto (line_events (made_call t past) line) past
+
+-- the events of all these lines behind others, the newest first
+abbrev pub made_events : DemoTerms → List Event → List Line → List Event
+made_events t past lines =
+    expanded (pictures_of (coding t.params)) (rules_of t.params) (encoded (coding t.params) (rules_of t.params) (steady t.params) (made_video t)) past lines
 
 -- ---- line by line
 

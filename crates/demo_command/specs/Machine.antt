@@ -6,14 +6,10 @@ use Rattle.h263_types.specs.Params.{IsParams}
 use Rattle.h263_types.specs.Sizes.{size_of_picture}
 use Rattle.loss_trace.specs.declared.event.Event.{Event as Line}
 use Rattle.loss_trace.specs.declared.event.Event.TheVariants as says
-use Rattle.make_input.specs.Expanded.{expanded}
 use Rattle.make_input.specs.Left.{lines_left}
 use Rattle.make_input.specs.Trace.{made_trace}
-use Rattle.call_model.specs.Coding.{pictures_of}
-use Rattle.call_model.specs.IdealCall.{Event, encoded}
-use Rattle.call_decoding.specs.Rules.{rules_of}
+use Rattle.call_model.specs.IdealCall.{Event}
 use Rattle.call_rings.specs.Messages.{said_of}
-use Rattle.coded_call.specs.Coding.{coding}
 use Rattle.sender_end.specs.declared.state.State.{State}
 use Rattle.sender_end.specs.Stands.{IsReady}
 use Rattle.receiver_end.specs.declared.kept.Kept.{Kept}
@@ -25,14 +21,9 @@ use Rattle.call_command.specs.Counts.{total_of}
 use Rattle.call_command.specs.Standing.{ArePacketsReady, Holds}
 use Rattle.demo_command.specs.declared.demo.Demo.{Demo}
 use Rattle.demo_command.specs.declared.terms.DemoTerms.{DemoTerms}
-use Rattle.demo_command.specs.Demo.{DemoState, call_terms, made_video}
+use Rattle.demo_command.specs.Demo.{DemoState, call_terms, made_events, made_video}
 
 -- ---- lines
-
--- the events of all these lines behind others, the newest first
-abbrev pub made_events : DemoTerms → List Event → List Line → List Event
-made_events t past lines =
-    expanded (pictures_of (coding t.params)) (rules_of t.params) (encoded (coding t.params) (rules_of t.params) (steady t.params) (made_video t)) past lines
 
 -- Where so many pictures were sent, each line that sends has one of so many frames, and each that
 -- delivers all packets of a picture one that was sent.

@@ -6,6 +6,7 @@
 #![tactic(auto)]
 
 mod demo;
+pub mod laws;
 mod line;
 mod mind;
 mod terms;
