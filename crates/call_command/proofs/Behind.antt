@@ -204,7 +204,7 @@ module _ (x : Parts) (s : CallState) (inputs : Role → List ℕ) (k : StoodBefo
 
   -- ---- all packets of a picture
 
-  abbrev count_in : Params → List Frame → ℕ → ℕ
+  abbrev pub count_in : Params → List Frame → ℕ → ℕ
   count_in q frames n = length (slices_at (both_after q (steady q) frames s.before s.past).sender.coded n)
 
   -- their number is the same whatever frames come behind, and by the state

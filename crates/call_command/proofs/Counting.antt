@@ -1,5 +1,5 @@
 -- The parts of a call against the state at which they stand.
-use Rattle.std.proofs.Common.{◌≡◌, ℕ, ◌+◌, ◌≤◌, Bool, true, false, List, [], ◌++◌, Result, Ok, Err, OnErr, sym, ap, subst, ◌∙◌, arith}
+use Rattle.std.proofs.Common.{◌≡◌, ℕ, ◌+◌, ◌≤◌, Bool, true, false, List, [], ◌++◌, Result, Ok, Err, IsErrAnd, OnErr, sym, ap, subst, ◌∙◌, arith}
 use Rattle.std.specs.Prelude.{if◌then◌else◌}
 use Rattle.std.proofs.lemmas.List.{append-nil}
 use Rattle.h263_outside.specs.Desk.{Faults, NoneFalls, Outside, Rose}
@@ -11,7 +11,7 @@ use Rattle.call_report.specs.declared.status.Status.TheVariants.{WriteFault}
 use Rattle.call_report.specs.Status.{Phase, phase}
 use Rattle.call_report.specs.Status.Phase.{finished, refused, unread, unwritten, starved, unasked, unopened}
 use Rattle.desk_program.specs.Run.{Step}
-use Rattle.desk_program.specs.Ends.{CauseIn, Falls, HasCause, KeepsRoles, OnEnd, OnceSettled, OnSettled}
+use Rattle.desk_program.specs.Ends.{CauseIn, Falls, HasCause, KeepsRoles, OnEnd, OnceSettled, OnSettled, turn_status}
 use Rattle.call_model.specs.JoinedRun.{EachEndRuns}
 use Rattle.call_decoding.specs.Rules.{rules_of}
 use Rattle.call_encoding.specs.Frames.{Frame}
@@ -129,3 +129,9 @@ keeps_so r known Q P is same keeps = subst (λ (q : Result Bool Status). OnSettl
     by_answer : (r : Result Unit TraceFault) → OnErr r Q → OnSettled (going_of r) P
     by_answer (Ok x) same = tt
     by_answer (Err fault) same = keeps same
+
+-- a write failed behind a read
+pub cause_cut : (r : Result Bool Status) (status : Status) (old mid new : Faults) → IsErrAnd r (λ x. x ≡ status) → status ≡ WriteFault → NoneFalls old mid
+    → ((a b c : ℕ) → a ≤ b → Rose b c → Rose a c) → Rose mid.write new.write → HasCause (turn_status r) old new
+cause_cut (Ok b) status old mid new is cut still rose cause = absurd is
+cause_cut (Err x) status old mid new is cut still rose cause = subst (λ (y : Status). HasCause y old new) (sym (is ∙ cut)) (rose old.write mid.write new.write still.write cause)

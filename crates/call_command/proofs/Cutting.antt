@@ -1,7 +1,8 @@
 -- What bytes of a trace hold no whole line, and so no turn.
-use Rattle.std.proofs.Common.{◌≡◌, ℕ, zero, suc, ◌+◌, ◌≤◌, Bool, true, false, List, [], ◌∷◌, length, take, All, Option, Some, None, Result, Ok, Err, refl, sym, ap, ◌∙◌, subst, arith}
+use Rattle.std.proofs.Common.{◌≡◌, ◌≢◌, ℕ, zero, suc, ◌+◌, ◌≤◌, Bool, true, false, List, [], ◌∷◌, length, take, All, Option, Some, None, Result, Ok, Err, refl, sym, ap, ◌∙◌, subst, arith}
 use Rattle.std.specs.Prelude.{◌&&◌, ◌==◌, nat_le, nat_lt, min, if◌then◌else◌}
 use Rattle.std.proofs.lemmas.Bool.{eqb-true, leb-true, ltb-true}
+use Rattle.std.proofs.lemmas.List.Elements.{All-head, All-tail}
 use Rattle.h263_outside.specs.declared.desk.Role.{Role}
 use Rattle.h263_outside.specs.declared.desk.Role.TheVariants.{Video, Events, Video2}
 use Rattle.h263_planes.specs.Layout.{picture_of}
@@ -27,18 +28,18 @@ use Rattle.call_command.specs.Call.{CallState, by_ends, capture_step, captured_s
 pub line_cut : (trace : List ℕ) (k : ℕ) → NoNewline (take k trace) → length (first_line trace) + 1 ≤ length trace → length (first_line trace) + 1 ≤ k → ⊥
 line_cut [] k free closed few = absurd (omega (arith, closed))
 line_cut (b ∷ trace) zero free closed few = absurd (omega (arith, few))
-line_cut (b ∷ trace) (suc k) free closed few = by_newline (b == 10) refl
+line_cut (b ∷ trace) (suc k) free closed few = by_newline (b == 10) refl (line_cut trace k (All-tail (λ c. c ≢ 10) b (take k trace) free))
   where
-    by_newline : (t : Bool) → (b == 10) ≡ t → ⊥
-    by_newline true is = free.0 (eqb-true b 10 is)
-    by_newline false is =
+    one_further : (n : ℕ) → suc n ≡ n + 1
+    one_further n = omega arith
+
+    by_newline : (t : Bool) → (b == 10) ≡ t → (length (first_line trace) + 1 ≤ length trace → length (first_line trace) + 1 ≤ k → ⊥) → ⊥
+    by_newline true is cut = All-head (λ c. c ≢ 10) b (take k trace) free (eqb-true b 10 is)
+    by_newline false is cut =
         let same : length (first_line (b ∷ trace)) ≡ length (first_line trace) + 1 =
         ap (λ (t : Bool). length (if t then [] else b ∷ first_line trace)) is ∙ one_further (length (first_line trace))
         in
-        line_cut trace k free.1 (omega (arith, closed, same)) (omega (arith, few, same))
-      where
-        one_further : (n : ℕ) → suc n ≡ n + 1
-        one_further n = omega arith
+        cut (omega (arith, closed, same)) (omega (arith, few, same))
 
 -- ---- turns of lines
 

@@ -89,6 +89,11 @@ module _ (t : Terms) (runs : EachEndRuns (coding t.params) (rules_of t.params)) 
       let k : played ≡ seen.played = played_same ∙ played_in_all in
       λ i. first_refusal (rules_of t.params) (n i + 1) (n i) (k i) (abouts_same i) e
 
+  -- a capture that isn't far by the counts isn't refused
+  pub not_far : (sent played : ℕ) → sent ≡ sender.sent → played ≡ receiver.played → ((abouts : List ℕ) → first_refusal (rules_of t.params) (sent + 1) sent played abouts Send ≡ None)
+      → refusal_after t.params before frames past Send ≡ None
+  not_far sent played sent_same played_same near = sym (told_is sent played seen.abouts Send sent_same played_same refl) ∙ near seen.abouts
+
   -- the pictures of the messages that the ring has
   pub abouts_in_all : (pairs : List (ℕ × Said)) → map told_in pairs ≡ both.said → map about_of pairs ≡ seen.abouts
   abouts_in_all pairs same = sym (abouts_are pairs) ∙ ap (λ (l : List Told). map (λ (told : Told). told.about) l) same

@@ -40,9 +40,19 @@ drop_all (x ∷ xs) zero few = absurd (omega (arith, few))
 drop_all (x ∷ xs) (suc k) few = drop_all xs k (omega (arith, few))
 
 drop_min : (k : ℕ) (xs : List ℕ) → drop (min k (length xs)) xs ≡ drop k xs
-drop_min zero xs = refl
-drop_min (suc k) [] = refl
-drop_min (suc k) (x ∷ xs) = drop_min k xs
+drop_min zero xs = ap (λ (n : ℕ). drop n xs) (none (length xs))
+  where
+    none : (n : ℕ) → min 0 n ≡ 0
+    none n = omega arith
+drop_min (suc k) [] = nothing (min (suc k) 0)
+  where
+    nothing : (n : ℕ) → drop {A = ℕ} n [] ≡ []
+    nothing zero = refl
+    nothing (suc n) = refl
+drop_min (suc k) (x ∷ xs) = ap (λ (n : ℕ). drop n (x ∷ xs)) (one_more k (length xs)) ∙ drop_min k xs
+  where
+    one_more : (a b : ℕ) → min (suc a) (suc b) ≡ suc (min a b)
+    one_more a b = omega arith
 
 -- behind the line
 pub line_gone : (trace : List ℕ) → drop (line_size trace) trace ≡ behind_line trace
@@ -137,7 +147,7 @@ module _ (laws : TurnLaws CallState) (s : CallState) (inputs : Role → List ℕ
   going : reader.ended ≡ false → may_read s ≡ true
   going is = ap not (at.ended_is ∙ is)
 
-  pub trace_stops : (stop : TraceStop) → EventGives (Err stop) reader (inputs Events) after (mid.left Events) → Moves (Err stop) reader after
+  pub trace_stops : (stop : TraceStop) → EventGives (Err stop) reader (inputs Events) after (mid.left Events) → Moves {A = Line} (Err stop) reader after
       → GivesUp (phase (trace_stop stop)) (trace_stop stop) (trace_step by_ends s inputs (inputs Events)) (may_read s) inputs old mid
   trace_stops stops.Read e moves = record {
     part = of Events e.taken;

@@ -140,6 +140,7 @@ fn frame_turn<D: Desk>(
     ends_run();
     turn_laws();
     of_the_video();
+    calls();
     if !video.frame(desk, &mut carrier.frame)? {
         tell_counts(desk, sender, receiver, carrier)?;
         return Ok(false);

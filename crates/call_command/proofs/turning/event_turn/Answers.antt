@@ -1,4 +1,4 @@
-use Rattle.std.proofs.Common.{◌≡◌, ℕ, ◌+◌, true, List, ◌∷◌, ◌++◌, length, Unit, Result, Ok, refl, sym, ap, subst, ◌∙◌, arith}
+use Rattle.std.proofs.Common.{◌≡◌, ℕ, ◌+◌, true, List, ◌∷◌, ◌++◌, length, Result, Ok, refl, sym, ap, subst, ◌∙◌, arith}
 use Rattle.h263_outside.specs.declared.desk.Role.{Role}
 use Rattle.h263_outside.specs.declared.desk.Role.TheVariants.{Events}
 use Rattle.h263_types.specs.declared.pace.FixedPace.{FixedPace}
@@ -87,8 +87,8 @@ returns-in-All-clause-gives g c = λ before s inputs k number taken.
     let n = c.in-All.number in
     let event = Deliver n 0 in
     let count = count_in x s inputs k s.params s.frames n in
-    said_gives c.going.result (going_of done.result) c.args.event (said.All n) s inputs
-    (PartsStand (parts_of c.args.terms.now c.args.video.now c.args.sender.now.state done.new.receiver done.new.carrier)) before (outside c.args.desk.now) c.going.ensures.value c.in-All.is
+    said_gives c.going-in-All.result (going_of done.result) c.args.event (said.All n) s inputs
+    (PartsStand (parts_of c.args.terms.now c.args.video.now c.args.sender.now.state done.new.receiver done.new.carrier)) before (outside c.args.desk.now) c.going-in-All.ensures.value c.in-All.is
     (event_gives x s inputs k x.sender done.new.receiver done.new.carrier (ap (λ (y : Carrier). y.trace) done.ensures.others) refl c.turn_laws.ensures before (outside c.args.desk.now) taken done.result c.args.line event (delivered n count ++ s.past) number
     (λ later. subst (λ (count : ℕ). IsDone done.result c.args.line event (refusal_after t.params s.before (s.frames ++ later) s.past event)
     (Holds t x.sender done.new.receiver done.new.carrier s.before (s.frames ++ later) (delivered n count ++ s.past)))
@@ -103,7 +103,7 @@ returns-in-All-clause-ready g c =
     let same = done.ensures.others in
     let trace : done.new.carrier.trace ≡ x.carrier.trace = ap (λ (y : Carrier). y.trace) same in
     let lines : done.new.carrier.trace.lines ≡ x.carrier.trace.lines = ap (λ (y : TraceReader). y.lines) trace in
-    on_going done.result c.going.result _ c.going.ensures.value
+    on_going done.result c.going-in-All.result _ c.going-in-All.ensures.value
     (ready_line x c.args.sender.now.pace.quant c.args.sender.now.pace.quant (outside c.args.desk.now).attached r c.requires.recorded refl x.sender done.new.receiver done.new.carrier r.sender refl r.standing refl
     (omega (arith, done.ensures.played, r.played)) (ap (λ (y : Carrier). total_of y.tally) same ∙ r.counted ∙ sym done.ensures.played)
     (ap (λ (y : Carrier). y.frame) same) (ap (λ (y : Carrier). y.packets) same) trace (omega (arith, done.ensures.few, lines, c.requires.room)))
@@ -111,7 +111,7 @@ returns-in-All-clause-ready g c =
 pub returns-in-All-clause-keeps : goal.returns-in-All-clause-keeps
 returns-in-All-clause-keeps g c = λ s stand.
     let done = c.all_event in
-    keeps_so done.result c.going.result _ _ c.going.ensures.value done.ensures.same
+    keeps_so done.result c.going-in-All.result _ _ c.going-in-All.ensures.value done.ensures.same
     (λ same. subst (λ (receiver : Kept). EndsStand c.args.terms.now c.args.sender.now.state receiver s) (sym same.0) stand)
 
 -- ---- a message
@@ -122,8 +122,8 @@ returns-in-Back-clause-gives g c = λ before s inputs k number taken.
     let x = parts_of c.args.terms.now c.args.video.now c.args.sender.now.state c.args.receiver.now c.args.carrier.now in
     let done = c.back_event in
     let event = Back c.in-Back.message in
-    said_gives c.going.result (going_of done.result) c.args.event (said.Back c.in-Back.message) s inputs
-    (PartsStand (parts_of c.args.terms.now c.args.video.now done.new.sender.state c.args.receiver.now c.args.carrier.now)) before (outside c.args.desk.now) c.going.ensures.value c.in-Back.is
+    said_gives c.going-in-Back.result (going_of done.result) c.args.event (said.Back c.in-Back.message) s inputs
+    (PartsStand (parts_of c.args.terms.now c.args.video.now done.new.sender.state c.args.receiver.now c.args.carrier.now)) before (outside c.args.desk.now) c.going-in-Back.ensures.value c.in-Back.is
     (event_gives x s inputs k done.new.sender.state x.receiver x.carrier refl done.ensures.sent c.turn_laws.ensures before (outside c.args.desk.now) taken done.result c.args.line event (event ∷ s.past) number
     (λ later. done.ensures.done x.receiver s.before (s.frames ++ later) s.past k.begun (k.holds later)))
 
@@ -133,7 +133,7 @@ returns-in-Back-clause-ready g c =
     let x = parts_of c.args.terms.now c.args.video.now c.args.sender.now.state c.args.receiver.now c.args.carrier.now in
     let r = c.requires.ready in
     let done = c.back_event in
-    on_going done.result c.going.result _ c.going.ensures.value
+    on_going done.result c.going-in-Back.result _ c.going-in-Back.ensures.value
     (ready_line x c.args.sender.now.pace.quant done.new.sender.pace.quant (outside c.args.desk.now).attached r c.requires.recorded (ap (λ (q : FixedPace). q.quant) done.ensures.pace)
     done.new.sender.state x.receiver x.carrier done.ensures.ready done.ensures.params done.ensures.standing done.ensures.sent
     (omega (arith, done.ensures.sent, r.played)) r.counted refl refl refl (omega (arith, c.requires.room)))
@@ -141,5 +141,5 @@ returns-in-Back-clause-ready g c =
 pub returns-in-Back-clause-keeps : goal.returns-in-Back-clause-keeps
 returns-in-Back-clause-keeps g c = λ s stand.
     let done = c.back_event in
-    keeps_so done.result c.going.result _ _ c.going.ensures.value done.ensures.same
+    keeps_so done.result c.going-in-Back.result _ _ c.going-in-Back.ensures.value done.ensures.same
     (λ same. subst (λ (sender : State). EndsStand c.args.terms.now sender c.args.receiver.now s) (λ i. (sym same i).state) stand)

@@ -1,4 +1,5 @@
-use Rattle.std.proofs.Common.{◌≡◌, ℕ, ◌+◌, Bool, true, false, List, length, Option, Result, Ok, Err, IfErr, refl, sym, ap, subst, ◌∙◌, arith, Global}
+use Rattle.std.proofs.Common.{◌≡◌, ℕ, ◌+◌, Bool, true, false, List, [], length, Option, Some, Result, Ok, Err, IfErr, refl, sym, ap, subst, ◌∙◌, arith, Global}
+use Rattle.std.specs.Prelude.{if◌then◌else◌}
 use Rattle.std.specs.declared.vec.Vec.{Vec}
 use Rattle.std.specs.Vec.{with_items}
 use Rattle.std.proofs.lemmas.List.{with_items_is}
@@ -23,7 +24,7 @@ use Rattle.call_command.specs.Both.{AreJoined, IsPassed, IsStanding, bare}
 use Rattle.call_command.specs.Call.{CallState, by_ends, may_read, steady}
 use Rattle.call_command.specs.Counts.{counts_of}
 use Rattle.call_command.specs.Standing.{PartsStand, parts_of, state_of}
-use Rattle.call_command.proofs.Counting.{counts_are, ends_stand, plainly, settled}
+use Rattle.call_command.proofs.Counting.{cause_cut, counts_are, ends_stand, plainly, settled}
 use Rattle.call_command.proofs.PassedOn.{passed_so, row_is, stands_behind}
 use Rattle.call_command.proofs.Readying.{ready_frame}
 use Rattle.call_command.proofs.FrameTurning.{cut_gives, end_cut, frame_cut, frame_goes, frame_stops, given, gives_so, turn_gives, video_ends}
@@ -79,9 +80,49 @@ returns-then-not-branch-clause-keeps g c = λ s inputs k.
     let x = parts_of c.args.terms.now c.args.video.now c.args.sender.now.state c.args.receiver.now c.args.carrier.now in
     ends_stand x s inputs k
 
+pub returns-then-not-branch-clause-whole : goal.returns-then-not-branch-clause-whole
+returns-then-not-branch-clause-whole g c = λ s inputs k told.
+    let outside = g.D.Desk.outside in
+    let gone = (given (Ok c.in_ok-frame.field-0) (Ok false) c.args.video.now c.frame.new.self (inputs Video) c.frame.new.out _ (ap (λ (b : Bool). Ok b) c.if-not-branch.true) (c.in_ok-frame.ensures.gives (inputs Video) (told Video refl))).1 in
+    let out = ap (λ (l : Role → Option (List ℕ)). l Video) c.tell_counts.ensures.rest.left ∙ gone in
+    subst (λ (b : Bool). (outside c.tell_counts.new.desk).left (if b then Video else Events) ≡ Some []) (sym c.requires.plain) out
+
 -- a buffer that was lent whole holds what was put there
 lent : (v : Vec ℕ Global) (l got : List ℕ) (n : ℕ) → got ≡ (with_items v l).items → length l ≡ n → n ≡ v.len → got ≡ l
 lent v l got n is long whole = is ∙ with_items_is v l (omega (arith, long, whole, v.ok.0))
+
+pub returns-in_err-show-clause-gives : goal.returns-in_err-show-clause-gives
+returns-in_err-show-clause-gives g c = λ s inputs k told.
+    let outside = g.D.Desk.outside in
+    let terms = c.args.terms.now in
+    let x = parts_of terms c.args.video.now c.args.sender.now.state c.args.receiver.now c.args.carrier.now in
+    let here = state_of x s.before s.frames s.past in
+    let out = c.frame.new.out in
+    let runs = c.ends_run.ensures terms.params in
+    let level = c.requires.ready.level c.requires.plain in
+    let e = gives_so (Ok true) here c.args.video.now c.frame.new.self (inputs Video) out _ refl refl c.requires.ready.format
+    (given (Ok c.in_ok-frame.field-0) (Ok true) c.args.video.now c.frame.new.self (inputs Video) out _ (ap (λ (b : Bool). Ok b) c.if-not-branch.false) (c.in_ok-frame.ensures.gives (inputs Video) (told Video refl))) in
+    let out_is : c.deref.result.now ≡ out = lent c.args.carrier.now.frame out c.deref.result.now _ c.deref.ensures.value c.frame.auto.out c.deref_mut.ensures.len in
+    let picture_is : picture c.new-frame.result ≡ picture_of terms.params.format out = c.new-frame.ensures.picture ∙ ap (λ (l : List ℕ). picture_of terms.params.format l) out_is in
+    let coded = c.pass-passed.result.coded in
+    let mark = c.pass-passed.result.mark in
+    let sender = c.pass-passed.new.sender.state in
+    let receiver = c.pass-passed.new.receiver in
+    let carrier : Carrier = record c.args.carrier.now { frame = with_items c.args.carrier.now.frame out; tally = c.count.new.self } in
+    let passes = passed_so x s out coded mark sender receiver (λ _. c.args.sender.now.pace.quant) (picture c.new-frame.result) (λ i _. c.requires.ready.quant_is i) picture_is (λ all. c.pass-passed.ensures.passed terms.params all s.before s.past) in
+    let row = row_is x runs s inputs k c.requires.plain level out coded mark sender receiver passes (picture c.shown.result) c.shown.ensures in
+    let status = c.in_err-show.field-0.0 in
+    let after = PartsStand (parts_of terms c.frame.new.self sender receiver carrier) in
+    plainly x s inputs k.is c.requires.plain (λ (step : Step CallState) (now : Bool). TurnGives c.from_residual-in_err-show.result step after may_read now inputs (outside c.args.desk.now) (outside c.show.new.desk))
+    (turn_gives c.from_residual-in_err-show.result status _ after may_read _ inputs _ _ c.from_residual-in_err-show.ensures.1
+    (cut_gives status _ _ inputs (outside c.args.desk.now) (outside c.show.new.desk) c.in_err-show.ensures.kind
+    (frame_cut c.turn_laws.ensures c.of_the_video.ensures inputs (outside c.args.desk.now) (outside c.frame.new.desk) told c.frame.ensures.others c.frame.ensures.rest.written (outside c.show.new.desk) c.show.ensures.rest.left here (c.requires.ready.unread c.requires.plain) out c.frame.new.self e _ row c.in_err-show.ensures.err)))
+
+pub returns-in_err-show-clause-cause : goal.returns-in_err-show-clause-cause
+returns-in_err-show-clause-cause g c =
+    let outside = g.D.Desk.outside in
+    cause_cut c.from_residual-in_err-show.result c.in_err-show.field-0.0 (outside c.args.desk.now).faults (outside c.frame.new.desk).faults (outside c.show.new.desk).faults
+    c.from_residual-in_err-show.ensures.1 c.in_err-show.ensures.kind c.frame.ensures.rest.faults c.calls.ensures.rose_since c.in_err-show.ensures.cause
 
 pub returns-clause-gives : goal.returns-clause-gives
 returns-clause-gives g c = λ s inputs k told.

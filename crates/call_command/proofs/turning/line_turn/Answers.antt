@@ -12,7 +12,7 @@ use Rattle.call_report.specs.Status.{trace_stop}
 use Rattle.desk_program.specs.Run.{Step}
 use Rattle.desk_program.specs.Ends.{Ended, TurnGives}
 use Rattle.call_command.specs.declared.carrier.Carrier.{Carrier}
-use Rattle.call_command.specs.Call.{CallState, may_read}
+use Rattle.call_command.specs.Call.{CallState, by_ends, event_step, may_read}
 use Rattle.call_command.specs.Counts.{counts_of}
 use Rattle.call_command.specs.Standing.{Parts, PartsStand, parts_of, state_of}
 use Rattle.call_command.proofs.Behind.{stood_behind}
@@ -131,7 +131,7 @@ returns-clause-gives g c = λ s inputs k told.
     let stood = stood_behind x s inputs k c.requires.plain c.next.new.self _ moves.2 e.0 in
     line_by_line x s inputs k.is c.requires.plain (λ (step : Step CallState) (now : Bool). TurnGives c.event_turn.result step stands may_read now inputs old new)
     (subst (λ (step : Step CallState). TurnGives c.event_turn.result step stands may_read (may_read here) inputs old new) (sym step_is)
-    (subst (λ (b : Bool). TurnGives c.event_turn.result _ stands may_read b inputs old new) (sym could)
+    (subst (λ (b : Bool). TurnGives c.event_turn.result (event_step by_ends here inputs (inputs Events) c.in-Some.event) stands may_read b inputs old new) (sym could)
     (c.event_turn.ensures.gives old here inputs stood number taken)))
 
 pub returns-clause-falls : goal.returns-clause-falls

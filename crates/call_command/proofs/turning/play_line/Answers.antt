@@ -41,7 +41,7 @@ returns-in_err-show-in-Ok-clause-gives g c = λ before s inputs k number taken.
     let t = c.args.terms.now in
     let x = parts_of t c.args.video.now c.args.sender.now.state c.args.receiver.now c.args.carrier.now in
     let old = outside c.args.desk.now in
-    let new = outside c.show-in-Ok.new.desk in
+    let new = outside c.show.new.desk in
     let receiver = c.play_event.new.receiver in
     let carrier = c.play_event.new.carrier in
     let h = holds_here x s inputs k in
@@ -55,7 +55,7 @@ returns-in_err-show-in-Ok-clause-gives g c = λ before s inputs k number taken.
     let stands = PartsStand (parts_of t c.args.video.now x.sender receiver carrier) in
     turn_gives c.from_residual.result status _ stands may_read true inputs before new c.from_residual.ensures.1
     (cut_gives status _ _ inputs before new c.in_err-show-in-Ok.ensures.kind
-    (play_cut x s inputs k before old new taken c.show-in-Ok.ensures.rest.left done.0 texts texts_are c.in_err-show-in-Ok.ensures.err))
+    (play_cut x s inputs k before old new taken c.show.ensures.rest.left done.0 texts texts_are c.in_err-show-in-Ok.ensures.err))
 
 pub returns-in_ok-show-in-Ok-clause-gives : goal.returns-in_ok-show-in-Ok-clause-gives
 returns-in_ok-show-in-Ok-clause-gives g c = λ before s inputs k number taken.
@@ -63,7 +63,7 @@ returns-in_ok-show-in-Ok-clause-gives g c = λ before s inputs k number taken.
     let t = c.args.terms.now in
     let x = parts_of t c.args.video.now c.args.sender.now.state c.args.receiver.now c.args.carrier.now in
     let old = outside c.args.desk.now in
-    let new = outside c.show-in-Ok.new.desk in
+    let new = outside c.show.new.desk in
     let receiver = c.play_event.new.receiver in
     let carrier = c.play_event.new.carrier in
     let h = holds_here x s inputs k in
@@ -74,7 +74,7 @@ returns-in_ok-show-in-Ok-clause-gives g c = λ before s inputs k number taken.
     c.reference_of_next-reference.result (c.reference_of_next-reference.ensures s.before s.frames s.past k.begun h ahead) (picture c.shown.result) c.shown.ensures
     in
     let stands = PartsStand (parts_of t c.args.video.now x.sender receiver carrier) in
-    play_goes x s inputs k before old new taken c.show-in-Ok.ensures.rest.left done.0 texts texts_are stands
+    play_goes x s inputs k before old new taken c.show.ensures.rest.left done.0 texts texts_are stands
     (stands_event x s inputs k x.sender receiver carrier (ap (λ (y : Carrier). y.trace) c.play_event.ensures.others) refl (Play ∷ s.past)
     (λ later. (c.in-Ok.ensures.done s.before (s.frames ++ later) s.past k.begun (k.holds later)).1))
     c.in_ok-show-in-Ok.ensures.ok

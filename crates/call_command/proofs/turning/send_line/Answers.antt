@@ -28,12 +28,12 @@ use Rattle.call_command.specs.Both.{bare, both_after}
 use Rattle.call_command.specs.Call.{CallState, capture_step, may_read, steady}
 use Rattle.call_command.specs.Refused.{IsAllowed}
 use Rattle.call_command.specs.Seen.{in_both}
-use Rattle.call_command.specs.Standing.{PartsStand, parts_of, refusal_after}
+use Rattle.call_command.specs.Standing.{Holds, PartsStand, parts_of, refusal_after}
 use Rattle.call_command.proofs.After.{at_end}
 use Rattle.call_command.proofs.Behind.{capture_is, event_refused, holds_here, stands_sent, video_format, video_more, video_place}
 use Rattle.call_command.proofs.Capturing.{frame_missing, frame_sent, frame_stops}
 use Rattle.call_command.proofs.Counting.{settled}
-use Rattle.call_command.proofs.Doing.{told_is}
+use Rattle.call_command.proofs.Doing.{not_far, told_is}
 use Rattle.call_command.proofs.Readying.{ready_sent}
 use Rattle.call_command.proofs.FrameTurning.{given, gives_so, turn_gives}
 use Rattle.call_command.proofs.turning.send_line.Goals as goal
@@ -55,9 +55,9 @@ returns-in_err-frame-clause-gives g c = λ before s inputs k number taken.
     let old = outside c.args.desk.now in
     let mid = outside c.frame.new.desk in
     let x = parts_of t c.args.video.now c.args.sender.now.state c.args.receiver.now c.args.carrier.now in
-    let seen = in_both (both_after t.params (steady t.params) s.frames s.before s.past) in
-    let told = told_is t (c.ends_run.ensures t.params) x.sender x.receiver x.carrier s.before s.frames s.past (holds_here x s inputs k) c.sent.result c.played.result seen.abouts Send c.sent.ensures.value c.played.ensures.count refl in
-    let none = sym told ∙ c.in_default.ensures (rules_of t.params) seen.abouts c.half-half.ensures in
+    let none = not_far t (c.ends_run.ensures t.params) x.sender x.receiver x.carrier s.before s.frames s.past (holds_here x s inputs k) c.sent.result c.played.result c.sent.ensures.value c.played.ensures.count
+    (λ abouts. c.in_default.ensures (rules_of t.params) abouts c.half-half.ensures)
+    in
     let stop = c.in_err-frame.field-0.0 in
     let out = c.frame.new.out in
     let stands = PartsStand (parts_of t c.frame.new.self x.sender x.receiver (record c.args.carrier.now { frame = with_items c.args.carrier.now.frame out })) in
@@ -76,9 +76,9 @@ returns-then-not-branch-clause-gives g c = λ before s inputs k number taken.
     let old = outside c.args.desk.now in
     let mid = outside c.frame.new.desk in
     let x = parts_of t c.args.video.now c.args.sender.now.state c.args.receiver.now c.args.carrier.now in
-    let seen = in_both (both_after t.params (steady t.params) s.frames s.before s.past) in
-    let told = told_is t (c.ends_run.ensures t.params) x.sender x.receiver x.carrier s.before s.frames s.past (holds_here x s inputs k) c.sent.result c.played.result seen.abouts Send c.sent.ensures.value c.played.ensures.count refl in
-    let none = sym told ∙ c.in_default.ensures (rules_of t.params) seen.abouts c.half-half.ensures in
+    let none = not_far t (c.ends_run.ensures t.params) x.sender x.receiver x.carrier s.before s.frames s.past (holds_here x s inputs k) c.sent.result c.played.result c.sent.ensures.value c.played.ensures.count
+    (λ abouts. c.in_default.ensures (rules_of t.params) abouts c.half-half.ensures)
+    in
     let out = c.frame.new.out in
     let e = gives_so (Ok false) s c.args.video.now c.frame.new.self (inputs Video) out _ (video_more x s inputs k) (video_place x s inputs k) (video_format x s inputs k c.requires.ready.format)
     (given (Ok c.in_ok-frame.field-0) (Ok false) c.args.video.now c.frame.new.self (inputs Video) out _ (ap (λ (b : Bool). Ok b) c.if-not-branch.true) (c.in_ok-frame.ensures.gives (inputs Video) (taken.left Video refl)))
@@ -99,8 +99,7 @@ returns-clause-gives g c = λ before s inputs k number taken.
     let old = outside c.args.desk.now in
     let mid = outside c.frame.new.desk in
     let x = parts_of t c.args.video.now c.args.sender.now.state c.args.receiver.now c.args.carrier.now in
-    let told = λ (frames : List Frame) h. told_is t runs x.sender x.receiver x.carrier s.before frames s.past h c.sent.result c.played.result (in_both (both_after p (steady p) frames s.before s.past)).abouts Send c.sent.ensures.value c.played.ensures.count refl in
-    let none = λ (frames : List Frame) h. sym (told frames h) ∙ c.in_default.ensures (rules_of p) (in_both (both_after p (steady p) frames s.before s.past)).abouts c.half-half.ensures in
+    let near = λ (abouts : List ℕ). c.in_default.ensures (rules_of p) abouts c.half-half.ensures in
     let out = c.frame.new.out in
     let e = gives_so (Ok true) s c.args.video.now c.frame.new.self (inputs Video) out _ (video_more x s inputs k) (video_place x s inputs k) (video_format x s inputs k c.requires.ready.format)
     (given (Ok c.in_ok-frame.field-0) (Ok true) c.args.video.now c.frame.new.self (inputs Video) out _ (ap (λ (b : Bool). Ok b) c.if-not-branch.false) (c.in_ok-frame.ensures.gives (inputs Video) (taken.left Video refl)))
@@ -114,14 +113,14 @@ returns-clause-gives g c = λ before s inputs k number taken.
     let filled : Carrier = record c.args.carrier.now { frame = with_items c.args.carrier.now.frame out } in
     let carrier : Carrier = record filled { packets = c.send_kept.new.packets; references = c.send_kept.new.references } in
     let stands = PartsStand (parts_of t c.frame.new.self sender x.receiver carrier) in
-    let sends = λ (later : List Frame).
+    let sends : (later : List Frame) → Holds t sender x.receiver carrier s.before (s.frames ++ f ∷ later) (Send ∷ s.past) = λ later.
     let h = k.holds (f ∷ later) in
     c.send_kept.ensures.holds x.receiver filled s.before (s.frames ++ f ∷ later) s.past refl refl
     (record { joined = h.joined; near = h.near; tally = h.tally; network = h.network })
-    (none (s.frames ++ f ∷ later) h)
+    (not_far t runs x.sender x.receiver x.carrier s.before (s.frames ++ f ∷ later) s.past h c.sent.result c.played.result c.sent.ensures.value c.played.ensures.count near)
     (ap (λ (i : ℕ). slice_get (s.frames ++ f ∷ later) i) k.sent ∙ at_end s.frames later f ∙ ap (λ (o : Picture). Some (bare o)) (sym picture_is))
     in
-    subst (λ (step : Step CallState). Went step stands may_read true inputs before mid) (sym (capture_is x s inputs k (none s.frames (holds_here x s inputs k))))
+    subst (λ (step : Step CallState). Went step stands may_read true inputs before mid) (sym (capture_is x s inputs k (not_far t runs x.sender x.receiver x.carrier s.before s.frames s.past (holds_here x s inputs k) c.sent.result c.played.result c.sent.ensures.value c.played.ensures.count near)))
     (frame_sent c.turn_laws.ensures c.of_the_video.ensures s inputs before old mid taken c.frame.ensures.others c.frame.ensures.rest.written c.frame.new.self out e stands
     (stands_sent x s inputs k out c.frame.new.self sender carrier refl (frame_size s.params.format (inputs Video)) e.2 (moves.1 ∙ sym (video_more x s inputs k)) c.send_kept.ensures.sent sends))
 
