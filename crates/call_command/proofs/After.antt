@@ -1,5 +1,5 @@
 -- Lists of frames with one more, and later ones.
-use Rattle.std.proofs.Common.{◌≡◌, ℕ, ◌+◌, ◌<◌, List, [], ◌∷◌, ◌++◌, length, Some, refl, ap, arith}
+use Rattle.std.proofs.Common.{◌≡◌, ◌+◌, ◌<◌, List, [], ◌∷◌, ◌++◌, length, Some, refl, ap, arith}
 use Rattle.std.specs.Prelude.{slice_get}
 
 pub at_end : {X : Type 0} (xs later : List X) (x : X) → slice_get (xs ++ x ∷ later) (length xs) ≡ Some x

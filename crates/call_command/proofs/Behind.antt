@@ -1,5 +1,5 @@
 -- The parts of a call behind the event of a line.
-use Rattle.std.proofs.Common.{◌≡◌, ℕ, zero, suc, ◌+◌, ◌-◌, ◌<◌, ◌≤◌, Bool, true, false, not, List, [], ◌∷◌, ◌++◌, length, drop, Option, Some, None, Result, Ok, Err, refl, sym, ap, subst, ◌∙◌, arith}
+use Rattle.std.proofs.Common.{◌≡◌, ℕ, zero, suc, ◌+◌, ◌-◌, ◌<◌, Bool, true, false, not, List, [], ◌∷◌, ◌++◌, length, drop, Option, Some, None, Result, Ok, Err, refl, sym, ap, subst, ◌∙◌, arith}
 use Rattle.std.specs.Prelude.{slice_get}
 use Rattle.std.proofs.lemmas.List.{append-nil}
 use Rattle.h263_types.specs.declared.blocks.Mb.{Mb}
@@ -26,7 +26,7 @@ use Rattle.desk_program.specs.Run.Step.{Goes}
 use Rattle.desk_program.specs.Ends.{Ended, Gains, GainsFronts, OnGoing, TurnGives, Went, step_texts}
 use Rattle.desk_program.specs.Laws.{TurnLaws}
 use Rattle.desk_program.specs.Texts.{and_of, no_texts, of, on, then_also}
-use Rattle.call_model.specs.Coding.{Coding, Rules, Shown}
+use Rattle.call_model.specs.Coding.{Coding, Rules}
 use Rattle.call_model.specs.IdealCall.{Event, Send, Deliver, Play, Back, slices_at}
 use Rattle.call_model.specs.JoinedRun.{AllNearBoth, EachEndRuns, Joined, after_both, joined, sender_with_frame}
 use Rattle.call_model.specs.Receiving.{ReceiverRun, ReceiverEntry, played_mark}
@@ -41,11 +41,10 @@ use Rattle.receiver_end.specs.Answers.{mark_of}
 use Rattle.receiver_end.specs.Decoding.{decoding}
 use Rattle.receiver_end.specs.State as receiver_end
 use Rattle.call_command.specs.declared.carrier.Carrier.{Carrier}
-use Rattle.call_command.specs.Trace.{delivered}
 use Rattle.call_command.specs.Both.{bare, both_after}
 use Rattle.call_command.specs.Call.{CallState, after_line, by_ends, capture_step, event_step, line_size, line_turn, may_read, newest_texts, play_texts, refusal_at, steady, unless, with_frame, with_play}
 use Rattle.call_command.specs.Refused.{IsAllowed, fault_of}
-use Rattle.call_command.specs.Seen.{Seen, in_both, reference_in}
+use Rattle.call_command.specs.Seen.{reference_in}
 use Rattle.call_command.specs.Standing.{EndsStand, HasTaken, Holds, IsDone, Parts, PartsStand, StoodBefore, going_of, refusal_after, row_texts, state_of}
 use Rattle.call_command.proofs.After.{longer, push_then}
 use Rattle.call_command.proofs.OneMore.{heard_in, played_is, screen_is}

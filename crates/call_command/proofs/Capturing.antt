@@ -1,7 +1,6 @@
 -- What a line `S` makes of the frame that is read for it.
-use Rattle.std.proofs.Common.{◌≡◌, ◌≢◌, ℕ, zero, suc, ◌+◌, ◌-◌, ◌<◌, ◌≤◌, Bool, true, false, not, List, [], ◌∷◌, length, take, drop, Option, Some, Result, Ok, Err, IsErr, refl, sym, ap, ◌∙◌, subst, arith}
+use Rattle.std.proofs.Common.{◌≡◌, ◌≢◌, ℕ, ◌+◌, ◌-◌, ◌<◌, ◌≤◌, Bool, true, false, not, List, [], ◌∷◌, length, take, drop, Some, Result, Ok, Err, IsErr, refl, sym, ap, ◌∙◌, arith}
 use Rattle.std.specs.Prelude.{◌&&◌, nat_le}
-use Rattle.std.proofs.lemmas.Bool.{leb-true}
 use Rattle.h263_outside.specs.Desk.{Outside, IsInput}
 use Rattle.h263_outside.specs.declared.desk.Role.{Role}
 use Rattle.h263_outside.specs.declared.desk.Role.TheVariants.{Video, Events, Pictures, Wire, Report, Video2, Pictures2}
@@ -11,13 +10,12 @@ use Rattle.y4m.specs.declared.fault.VideoStop.{VideoStop}
 use Rattle.y4m.specs.declared.fault.VideoStop.TheVariants.{Read, Refused}
 use Rattle.y4m.specs.declared.reader.Y4mReader.{Y4mReader}
 use Rattle.y4m.specs.Frame.{frame_of, next_frame, frame_size}
-use Rattle.loss_trace.specs.declared.fault.TraceFault.{TraceFault}
 use Rattle.loss_trace.specs.declared.fault.TraceFault.TheVariants.{NoFrame}
 use Rattle.loss_trace.specs.Lines.{is_closed}
 use Rattle.call_report.specs.declared.status.Status.TheVariants.{TraceRefused, VideoRefused}
 use Rattle.call_report.specs.Status.{phase, video_stop}
 use Rattle.desk_program.specs.Run.{Step, Turn, behind}
-use Rattle.desk_program.specs.Ends.{Tells, Gains, holds, IsPart, Went, Ended, GivesUp, step_turns}
+use Rattle.desk_program.specs.Ends.{Tells, holds, IsPart, Went, Ended, GivesUp, step_turns}
 use Rattle.desk_program.specs.Texts.{no_texts, of, and_of}
 use Rattle.desk_program.specs.Laws.{TurnLaws}
 use Rattle.call_command.specs.Both.{bare}

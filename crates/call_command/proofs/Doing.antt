@@ -1,5 +1,5 @@
 -- An event is done or refused by the counts of both ends, and what it leaves of them.
-use Rattle.std.proofs.Common.{◌≡◌, ◌⊎◌, inl, inr, ℕ, zero, suc, ◌+◌, ◌-◌, ◌*◌, ◌<◌, ◌≤◌, false, List, [], ◌∷◌, ◌++◌, length, Option, Some, None, Result, Ok, Err, IsErrAnd, refl, sym, ap, subst, ◌∙◌, arith}
+use Rattle.std.proofs.Common.{◌≡◌, ◌⊎◌, inl, inr, ℕ, suc, ◌+◌, ◌-◌, ◌<◌, ◌≤◌, false, List, [], ◌∷◌, ◌++◌, length, Option, Some, None, Result, Ok, Err, IsErrAnd, refl, sym, ap, subst, ◌∙◌, arith}
 use Rattle.std.specs.Prelude.{map, slice_get, slice_index_or}
 use Rattle.std.proofs.lemmas.Bool.{cases_lt}
 use Rattle.h263_types.specs.declared.params.Params.{Params}
@@ -43,8 +43,8 @@ use Rattle.call_command.specs.Call.{steady}
 use Rattle.call_command.specs.Counts.{AreCounted}
 use Rattle.call_command.specs.References.{AreNoted}
 use Rattle.call_command.specs.Laws.{NearLaws, PacketLaws}
-use Rattle.call_command.specs.Network.{AreRoomy, HasCallSizes, HasMessages, HasPackets, HasReferences, IsBrought, about_of, told_in}
-use Rattle.call_command.specs.Refused.{IsAllowed, fault_of}
+use Rattle.call_command.specs.Network.{AreRoomy, HasCallSizes, HasMessages, HasPackets, HasReferences, about_of, told_in}
+use Rattle.call_command.specs.Refused.{IsAllowed}
 use Rattle.call_command.specs.Seen.{Seen, in_both, reference_in}
 use Rattle.call_command.specs.Standing.{Holds, IsDone, refusal_after}
 use Rattle.call_command.proofs.BothAfter.{counts_near, near_delivered, plays_delivered, sender_delivered}

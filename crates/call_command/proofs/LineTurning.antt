@@ -1,8 +1,8 @@
 -- The turns of a call over a recorded trace, by what the reader of the trace says and what was
 -- written.
-use Rattle.std.proofs.Common.{◌≡◌, ◌≢◌, ℕ, zero, suc, ◌+◌, ◌-◌, ◌<◌, ◌≤◌, Bool, true, false, not, List, [], ◌∷◌, ◌++◌, length, take, drop, Option, Some, None, Result, Ok, Err, refl, sym, ap, ◌∙◌, subst, arith}
-use Rattle.std.specs.Prelude.{◌&&◌, nat_le, nat_lt, min, if◌then◌else◌}
-use Rattle.std.proofs.lemmas.Bool.{leb-true, lt-ltb, le-ltb, ltb-true, ltb-false}
+use Rattle.std.proofs.Common.{◌≡◌, ◌≢◌, ℕ, zero, suc, ◌+◌, ◌<◌, ◌≤◌, Bool, true, false, not, List, [], ◌∷◌, length, drop, Option, Some, None, Result, Ok, Err, refl, sym, ap, ◌∙◌, subst, arith}
+use Rattle.std.specs.Prelude.{min, if◌then◌else◌}
+use Rattle.std.proofs.lemmas.Bool.{lt-ltb, le-ltb, ltb-false}
 use Rattle.h263_outside.specs.Desk.{Outside, IsInput}
 use Rattle.h263_outside.specs.declared.desk.Role.{Role}
 use Rattle.h263_outside.specs.declared.desk.Role.TheVariants.{Video, Events, Pictures, Wire, Report, Video2, Pictures2}
@@ -12,15 +12,15 @@ use Rattle.loss_trace.specs.declared.fault.TraceFault.TheVariants.{BadLine, TooM
 use Rattle.loss_trace.specs.declared.fault.TraceStop.{TraceStop}
 use Rattle.loss_trace.specs.declared.fault.TraceStop.TheVariants as stops
 use Rattle.loss_trace.specs.declared.reader.TraceReader.{TraceReader}
-use Rattle.loss_trace.specs.Lines.{NoNewline, IsCut, first_line, is_closed, behind_line}
-use Rattle.loss_trace.specs.Reader.{EventGives, Moves, Passes}
+use Rattle.loss_trace.specs.Lines.{first_line, is_closed, behind_line}
+use Rattle.loss_trace.specs.Reader.{EventGives, Moves}
 use Rattle.loss_trace.specs.Reading.{event_in}
 use Rattle.call_report.specs.declared.status.Status.{Status}
 use Rattle.call_report.specs.declared.status.Status.TheVariants.{Ok as Fine, TraceRefused}
 use Rattle.call_report.specs.Status.{phase, trace_stop}
-use Rattle.desk_program.specs.Run.{End, Step, Turn, behind, refusal}
+use Rattle.desk_program.specs.Run.{End, Step, behind, refusal}
 use Rattle.desk_program.specs.Run.Step.{Goes, Ends}
-use Rattle.desk_program.specs.Ends.{Tells, Gains, GainsFronts, LeavesBehind, Went, Ended, GivesUp, TurnGives, step_texts}
+use Rattle.desk_program.specs.Ends.{Tells, Gains, GainsFronts, Went, Ended, GivesUp, TurnGives, step_texts}
 use Rattle.desk_program.specs.Texts.{no_texts, of, on}
 use Rattle.desk_program.specs.Laws.{TurnLaws}
 use Rattle.call_model.specs.IdealCall.{Event}

@@ -1,5 +1,5 @@
 -- The packets of a picture that a sender coded have room in the ring.
-use Rattle.std.proofs.Common.{◌≡◌, ℕ, zero, suc, ◌+◌, ◌*◌, ◌%◌, ◌<◌, ◌≤◌, Bool, List, [], ◌∷◌, ◌++◌, length, take, Option, Some, None, is_some, refl, sym, ap, subst, ◌∙◌, arith}
+use Rattle.std.proofs.Common.{◌≡◌, ℕ, zero, suc, ◌*◌, ◌%◌, ◌<◌, ◌≤◌, Bool, List, [], ◌∷◌, ◌++◌, length, take, Option, Some, None, is_some, refl, sym, ap, subst, arith}
 use Rattle.std.specs.Prelude.{All, slice_get, slice_index_or}
 use Rattle.std.specs.Option.{option_map, option_map_or}
 use Rattle.std.proofs.Math.Nat.{mod-lt}
@@ -19,7 +19,7 @@ use Rattle.picture_header.specs.Ranges.{IsHeader}
 use Rattle.mode_choice.specs.Choice.{choice_of, choices_of}
 use Rattle.packet_cutter.specs.Packets.{ArePacketsOf, packets_of}
 use Rattle.packet_cutter.specs.Slices.{cut_of}
-use Rattle.call_model.specs.Coding.{Header, Rules, Slice, period}
+use Rattle.call_model.specs.Coding.{Header, Slice, period}
 use Rattle.call_model.specs.CodedPictures.{Coded, capture}
 use Rattle.call_model.specs.Lawful.{FitsHeader, IsPace}
 use Rattle.call_model.specs.Sending as call

@@ -1,5 +1,5 @@
 -- What the machine of a call keeps in mind, and what it is ready for.
-use Rattle.std.specs.Prelude.{◌≡◌, ℕ, ◌+◌, ◌-◌, ◌*◌, ◌≤◌, Bool, if◌then◌else◌, true, false, List, [], ◌∷◌, ◌++◌, length, Some, None, Option, Result, Ok, Err}
+use Rattle.std.specs.Prelude.{◌≡◌, ℕ, ◌+◌, ◌-◌, ◌*◌, ◌≤◌, Bool, if◌then◌else◌, true, false, List, [], ◌++◌, length, Some, None, Option, Result, Ok, Err}
 use Rattle.h263_types.specs.declared.params.Params.{Params}
 use Rattle.h263_types.specs.Params.{IsParams}
 use Rattle.h263_types.specs.Sizes.{size_of_picture}

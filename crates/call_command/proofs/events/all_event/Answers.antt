@@ -1,11 +1,11 @@
-use Rattle.std.proofs.Common.{length, refl, sym, ◌∙◌, arith}
+use Rattle.std.proofs.Common.{length, refl, sym, ◌∙◌}
 use Rattle.call_model.specs.IdealCall.{Deliver, slices_at}
 use Rattle.call_decoding.specs.Rules.{rules_of}
 use Rattle.call_command.specs.Both.{both_after}
 use Rattle.call_command.specs.Call.{steady}
 use Rattle.call_command.specs.Seen.{in_both}
-use Rattle.call_command.proofs.Doing.{holds_packets, is_refused, mbs_few, told_is}
-use Rattle.call_command.proofs.Networking.{half_few, packet_there}
+use Rattle.call_command.proofs.Doing.{holds_packets, is_refused, told_is}
+use Rattle.call_command.proofs.Networking.{packet_there}
 use Rattle.call_command.proofs.events.all_event.Goals as goal
 
 pub returns-in_err-check_packet-clause-done : goal.returns-in_err-check_packet-clause-done

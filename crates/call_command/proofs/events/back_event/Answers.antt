@@ -1,4 +1,4 @@
-use Rattle.std.proofs.Common.{◌≡◌, ℕ, ◌+◌, ◌≤◌, List, length, map, Option, Some, refl, sym, ap, ◌∙◌, arith}
+use Rattle.std.proofs.Common.{◌≡◌, List, length, map, Some, refl, sym, ap, ◌∙◌, arith}
 use Rattle.std.specs.Prelude.{slice_get}
 use Rattle.call_model.specs.IdealCall.{Back}
 use Rattle.call_model.specs.JoinedRun.{Told}
@@ -6,7 +6,6 @@ use Rattle.call_decoding.specs.Rules.{rules_of}
 use Rattle.call_command.specs.Both.{both_after}
 use Rattle.call_command.specs.Call.{steady}
 use Rattle.call_command.specs.Network.{about_of, told_in}
-use Rattle.call_command.specs.Seen.{in_both}
 use Rattle.call_command.proofs.Doing.{abouts_in_all, as_many, brought_so, is_refused, standing_so, told_is}
 use Rattle.call_command.proofs.Networking.{holds_back, message_there}
 use Rattle.call_command.proofs.Ring.{told_at}

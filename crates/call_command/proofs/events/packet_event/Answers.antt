@@ -1,12 +1,11 @@
 use Rattle.std.proofs.Common.{refl, sym, ◌∙◌}
-use Rattle.h263_types.specs.Clocks.{half_of}
 use Rattle.call_model.specs.IdealCall.{Deliver}
 use Rattle.call_decoding.specs.Rules.{rules_of}
 use Rattle.call_command.specs.Both.{both_after}
 use Rattle.call_command.specs.Call.{steady}
 use Rattle.call_command.specs.Seen.{in_both}
 use Rattle.call_command.proofs.Doing.{is_refused, told_is}
-use Rattle.call_command.proofs.Networking.{half_few, holds_packet, packet_there}
+use Rattle.call_command.proofs.Networking.{holds_packet, packet_there}
 use Rattle.call_command.proofs.events.packet_event.Goals as goal
 
 pub returns-in_err-check_packet-clause-done : goal.returns-in_err-check_packet-clause-done

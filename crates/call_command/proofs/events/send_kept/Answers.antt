@@ -1,4 +1,4 @@
-use Rattle.std.proofs.Common.{◌≡◌, ℕ, List, [], ◌∷◌, ◌++◌, Option, sym, ap, subst, ◌∙◌, arith}
+use Rattle.std.proofs.Common.{◌≡◌, ℕ, List, [], ◌∷◌, ◌++◌, sym, subst, ◌∙◌, arith}
 use Rattle.h263_planes.specs.Lent.{picture}
 use Rattle.call_rings.specs.Keeping as ring
 use Rattle.call_rings.specs.declared.packets.PacketRing.{PacketRing}

@@ -1,4 +1,3 @@
-use Rattle.std.proofs.Common.{ℕ, List}
 use Rattle.call_command.proofs.Packing.{Below, packets_room}
 use Rattle.call_command.proofs.laws.of_packets.Goals as goal
 

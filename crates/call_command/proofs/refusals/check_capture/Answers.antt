@@ -1,4 +1,4 @@
-use Rattle.std.proofs.Common.{◌≡◌, ℕ, ◌+◌, ◌<◌, ◌≤◌, refl, arith}
+use Rattle.std.proofs.Common.{◌+◌, ◌<◌, ◌≤◌, refl, arith}
 use Rattle.call_command.proofs.Refusing.{capture_far, capture_near}
 use Rattle.call_model.specs.Refusals.{Far}
 use Rattle.call_command.proofs.refusals.check_capture.Goals as goal

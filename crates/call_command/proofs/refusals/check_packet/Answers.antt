@@ -1,4 +1,4 @@
-use Rattle.std.proofs.Common.{◌≡◌, ℕ, ◌+◌, ◌<◌, ◌≤◌, refl, arith}
+use Rattle.std.proofs.Common.{◌+◌, ◌<◌, ◌≤◌, refl, arith}
 use Rattle.call_command.proofs.Refusing.{packet_far, packet_near, packet_unsent}
 use Rattle.call_model.specs.Refusals.{Far, NotSent}
 use Rattle.call_command.proofs.refusals.check_packet.Goals as goal

@@ -1,4 +1,4 @@
-use Rattle.std.proofs.Common.{◌≡◌, ℕ, ◌+◌, ◌<◌, ◌≤◌, refl, arith}
+use Rattle.std.proofs.Common.{◌+◌, ◌<◌, ◌≤◌, refl, arith}
 use Rattle.call_command.proofs.Refusing.{play_early, play_near}
 use Rattle.call_model.specs.Refusals.{PlayBeforeSend}
 use Rattle.call_command.proofs.refusals.check_play.Goals as goal

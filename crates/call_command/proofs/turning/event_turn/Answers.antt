@@ -1,17 +1,11 @@
-use Rattle.std.proofs.Common.{◌≡◌, ℕ, ◌+◌, true, List, ◌∷◌, ◌++◌, length, Result, Ok, refl, sym, ap, subst, ◌∙◌, arith}
-use Rattle.h263_outside.specs.declared.desk.Role.{Role}
-use Rattle.h263_outside.specs.declared.desk.Role.TheVariants.{Events}
+use Rattle.std.proofs.Common.{◌≡◌, ℕ, true, ◌∷◌, ◌++◌, Ok, refl, sym, ap, subst, ◌∙◌, arith}
 use Rattle.h263_types.specs.declared.pace.FixedPace.{FixedPace}
 use Rattle.loss_trace.specs.declared.event.Event.TheVariants as said
-use Rattle.loss_trace.specs.declared.fault.TraceFault.{TraceFault}
 use Rattle.loss_trace.specs.declared.reader.TraceReader.{TraceReader}
-use Rattle.call_report.specs.declared.status.Status.{Status}
-use Rattle.call_model.specs.IdealCall.{Event, Deliver, Back}
-use Rattle.call_encoding.specs.Frames.{Frame}
+use Rattle.call_model.specs.IdealCall.{Deliver, Back}
 use Rattle.sender_end.specs.declared.state.State.{State}
 use Rattle.receiver_end.specs.declared.kept.Kept.{Kept}
 use Rattle.call_command.specs.declared.carrier.Carrier.{Carrier}
-use Rattle.call_command.specs.declared.tally.Tally.{Tally}
 use Rattle.call_command.specs.Trace.{delivered}
 use Rattle.call_command.specs.Counts.{total_of}
 use Rattle.call_command.specs.Standing.{EndsStand, Holds, IsDone, PartsStand, going_of, parts_of, refusal_after}

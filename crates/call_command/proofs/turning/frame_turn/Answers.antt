@@ -1,4 +1,4 @@
-use Rattle.std.proofs.Common.{◌≡◌, ℕ, ◌+◌, Bool, true, false, List, [], length, Option, Some, Result, Ok, Err, IfErr, refl, sym, ap, subst, ◌∙◌, arith, Global}
+use Rattle.std.proofs.Common.{◌≡◌, ℕ, Bool, true, false, List, [], length, Option, Some, Ok, Err, refl, sym, ap, subst, ◌∙◌, arith, Global}
 use Rattle.std.specs.Prelude.{if◌then◌else◌}
 use Rattle.std.specs.declared.vec.Vec.{Vec}
 use Rattle.std.specs.Vec.{with_items}
@@ -7,21 +7,18 @@ use Rattle.h263_outside.specs.declared.desk.Role.{Role}
 use Rattle.h263_outside.specs.declared.desk.Role.TheVariants.{Video, Events}
 use Rattle.h263_planes.specs.Layout.{picture_of}
 use Rattle.h263_planes.specs.Lent.{picture}
-use Rattle.h263_planes.specs.Picture.{Picture}
 use Rattle.y4m.specs.Reader.{Moves}
 use Rattle.y4m.specs.Frame.{frame_size}
-use Rattle.call_report.specs.declared.status.Status.{Status}
 use Rattle.call_report.specs.declared.status.Status.TheVariants.{Ok as Fine}
 use Rattle.call_report.specs.Status.{video_stop}
 use Rattle.desk_program.specs.Run.{Step, behind}
 use Rattle.desk_program.specs.Ends.{Ended, TurnGives, Went}
 use Rattle.desk_program.specs.Texts.{of}
-use Rattle.call_encoding.specs.Frames.{Frame}
 use Rattle.call_command.specs.declared.carrier.Carrier.{Carrier}
 use Rattle.h263_types.specs.Sizes.{size_of_picture}
 use Rattle.h263_types.specs.declared.pace.FixedPace.{FixedPace}
-use Rattle.call_command.specs.Both.{AreJoined, IsPassed, IsStanding, bare}
-use Rattle.call_command.specs.Call.{CallState, by_ends, may_read, steady}
+use Rattle.call_command.specs.Both.{IsStanding}
+use Rattle.call_command.specs.Call.{CallState, may_read, steady}
 use Rattle.call_command.specs.Counts.{counts_of}
 use Rattle.call_command.specs.Standing.{PartsStand, parts_of, state_of}
 use Rattle.call_command.proofs.Counting.{cause_cut, counts_are, ends_stand, plainly, settled}

@@ -1,22 +1,19 @@
-use Rattle.std.proofs.Common.{◌≡◌, ℕ, ◌+◌, ◌-◌, Bool, true, false, List, [], Option, Some, None, Result, Ok, Err, refl, sym, ap, subst, ◌∙◌, arith}
+use Rattle.std.proofs.Common.{◌≡◌, ℕ, ◌+◌, ◌-◌, Bool, List, [], Option, Some, None, Result, Ok, refl, sym, ap, subst, ◌∙◌, arith}
 use Rattle.std.specs.Prelude.{if◌then◌else◌}
-use Rattle.h263_outside.specs.declared.desk.Role.{Role}
-use Rattle.h263_outside.specs.declared.desk.Role.TheVariants.{Video, Events, Report}
+use Rattle.h263_outside.specs.declared.desk.Role.TheVariants.{Video, Events}
 use Rattle.loss_trace.specs.declared.event.Event.{Event as Line}
 use Rattle.loss_trace.specs.declared.fault.TraceStop.{TraceStop}
 use Rattle.loss_trace.specs.declared.reader.TraceReader.{TraceReader}
 use Rattle.loss_trace.specs.Reader.{EventGives, Moves}
-use Rattle.call_report.specs.declared.status.Status.{Status}
 use Rattle.call_report.specs.declared.status.Status.TheVariants.{Ok as Fine}
 use Rattle.call_report.specs.Status.{trace_stop}
 use Rattle.desk_program.specs.Run.{Step}
 use Rattle.desk_program.specs.Ends.{Ended, TurnGives}
-use Rattle.call_command.specs.declared.carrier.Carrier.{Carrier}
 use Rattle.call_command.specs.Call.{CallState, by_ends, event_step, may_read}
 use Rattle.call_command.specs.Counts.{counts_of}
-use Rattle.call_command.specs.Standing.{Parts, PartsStand, parts_of, state_of}
+use Rattle.call_command.specs.Standing.{PartsStand, parts_of, state_of}
 use Rattle.call_command.proofs.Behind.{stood_behind}
-use Rattle.call_command.proofs.Counting.{cause_since, counts_are, ends_stand, falls_so, keeps_since, line_by_line, never_ends, settled, unsettled}
+use Rattle.call_command.proofs.Counting.{cause_since, counts_are, ends_stand, falls_so, keeps_since, line_by_line, never_ends, settled}
 use Rattle.call_command.proofs.LineTurning.{found_could, found_is, found_number, found_taken, read_out, trace_cut, trace_ends, trace_stops}
 use Rattle.call_command.proofs.Readying.{ready_read}
 use Rattle.call_command.proofs.FrameTurning.{cut_gives, turn_gives}

@@ -1,22 +1,13 @@
-use Rattle.std.proofs.Common.{◌≡◌, ℕ, ◌+◌, ◌<◌, ◌≤◌, Bool, true, false, List, [], ◌∷◌, ◌++◌, Option, Some, None, Result, Ok, Err, refl, sym, ap, subst, ◌∙◌, arith}
-use Rattle.std.proofs.lemmas.List.{append-nil}
-use Rattle.h263_outside.specs.declared.desk.Role.{Role}
-use Rattle.h263_outside.specs.declared.desk.Role.TheVariants.{Video, Events}
+use Rattle.std.proofs.Common.{◌<◌, true, ◌∷◌, ◌++◌, refl, sym, ap, subst, arith}
+use Rattle.h263_outside.specs.declared.desk.Role.TheVariants.{Events}
 use Rattle.h263_planes.specs.Lent.{picture}
-use Rattle.loss_trace.specs.declared.reader.TraceReader.{TraceReader}
-use Rattle.call_report.specs.declared.status.Status.TheVariants.{WriteFault}
-use Rattle.desk_program.specs.Run.{Step}
-use Rattle.desk_program.specs.Ends.{TurnGives, Went}
 use Rattle.call_model.specs.IdealCall.{Play}
-use Rattle.call_encoding.specs.Frames.{Frame}
 use Rattle.receiver_end.specs.declared.kept.Kept.{Kept}
 use Rattle.call_command.specs.declared.carrier.Carrier.{Carrier}
-use Rattle.call_command.specs.Call.{CallState, by_ends, line_turn, may_read, after_line, with_play, play_texts}
+use Rattle.call_command.specs.Call.{by_ends, line_turn, may_read, after_line, with_play, play_texts}
 use Rattle.desk_program.specs.Run.Step.{Goes}
 use Rattle.call_command.specs.Standing.{EndsStand, PartsStand, parts_of, row_texts}
 use Rattle.call_command.proofs.Behind.{event_refused, holds_here, play_cut, play_goes, row_played, stands_event}
-use Rattle.call_command.proofs.Counting.{settled, unsettled}
-use Rattle.call_command.proofs.Readying.{opens_still, ready_line}
 use Rattle.call_command.proofs.FrameTurning.{cut_gives, turn_gives}
 use Rattle.call_command.proofs.turning.play_line.Goals as goal
 

@@ -1,14 +1,11 @@
-use Rattle.std.proofs.Common.{◌≡◌, ℕ, ◌+◌, Bool, true, false, List, [], ◌∷◌, ◌++◌, length, Option, Some, None, Result, Ok, Err, refl, sym, ap, subst, ◌∙◌, arith, Global}
+use Rattle.std.proofs.Common.{◌≡◌, ℕ, Bool, true, false, List, ◌∷◌, ◌++◌, length, Option, Some, Ok, Err, refl, sym, ap, subst, ◌∙◌, arith, Global}
 use Rattle.std.specs.Prelude.{slice_get}
 use Rattle.std.specs.declared.vec.Vec.{Vec}
 use Rattle.std.specs.Vec.{with_items}
 use Rattle.std.proofs.lemmas.List.{with_items_is}
-use Rattle.h263_outside.specs.declared.desk.Role.{Role}
 use Rattle.h263_outside.specs.declared.desk.Role.TheVariants.{Video, Events}
 use Rattle.h263_types.specs.Sizes.{size_of_picture}
-use Rattle.h263_types.specs.declared.format.Format.{Format}
 use Rattle.h263_types.specs.declared.pace.FixedPace.{FixedPace}
-use Rattle.h263_types.specs.declared.params.Params.{Params}
 use Rattle.h263_planes.specs.Layout.{picture_of}
 use Rattle.h263_planes.specs.Lent.{picture}
 use Rattle.h263_planes.specs.Picture.{Picture}
@@ -28,7 +25,7 @@ use Rattle.call_command.specs.Both.{bare, both_after}
 use Rattle.call_command.specs.Call.{CallState, capture_step, may_read, steady}
 use Rattle.call_command.specs.Refused.{IsAllowed}
 use Rattle.call_command.specs.Seen.{in_both}
-use Rattle.call_command.specs.Standing.{Holds, PartsStand, parts_of, refusal_after}
+use Rattle.call_command.specs.Standing.{Holds, PartsStand, parts_of}
 use Rattle.call_command.proofs.After.{at_end}
 use Rattle.call_command.proofs.Behind.{capture_is, event_refused, holds_here, stands_sent, video_format, video_more, video_place}
 use Rattle.call_command.proofs.Capturing.{frame_missing, frame_sent, frame_stops}

@@ -1,7 +1,5 @@
-use Rattle.std.proofs.Common.{◌≡◌, ℕ, List, ◌∷◌, sym, ap, subst, ◌∙◌}
-use Rattle.back_messages.specs.Said.{text_of}
-use Rattle.call_model.specs.Sending.{SenderEntry, Feedback}
-use Rattle.call_encoding.specs.Frames.{Frame}
+use Rattle.std.proofs.Common.{ℕ, List, ◌∷◌, subst}
+use Rattle.call_model.specs.Sending.{Feedback}
 use Rattle.sender_end.specs.Stands as sender_end
 use Rattle.call_command.specs.Network.{told_in}
 use Rattle.call_command.proofs.OneMore.{after_message, sent_in}

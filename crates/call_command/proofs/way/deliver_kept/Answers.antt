@@ -1,8 +1,7 @@
-use Rattle.std.proofs.Common.{◌≡◌, ℕ, List, ◌∷◌, ◌++◌, Option, Some, None, refl, sym, ap, subst, ◌∙◌}
-use Rattle.std.specs.Prelude.{map, slice_get}
+use Rattle.std.proofs.Common.{◌≡◌, ℕ, List, ◌++◌, Option, Some, None, sym, ap, subst, ◌∙◌}
+use Rattle.std.specs.Prelude.{slice_get}
 use Rattle.std.specs.Option.{option_map, option_map_or}
 use Rattle.back_messages.specs.declared.writing.Said.{Said}
-use Rattle.call_model.specs.IdealCall.{Deliver}
 use Rattle.call_model.specs.JoinedRun.{Told, after_bytes, said_to}
 use Rattle.call_model.specs.Receiving.{heard}
 use Rattle.call_model.specs.Sending as call
@@ -13,7 +12,7 @@ use Rattle.coded_call.specs.Coding.{coding}
 use Rattle.receiver_end.specs.Answers.{IsMessage}
 use Rattle.receiver_end.specs.Decoding.{decoding}
 use Rattle.call_command.specs.Both.{both_after}
-use Rattle.call_command.specs.Network.{HasMessages, told_in, with_said}
+use Rattle.call_command.specs.Network.{HasMessages, with_said}
 use Rattle.call_command.proofs.OneMore.{after_none}
 use Rattle.call_command.proofs.Ring.{kept_is}
 use Rattle.call_command.proofs.Saying.{heard_message, heard_told, kept_told, message_in, told_of}

@@ -1,11 +1,10 @@
-use Rattle.std.proofs.Common.{◌≡◌, ℕ, List, ◌++◌, Option, sym, ap, subst, ◌∙◌}
-use Rattle.call_model.specs.Coding.{Message}
+use Rattle.std.proofs.Common.{◌≡◌, ℕ, List, ◌++◌, ap, ◌∙◌}
 use Rattle.call_model.specs.JoinedRun.{Told}
 use Rattle.call_model.specs.Receiving.{played_message}
 use Rattle.call_decoding.specs.Rules.{rules_of}
 use Rattle.receiver_end.specs.Decoding.{decoding}
 use Rattle.call_command.specs.Both.{both_after}
-use Rattle.call_command.specs.Network.{HasMessages, with_said}
+use Rattle.call_command.specs.Network.{with_said}
 use Rattle.call_command.proofs.OneMore.{played_is}
 use Rattle.call_command.proofs.Saying.{kept_told, told_of}
 use Rattle.call_command.proofs.way.play_kept.Goals as goal
