@@ -26,4 +26,5 @@ mod Bringing
 mod Packing
 mod Plain
 mod EachFrame
+mod Conversing
 mod FaultOfVideo

@@ -10,14 +10,21 @@ use Rattle.call_command.specs.declared.terms.Terms.{Terms}
 use Rattle.call_command.specs.Call.{CallState, first_state, most_turns, talk_step}
 use Rattle.call_command.specs.Standing.{EndsStand, Parts, PartsReady, PartsStand}
 
--- what is lent, by name
+-- what stays for the whole call: what is asked for, and what is lent, by name
 pub record Names : Type 0 where
+  pub terms : Terms
   pub video : ℕ
   pub sender : ℕ
   pub receiver : ℕ
 
 abbrev pub names_of : World → Names
-names_of m = record { video = m.video.ghost_name; sender = m.sender.ghost_name; receiver = m.receiver.ghost_name }
+names_of m =
+    record {
+      terms = m.terms;
+      video = m.video.ghost_name;
+      sender = m.sender.ghost_name;
+      receiver = m.receiver.ghost_name;
+    }
 
 abbrev pub parts_of_world : World → Parts
 parts_of_world m =

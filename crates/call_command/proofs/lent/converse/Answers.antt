@@ -1,34 +1,59 @@
-use Rattle.std.proofs.Common.{◌≡◌, refl, sym, subst, ◌∙◌}
+use Rattle.std.proofs.Common.{ap, rules}
+use Rattle.h263_types.specs.declared.pace.FixedPace.{FixedPace}
+use Rattle.sender_end.specs.declared.sender.Sender.{Sender}
 use Rattle.call_command.specs.declared.lent.World.{World}
-use Rattle.call_command.specs.Call.{first_state, may_read, most_turns, talk_step}
-use Rattle.call_command.specs.Converse.{WorldStands, parts_of_world, talk_end}
-use Rattle.call_command.proofs.Starting.{stands_first}
+use Rattle.call_command.specs.Converse.{Names, talk_end}
+use Rattle.call_command.proofs.Conversing.{ends_in, lent_first, lent_stand, under_way}
 use Rattle.call_command.proofs.lent.converse.Goals as goal
 
--- the machine stands before the first event
-first_stands : goal.returns-in-Ok-clause-gives
-first_stands g c = λ before inputs receives told.
-    let outside = g.D.Desk.outside in
-    let terms = c.terms in
-    let world : World = c.world in
-    let at = c.args.video.now.at in
-    let begun = sym receives.played ∙ c.requires.played in
-    let kept : WorldStands world (first_state terms before at) inputs =
-    stands_first (parts_of_world world) c.in-Ok.ensures c.requires.sender_params c.requires.sends c.requires.sent c.requires.frames before at inputs refl c.requires.receiver_params receives begun
-    in
-    c.take_turns.ensures.gives _ inputs (outside c.args.desk.now).written
-    (record {
-      done = [];
-      state = first_state terms before at;
-      rest = inputs;
-      kept = kept;
-      turns = refl;
-      last = refl;
-      place = refl;
-      told = told;
-      whole = λ _. tt;
-      written = c.turn_laws.ensures.no_text (outside c.args.desk.now).written (outside c.args.desk.now).written refl;
-    })
-
 pub returns-in-Ok-clause-gives : goal.returns-in-Ok-clause-gives
-returns-in-Ok-clause-gives g c = first_stands g c
+returns-in-Ok-clause-gives g c = λ before inputs receives told.
+    let now = g.D.Desk.outside c.args.desk.now in
+    let w : World = record {
+      terms = record { params = c.args.params.now; plain = c.args.plain };
+      video = c.args.video;
+      sender = c.args.sender;
+      receiver = c.args.receiver;
+      carrier = c.in-Ok.carrier;
+    } in
+    let asks = c.requires in
+    let fresh = c.in-Ok.ensures in
+    let kept = lent_first w before inputs fresh asks.sender_params asks.sends asks.sent asks.frames asks.receiver_params asks.played receives in
+    c.take_turns.ensures.gives _ inputs now.written (under_way w before inputs now fresh.lines asks.frames kept told c.turn_laws.ensures)
+
+pub returns-in-Ok-clause-whole_input : goal.returns-in-Ok-clause-whole_input
+returns-in-Ok-clause-whole_input g c = λ before inputs receives told.
+    let now = g.D.Desk.outside c.args.desk.now in
+    let w : World = record {
+      terms = record { params = c.args.params.now; plain = c.args.plain };
+      video = c.args.video;
+      sender = c.args.sender;
+      receiver = c.args.receiver;
+      carrier = c.in-Ok.carrier;
+    } in
+    let asks = c.requires in
+    let fresh = c.in-Ok.ensures in
+    let kept = lent_first w before inputs fresh asks.sender_params asks.sends asks.sent asks.frames asks.receiver_params asks.played receives in
+    c.take_turns.ensures.whole_input _ inputs now.written (under_way w before inputs now fresh.lines asks.frames kept told c.turn_laws.ensures)
+
+pub returns-in-Ok-clause-stands : goal.returns-in-Ok-clause-stands
+returns-in-Ok-clause-stands g c = λ before inputs receives told.
+    let now = g.D.Desk.outside c.args.desk.now in
+    let w : World = record {
+      terms = record { params = c.args.params.now; plain = c.args.plain };
+      video = c.args.video;
+      sender = c.args.sender;
+      receiver = c.args.receiver;
+      carrier = c.in-Ok.carrier;
+    } in
+    let asks = c.requires in
+    let fresh = c.in-Ok.ensures in
+    let kept = lent_first w before inputs fresh asks.sender_params asks.sends asks.sent asks.frames asks.receiver_params asks.played receives in
+    let final = talk_end w.terms before w.video.now.at inputs in
+    let machine = c.take_turns.new.machine in
+    let names = c.take_turns.ensures.loan in
+    let sender_is = ap (λ (n : Names). n.sender) names in
+    let receiver_is = ap (λ (n : Names). n.receiver) names in
+    lent_stand {Sender = Sender FixedPace} (λ (x : Sender FixedPace). x.state) c.take_turns.result final w.terms machine.terms _ machine.sender.now _ machine.receiver.now
+    (ap (λ (n : Names). n.terms) names) (search (rules, sender_is)) ?
+    (c.take_turns.ensures.keeps final (ends_in w before inputs now fresh.lines asks.frames kept told))

@@ -18,3 +18,6 @@ returns-clause-gives g c = λ s inputs k told.
     by_the_call c.take_turn.result new s inputs (outside c.args.desk.now) (outside c.take_turn.new.desk) k.alone
     (same_step (parts_in m) (c.ends_run.ensures p) (c.of_near_events.ensures p in_range) (λ frames past near. c.ends_agree.ensures p frames past in_range near) s inputs k.parts k.alone c.requires.level)
     (c.take_turn.ensures.gives s inputs k.parts told)
+
+pub returns-clause-whole : goal.returns-clause-whole
+returns-clause-whole g c = λ s inputs k told. c.take_turn.ensures.whole s inputs k.parts told
