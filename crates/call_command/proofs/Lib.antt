@@ -27,4 +27,5 @@ mod Packing
 mod Plain
 mod EachFrame
 mod Conversing
+mod Unattached
 mod FaultOfVideo

@@ -442,7 +442,7 @@ fn hear_another(alloc: Global, params: &Params, receiver: &mut Receiver) -> Resu
     };
     let mut other = Sender::start(alloc, params, pace)?;
     let coded = other.code(PictureRef::new(params.format, &frame), &[]);
-    for place in 0..coded.packets {
+    'packets: for place in 0..coded.packets {
         let _answer = receiver.packet(other.packet(place));
     }
     other.finish();
