@@ -45,7 +45,7 @@ use Rattle.call_command.specs.Both.{bare, both_after}
 use Rattle.call_command.specs.Call.{CallState, after_line, by_ends, capture_step, event_step, line_size, line_turn, may_read, newest_texts, play_texts, refusal_at, steady, unless, with_frame, with_play}
 use Rattle.call_command.specs.Refused.{IsAllowed, fault_of}
 use Rattle.call_command.specs.Seen.{reference_in}
-use Rattle.call_command.specs.Standing.{EndsStand, HasTaken, Holds, IsDone, Parts, PartsStand, StoodBefore, going_of, refusal_after, row_texts, state_of}
+use Rattle.call_command.specs.Standing.{HasTaken, Holds, IsDone, Parts, PartsStand, StoodBefore, going_of, refusal_after, row_texts, state_of}
 use Rattle.call_command.proofs.After.{longer, push_then}
 use Rattle.call_command.proofs.OneMore.{heard_in, played_is, screen_is}
 use Rattle.call_command.proofs.LineTurning.{double_not, event_done, line_refused, nothing_behind}
@@ -126,9 +126,6 @@ module _ (x : Parts) (s : CallState) (inputs : Role → List ℕ) (k : StoodBefo
 
   pub holds_here : Holds x.terms x.sender x.receiver x.carrier s.before s.frames s.past
   holds_here = subst (λ (l : List Frame). Holds x.terms x.sender x.receiver x.carrier s.before l s.past) (append-nil s.frames) (k.holds [])
-
-  pub ends_stood : EndsStand x.terms x.sender x.receiver s
-  ends_stood = holds_here.joined
 
   -- the refusal by the state is that by both ends
   pub refusal_here : (e : Event) → refusal_at by_ends s e ≡ refusal_after p s.before s.frames s.past e

@@ -1,5 +1,5 @@
 -- What a line `S` makes of the frame that is read for it.
-use Rattle.std.proofs.Common.{◌≡◌, ◌≢◌, ℕ, ◌+◌, ◌-◌, ◌<◌, ◌≤◌, Bool, true, false, not, List, [], ◌∷◌, length, take, drop, Some, Result, Ok, Err, IsErr, refl, sym, ap, ◌∙◌, arith}
+use Rattle.std.proofs.Common.{◌≡◌, ◌≢◌, ℕ, ◌+◌, ◌-◌, ◌<◌, ◌≤◌, Bool, true, false, List, [], ◌∷◌, length, take, drop, Some, Result, Ok, Err, IsErr, refl, sym, ap, ◌∙◌, arith}
 use Rattle.std.specs.Prelude.{◌&&◌, nat_le}
 use Rattle.h263_outside.specs.Desk.{Outside, IsInput}
 use Rattle.h263_outside.specs.declared.desk.Role.{Role}
@@ -22,6 +22,8 @@ use Rattle.call_command.specs.Both.{bare}
 use Rattle.call_command.specs.Call.{CallState, after_line, capture_step, captured_step, line_size, may_read, refused_line, with_frame}
 use Rattle.call_command.specs.Laws.{VideoLaws}
 use Rattle.call_command.specs.Standing.{HasTaken}
+use Rattle.call_command.proofs.Cutting.{and_false}
+use Rattle.call_command.proofs.LineTurning.{double_not}
 use Rattle.call_command.proofs.FrameTurning.{Gives, next_is, not_an_err, not_held}
 
 -- ---- a part of a frame holds no turn
@@ -29,10 +31,6 @@ use Rattle.call_command.proofs.FrameTurning.{Gives, next_is, not_an_err, not_hel
 -- the bytes of the line, and so many of its frame
 abbrev some_of : List ℕ → ℕ → Role → ℕ
 some_of trace n = and_of (of Events (line_size trace)) (of Video n)
-
-and_false : (b : Bool) → (b && false) ≡ false
-and_false true = refl
-and_false false = refl
 
 no_frame_held : (t : Turn) (k : Role → ℕ) → (t.taken Video ≤ k Video → ⊥) → holds t k ≡ false
 no_frame_held t k few =
@@ -61,10 +59,6 @@ video_next : (s : CallState) (trace video : List ℕ) (r : Result (List ℕ) Y4m
     → capture_step s trace video ≡ captured_step s trace (frame_size s.params.format video) r
 video_next s trace [] r some is = absurd (omega arith)
 video_next s trace (b ∷ rest) r some is = ap (captured_step s trace (frame_size s.params.format (b ∷ rest))) is
-
-double_not : (b : Bool) → not (not b) ≡ b
-double_not true = refl
-double_not false = refl
 
 -- ---- the capture: `old` is the desk behind the line, `mid` behind the read of the frame
 

@@ -78,9 +78,6 @@ settled (Ok true) P p = tt
 settled (Ok false) P p = p
 settled (Err status) P p = once (phase status) P p
 
-pub unsettled : (r : Result Bool Status) (P : Type 0) → r ≡ Err WriteFault → OnSettled r P
-unsettled r P is = subst (λ (y : Result Bool Status). OnSettled y P) (sym is) tt
-
 pub ends_stand : (x : Parts) (s : CallState) (inputs : Role → List ℕ) → PartsStand x s inputs → EndsStand x.terms x.sender x.receiver s
 ends_stand x s inputs k = (holds_now x s inputs k).joined
 

@@ -88,7 +88,7 @@ turn_trace s inputs (b ∷ trace) = turn_choice s inputs (b ∷ trace) (nat_lt s
 
 -- ---- what was taken holds none
 
-and_false : (b : Bool) → (b && false) ≡ false
+pub and_false : (b : Bool) → (b && false) ≡ false
 and_false true = refl
 and_false false = refl
 

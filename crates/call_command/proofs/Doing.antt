@@ -1,5 +1,5 @@
 -- An event is done or refused by the counts of both ends, and what it leaves of them.
-use Rattle.std.proofs.Common.{◌≡◌, ◌⊎◌, inl, inr, ℕ, suc, ◌+◌, ◌-◌, ◌<◌, ◌≤◌, false, List, [], ◌∷◌, ◌++◌, length, Option, Some, None, Result, Ok, Err, IsErrAnd, refl, sym, ap, subst, ◌∙◌, arith}
+use Rattle.std.proofs.Common.{◌≡◌, ◌⊎◌, inl, inr, ℕ, ◌+◌, ◌-◌, ◌<◌, ◌≤◌, false, List, [], ◌∷◌, ◌++◌, length, Option, Some, None, Result, Ok, Err, IsErrAnd, refl, sym, ap, subst, ◌∙◌, arith}
 use Rattle.std.specs.Prelude.{map, slice_get, slice_index_or}
 use Rattle.std.proofs.lemmas.Bool.{cases_lt}
 use Rattle.h263_types.specs.declared.params.Params.{Params}
@@ -49,7 +49,7 @@ use Rattle.call_command.specs.Seen.{Seen, in_both, reference_in}
 use Rattle.call_command.specs.Standing.{Holds, IsDone, refusal_after}
 use Rattle.call_command.proofs.BothAfter.{counts_near, near_delivered, plays_delivered, sender_delivered}
 use Rattle.call_command.proofs.OneMore.{played_is, sent_is}
-use Rattle.call_command.proofs.Networking.{half_few, near_packet}
+use Rattle.call_command.proofs.Networking.{as_many, half_few, near_packet}
 use Rattle.call_command.proofs.Refusing.{play_early}
 use Rattle.call_command.proofs.Ring.{abouts_are}
 use Rattle.call_command.proofs.Sent.{noted_is}
@@ -63,10 +63,6 @@ is_refused (Ok x) fault line e o told P is same refused = absurd is
 is_refused (Err x) fault line e o told P is same refused = (refused.0, sym same ∙ refused.1, is ∙ refused.2)
 
 -- ---- by the counts of both ends
-
-pub as_many : {X Y : Type 0} (f : X → Y) (xs : List X) → length (map f xs) ≡ length xs
-as_many f [] = refl
-as_many f (x ∷ xs) = ap (λ (n : ℕ). suc n) (as_many f xs)
 
 module _ (t : Terms) (runs : EachEndRuns (coding t.params) (rules_of t.params)) (sender : State) (receiver : Kept) (carrier : Carrier) (before : List ReceiverEntry) (frames : List Frame) (past : List Event) (h : Holds t sender receiver carrier before frames past) where
   abbrev both : Joined Style Mb Picture

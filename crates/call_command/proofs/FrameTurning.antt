@@ -1,6 +1,9 @@
 -- The turns of a call over its plain trace, by what the reader of the video says and what was written.
-use Rattle.std.proofs.Common.{◌≡◌, ◌≢◌, ℕ, zero, suc, ◌+◌, ◌-◌, ◌<◌, ◌≤◌, Bool, true, false, not, List, [], ◌∷◌, length, take, drop, Option, Some, Result, Ok, Err, IsErr, IsErrAnd, refl, sym, ap, ◌∙◌, subst, arith}
+use Rattle.std.proofs.Common.{◌≡◌, ◌≢◌, ℕ, zero, suc, ◌+◌, ◌-◌, ◌<◌, ◌≤◌, Bool, true, false, not, List, [], ◌∷◌, length, take, drop, Option, Some, Result, Ok, Err, IsErr, IsErrAnd, refl, sym, ap, ◌∙◌, subst, arith, Global}
 use Rattle.std.specs.Prelude.{◌&&◌, nat_le}
+use Rattle.std.specs.declared.vec.Vec.{Vec}
+use Rattle.std.specs.Vec.{with_items}
+use Rattle.std.proofs.lemmas.List.{with_items_is}
 use Rattle.std.proofs.lemmas.Bool.{leb-true, false≢true}
 use Rattle.h263_outside.specs.Desk.{Outside, IsInput}
 use Rattle.h263_outside.specs.declared.desk.Role.{Role}
@@ -66,6 +69,10 @@ module _ (laws : VideoLaws) where
 video_next : (s : CallState) (video : List ℕ) (r : Result (List ℕ) Y4mFault) → 0 < length video → next_frame s.more s.params.format s.at video ≡ r → video_step by_ends s video ≡ frame_step by_ends s video r
 video_next s [] r some is = absurd (omega arith)
 video_next s (b ∷ rest) r some is = ap (frame_step by_ends s (b ∷ rest)) is
+
+-- a buffer that was lent whole holds what was put there
+pub lent : (v : Vec ℕ Global) (l got : List ℕ) (n : ℕ) → got ≡ (with_items v l).items → length l ≡ n → n ≡ v.len → got ≡ l
+lent v l got n is long whole = is ∙ with_items_is v l (omega (arith, long, whole, v.ok.0))
 
 -- what the reader of a frame says, for a state that has its format, place and count
 abbrev pub Gives : Result Bool VideoStop → CallState → List ℕ → List ℕ → Y4mReader → Option (List ℕ) → Type 0

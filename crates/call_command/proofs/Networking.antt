@@ -50,7 +50,8 @@ use Rattle.call_command.proofs.Passing.{count_more, steady_is}
 use Rattle.call_command.proofs.Refusing.{any_back, any_packet, any_play, capture_not_far}
 use Rattle.call_command.proofs.Sent.{has_one_more, noted_more}
 
-as_many : {X Y : Type 0} (f : X → Y) (xs : List X) → length (map f xs) ≡ length xs
+-- as many as before
+pub as_many : {X Y : Type 0} (f : X → Y) (xs : List X) → length (map f xs) ≡ length xs
 as_many f [] = refl
 as_many f (x ∷ xs) = ap (λ (n : ℕ). suc n) (as_many f xs)
 

@@ -6,8 +6,8 @@ use Rattle.call_decoding.specs.Rules.{rules_of}
 use Rattle.call_command.specs.Both.{both_after}
 use Rattle.call_command.specs.Call.{steady}
 use Rattle.call_command.specs.Network.{about_of, told_in}
-use Rattle.call_command.proofs.Doing.{abouts_in_all, as_many, brought_so, is_refused, standing_so, told_is}
-use Rattle.call_command.proofs.Networking.{holds_back, message_there}
+use Rattle.call_command.proofs.Doing.{abouts_in_all, brought_so, is_refused, standing_so, told_is}
+use Rattle.call_command.proofs.Networking.{as_many, holds_back, message_there}
 use Rattle.call_command.proofs.Ring.{told_at}
 use Rattle.call_command.proofs.events.back_event.Goals as goal
 

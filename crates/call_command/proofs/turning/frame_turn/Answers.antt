@@ -1,6 +1,5 @@
-use Rattle.std.proofs.Common.{◌≡◌, ℕ, Bool, true, false, List, [], length, Option, Some, Ok, Err, refl, sym, ap, subst, ◌∙◌, arith, Global}
+use Rattle.std.proofs.Common.{◌≡◌, ℕ, Bool, true, false, List, [], length, Option, Some, Ok, Err, refl, sym, ap, subst, ◌∙◌, arith}
 use Rattle.std.specs.Prelude.{if◌then◌else◌}
-use Rattle.std.specs.declared.vec.Vec.{Vec}
 use Rattle.std.specs.Vec.{with_items}
 use Rattle.std.proofs.lemmas.List.{with_items_is}
 use Rattle.h263_outside.specs.declared.desk.Role.{Role}
@@ -24,7 +23,7 @@ use Rattle.call_command.specs.Standing.{PartsStand, parts_of, state_of}
 use Rattle.call_command.proofs.Counting.{cause_cut, counts_are, ends_stand, plainly, settled}
 use Rattle.call_command.proofs.PassedOn.{passed_so, row_is, stands_behind}
 use Rattle.call_command.proofs.Readying.{ready_frame}
-use Rattle.call_command.proofs.FrameTurning.{cut_gives, end_cut, frame_cut, frame_goes, frame_stops, given, gives_so, turn_gives, video_ends}
+use Rattle.call_command.proofs.FrameTurning.{cut_gives, end_cut, frame_cut, frame_goes, frame_stops, given, gives_so, lent, turn_gives, video_ends}
 use Rattle.call_command.proofs.turning.frame_turn.Goals as goal
 
 pub returns-in_err-frame-clause-gives : goal.returns-in_err-frame-clause-gives
@@ -83,10 +82,6 @@ returns-then-not-branch-clause-whole g c = λ s inputs k told.
     let gone = (given (Ok c.in_ok-frame.field-0) (Ok false) c.args.video.now c.frame.new.self (inputs Video) c.frame.new.out _ (ap (λ (b : Bool). Ok b) c.if-not-branch.true) (c.in_ok-frame.ensures.gives (inputs Video) (told Video refl))).1 in
     let out = ap (λ (l : Role → Option (List ℕ)). l Video) c.tell_counts.ensures.rest.left ∙ gone in
     subst (λ (b : Bool). (outside c.tell_counts.new.desk).left (if b then Video else Events) ≡ Some []) (sym c.requires.plain) out
-
--- a buffer that was lent whole holds what was put there
-lent : (v : Vec ℕ Global) (l got : List ℕ) (n : ℕ) → got ≡ (with_items v l).items → length l ≡ n → n ≡ v.len → got ≡ l
-lent v l got n is long whole = is ∙ with_items_is v l (omega (arith, long, whole, v.ok.0))
 
 pub returns-in_err-show-clause-gives : goal.returns-in_err-show-clause-gives
 returns-in_err-show-clause-gives g c = λ s inputs k told.

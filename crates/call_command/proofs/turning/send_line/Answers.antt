@@ -1,6 +1,5 @@
-use Rattle.std.proofs.Common.{◌≡◌, ℕ, Bool, true, false, List, ◌∷◌, ◌++◌, length, Option, Some, Ok, Err, refl, sym, ap, subst, ◌∙◌, arith, Global}
+use Rattle.std.proofs.Common.{◌≡◌, ℕ, Bool, true, false, List, ◌∷◌, ◌++◌, length, Option, Some, Ok, Err, refl, sym, ap, subst, ◌∙◌, arith}
 use Rattle.std.specs.Prelude.{slice_get}
-use Rattle.std.specs.declared.vec.Vec.{Vec}
 use Rattle.std.specs.Vec.{with_items}
 use Rattle.std.proofs.lemmas.List.{with_items_is}
 use Rattle.h263_outside.specs.declared.desk.Role.TheVariants.{Video, Events}
@@ -32,7 +31,7 @@ use Rattle.call_command.proofs.Capturing.{frame_missing, frame_sent, frame_stops
 use Rattle.call_command.proofs.Counting.{settled}
 use Rattle.call_command.proofs.Doing.{not_far, told_is}
 use Rattle.call_command.proofs.Readying.{ready_sent}
-use Rattle.call_command.proofs.FrameTurning.{given, gives_so, turn_gives}
+use Rattle.call_command.proofs.FrameTurning.{given, gives_so, lent, turn_gives}
 use Rattle.call_command.proofs.turning.send_line.Goals as goal
 
 pub returns-in-Err-clause-gives : goal.returns-in-Err-clause-gives
@@ -82,10 +81,6 @@ returns-then-not-branch-clause-gives g c = λ before s inputs k number taken.
     in
     subst (λ (step : Step CallState). Ended step (TraceRefused (NoFrame c.args.line)) inputs before mid) (sym (capture_is x s inputs k none))
     (frame_missing c.turn_laws.ensures c.of_the_video.ensures s inputs before old mid taken c.frame.ensures.others c.frame.ensures.rest.written c.frame.new.self out c.args.line number e)
-
--- a buffer that was lent whole holds what was put there
-lent : (v : Vec ℕ Global) (l got : List ℕ) (n : ℕ) → got ≡ (with_items v l).items → length l ≡ n → n ≡ v.len → got ≡ l
-lent v l got n is long whole = is ∙ with_items_is v l (omega (arith, long, whole, v.ok.0))
 
 pub returns-clause-gives : goal.returns-clause-gives
 returns-clause-gives g c = λ before s inputs k number taken.
