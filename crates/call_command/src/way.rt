@@ -153,7 +153,8 @@ pub fn deliver_all_kept(
         (length (slices_at (both_after p pace frames before past).sender.coded number)) ++ past)).said }
 {
     of_messages();
-    'packets: for place in 0..packets.count(number) {
+    let sent = packets.count(number);
+    'packets: for place in 0..sent {
         deliver_kept(packets, messages, receiver, number, place);
     }
 }

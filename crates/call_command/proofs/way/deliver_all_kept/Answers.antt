@@ -48,7 +48,7 @@ returns-clause-joined c = λ p pace sender frames before past both has among.
     let coded = (both_after p pace frames before past).sender.coded in
     let many = ap (λ (l : List (List ℕ)). length l) (kept_is p c.args.packets.now coded n has among) ∙ count_is p coded n (c.of_messages.ensures p).count in
     let all : c.packets.place ≡ length (slices_at coded n) =
-    omega (arith, c.packets-test.false, c.packets.auto.place-end, c.count-place-end.ensures.packets has.pictures has.keeps, many)
+    omega (arith, c.packets-test.false, c.packets.auto.place-end, c.count-sent.ensures.packets has.pictures has.keeps, many)
     in
     subst (λ (k : ℕ). AreJoined p pace sender c.packets.receiver frames before (delivered n k ++ past)) all
     (c.packets.invariant.joined p pace sender frames before past both has among)
@@ -59,7 +59,7 @@ returns-clause-kept c = λ p pace sender frames before past both has among messa
     let coded = (both_after p pace frames before past).sender.coded in
     let many = ap (λ (l : List (List ℕ)). length l) (kept_is p c.args.packets.now coded n has among) ∙ count_is p coded n (c.of_messages.ensures p).count in
     let all : c.packets.place ≡ length (slices_at coded n) =
-    omega (arith, c.packets-test.false, c.packets.auto.place-end, c.count-place-end.ensures.packets has.pictures has.keeps, many)
+    omega (arith, c.packets-test.false, c.packets.auto.place-end, c.count-sent.ensures.packets has.pictures has.keeps, many)
     in
     subst (λ (k : ℕ). HasMessages c.packets.messages (both_after p pace frames before (delivered n k ++ past)).said) all
     (c.packets.invariant.kept p pace sender frames before past both has among messages)
