@@ -34,7 +34,8 @@ use loss_trace::TraceFault;
 use receiver_end::Receiver;
 use sender_end::Sender;
 
-/// Sends the next picture, and keeps its packets and its reference.
+/// Sends the next picture, of this frame, and keeps its packets and its reference. Whether it may be
+/// captured is asked before its frame is read.
 pub fn send_kept(
     terms: &Terms,
     sender: &mut Sender<FixedPace>,
@@ -74,7 +75,8 @@ pub fn send_kept(
     keep_packets(packets, sender, coded.packets);
 }
 
-/// Delivers the packet at a place of a picture, if there is one.
+/// Delivers the packet at a place of a picture, if there is one. A picture that was not sent is
+/// refused, and one that lies half a period or more behind the play.
 pub fn packet_event(
     line: u32,
     number: u32,
@@ -117,7 +119,7 @@ pub fn packet_event(
     Ok(())
 }
 
-/// Delivers all packets of a picture in their order.
+/// Delivers all packets of a picture in their order. It is refused as one packet is.
 pub fn all_event(
     line: u32,
     number: u32,
@@ -156,7 +158,8 @@ pub fn all_event(
     Ok(())
 }
 
-/// Brings a message back to the sender.
+/// Brings a message back to the sender. One that was not said is refused, and one about a picture that
+/// lies half a period or more behind the capture.
 pub fn back_event(
     line: u32,
     message: u32,
@@ -191,7 +194,8 @@ pub fn back_event(
     Ok(())
 }
 
-/// Plays the next picture, and counts its mark.
+/// Plays the next picture, and counts and answers its mark. It is refused where all pictures that were
+/// sent were played.
 pub fn play_event(
     line: u32,
     terms: &Terms,
@@ -235,7 +239,7 @@ pub fn play_event(
     Ok(mark)
 }
 
-/// The reference of the picture that is played next.
+/// The reference that the picture was coded from that is played next, none where it was coded intra.
 pub fn reference_of_next(
     terms: &Terms,
     sender: &Sender<FixedPace>,
