@@ -34,8 +34,8 @@ use loss_trace::TraceFault;
 use receiver_end::Receiver;
 use sender_end::Sender;
 
-/// Sends the next picture, of this frame, and keeps its packets and its reference. Whether it may be
-/// captured is asked before its frame is read.
+/// Sends the next picture, of this frame, and keeps its packets and its reference. Whether it may
+/// be captured is asked before its frame is read.
 pub fn send_kept(
     terms: &Terms,
     sender: &mut Sender<FixedPace>,
@@ -146,9 +146,9 @@ pub fn all_event(
         (refusal_after terms.now.params before frames past (Deliver number 0))
         (Holds terms.now sender.now.state receiver.new carrier.new before frames
         (delivered number
-        (length
-        (slices_at (both_after terms.now.params (steady terms.now.params) frames before past).sender.coded number))
-        ++ past)) }
+        (length (slices_at
+        (both_after terms.now.params (steady terms.now.params) frames before past).sender.coded
+        number)) ++ past)) }
 {
     ends_run();
     of_near_events();
@@ -158,8 +158,8 @@ pub fn all_event(
     Ok(())
 }
 
-/// Brings a message back to the sender. One that was not said is refused, and one about a picture that
-/// lies half a period or more behind the capture.
+/// Brings a message back to the sender. One that was not said is refused, and one about a picture
+/// that lies half a period or more behind the capture.
 pub fn back_event(
     line: u32,
     message: u32,
@@ -194,8 +194,8 @@ pub fn back_event(
     Ok(())
 }
 
-/// Plays the next picture, and counts and answers its mark. It is refused where all pictures that were
-/// sent were played.
+/// Plays the next picture, and counts and answers its mark. It is refused where all pictures that
+/// were sent were played.
 pub fn play_event(
     line: u32,
     terms: &Terms,
@@ -239,7 +239,8 @@ pub fn play_event(
     Ok(mark)
 }
 
-/// The reference that the picture was coded from that is played next, none where it was coded intra.
+/// The reference from which the picture was coded that is played next: none where it was coded
+/// intra.
 pub fn reference_of_next(
     terms: &Terms,
     sender: &Sender<FixedPace>,

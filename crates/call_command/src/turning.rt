@@ -1,7 +1,8 @@
 //! One turn of a call: a frame over the plain trace, a line over a recorded one.
 //!
 //! Every part is lent, so that a machine may own its ends or have them from its caller.
-ghost use Rattle.std.specs.Prelude.{◌≡◌, ◌+◌, ◌*◌, ◌≤◌, ℕ, true, false, List, [], Some, IfErr, OnOk, OnErr};
+ghost use Rattle.std.specs.Prelude.{◌≡◌, ◌+◌, ◌*◌, ◌≤◌, ℕ, true, false, List, [], Some};
+ghost use Rattle.std.specs.Prelude.{IfErr, OnErr, OnOk};
 ghost use Rattle.h263_outside.specs.Desk.{Faults, OnlyWrites, Outside, Rose};
 ghost use Rattle.h263_outside.specs.declared.desk.Role.{Role};
 ghost use Rattle.h263_outside.specs.declared.desk.Role.TheVariants.{Events, Report};
