@@ -1,8 +1,9 @@
 // Runs over a desk in memory. Where memory ran out in a test its steps are taken again, and are
 // then to reach their end.
-ghost use Rattle.std.specs.Prelude.{◌≡◌, ◌<◌};
+ghost use Rattle.std.specs.Prelude.{◌≡◌, ◌<◌, true, OnOk};
 ghost use Rattle.h263_types.specs.Params.{IsParams};
 ghost use Rattle.h263_outside.specs.Desk.{NoneAttached};
+ghost use Rattle.h263_outside.specs.declared.desk.Role.TheVariants.{Video, Pictures, Report};
 
 use crate::{Call, Terms, converse};
 use call_report::Status;
@@ -453,20 +454,30 @@ const FLAT_50: &[u8] = &[50; 18_432];
 
 const DARKER: &[&[u8]] = &[HEAD_LINE, FRAME_LINE, FLAT_50];
 
-const ROLES: &[(Role, &str)] = &[
-    (Role::Report, ""),
-    (Role::Video, "in"),
-    (Role::Pictures, "out"),
-];
+// Attaches the roles of a call over the plain trace on a desk on which nothing is attached.
+fn attach_roles<D: Desk>(desk: &mut D) -> Result<(), OutOfMemory>
+    requires { NoneAttached (D.outside desk.old).attached }
+    ensures video { OnOk result ((D.outside desk.new).attached Video ≡ true) }
+    ensures pictures { OnOk result ((D.outside desk.new).attached Pictures ≡ true) }
+    ensures report { OnOk result ((D.outside desk.new).attached Report ≡ true) }
+{
+    let order = &[
+        (Role::Report, ""),
+        (Role::Video, "in"),
+        (Role::Pictures, "out"),
+    ];
+    match attach_all(desk, order) {
+        Ok(()) => Ok(()),
+        Err(_) => Err(OutOfMemory),
+    }
+}
 
 // How a call over the plain trace ends whose receiver had heard another picture 0, and whether that
 // one was shown, as exact, and counted.
 fn conversed(alloc: Global) -> Result<(Status, bool, bool), OutOfMemory> {
     let mut desk = MemoryDesk::new(alloc, 4096, 200_000)?;
     desk.put(Role::Video, &joined(alloc, DARKER)?)?;
-    if attach_all(&mut desk, ROLES).is_err() {
-        return Err(OutOfMemory);
-    }
+    attach_roles(&mut desk)?;
     let Ok(mut video) = Y4mReader::head(&mut desk) else {
         return Err(OutOfMemory);
     };
