@@ -33,7 +33,7 @@ parts_of_world m =
       video = m.video.now;
       sender = m.sender.now.state;
       receiver = m.receiver.now;
-      carrier = m.carrier;
+      carrier = m.carrier.now;
     }
 
 abbrev pub WorldStands : World → CallState → (Role → List ℕ) → Type 0

@@ -30,7 +30,7 @@ struct World<'a> {
     video: &'a mut Y4mReader,
     sender: &'a mut Sender<FixedPace>,
     receiver: &'a mut Receiver,
-    carrier: Carrier,
+    carrier: &'a mut Carrier,
 }
 
 impl<'a> Turns for World<'a> {
@@ -60,7 +60,7 @@ impl<'a> Turns for World<'a> {
 
     ghost most = { λ t. most_turns t.plain };
 
-    ghost more = { λ m. more_of m.terms m.video.now m.carrier };
+    ghost more = { λ m. more_of m.terms m.video.now m.carrier.now };
 
     ghost opens = { CallOpens };
 
@@ -82,7 +82,7 @@ impl<'a> Turns for World<'a> {
             self.video,
             self.sender,
             self.receiver,
-            &mut self.carrier,
+            self.carrier,
         )
     }
 
@@ -135,13 +135,13 @@ pub fn converse<D: Desk>(
         plain,
     };
     match Carrier::start(alloc, &terms) {
-        Ok(carrier) => {
+        Ok(mut carrier) => {
             let mut world = World {
                 terms,
                 video,
                 sender,
                 receiver,
-                carrier,
+                carrier: &mut carrier,
             };
             take_turns(desk, &mut world)
         }

@@ -1,4 +1,4 @@
-use Rattle.std.proofs.Common.{ap, rules}
+use Rattle.std.proofs.Common.{ap, sym, rules}
 use Rattle.h263_types.specs.declared.pace.FixedPace.{FixedPace}
 use Rattle.sender_end.specs.declared.sender.Sender.{Sender}
 use Rattle.call_command.specs.declared.lent.World.{World}
@@ -14,7 +14,7 @@ returns-in-Ok-clause-gives g c = λ before inputs receives told.
       video = c.args.video;
       sender = c.args.sender;
       receiver = c.args.receiver;
-      carrier = c.in-Ok.carrier;
+      carrier = record { ref_ptr = c.args.video.ref_ptr; ghost_name = c.args.video.ghost_name; now = c.in-Ok.carrier };
     } in
     let asks = c.requires in
     let fresh = c.in-Ok.ensures in
@@ -29,7 +29,7 @@ returns-in-Ok-clause-whole_input g c = λ before inputs receives told.
       video = c.args.video;
       sender = c.args.sender;
       receiver = c.args.receiver;
-      carrier = c.in-Ok.carrier;
+      carrier = record { ref_ptr = c.args.video.ref_ptr; ghost_name = c.args.video.ghost_name; now = c.in-Ok.carrier };
     } in
     let asks = c.requires in
     let fresh = c.in-Ok.ensures in
@@ -44,7 +44,7 @@ returns-in-Ok-clause-stands g c = λ before inputs receives told.
       video = c.args.video;
       sender = c.args.sender;
       receiver = c.args.receiver;
-      carrier = c.in-Ok.carrier;
+      carrier = record { ref_ptr = c.args.video.ref_ptr; ghost_name = c.args.video.ghost_name; now = c.in-Ok.carrier };
     } in
     let asks = c.requires in
     let fresh = c.in-Ok.ensures in
@@ -52,8 +52,8 @@ returns-in-Ok-clause-stands g c = λ before inputs receives told.
     let final = talk_end w.terms before w.video.now.at inputs in
     let machine = c.take_turns.new.machine in
     let names = c.take_turns.ensures.loan in
-    let sender_is = ap (λ (n : Names). n.sender) names in
-    let receiver_is = ap (λ (n : Names). n.receiver) names in
-    lent_stand {Sender = Sender FixedPace} (λ (x : Sender FixedPace). x.state) c.take_turns.result final w.terms machine.terms _ machine.sender.now _ machine.receiver.now
-    (ap (λ (n : Names). n.terms) names) (search (rules, sender_is)) ?
+    let sender_is = sym (ap (λ (n : Names). n.sender) names) in
+    let receiver_is = sym (ap (λ (n : Names). n.receiver) names) in
+    lent_stand c.take_turns.result final w.terms machine.terms _ machine.sender.now.state _ machine.receiver.now
+    (ap (λ (n : Names). n.terms) names) (sym (ap (λ (x : Sender FixedPace). x.state) (c.sender-1.given.1 sender_is))) (sym (c.receiver-1.given.1 receiver_is))
     (c.take_turns.ensures.keeps final (ends_in w before inputs now fresh.lines asks.frames kept told))
