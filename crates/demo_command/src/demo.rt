@@ -1,7 +1,9 @@
 //! The machine of a call on made input.
 use crate::DemoTerms;
+use crate::laws::of_made_input;
 use crate::line::take_line;
 use crate::mind::turn_laws;
+use call_command::laws::{ends_agree, ends_run, of_near_events};
 use call_command::{Both, Carrier, tell_counts};
 use call_report::Status;
 use desk_program::Turns;
@@ -68,6 +70,10 @@ impl Turns for Demo {
 
     fn turn<D: Desk>(&mut self, desk: &mut D) -> Result<bool, Status> {
         turn_laws();
+        ends_run();
+        ends_agree();
+        of_near_events();
+        of_made_input();
         let Some(event) = self.lines.next() else {
             tell_counts(desk, &self.both.sender, &self.both.receiver, &self.carrier)?;
             return Ok(false);

@@ -19,6 +19,7 @@ ghost use Rattle.demo_command.specs.Demo.{call_terms, made_video, with_line};
 ghost use Rattle.demo_command.specs.Machine.{AreInPlace, HasDone, IsDoneWith, LineReady, sent_after};
 
 use crate::DemoTerms;
+use crate::laws::of_made_input;
 use call_command::laws::{ends_agree, ends_run, of_near_events};
 use call_command::{Carrier, all_event, back_event, packet_event, play_event, send_kept};
 use h263_planes::{PictureMut, PictureRef};
@@ -106,8 +107,10 @@ pub fn take_line(
         → IsDoneWith result (HasDone terms.now sender.new.state receiver.new carrier.new
         (with_line terms.now past event)) }
 {
+    ends_run();
     ends_agree();
     of_near_events();
+    of_made_input();
     let call = terms.call();
     match event {
         Event::Nothing => Ok(()),
