@@ -1,7 +1,6 @@
 -- Before the first line.
-use Rattle.std.proofs.Common.{◌≡◌, ℕ, ◌+◌, ◌*◌, ◌^◌, ◌<◌, ◌≤◌, List, [], ◌∷◌, length, refl, sym, ap, subst, ◌∙◌, arith}
+use Rattle.std.proofs.Common.{◌≡◌, ℕ, ◌+◌, ◌*◌, ◌^◌, ◌<◌, ◌≤◌, List, [], length, refl, sym, ap, subst, ◌∙◌, arith}
 use Rattle.loss_trace.specs.declared.event.Event.{Event as Line}
-use Rattle.h263_outside.specs.declared.desk.Role.{Role}
 use Rattle.h263_types.specs.Params.{IsParams}
 use Rattle.make_input.specs.Trace.{made_trace}
 use Rattle.sender_end.specs.declared.state.State.{State}

@@ -3,4 +3,4 @@ mod Doing
 mod Lines
 mod Made
 mod Taking
-mod EndsWell
+mod Telling

@@ -1,9 +1,9 @@
 -- The lines of a made trace: which pictures they name, and how many there are.
-use Rattle.std.proofs.Common.{◌≡◌, ℕ, zero, suc, ◌+◌, ◌-◌, ◌*◌, ◌<◌, ◌≤◌, Bool, true, false, List, [], ◌∷◌, ◌++◌, length, refl, sym, subst, arith, append_assoc, length-append}
+use Rattle.std.proofs.Common.{◌≡◌, ℕ, zero, suc, ◌+◌, ◌-◌, ◌*◌, ◌≤◌, Bool, true, false, List, [], ◌∷◌, ◌++◌, length, refl, sym, subst, arith, append_assoc, length-append}
 use Rattle.std.specs.Prelude.{◌==◌, if◌then◌else◌, nat_lt}
 use Rattle.loss_trace.specs.declared.event.Event.{Event as Line}
 use Rattle.loss_trace.specs.declared.event.Event.TheVariants as says
-use Rattle.make_input.specs.Trace.{after_plays, deliveries, draw, frame_lines, frames_from, last_line, made_trace, messages, next_state, plays}
+use Rattle.make_input.specs.Trace.{after_plays, deliveries, draw, frames_from, last_line, made_trace, next_state, plays}
 use Rattle.demo_command.specs.Machine.{AreInPlace}
 
 -- ---- which pictures they name

@@ -6,12 +6,10 @@ use Rattle.std.specs.Prelude.{slice_get}
 use Rattle.std.proofs.lemmas.List.FromFn.{length-range_with_len}
 use Rattle.std.proofs.lemmas.List.{append-nil}
 use Rattle.h263_types.specs.Clocks.{half_of}
-use Rattle.h263_types.specs.declared.blocks.Mb.{Mb}
 use Rattle.h263_types.specs.declared.clock.Clock.{Clock}
 use Rattle.h263_types.specs.declared.clock.Clock.TheVariants.{Standard, Custom}
 use Rattle.h263_types.specs.declared.params.Params.{Params}
 use Rattle.h263_types.specs.Params.{IsParams}
-use Rattle.h263_planes.specs.Picture.{Picture}
 use Rattle.loss_trace.specs.declared.event.Event.{Event as Line}
 use Rattle.make_input.specs.Expanded.{expanded, line_events, onto}
 use Rattle.call_model.specs.Coding.{Pictures, Rules, pictures_of}
@@ -20,7 +18,6 @@ use Rattle.call_model.specs.IdealCall.{AllNear, AllNearFrom, Event, Send, Delive
 use Rattle.call_model.specs.Lawful.{IsPace, IsRules}
 use Rattle.call_model.specs.Sound.{EncoderIsSound}
 use Rattle.call_decoding.specs.Rules.{rules_of}
-use Rattle.call_decoding.specs.Styles.{Style}
 use Rattle.coded_call.specs.Coding.{coding}
 use Rattle.call_command.specs.Call.{steady}
 use Rattle.demo_command.specs.declared.terms.DemoTerms.{DemoTerms}

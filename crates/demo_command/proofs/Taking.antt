@@ -1,5 +1,5 @@
 -- The turns of the machine.
-use Rattle.std.proofs.Common.{◌≡◌, ℕ, suc, ◌+◌, ◌*◌, ◌^◌, ◌<◌, ◌≤◌, Bool, true, List, [], ◌∷◌, length, drop, Option, Some, Result, Ok, Err, refl, sym, ap, subst, ◌∙◌, arith}
+use Rattle.std.proofs.Common.{◌≡◌, ℕ, ◌+◌, Bool, true, List, [], ◌∷◌, drop, Option, Some, Result, Ok, Err, refl, sym, ap, subst, ◌∙◌, arith}
 use Rattle.h263_outside.specs.Desk.{Outside}
 use Rattle.h263_outside.specs.declared.desk.Role.{Role}
 use Rattle.h263_outside.specs.declared.desk.Role.TheVariants.{Report}
@@ -9,14 +9,13 @@ use Rattle.call_report.specs.declared.status.Status.{Status}
 use Rattle.call_report.specs.declared.status.Status.TheVariants.{Ok as Fine, WriteFault}
 use Rattle.call_report.specs.Status.{phase}
 use Rattle.desk_program.specs.Run.{End, Step}
-use Rattle.desk_program.specs.Run.Step.{Goes, Ends}
+use Rattle.desk_program.specs.Run.Step.{Ends}
 use Rattle.desk_program.specs.Ends.{Tells, Gains, GainsFronts, Ended, GivesUp, TurnGives, Went, step_texts}
 use Rattle.desk_program.specs.Laws.{TurnLaws}
-use Rattle.desk_program.specs.Texts.{no_bytes, no_texts, on}
+use Rattle.desk_program.specs.Texts.{on}
 use Rattle.std.specs.Result.{IsErrAnd}
 use Rattle.make_input.specs.declared.trace.TraceMaker.{TraceMaker}
 use Rattle.make_input.specs.Left.{lines_left}
-use Rattle.make_input.specs.Trace.{made_trace}
 use Rattle.call_model.specs.IdealCall.{AllNear, Event}
 use Rattle.call_decoding.specs.Rules.{rules_of}
 use Rattle.coded_call.specs.Coding.{coding}

@@ -1,4 +1,4 @@
-use Rattle.std.proofs.Common.{ℕ, List, [], length, subst}
+use Rattle.std.proofs.Common.{ℕ, [], subst}
 use Rattle.make_input.specs.Trace.{made_trace}
 use Rattle.call_model.specs.IdealCall.{AllNear}
 use Rattle.call_decoding.specs.Rules.{rules_of}

@@ -1,17 +1,16 @@
-use Rattle.std.proofs.Common.{◌≡◌, ℕ, ◌+◌, ◌<◌, List, [], ◌∷◌, ◌++◌, length, refl, ap, subst, ◌∙◌, arith}
+use Rattle.std.proofs.Common.{◌<◌, List, [], ◌∷◌, ◌++◌, length, ap, subst, ◌∙◌, arith}
 use Rattle.h263_types.specs.declared.pace.FixedPace.{FixedPace}
 use Rattle.h263_types.specs.declared.params.Params.{Params}
 use Rattle.loss_trace.specs.declared.event.Event.{Event as Line}
 use Rattle.loss_trace.specs.declared.event.Event.TheVariants as says
 use Rattle.call_model.specs.IdealCall.{Event as Happens, Deliver, Play, Back, slices_at}
-use Rattle.call_command.specs.declared.tally.Tally.{Tally}
 use Rattle.call_command.specs.Both.{both_after}
 use Rattle.call_command.specs.Call.{steady}
 use Rattle.call_command.specs.Counts.{total_of}
 use Rattle.call_command.specs.Trace.{delivered}
-use Rattle.demo_command.specs.Demo.{made_video, with_line}
+use Rattle.demo_command.specs.Demo.{made_video}
 use Rattle.demo_command.specs.Machine.{AreInPlace, HasDone, IsDoneWith}
-use Rattle.demo_command.proofs.Doing.{all_are, as_line, done_so, event_done, none_all, none_back, none_packet, none_play, not_refused, sent_is}
+use Rattle.demo_command.proofs.Doing.{all_are, as_line, event_done, none_all, none_back, none_packet, none_play, not_refused, sent_is}
 use Rattle.demo_command.proofs.Made.{steady_is}
 use Rattle.demo_command.proofs.line.take_line.Goals as goal
 

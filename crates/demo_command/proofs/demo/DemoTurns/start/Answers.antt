@@ -1,6 +1,5 @@
-use Rattle.std.proofs.Common.{◌≡◌, ℕ, List, [], refl, sym, ap}
-use Rattle.loss_trace.specs.declared.event.Event.{Event as Line}
-use Rattle.demo_command.specs.Demo.{first_state, made_events, silent_turn}
+use Rattle.std.proofs.Common.{refl, sym}
+use Rattle.demo_command.specs.Demo.{first_state, silent_turn}
 use Rattle.demo_command.proofs.Beginning.{first_in_place, first_said, nothing_done, nothing_said, ready_first}
 use Rattle.demo_command.proofs.demo.DemoTurns.start.Goals as goal
 

@@ -1,9 +1,9 @@
-use Rattle.std.proofs.Common.{◌≡◌, ℕ, ◌+◌, ◌*◌, ◌^◌, ◌<◌, List, [], ◌∷◌, length, refl, ap, ◌∙◌, arith}
+use Rattle.std.proofs.Common.{◌≡◌, ◌+◌, List, length, refl, ap, ◌∙◌, arith}
 use Rattle.loss_trace.specs.declared.event.Event.{Event as Line}
 use Rattle.make_input.specs.Left.{lines_left}
 use Rattle.call_command.specs.declared.call.Both.{Both}
 use Rattle.call_command.specs.Counts.{counts_of}
-use Rattle.demo_command.specs.Demo.{DemoState, demo_step, made_video, with_line}
+use Rattle.demo_command.specs.Demo.{demo_step, made_video, with_line}
 use Rattle.demo_command.specs.Machine.{HasDone}
 use Rattle.demo_command.proofs.Doing.{counts_are, not_refused}
 use Rattle.demo_command.proofs.Made.{steady_is}
