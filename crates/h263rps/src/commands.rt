@@ -3,6 +3,7 @@ ghost use Rattle.std.specs.Prelude.{◌≡◌, ◌∷◌, [], ℕ, List, false, 
 ghost use Rattle.h263_outside.specs.Desk.{Outside, with_role};
 ghost use Rattle.h263_outside.specs.declared.desk.Role.{Role};
 ghost use Rattle.h263_outside.specs.declared.desk.Role.TheVariants.{Report};
+ghost use Rattle.command_words.specs.declared.command.Command.TheVariants as commands;
 ghost use Rattle.command_words.specs.Asked.{HasNames, IsCommand, IsGiven, word_for};
 ghost use Rattle.command_words.specs.View.{asked_of};
 ghost use Rattle.desk_program.specs.Run.{run_from};
@@ -19,6 +20,7 @@ use demo_command::laws::ends_well;
 use demo_command::{Demo, DemoTerms};
 use desk_program::{Turns, perform};
 use h263_outside::{Desk, Role};
+use h263_types::Params;
 use recv_command::Recv;
 use recv_command::laws::no_video_refused;
 use send_command::Send;
@@ -53,6 +55,105 @@ fn word_of<'a>(words: &Words<'a>, role: Role) -> &'a str
     words.name(role).unwrap()
 }
 
+// A call in which everything arrives at once.
+fn call<D: Desk>(alloc: Global, words: &Words<'_>, params: Params, desk: &mut D) -> Status
+    requires report { AreAttached ((Report, []) ∷ []) (D.outside desk.old) }
+    requires names { HasNames (asked_of words.now) }
+    requires command { IsCommand words.now.command }
+    requires is { words.now.command ≡ commands.Call params false }
+    ensures { IsRun (Some (asked_of words.now)) result (D.outside desk.old) (D.outside desk.new) }
+{
+    refused_by_call();
+    let order = [
+        (Role::Video, word_of(words, Role::Video)),
+        (Role::Pictures, word_of(words, Role::Pictures)),
+    ];
+    let terms = Terms {
+        params,
+        plain: true,
+    };
+    carry_out::<D, Call>(alloc, &terms, &order, desk)
+}
+
+// A call over a recorded trace.
+fn traced_call<D: Desk>(alloc: Global, words: &Words<'_>, params: Params, desk: &mut D) -> Status
+    requires report { AreAttached ((Report, []) ∷ []) (D.outside desk.old) }
+    requires names { HasNames (asked_of words.now) }
+    requires command { IsCommand words.now.command }
+    requires is { words.now.command ≡ commands.Call params true }
+    ensures { IsRun (Some (asked_of words.now)) result (D.outside desk.old) (D.outside desk.new) }
+{
+    refused_by_call();
+    let order = [
+        (Role::Video, word_of(words, Role::Video)),
+        (Role::Events, word_of(words, Role::Events)),
+        (Role::Pictures, word_of(words, Role::Pictures)),
+    ];
+    let terms = Terms {
+        params,
+        plain: false,
+    };
+    carry_out::<D, Call>(alloc, &terms, &order, desk)
+}
+
+// The sender alone.
+fn send<D: Desk>(alloc: Global, words: &Words<'_>, params: Params, desk: &mut D) -> Status
+    requires report { AreAttached ((Report, []) ∷ []) (D.outside desk.old) }
+    requires names { HasNames (asked_of words.now) }
+    requires command { IsCommand words.now.command }
+    requires is { words.now.command ≡ commands.Send params }
+    ensures { IsRun (Some (asked_of words.now)) result (D.outside desk.old) (D.outside desk.new) }
+{
+    refused_by_send();
+    let order = [
+        (Role::Video, word_of(words, Role::Video)),
+        (Role::Events, word_of(words, Role::Events)),
+        (Role::Wire, word_of(words, Role::Wire)),
+    ];
+    carry_out::<D, Send>(alloc, &params, &order, desk)
+}
+
+// The receiver alone.
+fn recv<D: Desk>(alloc: Global, words: &Words<'_>, params: Params, desk: &mut D) -> Status
+    requires report { AreAttached ((Report, []) ∷ []) (D.outside desk.old) }
+    requires names { HasNames (asked_of words.now) }
+    requires command { IsCommand words.now.command }
+    requires is { words.now.command ≡ commands.Recv params }
+    ensures { IsRun (Some (asked_of words.now)) result (D.outside desk.old) (D.outside desk.new) }
+{
+    no_video_refused();
+    let order = [
+        (Role::Events, word_of(words, Role::Events)),
+        (Role::Pictures, word_of(words, Role::Pictures)),
+        (Role::Wire, word_of(words, Role::Wire)),
+    ];
+    carry_out::<D, Recv>(alloc, &params, &order, desk)
+}
+
+// A call on made input.
+fn demo<D: Desk>(
+    alloc: Global,
+    words: &Words<'_>,
+    params: Params,
+    seed: u32,
+    frames: u32,
+    desk: &mut D,
+) -> Status
+    requires report { AreAttached ((Report, []) ∷ []) (D.outside desk.old) }
+    requires names { HasNames (asked_of words.now) }
+    requires command { IsCommand words.now.command }
+    requires is { words.now.command ≡ commands.Demo params seed frames }
+    ensures { IsRun (Some (asked_of words.now)) result (D.outside desk.old) (D.outside desk.new) }
+{
+    ends_well();
+    let terms = DemoTerms {
+        params,
+        seed,
+        frames,
+    };
+    carry_out::<D, Demo>(alloc, &terms, &[], desk)
+}
+
 /// Runs the command that the words ask for.
 pub fn command<D: Desk>(alloc: Global, words: &Words<'_>, desk: &mut D) -> Status
     requires report { AreAttached ((Report, []) ∷ []) (D.outside desk.old) }
@@ -60,67 +161,21 @@ pub fn command<D: Desk>(alloc: Global, words: &Words<'_>, desk: &mut D) -> Statu
     requires command { IsCommand words.now.command }
     ensures { IsRun (Some (asked_of words.now)) result (D.outside desk.old) (D.outside desk.new) }
 {
-    refused_by_call();
-    refused_by_send();
-    no_video_refused();
-    ends_well();
     match words.command() {
         Command::Call {
             params,
             traced: false,
-        } => {
-            let order = [
-                (Role::Video, word_of(words, Role::Video)),
-                (Role::Pictures, word_of(words, Role::Pictures)),
-            ];
-            let terms = Terms {
-                params,
-                plain: true,
-            };
-            carry_out::<D, Call>(alloc, &terms, &order, desk)
-        }
+        } => call(alloc, words, params, desk),
         Command::Call {
             params,
             traced: true,
-        } => {
-            let order = [
-                (Role::Video, word_of(words, Role::Video)),
-                (Role::Events, word_of(words, Role::Events)),
-                (Role::Pictures, word_of(words, Role::Pictures)),
-            ];
-            let terms = Terms {
-                params,
-                plain: false,
-            };
-            carry_out::<D, Call>(alloc, &terms, &order, desk)
-        }
-        Command::Send { params } => {
-            let order = [
-                (Role::Video, word_of(words, Role::Video)),
-                (Role::Events, word_of(words, Role::Events)),
-                (Role::Wire, word_of(words, Role::Wire)),
-            ];
-            carry_out::<D, Send>(alloc, &params, &order, desk)
-        }
-        Command::Recv { params } => {
-            let order = [
-                (Role::Events, word_of(words, Role::Events)),
-                (Role::Pictures, word_of(words, Role::Pictures)),
-                (Role::Wire, word_of(words, Role::Wire)),
-            ];
-            carry_out::<D, Recv>(alloc, &params, &order, desk)
-        }
+        } => traced_call(alloc, words, params, desk),
+        Command::Send { params } => send(alloc, words, params, desk),
+        Command::Recv { params } => recv(alloc, words, params, desk),
         Command::Demo {
             params,
             seed,
             frames,
-        } => {
-            let terms = DemoTerms {
-                params,
-                seed,
-                frames,
-            };
-            carry_out::<D, Demo>(alloc, &terms, &[], desk)
-        }
+        } => demo(alloc, words, params, seed, frames, desk),
     }
 }
