@@ -25,18 +25,31 @@ class Network:
     back: int
 
 
-def trace(pictures: int, network: Network, forth: GilbertElliott, back: GilbertElliott, draws: random.Random) -> Iterator[str]:
-    """The lines of a call of so many pictures; losses of packets by `forth`, of messages by `back`.
+@dataclass(frozen=True)
+class Loss:
+    """Shares of packets and of messages that are lost, and the mean length of a loss."""
 
-    One message is said of each picture, by its play at the latest, so message n is brought back no sooner.
+    packets: float
+    messages: float
+    burst: float
+
+
+def trace(pictures: int, network: Network, loss: Loss, seed: int) -> Iterator[str]:
+    """The lines of a call of so many pictures.
+
+    One message is said of each picture, by its play at the latest, so message n is brought back no sooner. Packets,
+    messages and delays are drawn apart from one another, so which packets are lost depends on nothing else.
     """
+    forth = GilbertElliott(loss.packets, loss.burst, random.Random(f"packets {seed}"))
+    back = GilbertElliott(loss.messages, loss.burst, random.Random(f"messages {seed}"))
+    late = random.Random(f"delays {seed}")
     arrivals: dict[int, list[str]] = {}
     wait = network.delay + network.hold
     for tick in range(pictures + wait):
         if tick < pictures:
             yield "S"
-            for late, line in _deliveries(tick, network, forth, draws):
-                arrivals.setdefault(tick + network.delay + late, []).append(line)
+            for delay, line in _deliveries(tick, network, forth, late):
+                arrivals.setdefault(tick + delay, []).append(line)
         yield from arrivals.pop(tick, [])
         if tick >= wait:
             yield "P"
@@ -45,10 +58,10 @@ def trace(pictures: int, network: Network, forth: GilbertElliott, back: GilbertE
             yield f"B {said}"
 
 
-def _deliveries(picture: int, network: Network, forth: GilbertElliott, draws: random.Random) -> list[tuple[int, str]]:
-    # The packets of a picture that arrive, each with how many pictures later than it is due.
+def _deliveries(picture: int, network: Network, forth: GilbertElliott, late: random.Random) -> list[tuple[int, str]]:
+    # The packets of a picture that arrive, each with how many pictures after the capture.
     kept = [place for place in range(network.packets) if not forth.is_lost()]
-    late = [draws.randint(0, network.jitter) for _ in kept]
-    if len(kept) == network.packets and len(set(late)) == 1:
-        return [(late[0], f"D {picture}.*")]
-    return [(pictures, f"D {picture}.{place}") for pictures, place in zip(late, kept)]
+    delays = [network.delay + late.randint(0, network.jitter) for _ in kept]
+    if len(kept) == network.packets and len(set(delays)) == 1:
+        return [(delays[0], f"D {picture}.*")]
+    return [(delay, f"D {picture}.{place}") for delay, place in zip(delays, kept)]
