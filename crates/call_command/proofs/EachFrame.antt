@@ -1,5 +1,5 @@
 -- The run of a call over its plain trace, frame by frame.
-use Rattle.std.proofs.Common.{◌≡◌, ℕ, zero, suc, ◌+◌, ◌-◌, ◌<◌, true, List, [], ◌∷◌, ◌++◌, length, drop, Option, Some, None, Result, Ok, Err, refl, sym, ap, subst, ◌∙◌, arith}
+use Rattle.std.proofs.Common.{◌≡◌, ℕ, zero, suc, ◌+◌, ◌-◌, ◌<◌, true, false, List, [], ◌∷◌, ◌++◌, length, drop, Option, Some, None, Result, Ok, Err, refl, sym, ap, subst, ◌∙◌, arith}
 use Rattle.std.proofs.lemmas.List.{append-nil, append_assoc}
 use Rattle.h263_types.specs.declared.Mark.TheVariants as marks
 use Rattle.h263_types.specs.declared.format.Format.{Format}
@@ -33,7 +33,8 @@ use Rattle.desk_program.specs.Texts.{of}
 use Rattle.call_command.specs.Trace.{passed_on}
 use Rattle.call_command.specs.Both.{bare}
 use Rattle.call_command.specs.Counts.{count_of, counts_text, one_exact, one_held, one_patched}
-use Rattle.call_command.specs.Call.{CallState, all_played, call_begin, call_of, call_step, frame_step, head_step, newest_texts, play_texts, shown_texts, steady, video_step, with_picture}
+use Rattle.call_command.specs.declared.terms.Terms.{Terms}
+use Rattle.call_command.specs.Call.{CallState, all_played, by_call, call_begin, call_step, first_state, frame_step, head_step, newest_texts, play_texts, shown_texts, steady, video_step, with_picture}
 use Rattle.call_command.specs.Laws.{CallLaws}
 use Rattle.call_command.specs.Plain.{ShowsEachFrame, counts_for, status_for, lines_of_frames, pictures_of_frames, reconstruction_of}
 use Rattle.call_command.proofs.After.{at_end, below_end, longer, push_then}
@@ -122,12 +123,13 @@ module _ (p : Params) (laws : CallLaws p) (below : AllBelowIs) where
     report : text_of run Report ≡ lines_of_frames n planes ++ counts_for fault (n + length planes)
 
   abbrev state : List Frame → List Event → ℕ → ℕ → CallState
-  state frames past at more = record { params = p; frames = frames; past = past; at = at; more = more }
+  state frames past at more =
+      record { params = p; plain = true; before = []; frames = frames; past = past; at = at; more = more; lines = 0; ended = false }
 
   comes_end : (frames : List Frame) (past : List Event) (at more : ℕ) (rest : CallState → (Role → ℕ) → Run) → IsPlain p frames past
-      → Comes (length frames) [] None (follow (Ends (all_played (state frames past at more))) rest)
+      → Comes (length frames) [] None (follow (Ends (all_played (by_call (state frames past at more)))) rest)
   comes_end frames past at more rest plain =
-      let c = call_of (state frames past at more) in
+      let c = ideal (coding p) (rules_of p) (steady p) frames past in
       let counts = laws.counts (steady p) frames past in
       let near : AllNear (coding p) (rules_of p) (steady p) frames past = subst (λ (l : List Frame). AllNear (coding p) (rules_of p) (steady p) l past) (append-nil frames) (plain.near []) in
       let same : (g : List (Shown Picture) → ℕ) → g (ideal (coding p) (rules_of p) (steady p) (frames ++ []) past).plays ≡ g c.plays = λ g. ap (λ (l : List Frame). g (ideal (coding p) (rules_of p) (steady p) l past).plays) (append-nil frames) in
@@ -180,26 +182,26 @@ module _ (p : Params) (laws : CallLaws p) (below : AllBelowIs) where
         → ((planes : List ℕ) → 0 < length video → next_frame m p.format at video ≡ Ok planes
         → let size = frame_size p.format video in
         Comes (length frames + 1) (frames_of p.format (m - 1) (at + size) (behind_frame p.format video)) (fault_of p.format (m - 1) (at + size) (behind_frame p.format video))
-        (rest (record (with_picture (state frames past at m) planes) { at = at + size; more = m - 1 }) (of Video size)))
-        → Comes (length frames) (frames_of p.format m at video) (fault_of p.format m at video) (follow (video_step (state frames past at m) video) rest)
+        (rest (record (with_picture by_call (state frames past at m) planes) { at = at + size; more = m - 1 }) (of Video size)))
+        → Comes (length frames) (frames_of p.format m at video) (fault_of p.format m at video) (follow (video_step by_call (state frames past at m) video) rest)
     step_comes frames past at m [] rest plain more =
         let e = frame_laws.ends p.format m at in
-        subst (λ (l : List (List ℕ)). Comes (length frames) l (fault_of p.format m at []) (follow (Ends (all_played (state frames past at m))) rest)) (sym e.0)
-        (subst (λ (o : Option Y4mFault). Comes (length frames) [] o (follow (Ends (all_played (state frames past at m))) rest)) (sym e.1) (comes_end frames past at m rest plain))
+        subst (λ (l : List (List ℕ)). Comes (length frames) l (fault_of p.format m at []) (follow (Ends (all_played (by_call (state frames past at m)))) rest)) (sym e.0)
+        (subst (λ (o : Option Y4mFault). Comes (length frames) [] o (follow (Ends (all_played (by_call (state frames past at m)))) rest)) (sym e.1) (comes_end frames past at m rest plain))
     step_comes frames past at m (b ∷ v) rest plain more = by_result (next_frame m p.format at (b ∷ v)) refl
       where
         by_result : (r : Result (List ℕ) Y4mFault) → next_frame m p.format at (b ∷ v) ≡ r
-            → Comes (length frames) (frames_of p.format m at (b ∷ v)) (fault_of p.format m at (b ∷ v)) (follow (frame_step (state frames past at m) (b ∷ v) r) rest)
+            → Comes (length frames) (frames_of p.format m at (b ∷ v)) (fault_of p.format m at (b ∷ v)) (follow (frame_step by_call (state frames past at m) (b ∷ v) r) rest)
         by_result (Ok planes) is =
             let some : 0 < length (b ∷ v) = omega arith in
             let e = frame_laws.next p.format m (m - 1) at (b ∷ v) planes (some_left m at (b ∷ v) planes is) some is in
-            let run = follow (frame_step (state frames past at m) (b ∷ v) (Ok planes)) rest in
+            let run = follow (frame_step by_call (state frames past at m) (b ∷ v) (Ok planes)) rest in
             let size = frame_size p.format (b ∷ v) in
-            let after = record (with_picture (state frames past at m) planes) { at = at + size; more = m - 1 } in
+            let after = record (with_picture by_call (state frames past at m) planes) { at = at + size; more = m - 1 } in
             subst (λ (l : List (List ℕ)). Comes (length frames) l (fault_of p.format m at (b ∷ v)) run) (sym e.frames)
             (subst (λ (o : Option Y4mFault). Comes (length frames) (planes ∷ frames_of p.format (m - 1) (at + size) (behind_frame p.format (b ∷ v))) o run) (sym e.fault)
             (comes_more (length frames) planes (frames_of p.format (m - 1) (at + size) (behind_frame p.format (b ∷ v))) (fault_of p.format (m - 1) (at + size) (behind_frame p.format (b ∷ v)))
-            (record { taken = of Video size; whole = true; texts = play_texts (with_picture (state frames past at m) planes) (length frames) })
+            (record { taken = of Video size; whole = true; texts = play_texts (by_call (with_picture by_call (state frames past at m) planes)) (length frames) })
             (rest after (of Video size))
             (texts_with frames past plain (bare (picture_of p.format planes)))
             (more planes some is)))
@@ -237,6 +239,9 @@ fault_is : (video : List ℕ) (f : Format) → head_of video ≡ Ok f → video_
 unfolding video_fault
 fault_is video f is = ap (λ (r : Result Format Y4mFault). fault_behind r (head_size video) (drop (head_size video) video)) is
 
+abbrev plain_terms : Params → Terms
+plain_terms p = record { params = p; plain = true }
+
 none_before : (n : ℕ) → 0 + n ≡ n
 none_before n = omega arith
 
@@ -257,7 +262,7 @@ module _ (p : Params) (f : Format) (laws : CallLaws (record p { format = f })) (
   rest next taken = run_of call_step 1048576 next (behind inputs taken)
 
   abbrev run : Run
-  run = rest (record { params = here; frames = []; past = []; at = head_size video; more = 1048576 }) (of Video (head_size video))
+  run = rest (first_state (plain_terms here) [] (head_size video)) (of Video (head_size video))
 
   comes : Comes here laws below 0 frames fault run
   comes =
@@ -265,9 +270,9 @@ module _ (p : Params) (f : Format) (laws : CallLaws (record p { format = f })) (
       (subst (λ (o : Option Y4mFault). Comes here laws below 0 (frames_of f 1048576 (head_size video) (drop (head_size video) video)) o run) (sym (fault_is video f head))
       (run_comes here laws below frame_laws 1048576 [] [] (head_size video) (behind inputs (of Video (head_size video))) (plain_first here)))
 
-  pub each_frame : ShowsEachFrame p f frames fault (run_from (call_begin p inputs) call_step 1048576 inputs)
+  pub each_frame : ShowsEachFrame p f frames fault (run_from (call_begin (plain_terms p) inputs) call_step 1048576 inputs)
   each_frame =
-      subst (λ (r : Result Format Y4mFault). ShowsEachFrame p f frames fault (follow (head_step p video r) rest)) (sym head)
+      subst (λ (r : Result Format Y4mFault). ShowsEachFrame p f frames fault (follow (head_step (plain_terms p) video r) rest)) (sym head)
       (record {
         status = comes.status;
         pictures = append_assoc (head_text f) (texts_of run.turns Pictures) (run.last.texts Pictures) ∙ ap (λ (l : List ℕ). head_text f ++ l) comes.pictures;
@@ -276,7 +281,7 @@ module _ (p : Params) (f : Format) (laws : CallLaws (record p { format = f })) (
 
 -- the status of any video
 pub status_is : (p : Params) (inputs : Role → List ℕ) → ((f : Format) → CallLaws (record p { format = f })) → AllBelowIs → FrameLaws
-    → (run_from (call_begin p inputs) call_step 1048576 inputs).last.status ≡ status_for (video_fault (inputs Video))
+    → (run_from (call_begin (plain_terms p) inputs) call_step 1048576 inputs).last.status ≡ status_for (video_fault (inputs Video))
 unfolding video_fault
 status_is p inputs laws below frame_laws = by_head (head_of (inputs Video)) refl
   where
@@ -284,8 +289,8 @@ status_is p inputs laws below frame_laws = by_head (head_of (inputs Video)) refl
     refused broken is = ap (λ (r : Result Format Y4mFault). fault_behind r (head_size (inputs Video)) (drop (head_size (inputs Video)) (inputs Video))) is
 
     by_head : (r : Result Format Y4mFault) → head_of (inputs Video) ≡ r
-        → (run_from (call_begin p inputs) call_step 1048576 inputs).last.status ≡ status_for (video_fault (inputs Video))
+        → (run_from (call_begin (plain_terms p) inputs) call_step 1048576 inputs).last.status ≡ status_for (video_fault (inputs Video))
     by_head (Ok f) is = (each_frame p f (laws f) below frame_laws inputs is).status
     by_head (Err broken) is =
-        ap (λ (r : Result Format Y4mFault). (follow (head_step p (inputs Video) r) (λ next taken. run_of call_step 1048576 next (behind inputs taken))).last.status) is
+        ap (λ (r : Result Format Y4mFault). (follow (head_step (plain_terms p) (inputs Video) r) (λ next taken. run_of call_step 1048576 next (behind inputs taken))).last.status) is
         ∙ sym (ap status_for (refused broken is))

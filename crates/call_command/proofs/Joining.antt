@@ -14,7 +14,7 @@ use Rattle.call_model.specs.Before.{reference_of, slices_before}
 use Rattle.call_command.specs.Trace.{passed_on}
 use Rattle.call_command.proofs.Trace.{coded_delivered}
 
-last_is : {X : Type 0} (xs : List X) (x : X) → slice_get (xs ++ x ∷ []) (length xs) ≡ Some x
+pub last_is : {X : Type 0} (xs : List X) (x : X) → slice_get (xs ++ x ∷ []) (length xs) ≡ Some x
 last_is [] x = refl
 last_is (y ∷ xs) x = last_is xs x
 

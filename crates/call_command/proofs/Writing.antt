@@ -9,7 +9,6 @@ use Rattle.call_report.specs.Text.{picture_text}
 use Rattle.desk_program.specs.Ends.{Gains, GainsFronts}
 use Rattle.desk_program.specs.Laws.{TurnLaws}
 use Rattle.desk_program.specs.Texts.{on}
-use Rattle.sender_end.specs.declared.state.Coded.{Coded}
 use Rattle.call_command.specs.Call.{CallState}
 use Rattle.call_command.specs.Standing.{row_texts}
 
@@ -17,20 +16,20 @@ pub on_err : {T E P : Type 0} (r : Result T E) → P → OnErr r P
 on_err (Ok x) p = tt
 on_err (Err e) p = p
 
-module _ (turns : TurnLaws CallState) (coded : Coded) (mark : Mark) (picture : Picture) (old mid : Role → Option (List ℕ)) where
+module _ (turns : TurnLaws CallState) (number : ℕ) (mark : Mark) (reference : Option ℕ) (picture : Picture) (old mid : Role → Option (List ℕ)) where
   abbrev line : List ℕ
-  line = picture_text coded.number (Some mark) (Some coded.reference) None
+  line = picture_text number (Some mark) (Some reference) None
 
-  pub first_front : GainsFronts (on Pictures (frame_text mark picture)) old mid → GainsFronts (row_texts coded mark picture) old mid
+  pub first_front : GainsFronts (on Pictures (frame_text mark picture)) old mid → GainsFronts (row_texts number mark reference picture) old mid
   first_front fronts = turns.front_of_first (on Pictures (frame_text mark picture)) (on Report line) old mid fronts
 
   module _ (new : Role → Option (List ℕ)) (text : List ℕ) (text_is : text ≡ line) (first : Gains (on Pictures (frame_text mark picture)) old mid) where
-    pub both_gain : Gains (on Report text) mid new → Gains (row_texts coded mark picture) old new
+    pub both_gain : Gains (on Report text) mid new → Gains (row_texts number mark reference picture) old new
     both_gain gains =
         turns.both_texts (on Pictures (frame_text mark picture)) (on Report line) old mid new first
         (subst (λ (l : List ℕ). Gains (on Report l) mid new) text_is gains)
 
-    pub second_front : GainsFronts (on Report text) mid new → GainsFronts (row_texts coded mark picture) old new
+    pub second_front : GainsFronts (on Report text) mid new → GainsFronts (row_texts number mark reference picture) old new
     second_front fronts =
         turns.front_of_second (on Pictures (frame_text mark picture)) (on Report line) old mid new first
         (subst (λ (l : List ℕ). GainsFronts (on Report l) mid new) text_is fronts)

@@ -8,7 +8,7 @@ use Rattle.call_model.specs.Coding.{pictures_of}
 use Rattle.call_model.specs.CodedPictures.{Coded as CodedPicture}
 use Rattle.call_model.specs.IdealCall.{Event, Send}
 use Rattle.call_model.specs.Receiving.{ReceiverEntry, played_mark}
-use Rattle.call_model.specs.Sending.{next_coded}
+use Rattle.call_model.specs.Sending.{SenderEntry, next_coded}
 use Rattle.call_model.specs.JoinedRun.{Joined, joined, sender_entries, receiver_entries}
 use Rattle.call_decoding.specs.Rules.{rules_of}
 use Rattle.call_decoding.specs.Styles.{Style}
@@ -45,6 +45,11 @@ pub record AreJoined (p : Params) (pace : List ℕ → ℕ) (sender : State) (re
   pub receiver_params : receiver.params ≡ p
   pub sends : sender_end.Stands pace sender (sender_entries (coding p) (rules_of p) (receiver_end.run_of p before) pace frames past)
   pub receives : receiver_end.Stands receiver (receiver_entries (coding p) (rules_of p) (receiver_end.run_of p before) pace frames past ++ before)
+
+-- the sender stands for some entries
+pub record IsStanding (pace : List ℕ → ℕ) (sender : State) : Type 0 where
+  pub entries : List (SenderEntry Frame)
+  pub stands : sender_end.Stands pace sender entries
 
 -- A frame was sent as the next picture, its packets were delivered in their order, and the next
 -- picture was played: what was coded, and the mark of the play.

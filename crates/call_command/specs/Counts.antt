@@ -3,9 +3,9 @@ use Rattle.std.specs.Prelude.{◌≡◌, ℕ, ◌+◌, List, [], ◌∷◌, leng
 use Rattle.h263_types.specs.declared.Mark.{Mark}
 use Rattle.h263_types.specs.declared.Mark.TheVariants as marks
 use Rattle.call_model.specs.Coding.{Shown, Mark as CallMark, Exact, Patched, Held}
-use Rattle.call_model.specs.IdealCall.{Call}
 use Rattle.call_report.specs.Text.{Text, counts}
 use Rattle.call_command.specs.declared.tally.Tally.{Tally}
+use Rattle.call_command.specs.Seen.{Seen}
 
 -- ---- by the plays of a call
 
@@ -42,9 +42,9 @@ counts_text played sent exact patched held =
     ∷ [])
 
 -- the line of a call: how many pictures were played and sent, and how the plays were marked
-abbrev pub call_text : {Style Mb Picture : Type 0} → Call Style Mb Picture → Text
-call_text c =
-    counts_text c.played (length c.coded) (count_of one_exact c.plays) (count_of one_patched c.plays) (count_of one_held c.plays)
+abbrev pub call_text : Seen → Text
+call_text seen =
+    counts_text seen.played (length seen.coded) (count_of one_exact seen.plays) (count_of one_patched seen.plays) (count_of one_held seen.plays)
 
 -- ---- as they are counted
 
@@ -65,3 +65,7 @@ pub record AreCounted {Picture : Type 0} (tally : Tally) (plays : List (Shown Pi
   pub exact : tally.exact ≡ count_of one_exact plays
   pub patched : tally.patched ≡ count_of one_patched plays
   pub held : tally.held ≡ count_of one_held plays
+
+-- the line of these counts, with those of the pictures that were played and sent
+abbrev pub counts_of : Tally → ℕ → ℕ → Text
+counts_of tally played sent = counts_text played sent tally.exact tally.patched tally.held

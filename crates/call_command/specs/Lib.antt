@@ -1,7 +1,13 @@
 pub mod Trace
+pub mod Seen
+pub mod Refused
+pub mod References
+pub mod Network
 pub mod Both
 pub mod Counts
 pub mod Call
 pub mod Standing
+pub mod Machine
+pub mod Converse
 pub mod Laws
 pub mod Plain

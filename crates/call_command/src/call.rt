@@ -1,37 +1,33 @@
 //! The machine of a call.
-ghost use Rattle.std.specs.Prelude.{◌≡◌, List, [], IfOk};
-ghost use Rattle.h263_planes.specs.Lent.{picture};
-ghost use Rattle.call_model.specs.Receiving.{ReceiverEntry};
+ghost use Rattle.std.specs.Prelude.{◌≡◌, [], IfOk};
 ghost use Rattle.h263_types.specs.Params.{IsParams};
 ghost use Rattle.sender_end.specs.Stands.{IsReady};
 ghost use Rattle.sender_end.specs.Stands as sender_end;
 ghost use Rattle.receiver_end.specs.State as receiver_end;
 ghost use Rattle.call_command.specs.Call.{steady};
 
-use crate::Tally;
-use crate::laws::{of_the_ends, of_the_video};
+use crate::laws::{ends_agree, ends_run, of_near_events, of_the_video};
 use crate::mind::turn_laws;
-use crate::pass::pass;
-use crate::show::show;
+use crate::turning::take_turn;
+use crate::{Carrier, Terms};
 use call_report::Status;
-use desk_program::{Turns, put_head, put_line};
+use desk_program::{Turns, put_head};
 use h263_outside::{Desk, OutOfMemory};
-use h263_planes::PictureRef;
 use h263_types::{FixedPace, Params};
 use receiver_end::Receiver;
 use sender_end::Sender;
 use std::alloc::Global;
 use y4m::Y4mReader;
 
-// Both ends of a call. They must be finished.
-struct Both {
-    sender: Sender<FixedPace>,
-    receiver: Receiver,
+/// Both ends of a call. They must be finished.
+pub struct Both {
+    pub sender: Sender<FixedPace>,
+    pub receiver: Receiver,
 }
 
 impl Both {
-    // Both before the first picture.
-    fn start(alloc: Global, params: &Params) -> Result<Both, OutOfMemory>
+    /// Both before the first picture.
+    pub fn start(alloc: Global, params: &Params) -> Result<Both, OutOfMemory>
         requires { IsParams params.now }
         ensures ready { IfOk result (λ both. IsReady both.sender.state) }
         ensures sender_params { IfOk result (λ both. both.sender.state.params ≡ params.now) }
@@ -56,39 +52,31 @@ impl Both {
         }
     }
 
-    // The picture that the receiver shows.
-    fn screen(&self) -> PictureRef<'_>
-        ensures { (past : List ReceiverEntry)
-            → receiver_end.Stands self.now.receiver past → picture result
-            ≡ (receiver_end.run_of self.now.receiver.params past).screen }
-    {
-        self.receiver.shown()
-    }
-
-    fn finish(self) {
+    /// Gives back what they hold.
+    pub fn finish(self) {
         let Both { sender, receiver } = self;
         sender.finish();
         receiver.finish();
     }
 }
 
-/// The machine of a call: the reader of its video, both ends, room for a frame, and the marks of
-/// the pictures that were shown. It must be finished.
+/// The machine of a call: what it was asked for, the reader of its video, both ends, and what carries
+/// the call between them. It must be finished.
 pub struct Call {
-    params: Params,
-    reader: Y4mReader,
+    terms: Terms,
+    video: Y4mReader,
     both: Both,
-    frame: Vec<u8>,
-    tally: Tally,
+    carrier: Carrier,
 }
 
 impl Turns for Call {
-    ghost use Rattle.std.specs.Prelude.{true, Some};
-    ghost use Rattle.h263_outside.specs.declared.desk.Role.TheVariants.{Video};
-    ghost use Rattle.call_command.specs.Call.{CallState, call_begin, call_step};
-    ghost use Rattle.call_command.specs.Standing.{CallOpens, CallReady, CallStands};
+    ghost use Rattle.std.specs.Prelude.{Some};
+    ghost use Rattle.call_command.specs.Call.{CallState, call_begin, call_step, may_read};
+    ghost use Rattle.call_command.specs.Call.{most_turns};
+    ghost use Rattle.call_command.specs.Standing.{CallOpens, more_of, source_of};
+    ghost use Rattle.call_command.specs.Machine.{CallReady, CallStands};
 
-    type Setup = Params;
+    type Setup = Terms;
 
     ghost State = { CallState };
 
@@ -96,7 +84,7 @@ impl Turns for Call {
 
     ghost step = { call_step };
 
-    ghost reads = { λ _. true };
+    ghost reads = { may_read };
 
     ghost stands = { CallStands };
 
@@ -106,67 +94,64 @@ impl Turns for Call {
 
     ghost loan = { λ _. tt };
 
-    ghost most = { λ _. 1048576 };
+    ghost most = { λ t. most_turns t.plain };
 
-    ghost more = { λ m. m.reader.more };
+    ghost more = { λ m. more_of m.terms m.video m.carrier };
 
     ghost opens = { CallOpens };
 
     ghost ready = { CallReady };
 
-    ghost source = { λ _. Some Video };
+    ghost source = { λ t. Some (source_of t) };
 
-    ghost reading = { λ _. Some Video };
+    ghost reading = { λ m. Some (source_of m.terms) };
 
-    fn start<D: Desk>(alloc: Global, setup: &Params, desk: &mut D) -> Result<Call, Status> {
+    fn start<D: Desk>(alloc: Global, setup: &Terms, desk: &mut D) -> Result<Call, Status> {
         turn_laws();
         of_the_video();
-        of_the_ends();
-        let reader = Y4mReader::head(desk)?;
+        let video = Y4mReader::head(desk)?;
         let params = Params {
-            format: reader.format(),
-            ..*setup
+            format: video.format(),
+            ..setup.params
         };
-        let frame = vec![in alloc; 0; params.format.size() as usize]?;
+        let terms = Terms {
+            params,
+            plain: setup.plain,
+        };
+        let carrier = Carrier::start(alloc, &terms)?;
         let both = Both::start(alloc, &params)?;
         if let Err(status) = put_head(desk, params.format) {
             both.finish();
             return Err(status);
         }
         Ok(Call {
-            params,
-            reader,
+            terms,
+            video,
             both,
-            frame,
-            tally: Tally::new(),
+            carrier,
         })
     }
 
     fn turn<D: Desk>(&mut self, desk: &mut D) -> Result<bool, Status> {
-        turn_laws();
-        of_the_video();
-        of_the_ends();
-        if !self.reader.frame(desk, &mut self.frame)? {
-            let line = self
-                .tally
-                .line(self.both.receiver.played(), self.both.sender.sent());
-            put_line(desk, &line)?;
-            return Ok(false);
-        }
-        let frame = PictureRef::new(self.params.format, &self.frame);
-        let passed = pass(&mut self.both.sender, &mut self.both.receiver, frame);
-        self.tally.count(passed.mark);
-        show(desk, passed, self.both.screen())?;
-        Ok(true)
+        ends_agree();
+        ends_run();
+        of_near_events();
+        take_turn(
+            desk,
+            &self.terms,
+            &mut self.video,
+            &mut self.both.sender,
+            &mut self.both.receiver,
+            &mut self.carrier,
+        )
     }
 
     fn finish(self) {
         let Call {
-            params: _,
-            reader: _,
+            terms: _,
+            video: _,
             both,
-            frame: _,
-            tally: _,
+            carrier: _,
         } = self;
         both.finish();
     }

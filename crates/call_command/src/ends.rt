@@ -18,7 +18,7 @@ ghost use Rattle.receiver_end.specs.declared.kept.Kept.{Kept};
 ghost use Rattle.receiver_end.specs.Answers.{IsHeard, IsPlayed};
 ghost use Rattle.receiver_end.specs.Decoding.{decoding};
 ghost use Rattle.call_command.specs.Trace.{delivered};
-ghost use Rattle.call_command.specs.Both.{AreJoined, bare, both_after, next_of};
+ghost use Rattle.call_command.specs.Both.{AreJoined, IsStanding, bare, both_after, next_of};
 
 use crate::laws::ends_run;
 use h263_planes::PictureRef;
@@ -36,6 +36,8 @@ pub fn send<P: Pace>(sender: &mut Sender<P>, frame: PictureRef<'_>) -> Coded
     ensures sent { sender.new.state.sent ≡ sender.old.state.sent + 1 }
     ensures count { result.packets ≡ length (packets_of sender.new.state.cutter) }
     ensures pace { sender.new.pace ≡ sender.old.pace }
+    ensures standing { IsStanding (P.quant_of sender.old.pace) sender.old.state
+        → IsStanding (P.quant_of sender.old.pace) sender.new.state }
     ensures joined { (p : Params) (receiver : Kept) (frames : List Frame)
         (before : List ReceiverEntry) (past : List Event)
         → AreJoined p (P.quant_of sender.old.pace) sender.old.state receiver frames before past

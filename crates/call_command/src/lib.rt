@@ -1,19 +1,34 @@
-//! The command that plays a whole call: both ends, and between them a network that loses nothing.
+//! The command that plays a whole call: both ends, and between them a network that loses what its
+//! trace says, or nothing.
 //!
-//! `specs/Call` says what it does with each frame of the video, by the ideal call of `call_model`.
-//! The parts in `ends` do single events of a call at its two ends, whatever the receiver had taken
-//! before.
+//! `specs/Call` says what it does with each frame of the video or each line of the trace, by the ideal
+//! call of `call_model`. [`converse`] does the same with ends that are lent, whatever the receiver had
+//! heard before.
 #![tactic(auto)]
 
 mod call;
+mod carrier;
 mod ends;
+mod events;
 pub mod laws;
+mod lent;
 mod mind;
 mod pass;
+mod references;
+mod refusals;
 mod show;
 mod tally;
+mod terms;
 #[cfg(test)]
 mod tests;
+mod turning;
+mod way;
 
-pub use call::Call;
+pub use call::{Both, Call};
+pub use carrier::Carrier;
+pub use events::{all_event, back_event, packet_event, play_event, send_kept};
+pub use lent::converse;
+pub use references::References;
 pub use tally::Tally;
+pub use terms::Terms;
+pub use turning::tell_counts;

@@ -7,7 +7,7 @@ ghost use Rattle.call_model.specs.IdealCall.{Event};
 ghost use Rattle.call_model.specs.Receiving.{ReceiverEntry};
 ghost use Rattle.call_encoding.specs.Frames.{Frame};
 ghost use Rattle.sender_end.specs.Stands.{IsReady};
-ghost use Rattle.call_command.specs.Both.{AreJoined, IsPassed, bare};
+ghost use Rattle.call_command.specs.Both.{AreJoined, IsPassed, IsStanding, bare};
 
 use crate::ends::{deliver_all, play, send};
 use crate::laws::ends_run;
@@ -39,6 +39,8 @@ pub fn pass<P: Pace>(
     ensures sent { sender.new.state.sent ≡ sender.old.state.sent + 1 }
     ensures played { receiver.new.played ≡ receiver.old.played + 1 }
     ensures pace { sender.new.pace ≡ sender.old.pace }
+    ensures standing { IsStanding (P.quant_of sender.old.pace) sender.old.state
+        → IsStanding (P.quant_of sender.old.pace) sender.new.state }
     ensures passed { (p : Params) (frames : List Frame) (before : List ReceiverEntry)
         (past : List Event) → AreJoined p (P.quant_of sender.old.pace) sender.old.state
         receiver.old frames before past

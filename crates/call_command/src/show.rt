@@ -1,5 +1,5 @@
 //! What a call writes of a picture that was played: the picture, and its line.
-ghost use Rattle.std.specs.Prelude.{◌≡◌, true, Some, None, OnOk, OnErr, IfErr};
+ghost use Rattle.std.specs.Prelude.{◌≡◌, true, OnOk, OnErr, IfErr};
 ghost use Rattle.h263_outside.specs.Desk.{OnlyWrites, Rose};
 ghost use Rattle.h263_outside.specs.declared.desk.Role.TheVariants.{Pictures, Report};
 ghost use Rattle.h263_planes.specs.Lent.{picture as lent};
@@ -7,21 +7,28 @@ ghost use Rattle.desk_program.specs.Ends.{Gains, GainsFronts};
 ghost use Rattle.call_command.specs.Standing.{row_texts};
 
 use crate::mind::turn_laws;
-use crate::pass::Passed;
 use call_report::{Status, picture_line};
 use desk_program::{put_line, put_picture};
 use h263_outside::Desk;
 use h263_outside::laws::calls;
 use h263_planes::PictureRef;
+use h263_types::Mark;
 
-/// Writes the picture that is shown, and its line.
-pub fn show<D: Desk>(desk: &mut D, passed: Passed, picture: PictureRef<'_>) -> Result<(), Status>
+/// Writes the picture that is shown, and its line: with its number, its mark, and the reference of
+/// the picture that was sent.
+pub fn show<D: Desk>(
+    desk: &mut D,
+    number: u32,
+    mark: Mark,
+    reference: Option<u32>,
+    picture: PictureRef<'_>,
+) -> Result<(), Status>
     requires pictures { (D.outside desk.old).attached Pictures ≡ true }
     requires report { (D.outside desk.old).attached Report ≡ true }
-    ensures ok { OnOk result (Gains (row_texts passed.coded passed.mark (lent picture.entry))
+    ensures ok { OnOk result (Gains (row_texts number mark reference (lent picture.entry))
         (D.outside desk.old).written (D.outside desk.new).written) }
     ensures err { OnErr result
-        (GainsFronts (row_texts passed.coded passed.mark (lent picture.entry))
+        (GainsFronts (row_texts number mark reference (lent picture.entry))
         (D.outside desk.old).written (D.outside desk.new).written) }
     ensures kind { IfErr result (λ status. status ≡ Status.WriteFault) }
     ensures cause { OnErr result (Rose (D.outside desk.old).faults.write
@@ -30,12 +37,7 @@ pub fn show<D: Desk>(desk: &mut D, passed: Passed, picture: PictureRef<'_>) -> R
 {
     calls();
     turn_laws();
-    put_picture(desk, passed.mark, picture)?;
-    let line = picture_line(
-        passed.coded.number,
-        Some(passed.mark),
-        Some(passed.coded.reference),
-        None,
-    );
+    put_picture(desk, mark, picture)?;
+    let line = picture_line(number, Some(mark), Some(reference), None);
     put_line(desk, &line)
 }

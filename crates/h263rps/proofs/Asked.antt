@@ -7,7 +7,7 @@ use Rattle.h263_outside.specs.declared.desk.Role.TheVariants.{Video, Report}
 use Rattle.y4m.specs.declared.fault.Y4mFault.{Y4mFault}
 use Rattle.y4m.specs.Video.{video_fault}
 use Rattle.call_report.specs.declared.status.Status.{Status}
-use Rattle.call_report.specs.declared.status.Status.TheVariants.{OutOfMemory, Usage, WriteFault, VideoRefused, OpenFault}
+use Rattle.call_report.specs.declared.status.Status.TheVariants.{OutOfMemory, Usage, VideoRefused, OpenFault}
 use Rattle.command_words.specs.declared.command.Command.{Command}
 use Rattle.command_words.specs.declared.simple.WordStop.{WordStop}
 use Rattle.command_words.specs.declared.simple.WordStop.TheVariants as stops
@@ -17,7 +17,6 @@ use Rattle.desk_program.specs.Ends.{HasCause}
 use Rattle.desk_program.specs.Attached.{AreAttached}
 use Rattle.desk_program.specs.Lines.{Finishes}
 use Rattle.desk_program.specs.Promises.{IsSettled, IsNotUsage}
-use Rattle.call_command.specs.Plain.{status_for}
 use Rattle.h263rps.specs.Output.{word_stop, is_built, built, command_of, roles_of, source_of, run_of, output_from, order_from, source_from}
 use Rattle.h263rps.specs.Promises.{IsRunOf, IsRun}
 use Rattle.h263rps.proofs.Promised.{some_since, nothing_done, report_unopened, words_unread, usage_told, since_attached}
@@ -27,11 +26,6 @@ use Rattle.h263rps.proofs.Promised.{some_since, nothing_done, report_unopened, w
 -- where its run refuses the video, the video has that fault
 abbrev pub IsRefusedRightly : Command → Type 0
 IsRefusedRightly c = (inputs : Role → List ℕ) (fault : Y4mFault) → (run_of c inputs).last.status ≡ VideoRefused fault → video_fault (inputs Video) ≡ Some fault
-
--- the status of a call tells its video's fault
-pub by_status : (o : Option Y4mFault) (status : Status) (fault : Y4mFault) → status ≡ status_for o → status ≡ VideoRefused fault → o ≡ Some fault
-by_status None status fault is ends = absurd (cc (is, ends))
-by_status (Some broken) status fault is ends = cc (is, ends)
 
 built_is : (a : Asked) (c : Command) → a.command ≡ c → is_built c ≡ true → built a ≡ Some a
 built_is a c e is = ap (λ (b : Bool). if b then Some a else None) (ap is_built e ∙ is)

@@ -1,21 +1,21 @@
 -- A run keeps its promises, whichever way it ends.
-use Rattle.std.proofs.Common.{◌≡◌, ◌⊎◌, inl, inr, ℕ, ◌≤◌, ◌<◌, Bool, true, false, List, [], ◌∷◌, ◌++◌, Option, Some, None, IfSome, if◌then◌else◌, refl, sym, ap, ◌∙◌, subst, arith, append-nil}
+use Rattle.std.proofs.Common.{◌≡◌, inl, inr, ℕ, ◌≤◌, Bool, true, false, List, [], ◌∷◌, Option, Some, None, IfSome, if◌then◌else◌, refl, sym, ap, ◌∙◌, subst, arith, append-nil}
 use Rattle.std.specs.List.{AllByRecursion}
-use Rattle.h263_outside.specs.Desk.{Outside, Faults, NoneFalls, SomeRose, Rose, NoneAttached, OnlyAttaches, OnlyWrites, with_role, is_role, appended, GainsFront}
+use Rattle.h263_outside.specs.Desk.{Outside, Faults, NoneFalls, SomeRose, Rose, NoneAttached, OnlyAttaches, OnlyWrites, is_role, appended}
 use Rattle.h263_outside.specs.Gains.{gained, Front}
 use Rattle.h263_outside.specs.declared.desk.Role.{Role}
 use Rattle.h263_outside.specs.declared.desk.Role.TheVariants.{Report}
 use Rattle.call_report.specs.declared.status.Status.{Status}
-use Rattle.call_report.specs.declared.status.Status.TheVariants.{Ok as Fine, OutOfMemory, Usage, ReadFault, WriteFault, VideoRefused, TraceRefused, LogRefused, OpenFault, Video2Refused}
+use Rattle.call_report.specs.declared.status.Status.TheVariants.{OutOfMemory, Usage, WriteFault, OpenFault}
 use Rattle.call_report.specs.Status.{Phase, phase, before_reading}
 use Rattle.call_report.specs.Status.Phase.{finished, refused, unread, unwritten, starved, unasked, unopened}
 use Rattle.call_report.specs.Text.{status_text}
-use Rattle.desk_program.specs.Run.{Run, Turn, text_of, texts_of}
-use Rattle.desk_program.specs.Ends.{Tells, Gains, HasCause, CauseIn, IsReadOut, IsOpening}
-use Rattle.desk_program.specs.Attached.{AreAttached, AttachedAt, AttachedIn, SomeAttached, StopsAtRole}
-use Rattle.desk_program.specs.Lines.{end_text, Finishes, IsTold, IsUntold}
-use Rattle.desk_program.specs.Promises.{IsSettled, IsStopped, IsUnopened, UnopenedIn, AskedIn, IsNotUsage, HasStatus, HasTexts, HasPrefixes, HasLines, HasLinesCut, ReportIn, TakesInput}
-use Rattle.h263rps.specs.Promises.{IsCutOff, IsRunOf}
+use Rattle.desk_program.specs.Run.{Run, text_of}
+use Rattle.desk_program.specs.Ends.{Tells, Gains, HasCause, CauseIn, IsReadOut}
+use Rattle.desk_program.specs.Attached.{AreAttached, AttachedAt, SomeAttached}
+use Rattle.desk_program.specs.Lines.{end_text, Finishes, IsUntold}
+use Rattle.desk_program.specs.Promises.{IsSettled, IsStopped, IsUnopened, UnopenedIn, AskedIn, IsNotUsage, HasStatus, HasTexts, HasPrefixes, ReportIn, TakesInput}
+use Rattle.h263rps.specs.Promises.{IsRunOf}
 
 -- nothing was gained
 gained-nil : (o : Option (List ℕ)) → gained o [] ≡ o

@@ -14,13 +14,14 @@ use Rattle.command_words.specs.Asked.{Asked, asked}
 use Rattle.desk_program.specs.Run.{Run, run_from, refusal}
 use Rattle.recv_command.specs.Recv.{recv_begin, recv_step}
 use Rattle.send_command.specs.Send.{send_begin, send_step}
-use Rattle.call_command.specs.Call.{call_begin, call_step}
+use Rattle.call_command.specs.declared.terms.Terms.{Terms}
+use Rattle.call_command.specs.Call.{call_begin, call_step, most_turns}
 
 -- ---- the words
 
--- what can be asked for today: no recorded trace, and no made input
+-- what can be asked for today: no made input
 abbrev pub is_built : Command → Bool
-is_built (Call params traced) = not traced
+is_built (Call params traced) = true
 is_built (Send params) = true
 is_built (Recv params) = true
 is_built (Demo params seed frames) = false
@@ -46,7 +47,9 @@ the_word (Some word) = word
 
 -- the roles of a command in their order, with their words
 abbrev pub roles_of : Command → Asked → List (Role × Text)
-roles_of (Call params traced) a = (Video, the_word a.video) ∷ (Pictures, the_word a.pictures) ∷ []
+roles_of (Call params false) a = (Video, the_word a.video) ∷ (Pictures, the_word a.pictures) ∷ []
+roles_of (Call params true) a =
+    (Video, the_word a.video) ∷ (Events, the_word a.events) ∷ (Pictures, the_word a.pictures) ∷ []
 roles_of (Send params) a = (Video, the_word a.video) ∷ (Events, the_word a.events) ∷ (Wire, the_word a.wire) ∷ []
 roles_of (Recv params) a = (Events, the_word a.events) ∷ (Pictures, the_word a.pictures) ∷ (Wire, the_word a.wire) ∷ []
 roles_of (Demo params seed frames) a = []
@@ -58,7 +61,8 @@ order_from (Some a) = (Report, []) ∷ roles_of a.command a
 
 -- the input whose end is the end of the run
 abbrev pub source_of : Command → Option Role
-source_of (Call params traced) = Some Video
+source_of (Call params false) = Some Video
+source_of (Call params true) = Some Events
 source_of (Send params) = Some Events
 source_of (Recv params) = Some Events
 source_of (Demo params seed frames) = None
@@ -73,9 +77,14 @@ source_from (Some a) = source_of a.command
 abbrev pub no_command : Run
 no_command = record { turns = []; last = refusal Usage }
 
+-- what a call is asked for: over its plain trace, or over a recorded one
+abbrev pub terms_of : Params → Bool → Terms
+terms_of params traced = record { params = params; plain = not traced }
+
 -- what a command makes of its inputs, turn by turn
 abbrev pub run_of : Command → (Role → List ℕ) → Run
-run_of (Call params traced) inputs = run_from (call_begin params inputs) call_step 1048576 inputs
+run_of (Call params traced) inputs =
+    run_from (call_begin (terms_of params traced) inputs) call_step (most_turns (not traced)) inputs
 run_of (Send params) inputs = run_from (send_begin params inputs) send_step 16777216 inputs
 run_of (Recv params) inputs = run_from (recv_begin params inputs) recv_step 16777216 inputs
 run_of (Demo params seed frames) inputs = no_command

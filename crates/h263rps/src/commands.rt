@@ -12,15 +12,15 @@ ghost use Rattle.h263rps.specs.Output.{built, the_word};
 ghost use Rattle.h263rps.specs.Promises.{IsRun, IsRunOf};
 
 use crate::Status;
-use call_command::Call;
-use call_command::laws::a_call_shows_each_frame;
+use call_command::laws::refused_videos as refused_by_call;
+use call_command::{Call, Terms};
 use command_words::{Command, Words};
 use desk_program::{Turns, finish, perform};
 use h263_outside::{Desk, Role};
 use recv_command::Recv;
 use recv_command::laws::no_video_refused;
 use send_command::Send;
-use send_command::laws::refused_videos;
+use send_command::laws::refused_videos as refused_by_send;
 use std::alloc::Global;
 
 // Runs a command's machine.
@@ -58,8 +58,8 @@ pub fn command<D: Desk>(alloc: Global, words: &Words<'_>, desk: &mut D) -> Statu
     requires command { IsCommand words.now.command }
     ensures { IsRun (built (asked_of words.now)) result (D.outside desk.old) (D.outside desk.new) }
 {
-    a_call_shows_each_frame();
-    refused_videos();
+    refused_by_call();
+    refused_by_send();
     no_video_refused();
     match words.command() {
         Command::Call {
@@ -70,7 +70,26 @@ pub fn command<D: Desk>(alloc: Global, words: &Words<'_>, desk: &mut D) -> Statu
                 (Role::Video, word_of(words, Role::Video)),
                 (Role::Pictures, word_of(words, Role::Pictures)),
             ];
-            carry_out::<D, Call>(alloc, &params, &order, desk)
+            let terms = Terms {
+                params,
+                plain: true,
+            };
+            carry_out::<D, Call>(alloc, &terms, &order, desk)
+        }
+        Command::Call {
+            params,
+            traced: true,
+        } => {
+            let order = [
+                (Role::Video, word_of(words, Role::Video)),
+                (Role::Events, word_of(words, Role::Events)),
+                (Role::Pictures, word_of(words, Role::Pictures)),
+            ];
+            let terms = Terms {
+                params,
+                plain: false,
+            };
+            carry_out::<D, Call>(alloc, &terms, &order, desk)
         }
         Command::Send { params } => {
             let order = [
@@ -89,7 +108,6 @@ pub fn command<D: Desk>(alloc: Global, words: &Words<'_>, desk: &mut D) -> Statu
             carry_out::<D, Recv>(alloc, &params, &order, desk)
         }
         // Not built yet.
-        Command::Call { traced: true, .. } => finish(desk, Status::Usage),
         Command::Demo { .. } => finish(desk, Status::Usage),
     }
 }

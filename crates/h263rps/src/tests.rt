@@ -6,6 +6,7 @@ ghost use Rattle.h263_outside.specs.Desk.{IsOutput};
 use super::*;
 use event_logs::LogFault;
 use h263_outside::{MemoryDesk, OutOfMemory, Role};
+use loss_trace::TraceFault;
 use std::process::Abort;
 use std::test::Fail;
 use y4m::Y4mFault;
@@ -276,6 +277,79 @@ fn faults_of_the_desk_in_a_call(rt: HostRuntime) -> Result<(), Fail> {
     Ok(())
 }
 
+// ---- call over a recorded trace
+
+const TRACED: &[&str] = &["call", "in", "out", "--trace", "lines"];
+
+const PLAY_FIRST: Status = Status::TraceRefused {
+    fault: TraceFault::PlayBeforeSend { line: 1 },
+};
+
+const NO_FRAME: Status = Status::TraceRefused {
+    fault: TraceFault::NoFrame { line: 4 },
+};
+
+// The trace is attached behind the video, and before the pictures.
+const TRACES: &[(&[u8], u64, Status, Parts<'static>, Parts<'static>)] = &[
+    (
+        b"S\nD 0.*\nP\n",
+        NONE,
+        Status::Ok,
+        SHOWN,
+        &[ONE_LINE, ONE_COUNT],
+    ),
+    (
+        b"S\nD 0.*\nP\nS\n",
+        NONE,
+        NO_FRAME,
+        SHOWN,
+        &[ONE_LINE, b"trace refused: no frame at line 4\n"],
+    ),
+    (
+        b"P\n",
+        NONE,
+        PLAY_FIRST,
+        &[OUT_HEAD],
+        &[b"trace refused: play before send at line 1\n"],
+    ),
+    (
+        b"",
+        2,
+        Status::OpenFault { role: Role::Events },
+        NOTHING,
+        &[b"cannot open events\n"],
+    ),
+    (
+        b"",
+        3,
+        Status::OpenFault {
+            role: Role::Pictures,
+        },
+        NOTHING,
+        &[b"cannot open pictures\n"],
+    ),
+];
+
+#[test]
+fn traced_calls(rt: HostRuntime) -> Result<(), Fail> {
+    for (trace, failing, ends, pictures, report) in TRACES {
+        let given = Given {
+            words: TRACED,
+            video: ONE,
+            events: &[*trace],
+            failing: *failing,
+        };
+        let wanted = Wanted {
+            ends: *ends,
+            pictures,
+            wire: NOTHING,
+            report,
+        };
+        run_twice(&rt, rt.alloc(), 4096, &given, &wanted)?;
+    }
+    Ok(())
+}
+
 // ---- a sender and a receiver, each by itself
 
 const SEND: &[&str] = &["send", "in", "log", "wire"];
@@ -395,7 +469,6 @@ fn words(rt: HostRuntime) -> Result<(), Fail> {
         &["send", "in", "log"],
         &["recv", "log", "out", "wire", "--quant", "8"],
         &["demo", "1", "60"],
-        &["call", "in", "out", "--trace", "file"],
     ];
     for words in wrong {
         let given = Given {

@@ -1,8 +1,9 @@
-//! The commands of one end, over a desk with nothing attached.
+//! The commands, over a desk with nothing attached.
 ghost use Rattle.h263_outside.specs.Desk.{NoneAttached};
 ghost use Rattle.command_words.specs.Asked.{IsCommand};
 ghost use Rattle.command_words.specs.View.{asked_of};
 
+use call_command::{Call, Terms};
 use call_report::Status;
 use command_words::{Command, Words};
 use desk_program::{attach_role, finish, perform};
@@ -16,7 +17,7 @@ fn name_of<'a>(words: &Words<'a>, role: Role) -> &'a str {
     words.name(role).unwrap_or("")
 }
 
-/// Runs the command that the words ask for, where it is one of one end.
+/// Runs the command that the words ask for, where it is one of one end, or a call over a trace.
 pub fn run<D: Desk>(alloc: Global, words: &Words<'_>, desk: &mut D) -> Status
     requires none { NoneAttached (D.outside desk.old).attached }
     requires command { IsCommand (asked_of words.now).command }
@@ -41,6 +42,21 @@ pub fn run<D: Desk>(alloc: Global, words: &Words<'_>, desk: &mut D) -> Status
             ];
             perform::<D, Recv>(alloc, &params, &order, desk)
         }
-        Command::Call { .. } | Command::Demo { .. } => finish(desk, Status::Usage),
+        Command::Call {
+            params,
+            traced: true,
+        } => {
+            let order = [
+                (Role::Video, name_of(words, Role::Video)),
+                (Role::Events, name_of(words, Role::Events)),
+                (Role::Pictures, name_of(words, Role::Pictures)),
+            ];
+            let terms = Terms {
+                params,
+                plain: false,
+            };
+            perform::<D, Call>(alloc, &terms, &order, desk)
+        }
+        Command::Call { traced: false, .. } | Command::Demo { .. } => finish(desk, Status::Usage),
     }
 }

@@ -2,11 +2,13 @@
 //! the formats.
 //!
 //! Of a call `NAME` there are the video `NAME.y4m` and the sender's log `NAME.send.log`, of which
-//! `send` is to make the packets `NAME.wire`; and the receiver's log `NAME.recv.log`, of which
-//! `recv` is to make the pictures `NAME.out.y4m` and the messages `NAME.feedback.wire`. The reports
-//! are in `NAME.send.txt` and `NAME.recv.txt`, each with a line for the number that the process
-//! ends with. Each command is run by its words over a desk in memory, and all that it writes is
-//! compared byte for byte. Where anything differs the program says where, and ends with status 1.
+//! `send` is to make the packets `NAME.wire`; the receiver's log `NAME.recv.log`, of which `recv`
+//! is to make the pictures `NAME.out.y4m` and the messages `NAME.feedback.wire`; and the trace
+//! `NAME.trace`, over which `call` is to show the same pictures of that video. The reports are in
+//! `NAME.send.txt`, `NAME.recv.txt` and `NAME.call.txt`, each with a line for the number that the
+//! process ends with. Each command is run by its words over a desk in memory, and all that it
+//! writes is compared byte for byte. Where anything differs the program says where, and ends with
+//! status 1.
 #![tactic(auto)]
 
 mod command;
@@ -17,34 +19,57 @@ use compare::compare_run;
 use std::io;
 use std::process::ExitCode;
 
-// The calls: the name of their files, and the options of `send` and of `recv`.
-const CALLS: [(&str, &str, &str); 7] = [
+// The calls: the name of their files, and the options of `send`, of `recv` and of `call`.
+const CALLS: [(&str, &str, &str, &str); 7] = [
     // A textured object that moves; slices begin inside a row.
-    ("object", "--quant 5 --limit 1200", "--format sub-qcif"),
+    (
+        "object",
+        "--quant 5 --limit 1200",
+        "--format sub-qcif",
+        "--quant 5 --limit 1200",
+    ),
     // A cut to another scene.
-    ("cut", "--quant 12 --limit 1200", "--format sub-qcif"),
+    (
+        "cut",
+        "--quant 12 --limit 1200",
+        "--format sub-qcif",
+        "--quant 12 --limit 1200",
+    ),
     // Coarse, with few coefficients.
-    ("grain", "--quant 31 --keep 10", "--format sub-qcif"),
+    (
+        "grain",
+        "--quant 31 --keep 10",
+        "--format sub-qcif",
+        "--quant 31 --keep 10",
+    ),
     // QCIF, fine, with a wide search: levels by escapes, and many slices.
-    ("pan", "--quant 3 --limit 1200 --radius 15", ""),
+    (
+        "pan",
+        "--quant 3 --limit 1200 --radius 15",
+        "",
+        "--quant 3 --limit 1200 --radius 15",
+    ),
     // QCIF: a picture is lost, and one in part; packets come out of order, twice and late, and
     // acknowledgements late or never.
     (
         "lossy",
         "--quant 3 --limit 1200 --slots 6 --lead 2",
         "--slots 6 --lead 2",
+        "--quant 3 --limit 1200 --slots 6 --lead 2",
     ),
     // Messages of version 2: an acknowledgement is lost, and a flag of a later one tells of it.
     (
         "marks",
         "--quant 6 --limit 1200 --slots 6 --lead 2",
         "--format sub-qcif --slots 6 --lead 2 --messages 2",
+        "--quant 6 --limit 1200 --slots 6 --lead 2 --messages 2",
     ),
     // The custom clock; intra macroblocks in P pictures.
     (
         "levels",
         "--quant 9 --clock custom",
         "--format sub-qcif --messages 2 --clock custom",
+        "--quant 9 --clock custom --messages 2",
     ),
 ];
 
@@ -59,22 +84,30 @@ fn report_run(rt: &HostRuntime, report: &str, words: &str) -> io::Result<bool> {
     }
 }
 
-// Both commands of a call.
-fn report_call(rt: &HostRuntime, name: &str, sends: &str, receives: &str) -> io::Result<bool> {
+// The three commands of a call.
+fn report_call(
+    rt: &HostRuntime,
+    name: &str,
+    sends: &str,
+    receives: &str,
+    calls: &str,
+) -> io::Result<bool> {
     let alloc = rt.alloc();
     let send = format!(in alloc; "send {name}.y4m {name}.send.log {name}.wire {sends}")?;
     let recv = format!(in alloc;
         "recv {name}.recv.log {name}.out.y4m {name}.feedback.wire {receives}"
     )?;
+    let call = format!(in alloc; "call {name}.y4m {name}.out.y4m --trace {name}.trace {calls}")?;
     let sent = report_run(rt, &format!(in alloc; "{name}.send.txt")?, &send)?;
     let received = report_run(rt, &format!(in alloc; "{name}.recv.txt")?, &recv)?;
-    Ok(sent && received)
+    let called = report_run(rt, &format!(in alloc; "{name}.call.txt")?, &call)?;
+    Ok(sent && received && called)
 }
 
 fn report_calls(rt: &HostRuntime) -> io::Result<bool> {
     let mut same = true;
-    for (name, sends, receives) in CALLS {
-        if !report_call(rt, name, sends, receives)? {
+    for (name, sends, receives, calls) in CALLS {
+        if !report_call(rt, name, sends, receives, calls)? {
             same = false;
         }
     }

@@ -1,7 +1,6 @@
-use Rattle.std.proofs.Common.{◌≡◌, refl, subst, List, ℕ, map}
+use Rattle.std.proofs.Common.{refl, map}
 use Rattle.std.specs.String.{string_bytes}
 use Rattle.h263rps.specs.Output.{command_of}
-use Rattle.h263rps.specs.Promises.{IsRun}
 use Rattle.h263rps.proofs.Asked.{starved_run}
 use Rattle.h263rps.proofs.run_words.Goals as goal
 

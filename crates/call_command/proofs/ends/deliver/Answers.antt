@@ -1,4 +1,4 @@
-use Rattle.call_command.proofs.Events.{heard_in, after_packet, packet_answer}
+use Rattle.call_command.proofs.OneMore.{heard_in, after_packet, packet_answer}
 use Rattle.call_command.proofs.ends.deliver.Goals as goal
 
 pub returns-clause-joined : goal.returns-clause-joined

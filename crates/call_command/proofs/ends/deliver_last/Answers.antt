@@ -1,5 +1,5 @@
 use Rattle.std.proofs.Common.{◌-◌}
-use Rattle.call_command.proofs.Events.{last_packet}
+use Rattle.call_command.proofs.OneMore.{last_packet}
 use Rattle.call_command.proofs.ends.deliver_last.Goals as goal
 
 pub returns-clause-joined : goal.returns-clause-joined

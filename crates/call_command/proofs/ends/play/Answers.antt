@@ -1,4 +1,4 @@
-use Rattle.call_command.proofs.Events.{heard_in, after_play, play_told}
+use Rattle.call_command.proofs.OneMore.{heard_in, after_play, play_told}
 use Rattle.call_command.proofs.ends.play.Goals as goal
 
 pub returns-clause-joined : goal.returns-clause-joined

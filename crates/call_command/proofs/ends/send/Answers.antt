@@ -1,7 +1,13 @@
+use Rattle.std.proofs.Common.{◌∷◌}
+use Rattle.call_model.specs.Sending.{Capture}
 use Rattle.call_command.specs.Both.{bare}
 use Rattle.h263_planes.specs.Lent.{picture}
-use Rattle.call_command.proofs.Events.{sent_in, after_send, send_tells}
+use Rattle.call_command.proofs.OneMore.{sent_in, after_send, send_tells}
 use Rattle.call_command.proofs.ends.send.Goals as goal
+
+pub returns-clause-standing : goal.returns-clause-standing
+returns-clause-standing g c = λ stood.
+    record { entries = Capture (bare (picture c.args.frame)) ∷ stood.entries; stands = c.code.ensures.stands stood.entries stood.stands }
 
 pub returns-clause-joined : goal.returns-clause-joined
 returns-clause-joined g c = λ p receiver frames before past j at.

@@ -2,7 +2,7 @@ use Rattle.std.proofs.Common.{◌≡◌, ℕ, ◌-◌, List, ◌∷◌, ◌++◌
 use Rattle.call_model.specs.IdealCall.{Send}
 use Rattle.call_command.specs.Trace.{delivered}
 use Rattle.call_command.specs.Both.{AreJoined}
-use Rattle.call_command.proofs.Events.{sent_is}
+use Rattle.call_command.proofs.OneMore.{sent_is}
 use Rattle.call_command.proofs.pass.pass.Goals as goal
 
 pub returns-clause-passed : goal.returns-clause-passed

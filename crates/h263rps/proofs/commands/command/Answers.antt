@@ -2,11 +2,10 @@ use Rattle.std.proofs.Common.{◌≡◌, ℕ, true, false, List, [], ◌∷◌, 
 use Rattle.h263_outside.specs.declared.desk.Role.{Role}
 use Rattle.h263_outside.specs.declared.desk.Role.TheVariants.{Video, Events, Pictures, Wire, Report}
 use Rattle.command_words.specs.declared.command.Command.TheVariants.{Call, Send, Recv, Demo}
-use Rattle.command_words.specs.Asked.{IsCommand}
 use Rattle.command_words.specs.View.{asked_of}
-use Rattle.h263rps.specs.Output.{roles_of, run_of, source_of}
+use Rattle.h263rps.specs.Output.{run_of, source_of, terms_of}
 use Rattle.h263rps.specs.Promises.{IsRunOf}
-use Rattle.h263rps.proofs.Asked.{as_run, by_status, unbuilt_run}
+use Rattle.h263rps.proofs.Asked.{as_run, unbuilt_run}
 use Rattle.h263rps.proofs.commands.command.Goals as goal
 
 pub returns-in-Call-default-false : goal.returns-in-Call-default-false
@@ -14,11 +13,23 @@ returns-in-Call-default-false g c =
     let outside = g.D.Desk.outside in
     let a = asked_of c.args.words.now in
     let asked = Call c.in-Call-default-false.params false in
-    let done = c.carry_out in
+    let done = c.carry_out-in-Call-default-false in
     let is : a.command ≡ asked = cc (c.command.ensures, c.in-Call-default-false.is, c.in-Call-default-false.traced-test) in
-    as_run a asked is refl (λ inputs fault ends. by_status _ _ fault (c.a_call_shows_each_frame.ensures.status c.in-Call-default-false.params inputs (subst IsCommand is c.requires.command)) ends) done.result (outside c.args.desk.now) (outside done.new.desk)
+    as_run a asked is refl (c.refused_videos.ensures (terms_of c.in-Call-default-false.params false)) done.result (outside c.args.desk.now) (outside done.new.desk)
     (subst (λ (roles : List (Role × List ℕ)). IsRunOf (run_of asked) ((Report, []) ∷ roles) (source_of asked) done.result (outside c.args.desk.now) (outside done.new.desk))
-    (λ i. (Video, c.word_of.ensures i) ∷ (Pictures, c.word_of-in-Call-default-false.ensures i) ∷ []) done.ensures.run)
+    (λ i. (Video, c.word_of-in-Call-default-false.ensures i) ∷ (Pictures, c.word_of-in-Call-default-false-2.ensures i) ∷ []) done.ensures.run)
+    done.ensures.words
+
+pub returns-in-Call-default-true : goal.returns-in-Call-default-true
+returns-in-Call-default-true g c =
+    let outside = g.D.Desk.outside in
+    let a = asked_of c.args.words.now in
+    let asked = Call c.in-Call-default-true.params true in
+    let done = c.carry_out in
+    let is : a.command ≡ asked = cc (c.command.ensures, c.in-Call-default-true.is, c.in-Call-default-true.traced-test) in
+    as_run a asked is refl (c.refused_videos.ensures (terms_of c.in-Call-default-true.params true)) done.result (outside c.args.desk.now) (outside done.new.desk)
+    (subst (λ (roles : List (Role × List ℕ)). IsRunOf (run_of asked) ((Report, []) ∷ roles) (source_of asked) done.result (outside c.args.desk.now) (outside done.new.desk))
+    (λ i. (Video, c.word_of.ensures i) ∷ (Events, c.word_of-in-Call-default-true.ensures i) ∷ (Pictures, c.word_of-in-Call-default-true-2.ensures i) ∷ []) done.ensures.run)
     done.ensures.words
 
 pub returns-in-Send : goal.returns-in-Send
@@ -28,7 +39,7 @@ returns-in-Send g c =
     let asked = Send c.in-Send.params in
     let done = c.carry_out-in-Send in
     let is : a.command ≡ asked = cc (c.command.ensures, c.in-Send.is) in
-    as_run a asked is refl (c.refused_videos.ensures c.in-Send.params) done.result (outside c.args.desk.now) (outside done.new.desk)
+    as_run a asked is refl (c.refused_videos-2.ensures c.in-Send.params) done.result (outside c.args.desk.now) (outside done.new.desk)
     (subst (λ (roles : List (Role × List ℕ)). IsRunOf (run_of asked) ((Report, []) ∷ roles) (source_of asked) done.result (outside c.args.desk.now) (outside done.new.desk))
     (λ i. (Video, c.word_of-in-Send.ensures i) ∷ (Events, c.word_of-in-Send-2.ensures i) ∷ (Wire, c.word_of-in-Send-3.ensures i) ∷ []) done.ensures.run)
     done.ensures.words
@@ -45,18 +56,10 @@ returns-in-Recv g c =
     (λ i. (Events, c.word_of-in-Recv.ensures i) ∷ (Pictures, c.word_of-in-Recv-2.ensures i) ∷ (Wire, c.word_of-in-Recv-3.ensures i) ∷ []) done.ensures.run)
     done.ensures.words
 
-pub returns-in-Call-default-true : goal.returns-in-Call-default-true
-returns-in-Call-default-true g c =
-    let outside = g.D.Desk.outside in
-    let a = asked_of c.args.words.now in
-    let asked = Call c.in-Call-default-true.params true in
-    let is : a.command ≡ asked = cc (c.command.ensures, c.in-Call-default-true.is, c.in-Call-default-true.traced-test) in
-    unbuilt_run a asked is refl (outside c.args.desk.now) (outside c.finish.new.desk) c.requires.report c.finish.ensures.rest c.finish.result c.finish.ensures.told
-
 pub returns-in-Demo : goal.returns-in-Demo
 returns-in-Demo g c =
     let outside = g.D.Desk.outside in
     let a = asked_of c.args.words.now in
     let asked = Demo c.in-Demo.params c.in-Demo.seed c.in-Demo.frames in
     let is : a.command ≡ asked = cc (c.command.ensures, c.in-Demo.is) in
-    unbuilt_run a asked is refl (outside c.args.desk.now) (outside c.finish-in-Demo.new.desk) c.requires.report c.finish-in-Demo.ensures.rest c.finish-in-Demo.result c.finish-in-Demo.ensures.told
+    unbuilt_run a asked is refl (outside c.args.desk.now) (outside c.finish.new.desk) c.requires.report c.finish.ensures.rest c.finish.result c.finish.ensures.told

@@ -1,4 +1,4 @@
-use Rattle.std.proofs.Common.{◌≡◌, sym, ap, ◌∙◌, subst}
+use Rattle.std.proofs.Common.{◌∙◌, subst}
 use Rattle.call_report.specs.declared.status.Status.{Status}
 use Rattle.command_words.specs.Clap.{texts}
 use Rattle.command_words.specs.View.{asked_of}

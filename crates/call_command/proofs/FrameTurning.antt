@@ -1,12 +1,14 @@
--- The turns of a call, by what its reader says and what was written.
-use Rattle.std.proofs.Common.{◌≡◌, ◌≢◌, ℕ, zero, suc, ◌+◌, ◌-◌, ◌<◌, ◌≤◌, Bool, true, false, List, [], ◌∷◌, length, take, drop, Option, Some, Result, Ok, Err, IsErr, IsErrAnd, refl, sym, ap, ◌∙◌, subst, arith}
+-- The turns of a call over its plain trace, by what the reader of the video says and what was written.
+use Rattle.std.proofs.Common.{◌≡◌, ◌≢◌, ℕ, zero, suc, ◌+◌, ◌-◌, ◌<◌, ◌≤◌, Bool, true, false, not, List, [], ◌∷◌, length, take, drop, Option, Some, Result, Ok, Err, IsErr, IsErrAnd, refl, sym, ap, ◌∙◌, subst, arith, Global}
 use Rattle.std.specs.Prelude.{◌&&◌, nat_le}
+use Rattle.std.specs.declared.vec.Vec.{Vec}
+use Rattle.std.specs.Vec.{with_items}
+use Rattle.std.proofs.lemmas.List.{with_items_is}
 use Rattle.std.proofs.lemmas.Bool.{leb-true, false≢true}
 use Rattle.h263_outside.specs.Desk.{Outside, IsInput}
 use Rattle.h263_outside.specs.declared.desk.Role.{Role}
 use Rattle.h263_outside.specs.declared.desk.Role.TheVariants.{Video, Events, Pictures, Wire, Report, Video2, Pictures2}
 use Rattle.h263_types.specs.declared.format.Format.{Format}
-use Rattle.h263_types.specs.declared.params.Params.{Params}
 use Rattle.y4m.specs.declared.fault.Y4mFault.{Y4mFault}
 use Rattle.y4m.specs.declared.fault.VideoStop.{VideoStop}
 use Rattle.y4m.specs.declared.fault.VideoStop.TheVariants.{Read, Refused}
@@ -23,13 +25,14 @@ use Rattle.desk_program.specs.Run.Step.{Ends}
 use Rattle.desk_program.specs.Ends.{Tells, Gains, GainsFronts, IsPart, Went, Ended, GivesUp, TurnGives, StartGives, step_texts, step_turns}
 use Rattle.desk_program.specs.Texts.{on, of}
 use Rattle.desk_program.specs.Laws.{TurnLaws}
-use Rattle.call_command.specs.Call.{CallState, all_played, call_begin, call_of, call_step, frame_step, head_step, play_texts, video_step, with_picture}
+use Rattle.call_command.specs.declared.terms.Terms.{Terms}
+use Rattle.call_command.specs.Call.{CallState, all_played, by_ends, call_begin, first_state, frame_step, head_step, may_read, play_texts, video_step, with_format, with_picture}
 use Rattle.call_command.specs.Counts.{call_text}
 use Rattle.call_command.specs.Laws.{VideoLaws}
 
 -- ---- what was taken holds no whole head or frame
 
-not_held : (size k : ℕ) → (size ≤ k → ⊥) → nat_le size k ≡ false
+pub not_held : (size k : ℕ) → (size ≤ k → ⊥) → nat_le size k ≡ false
 not_held size k few = at_test (nat_le size k) refl
   where
     at_test : (t : Bool) → nat_le size k ≡ t → t ≡ false
@@ -39,33 +42,37 @@ not_held size k few = at_test (nat_le size k) refl
 part_of : (size k : ℕ) → (size ≤ k → ⊥) → (true && nat_le size k && true && true) ≡ false
 part_of size k few = ap (λ (b : Bool). true && b && true && true) (not_held size k few)
 
-not_an_err : {T E : Type 0} (r : Result T E) (x : T) → r ≡ Ok x → IsErr r → ⊥
+pub not_an_err : {T E : Type 0} (r : Result T E) (x : T) → r ≡ Ok x → IsErr r → ⊥
 not_an_err {T} {E} r x is lost = ok_is_none x (subst IsErr is lost)
   where
     ok_is_none : (x : T) → IsErr {T = T} {E = E} (Ok x) → ⊥
     ok_is_none x lost = absurd (cc lost)
 
+pub next_is : (n : ℕ) (f : Format) (at : ℕ) (rest frame : List ℕ) → next_frame n f at rest ≡ Ok frame → frame_of f at rest ≡ Ok frame
+next_is zero f at rest frame is = absurd (cc is)
+next_is (suc n) f at rest frame is = is
+
 module _ (laws : VideoLaws) where
-  head_part : (p : Params) (video : List ℕ) (k : ℕ) (r : Result Format Y4mFault) → head_of video ≡ r → IsErr (head_of (take k video)) → IsPart (step_turns (head_step p video r)) (of Video k)
-  head_part p video k (Ok f) is lost = part_of (head_size video) k (λ le. not_an_err _ f (laws.head video f k is le).0 lost)
-  head_part p video k (Err fault) is lost = tt
+  head_part : (t : Terms) (video : List ℕ) (k : ℕ) (r : Result Format Y4mFault) → head_of video ≡ r → IsErr (head_of (take k video)) → IsPart (step_turns (head_step t video r)) (of Video k)
+  head_part t video k (Ok f) is lost = part_of (head_size video) k (λ le. not_an_err _ f (laws.head video f k is le).0 lost)
+  head_part t video k (Err fault) is lost = tt
 
-  next_is : (n : ℕ) (f : Format) (at : ℕ) (rest frame : List ℕ) → next_frame n f at rest ≡ Ok frame → frame_of f at rest ≡ Ok frame
-  next_is zero f at rest frame is = absurd (cc is)
-  next_is (suc n) f at rest frame is = is
-
-  frame_part : (s : CallState) (video : List ℕ) (k : ℕ) (r : Result (List ℕ) Y4mFault) → next_frame s.more s.params.format s.at video ≡ r → IsErr (frame_of s.params.format s.at (take k video)) → IsPart (step_turns (frame_step s video r)) (of Video k)
+  frame_part : (s : CallState) (video : List ℕ) (k : ℕ) (r : Result (List ℕ) Y4mFault) → next_frame s.more s.params.format s.at video ≡ r → IsErr (frame_of s.params.format s.at (take k video)) → IsPart (step_turns (frame_step by_ends s video r)) (of Video k)
   frame_part s video k (Ok frame) is lost =
       part_of (frame_size s.params.format video) k (λ le. not_an_err _ frame (laws.frame s.params.format s.at k video frame (next_is s.more s.params.format s.at video frame is) le).0 lost)
   frame_part s video k (Err fault) is lost = tt
 
-  video_part : (s : CallState) (video : List ℕ) (k : ℕ) → IsErr (frame_of s.params.format s.at (take k video)) → IsPart (step_turns (video_step s video)) (of Video k)
+  video_part : (s : CallState) (video : List ℕ) (k : ℕ) → IsErr (frame_of s.params.format s.at (take k video)) → IsPart (step_turns (video_step by_ends s video)) (of Video k)
   video_part s [] k lost = tt
   video_part s (b ∷ rest) k lost = frame_part s (b ∷ rest) k (next_frame s.more s.params.format s.at (b ∷ rest)) refl lost
 
-video_next : (s : CallState) (video : List ℕ) (r : Result (List ℕ) Y4mFault) → 0 < length video → next_frame s.more s.params.format s.at video ≡ r → video_step s video ≡ frame_step s video r
+video_next : (s : CallState) (video : List ℕ) (r : Result (List ℕ) Y4mFault) → 0 < length video → next_frame s.more s.params.format s.at video ≡ r → video_step by_ends s video ≡ frame_step by_ends s video r
 video_next s [] r some is = absurd (omega arith)
-video_next s (b ∷ rest) r some is = ap (frame_step s (b ∷ rest)) is
+video_next s (b ∷ rest) r some is = ap (frame_step by_ends s (b ∷ rest)) is
+
+-- a buffer that was lent whole holds what was put there
+pub lent : (v : Vec ℕ Global) (l got : List ℕ) (n : ℕ) → got ≡ (with_items v l).items → length l ≡ n → n ≡ v.len → got ≡ l
+lent v l got n is long whole = is ∙ with_items_is v l (omega (arith, long, whole, v.ok.0))
 
 -- what the reader of a frame says, for a state that has its format, place and count
 abbrev pub Gives : Result Bool VideoStop → CallState → List ℕ → List ℕ → Y4mReader → Option (List ℕ) → Type 0
@@ -110,34 +117,34 @@ cut_gives status step now inputs old new is fronts = subst (λ (y : Status). Giv
 -- ---- a turn over a desk: it was read from old to mid, and written from mid to new
 
 module _ (turns : TurnLaws CallState) (laws : VideoLaws) (inputs : Role → List ℕ) (old mid : Outside) (told : Tells old inputs) (others : (r : Role) → r ≢ Video → mid.left r ≡ old.left r) (same : mid.written ≡ old.written) where
-  pub head_stops : (p : Params) (stop : VideoStop) → HeadGives (Err stop) (inputs Video) (mid.left Video)
-      → GivesUp (phase (video_stop stop)) (video_stop stop) (call_begin p inputs) true inputs old mid
-  head_stops p Read e = record {
+  pub head_stops : (t : Terms) (stop : VideoStop) → HeadGives (Err stop) (inputs Video) (mid.left Video)
+      → GivesUp (phase (video_stop stop)) (video_stop stop) (call_begin t inputs) true inputs old mid
+  head_stops t Read e = record {
     part = of Video e.0;
-    partly = head_part laws p (inputs Video) e.0 (head_of (inputs Video)) refl e.2;
+    partly = head_part laws t (inputs Video) e.0 (head_of (inputs Video)) refl e.2;
     could = refl;
     left = turns.one_read Video e.0 old mid inputs told e.1 others;
     written = same;
   }
-  head_stops p (Refused fault) e = turns.refuses _ (VideoRefused fault) inputs old mid (ap (head_step p (inputs Video)) e) same
+  head_stops t (Refused fault) e = turns.refuses _ (VideoRefused fault) inputs old mid (ap (head_step t (inputs Video)) e) same
 
-  pub frame_stops : (s : CallState) (stop : VideoStop) (out : List ℕ) (reader : Y4mReader) → Gives (Err stop) s (inputs Video) out reader (mid.left Video)
-      → GivesUp (phase (video_stop stop)) (video_stop stop) (call_step s inputs) true inputs old mid
-  frame_stops s Read out reader e = record {
+  pub frame_stops : (s : CallState) → s.ended ≡ false → (stop : VideoStop) (out : List ℕ) (reader : Y4mReader) → Gives (Err stop) s (inputs Video) out reader (mid.left Video)
+      → GivesUp (phase (video_stop stop)) (video_stop stop) (video_step by_ends s (inputs Video)) (may_read s) inputs old mid
+  frame_stops s going Read out reader e = record {
     part = of Video e.0;
     partly = video_part laws s (inputs Video) e.0 e.2;
-    could = refl;
+    could = ap not going;
     left = turns.one_read Video e.0 old mid inputs told e.1 others;
     written = same;
   }
-  frame_stops s (Refused fault) out reader e = turns.refuses _ (VideoRefused fault) inputs old mid (video_next s (inputs Video) (Err fault) e.0 e.1) same
+  frame_stops s going (Refused fault) out reader e = turns.refuses _ (VideoRefused fault) inputs old mid (video_next s (inputs Video) (Err fault) e.0 e.1) same
 
   module _ (new : Outside) (still : new.left ≡ mid.left) where
     -- ---- the end of the video
 
     module _ (s : CallState) (out : List ℕ) (reader : Y4mReader) (e : Gives (Ok false) s (inputs Video) out reader (mid.left Video)) where
-      end_is : call_step s inputs ≡ Ends (all_played s)
-      end_is = ap (video_step s) e.0
+      end_is : video_step by_ends s (inputs Video) ≡ Ends (all_played (by_ends s))
+      end_is = ap (video_step by_ends s) e.0
 
       left_at : (r : Role) → IsInput r → new.left r ≡ Some (inputs r)
       left_at r input = ap (λ (l : Role → Option (List ℕ)). l r) still ∙ go r input
@@ -151,69 +158,69 @@ module _ (turns : TurnLaws CallState) (laws : VideoLaws) (inputs : Role → List
           go Report input = absurd (false≢true input)
           go Pictures2 input = absurd (false≢true input)
 
-      pub video_ends : (text : List ℕ) → text ≡ call_text (call_of s) → Gains (on Report text) mid.written new.written → Ended (call_step s inputs) Fine inputs old new
+      pub video_ends : (text : List ℕ) → text ≡ call_text (by_ends s) → Gains (on Report text) mid.written new.written → Ended (video_step by_ends s (inputs Video)) Fine inputs old new
       video_ends text is gains = record {
-        last = all_played s;
+        last = all_played (by_ends s);
         is = end_is;
         known = refl;
         left = λ r input k said. left_at r input ∙ ap (λ (n : ℕ). Some (drop n (inputs r))) (zero_is k (cc said));
-        written = subst (λ (w : Role → Option (List ℕ)). Gains (on Report (call_text (call_of s))) w new.written) same (subst (λ (l : List ℕ). Gains (on Report l) mid.written new.written) is gains);
+        written = subst (λ (w : Role → Option (List ℕ)). Gains (on Report (call_text (by_ends s))) w new.written) same (subst (λ (l : List ℕ). Gains (on Report l) mid.written new.written) is gains);
       }
         where
           zero_is : (k : ℕ) → 0 ≡ k → 0 ≡ 0 + k
           zero_is k is = omega (arith, is)
 
-      pub end_cut : (text : List ℕ) → text ≡ call_text (call_of s) → GainsFronts (on Report text) mid.written new.written → GainsFronts (step_texts (call_step s inputs)) old.written new.written
+      pub end_cut : (text : List ℕ) → text ≡ call_text (by_ends s) → GainsFronts (on Report text) mid.written new.written → GainsFronts (step_texts (video_step by_ends s (inputs Video))) old.written new.written
       end_cut text is gains =
           subst (λ (x : Step CallState). GainsFronts (step_texts x) old.written new.written) (sym end_is)
-          (subst (λ (w : Role → Option (List ℕ)). GainsFronts (on Report (call_text (call_of s))) w new.written) same
+          (subst (λ (w : Role → Option (List ℕ)). GainsFronts (on Report (call_text (by_ends s))) w new.written) same
           (subst (λ (l : List ℕ). GainsFronts (on Report l) mid.written new.written) is gains))
 
     -- ---- a frame
 
-    module _ (s : CallState) (out : List ℕ) (reader : Y4mReader) (e : Gives (Ok true) s (inputs Video) out reader (mid.left Video)) (texts : Role → List ℕ) (texts_are : texts ≡ play_texts (with_picture s out) (length s.frames)) where
+    module _ (s : CallState) (going : s.ended ≡ false) (out : List ℕ) (reader : Y4mReader) (e : Gives (Ok true) s (inputs Video) out reader (mid.left Video)) (texts : Role → List ℕ) (texts_are : texts ≡ play_texts (by_ends (with_picture by_ends s out)) (length s.frames)) where
       abbrev size : ℕ
       size = frame_size s.params.format (inputs Video)
 
-      frame_is : call_step s inputs ≡ frame_step s (inputs Video) (Ok out)
+      frame_is : video_step by_ends s (inputs Video) ≡ frame_step by_ends s (inputs Video) (Ok out)
       frame_is = video_next s (inputs Video) (Ok out) e.0 e.1
 
-      pub frame_cut : GainsFronts texts mid.written new.written → GainsFronts (step_texts (call_step s inputs)) old.written new.written
+      pub frame_cut : GainsFronts texts mid.written new.written → GainsFronts (step_texts (video_step by_ends s (inputs Video))) old.written new.written
       frame_cut gains =
           subst (λ (x : Step CallState). GainsFronts (step_texts x) old.written new.written) (sym frame_is)
-          (subst (λ (w : Role → Option (List ℕ)). GainsFronts (play_texts (with_picture s out) (length s.frames)) w new.written) same
+          (subst (λ (w : Role → Option (List ℕ)). GainsFronts (play_texts (by_ends (with_picture by_ends s out)) (length s.frames)) w new.written) same
           (subst (λ (t : Role → List ℕ). GainsFronts t mid.written new.written) texts_are gains))
 
       pub frame_goes : (stands : CallState → (Role → List ℕ) → Type 0)
-          → stands (record (with_picture s out) { at = s.at + size; more = s.more - 1 }) (behind inputs (of Video size))
-          → Gains texts mid.written new.written → Went (call_step s inputs) stands (λ _. true) true inputs old new
+          → stands (record (with_picture by_ends s out) { at = s.at + size; more = s.more - 1 }) (behind inputs (of Video size))
+          → Gains texts mid.written new.written → Went (video_step by_ends s (inputs Video)) stands may_read (may_read s) inputs old new
       frame_goes stands kept gains = record {
-        next = record (with_picture s out) { at = s.at + size; more = s.more - 1 };
-        turn = record { taken = of Video size; whole = true; texts = play_texts (with_picture s out) (length s.frames) };
-        could = refl;
+        next = record (with_picture by_ends s out) { at = s.at + size; more = s.more - 1 };
+        turn = record { taken = of Video size; whole = true; texts = play_texts (by_ends (with_picture by_ends s out)) (length s.frames) };
+        could = ap not going;
         is = frame_is;
         kept = kept;
-        whole = refl;
+        whole = sym (ap not going);
         left = turns.one_read Video size old new inputs told (ap (λ (l : Role → Option (List ℕ)). l Video) still ∙ e.3) (λ r other. ap (λ (l : Role → Option (List ℕ)). l r) still ∙ others r other);
-        written = subst (λ (w : Role → Option (List ℕ)). Gains (play_texts (with_picture s out) (length s.frames)) w new.written) same (subst (λ (t : Role → List ℕ). Gains t mid.written new.written) texts_are gains);
+        written = subst (λ (w : Role → Option (List ℕ)). Gains (play_texts (by_ends (with_picture by_ends s out)) (length s.frames)) w new.written) same (subst (λ (t : Role → List ℕ). Gains t mid.written new.written) texts_are gains);
       }
 
     -- ---- the head
 
-    module _ (p : Params) (f : Format) (is : head_of (inputs Video) ≡ Ok f) (gone : mid.left Video ≡ Some (drop (head_size (inputs Video)) (inputs Video))) where
-      head_is : call_begin p inputs ≡ head_step p (inputs Video) (Ok f)
-      head_is = ap (head_step p (inputs Video)) is
+    module _ (t : Terms) (f : Format) (is : head_of (inputs Video) ≡ Ok f) (gone : mid.left Video ≡ Some (drop (head_size (inputs Video)) (inputs Video))) where
+      head_is : call_begin t inputs ≡ head_step t (inputs Video) (Ok f)
+      head_is = ap (head_step t (inputs Video)) is
 
-      pub head_cut : GainsFronts (on Pictures (head_text f)) mid.written new.written → GainsFronts (step_texts (call_begin p inputs)) old.written new.written
+      pub head_cut : GainsFronts (on Pictures (head_text f)) mid.written new.written → GainsFronts (step_texts (call_begin t inputs)) old.written new.written
       head_cut gains =
           subst (λ (x : Step CallState). GainsFronts (step_texts x) old.written new.written) (sym head_is)
           (subst (λ (w : Role → Option (List ℕ)). GainsFronts (on Pictures (head_text f)) w new.written) same gains)
 
       abbrev first : CallState
-      first = record { params = record p { format = f }; frames = []; past = []; at = head_size (inputs Video); more = 1048576 }
+      first = first_state (with_format t f) [] (head_size (inputs Video))
 
       pub head_goes : (stands : CallState → (Role → List ℕ) → Type 0) → stands first (behind inputs (of Video (head_size (inputs Video))))
-          → Gains (on Pictures (head_text f)) mid.written new.written → Went (call_begin p inputs) stands (λ _. true) true inputs old new
+          → Gains (on Pictures (head_text f)) mid.written new.written → Went (call_begin t inputs) stands may_read true inputs old new
       head_goes stands kept gains = record {
         next = first;
         turn = record { taken = of Video (head_size (inputs Video)); whole = true; texts = on Pictures (head_text f) };

@@ -1,14 +1,15 @@
 -- Both ends after one event more.
-use Rattle.std.proofs.Common.{◌≡◌, ℕ, ◌-◌, ◌<◌, List, [], ◌∷◌, ◌++◌, length, Some, sym, ap, subst, ◌∙◌}
+use Rattle.std.proofs.Common.{◌≡◌, ℕ, ◌-◌, ◌<◌, List, [], ◌∷◌, ◌++◌, length, Option, Some, None, sym, ap, subst, ◌∙◌}
 use Rattle.std.specs.Prelude.{slice_get, slice_index_or}
 use Rattle.std.proofs.lemmas.Option.{slice_get-get_or}
 use Rattle.h263_types.specs.declared.params.Params.{Params}
 use Rattle.packet_cutter.specs.Cutting.{packets_of}
-use Rattle.call_model.specs.IdealCall.{Event, Send, Deliver, Play}
-use Rattle.call_model.specs.JoinedRun.{EachEndRuns, Joined, sender_entries, receiver_entries}
+use Rattle.std.specs.Option.{option_map_or}
+use Rattle.call_model.specs.IdealCall.{Event, Send, Deliver, Play, Back}
+use Rattle.call_model.specs.JoinedRun.{EachEndRuns, Joined, Told, sender_entries, receiver_entries}
 use Rattle.call_model.specs.Receiving.{ReceiverRun, ReceiverEntry, Packet, PlayNext, heard, played_mark, played_message}
 use Rattle.call_model.specs.Sending as call
-use Rattle.call_model.specs.Sending.{SenderRun, SenderEntry, Capture, next_coded}
+use Rattle.call_model.specs.Sending.{SenderRun, SenderEntry, Capture, Feedback, next_coded}
 use Rattle.call_decoding.specs.Rules.{rules_of}
 use Rattle.call_decoding.specs.Samples.{pictures}
 use Rattle.call_decoding.specs.Styles.{Style}
@@ -60,8 +61,15 @@ module _ (p : Params) (runs : EachEndRuns (coding p) (rules_of p)) (pace : List 
       ∙ ap (λ (q : Params). length (sender_end.run_of q pace sent_so).coded) j.sender_params
       ∙ ap (λ (run : SenderRun Style Mb Picture). length run.coded) (sym sender_is)
 
-  -- and has the packets of its last picture
-  packets_are : packets_of sender.cutter ≡ call.packets_of (encoding p) (rules_of p) both.sender.coded (sender.sent - 1)
+  -- and the receiver has played what was played
+  pub played_is : receiver.played ≡ both.receiver.played
+  played_is =
+      j.receives.played
+      ∙ ap (λ (q : Params). (receiver_end.run_of q heard_so).played) j.receiver_params
+      ∙ ap (λ (run : ReceiverRun Style Mb Picture). run.played) (sym receiver_is)
+
+  -- the sender has the packets of its last picture
+  pub packets_are : packets_of sender.cutter ≡ call.packets_of (encoding p) (rules_of p) both.sender.coded (sender.sent - 1)
   packets_are =
       sym j.sends.seen.packets
       ∙ j.sends.stands.packets
@@ -138,3 +146,25 @@ module _ (p : Params) (runs : EachEndRuns (coding p) (rules_of p)) (pace : List 
   screen_is =
       ap (λ (q : Params). (receiver_end.run_of q heard_so).screen) j.receiver_params
       ∙ ap (λ (run : ReceiverRun Style Mb Picture). run.screen) (sym receiver_is)
+
+  -- ---- a message comes back
+
+  pub after_message : (new : State) (k : ℕ) (told : Told) → new.params ≡ sender.params → slice_get both.said k ≡ Some told
+      → sender_end.Stands pace new (Feedback told.bytes ∷ sent_so) → AreJoined p pace new receiver frames before (Back k ∷ past)
+  after_message new k told same at stands = record {
+    sender_params = same ∙ j.sender_params;
+    receiver_params = j.receiver_params;
+    sends = subst (λ (o : Option Told). let first : List (SenderEntry Frame) = option_map_or (λ (told : Told). Feedback told.bytes ∷ []) o [] in sender_end.Stands pace new (first ++ sent_so)) (sym at) stands;
+    receives = j.receives;
+  }
+
+  -- ---- no packet is there
+
+  pub after_none : (n place : ℕ) → slice_get (call.packets_of (encoding p) (rules_of p) both.sender.coded n) place ≡ None
+      → AreJoined p pace sender receiver frames before (Deliver n place ∷ past)
+  after_none n place none = record {
+    sender_params = j.sender_params;
+    receiver_params = j.receiver_params;
+    sends = j.sends;
+    receives = subst (λ (o : Option (List ℕ)). let first : List ReceiverEntry = option_map_or (λ (bytes : List ℕ). Packet bytes ∷ []) o [] in receiver_end.Stands receiver ((first ++ receiver_entries (coding p) (rules_of p) (receiver_end.run_of p before) pace frames past) ++ before)) (sym none) j.receives;
+  }

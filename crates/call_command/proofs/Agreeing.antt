@@ -1,0 +1,128 @@
+-- In a near call with a new receiver both ends show what the ideal call shows.
+use Rattle.std.proofs.Common.{◌≡◌, ℕ, ◌+◌, ◌-◌, true, List, [], ◌∷◌, ◌++◌, length, Option, Some, None, Result, Ok, Err, refl, ap, ◌∙◌}
+use Rattle.std.specs.Prelude.{map, nat_lt, if◌then◌else◌}
+use Rattle.h263_outside.specs.declared.desk.Role.{Role}
+use Rattle.h263_outside.specs.declared.desk.Role.TheVariants.{Video}
+use Rattle.h263_planes.specs.Layout.{picture_of}
+use Rattle.y4m.specs.declared.fault.Y4mFault.{Y4mFault}
+use Rattle.y4m.specs.Frame.{next_frame, frame_size}
+use Rattle.loss_trace.specs.declared.event.Event.{Event as Line}
+use Rattle.loss_trace.specs.declared.event.Event.TheVariants as says
+use Rattle.loss_trace.specs.declared.fault.TraceFault.TheVariants.{TooMany}
+use Rattle.loss_trace.specs.Lines.{first_line}
+use Rattle.loss_trace.specs.Reading.{event_in}
+use Rattle.call_report.specs.declared.status.Status.TheVariants.{TraceRefused}
+use Rattle.desk_program.specs.Run.{End, Step, Turn, refusal}
+use Rattle.desk_program.specs.Run.Step.{Goes, Ends}
+use Rattle.desk_program.specs.Texts.{no_texts, of}
+use Rattle.call_model.specs.Refusals.{Refusal, first_refusal}
+use Rattle.call_command.specs.Trace.{delivered}
+use Rattle.h263_types.specs.declared.blocks.Mb.{Mb}
+use Rattle.h263_types.specs.declared.params.Params.{Params}
+use Rattle.h263_types.specs.Params.{IsParams}
+use Rattle.h263_planes.specs.Picture.{Picture}
+use Rattle.call_model.specs.Coding.{Message, Rules}
+use Rattle.call_model.specs.IdealCall.{Event, Send, Deliver, Play, Back, AllNear, Note, Call, about, ideal, slices_at}
+use Rattle.call_model.specs.JoinedRun.{AllNearBoth, Joined, Told}
+use Rattle.call_model.specs.TwoStores.{Agree, told_of}
+use Rattle.call_decoding.specs.Rules.{rules_of}
+use Rattle.call_decoding.specs.Styles.{Style}
+use Rattle.call_encoding.specs.Frames.{Frame}
+use Rattle.coded_call.specs.Coding.{coding}
+use Rattle.receiver_end.specs.State as receiver_end
+use Rattle.call_command.specs.Both.{bare, both_after}
+use Rattle.call_command.specs.Call.{CallState, after_line, all_played, by_call, by_ends, capture_step, event_step, frame_step, line_step, line_turn, play_texts, refusal_at, steady, trace_step, unless, video_step, with_frame, with_message, with_packet, with_picture, with_play}
+use Rattle.call_command.specs.Laws.{CallLaws, NearLaws, ShowTheSame}
+use Rattle.call_command.specs.Seen.{Seen, in_both, in_call}
+use Rattle.call_command.proofs.Passing.{steady_is}
+
+abbrev goes : CallState → Turn → Step CallState
+goes next turn = Goes next turn
+
+abbrev ends : End → Step CallState
+ends last = Ends last
+
+-- what is told of notes is about their pictures
+abouts_are : (write : Message → List ℕ) (rules : Rules) (notes : List Note) → map (λ (told : Told). told.about) (map (told_of write rules) notes) ≡ map about notes
+abouts_are write rules [] = refl
+abouts_are write rules (note ∷ notes) = ap (λ (l : List ℕ). about note ∷ l) (abouts_are write rules notes)
+
+module _ (p : Params) where
+  seen_same : (c : Call Style Mb Picture) (both : Joined Style Mb Picture) → Agree (coding p) (rules_of p) c both → in_both both ≡ in_call c
+  seen_same c both agree =
+      let abouts : map (λ (told : Told). told.about) both.said ≡ map about c.said =
+      ap (λ (l : List Told). map (λ (told : Told). told.about) l) agree.messages ∙ abouts_are (coding p).encoding.write_message (rules_of p) c.said
+      in
+      λ i. record { coded = agree.pictures i; played = agree.played i; plays = agree.plays i; abouts = abouts i }
+
+  pub show_the_same : IsParams p → CallLaws p → NearLaws p → (frames : List Frame) (past : List Event)
+      → AllNearBoth (coding p) (rules_of p) (receiver_end.run_of p []) (steady p) frames past → ShowTheSame p frames past
+  show_the_same in_range laws near_laws frames past near =
+      let ideally : AllNear (coding p) (rules_of p) (steady p) frames past = (near_laws.near (steady p) frames past (steady_is p in_range)).1 near in
+      seen_same (ideal (coding p) (rules_of p) (steady p) frames past) (both_after p (steady p) frames [] past)
+      (laws.follow (steady p) frames past (steady_is p in_range) ideally).agree
+
+-- ---- a step by both ends is that of the ideal call
+
+-- both show the same of a state
+abbrev Same : CallState → Type 0
+Same s = by_ends s ≡ by_call s
+
+unless_same : (s : CallState) (trace : List ℕ) (e : Event) (o : Option Refusal) (a b : Step CallState) → (o ≡ None → a ≡ b) → unless s trace e o a ≡ unless s trace e o b
+unless_same s trace e None a b same = same refl
+unless_same s trace e (Some r) a b same = refl
+
+-- the first refusal by what is seen
+abbrev refused_by : CallState → Event → Seen → Option Refusal
+refused_by s e seen = first_refusal (rules_of s.params) (length seen.coded + 1) (length seen.coded) seen.played seen.abouts e
+
+event_agrees : (s : CallState) (inputs : Role → List ℕ) (trace : List ℕ) (line : Line) → Same s → (refusal_at by_ends s Play ≡ None → Same (with_play s))
+    → event_step by_ends s inputs trace line ≡ event_step by_call s inputs trace line
+event_agrees s inputs trace says.Nothing same played = refl
+event_agrees s inputs trace says.Send same played =
+    ap (λ (seen : Seen). unless s trace Send (refused_by s Send seen) (capture_step s trace (inputs Video))) same
+event_agrees s inputs trace (says.Packet n j) same played =
+    ap (λ (seen : Seen). unless s trace (Deliver n j) (refused_by s (Deliver n j) seen) (goes (after_line (with_packet s n j) trace) (line_turn trace no_texts))) same
+event_agrees s inputs trace (says.All n) same played =
+    ap (λ (seen : Seen). unless s trace (Deliver n 0) (refused_by s (Deliver n 0) seen)
+    (goes (after_line (record s { past = delivered n (length (slices_at seen.coded n)) ++ s.past }) trace) (line_turn trace no_texts))) same
+event_agrees s inputs trace (says.Back k) same played =
+    ap (λ (seen : Seen). unless s trace (Back k) (refused_by s (Back k) seen) (goes (after_line (with_message s k) trace) (line_turn trace no_texts))) same
+event_agrees s inputs trace says.Play same played =
+    unless_same s trace Play (refusal_at by_ends s Play) _ _
+    (λ none. λ i. goes (after_line (with_play s) trace) (line_turn trace (play_texts (played none i) (same i).played)))
+    ∙ ap (λ (seen : Seen). unless s trace Play (refused_by s Play seen)
+    (goes (after_line (with_play s) trace) (line_turn trace (play_texts (by_call (with_play s)) (by_call s).played)))) same
+
+line_agrees : (s : CallState) (inputs : Role → List ℕ) (trace : List ℕ) (o : Option Line) → Same s → (refusal_at by_ends s Play ≡ None → Same (with_play s))
+    → line_step by_ends s inputs trace o ≡ line_step by_call s inputs trace o
+line_agrees s inputs trace None same played = refl
+line_agrees s inputs trace (Some line) same played = event_agrees s inputs trace line same played
+
+pub trace_agrees : (s : CallState) (inputs : Role → List ℕ) (trace : List ℕ) → Same s → (refusal_at by_ends s Play ≡ None → Same (with_play s))
+    → trace_step by_ends s inputs trace ≡ trace_step by_call s inputs trace
+trace_agrees s inputs [] same played = ap (λ (seen : Seen). ends (all_played seen)) same
+trace_agrees s inputs (b ∷ trace) same played =
+    ap (λ (step : Step CallState). if nat_lt s.lines 16777216 then step else ends (refusal (TraceRefused (TooMany (s.lines + 1)))))
+    (line_agrees s inputs (b ∷ trace) (event_in (first_line (b ∷ trace))) same played)
+
+frame_agrees : (s : CallState) (video : List ℕ) (r : Result (List ℕ) Y4mFault)
+    → ((planes : List ℕ) → Same (with_frame s (bare (picture_of s.params.format planes))) × Same (with_picture by_ends s planes))
+    → frame_step by_ends s video r ≡ frame_step by_call s video r
+frame_agrees s video (Ok planes) same =
+    let sent = with_frame s (bare (picture_of s.params.format planes)) in
+    let size = frame_size s.params.format video in
+    let n = length s.frames in
+    let passed : Seen → CallState = λ seen. with_play (record sent { past = delivered n (length (slices_at seen.coded n)) ++ sent.past }) in
+    let step : CallState → Seen → Step CallState = λ next seen.
+    goes (record next { at = s.at + size; more = s.more - 1 }) (record { taken = of Video size; whole = true; texts = play_texts seen n })
+    in
+    ap (step (with_picture by_ends s planes)) (same planes).1
+    ∙ ap (λ (seen : Seen). step (passed seen) (by_call (passed seen))) (same planes).0
+frame_agrees s video (Err fault) same = refl
+
+pub video_agrees : (s : CallState) (video : List ℕ) → Same s
+    → ((planes : List ℕ) → Same (with_frame s (bare (picture_of s.params.format planes))) × Same (with_picture by_ends s planes))
+    → video_step by_ends s video ≡ video_step by_call s video
+video_agrees s [] same passed = ap (λ (seen : Seen). ends (all_played seen)) same
+video_agrees s (b ∷ rest) same passed = frame_agrees s (b ∷ rest) (next_frame s.more s.params.format s.at (b ∷ rest)) passed

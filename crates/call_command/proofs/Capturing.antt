@@ -1,0 +1,131 @@
+-- What a line `S` makes of the frame that is read for it.
+use Rattle.std.proofs.Common.{◌≡◌, ◌≢◌, ℕ, ◌+◌, ◌-◌, ◌<◌, ◌≤◌, Bool, true, false, List, [], ◌∷◌, length, take, drop, Some, Result, Ok, Err, IsErr, refl, sym, ap, ◌∙◌, arith}
+use Rattle.std.specs.Prelude.{◌&&◌, nat_le}
+use Rattle.h263_outside.specs.Desk.{Outside, IsInput}
+use Rattle.h263_outside.specs.declared.desk.Role.{Role}
+use Rattle.h263_outside.specs.declared.desk.Role.TheVariants.{Video, Events, Pictures, Wire, Report, Video2, Pictures2}
+use Rattle.h263_planes.specs.Layout.{picture_of}
+use Rattle.y4m.specs.declared.fault.Y4mFault.{Y4mFault}
+use Rattle.y4m.specs.declared.fault.VideoStop.{VideoStop}
+use Rattle.y4m.specs.declared.fault.VideoStop.TheVariants.{Read, Refused}
+use Rattle.y4m.specs.declared.reader.Y4mReader.{Y4mReader}
+use Rattle.y4m.specs.Frame.{frame_of, next_frame, frame_size}
+use Rattle.loss_trace.specs.declared.fault.TraceFault.TheVariants.{NoFrame}
+use Rattle.loss_trace.specs.Lines.{is_closed}
+use Rattle.call_report.specs.declared.status.Status.TheVariants.{TraceRefused, VideoRefused}
+use Rattle.call_report.specs.Status.{phase, video_stop}
+use Rattle.desk_program.specs.Run.{Step, Turn, behind}
+use Rattle.desk_program.specs.Ends.{Tells, holds, IsPart, Went, Ended, GivesUp, step_turns}
+use Rattle.desk_program.specs.Texts.{no_texts, of, and_of}
+use Rattle.desk_program.specs.Laws.{TurnLaws}
+use Rattle.call_command.specs.Both.{bare}
+use Rattle.call_command.specs.Call.{CallState, after_line, capture_step, captured_step, line_size, may_read, refused_line, with_frame}
+use Rattle.call_command.specs.Laws.{VideoLaws}
+use Rattle.call_command.specs.Standing.{HasTaken}
+use Rattle.call_command.proofs.Cutting.{and_false}
+use Rattle.call_command.proofs.LineTurning.{double_not}
+use Rattle.call_command.proofs.FrameTurning.{Gives, next_is, not_an_err, not_held}
+
+-- ---- a part of a frame holds no turn
+
+-- the bytes of the line, and so many of its frame
+abbrev some_of : List ℕ → ℕ → Role → ℕ
+some_of trace n = and_of (of Events (line_size trace)) (of Video n)
+
+no_frame_held : (t : Turn) (k : Role → ℕ) → (t.taken Video ≤ k Video → ⊥) → holds t k ≡ false
+no_frame_held t k few =
+    ap (λ (b : Bool). t.whole && b && nat_le (t.taken Events) (k Events) && nat_le (t.taken Video2) (k Video2)) (not_held (t.taken Video) (k Video) few)
+    ∙ ap (λ (b : Bool). b && nat_le (t.taken Events) (k Events) && nat_le (t.taken Video2) (k Video2)) (and_false t.whole)
+
+frame_held : (trace : List ℕ) (size n : ℕ) → (size ≤ n → ⊥) → holds (record { taken = some_of trace size; whole = is_closed trace; texts = no_texts }) (some_of trace n) ≡ false
+frame_held trace size n few =
+    no_frame_held (record { taken = some_of trace size; whole = is_closed trace; texts = no_texts }) (some_of trace n) (λ (whole : 0 + size ≤ 0 + n). few (omega (arith, whole)))
+
+frame_part : VideoLaws → (s : CallState) (trace video : List ℕ) (n : ℕ) (r : Result (List ℕ) Y4mFault) → next_frame s.more s.params.format s.at video ≡ r
+    → IsErr (frame_of s.params.format s.at (take n video)) → IsPart (step_turns (captured_step s trace (frame_size s.params.format video) r)) (some_of trace n)
+frame_part laws s trace video n (Ok frame) is lost =
+    frame_held trace (frame_size s.params.format video) n
+    (λ whole. not_an_err _ frame (laws.frame s.params.format s.at n video frame (next_is s.more s.params.format s.at video frame is) whole).0 lost)
+frame_part laws s trace video n (Err fault) is lost = tt
+
+video_part : VideoLaws → (s : CallState) (trace video : List ℕ) (n : ℕ) → IsErr (frame_of s.params.format s.at (take n video))
+    → IsPart (step_turns (capture_step s trace video)) (some_of trace n)
+video_part laws s trace [] n lost = tt
+video_part laws s trace (b ∷ rest) n lost = frame_part laws s trace (b ∷ rest) n (next_frame s.more s.params.format s.at (b ∷ rest)) refl lost
+
+-- ---- which step it is
+
+video_next : (s : CallState) (trace video : List ℕ) (r : Result (List ℕ) Y4mFault) → 0 < length video → next_frame s.more s.params.format s.at video ≡ r
+    → capture_step s trace video ≡ captured_step s trace (frame_size s.params.format video) r
+video_next s trace [] r some is = absurd (omega arith)
+video_next s trace (b ∷ rest) r some is = ap (captured_step s trace (frame_size s.params.format (b ∷ rest))) is
+
+-- ---- the capture: `old` is the desk behind the line, `mid` behind the read of the frame
+
+module _ (turns : TurnLaws CallState) (laws : VideoLaws) (s : CallState) (inputs : Role → List ℕ) (before old mid : Outside) (taken : HasTaken inputs before old) (others : (r : Role) → r ≢ Video → mid.left r ≡ old.left r) (same : mid.written ≡ old.written) (reader : Y4mReader) (out : List ℕ) where
+  abbrev trace : List ℕ
+  trace = inputs Events
+
+  abbrev step : Step CallState
+  step = capture_step s trace (inputs Video)
+
+  video_told : (k : ℕ) → mid.left Video ≡ Some (drop k (inputs Video)) → Tells mid (behind inputs (some_of trace k))
+  video_told k gone =
+      turns.both_reads (of Events (line_size trace)) (of Video k) mid inputs
+      (turns.one_read Video k old mid (behind inputs (of Events (line_size trace))) taken.left gone others)
+
+  pub frame_stops : (stop : VideoStop) → Gives (Err stop) s (inputs Video) out reader (mid.left Video)
+      → GivesUp (phase (video_stop stop)) (video_stop stop) step true inputs before mid
+  frame_stops Read e = record {
+    part = some_of trace e.0;
+    partly = video_part laws s trace (inputs Video) e.0 e.2;
+    could = refl;
+    left = video_told e.0 e.1;
+    written = same ∙ taken.written;
+  }
+  frame_stops (Refused fault) e =
+      turns.refuses _ (VideoRefused fault) inputs before mid (video_next s trace (inputs Video) (Err fault) e.0 e.1) (same ∙ taken.written)
+
+  -- no frame is left
+  pub frame_missing : (line : ℕ) → line ≡ s.lines + 1 → Gives (Ok false) s (inputs Video) out reader (mid.left Video)
+      → Ended step (TraceRefused (NoFrame line)) inputs before mid
+  frame_missing line is e = record {
+    last = refused_line trace (NoFrame (s.lines + 1));
+    is = ap (capture_step s trace) e.0;
+    known = ap (λ (n : ℕ). TraceRefused (NoFrame n)) is;
+    left = λ r input k said. left_at r input ∙ ap (λ (n : ℕ). Some (drop n (inputs r))) (sum_is _ k (cc said));
+    written = turns.no_text before.written mid.written (same ∙ taken.written);
+  }
+    where
+      sum_is : (n k : ℕ) → n ≡ k → n ≡ 0 + k
+      sum_is n k is = omega (arith, is)
+
+      left_at : (r : Role) → IsInput r → mid.left r ≡ Some (behind inputs (of Events (line_size trace)) r)
+      left_at Video input = e.1 ∙ ap (λ (l : List ℕ). Some l) (sym e.0)
+      left_at Events input = others Events (λ same. cc) ∙ taken.left Events refl
+      left_at Video2 input = others Video2 (λ same. cc) ∙ taken.left Video2 refl
+      left_at Pictures input = absurd (cc input)
+      left_at Wire input = absurd (cc input)
+      left_at Report input = absurd (cc input)
+      left_at Pictures2 input = absurd (cc input)
+
+  -- the frame is sent
+  module _ (e : Gives (Ok true) s (inputs Video) out reader (mid.left Video)) where
+    abbrev size : ℕ
+    size = frame_size s.params.format (inputs Video)
+
+    abbrev sent : CallState
+    sent = record (after_line (with_frame s (bare (picture_of s.params.format out))) trace) { at = s.at + size; more = s.more - 1 }
+
+    pub frame_sent : (stands : CallState → (Role → List ℕ) → Type 0) → stands sent (behind inputs (some_of trace size))
+        → Went step stands may_read true inputs before mid
+    frame_sent stands kept = record {
+      next = sent;
+      turn = record { taken = some_of trace size; whole = is_closed trace; texts = no_texts };
+      could = refl;
+      is = video_next s trace (inputs Video) (Ok out) e.0 e.1;
+      kept = kept;
+      whole = sym (double_not (is_closed trace));
+      left = video_told size e.3;
+      written = turns.no_text before.written mid.written (same ∙ taken.written);
+    }

@@ -1,0 +1,76 @@
+-- A call with ends that are lent, before its first event.
+use Rattle.std.proofs.Common.{◌≡◌, ℕ, ◌-◌, Bool, true, false, List, [], refl, sym, ap, subst, ◌∙◌, arith, if◌then◌else◌}
+use Rattle.h263_outside.specs.Desk.{Outside}
+use Rattle.h263_outside.specs.declared.desk.Role.{Role}
+use Rattle.call_report.specs.declared.status.Status.{Status}
+use Rattle.call_model.specs.Receiving.{ReceiverEntry}
+use Rattle.desk_program.specs.Ends.{AfterAll, Tells}
+use Rattle.desk_program.specs.Laws.{TurnLaws}
+use Rattle.desk_program.specs.Run.{end_state, run_of}
+use Rattle.desk_program.specs.UnderWay.{EndsIn, IsUnderWay}
+use Rattle.h263_types.specs.declared.params.Params.{Params}
+use Rattle.sender_end.specs.declared.state.State.{State}
+use Rattle.sender_end.specs.Stands as sender_end
+use Rattle.receiver_end.specs.State as receiver_end
+use Rattle.receiver_end.specs.declared.kept.Kept.{Kept}
+use Rattle.call_command.specs.declared.lent.World.{World}
+use Rattle.call_command.specs.declared.terms.Terms.{Terms}
+use Rattle.call_command.specs.Call.{CallState, first_state, may_read, most_turns, steady, talk_step}
+use Rattle.call_command.specs.Converse.{WorldStands, parts_of_world, talk_end, talk_of}
+use Rattle.call_command.specs.Standing.{EndsStand, IsFresh, more_of}
+use Rattle.call_command.proofs.Starting.{stands_first}
+
+-- its parts stand
+pub lent_first : (w : World) (before : List ReceiverEntry) (inputs : Role → List ℕ) → IsFresh w.terms w.carrier.now
+    → w.sender.now.state.params ≡ w.terms.params → sender_end.Stands (steady w.terms.params) w.sender.now.state [] → w.sender.now.state.sent ≡ 0
+    → w.video.now.more ≡ 1048576 → w.receiver.now.params ≡ w.terms.params → w.receiver.now.played ≡ 0 → receiver_end.Stands w.receiver.now before
+    → WorldStands w (first_state w.terms before w.video.now.at) inputs
+lent_first w before inputs fresh sender_params sends sent more receiver_params played receives =
+    stands_first (parts_of_world w) fresh sender_params sends sent more before w.video.now.at inputs refl receiver_params receives
+    (subst (λ (p : Params). (receiver_end.run_of p before).played ≡ 0) receiver_params (sym receives.played ∙ played))
+
+module _ (w : World) (before : List ReceiverEntry) (inputs : Role → List ℕ) (now : Outside) (lines : w.carrier.now.trace.lines ≡ 0) (more : w.video.now.more ≡ 1048576)
+    (kept : WorldStands w (first_state w.terms before w.video.now.at) inputs) (told : Tells now inputs) where
+  abbrev first : CallState
+  first = first_state w.terms before w.video.now.at
+
+  -- no frame and no line was read yet
+  more_is : more_of w.terms w.video.now w.carrier.now ≡ most_turns w.terms.plain
+  more_is = by_trace w.terms.plain
+    where
+      by_trace : (plain : Bool) → (if plain then w.video.now.more else 16777216 - w.carrier.now.trace.lines) ≡ most_turns plain
+      by_trace true = more
+      by_trace false = ap (λ (n : ℕ). 16777216 - n) lines
+
+  pub under_way : TurnLaws CallState
+      → IsUnderWay talk_step may_read (talk_of w.terms before w.video.now.at inputs) inputs now.written (WorldStands w) (more_of w.terms w.video.now w.carrier.now) now
+  under_way laws = record {
+    done = [];
+    state = first;
+    rest = inputs;
+    kept = kept;
+    turns = ap (λ (n : ℕ). (run_of talk_step n first inputs).turns) more_is;
+    last = ap (λ (n : ℕ). (run_of talk_step n first inputs).last) more_is;
+    place = refl;
+    told = told;
+    whole = λ _ k turn less. absurd (omega (arith, less));
+    written = laws.no_text now.written now.written refl;
+  }
+
+  pub ends_in : EndsIn talk_step (talk_end w.terms before w.video.now.at inputs) (WorldStands w) (more_of w.terms w.video.now w.carrier.now) now
+  ends_in = record {
+    state = first;
+    rest = inputs;
+    kept = kept;
+    told = told;
+    ends = ap (λ (n : ℕ). end_state talk_step n first inputs) more_is;
+  }
+
+-- what was lent stands as the machine's parts do
+pub lent_stand : (status : Status) (s : CallState) (t u : Terms) (sender their_sender : State) (receiver their_receiver : Kept)
+    → u ≡ t → their_sender ≡ sender → their_receiver ≡ receiver
+    → AfterAll status (EndsStand u their_sender their_receiver s) → AfterAll status (EndsStand t sender receiver s)
+lent_stand status s t u sender their_sender receiver their_receiver terms senders receivers stand =
+    subst (λ (t : Terms). AfterAll status (EndsStand t sender receiver s)) terms
+    (subst (λ (x : State). AfterAll status (EndsStand u x receiver s)) senders
+    (subst (λ (receiver : Kept). AfterAll status (EndsStand u their_sender receiver s)) receivers stand))

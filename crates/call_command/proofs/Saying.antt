@@ -1,0 +1,72 @@
+-- What a receiver says, as the network keeps it.
+use Rattle.std.proofs.Common.{◌≡◌, ℕ, List, [], ◌∷◌, ◌++◌, Option, Some, None, IfSome, refl, sym, ap, subst, ◌∙◌}
+use Rattle.std.specs.Prelude.{map}
+use Rattle.std.specs.Option.{option_map_or}
+use Rattle.std.proofs.lemmas.List.{append-nil}
+use Rattle.h263_bits.specs.declared.fault.Fault.{Fault}
+use Rattle.h263_types.specs.declared.clock.Clock.{Clock}
+use Rattle.back_messages.specs.Said.{text_of}
+use Rattle.back_messages.specs.declared.writing.Said.{Said}
+use Rattle.call_model.specs.Coding.{Message}
+use Rattle.call_model.specs.JoinedRun.{Told, said_to}
+use Rattle.call_model.specs.Receiving as runs
+use Rattle.call_encoding.specs.Messages.{write_message}
+use Rattle.coded_call.specs.Bytes.{AreBytes}
+use Rattle.receiver_end.specs.Answers.{IsHeard, IsMessage, IsSaid}
+use Rattle.receiver_end.specs.declared.answers.Heard.{Heard}
+use Rattle.call_command.specs.Network.{said_in, told_in, with_said}
+use Rattle.call_command.proofs.Sent.{map_more}
+
+-- the message of an answer of a run
+abbrev pub message_in : runs.Heard Fault → Option Message
+message_in (runs.Completed message) = Some message
+message_in _ = None
+
+-- the bytes that are said of a message are those that are written of it
+abbrev pub SaysBytes : Type 0
+SaysBytes =
+    (clock : Clock) (said : Said) (message : Message) → AreBytes (text_of said) → IsSaid clock said message
+    → text_of said ≡ write_message message
+
+-- what is told of picture n
+abbrev pub told_of : ℕ → Option Message → List Told
+told_of n message = option_map_or (λ (m : Message). let told : Told = record { about = n; bytes = write_message m } in told ∷ []) message []
+
+-- ---- answers
+
+pub heard_message : (clock : Clock) (h : Heard) (answer : runs.Heard Fault) → IsHeard clock h answer → IsMessage clock (said_in h) (message_in answer)
+heard_message clock h (runs.Refused fault) is = ap said_in is
+heard_message clock h runs.OtherClock is = ap said_in is
+heard_message clock h runs.Late is = ap said_in is
+heard_message clock h runs.Early is = ap said_in is
+heard_message clock h runs.HeaderDiffers is = ap said_in is
+heard_message clock h runs.MissingReference is = ap said_in is
+heard_message clock h runs.Repeat is = ap said_in is
+heard_message clock h runs.Overlap is = ap said_in is
+heard_message clock h (runs.Completed message) is = (is.0, ap said_in is.1, is.2)
+heard_message clock h runs.Taken is = ap said_in is
+
+pub heard_told : (n : ℕ) (answer : runs.Heard Fault) → said_to write_message n answer ≡ told_of n (message_in answer)
+heard_told n (runs.Refused fault) = refl
+heard_told n runs.OtherClock = refl
+heard_told n runs.Late = refl
+heard_told n runs.Early = refl
+heard_told n runs.HeaderDiffers = refl
+heard_told n runs.MissingReference = refl
+heard_told n runs.Repeat = refl
+heard_told n runs.Overlap = refl
+heard_told n (runs.Completed message) = refl
+heard_told n runs.Taken = refl
+
+-- ---- what is kept
+
+-- with what is said of picture n the messages are those that are told
+pub kept_told : SaysBytes → (clock : Clock) (pairs : List (ℕ × Said)) (n : ℕ) (o : Option Said) (message : Option Message)
+    → IsMessage clock o message → IfSome o (λ said. AreBytes (text_of said)) → map told_in (with_said pairs n o) ≡ map told_in pairs ++ told_of n message
+kept_told law clock pairs n o None none fit =
+    ap (λ (o : Option Said). map told_in (with_said pairs n o)) none ∙ sym (append-nil (map told_in pairs))
+kept_told law clock pairs n o (Some message) m fit =
+    let bytes : AreBytes (text_of m.0) = subst (λ (o : Option Said). IfSome o (λ said. AreBytes (text_of said))) m.1 fit in
+    ap (λ (o : Option Said). map told_in (with_said pairs n o)) m.1
+    ∙ map_more told_in pairs (n, m.0)
+    ∙ ap (λ (bytes : List ℕ). let told : Told = record { about = n; bytes = bytes } in map told_in pairs ++ told ∷ []) (law clock m.0 message bytes m.2)

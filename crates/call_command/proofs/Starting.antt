@@ -1,0 +1,76 @@
+-- Before the first event.
+use Rattle.std.proofs.Common.{◌≡◌, ℕ, ◌+◌, ◌≤◌, Bool, List, [], refl, sym, ◌∙◌, arith}
+use Rattle.h263_outside.specs.declared.desk.Role.{Role}
+use Rattle.h263_types.specs.declared.format.Format.{Format}
+use Rattle.h263_types.specs.declared.params.Params.{Params}
+use Rattle.h263_types.specs.Params.{IsParams}
+use Rattle.call_model.specs.Receiving.{ReceiverEntry}
+use Rattle.sender_end.specs.Stands as sender_end
+use Rattle.sender_end.specs.Stands.{IsReady}
+use Rattle.receiver_end.specs.State as receiver_end
+use Rattle.call_command.specs.Call.{first_state, steady}
+use Rattle.call_command.specs.Standing.{CallOpens, IsFresh, Parts, PartsReady, PartsStand}
+
+-- parameters stay in their ranges in another format
+pub in_format : (p : Params) (f : Format) → IsParams p → IsParams (record p { format = f })
+in_format p f is = record {
+  quant_low = is.quant_low;
+  quant_high = is.quant_high;
+  keep_low = is.keep_low;
+  keep_high = is.keep_high;
+  radius = is.radius;
+  limit_low = is.limit_low;
+  limit_high = is.limit_high;
+  slots_low = is.slots_low;
+  slots_high = is.slots_high;
+  lead = is.lead;
+  messages_low = is.messages_low;
+  messages_high = is.messages_high;
+}
+
+module _ (x : Parts) (fresh : IsFresh x.terms x.carrier) (sender_params : x.sender.params ≡ x.terms.params) (sends : sender_end.Stands (steady x.terms.params) x.sender []) (sent : x.sender.sent ≡ 0) (more : x.video.more ≡ 1048576) where
+  pub stands_first : (before : List ReceiverEntry) (at : ℕ) (inputs : Role → List ℕ) → x.video.at ≡ at → x.receiver.params ≡ x.terms.params
+      → receiver_end.Stands x.receiver before → (receiver_end.run_of x.terms.params before).played ≡ 0 → PartsStand x (first_state x.terms before at) inputs
+  stands_first before at inputs place receiver_params receives begun = record {
+    is = λ i. record {
+      params = x.terms.params;
+      plain = x.terms.plain;
+      before = before;
+      frames = [];
+      past = [];
+      at = sym place i;
+      more = sym more i;
+      lines = sym fresh.lines i;
+      ended = sym fresh.ended i;
+    };
+    begun = begun;
+    sent = sent;
+    over = λ ended. absurd (cc (fresh.ended, ended));
+    holds = λ later. record {
+      joined = record { sender_params = sender_params; receiver_params = receiver_params; sends = sends; receives = receives };
+      near = tt;
+      tally = fresh.counted;
+      network = λ recorded. record { packets_are = fresh.packets; messages_are = fresh.messages; references_are = fresh.references };
+    };
+  }
+
+  pub ready_first : (quant : ℕ) (attached : Role → Bool) → CallOpens x.terms attached → x.video.format ≡ x.terms.params.format → IsReady x.sender
+      → quant ≡ x.terms.params.quant → x.receiver.played ≡ 0 → PartsReady x quant attached
+  ready_first quant attached opens format ready quant_is played = record {
+    opens = opens;
+    format = format;
+    frame = fresh.frame;
+    sender = ready;
+    sender_params = sender_params;
+    standing = record { entries = []; stands = sends };
+    quant_is = quant_is;
+    sent = omega (arith, sent, more);
+    played = omega (arith, played);
+    level = λ plain. played ∙ sym sent;
+    unread = λ plain. fresh.ended;
+    counted = fresh.tally ∙ sym played;
+    network = λ recorded. record {
+      packets = record { sizes = fresh.sizes recorded; keeping = fresh.keeping; begun = fresh.begun ∙ sym sent };
+      said = omega (arith, fresh.said);
+    };
+  }

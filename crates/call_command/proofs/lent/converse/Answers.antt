@@ -1,0 +1,59 @@
+use Rattle.std.proofs.Common.{ap, sym, rules}
+use Rattle.h263_types.specs.declared.pace.FixedPace.{FixedPace}
+use Rattle.sender_end.specs.declared.sender.Sender.{Sender}
+use Rattle.call_command.specs.declared.lent.World.{World}
+use Rattle.call_command.specs.Converse.{Names, talk_end}
+use Rattle.call_command.proofs.Conversing.{ends_in, lent_first, lent_stand, under_way}
+use Rattle.call_command.proofs.lent.converse.Goals as goal
+
+pub returns-in-Ok-clause-gives : goal.returns-in-Ok-clause-gives
+returns-in-Ok-clause-gives g c = λ before inputs receives told.
+    let now = g.D.Desk.outside c.args.desk.now in
+    let w : World = record {
+      terms = record { params = c.args.params.now; plain = c.args.plain };
+      video = c.args.video;
+      sender = c.args.sender;
+      receiver = c.args.receiver;
+      carrier = record { ref_ptr = c.args.video.ref_ptr; ghost_name = c.args.video.ghost_name; now = c.in-Ok.carrier };
+    } in
+    let asks = c.requires in
+    let fresh = c.in-Ok.ensures in
+    let kept = lent_first w before inputs fresh asks.sender_params asks.sends asks.sent asks.frames asks.receiver_params asks.played receives in
+    c.take_turns.ensures.gives _ inputs now.written (under_way w before inputs now fresh.lines asks.frames kept told c.turn_laws.ensures)
+
+pub returns-in-Ok-clause-whole_input : goal.returns-in-Ok-clause-whole_input
+returns-in-Ok-clause-whole_input g c = λ before inputs receives told.
+    let now = g.D.Desk.outside c.args.desk.now in
+    let w : World = record {
+      terms = record { params = c.args.params.now; plain = c.args.plain };
+      video = c.args.video;
+      sender = c.args.sender;
+      receiver = c.args.receiver;
+      carrier = record { ref_ptr = c.args.video.ref_ptr; ghost_name = c.args.video.ghost_name; now = c.in-Ok.carrier };
+    } in
+    let asks = c.requires in
+    let fresh = c.in-Ok.ensures in
+    let kept = lent_first w before inputs fresh asks.sender_params asks.sends asks.sent asks.frames asks.receiver_params asks.played receives in
+    c.take_turns.ensures.whole_input _ inputs now.written (under_way w before inputs now fresh.lines asks.frames kept told c.turn_laws.ensures)
+
+pub returns-in-Ok-clause-stands : goal.returns-in-Ok-clause-stands
+returns-in-Ok-clause-stands g c = λ before inputs receives told.
+    let now = g.D.Desk.outside c.args.desk.now in
+    let w : World = record {
+      terms = record { params = c.args.params.now; plain = c.args.plain };
+      video = c.args.video;
+      sender = c.args.sender;
+      receiver = c.args.receiver;
+      carrier = record { ref_ptr = c.args.video.ref_ptr; ghost_name = c.args.video.ghost_name; now = c.in-Ok.carrier };
+    } in
+    let asks = c.requires in
+    let fresh = c.in-Ok.ensures in
+    let kept = lent_first w before inputs fresh asks.sender_params asks.sends asks.sent asks.frames asks.receiver_params asks.played receives in
+    let final = talk_end w.terms before w.video.now.at inputs in
+    let machine = c.take_turns.new.machine in
+    let names = c.take_turns.ensures.loan in
+    let sender_is = sym (ap (λ (n : Names). n.sender) names) in
+    let receiver_is = sym (ap (λ (n : Names). n.receiver) names) in
+    lent_stand c.take_turns.result final w.terms machine.terms _ machine.sender.now.state _ machine.receiver.now
+    (ap (λ (n : Names). n.terms) names) (sym (ap (λ (x : Sender FixedPace). x.state) (c.sender-1.given.1 sender_is))) (sym (c.receiver-1.given.1 receiver_is))
+    (c.take_turns.ensures.keeps final (ends_in w before inputs now fresh.lines asks.frames kept told))

@@ -1,0 +1,59 @@
+-- What a machine keeps in mind whose ends are lent to it, and what it makes of a call.
+use Rattle.std.specs.Prelude.{◌≡◌, ℕ, Bool, List}
+use Rattle.h263_outside.specs.declared.desk.Role.{Role}
+use Rattle.call_report.specs.declared.status.Status.TheVariants.{OutOfMemory}
+use Rattle.call_model.specs.Receiving.{ReceiverEntry}
+use Rattle.desk_program.specs.Run.{Run, Step, run_of, end_state, refusal}
+use Rattle.desk_program.specs.Run.Step.{Ends}
+use Rattle.call_command.specs.declared.lent.World.{World}
+use Rattle.call_command.specs.declared.terms.Terms.{Terms}
+use Rattle.call_command.specs.Call.{CallState, first_state, most_turns, talk_step}
+use Rattle.call_command.specs.Standing.{EndsStand, Parts, PartsReady, PartsStand}
+
+-- what stays for the whole call: what is asked for, and what is lent, by name
+pub record Names : Type 0 where
+  pub terms : Terms
+  pub video : ℕ
+  pub sender : ℕ
+  pub receiver : ℕ
+
+abbrev pub names_of : World → Names
+names_of m =
+    record {
+      terms = m.terms;
+      video = m.video.ghost_name;
+      sender = m.sender.ghost_name;
+      receiver = m.receiver.ghost_name;
+    }
+
+abbrev pub parts_of_world : World → Parts
+parts_of_world m =
+    record {
+      terms = m.terms;
+      video = m.video.now;
+      sender = m.sender.now.state;
+      receiver = m.receiver.now;
+      carrier = m.carrier.now;
+    }
+
+abbrev pub WorldStands : World → CallState → (Role → List ℕ) → Type 0
+WorldStands m s inputs = PartsStand (parts_of_world m) s inputs
+
+abbrev pub WorldReady : World → (Role → Bool) → Type 0
+WorldReady m attached = PartsReady (parts_of_world m) m.sender.now.pace.quant attached
+
+abbrev pub WorldKeeps : World → CallState → Type 0
+WorldKeeps m s = EndsStand m.terms m.sender.now.state m.receiver.now s
+
+-- it isn't started as a command is
+abbrev pub no_begin : Terms → (Role → List ℕ) → Step CallState
+no_begin t inputs = Ends (refusal OutOfMemory)
+
+-- the call of these terms, by both ends, where the receiver had heard these entries before and the
+-- video's first frame is at this byte
+abbrev pub talk_of : Terms → List ReceiverEntry → ℕ → (Role → List ℕ) → Run
+talk_of t before at inputs = run_of talk_step (most_turns t.plain) (first_state t before at) inputs
+
+-- the state in which it ends: what was accepted
+abbrev pub talk_end : Terms → List ReceiverEntry → ℕ → (Role → List ℕ) → CallState
+talk_end t before at inputs = end_state talk_step (most_turns t.plain) (first_state t before at) inputs

@@ -1,0 +1,5 @@
+mod Beginning
+mod Doing
+mod Lines
+mod Made
+mod Taking

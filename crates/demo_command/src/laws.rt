@@ -1,0 +1,25 @@
+//! What the machine rests on. Each law is the contract of a function that does nothing else.
+ghost use Rattle.h263_types.specs.Params.{IsParams};
+ghost use Rattle.demo_command.specs.declared.terms.DemoTerms.{DemoTerms};
+ghost use Rattle.demo_command.specs.Laws.{MadeLaws};
+
+use back_messages::MessageFault;
+use call_decoding::laws::are_rules;
+use call_decoding::{Pictured, Styled};
+use call_encoding::Framed;
+use call_model::laws::encoder_is_sound;
+use coded_call::laws::is_coding;
+use h263_bits::Fault;
+use h263_types::Mb;
+use make_input::laws::made_calls_are_near;
+
+/// No line of the made trace is refused in the call of the made video: each of its events is in place
+/// and near. And each picture that is sent has a slice.
+pub fn of_made_input()
+    ensures { (t : DemoTerms) → IsParams t.params → MadeLaws t }
+{
+    is_coding();
+    are_rules();
+    made_calls_are_near::<Framed, Styled, Mb, Pictured, Fault, MessageFault>();
+    encoder_is_sound::<Framed, Styled, Mb, Pictured, Fault, MessageFault>();
+}
