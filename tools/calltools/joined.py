@@ -1,8 +1,9 @@
 """A call over a trace by the commands `send` and `recv` alone: each end has a log, and no other program joins them."""
 
 import subprocess
-from dataclasses import dataclass
+from dataclasses import dataclass, replace
 from pathlib import Path
+from typing import Optional
 
 from . import logs, rtp
 from .errors import BadInput
@@ -46,22 +47,45 @@ def read_trace(path: Path) -> list[str]:
 
 
 def joined_call(call: Call, trace: list[str]) -> Report:
-    """Runs both ends over the events, as far as the messages are known, until all of them are.
+    """Runs both ends over the events, again and again, until the sender was given what the receiver says.
 
-    What an end writes depends only on what it was given before, so each round's messages stand.
+    What an end writes depends on what it was given before that alone. So the first message is right after the first
+    run, and each run makes at least one more right.
     """
     messages: list[bytes] = []
-    while True:
-        known = next((at for at, line in enumerate(trace) if _message(line) >= len(messages)), len(trace))
-        sent = _send(call, trace[:known], messages)
-        shown = _receive(call, trace[:known])
-        with open(call.file("messages.log"), "rb") as file:
-            said = [entry.body for entry in logs.read_log(file, "messages.log")]
-        if known == len(trace):
+    for _ in range(len(trace) + 2):
+        sent, shown = _send(call, trace, messages), _receive(call, trace)
+        said = _said(call)
+        if said == messages:
+            _check_messages(call, trace, len(said))
             return _joined_report(sent, shown)
-        if len(said) <= _message(trace[known]):
-            raise BadInput("the trace", f"line {known + 1}", "this message isn't said yet")
         messages = said
+    raise BadInput("the trace", "its messages", "some come back before they are said")
+
+
+def _said(call: Call) -> list[bytes]:
+    with open(call.file("messages.log"), "rb") as file:
+        return [entry.body for entry in logs.read_log(file, "messages.log")]
+
+
+def _check_messages(call: Call, trace: list[str], count: int) -> None:
+    # One message is said of each picture, by its play at the latest; where a trace is quicker, the receiver is asked.
+    front = replace(call, room=call.file("front"))
+    plays = 0
+    for at, line in enumerate(trace):
+        plays += line == "P"
+        number, said = _message(line), plays
+        if plays <= number < count:
+            _receive(front, trace[:at], call.file("packets.log"))
+            said = len(_said(front))
+        if number >= said:
+            raise BadInput("the trace", f"line {at + 1}", "this message isn't said yet")
+
+
+def bytes_of_packets(call: Call) -> int:
+    """How many bytes the packets of the last call have, RTP header included."""
+    with open(call.file("packets.log"), "rb") as file:
+        return sum(len(entry.body) for entry in logs.read_log(file, "packets.log"))
 
 
 def _message(line: str) -> int:
@@ -72,15 +96,16 @@ def _send(call: Call, trace: list[str], messages: list[bytes]) -> list[str]:
     entries = [
         logs.Entry(logs.CAPTURE) if line == "S" else logs.Entry(logs.MESSAGE, messages[_message(line)])
         for line in trace
-        if line[:1] in ("S", "B")
+        if line == "S" or 0 <= _message(line) < len(messages)
     ]
     _write_log(call.file("send.log"), entries)
     words = [call.video, call.file("send.log"), call.file("packets.log")]
     return call.run("send", words, SEND_OPTIONS)
 
 
-def _receive(call: Call, trace: list[str]) -> list[str]:
-    packets = _packets_of_pictures(call.file("packets.log"))
+def _receive(call: Call, trace: list[str], sent: Optional[Path] = None) -> list[str]:
+    call.room.mkdir(parents=True, exist_ok=True)
+    packets = _packets_of_pictures(sent or call.file("packets.log"))
     entries: list[logs.Entry] = []
     for line in trace:
         if line == "P":
