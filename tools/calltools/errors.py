@@ -31,4 +31,4 @@ def run(main: Callable[[list[str]], None]) -> None:
     except BadInput as fault:
         sys.exit(str(fault))
     except OSError as fault:
-        sys.exit(f"{fault.filename}: {fault.strerror}")
+        sys.exit(f"{fault.filename or 'the output'}: {fault.strerror}")

@@ -130,5 +130,7 @@ def figure_of(rates: list[float], found: list[tuple[Way, list[Point]]]) -> str:
         places = [(x(rate), y(point.psnr)) for rate, point in zip(rates, points)]
         parts.append(svg.path("M " + " L ".join(f"{a:.1f} {b:.1f}" for a, b in places), way.colour, 2))
         parts += [f'<circle cx="{a:.1f}" cy="{b:.1f}" r="3" fill="{way.colour}"/>' for a, b in places]
-    parts.append(svg.legend(left, top + height + 58, [(way.colour, way.name) for way, _ in found]))
-    return svg.drawing(left + width + 60, top + height + 74, parts, "PSNR of what is shown by loss rate, at equal bytes")
+    below = top + height + 58
+    parts += [svg.legend(left, below + 18 * row, [(way.colour, way.name)]) for row, (way, _) in enumerate(found)]
+    title = "PSNR of what is shown by loss rate, at equal bytes"
+    return svg.drawing(left + width + 30, below + 18 * len(found), parts, title)
