@@ -1,5 +1,7 @@
 """Made input, the formula of docs/FORMATS.md: two moving ridges in Y, slopes in Cb and Cr."""
 
+import random
+
 from .y4m import Size
 
 
@@ -16,3 +18,10 @@ def made_frame(size: Size, seed: int, number: int) -> bytes:
     cb = bytes(96 + _ridge(x + number) for x in range(size.width // 2)) * (size.height // 2)
     cr = b"".join(bytes([160 - _ridge(y + number)]) * (size.width // 2) for y in range(size.height // 2))
     return luma + cb + cr
+
+
+def with_noise(size: Size, samples: bytes, noise: int, draws: random.Random) -> bytes:
+    """The picture with a number from -noise to noise added to each sample of Y, drawn anew for each."""
+    luma, cb, cr = size.planes(samples)
+    noisy = bytes(min(max(value + draws.randint(-noise, noise), 0), 255) for value in luma)
+    return noisy + cb + cr
