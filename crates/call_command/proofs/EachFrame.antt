@@ -14,9 +14,8 @@ use Rattle.y4m.specs.Head.{head_of, head_size}
 use Rattle.y4m.specs.Laws.{FrameLaws}
 use Rattle.y4m.specs.Text.{frame_text, head_text}
 use Rattle.y4m.specs.Video.{behind_frame, frames_of, fault_of, frames_behind, fault_behind, video_fault, video_frames}
-use Rattle.call_report.specs.declared.status.Status.{Status}
-use Rattle.call_report.specs.declared.status.Status.TheVariants.{Ok as Fine, VideoRefused}
-use Rattle.call_report.specs.Text.{Text, picture_text}
+use Rattle.call_report.specs.declared.status.Status.TheVariants.{VideoRefused}
+use Rattle.call_report.specs.Text.{picture_text}
 use Rattle.call_model.specs.Coding.{Exact, Shown}
 use Rattle.call_model.specs.CodedPictures.{capture}
 use Rattle.call_model.specs.Numbers.{AllBelowIs}

@@ -1,5 +1,5 @@
 -- A video that a call refuses has that fault.
-use Rattle.std.proofs.Common.{◌≡◌, ℕ, zero, suc, ◌+◌, ◌-◌, ◌<◌, Bool, true, false, List, [], ◌∷◌, length, drop, Option, Some, None, Result, Ok, Err, refl, sym, ap, ◌∙◌, subst, arith, nat_lt, if◌then◌else◌}
+use Rattle.std.proofs.Common.{◌≡◌, ℕ, zero, suc, ◌+◌, ◌-◌, Bool, true, false, List, [], ◌∷◌, drop, Option, Some, None, Result, Ok, Err, refl, sym, ap, ◌∙◌, subst, arith, nat_lt, if◌then◌else◌}
 use Rattle.h263_outside.specs.declared.desk.Role.{Role}
 use Rattle.h263_outside.specs.declared.desk.Role.TheVariants.{Video, Events}
 use Rattle.h263_types.specs.declared.format.Format.{Format}
@@ -18,7 +18,7 @@ use Rattle.call_model.specs.Refusals.{Refusal}
 use Rattle.desk_program.specs.Run.{Run, Step, behind, follow, run_from, run_of, silence}
 use Rattle.desk_program.specs.Texts.{of, and_of}
 use Rattle.call_command.specs.declared.terms.Terms.{Terms}
-use Rattle.call_command.specs.Call.{CallState, by_call, call_begin, call_step, capture_step, captured_step, event_step, first_state, frame_step, head_step, line_size, line_step, most_turns, refusal_at, trace_step, unless, video_step, with_format}
+use Rattle.call_command.specs.Call.{CallState, by_call, call_begin, call_step, capture_step, captured_step, first_state, frame_step, head_step, line_size, line_step, most_turns, refusal_at, trace_step, unless, video_step, with_format}
 
 refused_is : (a b : Y4mFault) → VideoRefused a ≡ VideoRefused b → a ≡ b
 refused_is a b is = cc is

@@ -1,5 +1,5 @@
 -- A desk on which nothing is attached.
-use Rattle.std.proofs.Common.{◌≡◌, [], ap, Bool}
+use Rattle.std.proofs.Common.{[], ap, Bool}
 use Rattle.h263_outside.specs.Desk.{Outside, NoneAttached}
 use Rattle.h263_outside.specs.declared.desk.Role.{Role}
 use Rattle.desk_program.specs.Attached.{AreAttached}

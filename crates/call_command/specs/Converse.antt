@@ -1,5 +1,5 @@
 -- What a machine keeps in mind whose ends are lent to it, and what it makes of a call.
-use Rattle.std.specs.Prelude.{◌≡◌, ℕ, Bool, List}
+use Rattle.std.specs.Prelude.{ℕ, Bool, List}
 use Rattle.h263_outside.specs.declared.desk.Role.{Role}
 use Rattle.call_report.specs.declared.status.Status.TheVariants.{OutOfMemory}
 use Rattle.call_model.specs.Receiving.{ReceiverEntry}

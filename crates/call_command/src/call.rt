@@ -60,8 +60,8 @@ impl Both {
     }
 }
 
-/// The machine of a call: what it was asked for, the reader of its video, both ends, and what carries
-/// the call between them. It must be finished.
+/// The machine of a call: what it was asked for, the reader of its video, both ends, and what
+/// carries the call between them. It must be finished.
 pub struct Call {
     terms: Terms,
     video: Y4mReader,

@@ -9,8 +9,8 @@ use h263_outside::OutOfMemory;
 use loss_trace::TraceReader;
 use std::alloc::Global;
 
-/// What carries a call between its ends: the reader of its trace, what the network keeps, room for a
-/// frame, and the marks of the pictures that were shown. All its memory is taken at the start.
+/// What carries a call between its ends: the reader of its trace, what the network keeps, room for
+/// a frame, and the marks of the pictures that were shown. All its memory is taken at the start.
 #[derive(Drop)]
 pub struct Carrier {
     pub trace: TraceReader,

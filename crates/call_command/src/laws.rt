@@ -45,7 +45,8 @@ pub fn a_call_shows_each_frame()
     ensures frames { (p : Params) (inputs : Role → List ℕ) (f : Format)
         → IsParams p → head_of (inputs Video) ≡ Ok f
         → ShowsEachFrame p f (video_frames (inputs Video)) (video_fault (inputs Video))
-        (run_from (call_begin (record { params = p; plain = true }) inputs) call_step 1048576 inputs) }
+        (run_from (call_begin (record { params = p; plain = true }) inputs) call_step 1048576
+        inputs) }
     ensures status { (p : Params) (inputs : Role → List ℕ) → IsParams p
         → (run_from (call_begin (record { params = p; plain = true }) inputs) call_step 1048576
         inputs).last.status ≡ status_for (video_fault (inputs Video)) }
@@ -80,7 +81,8 @@ pub fn of_the_ends()
     two_stores();
 }
 
-/// A message is said by the bytes that are written of it, and a picture has a packet for each slice.
+/// A message is said by the bytes that are written of it, and a picture has a packet for each
+/// slice.
 pub fn of_messages()
     ensures { (p : Params) → MessageLaws p }
 {
@@ -111,8 +113,8 @@ pub fn of_packets()
     room_of_a_picture();
 }
 
-/// An event that isn't refused is near by both ends, which is near by the ideal call; and what a near
-/// event asks for is still in the rings.
+/// An event that isn't refused is near by both ends, which is near by the ideal call; and what a
+/// near event asks for is still in the rings.
 pub fn of_near_events()
     ensures { (p : Params) → IsParams p → NearLaws p }
 {

@@ -1,9 +1,9 @@
 //! The command that plays a whole call: both ends, and between them a network that loses what its
 //! trace says, or nothing.
 //!
-//! `specs/Call` says what it does with each frame of the video or each line of the trace, by the ideal
-//! call of `call_model`. [`converse`] does the same with ends that are lent, whatever the receiver had
-//! heard before.
+//! `specs/Call` says what it does with each frame of the video or each line of the trace, by the
+//! ideal call of `call_model`. [`converse`] does the same with ends that are lent, whatever the
+//! receiver had heard before.
 #![tactic(auto)]
 
 mod call;

@@ -1,6 +1,6 @@
 //! The references of the last pictures, for the lines of their plays.
-ghost use Rattle.std.specs.Prelude.{◌≡◌, ◌+◌, length, IfOk, List, Option, [], ◌∷◌, ◌++◌, ℕ, ◌<◌, ◌≤◌};
-ghost use Rattle.std.specs.Prelude.{slice_index_or, None};
+ghost use Rattle.std.specs.Prelude.{◌≡◌, ◌+◌, ◌<◌, ◌≤◌, ℕ, List, [], ◌∷◌, ◌++◌, length};
+ghost use Rattle.std.specs.Prelude.{IfOk, Option, None, slice_index_or};
 
 use h263_outside::OutOfMemory;
 use std::alloc::Global;

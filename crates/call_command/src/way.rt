@@ -1,5 +1,5 @@
-//! Single events of a recorded call: the network keeps what is sent and said, and brings it when the
-//! trace says so.
+//! Single events of a recorded call: the network keeps what is sent and said, and brings it when
+//! the trace says so.
 ghost use Rattle.std.specs.Prelude.{◌≡◌, ◌+◌, ◌^◌, ◌<◌, ◌≤◌, ℕ, Some, List, [], ◌∷◌, ◌++◌};
 ghost use Rattle.std.specs.Prelude.{IfSome, length, slice_get};
 ghost use Rattle.back_messages.specs.Said.{text_of};
@@ -150,7 +150,8 @@ pub fn deliver_all_kept(
         → HasMessages messages.new
         (both_after p pace frames before
         (delivered number
-        (length (slices_at (both_after p pace frames before past).sender.coded number)) ++ past)).said }
+        (length (slices_at (both_after p pace frames before past).sender.coded number))
+        ++ past)).said }
 {
     of_messages();
     let sent = packets.count(number);

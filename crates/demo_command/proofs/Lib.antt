@@ -3,3 +3,4 @@ mod Doing
 mod Lines
 mod Made
 mod Taking
+mod EndsWell

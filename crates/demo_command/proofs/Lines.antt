@@ -1,5 +1,5 @@
 -- The lines of a made trace: which pictures they name, and how many there are.
-use Rattle.std.proofs.Common.{◌≡◌, ℕ, zero, suc, ◌+◌, ◌*◌, ◌<◌, ◌≤◌, Bool, true, false, List, [], ◌∷◌, ◌++◌, length, refl, sym, subst, arith, append_assoc, length-append}
+use Rattle.std.proofs.Common.{◌≡◌, ℕ, zero, suc, ◌+◌, ◌-◌, ◌*◌, ◌<◌, ◌≤◌, Bool, true, false, List, [], ◌∷◌, ◌++◌, length, refl, sym, subst, arith, append_assoc, length-append}
 use Rattle.std.specs.Prelude.{◌==◌, if◌then◌else◌, nat_lt}
 use Rattle.loss_trace.specs.declared.event.Event.{Event as Line}
 use Rattle.loss_trace.specs.declared.event.Event.TheVariants as says
@@ -24,7 +24,7 @@ telling false k sent rest ok = ok
 
 playing : (n state sent : ℕ) (rest : List Line) → AreInPlace 10000 sent rest → AreInPlace 10000 sent (plays n state ++ rest)
 playing zero state sent rest ok = ok
-playing (suc m) state sent rest ok = telling (draw (next_state state) 8 == 0) m sent rest ok
+playing (suc m) state sent rest ok = telling (draw (next_state state) 8 == 0) (suc m - 1) sent rest ok
 
 four_lists : (a b c d : List Line) → ((a ++ b) ++ c) ++ d ≡ a ++ (b ++ (c ++ d))
 four_lists a b c d = simp append_assoc refl
@@ -49,7 +49,7 @@ last_in_place true sent = tt
 last_in_place false sent = tt
 
 pub made_in_place : (seed frames : ℕ) → frames ≤ 10000 → AreInPlace 10000 0 (made_trace seed frames)
-made_in_place seed frames few = of_frames frames 0 seed (last_line frames) few (last_in_place (nat_lt 0 frames) (0 + frames))
+made_in_place seed frames few = of_frames frames 0 seed (last_line frames) (omega (arith, few)) (last_in_place (nat_lt 0 frames) (0 + frames))
 
 -- ---- how many there are
 
@@ -68,7 +68,7 @@ few_telling false k = omega arith
 
 few_plays : (n state : ℕ) → length (plays n state) ≤ 2
 few_plays zero state = omega arith
-few_plays (suc m) state = omega (arith, few_telling (draw (next_state state) 8 == 0) m)
+few_plays (suc m) state = omega (arith, few_telling (draw (next_state state) 8 == 0) (suc m - 1))
 
 three_lengths : (a b c : List Line) → length ((a ++ b) ++ c) ≡ length a + length b + length c
 three_lengths a b c = simp length-append refl

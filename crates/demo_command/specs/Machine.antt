@@ -80,4 +80,4 @@ pub record DemoReady (m : Demo) (attached : Role → Bool) : Type 0 where
   pub ends : LineReady (call_terms m.terms) m.both.sender.state m.both.sender.pace.quant m.both.receiver m.carrier
   pub in_place : AreInPlace 10000 m.both.sender.state.sent (lines_left m.lines)
   -- a line makes 400 messages at most
-  pub said : said_of m.carrier.messages + 400 * length (lines_left m.lines) < 2 ^ 63
+  pub said : said_of m.carrier.messages + 400 * length (lines_left m.lines) < 2 ^ 64

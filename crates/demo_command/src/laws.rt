@@ -1,6 +1,11 @@
 //! What the machine rests on. Each law is the contract of a function that does nothing else.
+ghost use Rattle.std.specs.Prelude.{◌≡◌, ℕ, List};
 ghost use Rattle.h263_types.specs.Params.{IsParams};
+ghost use Rattle.h263_outside.specs.declared.desk.Role.{Role};
+ghost use Rattle.call_report.specs.declared.status.Status.TheVariants.{Ok as Fine};
+ghost use Rattle.desk_program.specs.Run.{run_from};
 ghost use Rattle.demo_command.specs.declared.terms.DemoTerms.{DemoTerms};
+ghost use Rattle.demo_command.specs.Demo.{demo_begin, demo_step, most_turns};
 ghost use Rattle.demo_command.specs.Laws.{MadeLaws};
 
 use back_messages::MessageFault;
@@ -23,3 +28,9 @@ pub fn of_made_input()
     made_calls_are_near::<Framed, Styled, Mb, Pictured, Fault, MessageFault>();
     encoder_is_sound::<Framed, Styled, Mb, Pictured, Fault, MessageFault>();
 }
+
+/// A call on made input is never refused, and ends with `Ok`.
+pub fn ends_well()
+    ensures { (t : DemoTerms) (inputs : Role → List ℕ)
+        → (run_from (demo_begin t inputs) demo_step (most_turns t) inputs).last.status ≡ Fine }
+{}

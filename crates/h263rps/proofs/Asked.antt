@@ -1,6 +1,5 @@
 -- A run by what its words ask for.
 use Rattle.std.proofs.Common.{◌≡◌, ◌⊎◌, inl, inr, ℕ, Bool, true, false, List, [], ◌∷◌, ◌||◌, Option, Some, None, IfSome, if◌then◌else◌, refl, sym, ap, ◌∙◌, subst}
-use Rattle.std.specs.Prelude.{option_and_then}
 use Rattle.h263_outside.specs.Desk.{Outside, NoneAttached, OnlyAttaches, OnlyWrites, SomeRose, Rose, with_role, is_role}
 use Rattle.h263_outside.specs.declared.desk.Role.{Role}
 use Rattle.h263_outside.specs.declared.desk.Role.TheVariants.{Video, Report}
@@ -17,7 +16,7 @@ use Rattle.desk_program.specs.Ends.{HasCause}
 use Rattle.desk_program.specs.Attached.{AreAttached}
 use Rattle.desk_program.specs.Lines.{Finishes}
 use Rattle.desk_program.specs.Promises.{IsSettled, IsNotUsage}
-use Rattle.h263rps.specs.Output.{word_stop, is_built, built, command_of, roles_of, source_of, run_of, output_from, order_from, source_from}
+use Rattle.h263rps.specs.Output.{word_stop, command_of, roles_of, source_of, run_of, output_from, order_from, source_from}
 use Rattle.h263rps.specs.Promises.{IsRunOf, IsRun}
 use Rattle.h263rps.proofs.Promised.{some_since, nothing_done, report_unopened, words_unread, usage_told, since_attached}
 
@@ -27,22 +26,15 @@ use Rattle.h263rps.proofs.Promised.{some_since, nothing_done, report_unopened, w
 abbrev pub IsRefusedRightly : Command → Type 0
 IsRefusedRightly c = (inputs : Role → List ℕ) (fault : Y4mFault) → (run_of c inputs).last.status ≡ VideoRefused fault → video_fault (inputs Video) ≡ Some fault
 
-built_is : (a : Asked) (c : Command) → a.command ≡ c → is_built c ≡ true → built a ≡ Some a
-built_is a c e is = ap (λ (b : Bool). if b then Some a else None) (ap is_built e ∙ is)
-
-unbuilt : (a : Asked) (c : Command) → a.command ≡ c → is_built c ≡ false → built a ≡ None
-unbuilt a c e is = ap (λ (b : Bool). if b then Some a else None) (ap is_built e ∙ is)
-
 -- a command was carried out
-pub as_run : (a : Asked) (c : Command) → a.command ≡ c → is_built c ≡ true → IsRefusedRightly c → (result : Status) (old new : Outside)
-    → IsRunOf (run_of c) ((Report, []) ∷ roles_of c a) (source_of c) result old new → IsNotUsage result → IsRun (built a) result old new
-as_run a c e is rightly result old new run words =
-    subst (λ (o : Option Asked). IsRun o result old new) (sym (built_is a c e is)) (record {
-      run = subst (λ (k : Command). IsRunOf (run_of k) ((Report, []) ∷ roles_of k a) (source_of k) result old new) (sym e) run;
-      usage = λ u. absurd (subst IsNotUsage u words);
-      no_command = λ n. absurd (cc n);
-      refused = λ inputs told fault r. rightly inputs fault (sym (run.texts inputs told (subst IsSettled (sym r) tt)).known ∙ r);
-    })
+pub as_run : (a : Asked) (c : Command) → a.command ≡ c → IsRefusedRightly c → (result : Status) (old new : Outside)
+    → IsRunOf (run_of c) ((Report, []) ∷ roles_of c a) (source_of c) result old new → IsNotUsage result → IsRun (Some a) result old new
+as_run a c e rightly result old new run words = record {
+  run = subst (λ (k : Command). IsRunOf (run_of k) ((Report, []) ∷ roles_of k a) (source_of k) result old new) (sym e) run;
+  usage = λ u. absurd (subst IsNotUsage u words);
+  no_command = λ n. absurd (cc n);
+  refused = λ inputs told fault r. rightly inputs fault (sym (run.texts inputs told (subst IsSettled (sym r) tt)).known ∙ r);
+}
 
 -- Usage was told, since there is no command
 pub usage_run : (mid new : Outside) → AreAttached ((Report, []) ∷ []) mid → OnlyWrites mid new → (result : Status) → Finishes Usage result mid new → IsRun None result mid new
@@ -60,11 +52,6 @@ usage_run mid new are rest result told = record {
     ends : Finishes Usage result mid new → (result ≡ Usage) ⊎ (result ≡ OutOfMemory) ⊎ SomeRose mid.faults new.faults
     ends (inl told) = inl told.same
     ends (inr cut) = inr (inr (inr (inr cut.cause)))
-
-pub unbuilt_run : (a : Asked) (c : Command) → a.command ≡ c → is_built c ≡ false → (mid new : Outside) → AreAttached ((Report, []) ∷ []) mid → OnlyWrites mid new
-    → (result : Status) → Finishes Usage result mid new → IsRun (built a) result mid new
-unbuilt_run a c e is mid new are rest result told =
-    subst (λ (o : Option Asked). IsRun o result mid new) (sym (unbuilt a c e is)) (usage_run mid new are rest result told)
 
 -- ---- words
 
@@ -151,12 +138,10 @@ run_since o old mid new result attaches run = record {
 -- the words were no command, or there was no memory for them
 pub stopped_run : (words : List Text) (stop : WordStop) (mid new : Outside) → (stop ≡ stops.Usage → asked words ≡ None)
     → AreAttached ((Report, []) ∷ []) mid → OnlyWrites mid new → (result : Status) → Finishes (word_stop stop) result mid new → IsRun (command_of words) result mid new
-unfolding command_of
 stopped_run words stops.OutOfMemory mid new none are rest result told = unread_run (command_of words) mid new are rest result told
 stopped_run words stops.Usage mid new none are rest result told =
-    subst (λ (o : Option Asked). IsRun (option_and_then built o) result mid new) (sym (none refl)) (usage_run mid new are rest result told)
+    subst (λ (o : Option Asked). IsRun o result mid new) (sym (none refl)) (usage_run mid new are rest result told)
 
 -- the words were a command
-pub asked_run : (words : List Text) (a : Asked) (old new : Outside) (result : Status) → asked words ≡ Some a → IsRun (built a) result old new → IsRun (command_of words) result old new
-unfolding command_of
-asked_run words a old new result is run = subst (λ (o : Option Asked). IsRun (option_and_then built o) result old new) (sym is) run
+pub asked_run : (words : List Text) (a : Asked) (old new : Outside) (result : Status) → asked words ≡ Some a → IsRun (Some a) result old new → IsRun (command_of words) result old new
+asked_run words a old new result is run = subst (λ (o : Option Asked). IsRun o result old new) (sym is) run

@@ -1,5 +1,5 @@
 -- What the program makes of its words and of its inputs.
-use Rattle.std.specs.Prelude.{ℕ, Bool, true, false, not, List, [], ◌∷◌, Option, Some, None, option_and_then, if◌then◌else◌}
+use Rattle.std.specs.Prelude.{ℕ, Bool, true, false, not, List, [], ◌∷◌, Option, Some, None}
 use Rattle.h263_outside.specs.declared.desk.Role.{Role}
 use Rattle.h263_outside.specs.declared.desk.Role.TheVariants.{Video, Events, Pictures, Wire, Report}
 use Rattle.h263_types.specs.declared.params.Params.{Params}
@@ -16,22 +16,15 @@ use Rattle.recv_command.specs.Recv.{recv_begin, recv_step}
 use Rattle.send_command.specs.Send.{send_begin, send_step}
 use Rattle.call_command.specs.declared.terms.Terms.{Terms}
 use Rattle.call_command.specs.Call.{call_begin, call_step, most_turns}
+use Rattle.demo_command.specs.declared.terms.DemoTerms.{DemoTerms}
+use Rattle.demo_command.specs.Demo.{demo_begin, demo_step}
+use Rattle.demo_command.specs.Demo as demo
 
 -- ---- the words
 
--- what can be asked for today: no made input
-abbrev pub is_built : Command → Bool
-is_built (Call params traced) = true
-is_built (Send params) = true
-is_built (Recv params) = true
-is_built (Demo params seed frames) = false
-
-abbrev pub built : Asked → Option Asked
-built a = if is_built a.command then Some a else None
-
 -- the command that the words are, if they are one
-unfoldable pub command_of : List Text → Option Asked
-command_of words = option_and_then built (asked words)
+abbrev pub command_of : List Text → Option Asked
+command_of words = asked words
 
 -- how a run ends whose words were not read
 abbrev pub word_stop : WordStop → Status
@@ -81,13 +74,18 @@ no_command = record { turns = []; last = refusal Usage }
 abbrev pub terms_of : Params → Bool → Terms
 terms_of params traced = record { params = params; plain = not traced }
 
+-- what a call on made input is asked for
+abbrev pub demo_terms : Params → ℕ → ℕ → DemoTerms
+demo_terms params seed frames = record { params = params; seed = seed; frames = frames }
+
 -- what a command makes of its inputs, turn by turn
 abbrev pub run_of : Command → (Role → List ℕ) → Run
 run_of (Call params traced) inputs =
     run_from (call_begin (terms_of params traced) inputs) call_step (most_turns (not traced)) inputs
 run_of (Send params) inputs = run_from (send_begin params inputs) send_step 16777216 inputs
 run_of (Recv params) inputs = run_from (recv_begin params inputs) recv_step 16777216 inputs
-run_of (Demo params seed frames) inputs = no_command
+run_of (Demo params seed frames) inputs =
+    run_from (demo_begin (demo_terms params seed frames) inputs) demo_step (demo.most_turns (demo_terms params seed frames)) inputs
 
 abbrev pub output_from : Option Asked → (Role → List ℕ) → Run
 output_from None inputs = no_command

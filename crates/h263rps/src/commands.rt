@@ -8,14 +8,16 @@ ghost use Rattle.command_words.specs.View.{asked_of};
 ghost use Rattle.desk_program.specs.Run.{run_from};
 ghost use Rattle.desk_program.specs.Attached.{AreAttached, are_free, names};
 ghost use Rattle.desk_program.specs.Promises.{IsNotUsage};
-ghost use Rattle.h263rps.specs.Output.{built, the_word};
+ghost use Rattle.h263rps.specs.Output.{the_word};
 ghost use Rattle.h263rps.specs.Promises.{IsRun, IsRunOf};
 
 use crate::Status;
 use call_command::laws::refused_videos as refused_by_call;
 use call_command::{Call, Terms};
 use command_words::{Command, Words};
-use desk_program::{Turns, finish, perform};
+use demo_command::laws::ends_well;
+use demo_command::{Demo, DemoTerms};
+use desk_program::{Turns, perform};
 use h263_outside::{Desk, Role};
 use recv_command::Recv;
 use recv_command::laws::no_video_refused;
@@ -56,11 +58,12 @@ pub fn command<D: Desk>(alloc: Global, words: &Words<'_>, desk: &mut D) -> Statu
     requires report { AreAttached ((Report, []) ∷ []) (D.outside desk.old) }
     requires names { HasNames (asked_of words.now) }
     requires command { IsCommand words.now.command }
-    ensures { IsRun (built (asked_of words.now)) result (D.outside desk.old) (D.outside desk.new) }
+    ensures { IsRun (Some (asked_of words.now)) result (D.outside desk.old) (D.outside desk.new) }
 {
     refused_by_call();
     refused_by_send();
     no_video_refused();
+    ends_well();
     match words.command() {
         Command::Call {
             params,
@@ -107,7 +110,17 @@ pub fn command<D: Desk>(alloc: Global, words: &Words<'_>, desk: &mut D) -> Statu
             ];
             carry_out::<D, Recv>(alloc, &params, &order, desk)
         }
-        // Not built yet.
-        Command::Demo { .. } => finish(desk, Status::Usage),
+        Command::Demo {
+            params,
+            seed,
+            frames,
+        } => {
+            let terms = DemoTerms {
+                params,
+                seed,
+                frames,
+            };
+            carry_out::<D, Demo>(alloc, &terms, &[], desk)
+        }
     }
 }

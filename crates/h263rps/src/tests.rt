@@ -350,6 +350,26 @@ fn traced_calls(rt: HostRuntime) -> Result<(), Fail> {
     Ok(())
 }
 
+// ---- a call on made input
+
+#[test]
+fn one_made_picture(rt: HostRuntime) -> Result<(), Fail> {
+    let given = Given {
+        words: &["demo", "0", "1"],
+        video: NOTHING,
+        events: NOTHING,
+        failing: NONE,
+    };
+    let wanted = Wanted {
+        ends: Status::Ok,
+        pictures: NOTHING,
+        wire: NOTHING,
+        report: &[ONE_COUNT],
+    };
+    run_twice(&rt, rt.alloc(), 4096, &given, &wanted)?;
+    Ok(())
+}
+
 // ---- a sender and a receiver, each by itself
 
 const SEND: &[&str] = &["send", "in", "log", "wire"];
@@ -468,7 +488,8 @@ fn words(rt: HostRuntime) -> Result<(), Fail> {
         &["call", "in", "out", "--slots", "4", "--lead", "3"],
         &["send", "in", "log"],
         &["recv", "log", "out", "wire", "--quant", "8"],
-        &["demo", "1", "60"],
+        &["demo", "1", "0"],
+        &["demo", "1"],
     ];
     for words in wrong {
         let given = Given {

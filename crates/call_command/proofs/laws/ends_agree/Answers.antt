@@ -1,4 +1,3 @@
-use Rattle.call_command.specs.Call.{steady}
 use Rattle.call_command.proofs.Agreeing.{show_the_same}
 use Rattle.call_command.proofs.laws.ends_agree.Goals as goal
 

@@ -1,6 +1,4 @@
 use Rattle.std.proofs.Common.{ap, sym, rules}
-use Rattle.h263_types.specs.declared.pace.FixedPace.{FixedPace}
-use Rattle.sender_end.specs.declared.sender.Sender.{Sender}
 use Rattle.call_command.specs.declared.lent.World.{World}
 use Rattle.call_command.specs.Converse.{Names, talk_end}
 use Rattle.call_command.proofs.Conversing.{ends_in, lent_first, lent_stand, under_way}
@@ -55,5 +53,5 @@ returns-in-Ok-clause-stands g c = λ before inputs receives told.
     let sender_is = sym (ap (λ (n : Names). n.sender) names) in
     let receiver_is = sym (ap (λ (n : Names). n.receiver) names) in
     lent_stand c.take_turns.result final w.terms machine.terms _ machine.sender.now.state _ machine.receiver.now
-    (ap (λ (n : Names). n.terms) names) (sym (ap (λ (x : Sender FixedPace). x.state) (c.sender-1.given.1 sender_is))) (sym (c.receiver-1.given.1 receiver_is))
+    (ap (λ (n : Names). n.terms) names) (search (rules, sender_is)) (search (rules, receiver_is))
     (c.take_turns.ensures.keeps final (ends_in w before inputs now fresh.lines asks.frames kept told))

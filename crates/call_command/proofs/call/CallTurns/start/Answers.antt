@@ -2,7 +2,6 @@ use Rattle.std.proofs.Common.{◌≡◌, Bool, true, [], refl, sym, ap, subst, �
 use Rattle.h263_outside.specs.declared.desk.Role.{Role}
 use Rattle.h263_outside.specs.declared.desk.Role.TheVariants.{Video, Events, Pictures, Report}
 use Rattle.h263_types.specs.declared.format.Format.{Format}
-use Rattle.h263_types.specs.declared.params.Params.{Params}
 use Rattle.y4m.specs.Head.{head_size}
 use Rattle.y4m.specs.Text.{head_text}
 use Rattle.call_report.specs.Status.{video_stop}
@@ -10,8 +9,7 @@ use Rattle.desk_program.specs.Ends.{Gains, GainsFronts}
 use Rattle.desk_program.specs.Run.{behind}
 use Rattle.desk_program.specs.Texts.{of, on}
 use Rattle.call_command.specs.declared.call.Call.{Call}
-use Rattle.call_command.specs.declared.terms.Terms.{Terms}
-use Rattle.call_command.specs.Call.{CallState, call_begin, first_state, may_read, with_format}
+use Rattle.call_command.specs.Call.{call_begin, first_state, may_read, with_format}
 use Rattle.call_command.specs.Machine.{CallStands, parts_in}
 use Rattle.call_command.specs.Standing.{PartsStand}
 use Rattle.call_command.proofs.Starting.{in_format, ready_first, stands_first}

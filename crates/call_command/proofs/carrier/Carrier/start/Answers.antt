@@ -1,5 +1,4 @@
-use Rattle.std.proofs.Common.{rules, ◌≡◌, [], refl, ap, ◌∙◌}
-use Rattle.call_command.specs.Network.{HasMessages, HasPackets}
+use Rattle.std.proofs.Common.{rules, [], refl, ap}
 use Rattle.call_command.specs.declared.tally.Tally.{Tally}
 use Rattle.call_command.specs.Counts.{total_of}
 use Rattle.call_command.proofs.Sent.{none_sent}

@@ -1,6 +1,7 @@
 use Rattle.std.proofs.Common.{◌≡◌, ℕ, ◌+◌, ◌*◌, ◌^◌, ◌<◌, List, [], ◌∷◌, length, refl, ap, ◌∙◌, arith}
 use Rattle.loss_trace.specs.declared.event.Event.{Event as Line}
 use Rattle.make_input.specs.Left.{lines_left}
+use Rattle.call_command.specs.declared.call.Both.{Both}
 use Rattle.call_command.specs.Counts.{counts_of}
 use Rattle.demo_command.specs.Demo.{DemoState, demo_step, made_video, with_line}
 use Rattle.demo_command.specs.Machine.{HasDone}
@@ -39,7 +40,7 @@ returns-in-Ok-clause-gives g c = λ s inputs k told.
     let lines = lines_left c.next.new.self in
     let made = c.of_made_input.ensures m.terms c.requires.opens.params in
     let near = near_now m s inputs k event lines c.in-Some.ensures made in
-    let both = record { sender = c.take_line.new.sender; receiver = c.take_line.new.receiver } in
+    let both : Both = record { sender = c.take_line.new.sender; receiver = c.take_line.new.receiver } in
     let done =
     done_is c.take_line.result c.in-Ok.field-0 (HasDone m.terms c.take_line.new.sender.state c.take_line.new.receiver c.take_line.new.carrier (with_line m.terms s.past event)) c.in-Ok.is
     (c.take_line.ensures.done s.past k.done near)
