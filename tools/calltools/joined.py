@@ -50,9 +50,9 @@ def joined_call(call: Call, trace: list[str]) -> Report:
     """Runs both ends over the events, again and again, until the sender was given what the receiver says.
 
     What an end writes depends on what it was given before that alone. So the first message is right after the first
-    run, and each run makes at least one more right.
+    run, and each run makes at least one more right; a guess makes most of them right at once.
     """
-    messages: list[bytes] = []
+    messages = _guessed_messages(trace)
     for _ in range(len(trace) + 2):
         sent, shown = _send(call, trace, messages), _receive(call, trace)
         said = _said(call)
@@ -61,6 +61,30 @@ def joined_call(call: Call, trace: list[str]) -> Report:
             return _joined_report(sent, shown)
         messages = said
     raise BadInput("the trace", "its messages", "some come back before they are said")
+
+
+def _guessed_messages(trace: list[str]) -> list[bytes]:
+    """The messages of version 1 in the standard clock, if what arrives whole is what is delivered by `D n.*`."""
+    full: set[int] = set()
+    said: list[bytes] = []
+    played = 0
+    for line in trace:
+        if line.startswith("D") and line.endswith("*"):
+            picture = int(line[2:-2])
+            if picture >= played and picture not in full:
+                full.add(picture)
+                said.append(_message_bytes(True, picture, picture))
+        elif line == "P":
+            if played not in full:
+                said.append(_message_bytes(False, played, max(full, default=played)))
+            played += 1
+    return said
+
+
+def _message_bytes(is_ack: bool, picture: int, reference: int) -> bytes:
+    # BT, URF 0, TR, a marker, RTR (docs/FORMATS.md, "Back-channel message").
+    bits = (3 if is_ack else 2) << 22 | picture % 256 << 11 | 1 << 10 | reference % 256
+    return bits.to_bytes(3, "big")
 
 
 def _said(call: Call) -> list[bytes]:

@@ -48,7 +48,7 @@ class Sweep:
 
     def point(self, way: Way, rate: float, first_quant: int) -> Point:
         """The mean over the draws, each with the least quantiser that keeps the budget."""
-        found = [self._best(way, rate, seed, first_quant) for seed in range(self.seeds)]
+        found = [self._best(way, rate, seed, first_quant) for seed in range(self.seeds if rate else 1)]
         count = len(found)
         return Point(
             round(sum(point.quant for point in found) / count),
@@ -70,7 +70,8 @@ class Sweep:
 
     def _run(self, way: Way, rate: float, seed: int, quant: int) -> Point:
         call = replace(self.call, options={**self.call.options, "quant": str(quant)})
-        network = Network(packets=4, delay=0, jitter=0, hold=0, back=way.back or 0)
+        # A picture is lost whole or not at all, as where each is one packet.
+        network = Network(packets=1, delay=0, jitter=0, hold=0, back=way.back or 0)
         lines = list(trace(self.pictures, network, Loss(rate, rate, self.burst), seed))
         if way.back is None:
             lines = [line for line in lines if not line.startswith("B")]
@@ -125,7 +126,7 @@ def figure_of(rates: list[float], found: list[tuple[Way, list[Point]]]) -> str:
     for value in range(least, most + 1, 5):
         parts += [svg.line(left, y(value), left + width, y(value)), svg.text(left - 6, y(value) + 4, f"{value} dB", "end")]
     parts += [svg.text(x(rate), top + height + 16, f"{100 * rate:g} %") for rate in rates]
-    parts.append(svg.text(left + width / 2, top + height + 34, "packets and messages lost"))
+    parts.append(svg.text(left + width / 2, top + height + 34, "pictures and messages lost"))
     for way, points in found:
         places = [(x(rate), y(point.psnr)) for rate, point in zip(rates, points)]
         parts.append(svg.path("M " + " L ".join(f"{a:.1f} {b:.1f}" for a, b in places), way.colour, 2))
