@@ -539,8 +539,9 @@ fn without_flags_the_picture_is_unknown(rt: HostRuntime) -> Result<(), Fail> {
     Ok(())
 }
 
-// A packet by the standard clock: 48 macroblocks that are not coded.
-const BY_OTHER_CLOCK: [u8; 31] = [
+// A packet of picture 1 by the standard clock, which refers to picture 0: 48 macroblocks that are not
+// coded.
+const ALL_SKIPPED: [u8; 31] = [
     0x80, 0xE0, 0x00, 0x01, 0x00, 0x00, 0x0B, 0xBB, 0x48, 0x32, 0x36, 0x33, 0x04, 0x00, 0x80, 0x06,
     0x1C, 0x90, 0x31, 0x04, 0x91, 0xE0, 0x02, 0x84, 0x0F, 0xFF, 0xFF, 0xFF, 0xFF, 0xFF, 0xF8,
 ];
@@ -558,10 +559,36 @@ fn late_by_the_custom_clock(rt: HostRuntime) -> Result<(), Fail> {
         at: 0,
     };
     let steps = [
-        Step::Hear(&BY_OTHER_CLOCK, other),
+        Step::Hear(&ALL_SKIPPED, other),
         Step::Lose(511),
         Step::Deliver(0, Heard::Late),
     ];
     assert_steps(&rt, rt.alloc(), &params, &steps)?;
+    Ok(())
+}
+
+// A packet that comes before its time is heard again once it is near. One with another header than
+// its picture has is refused.
+#[test]
+fn early_packet_and_other_header(rt: HostRuntime) -> Result<(), Fail> {
+    let differs = Heard::Refused {
+        fault: PacketFault::HeaderDiffers,
+        at: 0,
+    };
+    let steps = [
+        Step::Code(100, None),
+        Step::Code(100, None),
+        Step::Code(100, None),
+        Step::Deliver(2, Heard::Early),
+        Step::Complete(0, &ACK_0),
+        Step::Complete(1, &ACK_1),
+        Step::Hear(&ALL_SKIPPED, differs),
+        Step::Deliver(1, Heard::Repeat),
+        Step::Exact,
+        Step::Complete(2, &ACK_2),
+        Step::Exact,
+        Step::Exact,
+    ];
+    assert_steps(&rt, rt.alloc(), &NARROW, &steps)?;
     Ok(())
 }

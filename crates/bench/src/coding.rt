@@ -1,0 +1,146 @@
+//! A picture coded whole, with no sender around it.
+ghost use Rattle.std.specs.Prelude.{◌≡◌, ◌<◌, ◌≤◌, IfOk, length};
+ghost use Rattle.h263_types.specs.Clocks.{period_of};
+ghost use Rattle.h263_types.specs.Params.{IsParams};
+ghost use Rattle.h263_types.specs.Sizes.{size_of_picture};
+ghost use Rattle.h263_planes.specs.Lent.{picture};
+ghost use Rattle.packet_cutter.specs.Cutting.{format_of, limit_of};
+
+use crate::times::Stop;
+use h263_planes::{PictureMut, PictureRef};
+use h263_types::Params;
+use packet_cutter::Cutter;
+use picture_coder::code_picture;
+use picture_header::Header;
+use std::alloc::Global;
+use std::mem;
+
+/// Codes pictures one after the other, each from the reconstruction of the one before.
+#[derive(Drop)]
+pub struct Coder {
+    params: Params,
+    cutter: Cutter,
+    /// The samples of the last two reconstructions.
+    last: Vec<u8>,
+    work: Vec<u8>,
+    ghost ranged: { IsParams params },
+    ghost cutter_format: { format_of cutter ≡ params.format },
+    ghost cutter_limit: { limit_of cutter ≡ params.limit },
+    ghost whole_last: { length last.items ≡ size_of_picture params.format },
+    ghost whole_work: { length work.items ≡ size_of_picture params.format },
+}
+
+impl Coder {
+    /// A coder before its first picture.
+    pub fn start(alloc: Global, params: &Params) -> Result<Coder, Stop>
+        requires { IsParams params.now }
+        ensures { IfOk result (λ coder. coder.params ≡ params.now) }
+    {
+        let size = params.format.size() as usize;
+        Ok(Coder {
+            params: *params,
+            cutter: Cutter::start(alloc, params)?,
+            last: vec![in alloc; 0; size]?,
+            work: vec![in alloc; 0; size]?,
+        })
+    }
+
+    /// Codes a picture by itself.
+    pub fn intra(&mut self, frame: PictureRef<'_>, number: u32)
+        requires { (picture frame).format ≡ self.old.params.format }
+        ensures { self.new.params ≡ self.old.params }
+    {
+        mem::swap(&mut self.last, &mut self.work);
+        code_intra(
+            &self.params,
+            frame,
+            number,
+            &mut self.cutter,
+            &mut self.work,
+        );
+    }
+
+    /// Codes a picture from the one before, with this rounding.
+    pub fn predicted(&mut self, frame: PictureRef<'_>, number: u32, rounding: u8)
+        requires frame { (picture frame).format ≡ self.old.params.format }
+        requires rounding { rounding ≤ 1 }
+        ensures { self.new.params ≡ self.old.params }
+    {
+        mem::swap(&mut self.last, &mut self.work);
+        code_predicted(
+            &self.params,
+            frame,
+            number,
+            rounding,
+            &self.last,
+            &mut self.cutter,
+            &mut self.work,
+        );
+    }
+}
+
+// The temporal reference of a picture.
+fn tr_of(params: &Params, number: u32) -> u16
+    ensures { result < period_of params.now.clock }
+{
+    (number % params.clock.period()) as u16
+}
+
+// Codes a picture by itself, into bytes.
+fn code_intra(
+    params: &Params,
+    frame: PictureRef<'_>,
+    number: u32,
+    cutter: &mut Cutter,
+    bytes: &mut [u8],
+)
+    requires params { IsParams params.now }
+    requires frame { (picture frame).format ≡ params.now.format }
+    requires cutter_format { format_of cutter.old ≡ params.now.format }
+    requires cutter_limit { limit_of cutter.old ≡ params.now.limit }
+    requires bytes { length bytes.old ≡ size_of_picture params.now.format }
+    ensures cutter_format { format_of cutter.new ≡ params.now.format }
+    ensures cutter_limit { limit_of cutter.new ≡ params.now.limit }
+{
+    let tr = tr_of(params, number);
+    let header = Header::intra(params.format, params.clock, tr, params.quant);
+    let mut work = PictureMut::new(params.format, bytes);
+    code_picture(frame, None, number, &header, params, cutter, &mut work);
+}
+
+// Codes a picture into bytes, with the picture in other bytes as its reference.
+fn code_predicted(
+    params: &Params,
+    frame: PictureRef<'_>,
+    number: u32,
+    rounding: u8,
+    reference: &[u8],
+    cutter: &mut Cutter,
+    bytes: &mut [u8],
+)
+    requires params { IsParams params.now }
+    requires frame { (picture frame).format ≡ params.now.format }
+    requires rounding { rounding ≤ 1 }
+    requires reference { length reference.now ≡ size_of_picture params.now.format }
+    requires cutter_format { format_of cutter.old ≡ params.now.format }
+    requires cutter_limit { limit_of cutter.old ≡ params.now.limit }
+    requires bytes { length bytes.old ≡ size_of_picture params.now.format }
+    ensures cutter_format { format_of cutter.new ≡ params.now.format }
+    ensures cutter_limit { limit_of cutter.new ≡ params.now.limit }
+{
+    let tr = tr_of(params, number);
+    let before = tr_of(params, number.saturating_sub(1));
+    let header = Header::intra(params.format, params.clock, tr, params.quant);
+    let header = header.predicted(rounding, before);
+    let reference = PictureRef::new(params.format, reference);
+    let mut work = PictureMut::new(params.format, bytes);
+    code_picture(
+        frame,
+        Some(reference),
+        number,
+        &header,
+        params,
+        cutter,
+        &mut work,
+    );
+}

@@ -1,0 +1,93 @@
+//! Times the parts of a call on the made video: `bench FRAMES [SLOTS]` codes, reads and plays so many
+//! frames in each format, with so many pictures kept at each end (16 if not told), and prints what a
+//! frame took in each part.
+//!
+//! What is timed, in microseconds a frame: `code`, a picture coded whole ([`coding`]); `send`, the
+//! same by a sender; `read`, its packets read and reconstructed ([`reading`]); `receive`, the same by
+//! a receiver, with the play. So `send` over `code` and `receive` over `read` is what the ends add.
+//! Nothing is promised of these numbers. Of the code it is proved that it is safe.
+#![tactic(auto)]
+
+ghost use Rattle.std.specs.Prelude.{◌≤◌, IfOk, IfSome};
+ghost use Rattle.h263_types.specs.Params.{IsParams};
+
+mod coding;
+mod reading;
+mod runs;
+mod times;
+
+use h263_types::{Format, Params};
+use runs::run;
+use std::process::ExitCode;
+use std::{env, io};
+use times::Stop;
+
+// What is asked for: so many frames, and so many pictures kept at each end.
+#[derive(Clone, Copy, Debug, PartialEq, Eq)]
+struct Words {
+    frames: u32,
+    slots: u32,
+}
+
+// A number of a word, where there is one; else a default.
+fn number(word: Option<String>, default: Option<u32>, most: u32) -> Option<u32>
+    requires { IfSome default (λ n. n ≤ most) }
+    ensures { IfSome result (λ n. n ≤ most) }
+{
+    match word {
+        None => default,
+        Some(word) => match word.parse::<u32>() {
+            Ok(number) if number <= most => Some(number),
+            _ => None,
+        },
+    }
+}
+
+fn asked(rt: &HostRuntime) -> io::Result<Option<Words>>
+    ensures { IfOk result (λ asked. IfSome asked (λ asked. asked.frames ≤ 100000)) }
+{
+    let mut words = env::args(rt)?.skip(1);
+    let frames = number(words.next(), None, 100_000);
+    let slots = number(words.next(), Some(16), 64);
+    match (frames, slots) {
+        (Some(frames), Some(slots)) => Ok(Some(Words { frames, slots })),
+        _ => Ok(None),
+    }
+}
+
+// The parameters of a format, where so many pictures are kept.
+fn params_of(format: Format, slots: u32) -> Option<Params>
+    ensures { IfSome result IsParams }
+{
+    let params = Params {
+        slots,
+        lead: slots.saturating_sub(2).min(3),
+        ..Params::of(format)
+    };
+    match params.check() {
+        Ok(()) => Some(params),
+        Err(_) => None,
+    }
+}
+
+fn bench(rt: &HostRuntime) -> Result<(), Stop> {
+    let Some(asked) = asked(rt)? else {
+        println!(rt; "usage: bench FRAMES [SLOTS] (100000 and 64 at most)")?;
+        return Ok(());
+    };
+    for format in [Format::SubQcif, Format::Qcif, Format::Cif] {
+        if let Some(params) = params_of(format, asked.slots) {
+            let times = run(rt, &params, asked.frames)?;
+            println!(rt; "{times}")?;
+        }
+    }
+    Ok(())
+}
+
+fn main(rt: HostRuntime) -> ExitCode {
+    match bench(&rt) {
+        Ok(()) => ExitCode::SUCCESS,
+        Err(Stop::OutOfMemory) => ExitCode::from(1),
+        Err(Stop::Host) => ExitCode::from(2),
+    }
+}

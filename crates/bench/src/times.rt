@@ -1,0 +1,100 @@
+//! What is measured.
+ghost use Rattle.std.specs.Prelude.{◌≡◌, ◌<◌};
+
+use h263_outside::OutOfMemory;
+use h263_types::Format;
+use std::alloc::AllocError;
+use std::fmt::{self, Display, Formatter, Write};
+use std::io;
+use std::time::Instant;
+
+/// Why a measurement ended.
+#[derive(Clone, Copy, Debug, PartialEq, Eq)]
+pub enum Stop {
+    OutOfMemory,
+    /// The clock or the output failed.
+    Host,
+}
+
+impl From<io::Error> for Stop {
+    fn from(fault: io::Error) -> Stop {
+        match fault.kind() {
+            io::ErrorKind::OutOfMemory => Stop::OutOfMemory,
+            _ => Stop::Host,
+        }
+    }
+}
+
+impl From<OutOfMemory> for Stop {
+    fn from(_: OutOfMemory) -> Stop {
+        Stop::OutOfMemory
+    }
+}
+
+impl From<AllocError> for Stop {
+    fn from(_: AllocError) -> Stop {
+        Stop::OutOfMemory
+    }
+}
+
+/// What so many frames took, in nanoseconds, and how many bytes their packets have.
+#[derive(Clone, Copy, Debug, PartialEq, Eq)]
+pub struct Times {
+    pub format: Format,
+    pub frames: u32,
+    pub bytes: u64,
+    pub code: u64,
+    pub send: u64,
+    pub read: u64,
+    pub receive: u64,
+}
+
+impl Times {
+    /// Before the first frame.
+    pub fn new(format: Format) -> Times
+        ensures { result.format ≡ format }
+    {
+        Times {
+            format,
+            frames: 0,
+            bytes: 0,
+            code: 0,
+            send: 0,
+            read: 0,
+            receive: 0,
+        }
+    }
+}
+
+/// The time since `begin`, in nanoseconds, is added to a sum.
+pub fn add_since(rt: &HostRuntime, begin: &Instant, sum: &mut u64) -> io::Result<()> {
+    let nanos = begin.elapsed(rt)?.as_nanos();
+    *sum = sum.saturating_add(u64::try_from(nanos).unwrap_or(u64::MAX));
+    Ok(())
+}
+
+// A part of the time of so many frames, in microseconds a frame.
+fn micros(nanos: u64, frames: u32) -> u64
+    requires { 0 < frames }
+{
+    nanos / frames as u64 / 1000
+}
+
+impl Display for Times {
+    fn fmt<W: Write>(&self, f: &mut Formatter<W>) -> fmt::Result {
+        write!(f, "{:?} frames {}", self.format, self.frames)?;
+        if self.frames == 0 {
+            return Ok(());
+        }
+        let frames = self.frames;
+        write!(
+            f,
+            " bytes {} code {} send {} read {} receive {}",
+            self.bytes / frames as u64,
+            micros(self.code, frames),
+            micros(self.send, frames),
+            micros(self.read, frames),
+            micros(self.receive, frames),
+        )
+    }
+}

@@ -1,0 +1,5 @@
+mod Levels
+mod Digits
+mod Runs
+mod Ends
+mod Meters

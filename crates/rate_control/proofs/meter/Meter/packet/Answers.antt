@@ -1,0 +1,27 @@
+use Rattle.std.proofs.Common.{◌≡◌, ◌≤◌, List, ℕ, length, ◌++◌, ◌∷◌, [], arith, subst, sym, ◌∙◌, Ok, Err}
+use Rattle.rtp_header.specs.Faults.{rtp_in}
+use Rattle.rate_control.specs.declared.meter.Meter.{Meter}
+use Rattle.rate_control.specs.Metering.{Stands}
+use Rattle.rate_control.proofs.Meters.{read_as, refused_stands, room_for, taken_stands, told}
+use Rattle.rate_control.proofs.meter.Meter.packet.Goals as goal
+
+pub take-requires : goal.take-requires
+take-requires c =
+    let w = c.in-Ok.ensures.range in
+    let short : length c.args.bytes.now ≤ 65535 = w.short in
+    room_for c.payload_within.ensures c.args.self.now c.requires.packets c.requires.stands c.requires.few
+    (read_as c.in-Ok.header c.args.bytes.now) short
+
+pub returns-in-Ok-clause-stands : goal.returns-in-Ok-clause-stands
+returns-in-Ok-clause-stands c = λ packets s.
+    subst (λ (m : Meter). Stands m (packets ++ c.args.bytes.now ∷ [])) (sym c.take.ensures.meter)
+    (taken_stands c.args.self.now packets c.args.bytes.now c.in-Ok.header (sym c.in-Ok.ensures.exact) s)
+
+pub returns-in-Ok-clause-answer : goal.returns-in-Ok-clause-answer
+returns-in-Ok-clause-answer c = λ packets s.
+    c.take.ensures.answer
+    ∙ told c.args.self.now packets c.args.bytes.now c.in-Ok.header (sym c.in-Ok.ensures.exact) s
+
+pub returns-in-Err-clause-stands : goal.returns-in-Err-clause-stands
+returns-in-Err-clause-stands c = λ packets s.
+    refused_stands c.args.self.now packets c.args.bytes.now c.in-Err.fault (sym c.in-Err.ensures.exact) s

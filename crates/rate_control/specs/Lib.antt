@@ -1,0 +1,5 @@
+pub mod Level
+pub mod Pictures
+pub mod Metering
+pub mod Text
+pub mod Laws

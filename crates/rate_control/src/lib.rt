@@ -1,0 +1,16 @@
+//! A rate controller and its meter: a pace that follows a target in bytes per picture, and a meter
+//! for any log of packets. Both measure by the level of a leaking bucket: each picture pours its
+//! bytes in, and each picture's time lets the target out.
+#![tactic(auto)]
+
+pub mod laws;
+mod level;
+mod meter;
+mod pace;
+#[cfg(test)]
+mod tests;
+mod text;
+
+pub use meter::{Meter, Metered, Totals};
+pub use pace::BucketPace;
+pub use text::{Text, picture_text, totals_text};

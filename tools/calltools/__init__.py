@@ -1,0 +1,1 @@
+"""What the tools share: the formats of docs/FORMATS.md, captures, the loss model and drawings."""

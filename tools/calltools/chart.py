@@ -1,0 +1,61 @@
+"""The chart of a report: a row of pictures, and an arc from each to the picture that it is predicted from."""
+
+from . import svg
+from .report import MARKS, Picture, Report
+
+MARGIN, BASE = 20, 20
+_SHAPES = {  # how a mark looks where colours can't be told apart: how much of the square is filled
+    "exact": 1.0,
+    "patched": 0.5,
+    "held": 0.15,
+    None: 1.0,
+}
+
+
+def chart_of(report: Report) -> str:
+    """The whole drawing."""
+    count = len(report.pictures)
+    cell = 24 if count <= 60 else 12 if count <= 240 else 5
+    longest = max((p.number - p.reference for p in report.pictures if p.reference is not None), default=0)
+    top = MARGIN + min(longest * cell / 2, 160) + 8
+    parts = [_square(picture, cell, top) for picture in report.pictures]
+    parts += [_arc(picture, cell, top) for picture in report.pictures if picture.reference is not None]
+    every = 1 if cell == 24 else 10 if cell == 12 else 50
+    parts += [
+        svg.text(_middle(number, cell), top + cell + 14, str(number), size=10) for number in range(0, count, every)
+    ]
+    below = top + cell + 36
+    marks = [(svg.COLOURS[mark], mark) for mark in MARKS if any(p.mark == mark for p in report.pictures)]
+    parts.append(svg.legend(MARGIN, below, marks or [(svg.COLOURS[None], "sent")]))
+    words = [line for line in report.rest if line]
+    parts += [svg.text(MARGIN, below + 18 * row, line, "start") for row, line in enumerate(words, 1)]
+    width = max(2 * MARGIN + count * cell, 400)
+    return svg.drawing(width, below + 18 * len(words) + BASE, parts, "The pictures of a call and their references")
+
+
+def _middle(number: int, cell: int) -> float:
+    return MARGIN + (number + 0.5) * cell
+
+
+def _square(picture: Picture, cell: int, top: float) -> str:
+    side = cell - max(cell // 6, 1)
+    x = _middle(picture.number, cell) - side / 2
+    colour = svg.COLOURS[picture.mark]
+    filled = side * _SHAPES[picture.mark]
+    reference = "intra" if picture.is_intra else "" if picture.reference is None else f"from {picture.reference}"
+    title = " ".join(word for word in (str(picture.number), picture.mark, reference) if word)
+    parts = [svg.rect(x, top, side, side, svg.LIGHT, title)]
+    parts.append(svg.rect(x, top + side - filled, side, filled, colour, title))
+    if picture.is_intra and cell == 24:
+        parts.append(svg.text(_middle(picture.number, cell), top + side - 6, "I", size=12))
+    return "".join(parts)
+
+
+def _arc(picture: Picture, cell: int, top: float) -> str:
+    assert picture.reference is not None
+    start, end = _middle(picture.number, cell), _middle(picture.reference, cell)
+    # A half circle's height is half its width; longer ones are pressed flat.
+    across = (start - end) / 2
+    height = min(across, 160)
+    colour = svg.COLOURS["exact"] if picture.mark == "exact" else svg.DARK
+    return svg.path(f"M {start:g} {top - 2:g} A {across:g} {height:g} 0 0 0 {end:g} {top - 2:g}", colour)
