@@ -1,0 +1,5 @@
+mod Entries
+mod Answering
+mod Measuring
+mod Refusing
+mod Telling

@@ -1,0 +1,15 @@
+//! What a run of the command comes to. The law is the contract of a function that does nothing else.
+ghost use Rattle.std.specs.Prelude.{◌≡◌, ℕ, List};
+ghost use Rattle.h263_outside.specs.declared.desk.Role.{Role};
+ghost use Rattle.y4m.specs.declared.fault.Y4mFault.{Y4mFault};
+ghost use Rattle.call_report.specs.declared.status.Status.TheVariants.{VideoRefused};
+ghost use Rattle.desk_program.specs.Run.{run_from};
+ghost use Rattle.rate_command.specs.declared.rate.Bucket.{Bucket};
+ghost use Rattle.rate_command.specs.Rate.{rate_begin, rate_step};
+
+/// There is no video that could be refused.
+pub fn no_video_refused()
+    ensures { (b : Bucket) (inputs : Role → List ℕ) (fault : Y4mFault)
+        → (run_from (rate_begin b inputs) rate_step 16777216 inputs).last.status
+        ≡ VideoRefused fault → ⊥ }
+{}

@@ -1,0 +1,12 @@
+//! The meter, as a command: the packets of a log are measured against a bucket, and a line for each
+//! picture and one for the whole log go to the report.
+#![tactic(auto)]
+
+pub mod laws;
+mod mind;
+mod parts;
+mod rate;
+#[cfg(test)]
+mod tests;
+
+pub use rate::{Bucket, Rate};
