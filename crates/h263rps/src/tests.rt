@@ -350,6 +350,75 @@ fn traced_calls(rt: HostRuntime) -> Result<(), Fail> {
     Ok(())
 }
 
+// ---- each call of the desk fails in turn
+
+fn is_fault(status: Status) -> bool {
+    match status {
+        Status::OpenFault { .. } | Status::ReadFault | Status::WriteFault => true,
+        _ => false,
+    }
+}
+
+// How a run ends. Its pictures are a front of those of a whole one.
+fn ends_of(
+    rt: &impl Abort,
+    alloc: Global,
+    given: &Given,
+    whole: Parts,
+) -> Result<Status, OutOfMemory> {
+    let mut desk = MemoryDesk::new(alloc, 4096, 200_000)?;
+    desk.put(Role::Video, &joined(alloc, given.video)?)?;
+    desk.put(Role::Events, &joined(alloc, given.events)?)?;
+    desk.fail(given.failing)?;
+    let ends = run(alloc, given.words, &mut desk);
+    if ends == Status::OutOfMemory {
+        return Err(OutOfMemory);
+    }
+    let pictures = joined(alloc, whole)?;
+    assert!(rt; pictures.starts_with(desk.text(Role::Pictures)));
+    Ok(ends)
+}
+
+// How many calls of the desk a run makes. Where one of them fails it ends with a fault.
+fn count_calls(
+    rt: &impl Abort,
+    alloc: Global,
+    given: &Given,
+    whole: Parts,
+) -> Result<u64, OutOfMemory> {
+    for failing in 0..100 {
+        let cut = Given { failing, ..*given };
+        let ends = match ends_of(rt, alloc, &cut, whole) {
+            Ok(ends) => ends,
+            Err(OutOfMemory) => ends_of(rt, alloc, &cut, whole)?,
+        };
+        if ends == Status::Ok {
+            return Ok(failing);
+        }
+        assert!(rt; is_fault(ends), "{ends:?}");
+    }
+    Ok(100)
+}
+
+#[test]
+fn each_call_of_the_desk_fails(rt: HostRuntime) -> Result<(), Fail> {
+    let plain = Given {
+        words: CALL,
+        video: ONE,
+        events: NOTHING,
+        failing: NONE,
+    };
+    assert_eq!(rt; count_calls(&rt, rt.alloc(), &plain, SHOWN)?, 43);
+    let traced = Given {
+        words: TRACED,
+        video: ONE,
+        events: &[b"S\nD 0.*\nP\n"],
+        failing: NONE,
+    };
+    assert_eq!(rt; count_calls(&rt, rt.alloc(), &traced, SHOWN)?, 54);
+    Ok(())
+}
+
 // ---- a call on made input
 
 #[test]
