@@ -1,4 +1,8 @@
 //! A call over a desk in memory, and its outputs compared with those that are wanted.
+ghost use Rattle.h263_outside.specs.Desk.{NoneAttached};
+ghost use Rattle.command_words.specs.Asked.{IsCommand};
+ghost use Rattle.command_words.specs.View.{asked_of};
+
 use crate::stop::Stop;
 use call_command::{Call, Terms};
 use call_report::Status;
@@ -14,7 +18,10 @@ const PIECE: usize = 65_536;
 const ROOM: usize = 10_000_000;
 
 // Runs the call that the words ask for, over a desk with nothing attached.
-fn run<D: Desk>(alloc: Global, words: &Words<'_>, desk: &mut D) -> Status {
+fn run<D: Desk>(alloc: Global, words: &Words<'_>, desk: &mut D) -> Status
+    requires none { NoneAttached (D.outside desk.old).attached }
+    requires command { IsCommand (asked_of words.now).command }
+{
     if let Err(status) = attach_role(desk, Role::Report, "") {
         return status;
     }

@@ -73,15 +73,20 @@ pub fn shown_video(
     Ok(video)
 }
 
+// Picture `number` of a seed, in QCIF.
+fn made_picture(alloc: Global, seed: u32, number: u32) -> Result<Vec<u8>, OutOfMemory> {
+    let mut bytes = vec![in alloc; 0; 38_016]?;
+    let mut picture = PictureMut::new(Format::Qcif, bytes.as_mut_slice());
+    frame(Format::Qcif, seed, number, &mut picture);
+    Ok(bytes)
+}
+
 /// A video in QCIF of so many pictures, in which triangle waves move.
 pub fn made_video(alloc: Global, seed: u32, frames: u32) -> Result<Vec<u8>, OutOfMemory> {
-    let mut bytes = vec![in alloc; 0; Format::Qcif.size() as usize]?;
     let mut video = CAMERA_HEAD.to_vec(alloc)?;
     for number in 0..frames {
-        let mut picture = PictureMut::new(Format::Qcif, bytes.as_mut_slice());
-        frame(Format::Qcif, seed, number, &mut picture);
         video.extend_from_slice(FRAME_LINE)?;
-        video.extend_from_slice(&bytes)?;
+        video.extend_from_slice(&made_picture(alloc, seed, number)?)?;
     }
     Ok(video)
 }
