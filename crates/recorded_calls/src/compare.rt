@@ -1,4 +1,5 @@
-//! A call over a desk in memory, and its outputs compared with those that are wanted.
+//! A call over a desk in memory, or its receiver alone, and the outputs compared with those that are
+//! wanted.
 ghost use Rattle.h263_outside.specs.Desk.{NoneAttached};
 ghost use Rattle.command_words.specs.Asked.{IsCommand};
 ghost use Rattle.command_words.specs.View.{asked_of};
@@ -9,6 +10,7 @@ use call_report::Status;
 use command_words::{Command, Words};
 use desk_program::{attach_role, finish, perform};
 use h263_outside::{Desk, MemoryDesk, Role};
+use recv_command::Recv;
 use std::alloc::Global;
 use std::fs;
 
@@ -17,7 +19,7 @@ const PIECE: usize = 65_536;
 
 const ROOM: usize = 10_000_000;
 
-// Runs the call that the words ask for, over a desk with nothing attached.
+// Runs the call or the receiver that the words ask for, over a desk with nothing attached.
 fn run<D: Desk>(alloc: Global, words: &Words<'_>, desk: &mut D) -> Status
     requires none { NoneAttached (D.outside desk.old).attached }
     requires command { IsCommand (asked_of words.now).command }
@@ -33,6 +35,10 @@ fn run<D: Desk>(alloc: Global, words: &Words<'_>, desk: &mut D) -> Status
                 plain: false,
             };
             perform::<D, Call>(alloc, &terms, &order, desk)
+        }
+        Command::Recv { params } => {
+            let order = [(Role::Events, ""), (Role::Pictures, ""), (Role::Wire, "")];
+            perform::<D, Recv>(alloc, &params, &order, desk)
         }
         _ => finish(desk, Status::Usage),
     }
@@ -119,4 +125,22 @@ pub fn compare_file(
 ) -> Result<bool, Stop> {
     let pictures = fs::read(rt, &format!(in rt.alloc(); "{name}.out.y4m")?)?;
     compare_call(rt, name, options, video, Some(&pictures))
+}
+
+/// Runs a receiver over the log `NAME.log`, of what is delivered and played in the call of this name,
+/// and compares what it shows with the pictures of the call.
+pub fn compare_log(rt: &HostRuntime, name: &str, options: &str) -> Result<bool, Stop> {
+    let alloc = rt.alloc();
+    let text = format!(in alloc; "recv log out wire {options}")?;
+    let list: Vec<&str> = text.split_whitespace().collect(alloc)?;
+    let words = Words::read(alloc, &list)?;
+    let mut desk = MemoryDesk::new(alloc, PIECE, ROOM)?;
+    desk.put(
+        Role::Events,
+        &fs::read(rt, &format!(in alloc; "{name}.log")?)?,
+    )?;
+    let status = run(alloc, &words, &mut desk);
+    let pictures = fs::read(rt, &format!(in alloc; "{name}.out.y4m")?)?;
+    let same = compare(rt, name, "received", desk.text(Role::Pictures), &pictures)?;
+    Ok(same && status == Status::Ok)
 }

@@ -4,15 +4,16 @@
 //! A call `NAME` runs over the trace `NAME.trace`, and is to report `NAME.txt`, which ends with a
 //! line for the number that the process ends with. Its video is made here: flat pictures, or
 //! pictures of triangle waves that move. The pictures that are shown are compared where they are
-//! flat, or stored as `NAME.out.y4m`. Where anything differs the program says where, and ends with
-//! status 1.
+//! flat, or stored as `NAME.out.y4m`. The packets and plays of a call in CIF are stored as the log
+//! `NAME.log`, and a receiver over it is to show the same pictures. Where anything differs the program
+//! says where, and ends with status 1.
 #![tactic(auto)]
 
 mod compare;
 mod stop;
 mod video;
 
-use compare::{compare_call, compare_file};
+use compare::{compare_call, compare_file, compare_log};
 use h263_types::Format;
 use std::io;
 use std::process::ExitCode;
@@ -127,7 +128,9 @@ fn flat_call(
 
 fn cif_call(rt: &HostRuntime, name: &str) -> Result<bool, Stop> {
     let video = flat_video(rt.alloc(), Format::Cif, &[(1, 100)])?;
-    compare_file(rt, name, "", &video)
+    let called = compare_file(rt, name, "", &video)?;
+    let received = compare_log(rt, name, "--format cif")?;
+    Ok(called && received)
 }
 
 // A call of a user: thirty pictures of a camera, of which two are lost. What is shown of them is not
