@@ -5,8 +5,8 @@ use Rattle.std.specs.List.{list_all}
 use Rattle.std.specs.Str.{bytes_eq}
 use Rattle.h263_types.specs.declared.params.Params.{Params}
 use Rattle.command_words.specs.Simple.{Text, Given, gives, value, is_once, is_whole, named, taken, whole_or_none}
-use Rattle.command_words.specs.declared.command.Command.TheVariants.{Call, Send, Recv}
-use Rattle.command_words.specs.Asked.{Asked, Row, call, send, recv, demo, call_of, send_of, recv_of, demo_of, demo_with, seed_in, frames_in, asked_by, asked, params_of, IsGiven, HasNames}
+use Rattle.command_words.specs.declared.command.Command.TheVariants.{Call, Send, Recv, Rate}
+use Rattle.command_words.specs.Asked.{Asked, Row, call, send, recv, demo, rate, call_of, send_of, recv_of, demo_of, demo_with, seed_in, frames_in, rate_of, rate_with, target_in, bucket_in, asked_by, asked, params_of, IsGiven, HasNames}
 
 -- a value that is given is there
 value_there : (name : Text) (given : List Given) → gives name given ≡ true → IsGiven (value given name)
@@ -145,6 +145,22 @@ module _ (given : List Given) where
       with_params None h = absurd (cc h)
       with_params (Some p) h = with_seed p (seed_in (value given (codes "seed"))) h
 
+  pub rate_named : (a : Asked) → given_all rate.places → rate_of (value given) ≡ Some a → HasNames a
+  rate_named a all is = with_target (target_in (value given (codes "target"))) is
+    where
+      events : IsGiven (value given (codes "log"))
+      events = first_there (codes "log") [] all
+
+      with_bucket : (target : ℕ) (o : Option ℕ) → option_map (rate_with (value given (codes "log")) target) o ≡ Some a → HasNames a
+      with_bucket target None h = absurd (cc h)
+      with_bucket target (Some n) h = subst HasNames (some_is h) events
+
+      with_target : (o : Option ℕ) →
+          option_and_then (λ target. option_map (rate_with (value given (codes "log")) target)
+          (bucket_in (value given (codes "bucket")))) o ≡ Some a → HasNames a
+      with_target None h = absurd (cc h)
+      with_target (Some target) h = with_bucket target (bucket_in (value given (codes "bucket"))) h
+
 -- the row's words
 by_row : (row : Row) (words : List Text) (a : Asked)
     → ((given : List Given) → list_all (λ name. gives name given) row.places ≡ true → row.asks (value given) ≡ Some a → HasNames a)
@@ -159,13 +175,14 @@ by_row row words a names is = go (taken row.places row.options words) refl is
 pub named_where_asked : (words : List Text) (a : Asked) → asked words ≡ Some a → HasNames a
 named_where_asked [] a is = absurd (cc is)
 named_where_asked (first ∷ words) a is =
-    at_call (bytes_eq call.word first) (bytes_eq send.word first) (bytes_eq recv.word first) (bytes_eq demo.word first) is
+    at_call (bytes_eq call.word first) (bytes_eq send.word first) (bytes_eq recv.word first) (bytes_eq demo.word first) (bytes_eq rate.word first) is
   where
-    at_call : (c s r d : Bool) →
+    at_call : (c s r d m : Bool) →
         option_and_then (λ row. asked_by row words)
-        (if c then Some call else if s then Some send else if r then Some recv else if d then Some demo else None) ≡ Some a → HasNames a
-    at_call true s r d h = by_row call words a (λ given all e. call_named given a all e) h
-    at_call false true r d h = by_row send words a (λ given all e. send_named given a all e) h
-    at_call false false true d h = by_row recv words a (λ given all e. recv_named given a all e) h
-    at_call false false false true h = by_row demo words a (λ given all e. demo_named given a e) h
-    at_call false false false false h = absurd (cc h)
+        (if c then Some call else if s then Some send else if r then Some recv else if d then Some demo else if m then Some rate else None) ≡ Some a → HasNames a
+    at_call true s r d m h = by_row call words a (λ given all e. call_named given a all e) h
+    at_call false true r d m h = by_row send words a (λ given all e. send_named given a all e) h
+    at_call false false true d m h = by_row recv words a (λ given all e. recv_named given a all e) h
+    at_call false false false true m h = by_row demo words a (λ given all e. demo_named given a e) h
+    at_call false false false false true h = by_row rate words a (λ given all e. rate_named given a all e) h
+    at_call false false false false false h = absurd (cc h)

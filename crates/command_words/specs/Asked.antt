@@ -10,7 +10,7 @@ use Rattle.h263_types.specs.declared.params.ParamFault.{ParamFault}
 use Rattle.command_words.specs.Simple.{Text, taken, value}
 use Rattle.command_words.specs.Values.{byte_in, clock_in, format_in, number_in, value_or}
 use Rattle.command_words.specs.declared.command.Command.{Command}
-use Rattle.command_words.specs.declared.command.Command.TheVariants.{Call, Send, Recv, Demo}
+use Rattle.command_words.specs.declared.command.Command.TheVariants.{Call, Send, Recv, Demo, Rate}
 
 -- the value of each name that is given one
 abbrev pub Lookup : Type 0
@@ -158,9 +158,34 @@ demo = record {
   asks = demo_of;
 }
 
+-- a target of a byte at least; both are of six digits at most
+abbrev pub some_target : ℕ → Option ℕ
+some_target n = if nat_le 1 n then Some n else None
+
+abbrev pub target_in : Option Text → Option ℕ
+target_in text = option_and_then some_target (option_and_then (number_in 6) text)
+
+abbrev pub bucket_in : Option Text → Option ℕ
+bucket_in text = option_and_then (number_in 6) text
+
+abbrev pub rate_with : Option Text → ℕ → ℕ → Asked
+rate_with log target bucket = record { command = Rate target bucket; video = None; events = log; pictures = None; wire = None }
+
+abbrev pub rate_of : Lookup → Option Asked
+rate_of given = option_and_then (λ target. option_map (rate_with (given (codes "log")) target)
+    (bucket_in (given (codes "bucket")))) (target_in (given (codes "target")))
+
+abbrev pub rate : Row
+rate = record {
+  word = codes "rate";
+  places = codes "log" ∷ [];
+  options = codes "target" ∷ codes "bucket" ∷ [];
+  asks = rate_of;
+}
+
 -- the commands
 abbrev pub rows : List Row
-rows = call ∷ send ∷ recv ∷ demo ∷ []
+rows = call ∷ send ∷ recv ∷ demo ∷ rate ∷ []
 
 -- the command with this first word
 abbrev pub row_named : Text → Option Row
@@ -193,6 +218,7 @@ IsCommand (Call params traced) = IsParams params
 IsCommand (Send params) = IsParams params
 IsCommand (Recv params) = IsParams params
 IsCommand (Demo params seed frames) = IsParams params × (seed ≤ 999999999) × (1 ≤ frames) × (frames ≤ 10000)
+IsCommand (Rate target bucket) = (1 ≤ target) × (target ≤ 999999) × (bucket ≤ 999999)
 
 -- the words by which a command's roles are attached are all there
 abbrev pub IsGiven : Option Text → Type 0
@@ -205,6 +231,7 @@ HasNamesOf (Call params false) a = IsGiven a.video × IsGiven a.pictures
 HasNamesOf (Send params) a = IsGiven a.video × IsGiven a.events × IsGiven a.wire
 HasNamesOf (Recv params) a = IsGiven a.events × IsGiven a.pictures × IsGiven a.wire
 HasNamesOf (Demo params seed frames) a = Unit {0}
+HasNamesOf (Rate target bucket) a = IsGiven a.events
 
 abbrev pub HasNames : Asked → Type 0
 HasNames a = HasNamesOf a.command a

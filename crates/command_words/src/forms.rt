@@ -11,6 +11,7 @@ pub(crate) enum Form {
     Send,
     Recv,
     Demo,
+    Rate,
 }
 
 static CALL_PLACES: [&str; 2] = ["in", "out"];
@@ -33,6 +34,10 @@ static DEMO_OPTIONS: [&str; 9] = [
     "format", "quant", "keep", "radius", "limit", "slots", "lead", "messages", "clock",
 ];
 
+static RATE_PLACES: [&str; 1] = ["log"];
+
+static RATE_OPTIONS: [&str; 2] = ["target", "bucket"];
+
 impl Form {
     /// The form of the command with this first word.
     pub(crate) fn named(first: &str) -> Option<Form>
@@ -43,6 +48,7 @@ impl Form {
             "send" => Some(Form::Send),
             "recv" => Some(Form::Recv),
             "demo" => Some(Form::Demo),
+            "rate" => Some(Form::Rate),
             _ => None,
         }
     }
@@ -56,6 +62,7 @@ impl Form {
             Form::Send => SEND_PLACES.as_slice(),
             Form::Recv => RECV_PLACES.as_slice(),
             Form::Demo => DEMO_PLACES.as_slice(),
+            Form::Rate => RATE_PLACES.as_slice(),
         }
     }
 
@@ -67,6 +74,7 @@ impl Form {
             Form::Send => SEND_OPTIONS.as_slice(),
             Form::Recv => RECV_OPTIONS.as_slice(),
             Form::Demo => DEMO_OPTIONS.as_slice(),
+            Form::Rate => RATE_OPTIONS.as_slice(),
         }
     }
 }

@@ -1,4 +1,4 @@
-//! The words of the program's commands: `call`, `send`, `recv` and `demo`.
+//! The words of the program's commands: `call`, `send`, `recv`, `demo` and `rate`.
 //!
 //! The first word names a command; the others are read with `clap` as one simple command for each
 //! first word.

@@ -4,7 +4,7 @@ use h263_outside::Role;
 use h263_types::{Clock, Format, Params};
 
 // What the words behind the first may be and what they may not.
-static USAGE: [&[&str]; 40] = [
+static USAGE: [&[&str]; 49] = [
     &[],
     &[""],
     &["convert", "in", "out"],
@@ -45,6 +45,17 @@ static USAGE: [&[&str]; 40] = [
     &["demo", "1", "0"],
     &["demo", "1", "10001"],
     &["demo", "1000000000", "1"],
+    &["rate", "log"],
+    &["rate", "log", "--target", "342"],
+    &["rate", "log", "--bucket", "200"],
+    &["rate", "--target", "342", "--bucket", "200"],
+    &["rate", "log", "--target", "0", "--bucket", "200"],
+    &["rate", "log", "--target", "1000000", "--bucket", "0"],
+    &["rate", "log", "--target", "1", "--bucket", "1000000"],
+    &["rate", "log", "out", "--target", "1", "--bucket", "1"],
+    &[
+        "rate", "log", "--target", "1", "--bucket", "1", "--slots", "16",
+    ],
 ];
 
 #[test]
@@ -132,7 +143,7 @@ fn options_stand_anywhere(rt: HostRuntime) {
 }
 
 // Words, and the names of video, events, pictures and wire.
-static NAMED: [(&[&str], &[Option<&str>]); 8] = [
+static NAMED: [(&[&str], &[Option<&str>]); 9] = [
     (
         &["call", "in", "out"],
         &[Some("in"), None, Some("out"), None],
@@ -159,6 +170,10 @@ static NAMED: [(&[&str], &[Option<&str>]); 8] = [
         &[None, Some("a"), Some("b"), Some("c")],
     ),
     (&["demo", "0", "1"], &[None, None, None, None]),
+    (
+        &["rate", "--bucket", "0", "a", "--target", "1"],
+        &[None, Some("a"), None, None],
+    ),
 ];
 
 #[test]
@@ -190,6 +205,8 @@ static RECEIVING: [&str; 9] = [
 
 static MADE: [&str; 5] = ["demo", "999999999", "10000", "--format", "cif"];
 
+static MEASURED: [&str; 5] = ["rate", "log", "--target=999999", "--bucket", "200"];
+
 #[test]
 fn one_command_of_each(rt: HostRuntime) {
     let params = Params::of(Format::Qcif);
@@ -217,11 +234,16 @@ fn one_command_of_each(rt: HostRuntime) {
         seed: 999_999_999,
         frames: 10_000,
     };
+    let rate = Command::Rate {
+        target: 999_999,
+        bucket: 200,
+    };
     let table = [
         (PLAIN.as_slice(), call),
         (SENDING.as_slice(), send),
         (RECEIVING.as_slice(), recv),
         (MADE.as_slice(), demo),
+        (MEASURED.as_slice(), rate),
     ];
     for (words, command) in table {
         let read = Words::read(rt.alloc(), words).expect(&rt, "a command");

@@ -3,9 +3,9 @@ ghost use Rattle.std.specs.Prelude.{◌≡◌, ◌≤◌, IfOk, IfSome, MatchOpt
 ghost use Rattle.std.specs.Prelude.{drop, option_map, codes};
 ghost use Rattle.h263_types.specs.Params.{IsParams};
 ghost use Rattle.clap.specs.Words.{first_value, found_of};
-ghost use Rattle.command_words.specs.Asked.{asked, asked_by, call_of, send_of, recv_of, demo_of};
+ghost use Rattle.command_words.specs.Asked.{asked, asked_by, call_of, send_of, recv_of, demo_of, rate_of};
 ghost use Rattle.command_words.specs.Asked.{params_of, coding_of, timing_of, word_for, IsCommand};
-ghost use Rattle.command_words.specs.Asked.{seed_in, frames_in};
+ghost use Rattle.command_words.specs.Asked.{seed_in, frames_in, target_in, bucket_in};
 ghost use Rattle.command_words.specs.Clap.{texts};
 ghost use Rattle.command_words.specs.View.{asked_of, row_of};
 
@@ -148,6 +148,39 @@ fn demo_words<'a>(given: &ArgMatches<'a>) -> Option<Words<'a>>
     })
 }
 
+fn target(given: &ArgMatches<'_>) -> Option<u32>
+    ensures value { result ≡ target_in (first_value (found_of given.now) (codes "target")) }
+    ensures some { IfSome result (λ n. 1 ≤ n) }
+    ensures below { IfSome result (λ n. n ≤ 999999) }
+{
+    let target = number_of(given.get_str("target")?, 6)?;
+    if 1 <= target { Some(target) } else { None }
+}
+
+fn bucket(given: &ArgMatches<'_>) -> Option<u32>
+    ensures value { result ≡ bucket_in (first_value (found_of given.now) (codes "bucket")) }
+    ensures below { IfSome result (λ n. n ≤ 999999) }
+{
+    number_of(given.get_str("bucket")?, 6)
+}
+
+fn rate_words<'a>(given: &ArgMatches<'a>) -> Option<Words<'a>>
+    ensures value { option_map asked_of result ≡ rate_of (first_value (found_of given.now)) }
+    ensures ready { IfSome result (λ w. IsCommand w.command) }
+{
+    let command = Command::Rate {
+        target: target(given)?,
+        bucket: bucket(given)?,
+    };
+    Some(Words {
+        command,
+        video: None,
+        events: given.get_str("log"),
+        pictures: None,
+        wire: None,
+    })
+}
+
 /// What the values of a command's words ask for.
 fn words_of<'a>(form: Form, given: &ArgMatches<'a>) -> Option<Words<'a>>
     ensures value { option_map asked_of result
@@ -159,6 +192,7 @@ fn words_of<'a>(form: Form, given: &ArgMatches<'a>) -> Option<Words<'a>>
         Form::Send => send_words(given),
         Form::Recv => recv_words(given),
         Form::Demo => demo_words(given),
+        Form::Rate => rate_words(given),
     }
 }
 
