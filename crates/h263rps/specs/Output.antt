@@ -8,12 +8,14 @@ use Rattle.call_report.specs.declared.status.Status.TheVariants.{OutOfMemory, Us
 use Rattle.command_words.specs.declared.simple.WordStop.{WordStop}
 use Rattle.command_words.specs.declared.simple.WordStop.TheVariants as stops
 use Rattle.command_words.specs.declared.command.Command.{Command}
-use Rattle.command_words.specs.declared.command.Command.TheVariants.{Call, Send, Recv, Demo}
+use Rattle.command_words.specs.declared.command.Command.TheVariants.{Call, Send, Recv, Demo, Rate}
 use Rattle.command_words.specs.Simple.{Text}
 use Rattle.command_words.specs.Asked.{Asked, asked}
 use Rattle.desk_program.specs.Run.{Run, run_from, refusal}
 use Rattle.recv_command.specs.Recv.{recv_begin, recv_step}
 use Rattle.send_command.specs.Send.{send_begin, send_step}
+use Rattle.rate_command.specs.declared.rate.Bucket.{Bucket}
+use Rattle.rate_command.specs.Rate.{rate_begin, rate_step}
 use Rattle.call_command.specs.declared.terms.Terms.{Terms}
 use Rattle.call_command.specs.Call.{call_begin, call_step, most_turns}
 use Rattle.demo_command.specs.declared.terms.DemoTerms.{DemoTerms}
@@ -46,6 +48,7 @@ roles_of (Call params true) a =
 roles_of (Send params) a = (Video, the_word a.video) ∷ (Events, the_word a.events) ∷ (Wire, the_word a.wire) ∷ []
 roles_of (Recv params) a = (Events, the_word a.events) ∷ (Pictures, the_word a.pictures) ∷ (Wire, the_word a.wire) ∷ []
 roles_of (Demo params seed frames) a = []
+roles_of (Rate target bucket) a = (Events, the_word a.events) ∷ []
 
 -- the report comes first, by the empty word
 abbrev pub order_from : Option Asked → List (Role × Text)
@@ -59,6 +62,7 @@ source_of (Call params true) = Some Events
 source_of (Send params) = Some Events
 source_of (Recv params) = Some Events
 source_of (Demo params seed frames) = None
+source_of (Rate target bucket) = Some Events
 
 abbrev pub source_from : Option Asked → Option Role
 source_from None = None
@@ -78,6 +82,10 @@ terms_of params traced = record { params = params; plain = not traced }
 abbrev pub demo_terms : Params → ℕ → ℕ → DemoTerms
 demo_terms params seed frames = record { params = params; seed = seed; frames = frames }
 
+-- what a log is measured against
+abbrev pub bucket_of : ℕ → ℕ → Bucket
+bucket_of target bucket = record { target = target; bucket = bucket }
+
 -- what a command makes of its inputs, turn by turn
 abbrev pub run_of : Command → (Role → List ℕ) → Run
 run_of (Call params traced) inputs =
@@ -86,6 +94,8 @@ run_of (Send params) inputs = run_from (send_begin params inputs) send_step 1677
 run_of (Recv params) inputs = run_from (recv_begin params inputs) recv_step 16777216 inputs
 run_of (Demo params seed frames) inputs =
     run_from (demo_begin (demo_terms params seed frames) inputs) demo_step (demo.most_turns (demo_terms params seed frames)) inputs
+run_of (Rate target bucket) inputs =
+    run_from (rate_begin (bucket_of target bucket) inputs) rate_step 16777216 inputs
 
 abbrev pub output_from : Option Asked → (Role → List ℕ) → Run
 output_from None inputs = no_command

@@ -21,6 +21,8 @@ use demo_command::{Demo, DemoTerms};
 use desk_program::{Turns, perform};
 use h263_outside::{Desk, Role};
 use h263_types::Params;
+use rate_command::laws::no_video_refused as no_video_measured;
+use rate_command::{Bucket, Rate};
 use recv_command::Recv;
 use recv_command::laws::no_video_refused;
 use send_command::Send;
@@ -154,6 +156,25 @@ fn demo<D: Desk>(
     carry_out::<D, Demo>(alloc, &terms, &[], desk)
 }
 
+// The meter of a log.
+fn rate<D: Desk>(
+    alloc: Global,
+    words: &Words<'_>,
+    target: u32,
+    bucket: u32,
+    desk: &mut D,
+) -> Status
+    requires report { AreAttached ((Report, []) ∷ []) (D.outside desk.old) }
+    requires names { HasNames (asked_of words.now) }
+    requires command { IsCommand words.now.command }
+    requires is { words.now.command ≡ commands.Rate target bucket }
+    ensures { IsRun (Some (asked_of words.now)) result (D.outside desk.old) (D.outside desk.new) }
+{
+    no_video_measured();
+    let order = [(Role::Events, word_of(words, Role::Events))];
+    carry_out::<D, Rate>(alloc, &Bucket { target, bucket }, &order, desk)
+}
+
 /// Runs the command that the words ask for.
 pub fn command<D: Desk>(alloc: Global, words: &Words<'_>, desk: &mut D) -> Status
     requires report { AreAttached ((Report, []) ∷ []) (D.outside desk.old) }
@@ -177,5 +198,6 @@ pub fn command<D: Desk>(alloc: Global, words: &Words<'_>, desk: &mut D) -> Statu
             seed,
             frames,
         } => demo(alloc, words, params, seed, frames, desk),
+        Command::Rate { target, bucket } => rate(alloc, words, target, bucket, desk),
     }
 }

@@ -577,3 +577,44 @@ fn words(rt: HostRuntime) -> Result<(), Fail> {
     }
     Ok(())
 }
+
+// ---- rate
+
+// A picture flat 100.
+const FLAT: &[u8] = &[100; 18_432];
+
+const TWO_FLAT: Parts<'static> = &[HEAD_LINE, FRAME_LINE, FLAT, FRAME_LINE, FLAT];
+
+// Two captures, with the ACK of the first picture between.
+const ACKNOWLEDGED: &[u8] = b"S\x00\x00B\x00\x03\xC0\x04\x00S\x00\x00";
+
+const RATE: &[&str] = &["rate", "wire", "--target", "100", "--bucket=200"];
+
+const MEASURED: &[u8] = b"0 342 242\n1 31 173\npictures 2 greatest 242 over 1 refused 0\n";
+
+// What a sender writes is measured.
+fn measure_wire(rt: &impl Abort, alloc: Global) -> Result<(), OutOfMemory> {
+    let mut sending = MemoryDesk::new(alloc, 4096, 20_000)?;
+    sending.put(Role::Video, &joined(alloc, TWO_FLAT)?)?;
+    sending.put(Role::Events, ACKNOWLEDGED)?;
+    if run(alloc, SEND, &mut sending) == Status::OutOfMemory {
+        return Err(OutOfMemory);
+    }
+    let mut measuring = MemoryDesk::new(alloc, 4096, 1_000)?;
+    measuring.put(Role::Events, sending.text(Role::Wire))?;
+    let ends = run(alloc, RATE, &mut measuring);
+    if ends == Status::OutOfMemory {
+        return Err(OutOfMemory);
+    }
+    assert_eq!(rt; ends, Status::Ok);
+    assert_eq!(rt; measuring.text(Role::Report), MEASURED);
+    Ok(())
+}
+
+#[test]
+fn the_wire_of_two_flat_pictures(rt: HostRuntime) -> Result<(), Fail> {
+    if let Err(OutOfMemory) = measure_wire(&rt, rt.alloc()) {
+        measure_wire(&rt, rt.alloc())?;
+    }
+    Ok(())
+}

@@ -57,6 +57,9 @@ pub fn run<D: Desk>(alloc: Global, words: &Words<'_>, desk: &mut D) -> Status
             };
             perform::<D, Call>(alloc, &terms, &order, desk)
         }
-        Command::Call { traced: false, .. } | Command::Demo { .. } => finish(desk, Status::Usage),
+        Command::Call { traced: false, .. } | Command::Demo { .. } | Command::Rate { .. } => finish(
+            desk,
+            Status::Usage,
+        ),
     }
 }
