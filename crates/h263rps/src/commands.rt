@@ -157,13 +157,7 @@ fn demo<D: Desk>(
 }
 
 // The meter of a log.
-fn rate<D: Desk>(
-    alloc: Global,
-    words: &Words<'_>,
-    target: u32,
-    bucket: u32,
-    desk: &mut D,
-) -> Status
+fn rate<D: Desk>(alloc: Global, words: &Words<'_>, target: u32, bucket: u32, desk: &mut D) -> Status
     requires report { AreAttached ((Report, []) ∷ []) (D.outside desk.old) }
     requires names { HasNames (asked_of words.now) }
     requires command { IsCommand words.now.command }
