@@ -4,6 +4,7 @@ ghost use Rattle.h263_types.specs.declared.Kind.{Kind};
 ghost use Rattle.h263_bits.specs.Syntax.{Spells};
 ghost use Rattle.code_tables.specs.Mcbpc.{mcbpc, dquant};
 ghost use Rattle.code_tables.specs.Tables.{cbpy, mvd, tcoef_words, words_of_length, event, Coefficient};
+ghost use Rattle.code_tables.specs.Faults.{WordFaults};
 ghost use Rattle.code_tables.specs.Laws.{AreSpelt, TableLaws};
 ghost use Rattle.code_tables.specs.declared.macroblock.Mcbpc.{Mcbpc};
 
@@ -25,6 +26,12 @@ pub fn one_reading()
 /// What is written for a value is a text of it.
 pub fn written_is_text()
     ensures { AreSpelt }
+{}
+
+/// The first faults of words: each word is cut or there is none, MVD by its 65 words with their signs; and an escape
+/// whose LEVEL is 0 or -128. Each stands at the first bit of its word.
+pub fn first_faults()
+    ensures { WordFaults }
 {}
 
 /// What a syntax that has words of these tables in it needs to know of them.

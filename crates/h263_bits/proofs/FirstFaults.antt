@@ -230,6 +230,51 @@ word_only {S} {A} words f b d = (
     at_err (inl h) = word_fault words.list b d h
     at_err (inr h) = absurd (err_not_ok d (f h.0.0, h.0.1) (sym h.2))
 
+nil_of : {X : Type 0} (xs : List X) → length xs ≡ 0 → xs ≡ []
+nil_of [] e = refl
+nil_of (x ∷ xs) e = absurd (omega (arith, e))
+
+-- no word of a table is the proper front of another
+pub apart_words : {S : Type 0} (words : List (List Bool × S)) (w v more : List Bool) → is_prefix_free words ≡ true → IsWordOf words w → IsWordOf words v → w ++ more ≡ v → more ≡ []
+apart_words {S} words w v more apart p q e =
+    let first : found words (w ++ more) ≡ Some (w, p.0) = found_again words (w, p.0) more apart p.1 in
+    let second : found words (v ++ []) ≡ Some (v, q.0) = found_again words (v, q.0) [] apart q.1 in
+    let same : (w, p.0) ≡ (v, q.0) = some_is (w, p.0) (v, q.0) (sym first ∙ ap (found words) (e ∙ sym (append-nil v)) ∙ second) in
+    let word : w ≡ v = ap (λ (u : List Bool × S). u.0) same in
+    nil_of more (omega (arith, ap length e, length-append w more, ap length word))
+
+one_kind : (IsWord : List Bool → Type 0) (left : List Bool) (k l : FaultKind) → IsWordFault IsWord left k → IsWordFault IsWord left l → k ≡ l
+one_kind IsWord left k l (inl p) (inl q) = p.1 ∙ sym q.1
+one_kind IsWord left k l (inl p) (inr q) = let cut = p.0 in let two = q.0 cut.0 cut.3 in absurd (two.1 (cut.1 ∷ cut.2) cut.4)
+one_kind IsWord left k l (inr p) (inl q) = let cut = q.0 in let two = p.0 cut.0 cut.3 in absurd (two.1 (cut.1 ∷ cut.2) cut.4)
+one_kind IsWord left k l (inr p) (inr q) = p.1 ∙ sym q.1
+
+-- Where each fault of a syntax is one of its words, there is such a fault exactly where the syntax finds it.
+pub exact_words : {A : Type 0} (s : Syntax A) (IsWord : List Bool → Type 0)
+    → ((a : A) (text : List Bool) → Spells s a text → IsWord text)
+    → ((w v more : List Bool) → IsWord w → IsWord v → w ++ more ≡ v → more ≡ [])
+    → ((b : Bits) (d : Fault) → reading s b ≡ Err d → (d.at ≡ b.at) × IsWordFault IsWord b.bits d.kind)
+    → (b : Bits) (d : Fault) → (reading s b ≡ Err d) ↔ ((d.at ≡ b.at) × IsWordFault IsWord b.bits d.kind)
+exact_words {A} s IsWord member apart fault b d = (λ e. fault b d e, λ h. at_reading (reading s b) refl h)
+  where
+    at_reading : (r : Result (A × Bits) Fault) → reading s b ≡ r → (d.at ≡ b.at) × IsWordFault IsWord b.bits d.kind → reading s b ≡ Err d
+    at_reading (Ok x) e h =
+        let t = sound s b x.1 x.0 e in
+        let is = member x.0 t.0 t.2 in
+        elim h.1 [
+          | inl f ↦
+              let cut = f.0 in
+              let tail : List Bool = cut.1 ∷ cut.2 in
+              let whole : t.0 ++ (x.1.bits ++ tail) ≡ cut.0 = sym (append_assoc t.0 x.1.bits tail) ∙ ap (λ (y : List Bool). y ++ tail) (sym t.1.parts) ∙ sym cut.4 in
+              let none = apart t.0 cut.0 (x.1.bits ++ tail) is cut.3 whole in
+              absurd (omega (arith, ap length none, length-append x.1.bits tail))
+          | inr f ↦ let two = f.0 t.0 is in absurd (two.0 x.1.bits t.1.parts)
+        ]
+    at_reading (Err c) e h =
+        let g = fault b c e in
+        let kind : c.kind ≡ d.kind = one_kind IsWord b.bits c.kind d.kind g.1 h.1 in
+        e ∙ ap (λ (k : FaultKind). err {A = A × Bits} (stands k c.at)) kind ∙ ap (λ (p : ℕ). err {A = A × Bits} (stands d.kind p)) (g.0 ∙ sym h.0)
+
 -- ---- whole syntaxes
 
 turns_fault : {S A : Type 0} (spells : S → Turn S A → List Bool → Type 0) (fails : S → List Bool → List Bool → Type 0) (body : S → Bits → Result (Turn S A × Bits) Fault) (d : Fault)
