@@ -19,17 +19,17 @@ use Rattle.code_tables.proofs.SignedWords.{mvd_in, mvd_words_are}
 
 -- ---- words
 
-mcbpc_are : (kind : Kind) → HasWordFaults (mcbpc kind) (λ w. IsWordOf (mcbpc_words kind) w)
+pub mcbpc_are : (kind : Kind) → HasWordFaults (mcbpc kind) (λ w. IsWordOf (mcbpc_words kind) w)
 unfolding mcbpc mcbpc_table
 mcbpc_are kinds.I = λ b d. word_only (mcbpc_table kinds.I) (λ m. m) b d
 mcbpc_are kinds.P = λ b d. word_only (mcbpc_table kinds.P) (λ m. m) b d
 
-cbpy_are : (intra : Bool) → HasWordFaults (cbpy intra) (λ w. IsWordOf cbpy_words w)
+pub cbpy_are : (intra : Bool) → HasWordFaults (cbpy intra) (λ w. IsWordOf cbpy_words w)
 unfolding cbpy cbpy_table
 cbpy_are true = λ b d. word_only cbpy_table (λ pattern. pattern) b d
 cbpy_are false = λ b d. word_only cbpy_table (λ pattern. 15 - pattern) b d
 
-dquant_are : HasWordFaults dquant (λ w. IsWordOf dquant_words w)
+pub dquant_are : HasWordFaults dquant (λ w. IsWordOf dquant_words w)
 unfolding dquant dquant_table
 dquant_are = λ b d. word_only dquant_table (λ z. z) b d
 

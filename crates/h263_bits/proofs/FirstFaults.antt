@@ -2,14 +2,14 @@
 -- list of elements without a fault has. And how a row of a table of faults is shown, step by step.
 use Rattle.std.proofs.Common.{◌≡◌, ℕ, zero, suc, ◌+◌, ◌^◌, ◌<◌, Bool, true, false, cond, eqb, List, [], ◌∷◌, ◌++◌, length, take, drop, Option, Some, None, Result, Ok, Err, refl, sym, ap, subst, ◌∙◌, append_assoc, add_assoc, add-zero, arith, inl, inr}
 use Rattle.std.specs.List.{list_any, list_all}
-use Rattle.std.specs.Prelude.{◌||◌, ◌&&◌, ◌⊎◌, ◌↔◌, not}
+use Rattle.std.specs.Prelude.{◌||◌, ◌&&◌, ◌⊎◌, ◌↔◌, not, IfErr}
 use Rattle.std.proofs.lemmas.Bool.{cases_lt, or_cases, eqb-true, lt-ltb}
 use Rattle.std.proofs.lemmas.List.{append-nil, length-append}
 use Rattle.h263_bits.specs.declared.fault.Fault.{Fault}
 use Rattle.h263_bits.specs.declared.fault.FaultKind.{FaultKind}
 use Rattle.h263_bits.specs.declared.fault.FaultKind.TheVariants.{Ended, BadCode}
 use Rattle.h263_bits.specs.Bits.{number, spelled}
-use Rattle.h263_bits.specs.Reading.{Bits, err, skip, number_at, ◌>>=◌}
+use Rattle.h263_bits.specs.Reading.{Bits, Gives, err, skip, number_at, ◌>>=◌}
 use Rattle.h263_bits.specs.Syntax.{Syntax, Allowed, only, IsIn, Words, begins, found, is_cut, taken, is_prefix_free, Turn, again, finally, done, field, code, part, element, repeat, refused, field_at, word_at, standing_at, turned, turns_at, Spells, reading, IsProductive}
 use Rattle.h263_bits.specs.Elements.{IsFieldFault, IsWordOf, IsCutWord, IsNoWord, IsWordFault, FaultTurns, Faults, IsFirstFault, HasFault, EndsWithFault}
 use Rattle.h263_bits.proofs.BitLists.{length-spelled}
@@ -439,6 +439,12 @@ first_fault_is {A} s b d each = (
   λ e. fault_found s b d each e,
   λ f. ap (λ (t : List Bool). reading s (record { at = b.at; bits = t })) f.2 ∙ fault_again s b.at f.0 f.1 d.kind each f.4 ∙ ap (λ (k : ℕ). err {A = A × Bits} (stands d.kind k)) (sym f.3),
 )
+
+-- What holds of each fault that is found holds of the fault that was answered.
+pub reads_err : {X A : Type 0} (view : X → A) (s : Syntax A) (r : Result X Fault) (old new : Bits) (P : Fault → Type 0) → Gives view r new (reading s old)
+    → ((d : Fault) → reading s old ≡ Err d → P d) → IfErr r P
+reads_err view s (Ok x) old new P g each = tt
+reads_err view s (Err e) old new P g each = each e g
 
 -- ---- the rows of a table of faults
 
