@@ -529,6 +529,9 @@ fault_of_no_word words next x e = λ at rest. rw (word_fault_again words.list at
 pub fault_of_text : {A : Type 0} (s : Syntax A) (x y : List Bool) (kind : FaultKind) (place : ℕ) → x ≡ y → HasFault s x kind place → HasFault s y kind place
 fault_of_text s x y kind place e h = λ at rest. ap (λ (t : List Bool). reading s (record { at = at; bits = t ++ rest })) (sym e) ∙ h at rest
 
+pub fault_of_whole_part : {S A : Type 0} (s : Syntax S) (allowed : Allowed S) (next : S → Syntax A) (x : S) (text : List Bool) (kind : FaultKind) → IsProductive s → Spells s x text → allowed x ≡ Some kind → HasFault (part s allowed next) text kind 0
+fault_of_whole_part s allowed next x text kind each spelt some = fault_of_text (part s allowed next) (text ++ []) text kind 0 (append-nil text) (fault_of_part s allowed next x text [] kind each spelt some)
+
 -- what ends inside a word's element is cut at its first bit
 pub ends_behind_word : {S A : Type 0} (words : Words S) (next : S → Syntax A) (word : List Bool) (x : S) (text : List Bool) (kind : FaultKind) (place : ℕ) → IsIn (word, x) words.list → EndsWithFault (next x) text kind place → EndsWithFault (code words next) (word ++ text) kind (length word + place)
 unfolding reading

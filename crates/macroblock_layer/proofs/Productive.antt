@@ -16,7 +16,7 @@ use Rattle.macroblock_layer.specs.Text.{is_intra, quantiser, difference, vector,
 use Rattle.macroblock_layer.specs.Laws.{AreProductive}
 use Rattle.macroblock_layer.proofs.Leads.{lead_productive}
 
-quantiser_productive : TableLaws → (class : MbClass) (quant : ℕ) → IsProductive (quantiser class quant)
+pub quantiser_productive : TableLaws → (class : MbClass) (quant : ℕ) → IsProductive (quantiser class quant)
 unfolding quantiser IsProductive
 quantiser_productive tables classes.InterQ quant = (tables.productive.dquant, λ step. tt)
 quantiser_productive tables classes.IntraQ quant = (tables.productive.dquant, λ step. tt)
@@ -24,7 +24,7 @@ quantiser_productive tables classes.Inter quant = tt
 quantiser_productive tables classes.Inter4 quant = tt
 quantiser_productive tables classes.Intra quant = tt
 
-difference_productive : TableLaws → IsProductive difference
+pub difference_productive : TableLaws → IsProductive difference
 unfolding difference IsProductive
 difference_productive tables = (tables.productive.mvd, λ x. (tables.productive.mvd, λ y. tt))
 
