@@ -41,8 +41,8 @@ inter_row text kind place h = h
 
 dc_faults : DcFaults
 dc_faults = record {
-  zero = λ coded. dc_row coded 0 (omega arith) refl;
-  middle = λ coded. dc_row coded 128 (omega arith) refl;
+  code_0 = λ coded. dc_row coded 0 (omega arith) refl;
+  code_128 = λ coded. dc_row coded 128 (omega arith) refl;
   behind = behind_dc;
   inter = inter_row;
 }
@@ -90,5 +90,5 @@ block_faults tables = record {
     inter = λ b fault. first_fault_is inter_block b fault (inter_productive tables);
   };
   dc = dc_faults;
-  events = record { event = event_row; past = past_row tables; behind = behind_row tables };
+  events = record { of_event = event_row; past = past_row tables; behind = behind_row tables };
 }

@@ -17,15 +17,15 @@ pub record AreFirst : Type 0 where
 
 -- INTRADC, and what stands behind it
 pub record DcFaults : Type 0 where
-  pub zero : (coded : Bool) → HasFault (intra_block coded) (fields ((8, 0) ∷ [])) faults.BadDc 0
-  pub middle : (coded : Bool) → HasFault (intra_block coded) (fields ((8, 128) ∷ [])) faults.BadDc 0
+  pub code_0 : (coded : Bool) → HasFault (intra_block coded) (fields ((8, 0) ∷ [])) faults.BadDc 0
+  pub code_128 : (coded : Bool) → HasFault (intra_block coded) (fields ((8, 128) ∷ [])) faults.BadDc 0
   pub behind : (code : ℕ) (text : List Bool) (kind : FaultKind) (place : ℕ) → code < 256 → (code ≡ 0 → ⊥) → (code ≡ 128 → ⊥)
       → HasFault (events 1 (slice_set no_levels 0 (dc_of code))) text kind place → HasFault (intra_block true) (fields ((8, code) ∷ []) ++ text) kind (8 + place)
   pub inter : (text : List Bool) (kind : FaultKind) (place : ℕ) → HasFault (events 0 no_levels) text kind place → HasFault inter_block text kind place
 
 pub record EventFaults : Type 0 where
   -- each fault of an event is the block's
-  pub event : (from : ℕ) (levels : List ℤ) (text : List Bool) (kind : FaultKind) (place : ℕ) → HasFault event text kind place → HasFault (events from levels) text kind place
+  pub of_event : (from : ℕ) (levels : List ℤ) (text : List Bool) (kind : FaultKind) (place : ℕ) → HasFault event text kind place → HasFault (events from levels) text kind place
   -- a place past 63 is found with the event's last bit, and stands at its first
   pub past : (from : ℕ) (levels : List ℤ) (e : Coefficient) (text : List Bool) → Spells event e text → 64 ≤ from + e.run → HasFault (events from levels) text faults.PastEnd 0
   -- behind an event that isn't the last

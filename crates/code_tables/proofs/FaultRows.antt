@@ -101,8 +101,8 @@ level_row last run level l r v refused =
 have_event_faults : HasEventFaults
 have_event_faults = record {
   sign = sign_cut;
-  zero = λ last run l r. level_row last run 0 l r (omega arith) refl;
-  least = λ last run l r. level_row last run 128 l r (omega arith) refl;
+  level_0 = λ last run l r. level_row last run 0 l r (omega arith) refl;
+  level_128 = λ last run l r. level_row last run 128 l r (omega arith) refl;
 }
 
 pub word_faults : WordFaults

@@ -20,9 +20,9 @@ pub record AreWords : Type 0 where
   pub mcbpc : (kind : Kind) → HasWordFaults (mcbpc kind) (λ w. IsWordOf (mcbpc_words kind) w)
   pub cbpy : (intra : Bool) → HasWordFaults (cbpy intra) (λ w. IsWordOf cbpy_words w)
   pub dquant : HasWordFaults dquant (λ w. IsWordOf dquant_words w)
-  -- MVD by its 65 words with their signs, one for each difference that there is
-  pub mvd : HasWordFaults mvd (λ w. IsWordOf mvd_words w)
+  -- MVD by its words with their signs, one for each difference that there is: each text is one of them
   pub mvd_text : (value : ℤ) (text : List Bool) → Spells mvd value text → IsIn (text, value) mvd_words
+  pub mvd : HasWordFaults mvd (λ w. IsWordOf mvd_words w)
 
 -- what is no word: more zeros than any word of MCBPC and CBPY begins with, and 32 with plus
 pub record HaveBadCodes : Type 0 where
@@ -36,9 +36,9 @@ pub record HasEventFaults : Type 0 where
   -- the sign is cut
   pub sign : (w : List Bool) (e : Event) → IsIn (w, Some e) tcoef_words → EndsWithFault event w Ended 0
   -- LEVEL of an escape is 0 or -128
-  pub zero : (last run : ℕ) → last < 2 → run < 64
+  pub level_0 : (last run : ℕ) → last < 2 → run < 64
       → HasFault event (word "0000011" ++ fields ((1, last) ∷ (6, run) ∷ (8, 0) ∷ [])) BadLevel 0
-  pub least : (last run : ℕ) → last < 2 → run < 64
+  pub level_128 : (last run : ℕ) → last < 2 → run < 64
       → HasFault event (word "0000011" ++ fields ((1, last) ∷ (6, run) ∷ (8, 128) ∷ [])) BadLevel 0
 
 pub record WordFaults : Type 0 where

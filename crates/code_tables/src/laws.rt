@@ -28,7 +28,7 @@ pub fn written_is_text()
     ensures { AreSpelt }
 {}
 
-/// The first faults of words: each word is cut or there is none, MVD by its 65 words with their signs; and an escape
+/// The first faults of words: each word is cut or there is none, MVD by its words with their signs; and an escape
 /// whose LEVEL is 0 or -128. Each stands at the first bit of its word.
 pub fn first_faults()
     ensures { WordFaults }

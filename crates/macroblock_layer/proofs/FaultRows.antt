@@ -138,10 +138,10 @@ coded_inter_row tables quant reach predictor class cbpc pattern q a b text kind 
 
 coded_faults : TableLaws → (quant : ℕ) (reach : Reach) (predictor : Vector) (class : MbClass) (cbpc : ℕ) → CodedFaults quant reach predictor class cbpc
 coded_faults tables quant reach predictor class cbpc = record {
-  cbpy = cbpy_row quant reach predictor class cbpc;
-  dquant = step_row tables quant reach predictor class cbpc;
-  intra = coded_intra_row tables quant reach predictor class cbpc;
-  inter = coded_inter_row tables quant reach predictor class cbpc;
+  of_cbpy = cbpy_row quant reach predictor class cbpc;
+  of_quantiser = step_row tables quant reach predictor class cbpc;
+  of_intra = coded_intra_row tables quant reach predictor class cbpc;
+  of_inter = coded_inter_row tables quant reach predictor class cbpc;
 }
 
 -- ---- the whole macroblock
@@ -175,11 +175,11 @@ pub mb_faults : TableLaws → BlockLaws → MbFaults
 mb_faults tables of_blocks = record {
   first = λ kind quant reach predictor b fault. first_fault_is (mb kind quant reach predictor) b fault (mb_productive tables of_blocks kind quant reach predictor);
   leads = lead_faults tables;
-  lead = lead_row;
-  behind = behind_row;
+  of_lead = lead_row;
+  of_rest = behind_row;
   coded = coded_faults tables;
-  dquant = λ quant text kind place h. (dquant_inter_row quant text kind place h, dquant_intra_row quant text kind place h);
-  vectors = record { across = across_row; along = along_row tables; reach = reach_row tables };
-  vector = vector_row;
-  blocks = blocks_row;
+  of_dquant = λ quant text kind place h. (dquant_inter_row quant text kind place h, dquant_intra_row quant text kind place h);
+  vectors = record { across = across_row; along = along_row tables; out_of_reach = reach_row tables };
+  of_vector = vector_row;
+  of_blocks = blocks_row;
 }

@@ -35,29 +35,29 @@ pub record VectorFaults : Type 0 where
   pub across : (reach : Reach) (predictor : Vector) (text : List Bool) (kind : FaultKind) (place : ℕ) → HasFault mvd text kind place → HasFault (vector reach predictor) text kind place
   pub along : (reach : Reach) (predictor : Vector) (x : ℤ) (a text : List Bool) (kind : FaultKind) (place : ℕ) → Spells mvd x a → HasFault mvd text kind place
       → HasFault (vector reach predictor) (a ++ text) kind (length a + place)
-  pub reach : (reach : Reach) (predictor : Vector) (x y : ℤ) (a b : List Bool) → Spells mvd x a → Spells mvd y b → is_within reach (moved predictor (record { x = x; y = y })) ≡ false
+  pub out_of_reach : (reach : Reach) (predictor : Vector) (x y : ℤ) (a b : List Bool) → Spells mvd x a → Spells mvd y b → is_within reach (moved predictor (record { x = x; y = y })) ≡ false
       → HasFault (vector reach predictor) (a ++ b) faults.BadVector 0
 
 -- what stands behind MCBPC
 pub record CodedFaults (quant : ℕ) (reach : Reach) (predictor : Vector) (class : MbClass) (cbpc : ℕ) : Type 0 where
-  pub cbpy : (text : List Bool) (kind : FaultKind) (place : ℕ) → HasFault (cbpy (is_intra class)) text kind place → HasFault (coded_mb quant reach predictor class cbpc) text kind place
-  pub dquant : (pattern : ℕ) (a text : List Bool) (kind : FaultKind) (place : ℕ) → Spells (cbpy (is_intra class)) pattern a → HasFault (quantiser class quant) text kind place
+  pub of_cbpy : (text : List Bool) (kind : FaultKind) (place : ℕ) → HasFault (cbpy (is_intra class)) text kind place → HasFault (coded_mb quant reach predictor class cbpc) text kind place
+  pub of_quantiser : (pattern : ℕ) (a text : List Bool) (kind : FaultKind) (place : ℕ) → Spells (cbpy (is_intra class)) pattern a → HasFault (quantiser class quant) text kind place
       → HasFault (coded_mb quant reach predictor class cbpc) (a ++ text) kind (length a + place)
-  pub intra : (pattern q : ℕ) (a b text : List Bool) (kind : FaultKind) (place : ℕ) → is_intra class ≡ true → Spells (cbpy (is_intra class)) pattern a → Spells (quantiser class quant) q b
+  pub of_intra : (pattern q : ℕ) (a b text : List Bool) (kind : FaultKind) (place : ℕ) → is_intra class ≡ true → Spells (cbpy (is_intra class)) pattern a → Spells (quantiser class quant) q b
       → HasFault (intra_mb q pattern cbpc) text kind place → HasFault (coded_mb quant reach predictor class cbpc) (a ++ (b ++ text)) kind (length a + (length b + place))
-  pub inter : (pattern q : ℕ) (a b text : List Bool) (kind : FaultKind) (place : ℕ) → is_intra class ≡ false → Spells (cbpy (is_intra class)) pattern a → Spells (quantiser class quant) q b
+  pub of_inter : (pattern q : ℕ) (a b text : List Bool) (kind : FaultKind) (place : ℕ) → is_intra class ≡ false → Spells (cbpy (is_intra class)) pattern a → Spells (quantiser class quant) q b
       → HasFault (inter_mb reach predictor q pattern cbpc) text kind place → HasFault (coded_mb quant reach predictor class cbpc) (a ++ (b ++ text)) kind (length a + (length b + place))
 
 pub record MbFaults : Type 0 where
   -- the first fault is the one that the element behind the longest list of elements without a fault has
   pub first : (kind : Kind) (quant : ℕ) (reach : Reach) (predictor : Vector) (b : Bits) (fault : Fault) → (reading (mb kind quant reach predictor) b ≡ Err fault) ↔ IsFirstFault (mb kind quant reach predictor) b fault
   pub leads : LeadFaults
-  pub lead : (kind : Kind) (quant : ℕ) (reach : Reach) (predictor : Vector) (text : List Bool) (fault : FaultKind) (place : ℕ) → HasFault (lead kind) text fault place → HasFault (mb kind quant reach predictor) text fault place
-  pub behind : (kind : Kind) (quant : ℕ) (reach : Reach) (predictor : Vector) (l : Lead) (front text : List Bool) (fault : FaultKind) (place : ℕ) → Spells (lead kind) l front → HasFault (behind quant reach predictor l) text fault place
+  pub of_lead : (kind : Kind) (quant : ℕ) (reach : Reach) (predictor : Vector) (text : List Bool) (fault : FaultKind) (place : ℕ) → HasFault (lead kind) text fault place → HasFault (mb kind quant reach predictor) text fault place
+  pub of_rest : (kind : Kind) (quant : ℕ) (reach : Reach) (predictor : Vector) (l : Lead) (front text : List Bool) (fault : FaultKind) (place : ℕ) → Spells (lead kind) l front → HasFault (behind quant reach predictor l) text fault place
       → HasFault (mb kind quant reach predictor) (front ++ text) fault (length front + place)
   pub coded : (quant : ℕ) (reach : Reach) (predictor : Vector) (class : MbClass) (cbpc : ℕ) → CodedFaults quant reach predictor class cbpc
-  pub dquant : (quant : ℕ) (text : List Bool) (kind : FaultKind) (place : ℕ) → HasFault dquant text kind place
+  pub of_dquant : (quant : ℕ) (text : List Bool) (kind : FaultKind) (place : ℕ) → HasFault dquant text kind place
       → HasFault (quantiser classes.InterQ quant) text kind place × HasFault (quantiser classes.IntraQ quant) text kind place
   pub vectors : VectorFaults
-  pub vector : (reach : Reach) (predictor : Vector) (quant cbpy cbpc : ℕ) (text : List Bool) (kind : FaultKind) (place : ℕ) → HasFault (vector reach predictor) text kind place → HasFault (inter_mb reach predictor quant cbpy cbpc) text kind place
-  pub blocks : (quant cbpy cbpc : ℕ) (text : List Bool) (kind : FaultKind) (place : ℕ) → HasFault (intra (is_set cbpy 3)) text kind place → HasFault (intra_mb quant cbpy cbpc) text kind place
+  pub of_vector : (reach : Reach) (predictor : Vector) (quant cbpy cbpc : ℕ) (text : List Bool) (kind : FaultKind) (place : ℕ) → HasFault (vector reach predictor) text kind place → HasFault (inter_mb reach predictor quant cbpy cbpc) text kind place
+  pub of_blocks : (quant cbpy cbpc : ℕ) (text : List Bool) (kind : FaultKind) (place : ℕ) → HasFault (intra (is_set cbpy 3)) text kind place → HasFault (intra_mb quant cbpy cbpc) text kind place

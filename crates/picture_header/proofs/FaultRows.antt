@@ -411,14 +411,14 @@ part_quant laws format low tr n type trp messages a b c d e f g sa sb sc sd se s
 
 part_faults : MessageLaws → (format : Format) → PartFaults format
 part_faults laws format = record {
-  opening = part_opening laws format;
-  plus_type = part_plus_type laws format;
-  multipoint = part_multipoint laws format;
-  extended = part_extended laws format;
-  channel = part_channel laws format;
-  reference = part_reference laws format;
-  back = part_back laws format;
-  quant = part_quant laws format;
+  of_opening = part_opening laws format;
+  of_plus_type = part_plus_type laws format;
+  of_multipoint = part_multipoint laws format;
+  of_extended = part_extended laws format;
+  of_channel = part_channel laws format;
+  of_reference = part_reference laws format;
+  of_back = part_back laws format;
+  of_quant = part_quant laws format;
 }
 
 pub header_faults : MessageLaws → HeaderFaults

@@ -71,21 +71,21 @@ pub record MessageFaults (clock : Clock) : Type 0 where
 
 -- each part's faults are the header's, behind the texts of the parts in front
 pub record PartFaults (format : Format) : Type 0 where
-  pub opening : (text : List Bool) (kind : FaultKind) (place : ℕ) → HasFault opening text kind place → HasFault (header format) text kind place
-  pub plus_type : (low : ℕ) (a text : List Bool) (kind : FaultKind) (place : ℕ) → Spells opening low a
+  pub of_opening : (text : List Bool) (kind : FaultKind) (place : ℕ) → HasFault opening text kind place → HasFault (header format) text kind place
+  pub of_plus_type : (low : ℕ) (a text : List Bool) (kind : FaultKind) (place : ℕ) → Spells opening low a
       → HasFault (plus_type format) text kind place → HasFault (header format) (a ++ text) kind (length a + place)
-  pub multipoint : (low : ℕ) (type : Clock × Kind × ℕ) (a b text : List Bool) (kind : FaultKind) (place : ℕ) → Spells opening low a → Spells (plus_type format) type b
+  pub of_multipoint : (low : ℕ) (type : Clock × Kind × ℕ) (a b text : List Bool) (kind : FaultKind) (place : ℕ) → Spells opening low a → Spells (plus_type format) type b
       → HasFault multipoint text kind place → HasFault (header format) (a ++ (b ++ text)) kind (length a + (length b + place))
-  pub extended : (low : ℕ) (type : Clock × Kind × ℕ) (a b c text : List Bool) (kind : FaultKind) (place : ℕ) → Spells opening low a → Spells (plus_type format) type b → Spells multipoint tt c
+  pub of_extended : (low : ℕ) (type : Clock × Kind × ℕ) (a b c text : List Bool) (kind : FaultKind) (place : ℕ) → Spells opening low a → Spells (plus_type format) type b → Spells multipoint tt c
       → HasFault (extended type.0 low) text kind place → HasFault (header format) (a ++ (b ++ (c ++ text))) kind (length a + (length b + (length c + place)))
-  pub channel : (low tr : ℕ) (type : Clock × Kind × ℕ) (a b c d text : List Bool) (kind : FaultKind) (place : ℕ) → Spells opening low a → Spells (plus_type format) type b → Spells multipoint tt c → Spells (extended type.0 low) tr d
+  pub of_channel : (low tr : ℕ) (type : Clock × Kind × ℕ) (a b c d text : List Bool) (kind : FaultKind) (place : ℕ) → Spells opening low a → Spells (plus_type format) type b → Spells multipoint tt c → Spells (extended type.0 low) tr d
       → HasFault channel text kind place → HasFault (header format) (a ++ (b ++ (c ++ (d ++ text)))) kind (length a + (length b + (length c + (length d + place))))
-  pub reference : (low tr n : ℕ) (type : Clock × Kind × ℕ) (a b c d e text : List Bool) (kind : FaultKind) (place : ℕ) → Spells opening low a → Spells (plus_type format) type b → Spells multipoint tt c → Spells (extended type.0 low) tr d → Spells channel n e
+  pub of_reference : (low tr n : ℕ) (type : Clock × Kind × ℕ) (a b c d e text : List Bool) (kind : FaultKind) (place : ℕ) → Spells opening low a → Spells (plus_type format) type b → Spells multipoint tt c → Spells (extended type.0 low) tr d → Spells channel n e
       → HasFault (reference type.0 type.1) text kind place → HasFault (header format) (a ++ (b ++ (c ++ (d ++ (e ++ text))))) kind (length a + (length b + (length c + (length d + (length e + place)))))
-  pub back : (low tr n : ℕ) (type : Clock × Kind × ℕ) (trp : Option ℕ) (a b c d e f text : List Bool) (kind : FaultKind) (place : ℕ) → Spells opening low a → Spells (plus_type format) type b → Spells multipoint tt c → Spells (extended type.0 low) tr d → Spells channel n e → Spells (reference type.0 type.1) trp f
+  pub of_back : (low tr n : ℕ) (type : Clock × Kind × ℕ) (trp : Option ℕ) (a b c d e f text : List Bool) (kind : FaultKind) (place : ℕ) → Spells opening low a → Spells (plus_type format) type b → Spells multipoint tt c → Spells (extended type.0 low) tr d → Spells channel n e → Spells (reference type.0 type.1) trp f
       → HasFault (back type.0) text kind place → HasFault (header format) (a ++ (b ++ (c ++ (d ++ (e ++ (f ++ text)))))) kind (length a + (length b + (length c + (length d + (length e + (length f + place))))))
   -- PQUANT behind them all
-  pub quant : (low tr n : ℕ) (type : Clock × Kind × ℕ) (trp : Option ℕ) (messages : List Message) (a b c d e f g : List Bool) → Spells opening low a → Spells (plus_type format) type b → Spells multipoint tt c → Spells (extended type.0 low) tr d → Spells channel n e → Spells (reference type.0 type.1) trp f → Spells (back type.0) messages g
+  pub of_quant : (low tr n : ℕ) (type : Clock × Kind × ℕ) (trp : Option ℕ) (messages : List Message) (a b c d e f g : List Bool) → Spells opening low a → Spells (plus_type format) type b → Spells multipoint tt c → Spells (extended type.0 low) tr d → Spells channel n e → Spells (reference type.0 type.1) trp f → Spells (back type.0) messages g
       → HasFault (header format) (a ++ (b ++ (c ++ (d ++ (e ++ (f ++ (g ++ fields ((5, 0) ∷ [])))))))) faults.Quant (length a + (length b + (length c + (length d + (length e + (length f + (length g + 0)))))))
 
 pub record HeaderFaults : Type 0 where
