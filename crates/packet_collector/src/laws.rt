@@ -31,9 +31,11 @@ pub fn exact_text()
     of_the_parts();
 }
 
-/// A whole packet spells one slice: its header, its first macroblock and its macroblocks.
+/// A whole packet spells one slice, its header, its first macroblock and its macroblocks; and there is no first fault
+/// exactly where bytes are a packet of some slice.
 pub fn one_reading()
-    ensures { (format : Format) (s other : Slice) (bytes : List ℕ) → IsPacket format s bytes → IsPacket format other bytes → s ≡ other }
+    ensures no_fault { (format : Format) (bytes : List ℕ) → (packet_fault format bytes ≡ None) ↔ ((s : Slice) × IsPacket format s bytes) }
+    ensures one { (format : Format) (s other : Slice) (bytes : List ℕ) → IsPacket format s bytes → IsPacket format other bytes → s ≡ other }
 {
     of_the_parts();
 }
