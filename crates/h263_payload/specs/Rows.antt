@@ -38,8 +38,8 @@ pub record ExtraFaults (format : Format) (o : Opening) (front : List Bool) : Typ
 
 -- the data's first two bits
 pub record DataFaults (format : Format) (o : Opening) (front middle : List Bool) : Type 0 where
-  pub cut : (extra : Option Header) (at : ℕ) (data : List Bool) → Spells leading o front → IsExtra format o.plen o.pebit extra middle → length data < 2
-      → IsRefusedAt format at (front ++ (middle ++ data)) faults.Ended (at + length front + length middle)
+  pub cut : (extra : Option Header) (at : ℕ) (coded : List Bool) → Spells leading o front → IsExtra format o.plen o.pebit extra middle → length coded < 2
+      → IsRefusedAt format at (front ++ (middle ++ coded)) faults.Ended (at + length front + length middle)
   pub no_start : (extra : Option Header) (at : ℕ) (second : Bool) (rest : List Bool) → Spells leading o front → IsExtra format o.plen o.pebit extra middle
       → IsRefusedAt format at (front ++ (middle ++ false ∷ second ∷ rest)) faults.NoStart (at + length front + length middle)
   -- 10 begins a picture, which has no extra header, and 11 a later slice, which has one
