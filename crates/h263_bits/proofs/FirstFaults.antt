@@ -151,13 +151,11 @@ word_fault {S} words b d e = at_found (found words b.bits) refl e
 none_of_cut : {S : Type 0} (words : List (List Bool × S)) (left : List Bool) → is_prefix_free words ≡ true → IsCutWord (λ w. IsWordOf words w) left → found words left ≡ None
 none_of_cut {S} words left apart cut = at_found (found words left) refl
   where
-    tail : List Bool
-    tail = cut.1 ∷ cut.2
-
     at_found : (o : Option (List Bool × S)) → found words left ≡ o → o ≡ None
     at_found None h = refl
     at_found (Some u) h =
         let i = found_in words left u h in
+        let tail : List Bool = cut.1 ∷ cut.2 in
         let rest = drop (length u.0) left in
         let p : left ≡ u.0 ++ rest = begins_parts u.0 left i.1 in
         let e : cut.0 ≡ u.0 ++ (rest ++ tail) = cut.4 ∙ ap (λ (t : List Bool). t ++ tail) p ∙ append_assoc u.0 rest tail in

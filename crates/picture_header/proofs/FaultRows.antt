@@ -33,17 +33,17 @@ opening_start n lt other = fault_here 6 (only 32 faults.NoStart) _ n [] faults.N
 opening_type : (tr n : ℕ) → tr < 256 → n < 4 → (n ≡ 2 → ⊥) → HasFault opening (fields ((6, 32) ∷ (8, tr) ∷ (2, n) ∷ [])) faults.PictureType 14
 unfolding opening
 opening_type tr n t lt other =
-    fault_behind_field 6 _ _ 32 (fields ((8, tr) ∷ (2, n) ∷ [])) faults.PictureType 8 (omega arith) refl
-    (fault_behind_field 8 _ _ tr (fields ((2, n) ∷ [])) faults.PictureType 0 t refl
+    fault_behind_field 6 (only 32 faults.NoStart) _ 32 (fields ((8, tr) ∷ (2, n) ∷ [])) faults.PictureType 8 (omega arith) refl
+    (fault_behind_field 8 any _ tr (fields ((2, n) ∷ [])) faults.PictureType 0 t refl
     (fault_here 2 (only 2 faults.PictureType) _ n [] faults.PictureType lt (only_other 2 n faults.PictureType other)))
 
 opening_extended : (tr shown n : ℕ) → tr < 256 → shown < 8 → n < 8 → (n ≡ 7 → ⊥) → HasFault opening (fields ((6, 32) ∷ (8, tr) ∷ (2, 2) ∷ (3, shown) ∷ (3, n) ∷ [])) faults.PictureType 19
 unfolding opening
 opening_extended tr shown n t s lt other =
-    fault_behind_field 6 _ _ 32 (fields ((8, tr) ∷ (2, 2) ∷ (3, shown) ∷ (3, n) ∷ [])) faults.PictureType 13 (omega arith) refl
-    (fault_behind_field 8 _ _ tr (fields ((2, 2) ∷ (3, shown) ∷ (3, n) ∷ [])) faults.PictureType 5 t refl
-    (fault_behind_field 2 _ _ 2 (fields ((3, shown) ∷ (3, n) ∷ [])) faults.PictureType 3 (omega arith) refl
-    (fault_behind_field 3 _ _ shown (fields ((3, n) ∷ [])) faults.PictureType 0 s refl
+    fault_behind_field 6 (only 32 faults.NoStart) _ 32 (fields ((8, tr) ∷ (2, 2) ∷ (3, shown) ∷ (3, n) ∷ [])) faults.PictureType 13 (omega arith) refl
+    (fault_behind_field 8 any _ tr (fields ((2, 2) ∷ (3, shown) ∷ (3, n) ∷ [])) faults.PictureType 5 t refl
+    (fault_behind_field 2 (only 2 faults.PictureType) _ 2 (fields ((3, shown) ∷ (3, n) ∷ [])) faults.PictureType 3 (omega arith) refl
+    (fault_behind_field 3 any _ shown (fields ((3, n) ∷ [])) faults.PictureType 0 s refl
     (fault_here 3 (only 7 faults.PictureType) _ n [] faults.PictureType lt (only_other 7 n faults.PictureType other)))))
 
 opening_faults : OpeningFaults
@@ -104,70 +104,70 @@ type_ufep format n lt other =
 type_no_source : (format : Format) → HasFault (plus_type format) (fields ((3, 1) ∷ (3, 0) ∷ [])) faults.SourceFormat 3
 unfolding plus_type
 type_no_source format =
-    fault_behind_field 3 _ _ 1 (fields ((3, 0) ∷ [])) faults.SourceFormat 0 (omega arith) refl
+    fault_behind_field 3 (only 1 faults.Ufep) _ 1 (fields ((3, 0) ∷ [])) faults.SourceFormat 0 (omega arith) refl
     (fault_here 3 (is_format format) _ 0 [] faults.SourceFormat (omega arith) (no_format format))
 
 type_high_source : (format : Format) (n : ℕ) → 4 ≤ n → n < 8 → HasFault (plus_type format) (fields ((3, 1) ∷ (3, n) ∷ [])) faults.SourceFormat 3
 unfolding plus_type
 type_high_source format n le lt =
-    fault_behind_field 3 _ _ 1 (fields ((3, n) ∷ [])) faults.SourceFormat 0 (omega arith) refl
+    fault_behind_field 3 (only 1 faults.Ufep) _ 1 (fields ((3, n) ∷ [])) faults.SourceFormat 0 (omega arith) refl
     (fault_here 3 (is_format format) _ n [] faults.SourceFormat lt (high_format format n le))
 
 type_other_source : (format other : Format) → (other ≡ format → ⊥) → HasFault (plus_type format) (fields ((3, 1) ∷ (3, (format_code other)) ∷ [])) faults.OtherFormat 3
 unfolding plus_type
 type_other_source format other no =
-    fault_behind_field 3 _ _ 1 (fields ((3, (format_code other)) ∷ [])) faults.OtherFormat 0 (omega arith) refl
+    fault_behind_field 3 (only 1 faults.Ufep) _ 1 (fields ((3, (format_code other)) ∷ [])) faults.OtherFormat 0 (omega arith) refl
     (fault_here 3 (is_format format) _ (format_code other) [] faults.OtherFormat (format_small other) (other_format format other no))
 
 type_modes : (format : Format) (clock n : ℕ) → clock < 2 → n < 1024 → (n ≡ 24 → ⊥) → HasFault (plus_type format) (fields ((3, 1) ∷ (3, (format_code format)) ∷ (1, clock) ∷ (10, n) ∷ [])) faults.Modes 7
 unfolding plus_type
 type_modes format clock n c lt other =
-    fault_behind_field 3 _ _ 1 (fields ((3, (format_code format)) ∷ (1, clock) ∷ (10, n) ∷ [])) faults.Modes 4 (omega arith) refl
-    (fault_behind_field 3 _ _ (format_code format) (fields ((1, clock) ∷ (10, n) ∷ [])) faults.Modes 1 (format_small format) (same_format format)
-    (fault_behind_field 1 _ _ clock (fields ((10, n) ∷ [])) faults.Modes 0 c refl
+    fault_behind_field 3 (only 1 faults.Ufep) _ 1 (fields ((3, (format_code format)) ∷ (1, clock) ∷ (10, n) ∷ [])) faults.Modes 4 (omega arith) refl
+    (fault_behind_field 3 (is_format format) _ (format_code format) (fields ((1, clock) ∷ (10, n) ∷ [])) faults.Modes 1 (format_small format) (same_format format)
+    (fault_behind_field 1 any _ clock (fields ((10, n) ∷ [])) faults.Modes 0 c refl
     (fault_here 10 (only 24 faults.Modes) _ n [] faults.Modes lt (only_other 24 n faults.Modes other))))
 
 type_tail : (format : Format) (clock n : ℕ) → clock < 2 → n < 16 → (n ≡ 8 → ⊥) → HasFault (plus_type format) (fields ((3, 1) ∷ (3, (format_code format)) ∷ (1, clock) ∷ (10, 24) ∷ (4, n) ∷ [])) faults.Marker 17
 unfolding plus_type
 type_tail format clock n c lt other =
-    fault_behind_field 3 _ _ 1 (fields ((3, (format_code format)) ∷ (1, clock) ∷ (10, 24) ∷ (4, n) ∷ [])) faults.Marker 14 (omega arith) refl
-    (fault_behind_field 3 _ _ (format_code format) (fields ((1, clock) ∷ (10, 24) ∷ (4, n) ∷ [])) faults.Marker 11 (format_small format) (same_format format)
-    (fault_behind_field 1 _ _ clock (fields ((10, 24) ∷ (4, n) ∷ [])) faults.Marker 10 c refl
-    (fault_behind_field 10 _ _ 24 (fields ((4, n) ∷ [])) faults.Marker 0 (omega arith) refl
+    fault_behind_field 3 (only 1 faults.Ufep) _ 1 (fields ((3, (format_code format)) ∷ (1, clock) ∷ (10, 24) ∷ (4, n) ∷ [])) faults.Marker 14 (omega arith) refl
+    (fault_behind_field 3 (is_format format) _ (format_code format) (fields ((1, clock) ∷ (10, 24) ∷ (4, n) ∷ [])) faults.Marker 11 (format_small format) (same_format format)
+    (fault_behind_field 1 any _ clock (fields ((10, 24) ∷ (4, n) ∷ [])) faults.Marker 10 c refl
+    (fault_behind_field 10 (only 24 faults.Modes) _ 24 (fields ((4, n) ∷ [])) faults.Marker 0 (omega arith) refl
     (fault_here 4 (only 8 faults.Marker) _ n [] faults.Marker lt (only_other 8 n faults.Marker other)))))
 
 type_kind : (format : Format) (clock n : ℕ) → clock < 2 → 2 ≤ n → n < 8 → HasFault (plus_type format) (fields ((3, 1) ∷ (3, (format_code format)) ∷ (1, clock) ∷ (10, 24) ∷ (4, 8) ∷ (3, n) ∷ [])) faults.PictureKind 21
 unfolding plus_type
 type_kind format clock n c le lt =
-    fault_behind_field 3 _ _ 1 (fields ((3, (format_code format)) ∷ (1, clock) ∷ (10, 24) ∷ (4, 8) ∷ (3, n) ∷ [])) faults.PictureKind 18 (omega arith) refl
-    (fault_behind_field 3 _ _ (format_code format) (fields ((1, clock) ∷ (10, 24) ∷ (4, 8) ∷ (3, n) ∷ [])) faults.PictureKind 15 (format_small format) (same_format format)
-    (fault_behind_field 1 _ _ clock (fields ((10, 24) ∷ (4, 8) ∷ (3, n) ∷ [])) faults.PictureKind 14 c refl
-    (fault_behind_field 10 _ _ 24 (fields ((4, 8) ∷ (3, n) ∷ [])) faults.PictureKind 4 (omega arith) refl
-    (fault_behind_field 4 _ _ 8 (fields ((3, n) ∷ [])) faults.PictureKind 0 (omega arith) refl
+    fault_behind_field 3 (only 1 faults.Ufep) _ 1 (fields ((3, (format_code format)) ∷ (1, clock) ∷ (10, 24) ∷ (4, 8) ∷ (3, n) ∷ [])) faults.PictureKind 18 (omega arith) refl
+    (fault_behind_field 3 (is_format format) _ (format_code format) (fields ((1, clock) ∷ (10, 24) ∷ (4, 8) ∷ (3, n) ∷ [])) faults.PictureKind 15 (format_small format) (same_format format)
+    (fault_behind_field 1 any _ clock (fields ((10, 24) ∷ (4, 8) ∷ (3, n) ∷ [])) faults.PictureKind 14 c refl
+    (fault_behind_field 10 (only 24 faults.Modes) _ 24 (fields ((4, 8) ∷ (3, n) ∷ [])) faults.PictureKind 4 (omega arith) refl
+    (fault_behind_field 4 (only 8 faults.Marker) _ 8 (fields ((3, n) ∷ [])) faults.PictureKind 0 (omega arith) refl
     (fault_here 3 is_kind _ n [] faults.PictureKind lt (high_kind n le))))))
 
 type_resampling : (format : Format) (clock kind n : ℕ) → clock < 2 → kind < 2 → n < 4 → (n ≡ 0 → ⊥) → HasFault (plus_type format) (fields ((3, 1) ∷ (3, (format_code format)) ∷ (1, clock) ∷ (10, 24) ∷ (4, 8) ∷ (3, kind) ∷ (2, n) ∷ [])) faults.Resampling 24
 unfolding plus_type
 type_resampling format clock kind n c k lt other =
-    fault_behind_field 3 _ _ 1 (fields ((3, (format_code format)) ∷ (1, clock) ∷ (10, 24) ∷ (4, 8) ∷ (3, kind) ∷ (2, n) ∷ [])) faults.Resampling 21 (omega arith) refl
-    (fault_behind_field 3 _ _ (format_code format) (fields ((1, clock) ∷ (10, 24) ∷ (4, 8) ∷ (3, kind) ∷ (2, n) ∷ [])) faults.Resampling 18 (format_small format) (same_format format)
-    (fault_behind_field 1 _ _ clock (fields ((10, 24) ∷ (4, 8) ∷ (3, kind) ∷ (2, n) ∷ [])) faults.Resampling 17 c refl
-    (fault_behind_field 10 _ _ 24 (fields ((4, 8) ∷ (3, kind) ∷ (2, n) ∷ [])) faults.Resampling 7 (omega arith) refl
-    (fault_behind_field 4 _ _ 8 (fields ((3, kind) ∷ (2, n) ∷ [])) faults.Resampling 3 (omega arith) refl
-    (fault_behind_field 3 _ _ kind (fields ((2, n) ∷ [])) faults.Resampling 0 (omega (arith, k)) (low_kind kind k)
+    fault_behind_field 3 (only 1 faults.Ufep) _ 1 (fields ((3, (format_code format)) ∷ (1, clock) ∷ (10, 24) ∷ (4, 8) ∷ (3, kind) ∷ (2, n) ∷ [])) faults.Resampling 21 (omega arith) refl
+    (fault_behind_field 3 (is_format format) _ (format_code format) (fields ((1, clock) ∷ (10, 24) ∷ (4, 8) ∷ (3, kind) ∷ (2, n) ∷ [])) faults.Resampling 18 (format_small format) (same_format format)
+    (fault_behind_field 1 any _ clock (fields ((10, 24) ∷ (4, 8) ∷ (3, kind) ∷ (2, n) ∷ [])) faults.Resampling 17 c refl
+    (fault_behind_field 10 (only 24 faults.Modes) _ 24 (fields ((4, 8) ∷ (3, kind) ∷ (2, n) ∷ [])) faults.Resampling 7 (omega arith) refl
+    (fault_behind_field 4 (only 8 faults.Marker) _ 8 (fields ((3, kind) ∷ (2, n) ∷ [])) faults.Resampling 3 (omega arith) refl
+    (fault_behind_field 3 is_kind _ kind (fields ((2, n) ∷ [])) faults.Resampling 0 (omega (arith, k)) (low_kind kind k)
     (fault_here 2 (only 0 faults.Resampling) _ n [] faults.Resampling lt (only_other 0 n faults.Resampling other)))))))
 
 type_end : (format : Format) (clock kind rounding n : ℕ) → clock < 2 → kind < 2 → rounding < 2 → n < 8 → (n ≡ 1 → ⊥) → HasFault (plus_type format) (fields ((3, 1) ∷ (3, (format_code format)) ∷ (1, clock) ∷ (10, 24) ∷ (4, 8) ∷ (3, kind) ∷ (2, 0) ∷ (1, rounding) ∷ (3, n) ∷ [])) faults.Marker 27
 unfolding plus_type
 type_end format clock kind rounding n c k r lt other =
-    fault_behind_field 3 _ _ 1 (fields ((3, (format_code format)) ∷ (1, clock) ∷ (10, 24) ∷ (4, 8) ∷ (3, kind) ∷ (2, 0) ∷ (1, rounding) ∷ (3, n) ∷ [])) faults.Marker 24 (omega arith) refl
-    (fault_behind_field 3 _ _ (format_code format) (fields ((1, clock) ∷ (10, 24) ∷ (4, 8) ∷ (3, kind) ∷ (2, 0) ∷ (1, rounding) ∷ (3, n) ∷ [])) faults.Marker 21 (format_small format) (same_format format)
-    (fault_behind_field 1 _ _ clock (fields ((10, 24) ∷ (4, 8) ∷ (3, kind) ∷ (2, 0) ∷ (1, rounding) ∷ (3, n) ∷ [])) faults.Marker 20 c refl
-    (fault_behind_field 10 _ _ 24 (fields ((4, 8) ∷ (3, kind) ∷ (2, 0) ∷ (1, rounding) ∷ (3, n) ∷ [])) faults.Marker 10 (omega arith) refl
-    (fault_behind_field 4 _ _ 8 (fields ((3, kind) ∷ (2, 0) ∷ (1, rounding) ∷ (3, n) ∷ [])) faults.Marker 6 (omega arith) refl
-    (fault_behind_field 3 _ _ kind (fields ((2, 0) ∷ (1, rounding) ∷ (3, n) ∷ [])) faults.Marker 3 (omega (arith, k)) (low_kind kind k)
-    (fault_behind_field 2 _ _ 0 (fields ((1, rounding) ∷ (3, n) ∷ [])) faults.Marker 1 (omega arith) refl
-    (fault_behind_field 1 _ _ rounding (fields ((3, n) ∷ [])) faults.Marker 0 r refl
+    fault_behind_field 3 (only 1 faults.Ufep) _ 1 (fields ((3, (format_code format)) ∷ (1, clock) ∷ (10, 24) ∷ (4, 8) ∷ (3, kind) ∷ (2, 0) ∷ (1, rounding) ∷ (3, n) ∷ [])) faults.Marker 24 (omega arith) refl
+    (fault_behind_field 3 (is_format format) _ (format_code format) (fields ((1, clock) ∷ (10, 24) ∷ (4, 8) ∷ (3, kind) ∷ (2, 0) ∷ (1, rounding) ∷ (3, n) ∷ [])) faults.Marker 21 (format_small format) (same_format format)
+    (fault_behind_field 1 any _ clock (fields ((10, 24) ∷ (4, 8) ∷ (3, kind) ∷ (2, 0) ∷ (1, rounding) ∷ (3, n) ∷ [])) faults.Marker 20 c refl
+    (fault_behind_field 10 (only 24 faults.Modes) _ 24 (fields ((4, 8) ∷ (3, kind) ∷ (2, 0) ∷ (1, rounding) ∷ (3, n) ∷ [])) faults.Marker 10 (omega arith) refl
+    (fault_behind_field 4 (only 8 faults.Marker) _ 8 (fields ((3, kind) ∷ (2, 0) ∷ (1, rounding) ∷ (3, n) ∷ [])) faults.Marker 6 (omega arith) refl
+    (fault_behind_field 3 is_kind _ kind (fields ((2, 0) ∷ (1, rounding) ∷ (3, n) ∷ [])) faults.Marker 3 (omega (arith, k)) (low_kind kind k)
+    (fault_behind_field 2 (only 0 faults.Resampling) _ 0 (fields ((1, rounding) ∷ (3, n) ∷ [])) faults.Marker 1 (omega arith) refl
+    (fault_behind_field 1 any _ rounding (fields ((3, n) ∷ [])) faults.Marker 0 r refl
     (fault_here 3 (only 1 faults.Marker) _ n [] faults.Marker lt (only_other 1 n faults.Marker other)))))))))
 
 plus_type_faults : (format : Format) → PlusTypeFaults format
@@ -206,7 +206,7 @@ low_channel n lt = rw (lt-ltb n 4 lt) refl
 
 channel_row : (n : ℕ) → n < 4 → HasFault channel (fields ((2, 0) ∷ (3, n) ∷ [])) faults.Rpsmf 2
 unfolding channel
-channel_row n lt = fault_behind_field 2 _ _ 0 (fields ((3, n) ∷ [])) faults.Rpsmf 0 (omega arith) refl (fault_here 3 is_channel _ n [] faults.Rpsmf (omega arith) (low_channel n lt))
+channel_row n lt = fault_behind_field 2 (only 0 faults.SliceMode) _ 0 (fields ((3, n) ∷ [])) faults.Rpsmf 0 (omega arith) refl (fault_here 3 is_channel _ n [] faults.Rpsmf (omega arith) (low_channel n lt))
 
 intra_row : (clock : Clock) → HasFault (reference clock kinds.I) (fields ((1, 1) ∷ [])) faults.IntraReference 0
 unfolding reference
@@ -221,7 +221,7 @@ not_low clock n le = rw (le-leb (period_of clock) n le) refl
 
 high_row : (clock : Clock) (n : ℕ) → period_of clock ≤ n → n < 1024 → HasFault (reference clock kinds.P) (fields ((1, 1) ∷ (10, n) ∷ [])) faults.HighBits 1
 unfolding reference
-high_row clock n le lt = fault_behind_field 1 _ _ 1 (fields ((10, n) ∷ [])) faults.HighBits 0 (omega arith) refl (fault_here 10 (is_low clock) _ n [] faults.HighBits lt (not_low clock n le))
+high_row clock n le lt = fault_behind_field 1 (only 1 faults.NoReference) _ 1 (fields ((10, n) ∷ [])) faults.HighBits 0 (omega arith) refl (fault_here 10 (is_low clock) _ n [] faults.HighBits lt (not_low clock n le))
 
 middle_faults : MiddleFaults
 middle_faults = record {

@@ -40,14 +40,14 @@ first_marker h =
 first_address : (h : Header) (n : ℕ) → n < 2 ^ address_bits h.format → (n ≡ 0 → ⊥) → HasFault (first_head h) (fields ((1, 1) ∷ (address_bits h.format, n) ∷ [])) faults.Address 1
 unfolding first_head
 first_address h n lt other =
-    fault_behind_field 1 _ _ 1 (fields (((address_bits h.format), n) ∷ [])) faults.Address 0 (omega arith) refl
+    fault_behind_field 1 (only 1 faults.Marker) _ 1 (fields (((address_bits h.format), n) ∷ [])) faults.Address 0 (omega arith) refl
     (fault_here (address_bits h.format) (only 0 faults.Address) _ n [] faults.Address lt (only_other 0 n faults.Address other))
 
 first_end : (h : Header) → HasFault (first_head h) (fields ((1, 1) ∷ (address_bits h.format, 0) ∷ (1, 0) ∷ [])) faults.Marker (1 + (address_bits h.format + 0))
 unfolding first_head
 first_end h =
-    fault_behind_field 1 _ _ 1 (fields (((address_bits h.format), 0) ∷ (1, 0) ∷ [])) faults.Marker ((address_bits h.format) + 0) (omega arith) refl
-    (fault_behind_field (address_bits h.format) _ _ 0 (fields ((1, 0) ∷ [])) faults.Marker 0 (zero_fits h.format) refl
+    fault_behind_field 1 (only 1 faults.Marker) _ 1 (fields (((address_bits h.format), 0) ∷ (1, 0) ∷ [])) faults.Marker ((address_bits h.format) + 0) (omega arith) refl
+    (fault_behind_field (address_bits h.format) (only 0 faults.Address) _ 0 (fields ((1, 0) ∷ [])) faults.Marker 0 (zero_fits h.format) refl
     (fault_here 1 (only 1 faults.Marker) _ 0 [] faults.Marker (omega arith) refl))
 
 -- ---- a later slice
@@ -74,38 +74,38 @@ place_start f =
 place_marker : (f : Format) → HasFault (place f) (fields ((1, 1) ∷ (1, 0) ∷ [])) faults.Marker 1
 unfolding place
 place_marker f =
-    fault_behind_field 1 _ _ 1 (fields ((1, 0) ∷ [])) faults.Marker 0 (omega arith) refl
+    fault_behind_field 1 (only 1 faults.NoStart) _ 1 (fields ((1, 0) ∷ [])) faults.Marker 0 (omega arith) refl
     (fault_here 1 (only 1 faults.Marker) _ 0 [] faults.Marker (omega arith) refl)
 
 place_first : (f : Format) → HasFault (place f) (fields ((1, 1) ∷ (1, 1) ∷ (address_bits f, 0) ∷ [])) faults.Address 2
 unfolding place
 place_first f =
-    fault_behind_field 1 _ _ 1 (fields ((1, 1) ∷ ((address_bits f), 0) ∷ [])) faults.Address 1 (omega arith) refl
-    (fault_behind_field 1 _ _ 1 (fields (((address_bits f), 0) ∷ [])) faults.Address 0 (omega arith) refl
+    fault_behind_field 1 (only 1 faults.NoStart) _ 1 (fields ((1, 1) ∷ ((address_bits f), 0) ∷ [])) faults.Address 1 (omega arith) refl
+    (fault_behind_field 1 (only 1 faults.Marker) _ 1 (fields (((address_bits f), 0) ∷ [])) faults.Address 0 (omega arith) refl
     (fault_here (address_bits f) (is_later f) _ 0 [] faults.Address (zero_fits f) refl))
 
 place_past : (f : Format) (n : ℕ) → mbs_of f ≤ n → n < 2 ^ address_bits f → HasFault (place f) (fields ((1, 1) ∷ (1, 1) ∷ (address_bits f, n) ∷ [])) faults.Address 2
 unfolding place
 place_past f n le lt =
-    fault_behind_field 1 _ _ 1 (fields ((1, 1) ∷ ((address_bits f), n) ∷ [])) faults.Address 1 (omega arith) refl
-    (fault_behind_field 1 _ _ 1 (fields (((address_bits f), n) ∷ [])) faults.Address 0 (omega arith) refl
+    fault_behind_field 1 (only 1 faults.NoStart) _ 1 (fields ((1, 1) ∷ ((address_bits f), n) ∷ [])) faults.Address 1 (omega arith) refl
+    (fault_behind_field 1 (only 1 faults.Marker) _ 1 (fields (((address_bits f), n) ∷ [])) faults.Address 0 (omega arith) refl
     (fault_here (address_bits f) (is_later f) _ n [] faults.Address lt (past_later f n le (omega (arith, some_mbs f, le)))))
 
 place_quant : (f : Format) (n : ℕ) → 0 < n → n < mbs_of f → n < 2 ^ address_bits f → HasFault (place f) (fields ((1, 1) ∷ (1, 1) ∷ (address_bits f, n) ∷ (5, 0) ∷ [])) faults.Quant (1 + (1 + (address_bits f + 0)))
 unfolding place
 place_quant f n some lt fits =
-    fault_behind_field 1 _ _ 1 (fields ((1, 1) ∷ ((address_bits f), n) ∷ (5, 0) ∷ [])) faults.Quant (1 + ((address_bits f) + 0)) (omega arith) refl
-    (fault_behind_field 1 _ _ 1 (fields (((address_bits f), n) ∷ (5, 0) ∷ [])) faults.Quant ((address_bits f) + 0) (omega arith) refl
-    (fault_behind_field (address_bits f) _ _ n (fields ((5, 0) ∷ [])) faults.Quant 0 fits (good_later f n some lt)
+    fault_behind_field 1 (only 1 faults.NoStart) _ 1 (fields ((1, 1) ∷ ((address_bits f), n) ∷ (5, 0) ∷ [])) faults.Quant (1 + ((address_bits f) + 0)) (omega arith) refl
+    (fault_behind_field 1 (only 1 faults.Marker) _ 1 (fields (((address_bits f), n) ∷ (5, 0) ∷ [])) faults.Quant ((address_bits f) + 0) (omega arith) refl
+    (fault_behind_field (address_bits f) (is_later f) _ n (fields ((5, 0) ∷ [])) faults.Quant 0 fits (good_later f n some lt)
     (fault_here 5 is_quant _ 0 [] faults.Quant (omega arith) refl)))
 
 place_end : (f : Format) (n q : ℕ) → 0 < n → n < mbs_of f → n < 2 ^ address_bits f → 0 < q → q < 32 → HasFault (place f) (fields ((1, 1) ∷ (1, 1) ∷ (address_bits f, n) ∷ (5, q) ∷ (1, 0) ∷ [])) faults.Marker (1 + (1 + (address_bits f + 5)))
 unfolding place
 place_end f n q some lt fits more small =
-    fault_behind_field 1 _ _ 1 (fields ((1, 1) ∷ ((address_bits f), n) ∷ (5, q) ∷ (1, 0) ∷ [])) faults.Marker (1 + ((address_bits f) + 5)) (omega arith) refl
-    (fault_behind_field 1 _ _ 1 (fields (((address_bits f), n) ∷ (5, q) ∷ (1, 0) ∷ [])) faults.Marker ((address_bits f) + 5) (omega arith) refl
-    (fault_behind_field (address_bits f) _ _ n (fields ((5, q) ∷ (1, 0) ∷ [])) faults.Marker 5 fits (good_later f n some lt)
-    (fault_behind_field 5 _ _ q (fields ((1, 0) ∷ [])) faults.Marker 0 small (good_quant q more)
+    fault_behind_field 1 (only 1 faults.NoStart) _ 1 (fields ((1, 1) ∷ ((address_bits f), n) ∷ (5, q) ∷ (1, 0) ∷ [])) faults.Marker (1 + ((address_bits f) + 5)) (omega arith) refl
+    (fault_behind_field 1 (only 1 faults.Marker) _ 1 (fields (((address_bits f), n) ∷ (5, q) ∷ (1, 0) ∷ [])) faults.Marker ((address_bits f) + 5) (omega arith) refl
+    (fault_behind_field (address_bits f) (is_later f) _ n (fields ((5, q) ∷ (1, 0) ∷ [])) faults.Marker 5 fits (good_later f n some lt)
+    (fault_behind_field 5 is_quant _ q (fields ((1, 0) ∷ [])) faults.Marker 0 small (good_quant q more)
     (fault_here 1 (only 1 faults.Marker) _ 0 [] faults.Marker (omega arith) refl))))
 
 -- ---- GFID, TRI, TRPI and TRP, BCI
@@ -113,7 +113,7 @@ place_end f n q some lt fits more small =
 tail_tri : (trp : Option ℕ) (gfid : ℕ) → gfid < 4 → HasFault (tail trp) (fields ((2, gfid) ∷ (1, 1) ∷ [])) faults.SliceReference 2
 unfolding tail
 tail_tri trp gfid lt =
-    fault_behind_field 2 _ _ gfid (fields ((1, 1) ∷ [])) faults.SliceReference 0 lt refl
+    fault_behind_field 2 any _ gfid (fields ((1, 1) ∷ [])) faults.SliceReference 0 lt refl
     (fault_here 1 (only 0 faults.SliceReference) _ 1 [] faults.SliceReference (omega arith) refl)
 
 refers_intra : HasFault (reference None) (fields ((1, 1) ∷ [])) faults.SliceReference 0
@@ -129,7 +129,7 @@ refers_inter trp =
 refers_other : (trp n : ℕ) → n < 1024 → (n ≡ trp → ⊥) → HasFault (reference (Some trp)) (fields ((1, 1) ∷ (10, n) ∷ [])) faults.SliceReference 1
 unfolding reference
 refers_other trp n lt other =
-    fault_behind_field 1 _ _ 1 (fields ((10, n) ∷ [])) faults.SliceReference 0 (omega arith) refl
+    fault_behind_field 1 (only 1 faults.SliceReference) _ 1 (fields ((10, n) ∷ [])) faults.SliceReference 0 (omega arith) refl
     (fault_here 10 (only trp faults.SliceReference) _ n [] faults.SliceReference lt (only_other trp n faults.SliceReference other))
 
 -- one field as a text of its own

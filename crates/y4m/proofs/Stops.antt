@@ -229,9 +229,6 @@ frame_agrees : (f : Format) (at n : ℕ) (rest : List ℕ) → frame_of f at res
 unfolding frame_of
 frame_agrees f at n rest e lt = by (line_stop (frame_line rest)) refl e
   where
-    line : List ℕ
-    line = frame_line rest
-
     by : (o : Option ℕ) → line_stop (frame_line rest) ≡ o → frame_behind o f at (length (frame_line rest)) rest ≡ Err (NotY4m (at + n)) → n ≡ agreement frame_word (frame_line rest)
     by None is e = absurd (planes_not f at (length (frame_line rest)) n rest e)
     by (Some stop) is e =
