@@ -9,7 +9,7 @@ use Rattle.h263_types.specs.declared.vector.Reach.{Reach}
 use Rattle.h263_bits.specs.declared.fault.FaultKind.{FaultKind}
 use Rattle.h263_bits.specs.declared.fault.FaultKind.TheVariants as faults
 use Rattle.h263_bits.specs.Bits.{is_set, spelled}
-use Rattle.h263_bits.specs.Syntax.{IsIn, Spells, Turn, again, any, done}
+use Rattle.h263_bits.specs.Syntax.{IsIn, IsProductive, Spells, Turn, again, any, done}
 use Rattle.h263_bits.specs.Elements.{HasFault}
 use Rattle.h263_bits.proofs.SyntaxLaws.{first_fault_is, fault_in_part, fault_behind_part, fault_of_whole_part, fault_behind_field, fault_in_turn, fault_behind_turn, spells_code, spells_field, spells_part, spells_done}
 use Rattle.code_tables.specs.declared.macroblock.MbClass.{MbClass}
@@ -20,12 +20,14 @@ use Rattle.code_tables.specs.Words.{word}
 use Rattle.code_tables.specs.Mcbpc.{mcbpc, mcbpc_table, mcbpc_words, mcbpc_text, dquant}
 use Rattle.code_tables.specs.Tables.{cbpy, mvd}
 use Rattle.code_tables.specs.Laws.{TableLaws}
+use Rattle.h263_types.specs.declared.blocks.Block.{Block}
+use Rattle.block_layer.specs.Text.{intra_block, inter_block}
 use Rattle.block_layer.specs.Laws.{BlockLaws}
 use Rattle.macroblock_layer.specs.declared.reading.Lead.{Lead}
-use Rattle.macroblock_layer.specs.Text.{no_four, class_turn, lead_turn, lead, is_intra, quantiser, moved, is_within, in_reach, difference, vector, blocks, intra, intra_mb, inter_mb, coded_mb, behind, mb}
-use Rattle.macroblock_layer.specs.Faults.{LeadFaults, VectorFaults, CodedFaults, MbFaults}
+use Rattle.macroblock_layer.specs.Text.{no_four, class_turn, lead_turn, lead, is_intra, quantiser, moved, is_within, in_reach, difference, vector, blocks, intra, inter, intra_mb, inter_mb, coded_mb, behind, mb}
+use Rattle.macroblock_layer.specs.Faults.{LeadFaults, VectorFaults, CodedFaults, block_in, BlockFaults, MbFaults}
 use Rattle.macroblock_layer.proofs.Leads.{lead_some, turn_productive, lead_productive}
-use Rattle.macroblock_layer.proofs.Productive.{quantiser_productive, difference_productive, mb_productive}
+use Rattle.macroblock_layer.proofs.Productive.{quantiser_productive, difference_productive, vector_productive, intra_block_productive, inter_block_productive, mb_productive}
 
 -- ---- COD and MCBPC
 
@@ -167,9 +169,88 @@ vector_row : (reach : Reach) (predictor : Vector) (quant cbpy cbpc : ℕ) (text 
 unfolding inter_mb
 vector_row reach predictor quant cbpy cbpc text kind place h = fault_in_part (vector reach predictor) any _ text kind place h
 
-blocks_row : (quant cbpy cbpc : ℕ) (text : List Bool) (kind : FaultKind) (place : ℕ) → HasFault (intra (is_set cbpy 3)) text kind place → HasFault (intra_mb quant cbpy cbpc) text kind place
-unfolding intra_mb blocks
-blocks_row quant cbpy cbpc text kind place h = fault_in_part (blocks intra cbpy cbpc) any _ text kind place (fault_in_part (intra (is_set cbpy 3)) any _ text kind place h)
+of_intra_row : (quant cbpy cbpc : ℕ) (text : List Bool) (kind : FaultKind) (place : ℕ) → HasFault (blocks intra cbpy cbpc) text kind place → HasFault (intra_mb quant cbpy cbpc) text kind place
+unfolding intra_mb
+of_intra_row quant cbpy cbpc text kind place h = fault_in_part (blocks intra cbpy cbpc) any _ text kind place h
+
+of_inter_row : TableLaws → (reach : Reach) (predictor v : Vector) (quant cbpy cbpc : ℕ) (a text : List Bool) (kind : FaultKind) (place : ℕ) → Spells (vector reach predictor) v a → HasFault (blocks inter cbpy cbpc) text kind place
+    → HasFault (inter_mb reach predictor quant cbpy cbpc) (a ++ text) kind (length a + place)
+unfolding inter_mb
+of_inter_row tables reach predictor v quant cbpy cbpc a text kind place spelt h =
+    fault_behind_part (vector reach predictor) any _ v a text kind place (vector_productive tables reach predictor) spelt refl (fault_in_part (blocks inter cbpy cbpc) any _ text kind place h)
+
+intra_block_row : (coded : Bool) (text : List Bool) (kind : FaultKind) (place : ℕ) → HasFault (intra_block coded) text kind place → HasFault (intra coded) text kind place
+unfolding intra
+intra_block_row coded text kind place h = fault_in_part (intra_block coded) any _ text kind place h
+
+inter_block_row : (text : List Bool) (kind : FaultKind) (place : ℕ) → HasFault inter_block text kind place → HasFault (inter true) text kind place
+unfolding inter
+inter_block_row text kind place h = fault_in_part inter_block any _ text kind place h
+
+block_productive : BlockLaws → (is coded : Bool) → IsProductive (block_in is coded)
+block_productive of_blocks true coded = intra_block_productive of_blocks coded
+block_productive of_blocks false coded = inter_block_productive of_blocks coded
+
+block_row_0 : BlockLaws → (is : Bool) (cbpy cbpc : ℕ) (text : List Bool) (kind : FaultKind) (place : ℕ) → HasFault (block_in is (is_set cbpy 3)) text kind place
+    → HasFault (blocks (λ coded. block_in is coded) cbpy cbpc) text kind place
+unfolding blocks
+block_row_0 of_blocks is cbpy cbpc text kind place h =
+    fault_in_part (block_in is (is_set cbpy 3)) any _ text kind place h
+
+block_row_1 : BlockLaws → (is : Bool) (cbpy cbpc : ℕ) (xa : Block) (a text : List Bool) (kind : FaultKind) (place : ℕ) → Spells (block_in is (is_set cbpy 3)) xa a → HasFault (block_in is (is_set cbpy 2)) text kind place
+    → HasFault (blocks (λ coded. block_in is coded) cbpy cbpc) (a ++ text) kind (length a + place)
+unfolding blocks
+block_row_1 of_blocks is cbpy cbpc xa a text kind place sa h =
+    fault_behind_part (block_in is (is_set cbpy 3)) any _ xa a text kind place (block_productive of_blocks is (is_set cbpy 3)) sa refl
+    (fault_in_part (block_in is (is_set cbpy 2)) any _ text kind place h)
+
+block_row_2 : BlockLaws → (is : Bool) (cbpy cbpc : ℕ) (xa xb : Block) (a b text : List Bool) (kind : FaultKind) (place : ℕ) → Spells (block_in is (is_set cbpy 3)) xa a → Spells (block_in is (is_set cbpy 2)) xb b → HasFault (block_in is (is_set cbpy 1)) text kind place
+    → HasFault (blocks (λ coded. block_in is coded) cbpy cbpc) (a ++ (b ++ text)) kind (length a + (length b + place))
+unfolding blocks
+block_row_2 of_blocks is cbpy cbpc xa xb a b text kind place sa sb h =
+    fault_behind_part (block_in is (is_set cbpy 3)) any _ xa a (b ++ text) kind (length b + place) (block_productive of_blocks is (is_set cbpy 3)) sa refl
+    (fault_behind_part (block_in is (is_set cbpy 2)) any _ xb b text kind place (block_productive of_blocks is (is_set cbpy 2)) sb refl
+    (fault_in_part (block_in is (is_set cbpy 1)) any _ text kind place h))
+
+block_row_3 : BlockLaws → (is : Bool) (cbpy cbpc : ℕ) (xa xb xc : Block) (a b c text : List Bool) (kind : FaultKind) (place : ℕ) → Spells (block_in is (is_set cbpy 3)) xa a → Spells (block_in is (is_set cbpy 2)) xb b → Spells (block_in is (is_set cbpy 1)) xc c → HasFault (block_in is (is_set cbpy 0)) text kind place
+    → HasFault (blocks (λ coded. block_in is coded) cbpy cbpc) (a ++ (b ++ (c ++ text))) kind (length a + (length b + (length c + place)))
+unfolding blocks
+block_row_3 of_blocks is cbpy cbpc xa xb xc a b c text kind place sa sb sc h =
+    fault_behind_part (block_in is (is_set cbpy 3)) any _ xa a (b ++ (c ++ text)) kind (length b + (length c + place)) (block_productive of_blocks is (is_set cbpy 3)) sa refl
+    (fault_behind_part (block_in is (is_set cbpy 2)) any _ xb b (c ++ text) kind (length c + place) (block_productive of_blocks is (is_set cbpy 2)) sb refl
+    (fault_behind_part (block_in is (is_set cbpy 1)) any _ xc c text kind place (block_productive of_blocks is (is_set cbpy 1)) sc refl
+    (fault_in_part (block_in is (is_set cbpy 0)) any _ text kind place h)))
+
+block_row_4 : BlockLaws → (is : Bool) (cbpy cbpc : ℕ) (xa xb xc xd : Block) (a b c d text : List Bool) (kind : FaultKind) (place : ℕ) → Spells (block_in is (is_set cbpy 3)) xa a → Spells (block_in is (is_set cbpy 2)) xb b → Spells (block_in is (is_set cbpy 1)) xc c → Spells (block_in is (is_set cbpy 0)) xd d → HasFault (block_in is (is_set cbpc 1)) text kind place
+    → HasFault (blocks (λ coded. block_in is coded) cbpy cbpc) (a ++ (b ++ (c ++ (d ++ text)))) kind (length a + (length b + (length c + (length d + place))))
+unfolding blocks
+block_row_4 of_blocks is cbpy cbpc xa xb xc xd a b c d text kind place sa sb sc sd h =
+    fault_behind_part (block_in is (is_set cbpy 3)) any _ xa a (b ++ (c ++ (d ++ text))) kind (length b + (length c + (length d + place))) (block_productive of_blocks is (is_set cbpy 3)) sa refl
+    (fault_behind_part (block_in is (is_set cbpy 2)) any _ xb b (c ++ (d ++ text)) kind (length c + (length d + place)) (block_productive of_blocks is (is_set cbpy 2)) sb refl
+    (fault_behind_part (block_in is (is_set cbpy 1)) any _ xc c (d ++ text) kind (length d + place) (block_productive of_blocks is (is_set cbpy 1)) sc refl
+    (fault_behind_part (block_in is (is_set cbpy 0)) any _ xd d text kind place (block_productive of_blocks is (is_set cbpy 0)) sd refl
+    (fault_in_part (block_in is (is_set cbpc 1)) any _ text kind place h))))
+
+block_row_5 : BlockLaws → (is : Bool) (cbpy cbpc : ℕ) (xa xb xc xd xe : Block) (a b c d e text : List Bool) (kind : FaultKind) (place : ℕ) → Spells (block_in is (is_set cbpy 3)) xa a → Spells (block_in is (is_set cbpy 2)) xb b → Spells (block_in is (is_set cbpy 1)) xc c → Spells (block_in is (is_set cbpy 0)) xd d → Spells (block_in is (is_set cbpc 1)) xe e → HasFault (block_in is (is_set cbpc 0)) text kind place
+    → HasFault (blocks (λ coded. block_in is coded) cbpy cbpc) (a ++ (b ++ (c ++ (d ++ (e ++ text))))) kind (length a + (length b + (length c + (length d + (length e + place)))))
+unfolding blocks
+block_row_5 of_blocks is cbpy cbpc xa xb xc xd xe a b c d e text kind place sa sb sc sd se h =
+    fault_behind_part (block_in is (is_set cbpy 3)) any _ xa a (b ++ (c ++ (d ++ (e ++ text)))) kind (length b + (length c + (length d + (length e + place)))) (block_productive of_blocks is (is_set cbpy 3)) sa refl
+    (fault_behind_part (block_in is (is_set cbpy 2)) any _ xb b (c ++ (d ++ (e ++ text))) kind (length c + (length d + (length e + place))) (block_productive of_blocks is (is_set cbpy 2)) sb refl
+    (fault_behind_part (block_in is (is_set cbpy 1)) any _ xc c (d ++ (e ++ text)) kind (length d + (length e + place)) (block_productive of_blocks is (is_set cbpy 1)) sc refl
+    (fault_behind_part (block_in is (is_set cbpy 0)) any _ xd d (e ++ text) kind (length e + place) (block_productive of_blocks is (is_set cbpy 0)) sd refl
+    (fault_behind_part (block_in is (is_set cbpc 1)) any _ xe e text kind place (block_productive of_blocks is (is_set cbpc 1)) se refl
+    (fault_in_part (block_in is (is_set cbpc 0)) any _ text kind place h)))))
+
+six_rows : BlockLaws → (is : Bool) (cbpy cbpc : ℕ) → BlockFaults is cbpy cbpc
+six_rows of_blocks is cbpy cbpc = record {
+  of_first = block_row_0 of_blocks is cbpy cbpc;
+  of_second = block_row_1 of_blocks is cbpy cbpc;
+  of_third = block_row_2 of_blocks is cbpy cbpc;
+  of_fourth = block_row_3 of_blocks is cbpy cbpc;
+  of_cb = block_row_4 of_blocks is cbpy cbpc;
+  of_cr = block_row_5 of_blocks is cbpy cbpc;
+}
 
 pub mb_faults : TableLaws → BlockLaws → MbFaults
 mb_faults tables of_blocks = record {
@@ -181,5 +262,9 @@ mb_faults tables of_blocks = record {
   of_dquant = λ quant text kind place h. (dquant_inter_row quant text kind place h, dquant_intra_row quant text kind place h);
   vectors = record { across = across_row; along = along_row tables; out_of_reach = reach_row tables };
   of_vector = vector_row;
-  of_blocks = blocks_row;
+  of_intra = of_intra_row;
+  of_inter = of_inter_row tables;
+  six_blocks = six_rows of_blocks;
+  of_intra_block = intra_block_row;
+  of_inter_block = inter_block_row;
 }

@@ -18,8 +18,9 @@ use Rattle.code_tables.specs.declared.macroblock.Mcbpc.TheVariants.{Word}
 use Rattle.code_tables.specs.Words.{word}
 use Rattle.code_tables.specs.Mcbpc.{mcbpc, mcbpc_words, dquant}
 use Rattle.code_tables.specs.Tables.{cbpy, mvd}
+use Rattle.block_layer.specs.Text.{intra_block, inter_block}
 use Rattle.macroblock_layer.specs.declared.reading.Lead.{Lead}
-use Rattle.macroblock_layer.specs.Text.{lead, is_intra, quantiser, moved, is_within, vector, blocks, intra, intra_mb, inter_mb, coded_mb, behind, mb}
+use Rattle.macroblock_layer.specs.Text.{lead, is_intra, quantiser, moved, is_within, vector, blocks, intra, inter, intra_mb, inter_mb, coded_mb, behind, mb}
 
 -- COD and MCBPC, behind stuffing
 pub record LeadFaults : Type 0 where
@@ -48,6 +49,26 @@ pub record CodedFaults (quant : ℕ) (reach : Reach) (predictor : Vector) (class
   pub of_inter : (pattern q : ℕ) (a b text : List Bool) (kind : FaultKind) (place : ℕ) → is_intra class ≡ false → Spells (cbpy (is_intra class)) pattern a → Spells (quantiser class quant) q b
       → HasFault (inter_mb reach predictor q pattern cbpc) text kind place → HasFault (coded_mb quant reach predictor class cbpc) (a ++ (b ++ text)) kind (length a + (length b + place))
 
+-- a block of an intra macroblock, or of an inter macroblock
+abbrev pub block_in : Bool → Bool → Syntax Block
+block_in true coded = intra coded
+block_in false coded = inter coded
+
+-- the six blocks: the four of luma, left to right and top to bottom, Cb and Cr, each behind the texts of those before it
+pub record BlockFaults (is : Bool) (cbpy cbpc : ℕ) : Type 0 where
+  pub of_first : (text : List Bool) (kind : FaultKind) (place : ℕ) → HasFault (block_in is (is_set cbpy 3)) text kind place
+      → HasFault (blocks (λ coded. block_in is coded) cbpy cbpc) text kind place
+  pub of_second : (xa : Block) (a text : List Bool) (kind : FaultKind) (place : ℕ) → Spells (block_in is (is_set cbpy 3)) xa a → HasFault (block_in is (is_set cbpy 2)) text kind place
+      → HasFault (blocks (λ coded. block_in is coded) cbpy cbpc) (a ++ text) kind (length a + place)
+  pub of_third : (xa xb : Block) (a b text : List Bool) (kind : FaultKind) (place : ℕ) → Spells (block_in is (is_set cbpy 3)) xa a → Spells (block_in is (is_set cbpy 2)) xb b → HasFault (block_in is (is_set cbpy 1)) text kind place
+      → HasFault (blocks (λ coded. block_in is coded) cbpy cbpc) (a ++ (b ++ text)) kind (length a + (length b + place))
+  pub of_fourth : (xa xb xc : Block) (a b c text : List Bool) (kind : FaultKind) (place : ℕ) → Spells (block_in is (is_set cbpy 3)) xa a → Spells (block_in is (is_set cbpy 2)) xb b → Spells (block_in is (is_set cbpy 1)) xc c → HasFault (block_in is (is_set cbpy 0)) text kind place
+      → HasFault (blocks (λ coded. block_in is coded) cbpy cbpc) (a ++ (b ++ (c ++ text))) kind (length a + (length b + (length c + place)))
+  pub of_cb : (xa xb xc xd : Block) (a b c d text : List Bool) (kind : FaultKind) (place : ℕ) → Spells (block_in is (is_set cbpy 3)) xa a → Spells (block_in is (is_set cbpy 2)) xb b → Spells (block_in is (is_set cbpy 1)) xc c → Spells (block_in is (is_set cbpy 0)) xd d → HasFault (block_in is (is_set cbpc 1)) text kind place
+      → HasFault (blocks (λ coded. block_in is coded) cbpy cbpc) (a ++ (b ++ (c ++ (d ++ text)))) kind (length a + (length b + (length c + (length d + place))))
+  pub of_cr : (xa xb xc xd xe : Block) (a b c d e text : List Bool) (kind : FaultKind) (place : ℕ) → Spells (block_in is (is_set cbpy 3)) xa a → Spells (block_in is (is_set cbpy 2)) xb b → Spells (block_in is (is_set cbpy 1)) xc c → Spells (block_in is (is_set cbpy 0)) xd d → Spells (block_in is (is_set cbpc 1)) xe e → HasFault (block_in is (is_set cbpc 0)) text kind place
+      → HasFault (blocks (λ coded. block_in is coded) cbpy cbpc) (a ++ (b ++ (c ++ (d ++ (e ++ text))))) kind (length a + (length b + (length c + (length d + (length e + place)))))
+
 pub record MbFaults : Type 0 where
   -- the first fault is the one that the element behind the longest list of elements without a fault has
   pub first : (kind : Kind) (quant : ℕ) (reach : Reach) (predictor : Vector) (b : Bits) (fault : Fault) → (reading (mb kind quant reach predictor) b ≡ Err fault) ↔ IsFirstFault (mb kind quant reach predictor) b fault
@@ -60,4 +81,10 @@ pub record MbFaults : Type 0 where
       → HasFault (quantiser classes.InterQ quant) text kind place × HasFault (quantiser classes.IntraQ quant) text kind place
   pub vectors : VectorFaults
   pub of_vector : (reach : Reach) (predictor : Vector) (quant cbpy cbpc : ℕ) (text : List Bool) (kind : FaultKind) (place : ℕ) → HasFault (vector reach predictor) text kind place → HasFault (inter_mb reach predictor quant cbpy cbpc) text kind place
-  pub of_blocks : (quant cbpy cbpc : ℕ) (text : List Bool) (kind : FaultKind) (place : ℕ) → HasFault (intra (is_set cbpy 3)) text kind place → HasFault (intra_mb quant cbpy cbpc) text kind place
+  pub of_intra : (quant cbpy cbpc : ℕ) (text : List Bool) (kind : FaultKind) (place : ℕ) → HasFault (blocks intra cbpy cbpc) text kind place → HasFault (intra_mb quant cbpy cbpc) text kind place
+  pub of_inter : (reach : Reach) (predictor v : Vector) (quant cbpy cbpc : ℕ) (a text : List Bool) (kind : FaultKind) (place : ℕ) → Spells (vector reach predictor) v a → HasFault (blocks inter cbpy cbpc) text kind place
+      → HasFault (inter_mb reach predictor quant cbpy cbpc) (a ++ text) kind (length a + place)
+  pub six_blocks : (is : Bool) (cbpy cbpc : ℕ) → BlockFaults is cbpy cbpc
+  -- a block's faults are the macroblock's: INTRADC and events, and an inter block's where its pattern bit is set
+  pub of_intra_block : (coded : Bool) (text : List Bool) (kind : FaultKind) (place : ℕ) → HasFault (intra_block coded) text kind place → HasFault (intra coded) text kind place
+  pub of_inter_block : (text : List Bool) (kind : FaultKind) (place : ℕ) → HasFault inter_block text kind place → HasFault (inter true) text kind place
