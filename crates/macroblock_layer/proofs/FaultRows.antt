@@ -1,5 +1,5 @@
 -- The rows of the table of faults.
-use Rattle.std.proofs.Common.{◌≡◌, ℕ, ◌+◌, Bool, true, false, refl, sym, arith, inl, inr, List, [], ◌∷◌, ◌++◌, length, Some, None}
+use Rattle.std.proofs.Common.{◌≡◌, ℕ, ◌+◌, Bool, true, false, refl, sym, subst, arith, inl, inr, List, [], ◌∷◌, ◌++◌, length, Some, None}
 use Rattle.std.specs.Prelude.{ℤ}
 use Rattle.std.proofs.lemmas.List.{append-nil}
 use Rattle.h263_types.specs.declared.Kind.{Kind}
@@ -9,7 +9,7 @@ use Rattle.h263_types.specs.declared.vector.Reach.{Reach}
 use Rattle.h263_bits.specs.declared.fault.FaultKind.{FaultKind}
 use Rattle.h263_bits.specs.declared.fault.FaultKind.TheVariants as faults
 use Rattle.h263_bits.specs.Bits.{is_set, spelled}
-use Rattle.h263_bits.specs.Syntax.{IsIn, IsProductive, Spells, Turn, again, any, done}
+use Rattle.h263_bits.specs.Syntax.{IsIn, IsProductive, Spells, Turn, again, any, done, either}
 use Rattle.h263_bits.specs.Elements.{HasFault}
 use Rattle.h263_bits.proofs.SyntaxLaws.{first_fault_is, fault_in_part, fault_behind_part, fault_of_whole_part, fault_behind_field, fault_in_turn, fault_behind_turn, spells_code, spells_field, spells_part, spells_done}
 use Rattle.code_tables.specs.declared.macroblock.MbClass.{MbClass}
@@ -129,14 +129,14 @@ coded_intra_row : TableLaws → (quant : ℕ) (reach : Reach) (predictor : Vecto
 unfolding coded_mb
 coded_intra_row tables quant reach predictor class cbpc pattern q a b text kind place is p s h =
     fault_behind_part (cbpy (is_intra class)) any _ pattern a (b ++ text) kind (length b + place) (tables.productive.cbpy (is_intra class)) p refl
-    (fault_behind_part (quantiser class quant) any _ q b text kind place (quantiser_productive tables class quant) s refl (rw is h))
+    (fault_behind_part (quantiser class quant) any _ q b text kind place (quantiser_productive tables class quant) s refl (subst (λ (t : Bool). HasFault (either t (intra_mb q pattern cbpc) (inter_mb reach predictor q pattern cbpc)) text kind place) (sym is) h))
 
 coded_inter_row : TableLaws → (quant : ℕ) (reach : Reach) (predictor : Vector) (class : MbClass) (cbpc pattern q : ℕ) (a b text : List Bool) (kind : FaultKind) (place : ℕ) → is_intra class ≡ false → Spells (cbpy (is_intra class)) pattern a → Spells (quantiser class quant) q b
     → HasFault (inter_mb reach predictor q pattern cbpc) text kind place → HasFault (coded_mb quant reach predictor class cbpc) (a ++ (b ++ text)) kind (length a + (length b + place))
 unfolding coded_mb
 coded_inter_row tables quant reach predictor class cbpc pattern q a b text kind place is p s h =
     fault_behind_part (cbpy (is_intra class)) any _ pattern a (b ++ text) kind (length b + place) (tables.productive.cbpy (is_intra class)) p refl
-    (fault_behind_part (quantiser class quant) any _ q b text kind place (quantiser_productive tables class quant) s refl (rw is h))
+    (fault_behind_part (quantiser class quant) any _ q b text kind place (quantiser_productive tables class quant) s refl (subst (λ (t : Bool). HasFault (either t (intra_mb q pattern cbpc) (inter_mb reach predictor q pattern cbpc)) text kind place) (sym is) h))
 
 coded_faults : TableLaws → (quant : ℕ) (reach : Reach) (predictor : Vector) (class : MbClass) (cbpc : ℕ) → CodedFaults quant reach predictor class cbpc
 coded_faults tables quant reach predictor class cbpc = record {

@@ -13,12 +13,12 @@ use Rattle.h263_types.specs.Clocks.{period_of}
 use Rattle.h263_bits.specs.declared.fault.FaultKind.{FaultKind}
 use Rattle.h263_bits.specs.declared.fault.FaultKind.TheVariants as faults
 use Rattle.h263_bits.specs.Bits.{spelled, fields}
-use Rattle.h263_bits.specs.Syntax.{Spells, IsProductive, any, only, done, field, part, element, either, again, repeat}
+use Rattle.h263_bits.specs.Syntax.{Syntax, Spells, IsProductive, any, only, done, field, part, element, either, again, repeat}
 use Rattle.h263_bits.specs.Elements.{HasFault}
 use Rattle.h263_bits.proofs.SyntaxLaws.{first_fault_is, only_other, fault_here, fault_behind_field, fault_in_part, fault_of_part, fault_behind_part, fault_in_element, fault_of_element, fault_behind_element, fault_in_turn, fault_behind_turn, spells_field, spells_done, spells_part}
 use Rattle.back_messages.specs.declared.message.Message.{Message}
 use Rattle.back_messages.specs.declared.message.MessageFault.{MessageFault}
-use Rattle.back_messages.specs.Text.{message_fault, is_long, has_markers, is_message, is_marked, flags, message}
+use Rattle.back_messages.specs.Text.{message_fault, message_value, is_long, has_markers, is_message, is_marked, flags, message}
 use Rattle.back_messages.specs.Laws.{MessageLaws}
 use Rattle.picture_header.specs.Text.{format_code, is_format, is_kind, is_divisor, is_channel, is_low, is_quant, opening, plus_type, multipoint, extended, channel, reference, has_room, bci, next_message, after_message, back_turn, back, extra, header}
 use Rattle.picture_header.specs.Faults.{OpeningFaults, PlusTypeFaults, MiddleFaults, MessageFaults, PartFaults, HeaderFaults}
@@ -256,7 +256,7 @@ room : (used : ℕ) → used < 4 → has_room used 1 ≡ None
 room used lt = rw (lt-ltb used 4 lt) refl
 
 many_row : (clock : Clock) (used : ℕ) → 4 ≤ used → HasFault (next_message clock used) (fields ((1, 1) ∷ [])) faults.ManyMessages 0
-unfolding next_message
+unfolding next_message spelled
 many_row clock used le = fault_of_element bci (has_room used) _ 1 (fields ((1, 1) ∷ [])) [] faults.ManyMessages bci_productive bci_more (no_room used le)
 
 bad_message : (clock : Clock) (n : ℕ) (fault : MessageFault) → message_fault clock (is_long n) n ≡ Some fault → is_message clock n ≡ Some faults.Messages
@@ -271,7 +271,7 @@ in_message clock n fault lt e = fault_here 24 (is_message clock) _ n [] faults.M
 
 -- the message behind a BCI of 1
 behind_bci : (clock : Clock) (used : ℕ) (text : List Bool) (kind : FaultKind) (place : ℕ) → used < 4 → HasFault (message clock) text kind place → HasFault (next_message clock used) (fields ((1, 1) ∷ []) ++ text) kind (1 + place)
-unfolding next_message
+unfolding next_message spelled
 behind_bci clock used text kind place lt h =
     fault_behind_element bci (has_room used) _ 1 (fields ((1, 1) ∷ [])) text kind place bci_productive bci_more (room used lt)
     (fault_in_part (message clock) any (λ m. done (Some m)) text kind place h)
@@ -287,12 +287,20 @@ in_flags : (marks : ℕ) → marks < 2 ^ 16 → has_markers marks ≡ false → 
 unfolding flags
 in_flags marks lt e = fault_here 16 is_marked _ marks [] faults.Messages lt (unmarked marks e)
 
+-- the flags behind the first 24 bits of a long message
+abbrev behind_24 : ℕ → Bool → Syntax Message
+behind_24 n long = either long (part flags any λ marks. done (message_value n (Some marks))) (done (message_value n None))
+
+flags_part : (n marks : ℕ) → marks < 2 ^ 16 → has_markers marks ≡ false → HasFault (behind_24 n true) (fields ((16, marks) ∷ [])) faults.Messages 0
+flags_part n marks small no = fault_in_part flags any (λ marks. done (message_value n (Some marks))) (fields ((16, marks) ∷ [])) faults.Messages 0 (in_flags marks small no)
+
 long_message_row : (clock : Clock) (n marks : ℕ) → n < 2 ^ 24 → marks < 2 ^ 16 → message_fault clock (is_long n) n ≡ None → is_long n ≡ true → has_markers marks ≡ false
     → HasFault (message clock) (fields ((24, n) ∷ (16, marks) ∷ [])) faults.Messages 24
 unfolding message
 long_message_row clock n marks lt small e long no =
-    fault_behind_field 24 (is_message clock) _ n (fields ((16, marks) ∷ [])) faults.Messages 0 lt (good_message clock n e)
-    (rw long (fault_in_part flags any _ (fields ((16, marks) ∷ [])) faults.Messages 0 (in_flags marks small no)))
+    let inner : HasFault (behind_24 n (is_long n)) (fields ((16, marks) ∷ [])) faults.Messages 0 =
+    subst (λ (t : Bool). HasFault (behind_24 n t) (fields ((16, marks) ∷ [])) faults.Messages 0) (sym long) (flags_part n marks small no) in
+    fault_behind_field 24 (is_message clock) (λ m. behind_24 m (is_long m)) n (fields ((16, marks) ∷ [])) faults.Messages 0 lt (good_message clock n e) inner
 
 flags_row : (clock : Clock) (used n marks : ℕ) → used < 4 → n < 2 ^ 24 → marks < 2 ^ 16 → message_fault clock (is_long n) n ≡ None → is_long n ≡ true → has_markers marks ≡ false
     → HasFault (next_message clock used) (fields ((1, 1) ∷ (24, n) ∷ (16, marks) ∷ [])) faults.Messages 25

@@ -12,7 +12,7 @@ use Rattle.h263_bits.specs.Bits.{spelled, fields}
 use Rattle.h263_bits.specs.Reading.{Bits, err, ◌>>=◌}
 use Rattle.h263_bits.specs.Syntax.{Spells, reading, any, only, done, field, part}
 use Rattle.h263_bits.specs.Elements.{HasFault}
-use Rattle.h263_bits.proofs.SyntaxLaws.{stands, complete, first_fault_is, only_other, fault_here, fault_behind_field, fault_in_part, fault_behind_part, spells_field, spells_done}
+use Rattle.h263_bits.proofs.SyntaxLaws.{stands, complete, first_fault_is, only_other, fault_here, fault_behind_field, fault_in_part, fault_behind_part, fault_of_text}
 use Rattle.picture_header.specs.declared.header.Header.{Header}
 use Rattle.picture_header.specs.Text.{is_quant}
 use Rattle.macroblock_layer.specs.Laws.{MbLaws}
@@ -140,7 +140,9 @@ behind_tri : (trp : Option ℕ) (gfid : ℕ) (text : List Bool) (kind : FaultKin
     → HasFault (tail trp) (fields ((2, gfid) ∷ []) ++ (fields ((1, 0) ∷ []) ++ text)) kind (2 + (1 + place))
 unfolding tail
 behind_tri trp gfid text kind place lt h =
-    rw (one_field 2 gfid (fields ((1, 0) ∷ []) ++ text), one_field 1 0 text)
+    let same : spelled 2 gfid ++ (spelled 1 0 ++ text) ≡ fields ((2, gfid) ∷ []) ++ (fields ((1, 0) ∷ []) ++ text) =
+    sym (one_field 2 gfid (fields ((1, 0) ∷ []) ++ text) ∙ ap (λ (t : List Bool). spelled 2 gfid ++ t) (one_field 1 0 text)) in
+    fault_of_text (tail trp) (spelled 2 gfid ++ (spelled 1 0 ++ text)) (fields ((2, gfid) ∷ []) ++ (fields ((1, 0) ∷ []) ++ text)) kind (2 + (1 + place)) same
     (fault_behind_field 2 any _ gfid (spelled 1 0 ++ text) kind (1 + place) lt refl (fault_behind_field 1 (only 0 faults.SliceReference) _ 0 text kind place (omega arith) refl h))
 
 tail_reference : (trp : Option ℕ) (gfid : ℕ) (text : List Bool) (kind : FaultKind) (place : ℕ) → gfid < 4 → HasFault (reference trp) text kind place

@@ -29,7 +29,7 @@ agreed_within : (word line : List ℕ) → agreement word line ≤ length line
 agreed_within word [] = omega arith
 agreed_within [] (b ∷ line) = at (is_gap b)
   where
-    at : (t : Bool) → cond t 1 0 ≤ suc (length line)
+    at : (t : Bool) → cond t 1 0 ≤ length (b ∷ line)
     at true = omega arith
     at false = omega arith
 agreed_within (a ∷ word) (b ∷ line) =
