@@ -10,7 +10,7 @@ use Rattle.h263_bits.specs.declared.fault.FaultKind.{FaultKind}
 use Rattle.h263_bits.specs.declared.fault.FaultKind.TheVariants as faults
 use Rattle.h263_bits.specs.Bits.{spelled, fields}
 use Rattle.h263_bits.specs.Reading.{Bits, err, ◌>>=◌}
-use Rattle.h263_bits.specs.Syntax.{Spells, reading, any, only, done, field, part}
+use Rattle.h263_bits.specs.Syntax.{Syntax, Spells, reading, any, only, done, field, part}
 use Rattle.h263_bits.specs.Elements.{HasFault}
 use Rattle.h263_bits.proofs.SyntaxLaws.{stands, complete, first_fault_is, only_other, fault_here, fault_behind_field, fault_in_part, fault_behind_part, fault_of_text}
 use Rattle.picture_header.specs.declared.header.Header.{Header}
@@ -136,7 +136,11 @@ refers_other trp n lt other =
 one_field : (n v : ℕ) (text : List Bool) → fields ((n, v) ∷ []) ++ text ≡ spelled n v ++ text
 one_field n v text = ap (λ (t : List Bool). t ++ text) (append-nil (spelled n v))
 
-behind_tri : (trp : Option ℕ) (gfid : ℕ) (text : List Bool) (kind : FaultKind) (place : ℕ) → gfid < 4 → HasFault (part (reference trp) any λ again. field 2 (only 1 faults.Bci) λ bci. done tt) text kind place
+-- what stands behind GFID and TRI
+abbrev behind_gfid : Option ℕ → Syntax (Unit {0})
+behind_gfid trp = part (reference trp) any λ again. field 2 (only 1 faults.Bci) λ bci. done tt
+
+behind_tri : (trp : Option ℕ) (gfid : ℕ) (text : List Bool) (kind : FaultKind) (place : ℕ) → gfid < 4 → HasFault (behind_gfid trp) text kind place
     → HasFault (tail trp) (fields ((2, gfid) ∷ []) ++ (fields ((1, 0) ∷ []) ++ text)) kind (2 + (1 + place))
 unfolding tail
 behind_tri trp gfid text kind place lt h =
