@@ -1,18 +1,20 @@
 -- The rows of the table of faults.
-use Rattle.std.proofs.Common.{◌≡◌, ℕ, zero, suc, ◌+◌, ◌-◌, ◌<◌, ◌≤◌, ◌^◌, Bool, true, false, cond, refl, sym, ap, ◌∙◌, append_assoc, add_assoc, add-zero, arith, List, [], ◌∷◌, ◌++◌, length, Option, Some, None, Ok, Err}
+use Rattle.std.proofs.Common.{◌≡◌, ℕ, zero, suc, ◌+◌, ◌-◌, ◌<◌, ◌≤◌, ◌^◌, Bool, true, false, cond, refl, sym, ap, subst, ◌∙◌, append_assoc, add_assoc, add-zero, arith, List, [], ◌∷◌, ◌++◌, length, Option, Some, None, Result, Ok, Err, inl, inr}
 use Rattle.std.proofs.lemmas.Bool.{lt-ltb, le-ltb, ne_eqb}
 use Rattle.std.proofs.lemmas.List.{append-nil, length-append}
 use Rattle.h263_types.specs.declared.format.Format.{Format}
 use Rattle.h263_types.specs.declared.format.Format.TheVariants.{SubQcif, Qcif, Cif}
 use Rattle.h263_types.specs.declared.blocks.Mb.{Mb}
 use Rattle.h263_types.specs.Sizes.{mbs_of}
+use Rattle.std.specs.Prelude.{◌⊎◌}
+use Rattle.h263_bits.specs.declared.fault.Fault.{Fault}
 use Rattle.h263_bits.specs.declared.fault.FaultKind.{FaultKind}
 use Rattle.h263_bits.specs.declared.fault.FaultKind.TheVariants as faults
 use Rattle.h263_bits.specs.Bits.{spelled, fields}
 use Rattle.h263_bits.specs.Reading.{Bits, err, ◌>>=◌}
 use Rattle.h263_bits.specs.Syntax.{Syntax, Spells, reading, any, only, done, field, part}
 use Rattle.h263_bits.specs.Elements.{HasFault}
-use Rattle.h263_bits.proofs.SyntaxLaws.{stands, complete, first_fault_is, only_other, fault_here, fault_behind_field, fault_in_part, fault_behind_part, fault_of_text}
+use Rattle.h263_bits.proofs.SyntaxLaws.{stands, err_is, err_not_ok, bind_err, sound, complete, fault_found, first_fault_is, only_other, fault_here, fault_behind_field, fault_in_part, fault_behind_part, fault_of_text}
 use Rattle.picture_header.specs.declared.header.Header.{Header}
 use Rattle.picture_header.specs.Text.{is_quant}
 use Rattle.macroblock_layer.specs.Laws.{MbLaws}
@@ -20,7 +22,7 @@ use Rattle.slice_layer.specs.Around.{Around, around, quant_after, next_mb}
 use Rattle.slice_layer.specs.Head.{address_bits, is_later, reference, first_head, place, tail, later_head, head}
 use Rattle.slice_layer.specs.Text.{is_padding, AreTexts, stops, mbs_at, numbered, body_at, slice_at}
 use Rattle.slice_layer.specs.Written.{quant_behind}
-use Rattle.slice_layer.specs.Faults.{FirstHeadFaults, PlaceFaults, TailFaults, LaterHeadFaults, HasSliceFault, BodyFaults, SliceFaults}
+use Rattle.slice_layer.specs.Faults.{FirstHeadFaults, PlaceFaults, TailFaults, LaterHeadFaults, HasSliceFault, BodyFaults, StopsAt, IsBodyFault, IsSliceFault, SliceFaults}
 use Rattle.slice_layer.proofs.Heads.{reference_productive, place_productive, tail_productive, head_productive}
 use Rattle.slice_layer.proofs.Marked.{mb_marked}
 
@@ -194,6 +196,16 @@ mbs_behind laws a (m ∷ new) room quant at before text rest h =
     let rooms : length (m ∷ new) + room ≡ suc (length new + room) = omega arith in
     rw (rooms, e, marked, one, more, all, len, add_assoc at (length front) (length tail)) refl
 
+-- no macroblock has no text
+no_texts : (a : Around) (quant : ℕ) (mbs : List Mb) (texts : List Bool) → mbs ≡ [] → AreTexts a quant [] mbs texts → texts ≡ []
+unfolding AreTexts
+no_texts a quant [] texts e h = h
+no_texts a quant (m ∷ mbs) texts e h = absurd cc
+
+in_head : (h : Header) (begins : Bool) (b : Bits) (d : Fault) → reading (head h begins) b ≡ Err d → slice_at h begins b ≡ Err d
+unfolding slice_at
+in_head h begins b d e = rw e refl
+
 stops_empty : (a : Around) (room quant at : ℕ) (padding : List Bool) → is_padding padding ≡ true → mbs_at a room quant [] (record { at = at; bits = padding }) ≡ Err (record { kind = faults.Empty; at = at })
 unfolding mbs_at
 stops_empty a zero quant at padding z = rw z refl
@@ -253,8 +265,125 @@ mb_row laws h begins first quant mbs front texts text kind place spelt each lt e
     ∙ behind_head h begins first quant at front (texts ++ (text ++ rest)) kind (at + length front + length texts + place) spelt found
     ∙ ap (λ (k : ℕ). err (stands kind k)) there
 
+-- ---- the first fault of a slice, said of its elements
+
+stop_again : (a : Around) (quant count room : ℕ) (all : List Mb) (b : Bits) (d : Fault) → StopsAt a quant count room all b d → StopsAt a quant (suc count) (suc room) all b d
+stop_again a quant count room all b d (inl h) = inl h
+stop_again a quant count room all b d (inr (inl h)) = inr (inl (ap (λ (n : ℕ). suc n) h.0, h.1, h.2))
+stop_again a quant count room all b d (inr (inr h)) = inr (inr (omega (arith, h.0), h.1, h.2))
+
+-- where the reader stops at once
+stops_here : (a : Around) (quant room : ℕ) (before : List Mb) (b : Bits) (d : Fault) → StopsAt a quant 0 room before b d → IsBodyFault a quant room before b d
+unfolding AreTexts
+stops_here a quant room before b d h = record {
+  mbs = [];
+  texts = [];
+  left = b.bits;
+  parts = refl;
+  each = refl;
+  stops = subst (λ (l : List Mb). StopsAt a quant 0 room l (record { at = b.at + 0; bits = b.bits }) d) (sym (append-nil before))
+      (subst (λ (k : ℕ). StopsAt a quant 0 room before (record { at = k; bits = b.bits }) d) (sym (add-zero b.at)) h);
+}
+
+empty_is : (before : List Mb) (b : Bits) (d : Fault) → stops before b ≡ Err d → (before ≡ []) × (d ≡ stands faults.Empty b.at)
+empty_is [] b d e = (refl, sym (err_is {A = List Mb} (stands faults.Empty b.at) d e))
+empty_is (m ∷ before) b d e = absurd (err_not_ok d (m ∷ before) (sym e))
+
+mbs_fault : MbLaws → (a : Around) (room quant : ℕ) (before : List Mb) (b : Bits) (d : Fault) → mbs_at a room quant before b ≡ Err d → IsBodyFault a quant room before b d
+unfolding mbs_at AreTexts
+mbs_fault laws a zero quant before b d e = at_end (is_padding b.bits) refl e
+  where
+    at_end : (t : Bool) → is_padding b.bits ≡ t → cond t (stops before b) (err (stands faults.Trailing b.at)) ≡ err d → IsBodyFault a quant zero before b d
+    at_end true z e = let f = empty_is before b d e in stops_here a quant zero before b d (inl (f.0, z, f.1))
+    at_end false z e = stops_here a quant zero before b d (inr (inl (refl, z, sym (err_is {A = List Mb} (stands faults.Trailing b.at) d e))))
+mbs_fault laws a (suc room) quant before b d e = at_end (is_padding b.bits) refl e (λ m c h. mbs_fault laws a room (quant_after quant m) (before ++ m ∷ []) c d h)
+  where
+    at_end : (t : Bool) → is_padding b.bits ≡ t → cond t (stops before b) (reading (next_mb a quant before) b >>= λ x. mbs_at a room (quant_after quant x.0) (before ++ x.0 ∷ []) x.1) ≡ err d
+        → ((m : Mb) (c : Bits) → mbs_at a room (quant_after quant m) (before ++ m ∷ []) c ≡ Err d → IsBodyFault a (quant_after quant m) room (before ++ m ∷ []) c d) → IsBodyFault a quant (suc room) before b d
+    at_end true z e more = let f = empty_is before b d e in stops_here a quant (suc room) before b d (inl (f.0, z, f.1))
+    at_end false z e more =
+        elim (bind_err (reading (next_mb a quant before) b) (λ x. mbs_at a room (quant_after quant x.0) (before ++ x.0 ∷ []) x.1) d e) [
+          | inl h ↦
+              let first = fault_found (next_mb a quant before) b d (laws.productive a.kind quant (a.reaches (a.first + length before)) (a.predictor before)) h in
+              stops_here a quant (suc room) before b d (inr (inr (omega arith, z, first)))
+          | inr h ↦
+              let m = h.0.0 in
+              let c = h.0.1 in
+              let t = sound (next_mb a quant before) b c m h.1 in
+              let r = more m c h.2 in
+              let all : (before ++ m ∷ []) ++ r.mbs ≡ before ++ (m ∷ r.mbs) = append_assoc before (m ∷ []) r.mbs in
+              let place : c.at + length r.texts ≡ b.at + length (t.0 ++ r.texts) = omega (arith, t.1.at, length-append t.0 r.texts) in
+              let q = quant_behind (quant_after quant m) r.mbs in
+              let on = stop_again a q (length r.mbs) room ((before ++ m ∷ []) ++ r.mbs) (record { at = c.at + length r.texts; bits = r.left }) d r.stops in
+              let moved = subst (λ (l : List Mb). StopsAt a q (suc (length r.mbs)) (suc room) l (record { at = c.at + length r.texts; bits = r.left }) d) all on in
+              record {
+                mbs = m ∷ r.mbs;
+                texts = t.0 ++ r.texts;
+                left = r.left;
+                parts = t.1.parts ∙ ap (λ (x : List Bool). t.0 ++ x) r.parts ∙ sym (append_assoc t.0 r.texts r.left);
+                each = (t.0, r.texts, refl, t.2, r.each);
+                stops = subst (λ (k : ℕ). StopsAt a q (suc (length r.mbs)) (suc room) (before ++ (m ∷ r.mbs)) (record { at = k; bits = r.left }) d) place moved;
+              }
+        ]
+
+-- and the other way round
+mbs_fault_again : MbLaws → (a : Around) (room quant : ℕ) (b : Bits) (d : Fault) → IsBodyFault a quant room [] b d → mbs_at a room quant [] b ≡ Err d
+mbs_fault_again laws a room quant b d is = whole ∙ at_stop is.stops
+  where
+    whole : mbs_at a room quant [] b ≡ mbs_at a room quant [] (record { at = b.at; bits = is.texts ++ is.left })
+    whole = ap (λ (t : List Bool). mbs_at a room quant [] (record { at = b.at; bits = t })) is.parts
+
+    behind : (more : ℕ) → length is.mbs + more ≡ room → mbs_at a room quant [] (record { at = b.at; bits = is.texts ++ is.left }) ≡ mbs_at a more (quant_behind quant is.mbs) is.mbs (record { at = b.at + length is.texts; bits = is.left })
+    behind more e =
+        ap (λ (n : ℕ). mbs_at a n quant [] (record { at = b.at; bits = is.texts ++ is.left })) (sym e) ∙ mbs_behind laws a is.mbs more quant b.at [] is.texts is.left is.each
+
+    none : is.mbs ≡ [] → is.texts ≡ []
+    none e = no_texts a quant is.mbs is.texts e is.each
+
+    at_stop : StopsAt a (quant_behind quant is.mbs) (length is.mbs) room is.mbs (record { at = b.at + length is.texts; bits = is.left }) d → mbs_at a room quant [] (record { at = b.at; bits = is.texts ++ is.left }) ≡ Err d
+    at_stop (inl h) =
+        let texts = none h.0 in
+        let bits : is.texts ++ is.left ≡ is.left = ap (λ (t : List Bool). t ++ is.left) texts in
+        let place : b.at ≡ b.at + length is.texts = sym (add-zero b.at) ∙ ap (λ (t : List Bool). b.at + length t) (sym texts) in
+        ap (λ (t : List Bool). mbs_at a room quant [] (record { at = b.at; bits = t })) bits ∙ stops_empty a room quant b.at is.left h.1
+        ∙ ap (λ (k : ℕ). err (stands faults.Empty k)) place ∙ ap (λ (f : Fault). err f) (sym h.2)
+    at_stop (inr (inl h)) = behind 0 (omega (arith, h.0)) ∙ stops_full a (quant_behind quant is.mbs) (b.at + length is.texts) is.mbs is.left h.1 ∙ ap (λ (f : Fault). err f) (sym h.2)
+    at_stop (inr (inr h)) =
+        let q = quant_behind quant is.mbs in
+        let c : Bits = record { at = b.at + length is.texts; bits = is.left } in
+        let read = (first_fault_is (next_mb a q is.mbs) c d (laws.productive a.kind q (a.reaches (a.first + length is.mbs)) (a.predictor is.mbs))).1 h.2 in
+        let left = room - length is.mbs - 1 in
+        behind (suc left) (omega (arith, h.0)) ∙ stops_in_mb a left q (b.at + length is.texts) d.at is.mbs is.left d.kind h.1 read
+
+numbered_err : (first : ℕ) (r : Result (List Mb) Fault) (d : Fault) → numbered first r ≡ Err d → r ≡ Err d
+numbered_err first (Ok mbs) d e = absurd (err_not_ok d (first, mbs) (sym e))
+numbered_err first (Err fault) d e = ap (λ (f : Fault). err {A = List Mb} f) (err_is {A = ℕ × List Mb} fault d e)
+
+slice_fault_found : MbLaws → (h : Header) (begins : Bool) (b : Bits) (d : Fault) → slice_at h begins b ≡ Err d → IsSliceFault h begins b d
+unfolding slice_at
+slice_fault_found laws h begins b d e =
+    elim (bind_err (reading (head h begins) b) (λ x. body_at h x.0.0 x.0.1 x.1) d e) [
+      | inl f ↦ inl (fault_found (head h begins) b d (head_productive h begins) f)
+      | inr f ↦
+          let first = f.0.0.0 in
+          let quant = f.0.0.1 in
+          let c = f.0.1 in
+          let t = sound (head h begins) b c (first, quant) f.1 in
+          let body = mbs_fault laws (around h first) (mbs_of h.format - first) quant [] c d (numbered_err first (mbs_at (around h first) (mbs_of h.format - first) quant [] c) d f.2) in
+          inr (first, quant, t.0, c.bits, t.2, t.1.parts, subst (λ (k : ℕ). IsBodyFault (around h first) quant (mbs_of h.format - first) [] (record { at = k; bits = c.bits }) d) t.1.at body)
+    ]
+
+slice_fault_again : MbLaws → (h : Header) (begins : Bool) (b : Bits) (d : Fault) → IsSliceFault h begins b d → slice_at h begins b ≡ Err d
+slice_fault_again laws h begins b d (inl f) = in_head h begins b d ((first_fault_is (head h begins) b d (head_productive h begins)).1 f)
+slice_fault_again laws h begins b d (inr f) =
+    let first = f.0 in
+    let quant = f.1 in
+    ap (λ (t : List Bool). slice_at h begins (record { at = b.at; bits = t })) f.5
+    ∙ behind_head h begins first quant b.at f.2 f.3 d.kind d.at f.4 (mbs_fault_again laws (around h first) (mbs_of h.format - first) quant (record { at = b.at + length f.2; bits = f.3 }) d f.6)
+
 pub slice_faults : MbLaws → SliceFaults
 slice_faults laws = record {
+  whole = λ h begins b fault. (slice_fault_found laws h begins b fault, slice_fault_again laws h begins b fault);
   head = λ h begins b fault. first_fault_is (head h begins) b fault (head_productive h begins);
   first_head = λ h. record { marker = first_marker h; address = first_address h; end = first_end h };
   places = λ f. record { start = place_start f; marker = place_marker f; first = place_first f; past = place_past f; quant = place_quant f; end = place_end f };

@@ -1,5 +1,5 @@
 -- THE FAULTS OF A SLICE (H.263, Annex K), field by field in its header, and before and in each macroblock.
-use Rattle.std.specs.Prelude.{◌≡◌, ◌↔◌, ℕ, ◌+◌, ◌-◌, ◌<◌, ◌≤◌, ◌^◌, List, [], ◌∷◌, ◌++◌, length, Bool, true, false, Option, Some, None, Err}
+use Rattle.std.specs.Prelude.{◌≡◌, ◌↔◌, ◌⊎◌, ℕ, ◌+◌, ◌-◌, ◌<◌, ◌≤◌, ◌^◌, List, [], ◌∷◌, ◌++◌, length, Bool, true, false, Option, Some, None, Err}
 use Rattle.h263_types.specs.declared.format.Format.{Format}
 use Rattle.h263_types.specs.declared.blocks.Mb.{Mb}
 use Rattle.h263_types.specs.Sizes.{mbs_of}
@@ -11,7 +11,7 @@ use Rattle.h263_bits.specs.Reading.{Bits}
 use Rattle.h263_bits.specs.Syntax.{Spells, reading}
 use Rattle.h263_bits.specs.Elements.{HasFault, IsFirstFault}
 use Rattle.picture_header.specs.declared.header.Header.{Header}
-use Rattle.slice_layer.specs.Around.{around, next_mb}
+use Rattle.slice_layer.specs.Around.{Around, around, next_mb}
 use Rattle.slice_layer.specs.Head.{address_bits, reference, first_head, place, tail, later_head, head}
 use Rattle.slice_layer.specs.Text.{is_padding, AreTexts, slice_at}
 use Rattle.slice_layer.specs.Written.{quant_behind}
@@ -71,7 +71,35 @@ pub record BodyFaults (h : Header) (begins : Bool) : Type 0 where
       → length mbs < mbs_of h.format - first → HasFault (next_mb (around h first) (quant_behind quant mbs) mbs) text kind place → ((rest : List Bool) → is_padding (text ++ rest) ≡ false)
       → HasSliceFault h begins (front ++ (texts ++ text)) kind (length front + (length texts + place))
 
+-- ---- the first fault of a slice, said of its elements
+
+-- Behind so many macroblocks of the room, which with earlier ones are these, the slice stops with a fault: padding where
+-- there is none, more than padding where there is no room, or the first fault of the next macroblock.
+abbrev pub StopsAt : Around → ℕ → ℕ → ℕ → List Mb → Bits → Fault → Type 0
+StopsAt a quant count room all b fault =
+    ((all ≡ []) × (is_padding b.bits ≡ true) × (fault ≡ record { kind = faults.Empty; at = b.at }))
+    ⊎ (((count ≡ room) × (is_padding b.bits ≡ false) × (fault ≡ record { kind = faults.Trailing; at = b.at }))
+    ⊎ ((count < room) × (is_padding b.bits ≡ false) × IsFirstFault (next_mb a quant all) b fault))
+
+-- the bits are macroblocks without a fault, behind which the slice stops with this one
+pub record IsBodyFault (a : Around) (quant room : ℕ) (before : List Mb) (b : Bits) (fault : Fault) : Type 0 where
+  pub mbs : List Mb
+  pub texts : List Bool
+  pub left : List Bool
+  pub parts : b.bits ≡ texts ++ left
+  pub each : AreTexts a quant before mbs texts
+  pub stops : StopsAt a (quant_behind quant mbs) (length mbs) room (before ++ mbs) (record { at = b.at + length texts; bits = left }) fault
+
+-- a fault in the header, or behind it
+abbrev pub IsSliceFault : Header → Bool → Bits → Fault → Type 0
+IsSliceFault h begins b fault =
+    IsFirstFault (head h begins) b fault
+    ⊎ ((first quant : ℕ) × (front rest : List Bool) × Spells (head h begins) (first, quant) front × (b.bits ≡ front ++ rest)
+    × IsBodyFault (around h first) quant (mbs_of h.format - first) [] (record { at = b.at + length front; bits = rest }) fault)
+
 pub record SliceFaults : Type 0 where
+  -- a reader answers a fault exactly where it is the first one of the slice's elements
+  pub whole : (h : Header) (begins : Bool) (b : Bits) (fault : Fault) → (slice_at h begins b ≡ Err fault) ↔ IsSliceFault h begins b fault
   -- in the header the first fault is the one of the field behind the longest list of fields without a fault
   pub head : (h : Header) (begins : Bool) (b : Bits) (fault : Fault) → (reading (head h begins) b ≡ Err fault) ↔ IsFirstFault (head h begins) b fault
   pub first_head : (h : Header) → FirstHeadFaults h
