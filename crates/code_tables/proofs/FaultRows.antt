@@ -80,7 +80,7 @@ sign_cut w e h =
     λ at. ap (λ (t : List Bool). reading event (record { at = at; bits = t })) (sym (append-nil w))
     ∙ ends_in_element event_parts any done (w ++ []) Ended (length w + 0) (ends_behind_word event_table after_word w (Some e) [] Ended 0 h (fault_of_cut 1 any _ [] (omega arith))) at
 
-in_behind : {X : Type 0} (x : X) (xs ys : List X) → IsIn x ys → IsIn x (xs ++ ys)
+pub in_behind : {X : Type 0} (x : X) (xs ys : List X) → IsIn x ys → IsIn x (xs ++ ys)
 in_behind x [] ys h = h
 in_behind x (v ∷ xs) ys h = inr (in_behind x xs ys h)
 
