@@ -5,7 +5,8 @@ ghost use Rattle.code_tables.specs.Words.{text_at, code_at, word_of, place_in};
 ghost use Rattle.code_tables.specs.Starts.{starts_of};
 ghost use Rattle.h263_bits.specs.Reading.{Gives, Takes};
 ghost use Rattle.h263_bits.specs.Syntax.{reading, word_at, Spells};
-ghost use Rattle.h263_bits.specs.Elements.{IsWordOf, IsWordFault, IsFirstFault};
+ghost use Rattle.h263_bits.specs.Elements.{IsWordOf, IsWordFault};
+ghost use Rattle.code_tables.specs.EventWords.{IsEventFault};
 ghost use Rattle.code_tables.specs.Tables.{cbpy, cbpy_texts, cbpy_text, magnitude_texts, size_of, sign_text, mvd_text, cbpy_words, magnitude_words, tcoef_words, mvd, mvd_words, Coefficient as Event, signed, level_of, mvd_parts, event, event_parts, byte_of, escape_fields, event_text, IsEvent};
 ghost use Rattle.code_tables.specs.Events.{event_of_code, coefficient_of};
 
@@ -174,8 +175,9 @@ pub fn read_event(reader: &mut BitReader<'_>) -> Result<Coefficient, Fault>
     // What is spelled is read, whatever follows.
     ensures only { (e : Event) (text rest : List Bool) → Spells event e text → reader.old.bits ≡ text ++ rest
         → IsOkAnd result (λ found. (coefficient_of found ≡ e) × (reader.new.bits ≡ rest)) }
-    // Otherwise it is the first fault, which stands at the first bit.
-    ensures fault { IfErr result (λ d. IsFirstFault event reader.old d) }
+    // Otherwise the word with its sign, or the escape, is cut, or LEVEL is 0 or -128, or there is none: the fault
+    // stands at the first bit.
+    ensures fault { IfErr result (λ d. (d.at ≡ reader.old.at) × IsEventFault reader.old.bits d.kind) }
     ensures exact { Gives coefficient_of result reader.new (reading event reader.old) }
 {
     event_at(reader)
