@@ -6,3 +6,4 @@ pub mod Ranges
 pub mod Spelt
 pub mod Lengths
 pub mod Marks
+pub mod FaultRows

@@ -12,7 +12,7 @@ placed_productive : TableLaws → (place : ℕ) → IsProductive (placed place)
 unfolding placed IsProductive
 placed_productive tables place = (tables.productive.event, λ e. tt)
 
-turn_productive : TableLaws → (s : Events) → IsProductive (event_turn s)
+pub turn_productive : TableLaws → (s : Events) → IsProductive (event_turn s)
 unfolding event_turn IsProductive
 turn_productive tables s = (placed_productive tables s.place, λ p. tt)
 
@@ -20,7 +20,7 @@ events_productive : TableLaws → (place : ℕ) (levels : List ℤ) → IsProduc
 unfolding events IsProductive
 events_productive tables place levels = (turn_some, λ s. turn_productive tables s)
 
-dc_productive : IsProductive intra_dc
+pub dc_productive : IsProductive intra_dc
 unfolding intra_dc IsProductive
 dc_productive = λ dc. tt
 

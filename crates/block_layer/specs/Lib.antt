@@ -1,4 +1,5 @@
 pub mod Text
 pub mod Placed
 pub mod Step
+pub mod Faults
 pub mod Laws

@@ -1,6 +1,7 @@
 //! Laws about the texts of blocks.
 ghost use Rattle.std.specs.Prelude.{◌≡◌, ℤ, ◌++◌, List, Bool};
 ghost use Rattle.block_layer.specs.Text.{IsIntraText, IsInterText};
+ghost use Rattle.block_layer.specs.Faults.{BlockFaults};
 ghost use Rattle.block_layer.specs.Laws.{AreSpelt, AreShort, BlockLaws};
 
 /// Of two texts of which one begins the other both are the same, and spell the same levels.
@@ -16,6 +17,13 @@ pub fn one_reading()
 /// What is written of a block is a text of it.
 pub fn written_is_text()
     ensures { AreSpelt }
+{
+    code_tables::laws::in_a_syntax();
+}
+
+/// The first faults of a block, element by element: INTRADC, and each event behind those in front of it.
+pub fn first_faults()
+    ensures { BlockFaults }
 {
     code_tables::laws::in_a_syntax();
 }

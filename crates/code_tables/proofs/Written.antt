@@ -55,7 +55,7 @@ dquant_written (negsuc n) is = step_written_negsuc n is
 
 -- ---- words that stand for their places
 
-in_numbers : (texts : List (List Bool)) (k n : ℕ) → n < length texts → IsIn (text_at texts n, k + n) (from_number k texts)
+pub in_numbers : (texts : List (List Bool)) (k n : ℕ) → n < length texts → IsIn (text_at texts n, k + n) (from_number k texts)
 in_numbers [] k n lt = absurd (omega arith)
 in_numbers (t ∷ ts) k zero lt = let e : k ≡ k + 0 = omega arith in inl (ap (λ (i : ℕ). (t, i)) e)
 in_numbers (t ∷ ts) k (suc n) lt =

@@ -1,5 +1,5 @@
 -- CBPY, MVD and TCOEF (H.263 5.3.5, 5.3.7 and 5.4.2), as the standard writes them.
-use Rattle.std.specs.Prelude.{length, count_by, is_some, ◌&&◌, ℕ, suc, ◌<◌, slice_get, option_and_then, ◌+◌, ◌-◌, List, [], ◌∷◌, ◌++◌, Bool, true, false, refl, if◌then◌else◌, Option, Some, None, ◌==◌, nat_lt, ℤ, pos, negsuc, neg_ℤ}
+use Rattle.std.specs.Prelude.{length, drop, count_by, is_some, ◌&&◌, ℕ, suc, ◌<◌, slice_get, option_and_then, ◌+◌, ◌-◌, List, [], ◌∷◌, ◌++◌, Bool, true, false, refl, if◌then◌else◌, Option, Some, None, ◌==◌, nat_lt, ℤ, pos, negsuc, neg_ℤ}
 use Rattle.h263_bits.specs.declared.fault.FaultKind.TheVariants.{BadCode, BadLevel}
 use Rattle.h263_bits.specs.Bits.{fields}
 use Rattle.h263_bits.specs.Syntax.{Syntax, Words, Allowed, any, code, done, field, element, either, begins, is_prefix_free}
@@ -185,6 +185,16 @@ event = element event_parts any done
 -- magnitude and sign; there is no sign at 0
 unfoldable pub mvd_parts : Syntax ℤ
 mvd_parts = code magnitude_table λ size. either (size == 0) (done (pos 0)) (field 1 any λ sign. done (signed sign size))
+
+-- the words of magnitudes from n on with their signs, 0 for plus and 1 for minus: the last one has the sign 1 alone
+abbrev pub with_signs : ℕ → List (List Bool) → List (List Bool × ℤ)
+with_signs n [] = []
+with_signs n (w ∷ []) = (w ++ true ∷ [], neg_ℤ (pos n)) ∷ []
+with_signs n (w ∷ v ∷ ws) = (w ++ false ∷ [], pos n) ∷ (w ++ true ∷ [], neg_ℤ (pos n)) ∷ with_signs (suc n) (v ∷ ws)
+
+-- the words of MVD with their signs: 0 has none, and 32 is there with minus alone
+unfoldable pub mvd_words : List (List Bool × ℤ)
+mvd_words = (word "1", pos 0) ∷ with_signs 1 (drop 1 magnitude_texts)
 
 -- 32 is no vector difference
 abbrev pub is_difference : Allowed ℤ

@@ -1,9 +1,13 @@
 //! Laws over the definitions alone.
-ghost use Rattle.std.specs.Prelude.{◌≡◌, ℕ, ℤ, ◌+◌, ◌++◌, List, [], ◌∷◌, Bool, length, map};
+ghost use Rattle.std.specs.Prelude.{◌≡◌, ℕ, ℤ, ◌+◌, ◌++◌, List, [], ◌∷◌, Bool, length, map, Err};
 ghost use Rattle.h263_types.specs.declared.Kind.{Kind};
-ghost use Rattle.h263_bits.specs.Syntax.{Spells};
+ghost use Rattle.h263_bits.specs.declared.fault.Fault.{Fault};
+ghost use Rattle.h263_bits.specs.Reading.{Bits};
+ghost use Rattle.h263_bits.specs.Syntax.{Spells, reading};
 ghost use Rattle.code_tables.specs.Mcbpc.{mcbpc, dquant};
 ghost use Rattle.code_tables.specs.Tables.{cbpy, mvd, tcoef_words, words_of_length, event, Coefficient};
+ghost use Rattle.code_tables.specs.EventWords.{IsEventFault};
+ghost use Rattle.code_tables.specs.Faults.{WordFaults};
 ghost use Rattle.code_tables.specs.Laws.{AreSpelt, TableLaws};
 ghost use Rattle.code_tables.specs.declared.macroblock.Mcbpc.{Mcbpc};
 
@@ -25,6 +29,18 @@ pub fn one_reading()
 /// What is written for a value is a text of it.
 pub fn written_is_text()
     ensures { AreSpelt }
+{}
+
+/// The first faults of words: each word is cut or there is none, MVD by its words with their signs; and an escape
+/// whose LEVEL is 0 or -128. Each stands at the first bit of its word.
+pub fn first_faults()
+    ensures { WordFaults }
+{}
+
+/// The first fault of an event, by the words with their signs and the escapes with all their fields: the bits end inside
+/// one, an escape has LEVEL 0 or -128, or there is none; each at the first bit.
+pub fn event_faults()
+    ensures { (b : Bits) (d : Fault) → reading event b ≡ Err d → (d.at ≡ b.at) × IsEventFault b.bits d.kind }
 {}
 
 /// What a syntax that has words of these tables in it needs to know of them.

@@ -1,6 +1,7 @@
-ghost use Rattle.std.specs.Prelude.{◌≡◌, ℕ, ℤ, ◌<◌, ◌+◌, ◌≤◌, IfErr, length, slice_get, Some};
-ghost use Rattle.h263_bits.specs.Reading.{Gives};
-ghost use Rattle.h263_bits.specs.Syntax.{reading, word_at};
+ghost use Rattle.std.specs.Prelude.{◌≡◌, ℕ, ℤ, ◌<◌, ◌+◌, ◌++◌, ◌≤◌, List, Bool, IfOk, IfErr, IsOkAnd, length, slice_get, Some};
+ghost use Rattle.h263_bits.specs.Reading.{Gives, Takes};
+ghost use Rattle.h263_bits.specs.Syntax.{reading, word_at, Spells};
+ghost use Rattle.h263_bits.specs.Elements.{IsWordOf, IsWordFault};
 ghost use Rattle.h263_types.specs.declared.Kind.TheVariants as kinds;
 ghost use Rattle.h263_bits.specs.declared.fault.FaultKind.TheVariants.{Ended};
 ghost use Rattle.h263_bits.specs.Written.{Appends, len_of, room_of};
@@ -60,15 +61,30 @@ fn read_inter_mcbpc(reader: &mut BitReader<'_>) -> Result<Mcbpc, Fault>
     Ok(symbol_at(&INTER_MCBPC_SYMBOLS, place))
 }
 
-/// MCBPC of a kind of picture (H.263 5.3.2).
 #[tactic(auto, unfolding(crate::specs::Mcbpc::mcbpc, crate::specs::Mcbpc::mcbpc_table, h263_bits::specs::Syntax::reading))]
-pub fn read_mcbpc(reader: &mut BitReader<'_>, kind: Kind) -> Result<Mcbpc, Fault>
+fn mcbpc_at(reader: &mut BitReader<'_>, kind: Kind) -> Result<Mcbpc, Fault>
     ensures { Gives (λ (m : Mcbpc). m) result reader.new (reading (mcbpc kind) reader.old) }
 {
     match kind {
         Kind::I => read_intra_mcbpc(reader),
         Kind::P => read_inter_mcbpc(reader),
     }
+}
+
+/// MCBPC of a kind of picture (H.263 5.3.2).
+pub fn read_mcbpc(reader: &mut BitReader<'_>, kind: Kind) -> Result<Mcbpc, Fault>
+    // What is read is spelled by the bits that were taken.
+    ensures found { IfOk result (λ m. Takes reader.old reader.new (Spells (mcbpc kind) m)) }
+    // What is spelled is read, whatever follows.
+    ensures only { (m : Mcbpc) (text rest : List Bool) → Spells (mcbpc kind) m text → reader.old.bits ≡ text ++ rest
+        → IsOkAnd result (λ found. (found ≡ m) × (reader.new.bits ≡ rest)) }
+    // Otherwise the word is cut, or there is none: the fault stands at its first bit.
+    ensures fault { IfErr result (λ d. (d.at ≡ reader.old.at) × IsWordFault (λ w. IsWordOf (mcbpc_words kind) w) reader.old.bits d.kind) }
+    ensures exact { Gives (λ (m : Mcbpc). m) result reader.new (reading (mcbpc kind) reader.old) }
+    // CBPC is below 4, and in an I picture the class is intra.
+    ensures range { IfOk result (IsInTable kind) }
+{
+    mcbpc_at(reader, kind)
 }
 
 fn read_step(reader: &mut BitReader<'_>) -> Result<i8, Fault>
@@ -78,14 +94,29 @@ fn read_step(reader: &mut BitReader<'_>) -> Result<i8, Fault>
     Ok(step_at(&STEP_SYMBOLS, place))
 }
 
-/// DQUANT, the step of the quantiser (H.263 5.3.6): -2, -1, 1 or 2.
 #[tactic(auto, unfolding(crate::specs::Mcbpc::dquant, crate::specs::Mcbpc::dquant_table, h263_bits::specs::Syntax::reading))]
-pub fn read_dquant(reader: &mut BitReader<'_>) -> Result<i8, Fault>
+fn dquant_at(reader: &mut BitReader<'_>) -> Result<i8, Fault>
     ensures reads { Gives (λ (s : ℤ). s) result reader.new (reading dquant reader.old) }
-    // Each pair of bits is a word, so there is no bad code.
     ensures ended { IfErr result (λ fault. fault.kind ≡ Ended) }
 {
     read_step(reader)
+}
+
+/// DQUANT, the step of the quantiser (H.263 5.3.6): -2, -1, 1 or 2.
+pub fn read_dquant(reader: &mut BitReader<'_>) -> Result<i8, Fault>
+    // What is read is spelled by the bits that were taken.
+    ensures found { IfOk result (λ step. Takes reader.old reader.new (Spells dquant step)) }
+    // What is spelled is read, whatever follows.
+    ensures only { (step : ℤ) (text rest : List Bool) → Spells dquant step text → reader.old.bits ≡ text ++ rest
+        → IsOkAnd result (λ found. (found ≡ step) × (reader.new.bits ≡ rest)) }
+    // Otherwise the word is cut: the fault stands at its first bit.
+    ensures fault { IfErr result (λ d. (d.at ≡ reader.old.at) × IsWordFault (λ w. IsWordOf dquant_words w) reader.old.bits d.kind) }
+    ensures exact { Gives (λ (s : ℤ). s) result reader.new (reading dquant reader.old) }
+    ensures range { IfOk result IsStep }
+    // Each pair of bits is a word, so there is no bad code.
+    ensures ended { IfErr result (λ fault. fault.kind ≡ Ended) }
+{
+    dquant_at(reader)
 }
 
 /// The place of a word of P pictures.

@@ -1,11 +1,13 @@
-ghost use Rattle.std.specs.Prelude.{◌≡◌, ◌≢◌, ℕ, ℤ, pos, negsuc, ◌+◌, ◌-◌, ◌++◌, slice_get, IfOk, IfSome, ◌<◌, ◌≤◌, ◌≤ℤ◌, length};
+ghost use Rattle.std.specs.Prelude.{◌≡◌, ◌≢◌, ℕ, ℤ, pos, negsuc, ◌+◌, ◌-◌, ◌++◌, List, Bool, slice_get, IfOk, IfErr, IsOkAnd, IfSome, ◌<◌, ◌≤◌, ◌≤ℤ◌, length};
 ghost use Rattle.h263_bits.specs.Written.{Appends, len_of, room_of};
 ghost use Rattle.h263_bits.specs.Bits.{fields};
 ghost use Rattle.code_tables.specs.Words.{text_at, code_at, word_of, place_in};
 ghost use Rattle.code_tables.specs.Starts.{starts_of};
-ghost use Rattle.h263_bits.specs.Reading.{Gives};
-ghost use Rattle.h263_bits.specs.Syntax.{reading, word_at};
-ghost use Rattle.code_tables.specs.Tables.{cbpy, cbpy_texts, cbpy_text, magnitude_texts, size_of, sign_text, mvd_text, cbpy_words, magnitude_words, tcoef_words, mvd, signed, level_of, mvd_parts, event, event_parts, byte_of, escape_fields, event_text, IsEvent};
+ghost use Rattle.h263_bits.specs.Reading.{Gives, Takes};
+ghost use Rattle.h263_bits.specs.Syntax.{reading, word_at, Spells};
+ghost use Rattle.h263_bits.specs.Elements.{IsWordOf, IsWordFault};
+ghost use Rattle.code_tables.specs.EventWords.{IsEventFault};
+ghost use Rattle.code_tables.specs.Tables.{cbpy, cbpy_texts, cbpy_text, magnitude_texts, size_of, sign_text, mvd_text, cbpy_words, magnitude_words, tcoef_words, mvd, mvd_words, Coefficient as Event, signed, level_of, mvd_parts, event, event_parts, byte_of, escape_fields, event_text, IsEvent};
 ghost use Rattle.code_tables.specs.Events.{event_of_code, coefficient_of};
 
 use crate::code::{Coefficient, Level, read_code, write_code};
@@ -20,13 +22,27 @@ fn read_pattern(reader: &mut BitReader<'_>) -> Result<usize, Fault>
     read_code(reader, &CBPY, &CBPY_FAST)
 }
 
-/// CBPY, the pattern of the luminance blocks, 0 to 15 (H.263 5.3.5). An inter macroblock has the word of the complement.
 #[tactic(auto, unfolding(crate::specs::Tables::cbpy, crate::specs::Tables::cbpy_table, h263_bits::specs::Syntax::reading))]
-pub fn read_cbpy(reader: &mut BitReader<'_>, intra: bool) -> Result<u8, Fault>
+fn cbpy_at(reader: &mut BitReader<'_>, intra: bool) -> Result<u8, Fault>
     ensures { Gives (λ (i : ℕ). i) result reader.new (reading (cbpy intra) reader.old) }
 {
     let pattern = read_pattern(reader)? as u8;
     Ok(if intra { pattern } else { 15 - pattern })
+}
+
+/// CBPY, the pattern of the luminance blocks, 0 to 15 (H.263 5.3.5). An inter macroblock has the word of the complement.
+pub fn read_cbpy(reader: &mut BitReader<'_>, intra: bool) -> Result<u8, Fault>
+    // What is read is spelled by the bits that were taken.
+    ensures found { IfOk result (λ pattern. Takes reader.old reader.new (Spells (cbpy intra) pattern)) }
+    // What is spelled is read, whatever follows.
+    ensures only { (pattern : ℕ) (text rest : List Bool) → Spells (cbpy intra) pattern text → reader.old.bits ≡ text ++ rest
+        → IsOkAnd result (λ found. (found ≡ pattern) × (reader.new.bits ≡ rest)) }
+    // Otherwise the word is cut, or there is none: the fault stands at its first bit.
+    ensures fault { IfErr result (λ d. (d.at ≡ reader.old.at) × IsWordFault (λ w. IsWordOf cbpy_words w) reader.old.bits d.kind) }
+    ensures exact { Gives (λ (i : ℕ). i) result reader.new (reading (cbpy intra) reader.old) }
+    ensures range { IfOk result (λ pattern. pattern < 16) }
+{
+    cbpy_at(reader, intra)
 }
 
 fn read_magnitude(reader: &mut BitReader<'_>) -> Result<usize, Fault>
@@ -56,9 +72,8 @@ fn read_mvd_parts(reader: &mut BitReader<'_>) -> Result<i8, Fault>
     Ok(with_sign(sign, size as u8))
 }
 
-/// MVD, a difference of vectors in half samples, -32 to 31 (H.263 5.3.7).
 #[tactic(auto, unfolding(crate::specs::Tables::mvd, h263_bits::specs::Syntax::reading))]
-pub fn read_mvd(reader: &mut BitReader<'_>) -> Result<i8, Fault>
+fn mvd_at(reader: &mut BitReader<'_>) -> Result<i8, Fault>
     ensures { Gives (λ (v : ℤ). v) result reader.new (reading mvd reader.old) }
 {
     let at = reader.at();
@@ -71,6 +86,22 @@ pub fn read_mvd(reader: &mut BitReader<'_>) -> Result<i8, Fault>
         }
         Err(fault) => Err(fault.kind.at(at)),
     }
+}
+
+/// MVD, a difference of vectors in half samples, -32 to 31 (H.263 5.3.7).
+pub fn read_mvd(reader: &mut BitReader<'_>) -> Result<i8, Fault>
+    // What is read is spelled by the bits that were taken.
+    ensures found { IfOk result (λ v. Takes reader.old reader.new (Spells mvd v)) }
+    // What is spelled is read, whatever follows.
+    ensures only { (v : ℤ) (text rest : List Bool) → Spells mvd v text → reader.old.bits ≡ text ++ rest
+        → IsOkAnd result (λ found. (found ≡ v) × (reader.new.bits ≡ rest)) }
+    // Otherwise the word with its sign is cut, or there is none: the fault stands at its first bit.
+    ensures fault { IfErr result (λ d. (d.at ≡ reader.old.at) × IsWordFault (λ w. IsWordOf mvd_words w) reader.old.bits d.kind) }
+    ensures exact { Gives (λ (v : ℤ). v) result reader.new (reading mvd reader.old) }
+    ensures low { IfOk result (λ v. negsuc 31 ≤ℤ v) }
+    ensures high { IfOk result (λ v. v ≤ℤ pos 31) }
+{
+    mvd_at(reader)
 }
 
 fn level_at(levels: &[Level], place: usize) -> Option<Level>
@@ -126,9 +157,8 @@ fn escape_level(bits: u32) -> i8
     }
 }
 
-/// An event of TCOEF: LAST, RUN and LEVEL, as a word with its sign or as an escape (H.263 5.4.2).
 #[tactic(auto, unfolding(crate::specs::Tables::event, h263_bits::specs::Syntax::reading))]
-pub fn read_event(reader: &mut BitReader<'_>) -> Result<Coefficient, Fault>
+fn event_at(reader: &mut BitReader<'_>) -> Result<Coefficient, Fault>
     ensures { Gives coefficient_of result reader.new (reading event reader.old) }
 {
     let at = reader.at();
@@ -136,6 +166,21 @@ pub fn read_event(reader: &mut BitReader<'_>) -> Result<Coefficient, Fault>
         Ok(event) => Ok(event),
         Err(fault) => Err(fault.kind.at(at)),
     }
+}
+
+/// An event of TCOEF: LAST, RUN and LEVEL, as a word with its sign or as an escape (H.263 5.4.2).
+pub fn read_event(reader: &mut BitReader<'_>) -> Result<Coefficient, Fault>
+    // What is read is spelled by the bits that were taken.
+    ensures found { IfOk result (λ e. Takes reader.old reader.new (Spells event (coefficient_of e))) }
+    // What is spelled is read, whatever follows.
+    ensures only { (e : Event) (text rest : List Bool) → Spells event e text → reader.old.bits ≡ text ++ rest
+        → IsOkAnd result (λ found. (coefficient_of found ≡ e) × (reader.new.bits ≡ rest)) }
+    // Otherwise the word with its sign, or the escape, is cut, or LEVEL is 0 or -128, or there is none: the fault
+    // stands at the first bit.
+    ensures fault { IfErr result (λ d. (d.at ≡ reader.old.at) × IsEventFault reader.old.bits d.kind) }
+    ensures exact { Gives coefficient_of result reader.new (reading event reader.old) }
+{
+    event_at(reader)
 }
 
 fn write_pattern(writer: &mut BitWriter<'_>, pattern: usize)

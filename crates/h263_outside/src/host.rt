@@ -1,5 +1,7 @@
 // The host's files and standard output: the trusted edge. What they hold is not told.
 ghost use Rattle.std.specs.Prelude.{◌≡◌, ◌≤◌, length, IfOk, is_some};
+ghost use Rattle.std.specs.Io.KnownBytes.{ReadConsumes, WriteAppends};
+ghost use Rattle.h263_outside.specs.Host.{told_of};
 ghost use Rattle.h263_outside.specs.Desk.{NoneAttached};
 
 use crate::memory::raised;
@@ -51,6 +53,8 @@ impl<R: Runtime> HostDesk<R> {
 
 fn read_file<F: Read>(file: &mut Option<F>, buf: &mut [u8]) -> Result<usize, Failed>
     ensures count { IfOk result (λ k. k ≤ length buf.old) }
+    // What is read is the front of what the file had, nothing only at its end; where the read fails nothing is lost.
+    ensures bytes { ReadConsumes (told_of F.remaining file.old) (told_of F.remaining file.new) result buf.new }
     ensures open { is_some file.new ≡ is_some file.old }
 {
     let Some(file) = file else {
@@ -64,6 +68,8 @@ fn read_file<F: Read>(file: &mut Option<F>, buf: &mut [u8]) -> Result<usize, Fai
 
 fn write_file<F: Write>(file: &mut Option<F>, bytes: &[u8]) -> Result<usize, Failed>
     ensures count { IfOk result (λ k. k ≤ length bytes.now) }
+    // The file gains as many bytes as the answer says, and none where the write fails.
+    ensures bytes { WriteAppends (told_of F.contents file.old) (told_of F.contents file.new) result bytes.now }
     ensures open { is_some file.new ≡ is_some file.old }
 {
     let Some(file) = file else {
@@ -171,6 +177,7 @@ mod tests {
         let mut desk = HostDesk::new(rt);
         write_and_read(&mut desk)?;
         fs::remove_file(&desk.rt, "written")?;
+        fs::remove_file(&desk.rt, "sent")?;
         Ok(())
     }
 
@@ -183,15 +190,28 @@ mod tests {
         if write_all(desk, Role::Pictures, b"FRAME").is_err() {
             return Err("it is written");
         }
-        if desk.attach(Role::Video, "written").is_err() {
+        if desk.attach(Role::Wire, "sent").is_err() || write_all(desk, Role::Wire, b"K").is_err() {
+            return Err("another file is written");
+        }
+        if desk.attach(Role::Video2, "written").is_err() {
             return Err("it is opened");
         }
         let mut buf = [0; 6];
-        if read_full(desk, Role::Video, &mut buf) != Ok(5) || buf != *b"FRAME\0" {
+        if read_full(desk, Role::Video2, &mut buf) != Ok(5) || buf != *b"FRAME\0" {
             return Err("it holds what was written");
         }
-        if desk.attach(Role::Events, "missing") != Err(Unattached::Failed) {
+        if desk.attach(Role::Video, "missing") != Err(Unattached::Failed) {
             return Err("a missing file is not opened");
+        }
+        if desk.attach(Role::Events, "sent").is_err() {
+            return Err("the other file is opened");
+        }
+        let mut byte = [0; 2];
+        if read_full(desk, Role::Events, &mut byte) != Ok(1) || byte != *b"K\0" {
+            return Err("it holds what was sent");
+        }
+        if desk.attach(Role::Video, ".").is_ok() && desk.read(Role::Video, &mut buf).is_ok() {
+            return Err("a folder is not read");
         }
         if desk.attach(Role::Report, "").is_err() {
             return Err("the report is opened");

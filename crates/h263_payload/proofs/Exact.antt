@@ -134,11 +134,11 @@ record IsStart (extra : Option Header) (b : Bits) (p : Payload) : Type 0 where
   begun : IsBegun p.begins b.bits
   value : p ≡ record { extra = extra; begins = is_none extra; from = b.at }
 
-two_is : spelled 2 2 ≡ true ∷ false ∷ []
+pub two_is : spelled 2 2 ≡ true ∷ false ∷ []
 unfolding spelled
 two_is = refl
 
-three_is : spelled 2 3 ≡ true ∷ true ∷ []
+pub three_is : spelled 2 3 ≡ true ∷ true ∷ []
 unfolding spelled
 three_is = refl
 
@@ -207,11 +207,11 @@ read_text format p b e =
 
 -- ---- what spells a payload is read
 
-record IsReadMiddle (format : Format) (plen pebit : ℕ) (extra : Option Header) (at : ℕ) (middle coded : List Bool) : Type 0 where
-  len : length middle ≡ 8 * plen
-  read : extra_at format plen pebit (record { at = at; bits = middle ++ coded }) ≡ Ok extra
+pub record IsReadMiddle (format : Format) (plen pebit : ℕ) (extra : Option Header) (at : ℕ) (middle coded : List Bool) : Type 0 where
+  pub len : length middle ≡ 8 * plen
+  pub read : extra_at format plen pebit (record { at = at; bits = middle ++ coded }) ≡ Ok extra
 
-extra_again : HeaderLaws → (format : Format) (plen pebit : ℕ) (extra : Option Header) (at : ℕ) (middle coded : List Bool) → IsExtra format plen pebit extra middle → IsReadMiddle format plen pebit extra at middle coded
+pub extra_again : HeaderLaws → (format : Format) (plen pebit : ℕ) (extra : Option Header) (at : ℕ) (middle coded : List Bool) → IsExtra format plen pebit extra middle → IsReadMiddle format plen pebit extra at middle coded
 unfolding extra_at
 extra_again laws format plen pebit None at middle coded t = record { len = omega (arith, ap length t.1, t.0); read = rw t.0 refl }
 extra_again laws format plen pebit (Some h) at middle coded t =

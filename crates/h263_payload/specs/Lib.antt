@@ -3,3 +3,4 @@ pub mod Faults
 pub mod Ranges
 pub mod Written
 pub mod Headed
+pub mod Rows

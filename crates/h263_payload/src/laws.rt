@@ -6,6 +6,7 @@ ghost use Rattle.picture_header.specs.declared.header.Header.{Header};
 ghost use Rattle.picture_header.specs.Ranges.{IsHeader};
 ghost use Rattle.h263_payload.specs.Text.{IsPayload};
 ghost use Rattle.h263_payload.specs.Faults.{payload_at};
+ghost use Rattle.h263_payload.specs.Rows.{PayloadFaults};
 ghost use Rattle.h263_payload.specs.Written.{written_payload, payload_bits};
 ghost use Rattle.h263_payload.specs.declared.payload.Payload.{Payload};
 
@@ -15,6 +16,13 @@ use picture_header::laws::in_a_syntax;
 pub fn exact_text()
     ensures read { (format : Format) (p : Payload) (b : Bits) → payload_at format b ≡ Ok p → IsPayload format p b }
     ensures written { (format : Format) (p : Payload) (b : Bits) → IsPayload format p b → payload_at format b ≡ Ok p }
+{
+    in_a_syntax();
+}
+
+/// The first faults of a payload header, in the order in which its parts are read.
+pub fn first_faults()
+    ensures { (format : Format) → PayloadFaults format }
 {
     in_a_syntax();
 }

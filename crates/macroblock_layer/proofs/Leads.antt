@@ -41,7 +41,7 @@ skip_productive : IsProductive (done (skip_turn))
 unfolding IsProductive
 skip_productive = tt
 
-turn_productive : (kind : Kind) → IsProductive (lead_turn kind tt)
+pub turn_productive : (kind : Kind) → IsProductive (lead_turn kind tt)
 unfolding lead_turn IsProductive
 turn_productive kinds.I = class_productive kinds.I
 turn_productive kinds.P = λ cod. either_productive (cod == 1) (done (skip_turn)) (class_turn kinds.P) (skip_productive) (class_productive kinds.P)

@@ -16,7 +16,7 @@ use Rattle.macroblock_layer.specs.Text.{is_intra, quantiser, difference, vector,
 use Rattle.macroblock_layer.specs.Laws.{AreProductive}
 use Rattle.macroblock_layer.proofs.Leads.{lead_productive}
 
-quantiser_productive : TableLaws → (class : MbClass) (quant : ℕ) → IsProductive (quantiser class quant)
+pub quantiser_productive : TableLaws → (class : MbClass) (quant : ℕ) → IsProductive (quantiser class quant)
 unfolding quantiser IsProductive
 quantiser_productive tables classes.InterQ quant = (tables.productive.dquant, λ step. tt)
 quantiser_productive tables classes.IntraQ quant = (tables.productive.dquant, λ step. tt)
@@ -24,15 +24,15 @@ quantiser_productive tables classes.Inter quant = tt
 quantiser_productive tables classes.Inter4 quant = tt
 quantiser_productive tables classes.Intra quant = tt
 
-difference_productive : TableLaws → IsProductive difference
+pub difference_productive : TableLaws → IsProductive difference
 unfolding difference IsProductive
 difference_productive tables = (tables.productive.mvd, λ x. (tables.productive.mvd, λ y. tt))
 
-vector_productive : TableLaws → (reach : Reach) (predictor : Vector) → IsProductive (vector reach predictor)
+pub vector_productive : TableLaws → (reach : Reach) (predictor : Vector) → IsProductive (vector reach predictor)
 unfolding vector IsProductive
 vector_productive tables reach predictor = (difference_productive tables, λ d. tt)
 
-intra_block_productive : BlockLaws → (coded : Bool) → IsProductive (intra coded)
+pub intra_block_productive : BlockLaws → (coded : Bool) → IsProductive (intra coded)
 unfolding intra IsProductive
 intra_block_productive of_blocks coded = (of_blocks.productive.intra coded, λ levels. tt)
 
@@ -50,7 +50,7 @@ with_none_productive : IsProductive with_none
 unfolding with_none IsProductive
 with_none_productive = tt
 
-inter_block_productive : BlockLaws → (coded : Bool) → IsProductive (inter coded)
+pub inter_block_productive : BlockLaws → (coded : Bool) → IsProductive (inter coded)
 unfolding inter with_levels with_none
 inter_block_productive of_blocks coded = either_productive coded with_levels with_none (with_levels_productive of_blocks) with_none_productive
 

@@ -5,6 +5,7 @@ ghost use Rattle.h263_types.specs.declared.vector.Vector.{Vector};
 ghost use Rattle.h263_types.specs.declared.vector.Reach.{Reach};
 ghost use Rattle.h263_types.specs.declared.blocks.Mb.{Mb};
 ghost use Rattle.macroblock_layer.specs.Text.{IsMbText};
+ghost use Rattle.macroblock_layer.specs.Faults.{MbFaults};
 ghost use Rattle.macroblock_layer.specs.Laws.{AreSpelt, AreShort, MbLaws};
 
 /// Of two texts of which one begins the other both are the same, and spell the same macroblock.
@@ -20,6 +21,15 @@ pub fn one_reading()
 /// What is written of a macroblock is a text of it, where its vector, if it has one, is in reach.
 pub fn written_is_text()
     ensures { AreSpelt }
+{
+    code_tables::laws::in_a_syntax();
+    block_layer::laws::in_a_syntax();
+}
+
+/// The first faults of a macroblock, element by element. Four vectors stand at MCBPC, a vector out of reach at the first
+/// bit of its first difference.
+pub fn first_faults()
+    ensures { MbFaults }
 {
     code_tables::laws::in_a_syntax();
     block_layer::laws::in_a_syntax();

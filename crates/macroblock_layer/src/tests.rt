@@ -156,6 +156,10 @@ fn first_faults(rt: HostRuntime) {
         (FAR, "0 00011 0011 0000000", FaultKind::Ended, 10),
         (FAR, "0 1 0011 1 1 0111", FaultKind::Ended, 8),
         (FAR, "0 000000000", FaultKind::BadCode, 1),
+        (FAR, "0 1 000000", FaultKind::BadCode, 2),
+        (FAR, "0 1 11 000000000010", FaultKind::Ended, 4),
+        (FAR, "0 1 11 000000000010 0", FaultKind::BadCode, 4),
+        (FAR, "0 1 11 010 000000000010 0", FaultKind::BadCode, 7),
         (FAR, "0 010 11", FaultKind::FourVectors, 1),
         (near, "0 1 11 010 1", FaultKind::BadVector, 4),
         (near, "0 1 11 010 0", FaultKind::Ended, 7),
@@ -164,6 +168,15 @@ fn first_faults(rt: HostRuntime) {
     for (reach, text, kind, at) in table {
         let fault = Fault { kind, at };
         assert_eq!(rt; read_text(Kind::P, reach, text), Err(fault), "{text}");
+    }
+    for (text, kind, at) in [
+        ("00000000", FaultKind::Ended, 0),
+        ("000000000", FaultKind::BadCode, 0),
+        ("000000001 000000000", FaultKind::BadCode, 9),
+        ("1 000000", FaultKind::BadCode, 1),
+    ] {
+        let fault = Fault { kind, at };
+        assert_eq!(rt; read_text(Kind::I, FAR, text), Err(fault), "{text}");
     }
 }
 

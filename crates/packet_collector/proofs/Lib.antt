@@ -4,3 +4,4 @@ pub mod Pieces
 mod Rows
 mod Places
 mod Forgetting
+pub mod FaultRows

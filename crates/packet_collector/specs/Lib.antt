@@ -3,3 +3,4 @@ pub mod Laws
 pub mod Filled
 pub mod Taken
 pub mod Collected
+pub mod Rows

@@ -1,5 +1,6 @@
 //! Laws about packets, over the definitions alone.
 ghost use Rattle.std.specs.Prelude.{◌≡◌, ◌↔◌, ℕ, ◌+◌, ◌<◌, ◌≤◌, List, length, Ok, None};
+ghost use Rattle.h263_bits.specs.declared.fault.Fault.{Fault};
 ghost use Rattle.h263_types.specs.declared.format.Format.{Format};
 ghost use Rattle.h263_types.specs.Sizes.{mbs_of};
 ghost use Rattle.packet_collector.specs.declared.collector.Collector.{Collector};
@@ -8,6 +9,7 @@ ghost use Rattle.packet_collector.specs.declared.piece.Place.{Place};
 ghost use Rattle.packet_collector.specs.Collected.{Collects, from_number};
 ghost use Rattle.packet_collector.specs.Laws.{PartLaws};
 ghost use Rattle.packet_collector.specs.Packet.{Slice, IsPacket, packet_at, packet_fault};
+ghost use Rattle.packet_collector.specs.Rows.{PacketFaults};
 ghost use Rattle.packet_collector.specs.Taken.{Taken, IsPlace, TakenLaws};
 
 use picture_header::laws::in_a_syntax;
@@ -31,9 +33,16 @@ pub fn exact_text()
     of_the_parts();
 }
 
-/// A whole packet spells one slice: its header, its first macroblock and its macroblocks.
+/// The first faults of a packet are those of its parts, each behind the parts in front of it.
+pub fn first_faults()
+    ensures { (format : Format) (bytes : List ℕ) (fault : Fault) → PacketFaults format bytes fault }
+{}
+
+/// A whole packet spells one slice, its header, its first macroblock and its macroblocks; and there is no first fault
+/// exactly where bytes are a packet of some slice.
 pub fn one_reading()
-    ensures { (format : Format) (s other : Slice) (bytes : List ℕ) → IsPacket format s bytes → IsPacket format other bytes → s ≡ other }
+    ensures no_fault { (format : Format) (bytes : List ℕ) → (packet_fault format bytes ≡ None) ↔ ((s : Slice) × IsPacket format s bytes) }
+    ensures one { (format : Format) (s other : Slice) (bytes : List ℕ) → IsPacket format s bytes → IsPacket format other bytes → s ≡ other }
 {
     of_the_parts();
 }

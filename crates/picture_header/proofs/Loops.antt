@@ -70,14 +70,14 @@ places-push (a ∷ b ∷ c ∷ d ∷ ms) m h = absurd (omega arith)
 
 -- ---- the whole header
 
-bci_productive : IsProductive bci
+pub bci_productive : IsProductive bci
 unfolding bci IsProductive
 bci_productive v = either_productive (v == 0) (field 1 (only 1 faults.Bci) (λ end. done 0)) (done 1) (λ w. one 0) (one 1)
   where
     one : (n : ℕ) → IsProductive (done n)
     one n = tt
 
-next_productive : MessageLaws → (clock : Clock) (used : ℕ) → IsProductive (next_message clock used)
+pub next_productive : MessageLaws → (clock : Clock) (used : ℕ) → IsProductive (next_message clock used)
 unfolding next_message IsProductive
 next_productive laws clock used = (bci_productive, λ v. either_productive (v == 0) (done None) (part (message clock) any (λ m. done (Some m))) nothing (laws.productive clock, one))
   where
@@ -87,21 +87,21 @@ next_productive laws clock used = (bci_productive, λ v. either_productive (v ==
     one : (m : Message) → IsProductive (done (Some m))
     one m = tt
 
-back_productive : MessageLaws → (clock : Clock) → IsProductive (back clock)
+pub back_productive : MessageLaws → (clock : Clock) → IsProductive (back clock)
 unfolding back back_turn IsProductive
 back_productive laws clock = (back_some clock, λ t. (next_productive laws clock (length t), λ next. tt))
 
-extended_productive : (clock : Clock) (tr : ℕ) → IsProductive (extended clock tr)
+pub extended_productive : (clock : Clock) (tr : ℕ) → IsProductive (extended clock tr)
 unfolding extended IsProductive
 extended_productive Standard tr = tt
 extended_productive Custom tr = λ cpcfc etr. tt
 
-reference_productive : (clock : Clock) (kind : Kind) → IsProductive (reference clock kind)
+pub reference_productive : (clock : Clock) (kind : Kind) → IsProductive (reference clock kind)
 unfolding reference IsProductive
 reference_productive clock kinds.I = λ v. tt
 reference_productive clock kinds.P = λ v w. tt
 
-simple_productive : (format : Format) → IsProductive opening × IsProductive (plus_type format) × IsProductive multipoint × IsProductive channel
+pub simple_productive : (format : Format) → IsProductive opening × IsProductive (plus_type format) × IsProductive multipoint × IsProductive channel
 unfolding opening plus_type multipoint channel IsProductive
 simple_productive format = (λ a b c d e. tt, λ a b c d e f g h i. tt, λ a. tt, λ a b. tt)
 

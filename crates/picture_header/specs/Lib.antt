@@ -3,4 +3,5 @@ pub mod Back
 pub mod Written
 pub mod Ranges
 pub mod Made
+pub mod Faults
 pub mod Laws

@@ -5,6 +5,7 @@ ghost use Rattle.h263_types.specs.declared.format.Format.{Format};
 ghost use Rattle.picture_header.specs.declared.header.Header.{Header};
 ghost use Rattle.picture_header.specs.Text.{header, IsHeaderText};
 ghost use Rattle.picture_header.specs.Ranges.{IsHeader};
+ghost use Rattle.picture_header.specs.Faults.{HeaderFaults};
 ghost use Rattle.picture_header.specs.Laws.{HeaderLaws, IsShort};
 ghost use Rattle.picture_header.specs.Written.{written_header};
 
@@ -34,6 +35,14 @@ pub fn read_again()
     ensures { (h : Header) (at : ℕ) (rest : List Bool) → IsHeader h
         → reading (header h.format) (record { at = at; bits = written_header h ++ rest })
         ≡ Ok (h, record { at = at + length (written_header h); bits = rest }) }
+{
+    back_messages::laws::in_a_syntax();
+}
+
+/// The first faults of a header, field by field: which values of a field have which fault, behind fields that have none,
+/// and that it stands at the field's first bit.
+pub fn first_faults()
+    ensures { HeaderFaults }
 {
     back_messages::laws::in_a_syntax();
 }

@@ -1,3 +1,4 @@
 pub mod Heads
 pub mod Exact
 pub mod Writing
+pub mod FaultRows

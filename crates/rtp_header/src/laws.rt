@@ -3,6 +3,7 @@ ghost use Rattle.std.specs.Prelude.{◌≡◌, ℕ, ◌<◌, ◌≤◌, ◌++◌
 ghost use Rattle.h263_bits.specs.Bits.{bits_of, fields};
 ghost use Rattle.rtp_header.specs.Text.{IsRtp};
 ghost use Rattle.rtp_header.specs.Faults.{rtp_in};
+ghost use Rattle.rtp_header.specs.Rows.{RtpFaults};
 ghost use Rattle.rtp_header.specs.Written.{rtp_fields, written_rtp, IsWithin};
 ghost use Rattle.rtp_header.specs.declared.rtp.Rtp.{Rtp};
 
@@ -10,6 +11,11 @@ ghost use Rattle.rtp_header.specs.declared.rtp.Rtp.{Rtp};
 pub fn exact_text()
     ensures read { (r : Rtp) (bytes : List ℕ) → rtp_in bytes ≡ Ok r → IsRtp r bytes }
     ensures written { (r : Rtp) (bytes : List ℕ) → IsRtp r bytes → rtp_in bytes ≡ Ok r }
+{}
+
+/// The first faults of a packet's RTP header, in the order in which they are looked for.
+pub fn first_faults()
+    ensures { RtpFaults }
 {}
 
 /// Bytes spell one packet.

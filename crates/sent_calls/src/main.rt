@@ -8,7 +8,8 @@
 //! `NAME.send.txt`, `NAME.recv.txt` and `NAME.call.txt`, each with a line for the number that the
 //! process ends with. Each command is run by its words over a desk in memory, and all that it
 //! writes is compared byte for byte. Where anything differs the program says where, and ends with
-//! status 1.
+//! status 1. Last it compares with a file of which one byte was turned, `turned.wire`, and must find
+//! that byte.
 #![tactic(auto)]
 
 mod command;
@@ -104,6 +105,13 @@ fn report_call(
     Ok(sent && received && called)
 }
 
+// The packets of a call, where one byte of the file that they are compared with was turned: the
+// comparison must find it.
+fn report_turned(rt: &HostRuntime) -> io::Result<bool> {
+    let words = "send grain.y4m grain.send.log turned.wire --quant 31 --keep 10";
+    Ok(!report_run(rt, "grain.send.txt", words)?)
+}
+
 fn report_calls(rt: &HostRuntime) -> io::Result<bool> {
     let mut same = true;
     for (name, sends, receives, calls) in CALLS {
@@ -111,7 +119,7 @@ fn report_calls(rt: &HostRuntime) -> io::Result<bool> {
             same = false;
         }
     }
-    Ok(same)
+    Ok(report_turned(rt)? && same)
 }
 
 fn main(rt: HostRuntime) -> ExitCode {

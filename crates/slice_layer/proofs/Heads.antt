@@ -6,16 +6,16 @@ use Rattle.h263_bits.specs.Syntax.{IsProductive}
 use Rattle.picture_header.specs.declared.header.Header.{Header}
 use Rattle.slice_layer.specs.Head.{reference, first_head, place, tail, later_head, head}
 
-reference_productive : (trp : Option ℕ) → IsProductive (reference trp)
+pub reference_productive : (trp : Option ℕ) → IsProductive (reference trp)
 unfolding reference IsProductive
 reference_productive None = λ refers. tt
 reference_productive (Some trp) = λ refers again. tt
 
-place_productive : (f : Format) → IsProductive (place f)
+pub place_productive : (f : Format) → IsProductive (place f)
 unfolding place IsProductive
 place_productive f = λ start sepb1 mba squant sepb3. tt
 
-tail_productive : (trp : Option ℕ) → IsProductive (tail trp)
+pub tail_productive : (trp : Option ℕ) → IsProductive (tail trp)
 unfolding tail IsProductive
 tail_productive trp = λ gfid tri. (reference_productive trp, λ again bci. tt)
 

@@ -10,3 +10,4 @@ pub mod Adding
 pub mod Fronts
 pub mod Holding
 pub mod Written
+pub mod FaultRows

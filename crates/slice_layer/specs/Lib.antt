@@ -4,4 +4,5 @@ pub mod Head
 pub mod Text
 pub mod Written
 pub mod Writer
+pub mod Faults
 pub mod Laws

@@ -7,6 +7,7 @@ pub mod Places
 pub mod Readers
 pub mod Results
 pub mod Spelling
+pub mod Stops
 pub mod Tags
 pub mod Videos
 pub mod Words

@@ -19,7 +19,7 @@ open_cons : (b : ℕ) (line bytes : List ℕ) → (last_of line ≢ 10 → line 
 open_cons b [] bytes more other = ap (λ (l : List ℕ). b ∷ l) (more (λ e. omega (arith, e)))
 open_cons b (y ∷ line) bytes more other = ap (λ (l : List ℕ). b ∷ l) (more (λ ten. other (last_cons b (y ∷ line) (omega arith) ∙ ten)))
 
-open_line : (bytes : List ℕ) → last_of (through_newline bytes) ≢ 10 → through_newline bytes ≡ bytes
+pub open_line : (bytes : List ℕ) → last_of (through_newline bytes) ≢ 10 → through_newline bytes ≡ bytes
 open_line [] other = refl
 open_line (b ∷ bytes) other = elim (cases_eq b 10) [
   | inl ten ↦ absurd (ended b bytes ten other)
@@ -34,7 +34,7 @@ open_line (b ∷ bytes) other = elim (cases_eq b 10) [
 abbrev Other : ℕ → Type 0
 Other b = b ≢ 10
 
-agreed_free : (word line : List ℕ) → NoNewline word → agreement word line ≡ length line → length line ≤ length word → NoNewline line
+pub agreed_free : (word line : List ℕ) → NoNewline word → agreement word line ≡ length line → length line ≤ length word → NoNewline line
 agreed_free word [] none is le = All-nil Other
 agreed_free [] (b ∷ line) none is le = absurd (omega arith)
 agreed_free (a ∷ word) (b ∷ line) none is le = elim (cases_eq a b) [
@@ -42,7 +42,7 @@ agreed_free (a ∷ word) (b ∷ line) none is le = elim (cases_eq a b) [
   | inr other ↦ absurd (omega (arith, is, other_heads a b word line other))
 ]
 
-free_last : (line : List ℕ) → NoNewline line → last_of line ≢ 10
+pub free_last : (line : List ℕ) → NoNewline line → last_of line ≢ 10
 free_last [] none = λ e. omega (arith, e)
 free_last (b ∷ []) none = All-head Other b [] none
 free_last (b ∷ y ∷ line) none = λ ten. free_last (y ∷ line) (All-tail Other b (y ∷ line) none) (sym (last_cons b (y ∷ line) (omega arith)) ∙ ten)

@@ -33,7 +33,7 @@ line_found n word line more none l le =
 same_heads : (a : ℕ) (word line : List ℕ) → agreement (a ∷ word) (a ∷ line) ≡ suc (agreement word line)
 same_heads a word line = grind (arith, nat_tests)
 
-agreement-append : (word tail : List ℕ) → agreement word (word ++ tail) ≡ length word + agreement [] tail
+pub agreement-append : (word tail : List ℕ) → agreement word (word ++ tail) ≡ length word + agreement [] tail
 agreement-append [] tail = omega arith
 agreement-append (a ∷ word) tail = same_heads a word (word ++ tail) ∙ ap (λ (n : ℕ). suc n) (agreement-append word tail) ∙ omega arith
 

@@ -19,7 +19,7 @@ head_spelled SubQcif = let tail = codes " W128 H96 F30000:1001 Ip C420jpeg" in r
 head_spelled Qcif = let tail = codes " W176 H144 F30000:1001 Ip C420jpeg" in record { tail = tail; text = refl; apart = refl; one = free tail refl; short = omega arith }
 head_spelled Cif = let tail = codes " W352 H288 F30000:1001 Ip C420jpeg" in record { tail = tail; text = refl; apart = refl; one = free tail refl; short = omega arith }
 
-head_written : (f : Format) → IsHead (head_text f) f
+pub head_written : (f : Format) → IsHead (head_text f) f
 head_written SubQcif = record { spelled = head_spelled SubQcif; accepted = tags_accepted (tags_of (head_text SubQcif)) refl; sized = refl }
 head_written Qcif = record { spelled = head_spelled Qcif; accepted = tags_accepted (tags_of (head_text Qcif)) refl; sized = refl }
 head_written Cif = record { spelled = head_spelled Cif; accepted = tags_accepted (tags_of (head_text Cif)) refl; sized = refl }

@@ -7,3 +7,4 @@ pub mod Video
 pub mod Reader
 pub mod Text
 pub mod Laws
+pub mod Begun

@@ -1,6 +1,6 @@
 //! What ties the faults and frames of a text to the videos that are spelled. Each law is the contract of a function
 //! that does nothing.
-ghost use Rattle.std.specs.Prelude.{◌≡◌, ◌≤◌, ◌++◌, ◌+◌, ◌∷◌, [], ℕ, List, length, take, map, All, None, Ok, Err};
+ghost use Rattle.std.specs.Prelude.{◌≡◌, ◌<◌, ◌≤◌, suc, ◌++◌, ◌+◌, ◌∷◌, [], ℕ, List, length, take, map, All, None, Ok, Err};
 ghost use Rattle.std.specs.List.{flat_map};
 ghost use Rattle.h263_types.specs.declared.format.Format.{Format};
 ghost use Rattle.h263_types.specs.declared.Mark.{Mark};
@@ -11,7 +11,8 @@ ghost use Rattle.y4m.specs.Video.{most_frames, video_fault, video_frames};
 ghost use Rattle.y4m.specs.Frame.{frame_of, frame_size};
 ghost use Rattle.y4m.specs.Line.{tags_of};
 ghost use Rattle.y4m.specs.Spelled.{IsVideo, Word, IsWord, spaced};
-ghost use Rattle.y4m.specs.declared.fault.Y4mFault.TheVariants.{ShortFrame};
+ghost use Rattle.y4m.specs.declared.fault.Y4mFault.TheVariants.{NotY4m, ShortFrame};
+ghost use Rattle.y4m.specs.Begun.{BeginsVideo, BeginsFrame};
 ghost use Rattle.y4m.specs.Text.{head_text, frame_text};
 ghost use Rattle.y4m.specs.Laws.{FrameLaws};
 
@@ -44,6 +45,15 @@ pub fn tags_are_words()
 /// A frame that is cut short has its fault where the input ends.
 pub fn short_at_the_end()
     ensures { (f : Format) (at place : ℕ) (rest : List ℕ) → frame_of f at rest ≡ Err (ShortFrame place) → place ≡ at + length rest }
+{}
+
+/// Where a head's or a frame's line can't go on inside its first word or just behind it, the bytes before that one begin
+/// some video, or some frame of the format, and with it they begin none.
+pub fn place_of_not_y4m()
+    ensures head { (video : List ℕ) (n : ℕ) → head_of video ≡ Err (NotY4m n) → n < length video → n < 10
+        → BeginsVideo (take n video) × (BeginsVideo (take (suc n) video) → ⊥) }
+    ensures frame { (f : Format) (at n : ℕ) (rest : List ℕ) → frame_of f at rest ≡ Err (NotY4m (at + n)) → n < length rest → n < 6
+        → BeginsFrame f (take n rest) × (BeginsFrame f (take (suc n) rest) → ⊥) }
 {}
 
 /// A whole head or frame stays what it is where the text behind it is cut.

@@ -1,5 +1,10 @@
-use Rattle.packet_collector.proofs.Exact.{one_packet}
+use Rattle.std.proofs.Common.{ap}
+use Rattle.h263_bits.specs.Reading.{first_fault}
+use Rattle.packet_collector.proofs.Exact.{one_packet, packet_complete, no_fault}
 use Rattle.packet_collector.proofs.laws.one_reading.Goals as goal
 
-pub returns : goal.returns
-returns c = λ format s other bytes p q. one_packet c.of_the_parts.ensures format s other bytes p q
+pub returns-clause-no_fault : goal.returns-clause-no_fault
+returns-clause-no_fault c = λ format bytes. (λ e. no_fault c.of_the_parts.ensures format bytes e, λ is. ap first_fault (packet_complete c.of_the_parts.ensures format is.0 bytes is.1))
+
+pub returns-clause-one : goal.returns-clause-one
+returns-clause-one c = λ format s other bytes p q. one_packet c.of_the_parts.ensures format s other bytes p q
