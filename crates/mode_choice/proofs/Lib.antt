@@ -2,6 +2,5 @@ pub mod Levels
 pub mod Blocks
 pub mod Differences
 pub mod Choices
-pub mod Small
 pub mod Walk
 pub mod Whole
