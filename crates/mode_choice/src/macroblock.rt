@@ -19,7 +19,7 @@ use crate::samples::{block_residuals, block_samples};
 use h263_planes::PictureRef;
 use h263_types::laws::one_more;
 use h263_types::{Block, Mb, Params, Vector};
-use motion_search::search;
+use motion_search::search_from;
 use picture_header::Header;
 
 /// The macroblock that is coded at place `mb` of `frame`, with the quantiser of the header and with the first `keep`
@@ -43,10 +43,34 @@ pub fn choose(
     ensures reach { ReachesInside (picture frame.entry).format mb result }
     ensures plain { HasQuant header.now.quant result }
 {
+    choose_from(frame, reference, mb, header, params, Vector::ZERO)
+}
+
+/// The same. The choice is that of `choose` whatever the guess is; it comes sooner where the guess, as the vector of a
+/// neighbour, is near to the best vector.
+pub fn choose_from(
+    frame: PictureRef<'_>,
+    reference: Option<PictureRef<'_>>,
+    mb: u32,
+    header: &Header,
+    params: &Params,
+    guess: Vector,
+) -> Mb
+    requires reference { HasReferenceOnlyInP header.now.kind (picture frame).format (option_map picture reference) }
+    requires quant { IsQuant header.now.quant }
+    requires rounding { header.now.rounding ≤ 1 }
+    requires radius { params.now.radius ≤ 15 }
+    requires mb { mb < mbs_of (picture frame).format }
+    ensures choice { result ≡ choice.choice_of (picture frame.entry) (option_map picture reference.entry) header.now params.now mb }
+    ensures in_range { IsMb result }
+    ensures of_kind { IsOfKind header.now.kind result }
+    ensures reach { ReachesInside (picture frame.entry).format mb result }
+    ensures plain { HasQuant header.now.quant result }
+{
     chosen_is_in_range();
     match reference {
         None => intra_macroblock(frame, mb, header.quant, params.keep),
-        Some(reference) => macroblock_in_p(frame, reference, mb, header, params),
+        Some(reference) => macroblock_in_p(frame, reference, mb, header, params, guess),
     }
 }
 
@@ -58,6 +82,7 @@ fn macroblock_in_p(
     mb: u32,
     header: &Header,
     params: &Params,
+    guess: Vector,
 ) -> Mb
     requires format { (picture frame).format ≡ (picture reference).format }
     requires quant { IsQuant header.now.quant }
@@ -66,7 +91,7 @@ fn macroblock_in_p(
     requires mb { mb < mbs_of (picture frame).format }
     ensures { result ≡ choice.choice_in_p (picture frame.entry) (picture reference.entry) header.now params.now mb }
 {
-    let (vector, cost) = search(frame, reference, mb, params.radius, header.rounding);
+    let (vector, cost) = search_from(frame, reference, mb, params.radius, header.rounding, guess);
     if is_intra(deviation(frame, mb), cost) {
         intra_macroblock(frame, mb, header.quant, params.keep)
     } else {

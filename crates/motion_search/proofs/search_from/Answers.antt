@@ -4,7 +4,7 @@ use Rattle.h263_planes.specs.Lent.{picture}
 use Rattle.motion_search.specs.declared.candidate.Candidate.{Candidate}
 use Rattle.motion_search.specs.Best.{IsCandidate}
 use Rattle.motion_search.proofs.Bests.{whole_is_candidate, near_is_candidate}
-use Rattle.motion_search.proofs.search.Goals as goal
+use Rattle.motion_search.proofs.search_from.Goals as goal
 
 pub best_of_neighbours-best-requires-clause-candidate : goal.best_of_neighbours-best-requires-clause-candidate
 best_of_neighbours-best-requires-clause-candidate c =
