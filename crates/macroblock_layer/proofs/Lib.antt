@@ -5,3 +5,4 @@ pub mod Within
 pub mod Blocks
 pub mod Lengths
 pub mod Spelt
+pub mod Sixes
