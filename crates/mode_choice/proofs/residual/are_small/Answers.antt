@@ -5,8 +5,11 @@ use Rattle.mode_choice.proofs.Levels.{no_level}
 use Rattle.mode_choice.proofs.Walk.{block_place_below}
 use Rattle.mode_choice.proofs.residual.are_small.Goals as goal
 
-pub returns : goal.returns
-returns c = λ small k.
+pub returns-then-squares_are_small : goal.returns-then-squares_are_small
+returns-then-squares_are_small c = λ _. c.squares_are_small.ensures c.if-squares_are_small.true
+
+pub returns-else-squares_are_small : goal.returns-else-squares_are_small
+returns-else-squares_are_small c = λ small k.
     let at : ℕ = block_place_of k in
     let below : at < 64 = block_place_below k in
     no_level c.args.quant (coefficient_at c.args.residuals.now k) c.requires.quant
