@@ -43,34 +43,45 @@ pub fn choose(
     ensures reach { ReachesInside (picture frame.entry).format mb result }
     ensures plain { HasQuant header.now.quant result }
 {
-    choose_from(frame, reference, mb, header, params, Vector::ZERO)
+    let mut chosen = Mb::Skip;
+    choose_into(
+        frame,
+        reference,
+        mb,
+        header,
+        params,
+        Vector::ZERO,
+        &mut chosen,
+    );
+    chosen
 }
 
-/// The same. The choice is that of `choose` whatever the guess is; it comes sooner where the guess, as the vector of a
-/// neighbour, is near to the best vector.
-pub fn choose_from(
+/// The same, into its place. The choice is that of `choose` whatever the guess is; it comes sooner where the guess, as the
+/// vector of a neighbour, is near to the best vector.
+pub fn choose_into(
     frame: PictureRef<'_>,
     reference: Option<PictureRef<'_>>,
     mb: u32,
     header: &Header,
     params: &Params,
     guess: Vector,
-) -> Mb
+    out: &mut Mb,
+)
     requires reference { HasReferenceOnlyInP header.now.kind (picture frame).format (option_map picture reference) }
     requires quant { IsQuant header.now.quant }
     requires rounding { header.now.rounding ≤ 1 }
     requires radius { params.now.radius ≤ 15 }
     requires mb { mb < mbs_of (picture frame).format }
-    ensures choice { result ≡ choice.choice_of (picture frame.entry) (option_map picture reference.entry) header.now params.now mb }
-    ensures in_range { IsMb result }
-    ensures of_kind { IsOfKind header.now.kind result }
-    ensures reach { ReachesInside (picture frame.entry).format mb result }
-    ensures plain { HasQuant header.now.quant result }
+    ensures choice { out.new ≡ choice.choice_of (picture frame.entry) (option_map picture reference.entry) header.now params.now mb }
+    ensures in_range { IsMb out.new }
+    ensures of_kind { IsOfKind header.now.kind out.new }
+    ensures reach { ReachesInside (picture frame.entry).format mb out.new }
+    ensures plain { HasQuant header.now.quant out.new }
 {
     chosen_is_in_range();
     match reference {
-        None => intra_macroblock(frame, mb, header.quant, params.keep),
-        Some(reference) => macroblock_in_p(frame, reference, mb, header, params, guess),
+        None => intra_macroblock(frame, mb, header.quant, params.keep, out),
+        Some(reference) => macroblock_in_p(frame, reference, mb, header, params, guess, out),
     }
 }
 
@@ -83,20 +94,21 @@ fn macroblock_in_p(
     header: &Header,
     params: &Params,
     guess: Vector,
-) -> Mb
+    out: &mut Mb,
+)
     requires format { (picture frame).format ≡ (picture reference).format }
     requires quant { IsQuant header.now.quant }
     requires rounding { header.now.rounding ≤ 1 }
     requires radius { params.now.radius ≤ 15 }
     requires mb { mb < mbs_of (picture frame).format }
-    ensures { result ≡ choice.choice_in_p (picture frame.entry) (picture reference.entry) header.now params.now mb }
+    ensures { out.new ≡ choice.choice_in_p (picture frame.entry) (picture reference.entry) header.now params.now mb }
 {
     let (vector, cost) = search_from(frame, reference, mb, params.radius, header.rounding, guess);
     if is_intra(deviation(frame, mb), cost) {
-        intra_macroblock(frame, mb, header.quant, params.keep)
-    } else {
-        inter_macroblock(frame, reference, mb, vector, header, params.keep)
+        intra_macroblock(frame, mb, header.quant, params.keep, out);
+        return;
     }
+    inter_macroblock(frame, reference, mb, vector, header, params.keep, out);
 }
 
 // Whether a macroblock is coded by itself.
@@ -116,23 +128,26 @@ fn inter_macroblock(
     vector: Vector,
     header: &Header,
     keep: u8,
-) -> Mb
+    out: &mut Mb,
+)
     requires format { (picture frame).format ≡ (picture reference).format }
     requires quant { IsQuant header.now.quant }
     requires rounding { header.now.rounding ≤ 1 }
     requires mb { mb < mbs_of (picture reference).format }
     requires reach { InReach (picture reference).format mb vector.x vector.y }
-    ensures { result ≡ choice.inter_of (picture frame.entry) (picture reference.entry) header.now.quant keep header.now.rounding mb vector }
+    ensures { out.new ≡ choice.inter_of (picture frame.entry) (picture reference.entry) header.now.quant keep header.now.rounding mb vector }
 {
-    let blocks = inter_blocks(frame, reference, mb, vector, header, keep);
+    let mut blocks = [Block { levels: [0; 64] }; 6];
+    inter_blocks(frame, reference, mb, vector, header, keep, &mut blocks);
     if vector.x == 0 && vector.y == 0 && are_empty(&blocks) {
-        return Mb::Skip;
+        *out = Mb::Skip;
+        return;
     }
-    Mb::Inter {
+    *out = Mb::Inter {
         quant: header.quant,
         vector,
         blocks,
-    }
+    };
 }
 
 // The levels of what a vector leaves of a macroblock's six blocks.
@@ -143,38 +158,37 @@ fn inter_blocks(
     vector: Vector,
     header: &Header,
     keep: u8,
-) -> [Block; 6]
+    out: &mut [Block; 6],
+)
     requires format { (picture frame).format ≡ (picture reference).format }
     requires quant { IsQuant header.now.quant }
     requires rounding { header.now.rounding ≤ 1 }
     requires mb { mb < mbs_of (picture reference).format }
     requires reach { InReach (picture reference).format mb vector.x vector.y }
-    ensures { result ≡ choice.residual_blocks_of (picture frame.entry) (picture reference.entry) header.now.quant keep header.now.rounding mb vector }
+    ensures { out.new ≡ choice.residual_blocks_of (picture frame.entry) (picture reference.entry) header.now.quant keep header.now.rounding mb vector }
 {
     one_more::<Block>();
     let predicted = predicted_blocks(reference, mb, vector, header.rounding);
-    let mut coded = [Block { levels: [0; 64] }; 6];
     for block in 0..6u32 {
         let number = block as usize;
         let residuals = block_residuals(frame, mb, block, &predicted[number]);
-        coded[number] = residual_block(header.quant, keep, &residuals);
+        out[number] = residual_block(header.quant, keep, &residuals);
     }
-    coded
 }
 
 // The macroblock coded by itself.
-fn intra_macroblock(frame: PictureRef<'_>, mb: u32, quant: u8, keep: u8) -> Mb
+fn intra_macroblock(frame: PictureRef<'_>, mb: u32, quant: u8, keep: u8, out: &mut Mb)
     requires quant { IsQuant quant }
     requires mb { mb < mbs_of (picture frame).format }
-    ensures { result ≡ choice.intra_of (picture frame.entry) quant keep mb }
+    ensures { out.new ≡ choice.intra_of (picture frame.entry) quant keep mb }
 {
     let mut coded = [Block { levels: [0; 64] }; 6];
     for block in 0..6u32 {
         let samples = block_samples(frame, mb, block);
         coded[block as usize] = intra_block(quant, keep, &samples);
     }
-    Mb::Intra {
+    *out = Mb::Intra {
         quant,
         blocks: coded,
-    }
+    };
 }

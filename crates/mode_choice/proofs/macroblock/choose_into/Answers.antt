@@ -5,7 +5,7 @@ use Rattle.h263_types.specs.References.{ReachesInside}
 use Rattle.h263_planes.specs.declared.lent.PictureRef.{PictureRef}
 use Rattle.h263_planes.specs.Lent.{picture}
 use Rattle.h263_planes.specs.References.{HasReferenceOnlyInP}
-use Rattle.mode_choice.proofs.macroblock.choose_from.Goals as goal
+use Rattle.mode_choice.proofs.macroblock.choose_into.Goals as goal
 
 pub returns-in-None-clause-in_range : goal.returns-in-None-clause-in_range
 returns-in-None-clause-in_range c =
