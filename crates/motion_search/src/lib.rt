@@ -16,6 +16,7 @@ mod lent;
 mod predicted;
 mod start;
 mod whole;
+mod window;
 mod within;
 
 use crate::half::best_of_neighbours;

@@ -1,7 +1,7 @@
 //! The vectors of whole samples within the radius.
 ghost use Rattle.std.specs.Prelude.{◌≡◌, ℕ, ◌+◌, ◌-◌, ◌*◌, ◌%◌, ◌/◌, ◌<◌, ◌≤◌, ◌↔◌, ℤ, pos, ◌≤ℤ◌, false, if◌then◌else◌};
-ghost use Rattle.h263_types.specs.Sizes.{columns_of, mbs_of};
-ghost use Rattle.h263_types.specs.Vectors.{InReach, IsWithin, whole_place};
+ghost use Rattle.h263_types.specs.Sizes.{mbs_of};
+ghost use Rattle.h263_types.specs.Vectors.{InReach, whole_place};
 ghost use Rattle.h263_planes.specs.Lent.{picture};
 ghost use Rattle.motion_search.specs.declared.candidate.Candidate.{Candidate};
 ghost use Rattle.motion_search.specs.Order.{before, first_of};
@@ -12,6 +12,7 @@ ghost use Rattle.motion_search.specs.Best.{best_whole, IsWholeCandidate};
 use crate::candidate::{Candidate, is_settled};
 use crate::lent::better_whole;
 use crate::start::zero;
+use crate::window::Window;
 use crate::within::{is_down, is_within};
 use h263_planes::PictureRef;
 use h263_planes::laws::planes_are_bytes;
@@ -113,35 +114,19 @@ fn nearest(radius: u8, component: i8) -> u32
 
 // The first of the best one and the vector in a column and a row of the square, where that is in reach.
 #[inline(always)]
-fn better_at(
-    block: &[u8; 256],
-    reference: PictureRef<'_>,
-    mb: u32,
-    left: u32,
-    top: u32,
-    reach: Reach,
-    radius: u8,
-    column: u32,
-    row: u32,
-    best: Candidate,
-) -> Candidate
-    requires mb { mb < mbs_of (picture reference).format }
-    requires left { left ≡ 16 * (mb % columns_of (picture reference).format) }
-    requires top { top ≡ 16 * (mb / columns_of (picture reference).format) }
-    requires reach { (x y : ℤ) → InReach (picture reference).format mb x y ↔ IsWithin reach x y }
-    requires radius { radius ≤ 15 }
-    requires column { column ≤ 2 * radius }
-    requires row { row ≤ 2 * radius }
-    requires zero { before (candidate_of block.now (picture reference) mb 0 zero_vector) best ≡ false }
+fn better_at(window: Window<'_>, column: u32, row: u32, best: Candidate) -> Candidate
+    requires column { column ≤ 2 * window.radius }
+    requires row { row ≤ 2 * window.radius }
+    requires zero { before (candidate_of window.block.now (picture window.reference) window.mb 0 zero_vector) best ≡ false }
     requires cost { IsCost best.cost }
-    ensures first { result ≡ (if in_reach (picture reference.entry).format mb (whole_at radius column row) then first_of best (candidate_of block.now (picture reference.entry) mb 0 (whole_at radius column row)) else best) }
+    ensures first { result ≡ (if in_reach (picture window.entry.reference).format window.entry.mb (whole_at window.entry.radius column row) then first_of best (candidate_of window.entry.block.now (picture window.entry.reference) window.entry.mb 0 (whole_at window.entry.radius column row)) else best) }
     ensures cost { IsCost result.cost }
 {
-    let vector = whole_vector(radius, column, row);
-    if is_within(reach, vector) {
-        let x = place(left, column, radius);
-        let y = place(top, row, radius) as u16;
-        better_whole(block, reference, mb, x, y, vector, best)
+    let vector = whole_vector(window.radius, column, row);
+    if is_within(window.reach, vector) {
+        let x = place(window.left, column, window.radius);
+        let y = place(window.top, row, window.radius) as u16;
+        better_whole(window, x, y, vector, best)
     } else {
         best
     }
@@ -149,71 +134,44 @@ fn better_at(
 
 // The first of the best one and the vectors in a row of the square that leads no further up or down than the reach.
 #[inline(always)]
-fn best_in_row(
-    block: &[u8; 256],
-    reference: PictureRef<'_>,
-    mb: u32,
-    left: u32,
-    top: u32,
-    reach: Reach,
-    radius: u8,
-    row: u32,
-    best: Candidate,
-) -> Candidate
-    requires mb { mb < mbs_of (picture reference).format }
-    requires left { left ≡ 16 * (mb % columns_of (picture reference).format) }
-    requires top { top ≡ 16 * (mb / columns_of (picture reference).format) }
-    requires reach { (x y : ℤ) → InReach (picture reference).format mb x y ↔ IsWithin reach x y }
-    requires radius { radius ≤ 15 }
-    requires row { row ≤ 2 * radius }
-    requires down { (reach.up ≤ℤ whole_component radius row) × (whole_component radius row ≤ℤ reach.down) }
-    requires zero { before (candidate_of block.now (picture reference) mb 0 zero_vector) best ≡ false }
-    requires candidate { IsWholeCandidate block.now (picture reference) mb radius 0 best }
+fn best_in_row(window: Window<'_>, row: u32, best: Candidate) -> Candidate
+    requires row { row ≤ 2 * window.radius }
+    requires down { (window.reach.up ≤ℤ whole_component window.radius row) × (whole_component window.radius row ≤ℤ window.reach.down) }
+    requires zero { before (candidate_of window.block.now (picture window.reference) window.mb 0 zero_vector) best ≡ false }
+    requires candidate { IsWholeCandidate window.block.now (picture window.reference) window.mb window.radius 0 best }
     requires cost { IsCost best.cost }
-    ensures candidate { IsWholeCandidate block.now (picture reference.entry) mb radius 0 result }
+    ensures candidate { IsWholeCandidate window.entry.block.now (picture window.entry.reference) window.entry.mb window.entry.radius 0 result }
     ensures kept { (d : Candidate) → before d best ≡ false → before d result ≡ false }
-    ensures none { (n : ℕ) → n < 2 * radius + 1 → InReach (picture reference.entry).format mb (whole_at radius n row).x (whole_at radius n row).y → before (candidate_of block.now (picture reference.entry) mb 0 (whole_at radius n row)) result ≡ false }
+    ensures none { (n : ℕ) → n < 2 * window.entry.radius + 1 → InReach (picture window.entry.reference).format window.entry.mb (whole_at window.entry.radius n row).x (whole_at window.entry.radius n row).y → before (candidate_of window.entry.block.now (picture window.entry.reference) window.entry.mb 0 (whole_at window.entry.radius n row)) result ≡ false }
     ensures cost { IsCost result.cost }
 {
-    let y = place(top, row, radius) as u16;
+    let y = place(window.top, row, window.radius) as u16;
     let mut first = best;
-    for column in first_column(radius, reach)..end_column(radius, reach) {
-        let vector = whole_vector(radius, column, row);
-        let x = place(left, column, radius);
-        first = better_whole(block, reference, mb, x, y, vector, first);
+    for column in first_column(window.radius, window.reach)..end_column(
+        window.radius,
+        window.reach,
+    ) {
+        let vector = whole_vector(window.radius, column, row);
+        let x = place(window.left, column, window.radius);
+        first = better_whole(window, x, y, vector, first);
     }
     first
 }
 
 // The first of the best one and the vectors in a row of the square.
 #[inline(always)]
-fn best_of_row(
-    block: &[u8; 256],
-    reference: PictureRef<'_>,
-    mb: u32,
-    left: u32,
-    top: u32,
-    reach: Reach,
-    radius: u8,
-    row: u32,
-    best: Candidate,
-) -> Candidate
-    requires mb { mb < mbs_of (picture reference).format }
-    requires left { left ≡ 16 * (mb % columns_of (picture reference).format) }
-    requires top { top ≡ 16 * (mb / columns_of (picture reference).format) }
-    requires reach { (x y : ℤ) → InReach (picture reference).format mb x y ↔ IsWithin reach x y }
-    requires radius { radius ≤ 15 }
-    requires row { row ≤ 2 * radius }
-    requires zero { before (candidate_of block.now (picture reference) mb 0 zero_vector) best ≡ false }
-    requires candidate { IsWholeCandidate block.now (picture reference) mb radius 0 best }
+fn best_of_row(window: Window<'_>, row: u32, best: Candidate) -> Candidate
+    requires row { row ≤ 2 * window.radius }
+    requires zero { before (candidate_of window.block.now (picture window.reference) window.mb 0 zero_vector) best ≡ false }
+    requires candidate { IsWholeCandidate window.block.now (picture window.reference) window.mb window.radius 0 best }
     requires cost { IsCost best.cost }
-    ensures candidate { IsWholeCandidate block.now (picture reference.entry) mb radius 0 result }
+    ensures candidate { IsWholeCandidate window.entry.block.now (picture window.entry.reference) window.entry.mb window.entry.radius 0 result }
     ensures kept { (d : Candidate) → before d best ≡ false → before d result ≡ false }
-    ensures none { (n : ℕ) → n < 2 * radius + 1 → InReach (picture reference.entry).format mb (whole_at radius n row).x (whole_at radius n row).y → before (candidate_of block.now (picture reference.entry) mb 0 (whole_at radius n row)) result ≡ false }
+    ensures none { (n : ℕ) → n < 2 * window.entry.radius + 1 → InReach (picture window.entry.reference).format window.entry.mb (whole_at window.entry.radius n row).x (whole_at window.entry.radius n row).y → before (candidate_of window.entry.block.now (picture window.entry.reference) window.entry.mb 0 (whole_at window.entry.radius n row)) result ≡ false }
     ensures cost { IsCost result.cost }
 {
-    if is_down(reach, whole_vector(radius, 0, row)) {
-        best_in_row(block, reference, mb, left, top, reach, radius, row, best)
+    if is_down(window.reach, whole_vector(window.radius, 0, row)) {
+        best_in_row(window, row, best)
     } else {
         best
     }
@@ -242,14 +200,21 @@ fn best_in_format(
     let left = 16 * (mb % format.columns());
     let top = 16 * (mb / format.columns());
     let reach = reach(format, mb);
+    let window = Window {
+        block,
+        reference,
+        mb,
+        left,
+        top,
+        reach,
+        radius,
+    };
     let across = nearest(radius, guess.x);
     let down = nearest(radius, guess.y);
-    let mut first = better_at(
-        block, reference, mb, left, top, reach, radius, across, down, zero,
-    );
+    let mut first = better_at(window, across, down, zero);
     for k in 0..2 * u32::from(radius) + 1 {
         let row = row_at(radius, k);
-        first = best_of_row(block, reference, mb, left, top, reach, radius, row, first);
+        first = best_of_row(window, row, first);
     }
     first
 }

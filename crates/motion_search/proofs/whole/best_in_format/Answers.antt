@@ -14,12 +14,8 @@ use Rattle.motion_search.proofs.Orders.{not_itself}
 use Rattle.motion_search.proofs.Places.{not_rounded, whole_not_rounded}
 use Rattle.motion_search.proofs.whole.best_in_format.Goals as goal
 
-pub best_of_row-first-requires-clause-reach : goal.best_of_row-first-requires-clause-reach
-best_of_row-first-requires-clause-reach c =
-    subst (λ (f : Format). (x y : ℤ) → InReach f c.args.mb x y ↔ IsWithin c.reach-reach.result x y) c.format-format.ensures.format c.reach-reach.ensures
-
-pub better_at-first-requires-clause-reach : goal.better_at-first-requires-clause-reach
-better_at-first-requires-clause-reach c =
+pub invariant_of-window-clause-reaches : goal.invariant_of-window-clause-reaches
+invariant_of-window-clause-reaches c =
     subst (λ (f : Format). (x y : ℤ) → InReach f c.args.mb x y ↔ IsWithin c.reach-reach.result x y) c.format-format.ensures.format c.reach-reach.ensures
 
 zero_first : (block : List ℕ) (p : Picture) (mb : ℕ) (zero : Candidate) → zero ≡ candidate_of block p mb 0 zero_vector → before (candidate_of block p mb 0 zero_vector) zero ≡ false
