@@ -7,7 +7,7 @@ ghost use Rattle.h263_types.specs.Sizes.{mbs_of};
 ghost use Rattle.h263_types.specs.Vectors.{InReach};
 ghost use Rattle.h263_planes.specs.Lent.{picture};
 ghost use Rattle.h263_planes.specs.References.{HasReferenceOnlyInP};
-ghost use Rattle.motion_search.specs.Cost.{IsCost};
+ghost use Rattle.motion_search.specs.Cost.{samples_of, IsCost};
 ghost use Rattle.mode_choice.specs.Choice as choice;
 
 use crate::deviation::deviation;
@@ -104,14 +104,27 @@ fn macroblock_in_p(
     ensures { out.new ≡ choice.choice_in_p (picture frame.entry) (picture reference.entry) header.now params.now mb }
 {
     let (vector, cost) = search_from(frame, reference, mb, params.radius, header.rounding, guess);
-    if is_intra(deviation(frame, mb), cost) {
+    if is_nearer_to_mean(frame, mb, cost) {
         intra_macroblock(frame, mb, header.quant, params.keep, out);
         return;
     }
     inter_macroblock(frame, reference, mb, vector, header, params.keep, out);
 }
 
-// Whether a macroblock is coded by itself.
+// Whether a macroblock is coded by itself, where the best vector costs so much: at 500 or less it isn't, and its mean
+// isn't asked for.
+fn is_nearer_to_mean(frame: PictureRef<'_>, mb: u32, cost: i32) -> bool
+    requires mb { mb < mbs_of (picture frame).format }
+    requires cost { IsCost cost }
+    ensures { result ≡ choice.is_intra (choice.deviation_of (samples_of (picture frame.entry) mb)) cost }
+{
+    if cost <= 500 {
+        return false;
+    }
+    is_intra(deviation(frame, mb), cost)
+}
+
+// The same by the sum of the differences from the mean.
 fn is_intra(deviation: u32, cost: i32) -> bool
     requires deviation { deviation ≤ 65280 }
     requires cost { IsCost cost }
