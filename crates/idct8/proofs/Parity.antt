@@ -1,7 +1,7 @@
 -- How large a coefficient is whose part of the block has a small sum of squares. A coefficient sees the block folded across
 -- and down, each time with a change of sign or without one, as its frequencies are odd or even.
 use Rattle.std.proofs.Common.{◌≡◌, refl, sym, ap, subst, ◌∙◌, arith, lit≤, ℕ, zero, suc, ◌+◌, ◌-◌, ◌*◌, ◌<◌, ◌≤◌, ◌^◌, ℤ, pos, ◌+ℤ◌, ◌*ℤ◌, ◌-ℤ◌, ◌<ℤ◌, neg_ℤ, negsuc, unsigned_abs, List, Bool, true, false, nat_lt, ltb-true, mul_comm}
-use borrow.Author.Differences.{up, down, product_is}
+use borrow.Author.Differences.{up, down}
 use Rattle.std.proofs.lemmas.Bool.Decides.{nat_tests}
 use Rattle.std.specs.Int.{int_shr}
 use Rattle.std.proofs.Math.Nat.{mul-le-mul, mul-le-mul_left}
@@ -79,12 +79,12 @@ times_difference m a b =
 neg_times : (a b : ℤ) → neg_ℤ a *ℤ b ≡ neg_ℤ (a *ℤ b)
 neg_times a b =
     let e : up (neg_ℤ a) + up a ≡ down (neg_ℤ a) + down a = omega (arith, ints) in
-    omega (arith, ints, product_is (neg_ℤ a) b, product_is a b, ap (λ k. k * up b) e, ap (λ k. k * down b) e)
+    omega (arith, ints, ap (λ k. k * up b) e, ap (λ k. k * down b) e)
 
 times_neg : (a b : ℤ) → a *ℤ neg_ℤ b ≡ neg_ℤ (a *ℤ b)
 times_neg a b =
     let e : up (neg_ℤ b) + up b ≡ down (neg_ℤ b) + down b = omega (arith, ints) in
-    omega (arith, ints, product_is a (neg_ℤ b), product_is a b, ap (λ k. up a * k) e, ap (λ k. down a * k) e)
+    omega (arith, ints, ap (λ k. up a * k) e, ap (λ k. down a * k) e)
 
 signed_times : (o : Bool) (a b : ℤ) → signed o a *ℤ b ≡ signed o (a *ℤ b)
 signed_times false a b = refl
@@ -95,7 +95,7 @@ times_signed false a b = refl
 times_signed true a b = times_neg a b
 
 less_is : (a b : ℤ) → a +ℤ neg_ℤ b ≡ a -ℤ b
-less_is a b = omega (arith, ints)
+less_is a b = refl
 
 -- a factor, and the same with a sign
 one_factor : (o : Bool) (c s t : ℤ) → c *ℤ s +ℤ signed o (c *ℤ t) ≡ c *ℤ mirrored o s t
@@ -335,7 +335,8 @@ part_small s v u t most o q hv hu energies few top =
     subst (λ (n : ℕ). factor * unsigned_abs all ≤ n) (total_both (t * t) (2 ^ 46) 4 (λ x. total 4 (product x)) (λ x. total 4 (squares x)))
     (size_of_sum factor 4 (λ x. sum_below 4 (term x)) (λ x. t * t * total 4 (product x) + 2 ^ 46 * total 4 (squares x)) column) in
     let products : t * t * total 4 (λ x. total 4 (product x)) ≤ t * t * (16777851 * 16777851) = mul-le-mul_left (t * t) (basis_squares u v hu hv) in
-    below (unsigned_abs all) (total 4 (λ x. total 4 (squares x))) t (omega (arith, whole, products)) (omega (arith, energies, few)) top
+    let small : total 4 (λ x. total 4 (squares x)) ≤ most = energies in
+    below (unsigned_abs all) (total 4 (λ x. total 4 (squares x))) t (omega (arith, whole, products)) (omega (arith, small, few)) top
 
 -- a coefficient is smaller than t where each part of the block has so small a sum of squares
 pub coefficient_below : (s : List ℤ) (v u t most : ℕ) → v < 8 → u < 8 → ((o q : Bool) → energy o q s ≤ most) → most + 4 * t + 4 < 4 * (t * t) → t ≤ 77 →
