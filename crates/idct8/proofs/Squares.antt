@@ -1,6 +1,6 @@
 -- Sums of squares, as the lanes add them up.
-use Rattle.std.proofs.Common.{◌≡◌, ℕ, ◌+◌, ◌*◌, ◌<◌, ◌∙◌, suc, ap, sym, arith, refl, lit≤, ℤ, pos, negsuc, ◌+ℤ◌, ◌*ℤ◌, unsigned_abs, length, List, [], ◌∷◌}
-use Rattle.std.proofs.lemmas.Int.{ints}
+use Rattle.std.proofs.Common.{◌≡◌, ℕ, ◌+◌, ◌*◌, ◌<◌, ◌≤◌, ◌∙◌, ap, sym, subst, map, arith, refl, lit≤, ℤ, pos, negsuc, ◌+ℤ◌, ◌*ℤ◌, unsigned_abs, length, List, [], ◌∷◌, to_z, of_z, w32}
+use Rattle.std.proofs.lemmas.Int.{ints, to_z-of_z}
 use Rattle.idct8.specs.Ranges.{IsSample}
 use Rattle.idct8.specs.Transform.{entry}
 use Rattle.idct8.specs.Vectors.{lane, square, EightWithin}
@@ -8,6 +8,8 @@ use Rattle.std.specs.Prelude.{All}
 use Rattle.idct8.proofs.Factors.{within_same}
 use Rattle.idct8.proofs.Results.{sample_within}
 use Rattle.idct8.proofs.Parity.{below_four}
+use Rattle.idct8.proofs.Vectors.{passed_lane, within_fits}
+use Rattle.idct8.proofs.Wraps.{abs_from_within}
 
 pub product_is_square : (z : ℤ) → z *ℤ z ≡ pos (square z)
 product_is_square (pos n) = refl
@@ -49,3 +51,12 @@ first_four {c0} {c1} {c2} {c3} {c4} {c5} {c6} {c7} f k hk e0 e1 e2 e3 =
 pub last_four : {c0 c1 c2 c3 c4 c5 c6 c7 : ℤ} (f : ℕ → ℤ) (k : ℕ) → k < 4 → c4 ≡ f 0 → c5 ≡ f 1 → c6 ≡ f 2 → c7 ≡ f 3 → lane (c0 ∷ c1 ∷ c2 ∷ c3 ∷ c4 ∷ c5 ∷ c6 ∷ c7 ∷ []) (4 + k) ≡ f k
 last_four {c0} {c1} {c2} {c3} {c4} {c5} {c6} {c7} f k hk e4 e5 e6 e7 =
     below_four (λ k. lane (c0 ∷ c1 ∷ c2 ∷ c3 ∷ c4 ∷ c5 ∷ c6 ∷ c7 ∷ []) (4 + k) ≡ f k) e4 e5 e6 e7 k hk
+
+-- the size of a lane that was read
+pub size_read : (v : List ℤ) (k n : ℕ) → EightWithin 1073479696 v → k < 8 → n ≡ unsigned_abs (to_z w32 (of_z w32 (lane (map (to_z w32) (map (of_z w32) v)) k))) →
+    (n ≡ unsigned_abs (lane v k)) × (n ≤ 1073479696)
+size_read v k n h hk e =
+    let passed : lane (map (to_z w32) (map (of_z w32) v)) k ≡ lane v k = passed_lane 1073479696 k (lit≤ tt) h in
+    let kept : to_z w32 (of_z w32 (lane v k)) ≡ lane v k = to_z-of_z w32 (lane v k) (within_fits 1073479696 (lane v k) (lit≤ tt) (h.within k hk)) in
+    let is : n ≡ unsigned_abs (lane v k) = e ∙ ap (λ (z : ℤ). unsigned_abs (to_z w32 (of_z w32 z))) passed ∙ ap unsigned_abs kept in
+    (is, subst (λ (m : ℕ). m ≤ 1073479696) (sym is) (abs_from_within 1073479696 (lane v k) (h.within k hk)))
