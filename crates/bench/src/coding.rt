@@ -4,7 +4,7 @@ ghost use Rattle.h263_types.specs.Clocks.{period_of};
 ghost use Rattle.h263_types.specs.Params.{IsParams};
 ghost use Rattle.h263_types.specs.Sizes.{size_of_picture};
 ghost use Rattle.h263_planes.specs.Lent.{picture};
-ghost use Rattle.packet_cutter.specs.Cutting.{format_of, limit_of};
+ghost use Rattle.packet_cutter.specs.Cutting.{format_of, limit_of, packets_of};
 
 use crate::times::Stop;
 use h263_planes::{PictureMut, PictureRef};
@@ -43,6 +43,20 @@ impl Coder {
             last: vec![in alloc; 0; size]?,
             work: vec![in alloc; 0; size]?,
         })
+    }
+
+    /// How many packets the last picture has.
+    pub fn count(&self) -> u32
+        ensures { result ≡ length (packets_of self.now.cutter) }
+    {
+        self.cutter.count()
+    }
+
+    /// Packet `i` of the last picture.
+    pub fn packet(&self, i: u32) -> &[u8]
+        requires { i < length (packets_of self.now.cutter) }
+    {
+        self.cutter.packet(i)
     }
 
     /// Codes a picture by itself.

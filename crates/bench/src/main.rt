@@ -1,10 +1,13 @@
-//! Times the parts of a call on the made video: `bench FRAMES [SLOTS]` codes, reads and plays so many
-//! frames in each format, with so many pictures kept at each end (16 if not told), and prints what a
-//! frame took in each part.
+//! Times the parts of a call on the made video: `bench FRAMES [SLOTS [RUNS [NOISE]]]` codes, reads and
+//! plays so many frames in each format, with so many pictures kept at each end (16 if not told), and
+//! prints what a frame took in each part: the least of so many runs (1 if not told). NOISE is the most
+//! that a made noise changes a sample by (0 if not told): without one hardly a block is transformed.
 //!
 //! What is timed, in microseconds a frame: `code`, a picture coded whole ([`coding`]); `send`, the
 //! same by a sender; `read`, its packets read and reconstructed ([`reading`]); `receive`, the same by
 //! a receiver, with the play. So `send` over `code` and `receive` over `read` is what the ends add.
+//! `call` is `send` and `receive` together; `code_intra` and `read_intra` are for each frame coded by
+//! itself.
 //! Nothing is promised of these numbers. Of the code it is proved that it is safe.
 #![tactic(auto)]
 
@@ -20,13 +23,15 @@ use h263_types::{Format, Params};
 use runs::run;
 use std::process::ExitCode;
 use std::{env, io};
-use times::Stop;
+use times::{Stop, best};
 
-// What is asked for: so many frames, and so many pictures kept at each end.
+// What is asked for: so many frames, so many pictures kept at each end, so many runs, and a noise.
 #[derive(Clone, Copy, Debug, PartialEq, Eq)]
 struct Words {
     frames: u32,
     slots: u32,
+    runs: u32,
+    noise: u8,
 }
 
 // A number of a word, where there is one; else a default.
@@ -49,8 +54,15 @@ fn asked(rt: &HostRuntime) -> io::Result<Option<Words>>
     let mut words = env::args(rt)?.skip(1);
     let frames = number(words.next(), None, 100_000);
     let slots = number(words.next(), Some(16), 64);
-    match (frames, slots) {
-        (Some(frames), Some(slots)) => Ok(Some(Words { frames, slots })),
+    let runs = number(words.next(), Some(1), 1000);
+    let noise = number(words.next(), Some(0), 64);
+    match (frames, slots, runs, noise) {
+        (Some(frames), Some(slots), Some(runs), Some(noise)) => Ok(Some(Words {
+            frames,
+            slots,
+            runs,
+            noise: noise as u8,
+        })),
         _ => Ok(None),
     }
 }
@@ -72,12 +84,17 @@ fn params_of(format: Format, slots: u32) -> Option<Params>
 
 fn bench(rt: &HostRuntime) -> Result<(), Stop> {
     let Some(asked) = asked(rt)? else {
-        println!(rt; "usage: bench FRAMES [SLOTS] (100000 and 64 at most)")?;
+        println!(rt;
+            "usage: bench FRAMES [SLOTS [RUNS [NOISE]]] (100000, 64, 1000 and 64 at most)"
+        )?;
         return Ok(());
     };
     for format in [Format::SubQcif, Format::Qcif, Format::Cif] {
         if let Some(params) = params_of(format, asked.slots) {
-            let times = run(rt, &params, asked.frames)?;
+            let mut times = run(rt, &params, asked.frames, asked.noise)?;
+            for _ in 1..asked.runs {
+                times = best(&times, &run(rt, &params, asked.frames, asked.noise)?);
+            }
             println!(rt; "{times}")?;
         }
     }

@@ -249,12 +249,74 @@ fn read_both(
     Ok(said)
 }
 
+// What codes each picture by itself, and reads it.
+#[derive(Drop)]
+struct Stills {
+    coder: Coder,
+    reader: Reader,
+}
+
+impl Stills {
+    fn start(alloc: Global, params: &Params) -> Result<Stills, Stop>
+        requires { IsParams params.now }
+        ensures { IfOk result (λ stills. stills.coder.params ≡ params.now) }
+    {
+        Ok(Stills {
+            coder: Coder::start(alloc, params)?,
+            reader: Reader::start(alloc, params.format)?,
+        })
+    }
+}
+
+// Reads the packets of a picture that was coded by itself.
+fn read_still(stills: &mut Stills)
+    ensures { stills.new.coder ≡ stills.old.coder }
+{
+    stills.reader.begin();
+    'packets: for i in 0..stills.coder.count() {
+        stills.reader.packet(stills.coder.packet(i));
+    }
+}
+
+// Codes a frame by itself, and reads it.
+fn take_still(
+    rt: &HostRuntime,
+    number: u32,
+    frame: PictureRef<'_>,
+    stills: &mut Stills,
+    times: &mut Times,
+) -> io::Result<()>
+    requires { (picture frame).format ≡ stills.old.coder.params.format }
+    ensures params { stills.new.coder.params ≡ stills.old.coder.params }
+    ensures format { times.new.format ≡ times.old.format }
+{
+    let begin = Instant::now(rt)?;
+    stills.coder.intra(frame, number);
+    add_since(rt, &begin, &mut times.code_intra)?;
+    let begin = Instant::now(rt)?;
+    read_still(stills);
+    add_since(rt, &begin, &mut times.read_intra)
+}
+
+// Adds a made noise to each sample, as a camera does: from -`most` to `most`.
+fn add_noise(samples: &mut [u8], most: u8, seed: u32) {
+    let span = 2 * u32::from(most) + 1;
+    let mut state = seed;
+    for k in 0..samples.len() {
+        state = state.wrapping_mul(1_664_525).wrapping_add(1_013_904_223);
+        let noise = ((state >> 16) % span) as i32 - i32::from(most);
+        samples[k] = (i32::from(samples[k]) + noise).clamp(0, 255) as u8;
+    }
+}
+
 // One frame of the made video, of the format that is measured.
 fn take_frame(
     rt: &HostRuntime,
     number: u32,
     ends: &mut Ends,
     alone: &mut Alone,
+    stills: &mut Stills,
+    noise: u8,
     samples: &mut [u8],
     times: &mut Times,
 ) -> io::Result<()>
@@ -262,11 +324,13 @@ fn take_frame(
     requires left { ends.old.sender.state.sent < 1048576 }
     requires few { ends.old.receiver.played < 2 ^ 20 }
     requires params { alone.old.coder.params ≡ ends.old.sender.state.params }
+    requires stills { stills.old.coder.params ≡ ends.old.sender.state.params }
     requires format { times.old.format ≡ ends.old.sender.state.params.format }
     requires size { length samples.old ≡ size_of_picture ends.old.sender.state.params.format }
     ensures ready { IsReady ends.new.sender.state }
     ensures sender_params { ends.new.sender.state.params ≡ ends.old.sender.state.params }
     ensures params { alone.new.coder.params ≡ alone.old.coder.params }
+    ensures stills { stills.new.coder.params ≡ stills.old.coder.params }
     ensures format { times.new.format ≡ times.old.format }
     ensures size { length samples.new ≡ length samples.old }
     ensures sent { IfOk result (λ _. ends.new.sender.state.sent
@@ -275,7 +339,9 @@ fn take_frame(
 {
     let format = times.format;
     make_input::frame(format, 0, number, &mut PictureMut::new(format, samples));
+    add_noise(samples, noise, number);
     let frame = PictureRef::new(format, samples);
+    take_still(rt, number, frame, stills, times)?;
     let coded = code_both(rt, number, frame, ends, alone, times)?;
     let bytes = bytes_of(&ends.sender, coded.packets);
     times.bytes = times.bytes.saturating_add(bytes);
@@ -291,6 +357,8 @@ fn take_frames(
     frames: u32,
     ends: &mut Ends,
     alone: &mut Alone,
+    stills: &mut Stills,
+    noise: u8,
     samples: &mut [u8],
     times: &mut Times,
 ) -> io::Result<()>
@@ -299,26 +367,38 @@ fn take_frames(
     requires sent { ends.old.sender.state.sent ≡ 0 }
     requires played { ends.old.receiver.played ≡ 0 }
     requires params { alone.old.coder.params ≡ ends.old.sender.state.params }
+    requires stills { stills.old.coder.params ≡ ends.old.sender.state.params }
     requires format { times.old.format ≡ ends.old.sender.state.params.format }
     requires size { length samples.old ≡ size_of_picture ends.old.sender.state.params.format }
 {
     'frames: for number in 0..frames {
-        take_frame(rt, number, ends, alone, samples, times)?;
+        take_frame(rt, number, ends, alone, stills, noise, samples, times)?;
         times.frames = number + 1;
     }
     Ok(())
 }
 
-/// What so many frames of the made video take, each picture known before the next one is coded.
-pub fn run(rt: &HostRuntime, params: &Params, frames: u32) -> Result<Times, Stop>
+/// What so many frames of the made video take, each picture known before the next one is coded. Each sample has a noise of up
+/// to `noise`.
+pub fn run(rt: &HostRuntime, params: &Params, frames: u32, noise: u8) -> Result<Times, Stop>
     requires params { IsParams params.now }
     requires frames { frames ≤ 100000 }
 {
     let mut times = Times::new(params.format);
     let mut samples = vec![in rt.alloc(); 0; params.format.size() as usize]?;
     let mut alone = Alone::start(rt.alloc(), params)?;
+    let mut stills = Stills::start(rt.alloc(), params)?;
     let mut ends = Ends::start(rt.alloc(), params)?;
-    let taken = take_frames(rt, frames, &mut ends, &mut alone, &mut samples, &mut times);
+    let taken = take_frames(
+        rt,
+        frames,
+        &mut ends,
+        &mut alone,
+        &mut stills,
+        noise,
+        &mut samples,
+        &mut times,
+    );
     ends.finish();
     taken?;
     Ok(times)

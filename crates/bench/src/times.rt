@@ -47,6 +47,9 @@ pub struct Times {
     pub send: u64,
     pub read: u64,
     pub receive: u64,
+    /// A picture coded by itself, and its packets read.
+    pub code_intra: u64,
+    pub read_intra: u64,
 }
 
 impl Times {
@@ -62,7 +65,26 @@ impl Times {
             send: 0,
             read: 0,
             receive: 0,
+            code_intra: 0,
+            read_intra: 0,
         }
+    }
+}
+
+/// The least time of each part in two measurements of the same frames.
+pub fn best(a: &Times, b: &Times) -> Times
+    ensures { result.format ≡ a.now.format }
+{
+    Times {
+        format: a.format,
+        frames: a.frames,
+        bytes: a.bytes,
+        code: a.code.min(b.code),
+        send: a.send.min(b.send),
+        read: a.read.min(b.read),
+        receive: a.receive.min(b.receive),
+        code_intra: a.code_intra.min(b.code_intra),
+        read_intra: a.read_intra.min(b.read_intra),
     }
 }
 
@@ -89,12 +111,15 @@ impl Display for Times {
         let frames = self.frames;
         write!(
             f,
-            " bytes {} code {} send {} read {} receive {}",
+            " bytes {} code {} send {} read {} receive {} call {} code_intra {} read_intra {}",
             self.bytes / frames as u64,
             micros(self.code, frames),
             micros(self.send, frames),
             micros(self.read, frames),
             micros(self.receive, frames),
+            micros(self.send.saturating_add(self.receive), frames),
+            micros(self.code_intra, frames),
+            micros(self.read_intra, frames),
         )
     }
 }

@@ -10,6 +10,7 @@ invariant-frames l = record {
   sent : l.ends.sender.state.sent ≡ l.number;
   played : l.ends.receiver.played ≡ l.number;
   params : l.alone.coder.params ≡ l.ends.sender.state.params;
+  stills : l.stills.coder.params ≡ l.ends.sender.state.params;
   format : l.times.format ≡ l.ends.sender.state.params.format;
   size : length l.samples ≡ size_of_picture l.ends.sender.state.params.format;
 }
