@@ -319,7 +319,14 @@ below size squares t h few most = below_by (nat_lt (size + 2 ^ 24) (2 ^ 25 * t))
 abbrev pub energy : Bool → Bool → List ℤ → ℕ
 energy o q s = total 4 (λ x. total 4 (λ y. square (part o q s y x)))
 
--- the same of a sum over a part
+-- a fact of each part
+pub each_part : (s : List ℤ) (most : ℕ) → energy false false s ≤ most → energy false true s ≤ most → energy true false s ≤ most → energy true true s ≤ most → (o q : Bool) → energy o q s ≤ most
+each_part s most a b c d false false = a
+each_part s most a b c d false true = b
+each_part s most a b c d true false = c
+each_part s most a b c d true true = d
+
+-- how large a sum over a part is
 part_small : (s : List ℤ) (v u t most : ℕ) (o q : Bool) → v < 8 → u < 8 → energy o q s ≤ most → most + 4 * t + 4 < 4 * (t * t) → t ≤ 77 →
     unsigned_abs (sum_below 4 (λ x. sum_below 4 (λ y. basis u x *ℤ basis v y *ℤ part o q s y x))) + 2 ^ 24 < 2 ^ 25 * t
 part_small s v u t most o q hv hu energies few top =
