@@ -2,7 +2,7 @@
 //! even or odd across, and each column down. So a coefficient sees only one of four parts of the block, which is folded
 //! across and down, with or without a change of sign; and but for its rounding the square of a coefficient is at most a
 //! quarter of the sum of squares of its part.
-ghost use Rattle.std.specs.Prelude.{◌≡◌, ℕ, ◌+◌, ◌-◌, ◌<◌, ◌≤◌, ◌^◌, All, IsTrue, pos, ◌+ℤ◌, ◌-ℤ◌, unsigned_abs};
+ghost use Rattle.std.specs.Prelude.{◌≡◌, ℕ, ◌+◌, ◌-◌, ◌<◌, ◌≤◌, All, IsTrue, pos, ◌+ℤ◌, ◌-ℤ◌, unsigned_abs};
 ghost use Rattle.idct8.specs.Ranges.{IsSample};
 ghost use Rattle.idct8.specs.Transform.{entry, forward_at};
 ghost use Rattle.idct8.specs.Vectors.{lane, EightWithin, RowsWithin, row_at, square};

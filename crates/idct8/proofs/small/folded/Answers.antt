@@ -1,4 +1,4 @@
-use Rattle.std.proofs.Common.{ℕ, ◌-◌, ◌∙◌, ap, lit≤, ℤ, ◌+ℤ◌, ◌-ℤ◌, List}
+use Rattle.std.proofs.Common.{ℕ, ◌+◌, ◌-◌, ◌∙◌, ap, lit≤, ℤ, ◌+ℤ◌, ◌-ℤ◌, List}
 use Rattle.idct8.specs.Transform.{entry}
 use Rattle.idct8.specs.Vectors.{lane}
 use Rattle.idct8.proofs.Squares.{first_four, last_four}
