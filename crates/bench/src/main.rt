@@ -13,10 +13,8 @@ ghost use Rattle.h263_types.specs.Params.{IsParams};
 
 mod coding;
 mod reading;
-mod recording;
 mod runs;
 mod times;
-mod video;
 
 use h263_types::{Format, Params};
 use runs::run;

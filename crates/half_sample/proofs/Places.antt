@@ -1,5 +1,5 @@
 -- From a moved block to its moved samples, and that they lie inside the plane.
-use Rattle.std.proofs.Common.{◌≡◌, ℕ, suc, min, negsuc, refl, ◌+◌, ◌*◌, ◌/◌, ◌%◌, ◌≤◌, ℤ, pos, ◌+ℤ◌, ◌≤ℤ◌, Bool, cond, not, nat_eq, arith, ap, ◌∙◌, sym, subst, unsigned_abs}
+use Rattle.std.proofs.Common.{◌≡◌, ℕ, suc, min, negsuc, refl, ◌+◌, ◌*◌, ◌/◌, ◌%◌, ◌≤◌, ◌<◌, ℤ, pos, ◌+ℤ◌, ◌≤ℤ◌, Bool, cond, not, nat_eq, arith, ap, ◌∙◌, sym, subst, unsigned_abs}
 use Rattle.std.proofs.lemmas.Int.{ints}
 use Rattle.std.proofs.lemmas.Bool.Decides.{nat_tests}
 use Rattle.std.specs.Int.{int_shr}
@@ -56,6 +56,10 @@ luma_inside f mb v {x} {y} {hx} {hy} r ex ey ehx ehy =
     let across = luma_ends (16 * (mb % columns_of f)) (width_of f) x hx v.x r.0.2 ex ehx in
     let down = luma_ends (16 * (mb / columns_of f)) (height_of f) y hy v.y r.1.2 ey ehy in
     record { in_row = across; in_plane = omega arith }
+
+-- four of its rows read no further down
+pub quarter_inside : (f : Format) (first : ℕ) → first < 4 → {x y n half : ℕ} → Inside f Y x (y + 15 + half) n → Inside f Y x (y + first + 12 + half) n
+quarter_inside f first h {x} {y} {n} {half} i = record { in_row = i.in_row; in_plane = omega (arith, h, i.in_plane) }
 
 -- a luma component in reach keeps the samples of a colour inside their plane, at its beginning
 pub colour_begins : (k size : ℕ) (v : ℤ) → InSide (16 * k) size v → pos 0 ≤ℤ (pos (8 * k) +ℤ int_shr v 2)

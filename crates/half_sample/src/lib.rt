@@ -6,7 +6,7 @@ mod macroblock;
 mod place;
 mod rows;
 
-pub use macroblock::{Predicted, chroma, luma, predict};
+pub use macroblock::{Predicted, chroma, luma, luma_quarter, predict};
 
 #[cfg(test)]
 mod tests;

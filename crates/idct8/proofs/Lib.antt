@@ -8,3 +8,5 @@ pub mod Vectors
 pub mod Rotations
 pub mod Shifts
 pub mod Weaving
+pub mod Parity
+pub mod Squares

@@ -116,6 +116,37 @@ product_words m v hm hv = record {
     wide_long : length (map wide (map (of_z w16) v)) ≡ 8
     wide_long = length-map (map (of_z w16) v) wide ∙ long
 
+square_is : (x : ℤ) → Within 16382 x → times (of_z w32 x) (of_z w32 x) ≡ of_z w32 (x *ℤ x)
+square_is x hx =
+    let small : Within (16382 * 16382) (x *ℤ x) = within_mul 16382 16382 x x hx hx in
+    let fx : FitsSigned w32 x = omega (arith, ints) in
+    let fits : FitsSigned w32 (x *ℤ x) = omega (arith, ints) in
+    let bx : of_z w32 x < 2 ^ 32 = omega (arith, ints) in
+    let e : to_z w32 (times (of_z w32 x) (of_z w32 x)) ≡ x *ℤ x =
+    rw (to_z-of_z w32 x fx) at (wrapping_mul-bits w32 (of_z w32 x) (of_z w32 x) bx bx) ∙ int_wrap_fits w32 (x *ℤ x) fits in
+    sym (of_z-to_z w32 (times (of_z w32 x) (of_z w32 x)) (omega arith)) ∙ ap (of_z w32) e
+
+-- the squares of a vector of numbers of 16 bits, made wide
+pub square_words : (v : List ℤ) → EightWithin 16382 v → Words w32 (16382 * 16382) (zip2 times (map wide (map (of_z w16) v)) (map wide (map (of_z w16) v))) (λ i. lane v i *ℤ lane v i)
+square_words v hv = record {
+  long = length-zip2 times (map wide (map (of_z w16) v)) (map wide (map (of_z w16) v)) refl ∙ wide_long;
+  spelt = λ i hi.
+      get_or-zip2 times (map wide (map (of_z w16) v)) (map wide (map (of_z w16) v)) i 0 0 0 (omega (arith, wide_long)) (omega (arith, wide_long))
+      ∙ cc (
+        get_or-map wide (map (of_z w16) v) i 0 0 (omega (arith, long)),
+        get_or-map (of_z w16) v i (pos 0) 0 (omega (arith, hv.long)),
+        wide_is (lane v i) (within_more 16382 32767 (lane v i) (omega arith) (hv.within i hi)),
+        square_is (lane v i) (hv.within i hi),
+      );
+  small = λ i hi. within_mul 16382 16382 (lane v i) (lane v i) (hv.within i hi) (hv.within i hi);
+}
+  where
+    long : length (map (of_z w16) v) ≡ 8
+    long = length-map v (of_z w16) ∙ hv.long
+
+    wide_long : length (map wide (map (of_z w16) v)) ≡ 8
+    wide_long = length-map (map (of_z w16) v) wide ∙ long
+
 -- the words of a vector
 pub own_words : (w : Width) (n : ℕ) (v : List ℤ) → EightWithin n v → Words w n (map (of_z w) v) (lane v)
 own_words w n v h = record {

@@ -1,8 +1,12 @@
 -- Vectors of eight numbers.
-use Rattle.std.specs.Prelude.{◌≡◌, ℕ, ◌<◌, ℤ, pos, List, [], ◌∷◌, length, slice_index_or}
+use Rattle.std.specs.Prelude.{◌≡◌, ℕ, ◌*◌, ◌<◌, ℤ, pos, unsigned_abs, List, [], ◌∷◌, length, slice_index_or}
 use Rattle.idct8.specs.declared.passes.Rows.{Rows}
 use Rattle.idct8.specs.declared.passes.Sums.{Sums}
 use Rattle.idct8.specs.Ranges.{Within}
+
+-- the square of a number
+abbrev pub square : ℤ → ℕ
+square z = unsigned_abs z * unsigned_abs z
 
 -- lane i of a vector
 abbrev pub lane : List ℤ → ℕ → ℤ

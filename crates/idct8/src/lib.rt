@@ -5,10 +5,12 @@
 pub mod laws;
 mod parts;
 mod passes;
+mod small;
 mod terms;
 mod turns;
 mod two_passes;
 
+pub use small::are_below;
 pub use two_passes::{forward, inverse};
 
 #[cfg(test)]

@@ -114,3 +114,24 @@ fn one_horizontal_coefficient(rt: HostRuntime) {
         assert_eq!(rt; row, [17, 15, 10, 3, -3, -10, -15, -17].as_slice());
     }
 }
+
+#[test]
+fn quick_test_is_right(rt: HostRuntime) {
+    let rows = [
+        (0, 77, false),
+        (1, 77, false),
+        (4, 77, false),
+        (5, 51, true),
+        (5, 50, false),
+        (68, 51, true),
+        (69, 2, true),
+        (69, 1, false),
+    ];
+    for (kind, least, small) in rows {
+        assert_eq!(rt;
+            are_below(&samples_of(kind), least),
+            small,
+            "{kind} at {least}"
+        );
+    }
+}

@@ -170,7 +170,7 @@ fn rows(block: &[i16; 64]) -> Rows
 }
 
 #[inline(always)]
-fn row(block: &[i16; 64], j: usize) -> i16x8
+pub(crate) fn row(block: &[i16; 64], j: usize) -> i16x8
     requires j { j < 8 }
     requires block { All (Within (2 ^ 11)) block.now }
     ensures numbers { (i : ℕ) → i < 8 → lane result i ≡ entry block.now j i }

@@ -6,3 +6,4 @@ pub mod Blocks
 pub mod Lengths
 pub mod Spelt
 pub mod FaultRows
+pub mod Sixes

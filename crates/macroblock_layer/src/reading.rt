@@ -3,7 +3,6 @@ ghost use Rattle.std.specs.Prelude.{◌≡◌, ℕ, ℤ, List, Bool, ◌++◌, �
 ghost use Rattle.h263_bits.specs.Reading.{Gives, Takes, first_fault};
 ghost use Rattle.h263_bits.specs.Syntax.{reading, Turn};
 ghost use Rattle.h263_types.specs.Blocks.{IsQuant, IsMb, IsOfKind};
-ghost use Rattle.h263_types.specs.declared.blocks.Block.{Block};
 ghost use Rattle.h263_types.specs.declared.blocks.Mb.{Mb};
 ghost use Rattle.h263_types.specs.declared.vector.Vector.{Vector};
 ghost use Rattle.macroblock_layer.specs.Text.{class_turn, lead_turn, lead, is_intra, quantiser, limited, difference, moved, wrapped, is_within_across, is_within_along, is_within, vector, intra, inter, blocks, intra_mb, inter_mb, coded_mb, behind, mb, IsMbText, macroblock_fault};
@@ -133,52 +132,61 @@ fn read_vector(reader: &mut BitReader<'_>, reach: Reach, predictor: Vector) -> R
 }
 
 #[tactic(auto, unfolding(crate::specs::Text::intra, h263_bits::specs::Syntax::reading))]
-fn read_intra_block(reader: &mut BitReader<'_>, coded: bool) -> Result<Block, Fault>
-    ensures { Gives (λ (b : Block). b) result reader.new (reading (intra coded) reader.old) }
+fn read_intra_block(reader: &mut BitReader<'_>, coded: bool, out: &mut Block) -> Result<(), Fault>
+    ensures { Gives (λ _. out.new) result reader.new (reading (intra coded) reader.old) }
 {
-    let mut block = Block { levels: [0; 64] };
-    read_intra(reader, coded, &mut block)?;
-    Ok(block)
+    read_intra(reader, coded, out)?;
+    Ok(())
 }
 
 #[tactic(auto, unfolding(crate::specs::Text::inter, h263_bits::specs::Syntax::reading))]
-fn read_inter_block(reader: &mut BitReader<'_>, coded: bool) -> Result<Block, Fault>
-    ensures { Gives (λ (b : Block). b) result reader.new (reading (inter coded) reader.old) }
+fn read_inter_block(reader: &mut BitReader<'_>, coded: bool, out: &mut Block) -> Result<(), Fault>
+    ensures { Gives (λ _. out.new) result reader.new (reading (inter coded) reader.old) }
 {
-    let mut block = Block { levels: [0; 64] };
     if coded {
-        read_inter(reader, &mut block)?;
-        return Ok(block);
+        read_inter(reader, out)?;
+        return Ok(());
     }
-    Ok(block)
+    out.levels = [0; 64];
+    Ok(())
 }
 
-// Six blocks of an intra macroblock: four of luma, Cb and Cr.
+// Six blocks of an intra macroblock, each into its place: four of luma, Cb and Cr.
 #[tactic(auto, unfolding(crate::specs::Text::blocks, h263_bits::specs::Syntax::reading))]
-fn read_intra_blocks(reader: &mut BitReader<'_>, cbpy: u8, cbpc: u8) -> Result<[Block; 6], Fault>
-    ensures { Gives (λ (bs : List Block). bs) result reader.new (reading (blocks intra cbpy cbpc) reader.old) }
+fn read_intra_blocks(
+    reader: &mut BitReader<'_>,
+    cbpy: u8,
+    cbpc: u8,
+    out: &mut [Block; 6],
+) -> Result<(), Fault>
+    ensures { Gives (λ _. out.new) result reader.new (reading (blocks intra cbpy cbpc) reader.old) }
 {
-    let a = read_intra_block(reader, cbpy / 8 % 2 == 1)?;
-    let b = read_intra_block(reader, cbpy / 4 % 2 == 1)?;
-    let c = read_intra_block(reader, cbpy / 2 % 2 == 1)?;
-    let d = read_intra_block(reader, cbpy % 2 == 1)?;
-    let cb = read_intra_block(reader, cbpc / 2 % 2 == 1)?;
-    let cr = read_intra_block(reader, cbpc % 2 == 1)?;
-    Ok([a, b, c, d, cb, cr])
+    read_intra_block(reader, cbpy / 8 % 2 == 1, &mut out[0])?;
+    read_intra_block(reader, cbpy / 4 % 2 == 1, &mut out[1])?;
+    read_intra_block(reader, cbpy / 2 % 2 == 1, &mut out[2])?;
+    read_intra_block(reader, cbpy % 2 == 1, &mut out[3])?;
+    read_intra_block(reader, cbpc / 2 % 2 == 1, &mut out[4])?;
+    read_intra_block(reader, cbpc % 2 == 1, &mut out[5])?;
+    Ok(())
 }
 
 // The same of an inter macroblock.
 #[tactic(auto, unfolding(crate::specs::Text::blocks, h263_bits::specs::Syntax::reading))]
-fn read_inter_blocks(reader: &mut BitReader<'_>, cbpy: u8, cbpc: u8) -> Result<[Block; 6], Fault>
-    ensures { Gives (λ (bs : List Block). bs) result reader.new (reading (blocks inter cbpy cbpc) reader.old) }
+fn read_inter_blocks(
+    reader: &mut BitReader<'_>,
+    cbpy: u8,
+    cbpc: u8,
+    out: &mut [Block; 6],
+) -> Result<(), Fault>
+    ensures { Gives (λ _. out.new) result reader.new (reading (blocks inter cbpy cbpc) reader.old) }
 {
-    let a = read_inter_block(reader, cbpy / 8 % 2 == 1)?;
-    let b = read_inter_block(reader, cbpy / 4 % 2 == 1)?;
-    let c = read_inter_block(reader, cbpy / 2 % 2 == 1)?;
-    let d = read_inter_block(reader, cbpy % 2 == 1)?;
-    let cb = read_inter_block(reader, cbpc / 2 % 2 == 1)?;
-    let cr = read_inter_block(reader, cbpc % 2 == 1)?;
-    Ok([a, b, c, d, cb, cr])
+    read_inter_block(reader, cbpy / 8 % 2 == 1, &mut out[0])?;
+    read_inter_block(reader, cbpy / 4 % 2 == 1, &mut out[1])?;
+    read_inter_block(reader, cbpy / 2 % 2 == 1, &mut out[2])?;
+    read_inter_block(reader, cbpy % 2 == 1, &mut out[3])?;
+    read_inter_block(reader, cbpc / 2 % 2 == 1, &mut out[4])?;
+    read_inter_block(reader, cbpc % 2 == 1, &mut out[5])?;
+    Ok(())
 }
 
 // Stuffing, and what stands first behind it.
@@ -193,13 +201,22 @@ fn read_lead(reader: &mut BitReader<'_>, kind: Kind) -> Result<Lead, Fault>
     }
 }
 
-// The macroblock behind a class: its quantiser is in force from here on.
+// The macroblock behind a class: its quantiser is in force from here on. Its blocks are read into one array, which is
+// moved once.
 #[tactic(auto, unfolding(crate::specs::Text::intra_mb, h263_bits::specs::Syntax::reading))]
-fn read_intra_mb(reader: &mut BitReader<'_>, quant: u8, cbpy: u8, cbpc: u8) -> Result<Mb, Fault>
-    ensures { Gives (λ (m : Mb). m) result reader.new (reading (intra_mb quant cbpy cbpc) reader.old) }
+fn read_intra_mb(
+    reader: &mut BitReader<'_>,
+    quant: u8,
+    cbpy: u8,
+    cbpc: u8,
+    out: &mut Mb,
+) -> Result<(), Fault>
+    ensures { Gives (λ _. out.new) result reader.new (reading (intra_mb quant cbpy cbpc) reader.old) }
 {
-    let blocks = read_intra_blocks(reader, cbpy, cbpc)?;
-    Ok(Mb::Intra { quant, blocks })
+    let mut blocks = [Block { levels: [0; 64] }; 6];
+    read_intra_blocks(reader, cbpy, cbpc, &mut blocks)?;
+    *out = Mb::Intra { quant, blocks };
+    Ok(())
 }
 
 #[tactic(auto, unfolding(crate::specs::Text::inter_mb, h263_bits::specs::Syntax::reading))]
@@ -210,16 +227,19 @@ fn read_inter_mb(
     quant: u8,
     cbpy: u8,
     cbpc: u8,
-) -> Result<Mb, Fault>
-    ensures { Gives (λ (m : Mb). m) result reader.new (reading (inter_mb reach predictor quant cbpy cbpc) reader.old) }
+    out: &mut Mb,
+) -> Result<(), Fault>
+    ensures { Gives (λ _. out.new) result reader.new (reading (inter_mb reach predictor quant cbpy cbpc) reader.old) }
 {
     let vector = read_vector(reader, reach, predictor)?;
-    let blocks = read_inter_blocks(reader, cbpy, cbpc)?;
-    Ok(Mb::Inter {
+    let mut blocks = [Block { levels: [0; 64] }; 6];
+    read_inter_blocks(reader, cbpy, cbpc, &mut blocks)?;
+    *out = Mb::Inter {
         quant,
         vector,
         blocks,
-    })
+    };
+    Ok(())
 }
 
 // The quantiser after a step, limited to 1 to 31.
@@ -267,16 +287,17 @@ fn read_coded_mb(
     predictor: Vector,
     class: MbClass,
     cbpc: u8,
-) -> Result<Mb, Fault>
-    ensures { Gives (λ (m : Mb). m) result reader.new (reading (coded_mb quant reach predictor class cbpc) reader.old) }
+    out: &mut Mb,
+) -> Result<(), Fault>
+    ensures { Gives (λ _. out.new) result reader.new (reading (coded_mb quant reach predictor class cbpc) reader.old) }
 {
     let intra = is_intra(class);
     let cbpy = read_cbpy(reader, intra)?;
     let quant = read_quantiser(reader, class, quant)?;
     if intra {
-        return read_intra_mb(reader, quant, cbpy, cbpc);
+        return read_intra_mb(reader, quant, cbpy, cbpc, out);
     }
-    read_inter_mb(reader, reach, predictor, quant, cbpy, cbpc)
+    read_inter_mb(reader, reach, predictor, quant, cbpy, cbpc, out)
 }
 
 // What follows the leading words.
@@ -287,12 +308,18 @@ fn read_behind(
     reach: Reach,
     predictor: Vector,
     lead: Lead,
-) -> Result<Mb, Fault>
-    ensures { Gives (λ (m : Mb). m) result reader.new (reading (behind quant reach predictor lead) reader.old) }
+    out: &mut Mb,
+) -> Result<(), Fault>
+    ensures { Gives (λ _. out.new) result reader.new (reading (behind quant reach predictor lead) reader.old) }
 {
     match lead {
-        Lead::Skipped => Ok(Mb::Skip),
-        Lead::Coded { class, cbpc } => read_coded_mb(reader, quant, reach, predictor, class, cbpc),
+        Lead::Skipped => {
+            *out = Mb::Skip;
+            Ok(())
+        }
+        Lead::Coded { class, cbpc } => {
+            read_coded_mb(reader, quant, reach, predictor, class, cbpc, out)
+        }
     }
 }
 
@@ -308,8 +335,7 @@ fn mb_at(
     ensures { Gives (λ _. out.new) result reader.new (reading (mb kind quant reach predictor) reader.old) }
 {
     let lead = read_lead(reader, kind)?;
-    *out = read_behind(reader, quant, reach, predictor, lead)?;
-    Ok(())
+    read_behind(reader, quant, reach, predictor, lead, out)
 }
 
 /// Reads a macroblock of a picture of this kind (H.263, 5.3): `quant` is the quantiser before it, 1 to 31;

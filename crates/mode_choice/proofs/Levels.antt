@@ -116,17 +116,6 @@ pub no_level : (quant : ℕ) (f : ℤ) → IsQuant quant → unsigned_abs f < 2 
 no_level quant (pos n) h small = ap (λ (size : ℕ). pos (min size 127)) (div-eq_of_lt (let less : n - quant / 2 < 2 * quant = omega (arith, h.low) in less))
 no_level quant (negsuc n) h small = ap (λ (size : ℕ). neg_ℤ (pos (min size 127))) (div-eq_of_lt (let less : suc n - quant / 2 < 2 * quant = omega (arith, h.low) in less))
 
--- and another one has
-pub has_level : (quant : ℕ) (f : ℤ) → IsQuant quant → 2 * quant + quant / 2 ≤ unsigned_abs f → inter_level quant f ≡ pos 0 → ⊥
-has_level quant (pos n) h large none =
-    let size : (n - quant / 2) / (2 * quant) < 1 = omega (arith, ints, none) in
-    let less : n - quant / 2 < 1 * (2 * quant) = (div-lt_iff_lt-mul (let some : 0 < 2 * quant = omega (arith, h.low) in some)).0 size in
-    omega (arith, less, large)
-has_level quant (negsuc n) h large none =
-    let size : (suc n - quant / 2) / (2 * quant) < 1 = omega (arith, ints, none) in
-    let less : suc n - quant / 2 < 1 * (2 * quant) = (div-lt_iff_lt-mul (let some : 0 < 2 * quant = omega (arith, h.low) in some)).0 size in
-    omega (arith, less, large)
-
 kept_nothing : (b : Bool) (z : ℤ) → z ≡ pos 0 → pos 0 ≡ cond b z (pos 0)
 kept_nothing true z h = sym h
 kept_nothing false z h = refl

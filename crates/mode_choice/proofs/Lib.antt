@@ -5,3 +5,4 @@ pub mod Choices
 pub mod Small
 pub mod Walk
 pub mod Whole
+pub mod Empties

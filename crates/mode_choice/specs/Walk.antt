@@ -1,6 +1,5 @@
--- The levels of a block's coefficients, which stand by rows, and those of the coefficients before a place.
-use Rattle.std.specs.Prelude.{◌≡◌, ℕ, ◌+◌, ◌*◌, ◌/◌, ◌<◌, pos, ℤ, List, All, length, nat_lt, slice_index_or, if◌then◌else◌}
-use Rattle.h263_types.specs.Blocks.{IsLevel}
+-- The levels of a block's coefficients, which stand by rows.
+use Rattle.std.specs.Prelude.{ℕ, ◌+◌, ◌*◌, ◌/◌, pos, ℤ, List, nat_lt, slice_index_or, if◌then◌else◌}
 use Rattle.quantiser.specs.Levels.{inter_level, intra_level}
 use Rattle.quantiser.specs.Zigzag.{block_place_of}
 use Rattle.mode_choice.specs.declared.coefficients.Coding.{Coding}
@@ -20,9 +19,3 @@ least_of Inter quant = 2 * quant + quant / 2
 abbrev pub level_in : Coding → ℕ → ℕ → List ℤ → ℕ → ℤ
 level_in coding quant keep coefficients k =
     if nat_lt k keep then level_by coding quant (slice_index_or coefficients (block_place_of k) (pos 0)) else pos 0
-
--- these levels, of the coefficients before place `at` of the block, and zeros for the others
-pub record AreWalked (coding : Coding) (quant keep : ℕ) (coefficients : List ℤ) (at : ℕ) (levels : List ℤ) : Type 0 where
-  pub long : length levels ≡ 64
-  pub stand : (k : ℕ) → k < 64 → slice_index_or levels k (pos 0) ≡ (if nat_lt (block_place_of k) at then level_in coding quant keep coefficients k else pos 0)
-  pub range : All IsLevel levels

@@ -1,10 +1,11 @@
-//! The levels of a block's coefficients. Most coefficients are too small for one, and most rows have no other ones.
-ghost use Rattle.std.specs.Prelude.{◌≡◌, ◌↔◌, ℕ, ◌+◌, ◌<◌, ◌≤◌, pos, unsigned_abs, IsTrue, All, length, slice_index_or, nat_lt, if◌then◌else◌};
+//! The levels of a block's coefficients, by rows and then in the zigzag order.
+ghost use Rattle.std.specs.Prelude.{◌≡◌, ℕ, ◌≤◌, ◌<◌, pos, All, length, slice_index_or};
 ghost use Rattle.h263_types.specs.Blocks.{IsCoefficient, IsLevel, IsQuant};
-ghost use Rattle.mode_choice.specs.Walk.{AreWalked, least_of, level_by, level_in};
+ghost use Rattle.quantiser.specs.Levels.{factor_of};
+ghost use Rattle.mode_choice.specs.Walk.{least_of, level_by, level_in};
 
-use quantiser::laws::one_order;
-use quantiser::{level_inter, level_intra, zigzag_place};
+use h263_types::laws::one_more;
+use quantiser::{block_place, factor, level_inter_by, level_intra_by};
 
 /// How a block is coded: by itself, or as what a prediction leaves.
 #[derive(Clone, Copy, Debug)]
@@ -37,93 +38,45 @@ pub(crate) fn levels_in(coding: Coding, quant: u8, keep: u8, coefficients: &[i32
     ensures levels { (k : ℕ) → k < 64 → slice_index_or result k (pos 0) ≡ level_in coding quant keep coefficients.now k }
     ensures range { All IsLevel result }
 {
+    one_more::<i16>();
+    let by_rows = levels_by_rows(coding, quant, coefficients);
     let mut levels = [0; 64];
-    for row in 0..8 {
-        put_row(coding, quant, keep, coefficients, 8 * row, &mut levels);
+    let end = usize::from(keep.min(64));
+    for k in 0..end {
+        levels[k] = by_rows[block_place(k)];
     }
     levels
 }
 
-// Puts the levels of the eight coefficients from place `from` of the block on.
+// The levels of all coefficients, by rows. There is no branch on any of them, so that they are taken together.
 #[inline(always)]
-fn put_row(
-    coding: Coding,
-    quant: u8,
-    keep: u8,
-    coefficients: &[i32; 64],
-    from: usize,
-    levels: &mut [i16; 64],
-)
+fn levels_by_rows(coding: Coding, quant: u8, coefficients: &[i32; 64]) -> [i16; 64]
     requires quant { IsQuant quant }
     requires coefficients { (at : ℕ) → at < 64 → IsCoefficient (slice_index_or coefficients.now at (pos 0)) }
-    requires from { from ≤ 56 }
-    requires walked { AreWalked coding quant keep coefficients.now from levels.old }
-    ensures { AreWalked coding quant keep coefficients.now (from + 8) levels.new }
+    ensures long { length result ≡ 64 }
+    ensures levels { (at : ℕ) → at < 64 → slice_index_or result at (pos 0) ≡ level_by coding quant (slice_index_or coefficients.now at (pos 0)) }
+    ensures range { All IsLevel result }
 {
-    if !are_small(coefficients, from, least_size(coding, quant)) {
-        put_levels(coding, quant, keep, coefficients, from, levels);
+    one_more::<i16>();
+    let factor = factor(quant);
+    let mut levels = [0; 64];
+    for at in 0..64 {
+        levels[at] = level(coding, quant, factor, coefficients[at]);
     }
+    levels
 }
 
-// Whether the eight coefficients from place `from` of the block on are all smaller than `least`. Takes them together, with
-// no way out before the end.
+// The level of a coefficient, by the quantiser's factor.
 #[inline(always)]
-fn are_small(coefficients: &[i32; 64], from: usize, least: u32) -> bool
-    requires coefficients { (at : ℕ) → at < 64 → IsCoefficient (slice_index_or coefficients.now at (pos 0)) }
-    requires from { from ≤ 56 }
-    ensures { IsTrue result → (at : ℕ) → from ≤ at → at < from + 8 → unsigned_abs (slice_index_or coefficients.now at (pos 0)) < least }
-{
-    let mut largest = 0;
-    for at in from..from + 8 {
-        largest = largest.max(coefficients[at].unsigned_abs());
-    }
-    largest < least
-}
-
-// Puts the levels of the eight coefficients from place `from` of the block on.
-fn put_levels(
-    coding: Coding,
-    quant: u8,
-    keep: u8,
-    coefficients: &[i32; 64],
-    from: usize,
-    levels: &mut [i16; 64],
-)
+fn level(coding: Coding, quant: u8, factor: u32, coefficient: i32) -> i16
     requires quant { IsQuant quant }
-    requires coefficients { (at : ℕ) → at < 64 → IsCoefficient (slice_index_or coefficients.now at (pos 0)) }
-    requires from { from ≤ 56 }
-    requires walked { AreWalked coding quant keep coefficients.now from levels.old }
-    ensures { AreWalked coding quant keep coefficients.now (from + 8) levels.new }
-{
-    one_order();
-    for at in from..from + 8 {
-        levels[zigzag_place(at)] = level(coding, quant, keep, zigzag_place(at), coefficients[at]);
-    }
-}
-
-// The level of a coefficient at place `k` of the zigzag order. Most coefficients are too small, and need no division.
-#[inline(always)]
-fn level(coding: Coding, quant: u8, keep: u8, k: usize, coefficient: i32) -> i16
-    requires quant { IsQuant quant }
+    requires factor { factor ≡ factor_of quant }
     requires coefficient { IsCoefficient coefficient }
-    ensures level { result ≡ (if nat_lt k keep then level_by coding quant coefficient else pos 0) }
+    ensures level { result ≡ level_by coding quant coefficient }
     ensures range { IsLevel result }
 {
-    if k >= usize::from(keep) || is_small(coding, quant, coefficient) {
-        return 0;
-    }
     match coding {
-        Coding::Intra => level_intra(quant, coefficient),
-        Coding::Inter => level_inter(quant, coefficient),
+        Coding::Intra => level_intra_by(quant, factor, coefficient),
+        Coding::Inter => level_inter_by(quant, factor, coefficient),
     }
-}
-
-// Whether a coefficient is too small for a level.
-#[inline(always)]
-fn is_small(coding: Coding, quant: u8, coefficient: i32) -> bool
-    requires quant { IsQuant quant }
-    requires coefficient { IsCoefficient coefficient }
-    ensures { IsTrue result ↔ (level_by coding quant coefficient ≡ pos 0) }
-{
-    coefficient.unsigned_abs() < least_size(coding, quant)
 }

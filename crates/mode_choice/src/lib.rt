@@ -10,7 +10,7 @@ mod predicted;
 mod residual;
 mod samples;
 
-pub use macroblock::choose;
+pub use macroblock::{choose, choose_into};
 
 #[cfg(test)]
 mod tests;

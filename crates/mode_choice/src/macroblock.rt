@@ -7,7 +7,7 @@ ghost use Rattle.h263_types.specs.Sizes.{mbs_of};
 ghost use Rattle.h263_types.specs.Vectors.{InReach};
 ghost use Rattle.h263_planes.specs.Lent.{picture};
 ghost use Rattle.h263_planes.specs.References.{HasReferenceOnlyInP};
-ghost use Rattle.motion_search.specs.Cost.{IsCost};
+ghost use Rattle.motion_search.specs.Cost.{samples_of, IsCost};
 ghost use Rattle.mode_choice.specs.Choice as choice;
 
 use crate::deviation::deviation;
@@ -19,7 +19,7 @@ use crate::samples::{block_residuals, block_samples};
 use h263_planes::PictureRef;
 use h263_types::laws::one_more;
 use h263_types::{Block, Mb, Params, Vector};
-use motion_search::search;
+use motion_search::search_from;
 use picture_header::Header;
 
 /// The macroblock that is coded at place `mb` of `frame`, with the quantiser of the header and with the first `keep`
@@ -43,10 +43,45 @@ pub fn choose(
     ensures reach { ReachesInside (picture frame.entry).format mb result }
     ensures plain { HasQuant header.now.quant result }
 {
+    let mut chosen = Mb::Skip;
+    choose_into(
+        frame,
+        reference,
+        mb,
+        header,
+        params,
+        Vector::ZERO,
+        &mut chosen,
+    );
+    chosen
+}
+
+/// The same, into its place. The choice is that of `choose` whatever the guess is; it comes sooner where the guess, as the
+/// vector of a neighbour, is near to the best vector.
+pub fn choose_into(
+    frame: PictureRef<'_>,
+    reference: Option<PictureRef<'_>>,
+    mb: u32,
+    header: &Header,
+    params: &Params,
+    guess: Vector,
+    out: &mut Mb,
+)
+    requires reference { HasReferenceOnlyInP header.now.kind (picture frame).format (option_map picture reference) }
+    requires quant { IsQuant header.now.quant }
+    requires rounding { header.now.rounding ≤ 1 }
+    requires radius { params.now.radius ≤ 15 }
+    requires mb { mb < mbs_of (picture frame).format }
+    ensures choice { out.new ≡ choice.choice_of (picture frame.entry) (option_map picture reference.entry) header.now params.now mb }
+    ensures in_range { IsMb out.new }
+    ensures of_kind { IsOfKind header.now.kind out.new }
+    ensures reach { ReachesInside (picture frame.entry).format mb out.new }
+    ensures plain { HasQuant header.now.quant out.new }
+{
     chosen_is_in_range();
     match reference {
-        None => intra_macroblock(frame, mb, header.quant, params.keep),
-        Some(reference) => macroblock_in_p(frame, reference, mb, header, params),
+        None => intra_macroblock(frame, mb, header.quant, params.keep, out),
+        Some(reference) => macroblock_in_p(frame, reference, mb, header, params, guess, out),
     }
 }
 
@@ -58,23 +93,38 @@ fn macroblock_in_p(
     mb: u32,
     header: &Header,
     params: &Params,
-) -> Mb
+    guess: Vector,
+    out: &mut Mb,
+)
     requires format { (picture frame).format ≡ (picture reference).format }
     requires quant { IsQuant header.now.quant }
     requires rounding { header.now.rounding ≤ 1 }
     requires radius { params.now.radius ≤ 15 }
     requires mb { mb < mbs_of (picture frame).format }
-    ensures { result ≡ choice.choice_in_p (picture frame.entry) (picture reference.entry) header.now params.now mb }
+    ensures { out.new ≡ choice.choice_in_p (picture frame.entry) (picture reference.entry) header.now params.now mb }
 {
-    let (vector, cost) = search(frame, reference, mb, params.radius, header.rounding);
-    if is_intra(deviation(frame, mb), cost) {
-        intra_macroblock(frame, mb, header.quant, params.keep)
-    } else {
-        inter_macroblock(frame, reference, mb, vector, header, params.keep)
+    let (vector, cost) = search_from(frame, reference, mb, params.radius, header.rounding, guess);
+    if is_nearer_to_mean(frame, mb, cost) {
+        intra_macroblock(frame, mb, header.quant, params.keep, out);
+        return;
     }
+    inter_macroblock(frame, reference, mb, vector, header, params.keep, out);
 }
 
-// Whether a macroblock is coded by itself.
+// Whether a macroblock is coded by itself, where the best vector costs so much: at 500 or less it isn't, and its mean
+// isn't asked for.
+fn is_nearer_to_mean(frame: PictureRef<'_>, mb: u32, cost: i32) -> bool
+    requires mb { mb < mbs_of (picture frame).format }
+    requires cost { IsCost cost }
+    ensures { result ≡ choice.is_intra (choice.deviation_of (samples_of (picture frame.entry) mb)) cost }
+{
+    if cost <= 500 {
+        return false;
+    }
+    is_intra(deviation(frame, mb), cost)
+}
+
+// The same by the sum of the differences from the mean.
 fn is_intra(deviation: u32, cost: i32) -> bool
     requires deviation { deviation ≤ 65280 }
     requires cost { IsCost cost }
@@ -91,23 +141,26 @@ fn inter_macroblock(
     vector: Vector,
     header: &Header,
     keep: u8,
-) -> Mb
+    out: &mut Mb,
+)
     requires format { (picture frame).format ≡ (picture reference).format }
     requires quant { IsQuant header.now.quant }
     requires rounding { header.now.rounding ≤ 1 }
     requires mb { mb < mbs_of (picture reference).format }
     requires reach { InReach (picture reference).format mb vector.x vector.y }
-    ensures { result ≡ choice.inter_of (picture frame.entry) (picture reference.entry) header.now.quant keep header.now.rounding mb vector }
+    ensures { out.new ≡ choice.inter_of (picture frame.entry) (picture reference.entry) header.now.quant keep header.now.rounding mb vector }
 {
-    let blocks = inter_blocks(frame, reference, mb, vector, header, keep);
+    let mut blocks = [Block { levels: [0; 64] }; 6];
+    inter_blocks(frame, reference, mb, vector, header, keep, &mut blocks);
     if vector.x == 0 && vector.y == 0 && are_empty(&blocks) {
-        return Mb::Skip;
+        *out = Mb::Skip;
+        return;
     }
-    Mb::Inter {
+    *out = Mb::Inter {
         quant: header.quant,
         vector,
         blocks,
-    }
+    };
 }
 
 // The levels of what a vector leaves of a macroblock's six blocks.
@@ -118,38 +171,37 @@ fn inter_blocks(
     vector: Vector,
     header: &Header,
     keep: u8,
-) -> [Block; 6]
+    out: &mut [Block; 6],
+)
     requires format { (picture frame).format ≡ (picture reference).format }
     requires quant { IsQuant header.now.quant }
     requires rounding { header.now.rounding ≤ 1 }
     requires mb { mb < mbs_of (picture reference).format }
     requires reach { InReach (picture reference).format mb vector.x vector.y }
-    ensures { result ≡ choice.residual_blocks_of (picture frame.entry) (picture reference.entry) header.now.quant keep header.now.rounding mb vector }
+    ensures { out.new ≡ choice.residual_blocks_of (picture frame.entry) (picture reference.entry) header.now.quant keep header.now.rounding mb vector }
 {
     one_more::<Block>();
     let predicted = predicted_blocks(reference, mb, vector, header.rounding);
-    let mut coded = [Block { levels: [0; 64] }; 6];
     for block in 0..6u32 {
         let number = block as usize;
         let residuals = block_residuals(frame, mb, block, &predicted[number]);
-        coded[number] = residual_block(header.quant, keep, &residuals);
+        out[number] = residual_block(header.quant, keep, &residuals);
     }
-    coded
 }
 
 // The macroblock coded by itself.
-fn intra_macroblock(frame: PictureRef<'_>, mb: u32, quant: u8, keep: u8) -> Mb
+fn intra_macroblock(frame: PictureRef<'_>, mb: u32, quant: u8, keep: u8, out: &mut Mb)
     requires quant { IsQuant quant }
     requires mb { mb < mbs_of (picture frame).format }
-    ensures { result ≡ choice.intra_of (picture frame.entry) quant keep mb }
+    ensures { out.new ≡ choice.intra_of (picture frame.entry) quant keep mb }
 {
     let mut coded = [Block { levels: [0; 64] }; 6];
     for block in 0..6u32 {
         let samples = block_samples(frame, mb, block);
         coded[block as usize] = intra_block(quant, keep, &samples);
     }
-    Mb::Intra {
+    *out = Mb::Intra {
         quant,
         blocks: coded,
-    }
+    };
 }

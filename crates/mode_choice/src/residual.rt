@@ -7,7 +7,7 @@ ghost use Rattle.mode_choice.specs.Choice as choice;
 
 use crate::coefficients::{Coding, least_size, levels_in};
 use h263_types::Block;
-use idct8::forward;
+use idct8::{are_below, forward};
 
 // The levels of a block of residuals.
 pub(crate) fn residual_block(quant: u8, keep: u8, residuals: &[i16; 64]) -> Block
@@ -24,9 +24,22 @@ pub(crate) fn residual_block(quant: u8, keep: u8, residuals: &[i16; 64]) -> Bloc
     }
 }
 
-// Whether residuals are so small that they leave no level, which needs no transform: but for its rounding, the square of a
-// coefficient is at most the sum of their squares.
+// Whether residuals are so small that they leave no level, which needs no transform.
 fn are_small(quant: u8, residuals: &[i16; 64]) -> bool
+    requires quant { IsQuant quant }
+    requires residuals { All IsSample residuals.now }
+    ensures { IsTrue result → (k : ℕ) → inter_level quant (choice.coefficient_at residuals.now k) ≡ pos 0 }
+{
+    if squares_are_small(quant, residuals) {
+        true
+    } else {
+        are_below(residuals, least_size(Coding::Inter, quant))
+    }
+}
+
+// The same by a quicker test, which most blocks of a still picture pass: but for its rounding, the square of a coefficient
+// is at most the sum of the squares of the residuals.
+fn squares_are_small(quant: u8, residuals: &[i16; 64]) -> bool
     requires quant { IsQuant quant }
     requires residuals { All IsSample residuals.now }
     ensures { IsTrue result → (k : ℕ) → inter_level quant (choice.coefficient_at residuals.now k) ≡ pos 0 }
@@ -57,8 +70,10 @@ pub(crate) fn are_empty(blocks: &[Block; 6]) -> bool
     blocks.iter().all(is_empty)
 }
 
+// By the marks of the levels, which are taken all at once.
+#[inline(always)]
 fn is_empty(block: &Block) -> bool
     ensures { result ≡ choice.is_empty block.now }
 {
-    block.levels.iter().all(|level| *level == 0)
+    block.marks() == 0
 }

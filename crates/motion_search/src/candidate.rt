@@ -43,7 +43,7 @@ pub(crate) fn first(best: Candidate, other: Candidate) -> Candidate
 }
 
 // What the zero vector has ahead of all others.
-fn lead(vector: Vector) -> u32
+pub(crate) fn lead(vector: Vector) -> u32
     ensures value { result ≡ lead_of vector }
     ensures most { result ≤ 100 }
 {

@@ -9,8 +9,8 @@ ghost use Rattle.motion_search.specs.Cost.{candidate_of, IsCost};
 ghost use Rattle.motion_search.specs.Vectors.{around, in_reach};
 ghost use Rattle.motion_search.specs.Best.{best_near, IsCandidate};
 
-use crate::candidate::{Candidate, first, is_settled};
-use crate::predicted::predicted;
+use crate::candidate::{Candidate, is_settled};
+use crate::predicted::better_predicted;
 use crate::within::is_within;
 use h263_planes::PictureRef;
 use h263_types::{Reach, Vector, reach};
@@ -47,7 +47,7 @@ fn better_in_reach(
     ensures cost { IsCost result.cost }
 {
     if is_within(reach, vector) {
-        first(best, predicted(block, reference, mb, rounding, vector))
+        better_predicted(block, reference, mb, rounding, vector, best)
     } else {
         best
     }

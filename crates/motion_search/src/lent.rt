@@ -1,6 +1,6 @@
 //! Vectors of whole samples, compared on the lent rows of the reference.
 ghost use Rattle.std.specs.Prelude.{◌≡◌, ℕ, ◌+◌, ◌*◌, ◌%◌, ◌/◌, ◌<◌, ◌≤◌, ◌↔◌, pos, ◌<ℤ◌, false, IsNone, IfSome, length, slice_range};
-ghost use Rattle.h263_types.specs.Sizes.{columns_of, mbs_of};
+ghost use Rattle.h263_types.specs.Sizes.{columns_of};
 ghost use Rattle.h263_types.specs.Vectors.{InReach, whole_place};
 ghost use Rattle.h263_planes.specs.Lent.{picture};
 ghost use Rattle.h263_planes.specs.Samples.{Inside};
@@ -11,6 +11,7 @@ ghost use Rattle.motion_search.specs.Cost.{candidate_of, differences_from, IsCos
 ghost use Rattle.motion_search.specs.Vectors.{zero_vector, IsEven};
 
 use crate::candidate::{Candidate, better};
+use crate::window::Window;
 use h263_planes::{PictureRef, Plane};
 use h263_types::Vector;
 use sad_kernel::laws::parts_add;
@@ -18,7 +19,7 @@ use sad_kernel::sad_of_four;
 
 // Row `j` of a block.
 #[inline(always)]
-pub(crate) fn block_row(block: &[u8; 256], j: u32) -> &[u8]
+fn block_row(block: &[u8; 256], j: u32) -> &[u8]
     requires j { j < 16 }
     ensures value { result.now ≡ slice_range block.now (16 * j) (16 * j + 16) }
     ensures length { length result.now ≡ 16 }
@@ -125,24 +126,21 @@ fn differences_within(
 // been looked at, so what it has ahead needs no look here.
 #[inline(always)]
 pub(crate) fn better_whole(
-    block: &[u8; 256],
-    reference: PictureRef<'_>,
-    mb: u32,
+    window: Window<'_>,
     x: u32,
     y: u16,
     vector: Vector,
     best: Candidate,
 ) -> Candidate
-    requires mb { mb < mbs_of (picture reference).format }
-    requires reach { InReach (picture reference).format mb vector.x vector.y }
+    requires reach { InReach (picture window.reference).format window.mb vector.x vector.y }
     requires whole { IsEven vector }
-    requires x { pos x ≡ whole_place (16 * (mb % columns_of (picture reference).format)) vector.x }
-    requires y { pos y ≡ whole_place (16 * (mb / columns_of (picture reference).format)) vector.y }
-    requires zero { before (candidate_of block.now (picture reference) mb 0 zero_vector) best ≡ false }
+    requires x { pos x ≡ whole_place (16 * (window.mb % columns_of (picture window.reference).format)) vector.x }
+    requires y { pos y ≡ whole_place (16 * (window.mb / columns_of (picture window.reference).format)) vector.y }
+    requires zero { before (candidate_of window.block.now (picture window.reference) window.mb 0 zero_vector) best ≡ false }
     requires cost { IsCost best.cost }
-    ensures first { result ≡ first_of best (candidate_of block.now (picture reference.entry) mb 0 vector) }
+    ensures first { result ≡ first_of best (candidate_of window.entry.block.now (picture window.entry.reference) window.entry.mb 0 vector) }
     ensures cost { IsCost result.cost }
 {
-    let sum = differences_within(block, reference, x, y, best);
+    let sum = differences_within(window.block, window.reference, x, y, best);
     better(best, vector, sum)
 }

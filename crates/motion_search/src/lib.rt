@@ -16,6 +16,7 @@ mod lent;
 mod predicted;
 mod start;
 mod whole;
+mod window;
 mod within;
 
 use crate::half::best_of_neighbours;
@@ -43,8 +44,30 @@ pub fn search(
     ensures reach { InReach (picture reference.entry).format mb result.0.x result.0.y }
     ensures range { IsCost result.1 }
 {
+    search_from(frame, reference, mb, radius, rounding, Vector::ZERO)
+}
+
+/// The same. The answer is that of `search` whatever the guess is; it comes sooner where the guess, as the vector of a
+/// neighbour, is near to it.
+pub fn search_from(
+    frame: PictureRef<'_>,
+    reference: PictureRef<'_>,
+    mb: u32,
+    radius: u8,
+    rounding: u8,
+    guess: Vector,
+) -> (Vector, i32)
+    requires format { (picture frame).format ≡ (picture reference).format }
+    requires mb { mb < mbs_of (picture reference).format }
+    requires radius { radius ≤ 15 }
+    requires rounding { rounding ≤ 1 }
+    ensures vector { result.0 ≡ (best_vector (picture frame.entry) (picture reference.entry) mb radius rounding).vector }
+    ensures cost { result.1 ≡ (best_vector (picture frame.entry) (picture reference.entry) mb radius rounding).cost }
+    ensures reach { InReach (picture reference.entry).format mb result.0.x result.0.y }
+    ensures range { IsCost result.1 }
+{
     let block = samples(frame, mb);
-    let whole = best_of_whole(&block, reference, mb, radius);
+    let whole = best_of_whole(&block, reference, mb, radius, guess);
     let best = best_of_neighbours(&block, reference, mb, rounding, whole);
     (best.vector, best.cost)
 }

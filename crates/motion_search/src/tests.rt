@@ -11,7 +11,7 @@ const WIDTH: usize = 128;
 
 const HEIGHT: usize = 96;
 
-// The search in pictures of these bytes: the vector's components and its cost.
+// The search in pictures of these bytes: the vector's components and its cost. A guess that is far off changes nothing.
 fn found(
     rt: &impl Abort,
     frame: &[u8; SIZE],
@@ -23,13 +23,13 @@ fn found(
     assert!(rt; mb < 48);
     assert!(rt; radius <= 15);
     assert!(rt; rounding <= 1);
-    let (vector, cost) = search(
-        PictureRef::new(Format::SubQcif, frame),
-        PictureRef::new(Format::SubQcif, reference),
-        mb,
-        radius,
-        rounding,
-    );
+    let frame = PictureRef::new(Format::SubQcif, frame);
+    let reference = PictureRef::new(Format::SubQcif, reference);
+    let (vector, cost) = search(frame, reference, mb, radius, rounding);
+    let guess = Vector { x: -27, y: 14 };
+    let (vector_again, cost_again) = search_from(frame, reference, mb, radius, rounding, guess);
+    assert!(rt; vector_again == vector);
+    assert!(rt; cost_again == cost);
     (vector.x, vector.y, cost)
 }
 

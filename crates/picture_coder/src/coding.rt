@@ -15,8 +15,8 @@ ghost use Rattle.packet_cutter.specs.Cutting.{Holds, added_of, format_of, limit_
 ghost use Rattle.packet_cutter.specs.Packets.{ArePacketsOf};
 
 use h263_planes::{PictureMut, PictureRef};
-use h263_types::Params;
-use mode_choice::choose;
+use h263_types::{Mb, Params, Vector};
+use mode_choice::choose_into;
 use mode_choice::laws::one_for_each_place;
 use packet_cutter::Cutter;
 use picture_header::Header;
@@ -65,10 +65,21 @@ pub fn code_picture(
     one_for_each_place();
     shown_one_by_one();
     cutter.begin(number, header);
+    let mut mb = Mb::Skip;
+    let mut guess = Vector::ZERO;
     for at in 0..params.format.mbs() {
-        let mb = choose(frame, reference, at, header, params);
+        choose_into(frame, reference, at, header, params, guess, &mut mb);
         cutter.add(&mb);
         recon_mb(&mb, at, header, reference, work);
+        guess = vector_of(&mb);
     }
     cutter.finish();
+}
+
+// The vector of a macroblock, from which the search for the next one begins.
+fn vector_of(mb: &Mb) -> Vector {
+    match mb {
+        Mb::Inter { vector, .. } => *vector,
+        _ => Vector::ZERO,
+    }
 }

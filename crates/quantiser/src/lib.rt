@@ -5,9 +5,9 @@
 pub mod laws;
 mod scan;
 
-ghost use Rattle.std.specs.Prelude.{◌≡◌, ℕ, ◌≤◌, pos, unsigned_abs};
+ghost use Rattle.std.specs.Prelude.{◌≡◌, ℕ, ◌*◌, ◌/◌, ◌≤◌, min, pos, unsigned_abs};
 ghost use Rattle.h263_types.specs.Blocks.{IsCoefficient, IsLevel, IsQuant, IsValue};
-ghost use Rattle.quantiser.specs.Levels.{inter_level, intra_level, signed_of, value_of, value_size};
+ghost use Rattle.quantiser.specs.Levels.{factor_of, inter_level, intra_level, signed_of, value_of, value_size};
 
 pub use scan::{block_place, zigzag_place};
 
@@ -43,9 +43,7 @@ pub fn level_inter(quant: u8, coefficient: i32) -> i16
     ensures level { result ≡ inter_level quant coefficient }
     ensures range { IsLevel result }
 {
-    let quant = u32::from(quant);
-    let size = coefficient.unsigned_abs().saturating_sub(quant / 2) / (2 * quant);
-    signed(coefficient, size.min(127) as i16)
+    level_inter_by(quant, factor(quant), coefficient)
 }
 
 /// The level, -127 to 127, of a coefficient of an intra block other than its first, within 65,535 of 0; `quant` is
@@ -56,11 +54,61 @@ pub fn level_intra(quant: u8, coefficient: i32) -> i16
     ensures level { result ≡ intra_level quant coefficient }
     ensures range { IsLevel result }
 {
-    let size = coefficient.unsigned_abs() / (2 * u32::from(quant));
-    signed(coefficient, size.min(127) as i16)
+    level_intra_by(quant, factor(quant), coefficient)
+}
+
+/// What many levels of one quantiser are found by without a division for each: 2^19 / (2 * quant), rounded up.
+pub fn factor(quant: u8) -> u32
+    requires { IsQuant quant }
+    ensures { result ≡ factor_of quant }
+{
+    let step = 2 * u32::from(quant);
+    (524_287 + step) / step
+}
+
+/// What `level_inter` gives, by the quantiser's factor.
+#[inline(always)]
+pub fn level_inter_by(quant: u8, factor: u32, coefficient: i32) -> i16
+    requires quant { IsQuant quant }
+    requires factor { factor ≡ factor_of quant }
+    requires coefficient { IsCoefficient coefficient }
+    ensures level { result ≡ inter_level quant coefficient }
+    ensures range { IsLevel result }
+{
+    let half = u32::from(quant) / 2;
+    let size = coefficient.unsigned_abs().saturating_sub(half);
+    signed(coefficient, steps(quant, factor, size) as i16)
+}
+
+/// What `level_intra` gives, by the quantiser's factor.
+#[inline(always)]
+pub fn level_intra_by(quant: u8, factor: u32, coefficient: i32) -> i16
+    requires quant { IsQuant quant }
+    requires factor { factor ≡ factor_of quant }
+    requires coefficient { IsCoefficient coefficient }
+    ensures level { result ≡ intra_level quant coefficient }
+    ensures range { IsLevel result }
+{
+    signed(
+        coefficient,
+        steps(quant, factor, coefficient.unsigned_abs()) as i16,
+    )
+}
+
+// How many steps of twice the quantiser a size has, 127 at most.
+#[inline(always)]
+fn steps(quant: u8, factor: u32, size: u32) -> u32
+    requires quant { IsQuant quant }
+    requires factor { factor ≡ factor_of quant }
+    ensures steps { result ≡ min (size / (2 * quant)) 127 }
+    ensures most { result ≤ 127 }
+{
+    let most = 254 * u32::from(quant);
+    (size.min(most) * factor) >> 19
 }
 
 // `size`, 0 to 127, with the sign of `number`.
+#[inline(always)]
 fn signed(number: i32, size: i16) -> i16
     requires { IsLevel size }
     ensures value { result ≡ signed_of number size }

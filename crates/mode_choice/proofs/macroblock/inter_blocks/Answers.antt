@@ -6,6 +6,9 @@ use Rattle.mode_choice.specs.Choice.{residual_blocks_of, residual_levels_of, res
 use Rattle.mode_choice.proofs.Blocks.{residuals_are}
 use Rattle.mode_choice.proofs.macroblock.inter_blocks.Goals as goal
 
+pub loop-block-init : goal.loop-block-init
+loop-block-init c = (omega arith, λ d b h. absurd (omega (arith, h)))
+
 pub loop-block-preserved : goal.loop-block-preserved
 loop-block-preserved c =
     let p = picture c.args.frame in
@@ -15,13 +18,13 @@ loop-block-preserved c =
     let block : ℕ → Block = λ b. residual_levels_of c.args.header.now.quant c.args.keep (residuals_of p q c.args.header.now.rounding c.args.mb c.args.vector b) in
     let left = residuals_are p q c.args.header.now.rounding c.args.mb c.args.vector b c.block_residuals-residuals.result predicted c.block_residuals-residuals.ensures.long c.block_residuals-residuals.ensures.residuals (λ k h. c.predicted_blocks-predicted.ensures b k c.loop-block-test.true h) in
     let now : c.residual_block.result ≡ block b = c.residual_block.ensures ∙ ap (λ (residuals : List ℤ). residual_levels_of c.args.header.now.quant c.args.keep residuals) left in
-    let room : b < length c.loop-block.coded = omega (arith, c.loop-block.invariant.0) in (
-      length-set c.loop-block.coded b _ ∙ c.loop-block.invariant.0,
-      λ d. c.one_more.ensures block c.loop-block.coded b c.residual_block.result d room now (c.loop-block.invariant.1 d),
+    let room : b < length c.loop-block.out = omega (arith, c.loop-block.invariant.0) in (
+      length-set c.loop-block.out b _ ∙ c.loop-block.invariant.0,
+      λ d. c.one_more.ensures block c.loop-block.out b c.residual_block.result d room now (c.loop-block.invariant.1 d),
     )
 
 pub returns : goal.returns
 unfolding residual_blocks_of
 returns c =
     let block : ℕ → Block = λ b. residual_levels_of c.args.header.now.quant c.args.keep (residuals_of (picture c.args.frame) (picture c.args.reference) c.args.header.now.rounding c.args.mb c.args.vector b) in
-    fill_by_all block c.loop-block.coded 6 (block 0) c.loop-block.invariant.0 (λ b h. c.loop-block.invariant.1 (block 0) b (omega arith))
+    fill_by_all block c.loop-block.out 6 (block 0) c.loop-block.invariant.0 (λ b h. c.loop-block.invariant.1 (block 0) b (omega arith))

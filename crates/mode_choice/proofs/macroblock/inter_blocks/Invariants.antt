@@ -7,5 +7,5 @@ use Rattle.mode_choice.proofs.macroblock.inter_blocks.Given as goal
 -- the blocks before `block` stand
 abbrev pub invariant-loop-block : goal.invariant-loop-block
 invariant-loop-block l =
-    (length l.coded ≡ 6)
-    × ((d : Block) (b : ℕ) → b < l.block → get_or l.coded b d ≡ residual_levels_of l.fn.header.quant l.keep (residuals_of (picture l.frame) (picture l.fn.reference) l.fn.header.rounding l.mb l.fn.vector b))
+    (length l.out ≡ 6)
+    × ((d : Block) (b : ℕ) → b < l.block → get_or l.out b d ≡ residual_levels_of l.fn.header.quant l.keep (residuals_of (picture l.frame) (picture l.fn.reference) l.fn.header.rounding l.mb l.fn.vector b))

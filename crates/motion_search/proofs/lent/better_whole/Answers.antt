@@ -10,9 +10,9 @@ use Rattle.motion_search.proofs.lent.better_whole.Goals as goal
 
 pub returns-clause-first : goal.returns-clause-first
 returns-clause-first c =
-    let block = c.args.block.now in
-    let reference = picture c.args.reference in
-    let mb = c.args.mb in
+    let block = c.args.window.block.now in
+    let reference = picture c.args.window.reference in
+    let mb = c.args.window.mb in
     let v = c.args.vector in
     let best = c.args.best in
     let n = differences_from block reference c.args.x c.args.y 0 in

@@ -5,7 +5,13 @@ use Rattle.h263_planes.specs.Picture.{Picture}
 use Rattle.motion_search.proofs.tests.found.Goals as goal
 
 pub search-cost-requires-clause-format : goal.search-cost-requires-clause-format
-search-cost-requires-clause-format g c = ap (λ (p : Picture). p.format) c.new.ensures.picture ∙ sym (ap (λ (p : Picture). p.format) c.new-2.ensures.picture)
+search-cost-requires-clause-format g c = ap (λ (p : Picture). p.format) c.new-frame.ensures.picture ∙ sym (ap (λ (p : Picture). p.format) c.new-reference.ensures.picture)
 
 pub search-cost-requires-clause-mb : goal.search-cost-requires-clause-mb
-search-cost-requires-clause-mb g c = subst (λ (f : Format). c.args.mb < mbs_of f) (sym (ap (λ (p : Picture). p.format) c.new-2.ensures.picture)) (omega arith)
+search-cost-requires-clause-mb g c = subst (λ (f : Format). c.args.mb < mbs_of f) (sym (ap (λ (p : Picture). p.format) c.new-reference.ensures.picture)) (omega arith)
+
+pub search_from-cost_again-requires-clause-format : goal.search_from-cost_again-requires-clause-format
+search_from-cost_again-requires-clause-format g c = ap (λ (p : Picture). p.format) c.new-frame.ensures.picture ∙ sym (ap (λ (p : Picture). p.format) c.new-reference.ensures.picture)
+
+pub search_from-cost_again-requires-clause-mb : goal.search_from-cost_again-requires-clause-mb
+search_from-cost_again-requires-clause-mb g c = subst (λ (f : Format). c.args.mb < mbs_of f) (sym (ap (λ (p : Picture). p.format) c.new-reference.ensures.picture)) (omega arith)

@@ -14,7 +14,7 @@ use Rattle.motion_search.proofs.whole.best_in_row.Goals as goal
 
 pub place-y-requires-clause-inside : goal.place-y-requires-clause-inside
 place-y-requires-clause-inside c =
-    row_inside (picture c.args.reference).format c.args.mb c.args.radius c.args.reach c.requires.reach c.args.row c.args.top c.requires.mb c.requires.top c.requires.down
+    row_inside (picture c.args.window.reference).format c.args.window.mb c.args.window.radius c.args.window.reach c.args.window.reaches c.args.row c.args.window.top c.args.window.inside c.args.window.at_top c.requires.down
 
 pub loop-column-init : goal.loop-column-init
 loop-column-init c =
@@ -22,7 +22,7 @@ loop-column-init c =
       candidate = c.requires.candidate;
       kept = λ d h. h;
       none = λ n hn reaches.
-          let past = from_first (picture c.args.reference).format c.args.mb c.args.radius c.args.reach c.requires.reach c.args.row c.first_column-column.result n c.first_column-column.ensures reaches in
+          let past = from_first (picture c.args.window.reference).format c.args.window.mb c.args.window.radius c.args.window.reach c.args.window.reaches c.args.row c.first_column-column.result n c.first_column-column.ensures reaches in
           absurd (omega (arith, hn, past));
       cost = c.requires.cost;
     }
@@ -32,37 +32,37 @@ whole_vector-vector-requires-clause-column c = omega (arith, ((c.end_column-colu
 
 pub place-x-requires-clause-inside : goal.place-x-requires-clause-inside
 place-x-requires-clause-inside c =
-    let f = (picture c.args.reference).format in
+    let f = (picture c.args.window.reference).format in
     let i = c.loop-column.column in
-    column_inside f c.args.mb c.args.radius c.args.reach c.requires.reach c.args.row c.args.left i c.requires.left
-    (between_ends f c.args.mb c.args.radius c.args.reach c.requires.reach c.args.row c.first_column-column.result c.end_column-column-end.result i
+    column_inside f c.args.window.mb c.args.window.radius c.args.window.reach c.args.window.reaches c.args.row c.args.window.left i c.args.window.at_left
+    (between_ends f c.args.window.mb c.args.window.radius c.args.window.reach c.args.window.reaches c.args.row c.first_column-column.result c.end_column-column-end.result i
     c.first_column-column.ensures c.end_column-column-end.ensures c.requires.down c.loop-column.auto.column c.loop-column-test.true)
 
 pub better_whole-first-requires-clause-reach : goal.better_whole-first-requires-clause-reach
 better_whole-first-requires-clause-reach c =
-    let f = (picture c.args.reference).format in
-    subst (λ (v : Vector). InReach f c.args.mb v.x v.y) (sym c.whole_vector-vector.ensures)
-    (between_ends f c.args.mb c.args.radius c.args.reach c.requires.reach c.args.row c.first_column-column.result c.end_column-column-end.result c.loop-column.column
+    let f = (picture c.args.window.reference).format in
+    subst (λ (v : Vector). InReach f c.args.window.mb v.x v.y) (sym c.whole_vector-vector.ensures)
+    (between_ends f c.args.window.mb c.args.window.radius c.args.window.reach c.args.window.reaches c.args.row c.first_column-column.result c.end_column-column-end.result c.loop-column.column
     c.first_column-column.ensures c.end_column-column-end.ensures c.requires.down c.loop-column.auto.column c.loop-column-test.true)
 
 pub better_whole-first-requires-clause-whole : goal.better_whole-first-requires-clause-whole
-better_whole-first-requires-clause-whole c = subst IsEven (sym c.whole_vector-vector.ensures) (at_is_even c.args.radius c.loop-column.column c.args.row)
+better_whole-first-requires-clause-whole c = subst IsEven (sym c.whole_vector-vector.ensures) (at_is_even c.args.window.radius c.loop-column.column c.args.row)
 
 pub better_whole-first-requires-clause-zero : goal.better_whole-first-requires-clause-zero
-better_whole-first-requires-clause-zero c = c.loop-column.invariant.kept (candidate_of c.args.block.now (picture c.args.reference) c.args.mb 0 zero_vector) c.requires.zero
+better_whole-first-requires-clause-zero c = c.loop-column.invariant.kept (candidate_of c.args.window.block.now (picture c.args.window.reference) c.args.window.mb 0 zero_vector) c.requires.zero
 
 pub loop-column-preserved : goal.loop-column-preserved
 loop-column-preserved c =
-    let block = c.args.block.now in
-    let p = picture c.args.reference in
-    let mb = c.args.mb in
-    let radius = c.args.radius in
+    let block = c.args.window.block.now in
+    let p = picture c.args.window.reference in
+    let mb = c.args.window.mb in
+    let radius = c.args.window.radius in
     let row = c.args.row in
     let i = c.loop-column.column in
     let now = c.loop-column.first in
     let v = whole_at radius i row in
     let inv = c.loop-column.invariant in
-    let reached = between_ends p.format mb radius c.args.reach c.requires.reach row c.first_column-column.result c.end_column-column-end.result i
+    let reached = between_ends p.format mb radius c.args.window.reach c.args.window.reaches row c.first_column-column.result c.end_column-column-end.result i
     c.first_column-column.ensures c.end_column-column-end.ensures c.requires.down c.loop-column.auto.column c.loop-column-test.true in
     let e : c.better_whole-first.result ≡ step_of block p mb 0 v now =
     c.better_whole-first.ensures.first ∙ ap (λ (w : Vector). first_of now (candidate_of block p mb 0 w)) c.whole_vector-vector.ensures ∙ taken block p mb 0 v now reached in
@@ -81,5 +81,5 @@ loop-column-preserved c =
 
 pub returns-clause-none : goal.returns-clause-none
 returns-clause-none c = λ n hn reaches.
-    let in_end = before_end (picture c.args.reference).format c.args.mb c.args.radius c.args.reach c.requires.reach c.args.row c.end_column-column-end.result n c.end_column-column-end.ensures hn reaches in
+    let in_end = before_end (picture c.args.window.reference).format c.args.window.mb c.args.window.radius c.args.window.reach c.args.window.reaches c.args.row c.end_column-column-end.result n c.end_column-column-end.ensures hn reaches in
     c.loop-column.invariant.none n (omega (arith, in_end, c.loop-column-test.false)) reaches

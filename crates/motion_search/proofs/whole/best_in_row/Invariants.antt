@@ -11,8 +11,8 @@ use Rattle.motion_search.proofs.whole.best_in_row.Given as goal
 -- none of those seen comes before the first one
 abbrev pub invariant-loop-column : goal.invariant-loop-column
 invariant-loop-column l = record {
-  candidate : IsWholeCandidate l.block (picture l.reference) l.mb l.radius 0 l.first;
+  candidate : IsWholeCandidate l.window.block.now (picture l.window.reference) l.window.mb l.window.radius 0 l.first;
   kept : (d : Candidate) → before d l.fn.best ≡ false → before d l.first ≡ false;
-  none : (n : ℕ) → n < l.column → InReach (picture l.reference).format l.mb (whole_at l.radius n l.row).x (whole_at l.radius n l.row).y → before (candidate_of l.block (picture l.reference) l.mb 0 (whole_at l.radius n l.row)) l.first ≡ false;
+  none : (n : ℕ) → n < l.column → InReach (picture l.window.reference).format l.window.mb (whole_at l.window.radius n l.row).x (whole_at l.window.radius n l.row).y → before (candidate_of l.window.block.now (picture l.window.reference) l.window.mb 0 (whole_at l.window.radius n l.row)) l.first ≡ false;
   cost : IsCost l.first.cost;
 }

@@ -1,0 +1,17 @@
+use Rattle.std.proofs.Common.{◌≡◌, ap, ◌∙◌, sym, arith, ℕ, ℤ, Bool, false, pos, ◌-ℤ◌, ◌≤ℤ◌}
+use Rattle.std.specs.Prelude.{int_lt}
+use Rattle.std.proofs.lemmas.Int.{ints}
+use Rattle.h263_planes.specs.Lent.{picture}
+use Rattle.motion_search.specs.Cost.{samples_of}
+use Rattle.mode_choice.specs.Choice.{deviation_of, is_intra}
+use Rattle.mode_choice.proofs.macroblock.is_nearer_to_mean.Goals as goal
+
+-- no sum is below a number that isn't above 0
+none_below : (deviation : ℕ) (cost : ℤ) → cost ≤ℤ pos 500 → false ≡ int_lt (pos deviation) (cost -ℤ pos 500)
+none_below deviation cost h = grind (arith, ints)
+
+pub returns-then-cost-le500 : goal.returns-then-cost-le500
+returns-then-cost-le500 c = none_below (deviation_of (samples_of (picture c.args.frame) c.args.mb)) c.args.cost (omega (arith, ints, c.if-cost-le500.true, c.requires.cost.low, c.requires.cost.high))
+
+pub returns : goal.returns
+returns c = c.is_intra.ensures ∙ ap (λ (d : ℕ). is_intra d c.args.cost) c.deviation.ensures.value

@@ -1,0 +1,41 @@
+use Rattle.std.proofs.Common.{◌≡◌, ◌∙◌, ap, sym, subst, arith, lit≤, ltb-true, ℕ, ℤ, ◌+◌, ◌*◌, ◌/◌, ◌%◌, ◌<◌, pos, get_or, length, to_z, of_z, unsigned_abs, w16}
+use Rattle.std.proofs.lemmas.Int.{ints}
+use Rattle.idct8.specs.Ranges.{IsSample}
+use Rattle.quantiser.specs.Zigzag.{block_place_of}
+use Rattle.mode_choice.specs.Choice.{coefficient_at}
+use Rattle.mode_choice.proofs.Levels.{no_level}
+use Rattle.mode_choice.proofs.Small.{coefficient_small, total, total_more, total_none}
+use Rattle.mode_choice.proofs.Walk.{block_place_below}
+use Rattle.mode_choice.proofs.residual.squares_are_small.Goals as goal
+
+pub loop-k-init : goal.loop-k-init
+loop-k-init c = (total_none _, lit≤ tt)
+
+sample_kept : (z : ℤ) → IsSample z → to_z w16 (of_z w16 z) ≡ z
+sample_kept z h = omega (arith, ints)
+
+pub square-squares-requires : goal.square-squares-requires
+square-squares-requires c =
+    let sample : IsSample (get_or c.args.residuals.now c.loop-k.k (pos 0)) = c.requires.residuals c.loop-k.k (pos 0) (omega (arith, c.told-residuals, c.loop-k-test.true)) in
+    subst IsSample (sym (sample_kept _ sample)) sample
+
+pub loop-k-preserved : goal.loop-k-preserved
+loop-k-preserved c =
+    let residuals = c.args.residuals.now in
+    let k : ℕ = c.loop-k.k in
+    let f : ℕ → ℕ = λ j. unsigned_abs (get_or residuals j (pos 0)) * unsigned_abs (get_or residuals j (pos 0)) in
+    let room : k < length residuals = omega (arith, c.told-residuals, c.loop-k-test.true) in
+    let sample : IsSample (get_or residuals k (pos 0)) = c.requires.residuals k (pos 0) room in
+    let square : c.square-squares.result ≡ f k = c.square-squares.ensures.square ∙ ap (λ (z : ℤ). unsigned_abs z * unsigned_abs z) (sample_kept (get_or residuals k (pos 0)) sample) in
+    (ap (λ (n : ℕ). n + c.square-squares.result) c.loop-k.invariant.0 ∙ ap (λ (n : ℕ). total k f + n) square ∙ sym (total_more k f), omega (arith, c.loop-k.invariant.1, c.square-squares.ensures.most))
+
+pub returns : goal.returns
+returns c = λ small k.
+    let at : ℕ = block_place_of k in
+    let below : at < 64 = block_place_below k in
+    let less : c.loop-k.squares + c.least_size-least.result + 1 < c.least_size-least.result * c.least_size-least.result = ltb-true _ _ small in
+    no_level c.args.quant (coefficient_at c.args.residuals.now k) c.requires.quant
+    (subst (λ (n : ℕ). unsigned_abs (coefficient_at c.args.residuals.now k) < n) c.least_size-least.ensures.value
+    (coefficient_small c.args.residuals.now (at / 8) (at % 8) c.least_size-least.result (omega arith) (omega arith)
+    (subst (λ (n : ℕ). n + c.least_size-least.result + 1 < c.least_size-least.result * c.least_size-least.result) (c.loop-k.invariant.0 ∙ ap (λ (n : ℕ). total n (λ j. unsigned_abs (get_or c.args.residuals.now j (pos 0)) * unsigned_abs (get_or c.args.residuals.now j (pos 0)))) (let all : c.loop-k.k ≡ 64 = omega (arith, c.loop-k.auto, c.loop-k-test.false) in all)) less)
+    c.least_size-least.ensures.most))
