@@ -20,6 +20,8 @@ use std::mem;
 pub struct Coder {
     params: Params,
     cutter: Cutter,
+    /// Whether the picture before has an odd depth.
+    odd: bool,
     /// The samples of the last two reconstructions.
     last: Vec<u8>,
     work: Vec<u8>,
@@ -40,13 +42,29 @@ impl Coder {
         Ok(Coder {
             params: *params,
             cutter: Cutter::start(alloc, params)?,
+            odd: false,
             last: vec![in alloc; 0; size]?,
             work: vec![in alloc; 0; size]?,
         })
     }
 
-    /// Codes a picture by itself.
-    pub fn intra(&mut self, frame: PictureRef<'_>, number: u32)
+    /// Codes the next picture from the one before, or by itself: so is each 132nd, where the chain of a
+    /// sender that knows each picture is at its limit.
+    pub fn code(&mut self, frame: PictureRef<'_>, number: u32)
+        requires { (picture frame).format ≡ self.old.params.format }
+        ensures { self.new.params ≡ self.old.params }
+    {
+        let is_intra = number % 132 == 0;
+        self.odd = !is_intra && !self.odd;
+        if is_intra {
+            self.intra(frame, number);
+        } else {
+            self.predicted(frame, number, u8::from(self.odd));
+        }
+    }
+
+    // Codes a picture by itself.
+    fn intra(&mut self, frame: PictureRef<'_>, number: u32)
         requires { (picture frame).format ≡ self.old.params.format }
         ensures { self.new.params ≡ self.old.params }
     {
@@ -60,8 +78,8 @@ impl Coder {
         );
     }
 
-    /// Codes a picture from the one before, with this rounding.
-    pub fn predicted(&mut self, frame: PictureRef<'_>, number: u32, rounding: u8)
+    // Codes a picture from the one before, with this rounding.
+    fn predicted(&mut self, frame: PictureRef<'_>, number: u32, rounding: u8)
         requires frame { (picture frame).format ≡ self.old.params.format }
         requires rounding { rounding ≤ 1 }
         ensures { self.new.params ≡ self.old.params }

@@ -13,8 +13,10 @@ ghost use Rattle.h263_types.specs.Params.{IsParams};
 
 mod coding;
 mod reading;
+mod recording;
 mod runs;
 mod times;
+mod video;
 
 use h263_types::{Format, Params};
 use runs::run;

@@ -1,5 +1,5 @@
 //! What is measured.
-ghost use Rattle.std.specs.Prelude.{◌≡◌, ◌<◌};
+ghost use Rattle.std.specs.Prelude.{◌<◌};
 
 use h263_outside::OutOfMemory;
 use h263_types::Format;
@@ -47,23 +47,6 @@ pub struct Times {
     pub send: u64,
     pub read: u64,
     pub receive: u64,
-}
-
-impl Times {
-    /// Before the first frame.
-    pub fn new(format: Format) -> Times
-        ensures { result.format ≡ format }
-    {
-        Times {
-            format,
-            frames: 0,
-            bytes: 0,
-            code: 0,
-            send: 0,
-            read: 0,
-            receive: 0,
-        }
-    }
 }
 
 /// The time since `begin`, in nanoseconds, is added to a sum.

@@ -1,15 +1,14 @@
 use Rattle.std.proofs.Common.{◌≡◌, length}
 use Rattle.h263_types.specs.Sizes.{size_of_picture}
 use Rattle.sender_end.specs.Stands.{IsReady}
-use Rattle.bench.proofs.runs.take_frames.Given as goal
+use Rattle.bench.proofs.recording.pass_all.Given as goal
 
 -- each frame was coded and played
 abbrev pub invariant-frames : goal.invariant-frames
 invariant-frames l = record {
   ready : IsReady l.ends.sender.state;
+  params : l.ends.sender.state.params ≡ l.fn.params;
   sent : l.ends.sender.state.sent ≡ l.number;
   played : l.ends.receiver.played ≡ l.number;
-  params : l.alone.coder.params ≡ l.ends.sender.state.params;
-  format : l.times.format ≡ l.ends.sender.state.params.format;
-  size : length l.samples ≡ size_of_picture l.ends.sender.state.params.format;
+  size : length l.samples ≡ size_of_picture l.fn.params.format;
 }

@@ -1,0 +1,193 @@
+//! A call of the made video in which nothing is lost: its packets and messages.
+ghost use Rattle.std.specs.Prelude.{◌≡◌, ◌+◌, ◌^◌, ◌<◌, ◌≤◌, IfOk, length};
+ghost use Rattle.h263_types.specs.Params.{IsParams};
+ghost use Rattle.h263_types.specs.Sizes.{size_of_picture};
+ghost use Rattle.h263_planes.specs.Lent.{picture};
+ghost use Rattle.packet_cutter.specs.Cutting.{packets_of};
+ghost use Rattle.sender_end.specs.Stands.{IsReady};
+
+use crate::times::Stop;
+use crate::video::make;
+use back_messages::Said;
+use h263_outside::OutOfMemory;
+use h263_planes::PictureRef;
+use h263_types::{FixedPace, Params};
+use receiver_end::{Heard, Receiver};
+use sender_end::Sender;
+use std::alloc::Global;
+
+/// A picture's packets, and the message that acknowledges it.
+#[derive(Drop)]
+struct Passed {
+    packets: Vec<Vec<u8>>,
+    said: Option<Said>,
+}
+
+/// The packets and messages of a call, picture by picture.
+#[derive(Drop)]
+pub struct Recorded {
+    pub frames: u32,
+    pictures: Vec<Passed>,
+}
+
+impl Recorded {
+    /// The packets of a picture.
+    pub fn packets(&self, number: u32) -> &[Vec<u8>] {
+        match self.pictures.get(number as usize) {
+            Some(passed) => &passed.packets,
+            None => &[],
+        }
+    }
+
+    /// The message about a picture.
+    pub fn said(&self, number: u32) -> Option<Said> {
+        match self.pictures.get(number as usize) {
+            Some(passed) => passed.said,
+            None => None,
+        }
+    }
+
+    /// The bytes of all packets.
+    pub fn bytes(&self) -> u64 {
+        let mut bytes = 0_u64;
+        'pictures: for passed in &self.pictures {
+            bytes = bytes.saturating_add(bytes_of(&passed.packets));
+        }
+        bytes
+    }
+}
+
+// The bytes of packets.
+fn bytes_of(packets: &[Vec<u8>]) -> u64 {
+    let mut bytes = 0_u64;
+    'packets: for packet in packets {
+        bytes = bytes.saturating_add(packet.len() as u64);
+    }
+    bytes
+}
+
+// Both ends. They must be finished.
+struct Ends {
+    sender: Sender<FixedPace>,
+    receiver: Receiver,
+}
+
+impl Ends {
+    fn start(alloc: Global, params: &Params) -> Result<Ends, OutOfMemory>
+        requires { IsParams params.now }
+        ensures ready { IfOk result (λ ends. IsReady ends.sender.state) }
+        ensures params { IfOk result (λ ends. ends.sender.state.params ≡ params.now) }
+        ensures sent { IfOk result (λ ends. ends.sender.state.sent ≡ 0) }
+        ensures played { IfOk result (λ ends. ends.receiver.played ≡ 0) }
+    {
+        let pace = FixedPace {
+            quant: params.quant,
+        };
+        let sender = Sender::start(alloc, params, pace)?;
+        match Receiver::start(alloc, params) {
+            Ok(receiver) => Ok(Ends { sender, receiver }),
+            Err(_) => {
+                sender.finish();
+                Err(OutOfMemory)
+            }
+        }
+    }
+
+    fn finish(self) {
+        let Ends { sender, receiver } = self;
+        sender.finish();
+        receiver.finish();
+    }
+
+    // Sends, receives and plays a frame; the message goes back.
+    fn pass(&mut self, alloc: Global, frame: PictureRef<'_>) -> Result<Passed, OutOfMemory>
+        requires ready { IsReady self.old.sender.state }
+        requires left { self.old.sender.state.sent < 1048576 }
+        requires few { self.old.receiver.played < 2 ^ 20 }
+        requires frame { (picture frame).format ≡ self.old.sender.state.params.format }
+        ensures ready { IsReady self.new.sender.state }
+        ensures params { self.new.sender.state.params ≡ self.old.sender.state.params }
+        ensures sent { IfOk result (λ _. self.new.sender.state.sent
+            ≡ self.old.sender.state.sent + 1) }
+        ensures played { IfOk result (λ _. self.new.receiver.played
+            ≡ self.old.receiver.played + 1) }
+    {
+        let coded = self.sender.code(frame, &[]);
+        let passed = deliver(alloc, &self.sender, &mut self.receiver, coded.packets)?;
+        self.receiver.play();
+        if let Some(said) = passed.said {
+            self.sender.feedback(said.text());
+        }
+        Ok(passed)
+    }
+}
+
+// Delivers all packets of the last picture.
+fn deliver(
+    alloc: Global,
+    sender: &Sender<FixedPace>,
+    receiver: &mut Receiver,
+    count: u32,
+) -> Result<Passed, OutOfMemory>
+    requires { count ≡ length (packets_of sender.now.state.cutter) }
+    ensures { receiver.new.played ≡ receiver.old.played }
+{
+    let mut packets = Vec::new(alloc);
+    let mut said = None;
+    'packets: for i in 0..count {
+        let packet = Vec::from_slice(alloc, sender.packet(i))?;
+        if let Heard::Completed(message) = receiver.packet(&packet) {
+            said = Some(message);
+        }
+        packets.push(packet)?;
+    }
+    Ok(Passed { packets, said })
+}
+
+// All frames of the made video.
+fn pass_all(
+    alloc: Global,
+    ends: &mut Ends,
+    params: &Params,
+    frames: u32,
+    samples: &mut [u8],
+) -> Result<Vec<Passed>, OutOfMemory>
+    requires ready { IsReady ends.old.sender.state }
+    requires params { ends.old.sender.state.params ≡ params.now }
+    requires frames { frames ≤ 100000 }
+    requires sent { ends.old.sender.state.sent ≡ 0 }
+    requires played { ends.old.receiver.played ≡ 0 }
+    requires size { length samples.old ≡ size_of_picture params.now.format }
+    ensures { length samples.new ≡ length samples.old }
+{
+    let mut pictures = Vec::new(alloc);
+    'frames: for number in 0..frames {
+        make(params.format, number, samples);
+        let frame = PictureRef::new(params.format, samples);
+        let passed = ends.pass(alloc, frame)?;
+        pictures.push(passed)?;
+    }
+    Ok(pictures)
+}
+
+/// Records a call of so many frames.
+pub fn record(
+    alloc: Global,
+    params: &Params,
+    frames: u32,
+    samples: &mut [u8],
+) -> Result<Recorded, Stop>
+    requires params { IsParams params.now }
+    requires frames { frames ≤ 100000 }
+    requires size { length samples.old ≡ size_of_picture params.now.format }
+    ensures size { length samples.new ≡ length samples.old }
+    ensures frames { IfOk result (λ recorded. recorded.frames ≡ frames) }
+{
+    let mut ends = Ends::start(alloc, params)?;
+    let pictures = pass_all(alloc, &mut ends, params, frames, samples);
+    ends.finish();
+    Ok(Recorded {
+        frames,
+        pictures: pictures?,
+    })
+}
