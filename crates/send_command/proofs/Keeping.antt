@@ -7,7 +7,6 @@ use Rattle.std.specs.declared.vec.Vec.{Vec}
 use Rattle.h263_outside.specs.Desk.{Outside}
 use Rattle.h263_outside.specs.declared.desk.Role.{Role}
 use Rattle.h263_outside.specs.declared.desk.Role.TheVariants.{Video, Events, Wire, Report}
-use Rattle.h263_types.specs.declared.params.Params.{Params}
 use Rattle.back_messages.specs.declared.message.MessageFault.{MessageFault}
 use Rattle.event_logs.specs.declared.entry.Side.TheVariants as sides
 use Rattle.event_logs.specs.declared.entry.Side.{Side}
@@ -31,7 +30,8 @@ use Rattle.desk_program.specs.Texts.{no_texts, of}
 use Rattle.desk_program.specs.Laws.{TurnLaws}
 use Rattle.send_command.specs.declared.machine.Send.{Send}
 use Rattle.send_command.specs.Tally.{with_picture, with_reply}
-use Rattle.send_command.specs.Send.{SendState, pace_of, picture_texts, capture_texts, after_capture, after_feedback, entry_step, send_step}
+use Rattle.send_command.specs.Pace.{pace_of, target_of}
+use Rattle.send_command.specs.Send.{SendState, picture_texts, capture_texts, after_capture, after_feedback, entry_step, send_step}
 use Rattle.send_command.specs.Stands.{HasTaken, IsCaptured, IsFit, SendStands, StoodBefore}
 use Rattle.send_command.proofs.Entering.{CutBehind, IsReadAt, found_is, found_told}
 use Rattle.send_command.proofs.Framing.{IsVideoAt}
@@ -43,6 +43,9 @@ module _ (m : Send) (s : SendState) (size : ℕ) (stood : StoodBefore m s size) 
   pub params_are : s.params ≡ m.sender.state.params
   params_are = ap (λ (x : SendState). x.params) stood.is
 
+  pub target_is : s.target ≡ target_of m.sender.pace
+  target_is = ap (λ (x : SendState). x.target) stood.is
+
   pub video_at : m.sender.state.params.format ≡ m.video.format → IsVideoAt s m.video
   video_at format = record {
     format = ap (λ (x : SendState). x.params.format) stood.is ∙ format;
@@ -50,43 +53,45 @@ module _ (m : Send) (s : SendState) (size : ℕ) (stood : StoodBefore m s size) 
     more_is = ap (λ (x : SendState). x.more) stood.is;
   }
 
-  pub stood_for : Stands (pace_of m.sender.state.params) m.sender.state s.entries
-  stood_for = subst (λ (p : Params). Stands (pace_of p) m.sender.state s.entries) params_are stood.sender
+  pub stood_for : Stands (pace_of (target_of m.sender.pace) m.sender.state.params) m.sender.state s.entries
+  stood_for = subst (λ (x : SendState). Stands (pace_of x.target x.params) m.sender.state s.entries) stood.is stood.sender
 
   -- the texts of a capture
-  pub texts_are : (frame : Frame) (out : Frame) (new : State) (answer : Coded) → frame ≡ out → IsCaptured frame m.sender.state.params s.entries new answer
-      → picture_texts (packets_of new.cutter) answer.number answer.reference ≡ capture_texts s.params out s.entries
+  pub texts_are : (frame : Frame) (out : Frame) (new : State) (answer : Coded) → frame ≡ out → IsCaptured (target_of m.sender.pace) frame m.sender.state.params s.entries new answer
+      → picture_texts (packets_of new.cutter) answer.number answer.reference ≡ capture_texts s.target s.params out s.entries
   texts_are frame out new answer same cap =
       (λ i. picture_texts (cap.packets i) (cap.number_is i) (cap.reference i))
-      ∙ (λ i. capture_texts (sym params_are i) (same i) s.entries)
+      ∙ (λ i. capture_texts (sym target_is i) (sym params_are i) (same i) s.entries)
 
   -- the state behind a capture
-  pub keeps_capture : (new : Send) (frame out : Frame) (answer : Coded) (size_of_frame : ℕ) (inputs : Role → List ℕ) → size ≡ 3 → frame ≡ out → IsCaptured frame m.sender.state.params s.entries new.sender.state answer
-      → answer.packets ≡ length (packets_of new.sender.state.cutter) → new.sender.state.params ≡ m.sender.state.params → new.log ≡ m.log → new.tally ≡ with_picture answer.packets m.tally
+  pub keeps_capture : (new : Send) (frame out : Frame) (answer : Coded) (size_of_frame : ℕ) (inputs : Role → List ℕ) → size ≡ 3 → frame ≡ out → IsCaptured (target_of m.sender.pace) frame m.sender.state.params s.entries new.sender.state answer
+      → answer.packets ≡ length (packets_of new.sender.state.cutter) → new.sender.state.params ≡ m.sender.state.params → new.sender.pace ≡ m.sender.pace → new.log ≡ m.log → new.tally ≡ with_picture answer.packets m.tally
       → new.video.at ≡ s.video_at + size_of_frame → new.video.more + 1 ≡ m.video.more
       → SendStands new (after_capture s size_of_frame out) inputs
-  keeps_capture new frame out answer n inputs three same cap count params log tally place more =
+  keeps_capture new frame out answer n inputs three same cap count params pace log tally place more =
       let p = m.sender.state.params in
       let old : s.tally ≡ m.tally = ap (λ (x : SendState). x.tally) stood.is in
-      let counted : length (last_packets s.params (pace_of s.params) (Capture out ∷ s.entries)) ≡ answer.packets =
-      (λ i. length (last_packets (params_are i) (pace_of (params_are i)) (Capture (sym same i) ∷ s.entries)))
+      let counted : length (last_packets s.params (pace_of s.target s.params) (Capture out ∷ s.entries)) ≡ answer.packets =
+      (λ i. length (last_packets (params_are i) (pace_of (target_is i) (params_are i)) (Capture (sym same i) ∷ s.entries)))
       ∙ ap (λ (l : List (List ℕ)). length l) (sym cap.packets) ∙ sym count
       in
-      let tally_is : with_picture (length (last_packets s.params (pace_of s.params) (Capture out ∷ s.entries))) s.tally ≡ new.tally =
+      let tally_is : with_picture (length (last_packets s.params (pace_of s.target s.params) (Capture out ∷ s.entries))) s.tally ≡ new.tally =
       (λ i. with_picture (counted i) (old i)) ∙ sym tally
       in
       let params_is : s.params ≡ new.sender.state.params = params_are ∙ sym params in
+      let goal_is : s.target ≡ target_of new.sender.pace = target_is ∙ ap target_of (sym pace) in
       let fewer : s.more ≡ m.video.more = ap (λ (x : SendState). x.more) stood.is in
       let more_is : s.more - 1 ≡ new.video.more = omega (arith, more, fewer) in
       let at_is : s.at + 3 ≡ new.log.at = ap (λ (k : ℕ). s.at + k) (sym three) ∙ ap (λ (x : SendState). x.at) stood.is ∙ ap (λ (l : LogReader). l.at) (sym log) in
       let read_is : s.read + 1 ≡ new.log.entries = ap (λ (x : SendState). x.read) stood.is ∙ ap (λ (l : LogReader). l.entries) (sym log) in
-      let sender : Stands (pace_of s.params) new.sender.state (Capture out ∷ s.entries) =
-      subst (λ (f : Frame). Stands (pace_of s.params) new.sender.state (Capture f ∷ s.entries)) same
-      (subst (λ (q : Params). Stands (pace_of q) new.sender.state (Capture frame ∷ s.entries)) (sym params_are) cap.stands)
+      let sender : Stands (pace_of s.target s.params) new.sender.state (Capture out ∷ s.entries) =
+      subst (λ (f : Frame). Stands (pace_of s.target s.params) new.sender.state (Capture f ∷ s.entries)) same
+      (subst (λ (x : SendState). Stands (pace_of x.target x.params) new.sender.state (Capture frame ∷ s.entries)) (sym stood.is) cap.stands)
       in
       record {
         is = λ i. record {
           params = params_is i;
+          target = goal_is i;
           entries = Capture out ∷ s.entries;
           tally = tally_is i;
           at = at_is i;
@@ -99,18 +104,20 @@ module _ (m : Send) (s : SendState) (size : ℕ) (stood : StoodBefore m s size) 
 
 -- the state behind feedback
 pub keeps_feedback : (m : Send) (s : SendState) (len : ℕ) (bytes : List ℕ) (stood : StoodBefore m s (3 + len)) (new : Send) (reply : Reply MessageFault) (inputs : Role → List ℕ) → length bytes ≡ len
-    → Stands (pace_of m.sender.state.params) new.sender.state (Feedback bytes ∷ s.entries)
-    → reply ≡ feedback_answer (rules_of m.sender.state.params) (length (run_of m.sender.state.params (pace_of m.sender.state.params) s.entries).coded) (read_message m.sender.state.params.clock bytes)
-    → new.sender.state.params ≡ m.sender.state.params → new.log ≡ m.log → new.tally ≡ with_reply reply m.tally → new.video ≡ m.video
+    → Stands (pace_of (target_of m.sender.pace) m.sender.state.params) new.sender.state (Feedback bytes ∷ s.entries)
+    → reply ≡ feedback_answer (rules_of m.sender.state.params) (length (run_of m.sender.state.params (pace_of (target_of m.sender.pace) m.sender.state.params) s.entries).coded) (read_message m.sender.state.params.clock bytes)
+    → new.sender.state.params ≡ m.sender.state.params → new.sender.pace ≡ m.sender.pace → new.log ≡ m.log → new.tally ≡ with_reply reply m.tally → new.video ≡ m.video
     → SendStands new (after_feedback s bytes) inputs
-keeps_feedback m s len bytes stood new reply inputs long stands answer params log tally video =
+keeps_feedback m s len bytes stood new reply inputs long stands answer params pace log tally video =
     let params_is : s.params ≡ new.sender.state.params = params_are m s (3 + len) stood ∙ sym params in
+    let was : target_of m.sender.pace ≡ s.target = sym (target_is m s (3 + len) stood) in
+    let goal_is : s.target ≡ target_of new.sender.pace = sym was ∙ ap target_of (sym pace) in
     let old : s.tally ≡ m.tally = ap (λ (x : SendState). x.tally) stood.is in
     let back : m.sender.state.params ≡ s.params = sym (params_are m s (3 + len) stood) in
-    let answer_is : feedback_answer (rules_of s.params) (length (run_of s.params (pace_of s.params) s.entries).coded) (read_message s.params.clock bytes) ≡ reply =
-    (λ i. feedback_answer (rules_of (sym back i)) (length (run_of (sym back i) (pace_of (sym back i)) s.entries).coded) (read_message (sym back i).clock bytes)) ∙ sym answer
+    let answer_is : feedback_answer (rules_of s.params) (length (run_of s.params (pace_of s.target s.params) s.entries).coded) (read_message s.params.clock bytes) ≡ reply =
+    (λ i. feedback_answer (rules_of (sym back i)) (length (run_of (sym back i) (pace_of (sym was i) (sym back i)) s.entries).coded) (read_message (sym back i).clock bytes)) ∙ sym answer
     in
-    let tally_is : with_reply (feedback_answer (rules_of s.params) (length (run_of s.params (pace_of s.params) s.entries).coded) (read_message s.params.clock bytes)) s.tally ≡ new.tally =
+    let tally_is : with_reply (feedback_answer (rules_of s.params) (length (run_of s.params (pace_of s.target s.params) s.entries).coded) (read_message s.params.clock bytes)) s.tally ≡ new.tally =
     (λ i. with_reply (answer_is i) (old i)) ∙ sym tally
     in
     let at_is : s.at + (3 + length bytes) ≡ new.log.at = ap (λ (k : ℕ). s.at + (3 + k)) long ∙ ap (λ (x : SendState). x.at) stood.is ∙ ap (λ (l : LogReader). l.at) (sym log) in
@@ -120,6 +127,7 @@ keeps_feedback m s len bytes stood new reply inputs long stands answer params lo
     record {
       is = λ i. record {
         params = params_is i;
+        target = goal_is i;
         entries = Feedback bytes ∷ s.entries;
         tally = tally_is i;
         at = at_is i;
@@ -127,7 +135,7 @@ keeps_feedback m s len bytes stood new reply inputs long stands answer params lo
         video_at = place_is i;
         more = more_is i;
       };
-      sender = subst (λ (q : Params). Stands (pace_of q) new.sender.state (Feedback bytes ∷ s.entries)) back stands;
+      sender = subst (λ (x : SendState). Stands (pace_of x.target x.params) new.sender.state (Feedback bytes ∷ s.entries)) (sym stood.is) stands;
     }
 
 -- ---- before an entry is read, and behind it
@@ -148,6 +156,7 @@ module _ (m : Send) (s : SendState) (inputs : Role → List ℕ) (stands : SendS
       record {
         is = λ i. record {
           params = (stands.is i).params;
+          target = (stands.is i).target;
           entries = s.entries;
           tally = (stands.is i).tally;
           at = at_is i;

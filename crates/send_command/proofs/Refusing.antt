@@ -3,7 +3,6 @@ use Rattle.std.proofs.Common.{◌≡◌, ℕ, zero, suc, ◌+◌, ◌-◌, ◌<�
 use Rattle.h263_outside.specs.declared.desk.Role.{Role}
 use Rattle.h263_outside.specs.declared.desk.Role.TheVariants.{Video, Events}
 use Rattle.h263_types.specs.declared.format.Format.{Format}
-use Rattle.h263_types.specs.declared.params.Params.{Params}
 use Rattle.y4m.specs.declared.fault.Y4mFault.{Y4mFault}
 use Rattle.y4m.specs.Frame.{next_frame, frame_size}
 use Rattle.y4m.specs.Head.{head_of, head_size}
@@ -17,6 +16,7 @@ use Rattle.call_report.specs.declared.status.Status.{Status}
 use Rattle.call_report.specs.declared.status.Status.TheVariants.{VideoRefused}
 use Rattle.desk_program.specs.Run.{Run, behind, follow, run_of, run_from, silence}
 use Rattle.desk_program.specs.Texts.{of, and_of}
+use Rattle.send_command.specs.declared.pace.Sending.{Sending}
 use Rattle.send_command.specs.Send.{SendState, captured, send_begin, send_step, log_step, entry_step, capture_step, frame_step, head_step, after_capture, first_state, most_entries}
 
 refused_is : (a b : Y4mFault) → VideoRefused a ≡ VideoRefused b → a ≡ b
@@ -73,13 +73,13 @@ module _ (frame_laws : FrameLaws) (fault : Y4mFault) where
   run_refused (suc n) s inputs ends =
       at_log s inputs (λ next taken. run_of send_step n next (behind inputs taken)) (λ next taken is. run_refused n next (behind inputs taken) is) (inputs Events) ends
 
-  pub video_refused : (p : Params) (inputs : Role → List ℕ) → (run_from (send_begin p inputs) send_step 16777216 inputs).last.status ≡ VideoRefused fault
+  pub video_refused : (setup : Sending) (inputs : Role → List ℕ) → (run_from (send_begin setup inputs) send_step 16777216 inputs).last.status ≡ VideoRefused fault
       → video_fault (inputs Video) ≡ Some fault
   unfolding video_fault
-  video_refused p inputs ends = by_head (head_of (inputs Video)) refl ends
+  video_refused setup inputs ends = by_head (head_of (inputs Video)) refl ends
     where
       by_head : (r : Result Format Y4mFault) → head_of (inputs Video) ≡ r
-          → (follow (head_step p (head_size (inputs Video)) r) (λ next taken. run_of send_step 16777216 next (behind inputs taken))).last.status ≡ VideoRefused fault
+          → (follow (head_step setup (head_size (inputs Video)) r) (λ next taken. run_of send_step 16777216 next (behind inputs taken))).last.status ≡ VideoRefused fault
           → fault_behind r (head_size (inputs Video)) (drop (head_size (inputs Video)) (inputs Video)) ≡ Some fault
-      by_head (Ok f) is ends = run_refused 16777216 (first_state p f (head_size (inputs Video))) (behind inputs (of Video (head_size (inputs Video)))) ends
+      by_head (Ok f) is ends = run_refused 16777216 (first_state setup f (head_size (inputs Video))) (behind inputs (of Video (head_size (inputs Video)))) ends
       by_head (Err broken) is ends = ap (λ (x : Y4mFault). Some x) (refused_is broken fault ends)

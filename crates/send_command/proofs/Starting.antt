@@ -4,7 +4,6 @@ use Rattle.h263_outside.specs.Desk.{Outside}
 use Rattle.h263_outside.specs.declared.desk.Role.{Role}
 use Rattle.h263_outside.specs.declared.desk.Role.TheVariants.{Video}
 use Rattle.h263_types.specs.declared.format.Format.{Format}
-use Rattle.h263_types.specs.declared.params.Params.{Params}
 use Rattle.y4m.specs.declared.fault.Y4mFault.{Y4mFault}
 use Rattle.y4m.specs.declared.fault.VideoStop.{VideoStop}
 use Rattle.y4m.specs.declared.fault.VideoStop.TheVariants.{Read, Refused}
@@ -17,33 +16,34 @@ use Rattle.desk_program.specs.Run.{behind}
 use Rattle.desk_program.specs.Ends.{Tells, IsPart, Went, GivesUp, step_turns}
 use Rattle.desk_program.specs.Texts.{no_texts, of}
 use Rattle.desk_program.specs.Laws.{TurnLaws}
+use Rattle.send_command.specs.declared.pace.Sending.{Sending}
 use Rattle.send_command.specs.Send.{SendState, first_state, head_step, send_begin}
 use Rattle.send_command.proofs.Held.{no_frame_held, not_an_err}
 
 abbrev pub CutHeads : Type 0
 CutHeads = (video : List ℕ) (f : Format) (k : ℕ) → head_of video ≡ Ok f → head_size video ≤ k → (head_of (take k video) ≡ Ok f) × (head_size (take k video) ≡ head_size video)
 
-head_part : CutHeads → (p : Params) (video : List ℕ) (k : ℕ) (r : Result Format Y4mFault) → head_of video ≡ r → IsErr (head_of (take k video)) → IsPart (step_turns (head_step p (head_size video) r)) (of Video k)
-head_part cut p video k (Ok f) is lost = no_frame_held (record { taken = of Video (head_size video); whole = true; texts = no_texts }) (of Video k) (λ whole. not_an_err _ f (cut video f k is whole).0 lost)
-head_part cut p video k (Err fault) is lost = tt
+head_part : CutHeads → (setup : Sending) (video : List ℕ) (k : ℕ) (r : Result Format Y4mFault) → head_of video ≡ r → IsErr (head_of (take k video)) → IsPart (step_turns (head_step setup (head_size video) r)) (of Video k)
+head_part cut setup video k (Ok f) is lost = no_frame_held (record { taken = of Video (head_size video); whole = true; texts = no_texts }) (of Video k) (λ whole. not_an_err _ f (cut video f k is whole).0 lost)
+head_part cut setup video k (Err fault) is lost = tt
 
-module _ (laws : TurnLaws SendState) (p : Params) (inputs : Role → List ℕ) (old mid : Outside) (told : Tells old inputs) (others : (r : Role) → r ≢ Video → mid.left r ≡ old.left r) (same : mid.written ≡ old.written) where
-  pub head_stops : CutHeads → (stop : VideoStop) → HeadGives (Err stop) (inputs Video) (mid.left Video) → GivesUp (phase (video_stop stop)) (video_stop stop) (send_begin p inputs) true inputs old mid
+module _ (laws : TurnLaws SendState) (setup : Sending) (inputs : Role → List ℕ) (old mid : Outside) (told : Tells old inputs) (others : (r : Role) → r ≢ Video → mid.left r ≡ old.left r) (same : mid.written ≡ old.written) where
+  pub head_stops : CutHeads → (stop : VideoStop) → HeadGives (Err stop) (inputs Video) (mid.left Video) → GivesUp (phase (video_stop stop)) (video_stop stop) (send_begin setup inputs) true inputs old mid
   head_stops cut Read e = record {
     part = of Video e.0;
-    partly = head_part cut p (inputs Video) e.0 (head_of (inputs Video)) refl e.2;
+    partly = head_part cut setup (inputs Video) e.0 (head_of (inputs Video)) refl e.2;
     could = refl;
     left = laws.one_read Video e.0 old mid inputs told e.1 others;
     written = same;
   }
-  head_stops cut (Refused fault) e = laws.refuses _ (VideoRefused fault) inputs old mid (ap (head_step p (head_size (inputs Video))) e) same
+  head_stops cut (Refused fault) e = laws.refuses _ (VideoRefused fault) inputs old mid (ap (head_step setup (head_size (inputs Video))) e) same
 
-  pub head_goes : (reader : Y4mReader) (stands : SendState → (Role → List ℕ) → Type 0) → HeadGives (Ok reader) (inputs Video) (mid.left Video) → stands (first_state p reader.format (head_size (inputs Video))) (behind inputs (of Video (head_size (inputs Video)))) → Went (send_begin p inputs) stands (λ _. true) true inputs old mid
+  pub head_goes : (reader : Y4mReader) (stands : SendState → (Role → List ℕ) → Type 0) → HeadGives (Ok reader) (inputs Video) (mid.left Video) → stands (first_state setup reader.format (head_size (inputs Video))) (behind inputs (of Video (head_size (inputs Video)))) → Went (send_begin setup inputs) stands (λ _. true) true inputs old mid
   head_goes reader stands e kept = record {
-    next = first_state p reader.format (head_size (inputs Video));
+    next = first_state setup reader.format (head_size (inputs Video));
     turn = record { taken = of Video (head_size (inputs Video)); whole = true; texts = no_texts };
     could = refl;
-    is = ap (head_step p (head_size (inputs Video))) e.0;
+    is = ap (head_step setup (head_size (inputs Video))) e.0;
     kept = kept;
     whole = refl;
     left = laws.one_read Video (head_size (inputs Video)) old mid inputs told e.2 others;

@@ -1,3 +1,4 @@
 pub mod Tally
+pub mod Pace
 pub mod Send
 pub mod Stands

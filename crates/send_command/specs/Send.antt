@@ -26,14 +26,17 @@ use Rattle.sender_end.specs.Stands.{run_of, next_after, last_packets}
 use Rattle.desk_program.specs.Run.{End, Step, refusal}
 use Rattle.desk_program.specs.Run.Step.{Goes, Ends}
 use Rattle.desk_program.specs.Texts.{no_texts, on, then_also, of, and_of}
+use Rattle.send_command.specs.declared.pace.Sending.{Sending}
 use Rattle.send_command.specs.declared.tally.Tally.{Tally}
+use Rattle.send_command.specs.Pace.{pace_of}
 use Rattle.send_command.specs.Tally.{no_counts, with_picture, with_reply, count_text}
 
--- the parameters, the entries so far, the newest first, and what was counted of them; the byte
--- where the next entry begins, and how many were read; the byte where the next frame begins, and
--- how many may still come
+-- the parameters, and the target that the pace follows, if there is one; the entries so far, the
+-- newest first, and what was counted of them; the byte where the next entry begins, and how many
+-- were read; the byte where the next frame begins, and how many may still come
 pub record SendState : Type 0 where
   pub params : Params
+  pub target : Option ℕ
   pub entries : List (SenderEntry Frame)
   pub tally : Tally
   pub at : ℕ
@@ -44,10 +47,6 @@ pub record SendState : Type 0 where
 -- the most entries of a log
 abbrev pub most_entries : ℕ
 most_entries = 16777216
-
--- the pace that answers the parameters' quantiser to all
-abbrev pub pace_of : Params → List ℕ → ℕ
-pace_of p sizes = p.quant
 
 -- a frame of the video, captured without messages
 abbrev pub captured : Format → List ℕ → Frame
@@ -63,19 +62,20 @@ picture_texts packets number reference =
     then_also (on Wire (packets_text packets)) (on Report (picture_text number None (Some reference) None))
 
 -- the texts of a frame that is captured after these entries
-abbrev pub capture_texts : Params → Frame → List (SenderEntry Frame) → Role → List ℕ
-capture_texts p frame entries =
-    picture_texts (last_packets p (pace_of p) (Capture frame ∷ entries))
-    (length (run_of p (pace_of p) entries).coded)
-    (next_after p (pace_of p) frame entries).reference
+abbrev pub capture_texts : Option ℕ → Params → Frame → List (SenderEntry Frame) → Role → List ℕ
+capture_texts target p frame entries =
+    picture_texts (last_packets p (pace_of target p) (Capture frame ∷ entries))
+    (length (run_of p (pace_of target p) entries).coded)
+    (next_after p (pace_of target p) frame entries).reference
 
 -- the state after a capture: three bytes of the log and a frame of the video are gone
 abbrev pub after_capture : SendState → ℕ → Frame → SendState
 after_capture s size frame =
     record {
       params = s.params;
+      target = s.target;
       entries = Capture frame ∷ s.entries;
-      tally = with_picture (length (last_packets s.params (pace_of s.params) (Capture frame ∷ s.entries))) s.tally;
+      tally = with_picture (length (last_packets s.params (pace_of s.target s.params) (Capture frame ∷ s.entries))) s.tally;
       at = s.at + 3;
       read = s.read + 1;
       video_at = s.video_at + size;
@@ -89,7 +89,7 @@ frame_step s size (Ok frame) =
     (record {
       taken = and_of (of Events 3) (of Video size);
       whole = true;
-      texts = capture_texts s.params (captured s.params.format frame) s.entries;
+      texts = capture_texts s.target s.params (captured s.params.format frame) s.entries;
     })
 frame_step s size (Err fault) = Ends (refusal (VideoRefused fault))
 
@@ -109,9 +109,10 @@ abbrev pub after_feedback : SendState → List ℕ → SendState
 after_feedback s bytes =
     record {
       params = s.params;
+      target = s.target;
       entries = Feedback bytes ∷ s.entries;
       tally = with_reply (feedback_answer (rules_of s.params)
-          (length (run_of s.params (pace_of s.params) s.entries).coded)
+          (length (run_of s.params (pace_of s.target s.params) s.entries).coded)
           (read_message s.params.clock bytes)) s.tally;
       at = s.at + (3 + length bytes);
       read = s.read + 1;
@@ -153,10 +154,11 @@ abbrev pub send_step : SendState → (Role → List ℕ) → Step SendState
 send_step s inputs = log_step s inputs (inputs Events)
 
 -- before the first entry, behind a head of so many bytes
-abbrev pub first_state : Params → Format → ℕ → SendState
-first_state p f size =
+abbrev pub first_state : Sending → Format → ℕ → SendState
+first_state setup f size =
     record {
-      params = record p { format = f };
+      params = record setup.params { format = f };
+      target = setup.target;
       entries = [];
       tally = no_counts;
       at = 0;
@@ -166,10 +168,11 @@ first_state p f size =
     }
 
 -- the video's head gives the format, or is refused
-abbrev pub head_step : Params → ℕ → Result Format Y4mFault → Step SendState
-head_step p size (Ok f) = Goes (first_state p f size) (record { taken = of Video size; whole = true; texts = no_texts })
-head_step p size (Err fault) = Ends (refusal (VideoRefused fault))
+abbrev pub head_step : Sending → ℕ → Result Format Y4mFault → Step SendState
+head_step setup size (Ok f) =
+    Goes (first_state setup f size) (record { taken = of Video size; whole = true; texts = no_texts })
+head_step setup size (Err fault) = Ends (refusal (VideoRefused fault))
 
 -- before the first turn the video's head is read
-abbrev pub send_begin : Params → (Role → List ℕ) → Step SendState
-send_begin p inputs = head_step p (head_size (inputs Video)) (head_of (inputs Video))
+abbrev pub send_begin : Sending → (Role → List ℕ) → Step SendState
+send_begin setup inputs = head_step setup (head_size (inputs Video)) (head_of (inputs Video))

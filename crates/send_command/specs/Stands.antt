@@ -1,5 +1,5 @@
 -- What the machine keeps of a state, and what it is ready for.
-use Rattle.std.specs.Prelude.{◌≡◌, ℕ, ◌+◌, ◌-◌, ◌<◌, Bool, true, List, ◌∷◌, length}
+use Rattle.std.specs.Prelude.{◌≡◌, ℕ, ◌+◌, ◌-◌, ◌<◌, ◌≤◌, Bool, true, List, ◌∷◌, length, Option, IfSome}
 use Rattle.h263_outside.specs.Desk.{Outside}
 use Rattle.h263_outside.specs.declared.desk.Role.{Role}
 use Rattle.h263_outside.specs.declared.desk.Role.TheVariants.{Video, Events, Wire, Report}
@@ -18,12 +18,16 @@ use Rattle.desk_program.specs.Run.{behind}
 use Rattle.desk_program.specs.Ends.{Tells}
 use Rattle.desk_program.specs.Texts.{of}
 use Rattle.send_command.specs.declared.machine.Send.{Send}
+use Rattle.send_command.specs.declared.pace.Sending.{Sending}
+use Rattle.send_command.specs.Pace.{first_of, pace_of, target_of}
 use Rattle.send_command.specs.Tally.{IsOf}
-use Rattle.send_command.specs.Send.{SendState, pace_of}
+use Rattle.send_command.specs.Send.{SendState}
 
--- it may begin: the parameters are in their ranges, and the roles attached
-pub record CanSend (p : Params) (attached : Role → Bool) : Type 0 where
-  pub params : IsParams p
+-- it may begin: the parameters and the target are in their ranges, and the roles attached
+pub record CanSend (setup : Sending) (attached : Role → Bool) : Type 0 where
+  pub params : IsParams setup.params
+  pub some : IfSome setup.target (λ n. 1 ≤ n)
+  pub few : IfSome setup.target (λ n. n ≤ 999999)
   pub video : attached Video ≡ true
   pub events : attached Events ≡ true
   pub wire : attached Wire ≡ true
@@ -34,6 +38,7 @@ abbrev pub state_of : Send → List (SenderEntry Frame) → SendState
 state_of m entries =
     record {
       params = m.sender.state.params;
+      target = target_of m.sender.pace;
       entries = entries;
       tally = m.tally;
       at = m.log.at;
@@ -45,7 +50,7 @@ state_of m entries =
 -- the machine keeps this state in mind: its sender stands for the entries
 pub record SendStands (m : Send) (s : SendState) (inputs : Role → List ℕ) : Type 0 where
   pub is : s ≡ state_of m s.entries
-  pub sender : Stands (pace_of s.params) m.sender.state s.entries
+  pub sender : Stands (pace_of s.target s.params) m.sender.state s.entries
 
 -- the roles are attached, the parts fit each other, and as many frames may still come as pictures
 -- may still be sent
@@ -56,7 +61,7 @@ pub record IsFit (m : Send) (attached : Role → Bool) : Type 0 where
   pub report : attached Report ≡ true
   pub sender : IsReady m.sender.state
   pub format : m.sender.state.params.format ≡ m.video.format
-  pub pace : m.sender.pace.quant ≡ m.sender.state.params.quant
+  pub pace : first_of m.sender.pace ≡ m.sender.state.params.quant
   pub frame : length m.frame.items ≡ size_of_picture m.video.format
   pub bytes : length m.bytes.items ≡ 65535
   pub side : m.log.side ≡ sides.Send
@@ -76,7 +81,7 @@ pub record IsAtEntry (m : Send) (attached : Role → Bool) : Type 0 where
 -- this was the state before the entry of so many bytes that was read last
 pub record StoodBefore (m : Send) (s : SendState) (size : ℕ) : Type 0 where
   pub is : record s { at = s.at + size; read = s.read + 1 } ≡ state_of m s.entries
-  pub sender : Stands (pace_of s.params) m.sender.state s.entries
+  pub sender : Stands (pace_of s.target s.params) m.sender.state s.entries
 
 -- since then so many bytes of the log were taken, and nothing was written
 pub record HasTaken (size : ℕ) (inputs : Role → List ℕ) (old new : Outside) : Type 0 where
@@ -85,8 +90,9 @@ pub record HasTaken (size : ℕ) (inputs : Role → List ℕ) (old new : Outside
 
 -- the sender has captured a frame after these entries: it stands for the longer list, its packets
 -- are those of the picture, and the answer tells its number and its reference
-pub record IsCaptured (frame : Frame) (p : Params) (entries : List (SenderEntry Frame)) (new : State) (answer : Coded) : Type 0 where
-  pub stands : Stands (pace_of p) new (Capture frame ∷ entries)
-  pub packets : packets_of new.cutter ≡ last_packets p (pace_of p) (Capture frame ∷ entries)
-  pub number_is : answer.number ≡ length (run_of p (pace_of p) entries).coded
-  pub reference : answer.reference ≡ (next_after p (pace_of p) frame entries).reference
+pub record IsCaptured (target : Option ℕ) (frame : Frame) (p : Params)
+    (entries : List (SenderEntry Frame)) (new : State) (answer : Coded) : Type 0 where
+  pub stands : Stands (pace_of target p) new (Capture frame ∷ entries)
+  pub packets : packets_of new.cutter ≡ last_packets p (pace_of target p) (Capture frame ∷ entries)
+  pub number_is : answer.number ≡ length (run_of p (pace_of target p) entries).coded
+  pub reference : answer.reference ≡ (next_after p (pace_of target p) frame entries).reference

@@ -10,24 +10,25 @@ ghost use Rattle.call_encoding.specs.Frames.{Frame};
 ghost use Rattle.sender_end.specs.Stands.{IsReady, Stands};
 ghost use Rattle.desk_program.specs.Ends.{Gains, GainsFronts};
 ghost use Rattle.desk_program.specs.Texts.{on};
-ghost use Rattle.send_command.specs.Send.{packets_text, pace_of, picture_texts};
+ghost use Rattle.send_command.specs.Pace.{first_of, pace_of, target_of};
+ghost use Rattle.send_command.specs.Send.{packets_text, picture_texts};
 ghost use Rattle.send_command.specs.Stands.{IsCaptured};
 
+use crate::SendPace;
 use crate::mind::turn_laws;
 use call_report::{Status, picture_line};
 use desk_program::{put_entry, put_line};
 use h263_outside::Desk;
 use h263_outside::laws::calls;
 use h263_planes::PictureRef;
-use h263_types::FixedPace;
 use sender_end::{Coded, Sender};
 
 /// Captures a frame without messages.
-pub fn capture(sender: &mut Sender<FixedPace>, frame: PictureRef<'_>) -> Coded
+pub fn capture(sender: &mut Sender<SendPace>, frame: PictureRef<'_>) -> Coded
     requires ready { IsReady sender.old.state }
     requires frame { (picture frame).format ≡ sender.old.state.params.format }
     requires left { sender.old.state.sent < 1048576 }
-    requires pace { sender.old.pace.quant ≡ sender.old.state.params.quant }
+    requires pace { first_of sender.old.pace ≡ sender.old.state.params.quant }
     ensures ready { IsReady sender.new.state }
     ensures params { sender.new.state.params ≡ sender.old.state.params }
     ensures sent { sender.new.state.sent ≡ sender.old.state.sent + 1 }
@@ -35,15 +36,17 @@ pub fn capture(sender: &mut Sender<FixedPace>, frame: PictureRef<'_>) -> Coded
     ensures count { result.packets ≡ length (packets_of sender.new.state.cutter) }
     ensures small { All (λ packet. length packet ≤ 9000) (packets_of sender.new.state.cutter) }
     ensures captured { (entries : List (SenderEntry Frame))
-        → Stands (pace_of sender.old.state.params) sender.old.state entries
-        → IsCaptured (record { picture = picture frame.entry; messages = [] })
+        → Stands (pace_of (target_of sender.old.pace) sender.old.state.params)
+        sender.old.state entries
+        → IsCaptured (target_of sender.old.pace)
+        (record { picture = picture frame.entry; messages = [] })
         sender.old.state.params entries sender.new.state result }
 {
     sender.code(frame, &[])
 }
 
 // Writes the first so many packets of the last picture.
-fn put_packets<D: Desk>(desk: &mut D, sender: &Sender<FixedPace>, count: u32) -> Result<(), Status>
+fn put_packets<D: Desk>(desk: &mut D, sender: &Sender<SendPace>, count: u32) -> Result<(), Status>
     requires attached { (D.outside desk.old).attached Wire ≡ true }
     requires count { count ≡ length (packets_of sender.now.state.cutter) }
     requires small { All (λ packet. length packet ≤ 9000) (packets_of sender.now.state.cutter) }
@@ -68,7 +71,7 @@ fn put_packets<D: Desk>(desk: &mut D, sender: &Sender<FixedPace>, count: u32) ->
 /// Writes the packets of the last picture, and its line.
 pub fn put_picture<D: Desk>(
     desk: &mut D,
-    sender: &Sender<FixedPace>,
+    sender: &Sender<SendPace>,
     coded: &Coded,
 ) -> Result<(), Status>
     requires wire { (D.outside desk.old).attached Wire ≡ true }

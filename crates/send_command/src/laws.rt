@@ -1,20 +1,20 @@
 //! What a run of the command comes to. The law is the contract of a function that does nothing else.
 ghost use Rattle.std.specs.Prelude.{◌≡◌, ℕ, List, Some};
-ghost use Rattle.h263_types.specs.declared.params.Params.{Params};
 ghost use Rattle.h263_outside.specs.declared.desk.Role.{Role};
 ghost use Rattle.h263_outside.specs.declared.desk.Role.TheVariants.{Video};
 ghost use Rattle.y4m.specs.declared.fault.Y4mFault.{Y4mFault};
 ghost use Rattle.y4m.specs.Video.{video_fault};
 ghost use Rattle.call_report.specs.declared.status.Status.TheVariants.{VideoRefused};
 ghost use Rattle.desk_program.specs.Run.{run_from};
+ghost use Rattle.send_command.specs.declared.pace.Sending.{Sending};
 ghost use Rattle.send_command.specs.Send.{send_begin, send_step};
 
 use y4m::laws::frame_by_frame;
 
 /// A video that is refused has that fault, and no earlier one.
 pub fn refused_videos()
-    ensures { (p : Params) (inputs : Role → List ℕ) (fault : Y4mFault)
-        → (run_from (send_begin p inputs) send_step 16777216 inputs).last.status
+    ensures { (setup : Sending) (inputs : Role → List ℕ) (fault : Y4mFault)
+        → (run_from (send_begin setup inputs) send_step 16777216 inputs).last.status
         ≡ VideoRefused fault → video_fault (inputs Video) ≡ Some fault }
 {
     frame_by_frame();

@@ -5,16 +5,16 @@ ghost use Rattle.h263_outside.specs.Desk.{Outside};
 ghost use Rattle.h263_outside.specs.declared.desk.Role.{Role};
 ghost use Rattle.h263_outside.specs.declared.desk.Role.TheVariants.{Video};
 
-use crate::Tally;
 use crate::capture::{capture, put_picture};
 use crate::mind::turn_laws;
+use crate::{SendPace, Sending, Tally};
 use call_report::Status;
 use desk_program::{Turns, put_line};
 use event_logs::{Entry, LogFault, LogReader, Side};
 use h263_outside::Desk;
 use h263_outside::laws::calls;
 use h263_planes::PictureRef;
-use h263_types::{FixedPace, Params};
+use h263_types::Params;
 use sender_end::Sender;
 use std::alloc::Global;
 use y4m::Y4mReader;
@@ -27,7 +27,7 @@ const MAX_BYTES: usize = 65_535;
 pub struct Send {
     video: Y4mReader,
     log: LogReader,
-    sender: Sender<FixedPace>,
+    sender: Sender<SendPace>,
     tally: Tally,
     frame: Vec<u8>,
     bytes: Vec<u8>,
@@ -38,6 +38,7 @@ impl Send {
     ghost use Rattle.desk_program.specs.Ends.{start_status};
     ghost use Rattle.call_report.specs.Status.{phase};
     ghost use Rattle.sender_end.specs.Stands.{IsReady};
+    ghost use Rattle.send_command.specs.Pace.{first_of};
     ghost use Rattle.send_command.specs.Send.{SendState, capture_step, after_feedback};
     ghost use Rattle.send_command.specs.Stands.{HasTaken, IsAtEntry, IsFit, SendReady, SendStands};
     ghost use Rattle.send_command.specs.Stands.{StoodBefore};
@@ -80,7 +81,7 @@ impl Send {
     fn take_feedback(&mut self, len: u32)
         requires bytes { length self.old.bytes.items ≡ 65535 }
         requires ready { IsReady self.old.sender.state }
-        requires pace { self.old.sender.pace.quant ≡ self.old.sender.state.params.quant }
+        requires pace { first_of self.old.sender.pace ≡ self.old.sender.state.params.quant }
         requires few { self.old.log.entries ≤ 16777216 }
         requires some { 0 < self.old.log.entries }
         requires tally { IsOf (self.old.log.entries - 1) self.old.tally }
@@ -103,7 +104,7 @@ impl Turns for Send {
     ghost use Rattle.send_command.specs.Send.{SendState, most_entries, send_begin, send_step};
     ghost use Rattle.send_command.specs.Stands.{CanSend, SendReady, SendStands};
 
-    type Setup = Params;
+    type Setup = Sending;
 
     ghost State = { SendState };
 
@@ -133,19 +134,17 @@ impl Turns for Send {
 
     ghost reading = { λ _. Some Events };
 
-    fn start<D: Desk>(alloc: Global, setup: &Params, desk: &mut D) -> Result<Send, Status> {
+    fn start<D: Desk>(alloc: Global, setup: &Sending, desk: &mut D) -> Result<Send, Status> {
         turn_laws();
         y4m::laws::cut_behind();
         let video = Y4mReader::head(desk)?;
         let params = Params {
             format: video.format(),
-            ..*setup
+            ..setup.params
         };
         let frame = vec![in alloc; 0; params.format.size() as usize]?;
         let bytes = vec![in alloc; 0; MAX_BYTES]?;
-        let pace = FixedPace {
-            quant: params.quant,
-        };
+        let pace = SendPace::choose(setup.target, params.quant);
         let sender = Sender::start(alloc, &params, pace)?;
         Ok(Send {
             video,

@@ -2,13 +2,13 @@
 ghost use Rattle.desk_program.specs.Laws.{TurnLaws};
 ghost use Rattle.send_command.specs.Send.{SendState};
 
+use crate::Sending;
 use desk_program::laws::of_turns;
-use h263_types::Params;
 use std::marker::Model;
 
 // A type whose values are states, before the first entry; nothing is made of it.
 struct Mind {
-    params: Params,
+    setup: Sending,
 }
 
 impl Model for Mind {
@@ -16,7 +16,7 @@ impl Model for Mind {
 
     ghost Value = { SendState };
 
-    ghost view = { λ mind. first_state mind.params mind.params.format 0 };
+    ghost view = { λ mind. first_state mind.setup mind.setup.params.format 0 };
 }
 
 /// How the reads and writes of a turn add up.

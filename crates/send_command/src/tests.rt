@@ -1,6 +1,6 @@
 //! Runs of the command over a desk in memory. Where memory ran out in a test its steps are taken
 //! again, and are then to reach their end.
-ghost use Rattle.std.specs.Prelude.{◌<◌};
+ghost use Rattle.std.specs.Prelude.{◌<◌, ◌≤◌, IfSome};
 ghost use Rattle.h263_types.specs.Params.{IsParams};
 ghost use Rattle.h263_outside.specs.Desk.{NoneAttached};
 
@@ -84,8 +84,10 @@ fn joined(alloc: Global, parts: &[&[u8]]) -> Result<Vec<u8>, OutOfMemory> {
 }
 
 // How the command ends over a desk on which nothing is attached.
-fn performed<D: Desk>(alloc: Global, params: &Params, desk: &mut D) -> Status
-    requires params { IsParams params.now }
+fn performed<D: Desk>(alloc: Global, sending: &Sending, desk: &mut D) -> Status
+    requires params { IsParams sending.now.params }
+    requires some { IfSome sending.now.target (λ n. 1 ≤ n) }
+    requires few { IfSome sending.now.target (λ n. n ≤ 999999) }
     requires desk { NoneAttached (D.outside desk.old).attached }
 {
     if let Err(status) = attach_all(desk, &[(Role::Report, "")]) {
@@ -96,7 +98,7 @@ fn performed<D: Desk>(alloc: Global, params: &Params, desk: &mut D) -> Status
         (Role::Events, "log"),
         (Role::Wire, "wire"),
     ];
-    perform::<D, Send>(alloc, params, order, desk)
+    perform::<D, Send>(alloc, sending, order, desk)
 }
 
 // The video and the log, the call that fails, how the run ends, and what it writes on both outputs.
@@ -113,17 +115,21 @@ fn run_cases(
     rt: &impl Abort,
     alloc: Global,
     piece: usize,
+    target: Option<u32>,
     cases: &[Case],
 ) -> Result<(), OutOfMemory>
-    requires { 0 < piece }
+    requires piece { 0 < piece }
+    requires some { IfSome target (λ n. 1 ≤ n) }
+    requires few { IfSome target (λ n. n ≤ 999999) }
 {
     let params = Params::of(Format::Qcif);
+    let sending = Sending { params, target };
     for (video, log, failing, ends, wire, report) in cases {
         let mut desk = MemoryDesk::new(alloc, piece, 2_000)?;
         desk.put(Role::Video, &joined(alloc, video)?)?;
         desk.put(Role::Events, &joined(alloc, log)?)?;
         desk.fail(*failing)?;
-        let status = performed(alloc, &params, &mut desk);
+        let status = performed(alloc, &sending, &mut desk);
         if status == Status::OutOfMemory {
             return Err(OutOfMemory);
         }
@@ -139,12 +145,15 @@ fn run_twice(
     rt: &impl Abort,
     alloc: Global,
     piece: usize,
+    target: Option<u32>,
     cases: &[Case],
 ) -> Result<(), OutOfMemory>
-    requires { 0 < piece }
+    requires piece { 0 < piece }
+    requires some { IfSome target (λ n. 1 ≤ n) }
+    requires few { IfSome target (λ n. n ≤ 999999) }
 {
-    if let Err(OutOfMemory) = run_cases(rt, alloc, piece, cases) {
-        run_cases(rt, alloc, piece, cases)?;
+    if let Err(OutOfMemory) = run_cases(rt, alloc, piece, target, cases) {
+        run_cases(rt, alloc, piece, target, cases)?;
     }
     Ok(())
 }
@@ -167,8 +176,32 @@ const FLAT: &[Case] = &[(
 
 #[test]
 fn second_of_two_flat_pictures(rt: HostRuntime) -> Result<(), Fail> {
-    run_twice(&rt, rt.alloc(), 1, FLAT)?;
-    run_twice(&rt, rt.alloc(), 4096, FLAT)?;
+    run_twice(&rt, rt.alloc(), 1, None, FLAT)?;
+    run_twice(&rt, rt.alloc(), 4096, None, FLAT)?;
+    Ok(())
+}
+
+// The same packet with PQUANT 17, where 100 bytes a picture are wanted and the first has 342.
+const COARSER_ENTRY: &[u8] = &[
+    0x4B, 0x00, 0x1F, 0x80, 0xE0, 0x00, 0x01, 0x00, 0x00, 0x0B, 0xBB, 0x48, 0x32, 0x36, 0x33, 0x04,
+    0x00, 0x80, 0x06, 0x1C, 0x90, 0x31, 0x04, 0x91, 0xE0, 0x03, 0x14, 0x0F, 0xFF, 0xFF, 0xFF, 0xFF,
+    0xFF, 0xF8,
+];
+
+const FOLLOWED: &[Case] = &[(
+    TWO,
+    ACKNOWLEDGED,
+    NONE,
+    Status::Ok,
+    &[FLAT_ENTRY, COARSER_ENTRY],
+    BOTH_LINES,
+)];
+
+// A target that is kept leaves the quantiser as it is.
+#[test]
+fn a_target_is_followed(rt: HostRuntime) -> Result<(), Fail> {
+    run_twice(&rt, rt.alloc(), 4096, Some(100), FOLLOWED)?;
+    run_twice(&rt, rt.alloc(), 4096, Some(342), FLAT)?;
     Ok(())
 }
 
@@ -251,7 +284,7 @@ const OTHER_LOGS: &[Case] = &[
 
 #[test]
 fn other_logs(rt: HostRuntime) -> Result<(), Fail> {
-    run_twice(&rt, rt.alloc(), 4096, OTHER_LOGS)?;
+    run_twice(&rt, rt.alloc(), 4096, None, OTHER_LOGS)?;
     Ok(())
 }
 
@@ -261,7 +294,11 @@ fn failed(alloc: Global, failing: u64) -> Result<(Status, Vec<u8>, Vec<u8>), Out
     desk.put(Role::Video, &joined(alloc, TWO)?)?;
     desk.put(Role::Events, &joined(alloc, ACKNOWLEDGED)?)?;
     desk.fail(failing)?;
-    let status = performed(alloc, &Params::of(Format::Qcif), &mut desk);
+    let sending = Sending {
+        params: Params::of(Format::Qcif),
+        target: None,
+    };
+    let status = performed(alloc, &sending, &mut desk);
     if status == Status::OutOfMemory {
         return Err(OutOfMemory);
     }
@@ -341,6 +378,6 @@ const UNATTACHED: &[Case] = &[
 
 #[test]
 fn failing_attaches(rt: HostRuntime) -> Result<(), Fail> {
-    run_twice(&rt, rt.alloc(), 4096, UNATTACHED)?;
+    run_twice(&rt, rt.alloc(), 4096, None, UNATTACHED)?;
     Ok(())
 }

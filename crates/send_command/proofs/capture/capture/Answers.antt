@@ -1,14 +1,17 @@
 use Rattle.std.proofs.Common.{ℕ, [], sym, subst, arith}
 use Rattle.h263_planes.specs.Lent.{picture}
 use Rattle.sender_end.specs.Stands.{Stands}
-use Rattle.send_command.proofs.Captured.{fixed, is_captured}
+use Rattle.send_command.specs.Pace.{first_of, quant_behind, target_of}
+use Rattle.send_command.proofs.Captured.{is_captured}
 use Rattle.send_command.proofs.capture.capture.Goals as goal
 
 pub returns-clause-captured : goal.returns-clause-captured
 returns-clause-captured c entries stands =
     let old = c.args.sender.now in
-    let st : Stands (fixed old.pace.quant) old.state entries = subst (λ (q : ℕ). Stands (fixed q) old.state entries) (sym c.requires.pace) stands in
-    is_captured old.state.params old.pace.quant (record { picture = picture c.args.frame; messages = [] }) entries c.code.new.self.state c.code.result c.requires.pace c.code.ensures.params
+    let t = target_of old.pace in
+    let quant = first_of old.pace in
+    let st : Stands (quant_behind t quant) old.state entries = subst (λ (q : ℕ). Stands (quant_behind t q) old.state entries) (sym c.requires.pace) stands in
+    is_captured t old.state.params quant (record { picture = picture c.args.frame; messages = [] }) entries c.code.new.self.state c.code.result c.requires.pace c.code.ensures.params
     (c.code.ensures.stands entries st) (c.code.ensures.tells entries st)
 
 pub returns-clause-small : goal.returns-clause-small

@@ -1,14 +1,12 @@
 use Rattle.std.proofs.Common.{◌≡◌, ℕ, ◌+◌, List, ◌∷◌, length, take, refl, sym, ap, ◌∙◌, subst, arith}
 use Rattle.std.proofs.lemmas.List.{length-take-le}
-use Rattle.h263_types.specs.declared.pace.FixedPace.{FixedPace}
 use Rattle.h263_types.specs.declared.params.Params.{Params}
 use Rattle.call_model.specs.Sending.{Feedback, feedback_answer}
 use Rattle.call_decoding.specs.Rules.{rules_of}
 use Rattle.call_encoding.specs.Messages.{read_message}
 use Rattle.sender_end.specs.Stands.{Stands, reply_of, run_of}
 use Rattle.send_command.specs.declared.machine.Send.{Send}
-use Rattle.send_command.specs.Send.{pace_of}
-use Rattle.send_command.proofs.Captured.{fixed}
+use Rattle.send_command.specs.Pace.{first_of, pace_of, quant_behind, target_of}
 use Rattle.send_command.proofs.Counting.{one_reply_more}
 use Rattle.send_command.proofs.Keeping.{keeps_feedback, stood_for}
 use Rattle.send_command.proofs.machine.Send.take_feedback.Goals as goal
@@ -22,6 +20,7 @@ pub returns-clause-stands : goal.returns-clause-stands
 returns-clause-stands c s inputs short stood =
     let m = c.args.self.now in
     let p = m.sender.state.params in
+    let t = target_of m.sender.pace in
     let len = c.args.len in
     let bytes = take len m.bytes.items in
     let heard = c.feedback-answer in
@@ -29,18 +28,18 @@ returns-clause-stands c s inputs short stood =
     let count : c.min-len.result ≡ len = omega (arith, c.min-len.ensures, c.len.ensures, m.bytes.ok.0, c.requires.bytes, short) in
     let bytes_are : take c.min-len.result c.deref.result.now ≡ bytes = (λ i. take (count i) (c.deref.ensures.value i)) in
     let long : length bytes ≡ len = length-take-le len m.bytes.items (omega (arith, short, c.requires.bytes)) in
-    let st : Stands (fixed m.sender.pace.quant) m.sender.state s.entries =
-    subst (λ (q : ℕ). Stands (fixed q) m.sender.state s.entries) (sym c.requires.pace) (stood_for m s (3 + len) stood)
+    let st : Stands (quant_behind t (first_of m.sender.pace)) m.sender.state s.entries =
+    subst (λ (q : ℕ). Stands (quant_behind t q) m.sender.state s.entries) (sym c.requires.pace) (stood_for m s (3 + len) stood)
     in
-    let after : Stands (pace_of p) heard.new.self.state (Feedback bytes ∷ s.entries) =
-    subst (λ (l : List ℕ). Stands (pace_of p) heard.new.self.state (Feedback l ∷ s.entries)) bytes_are
-    (subst (λ (q : ℕ). Stands (fixed q) heard.new.self.state (Feedback (take c.min-len.result c.deref.result.now) ∷ s.entries)) c.requires.pace (heard.ensures.stands s.entries st))
+    let after : Stands (pace_of t p) heard.new.self.state (Feedback bytes ∷ s.entries) =
+    subst (λ (l : List ℕ). Stands (pace_of t p) heard.new.self.state (Feedback l ∷ s.entries)) bytes_are
+    (subst (λ (q : ℕ). Stands (quant_behind t q) heard.new.self.state (Feedback (take c.min-len.result c.deref.result.now) ∷ s.entries)) c.requires.pace (heard.ensures.stands s.entries st))
     in
-    let answer : reply_of heard.result ≡ feedback_answer (rules_of p) (length (run_of p (pace_of p) s.entries).coded) (read_message p.clock bytes) =
+    let answer : reply_of heard.result ≡ feedback_answer (rules_of p) (length (run_of p (pace_of t p) s.entries).coded) (read_message p.clock bytes) =
     heard.ensures.answer s.entries st
-    ∙ (λ i. feedback_answer (rules_of p) (length (run_of p (fixed (c.requires.pace i)) s.entries).coded) (read_message p.clock (bytes_are i)))
+    ∙ (λ i. feedback_answer (rules_of p) (length (run_of p (quant_behind t (c.requires.pace i)) s.entries).coded) (read_message p.clock (bytes_are i)))
     in
-    keeps_feedback m s len bytes stood new (reply_of heard.result) inputs long after answer heard.ensures.params refl c.feedback.ensures refl
+    keeps_feedback m s len bytes stood new (reply_of heard.result) inputs long after answer heard.ensures.params heard.ensures.pace refl c.feedback.ensures refl
 
 pub returns-clause-fit : goal.returns-clause-fit
 returns-clause-fit c attached fit =
@@ -53,7 +52,7 @@ returns-clause-fit c attached fit =
       report = fit.report;
       sender = heard.ensures.ready;
       format = ap (λ (q : Params). q.format) heard.ensures.params ∙ fit.format;
-      pace = ap (λ (x : FixedPace). x.quant) heard.ensures.pace ∙ fit.pace ∙ ap (λ (q : Params). q.quant) (sym heard.ensures.params);
+      pace = ap first_of heard.ensures.pace ∙ fit.pace ∙ ap (λ (q : Params). q.quant) (sym heard.ensures.params);
       frame = fit.frame;
       bytes = fit.bytes;
       side = fit.side;

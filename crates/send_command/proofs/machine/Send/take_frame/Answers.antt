@@ -2,7 +2,6 @@ use Rattle.std.proofs.Common.{◌≡◌, Bool, true, false, [], refl, sym, ap, �
 use Rattle.std.specs.Vec.{with_items}
 use Rattle.h263_outside.specs.declared.desk.Role.{Role}
 use Rattle.h263_outside.specs.declared.desk.Role.TheVariants.{Video, Events, Wire, Report}
-use Rattle.h263_types.specs.declared.pace.FixedPace.{FixedPace}
 use Rattle.h263_types.specs.declared.params.Params.{Params}
 use Rattle.h263_planes.specs.Lent.{picture}
 use Rattle.y4m.specs.Frame.{frame_size}
@@ -13,6 +12,7 @@ use Rattle.desk_program.specs.Run.{behind}
 use Rattle.desk_program.specs.Ends.{GivesUp}
 use Rattle.desk_program.specs.Texts.{of, and_of}
 use Rattle.send_command.specs.declared.machine.Send.{Send}
+use Rattle.send_command.specs.Pace.{first_of}
 use Rattle.send_command.specs.Send.{captured, capture_step, picture_texts}
 use Rattle.send_command.specs.Stands.{SendStands}
 use Rattle.send_command.proofs.Answering.{if_cut, if_err, on_ok, on_ok_so}
@@ -61,7 +61,7 @@ returns-clause-ok g c = λ before s inputs stood taken.
     let place = place_is c.turn_laws.ensures c.cut_behind.ensures.frame s inputs before (outside c.args.desk.now) (outside c.frame.new.desk) taken c.frame.ensures.others c.frame.ensures.rest.written m.video c.frame.new.self at out e (outside c.put_picture.new.desk) texts text_is in
     let size = frame_size s.params.format (inputs Video) in
     let kept : SendStands new _ (behind inputs (and_of (of Events 3) (of Video size))) =
-    keeps_capture m s 3 stood new frame (captured s.params.format out) coded.result size (behind inputs (and_of (of Events 3) (of Video size))) refl same cap coded.ensures.count coded.ensures.params refl c.picture.ensures place moves.1
+    keeps_capture m s 3 stood new frame (captured s.params.format out) coded.result size (behind inputs (and_of (of Events 3) (of Video size))) refl same cap coded.ensures.count coded.ensures.params coded.ensures.pace refl c.picture.ensures place moves.1
     in
     on_ok_so _ _ c.put_picture.result c.put_picture.ensures.ok
     (captures c.turn_laws.ensures c.cut_behind.ensures.frame s inputs before (outside c.args.desk.now) (outside c.frame.new.desk) taken c.frame.ensures.others c.frame.ensures.rest.written m.video c.frame.new.self at out e (outside c.put_picture.new.desk) texts text_is
@@ -108,7 +108,7 @@ returns-clause-ready g c =
         report = ap (λ (f : Role → Bool). f Report) attached ∙ fit.report;
         sender = coded.ensures.ready;
         format = format;
-        pace = ap (λ (x : FixedPace). x.quant) coded.ensures.pace ∙ fit.pace ∙ ap (λ (q : Params). q.quant) (sym coded.ensures.params);
+        pace = ap first_of coded.ensures.pace ∙ fit.pace ∙ ap (λ (q : Params). q.quant) (sym coded.ensures.params);
         frame = whole_still m.frame c.frame.new.out _ m.video.format c.frame.new.self.format fit.frame c.frame.auto.out c.deref_mut.ensures.len moves.0;
         bytes = fit.bytes;
         side = fit.side;

@@ -1,16 +1,15 @@
-use Rattle.std.proofs.Common.{◌≡◌, ℕ, Bool, [], refl, sym, ap, ◌∙◌, subst, arith}
+use Rattle.std.proofs.Common.{◌≡◌, ℕ, Bool, [], Option, refl, sym, ap, ◌∙◌, subst, arith}
 use Rattle.h263_outside.specs.declared.desk.Role.{Role}
 use Rattle.h263_outside.specs.declared.desk.Role.TheVariants.{Video, Events, Wire, Report}
-use Rattle.h263_types.specs.declared.pace.FixedPace.{FixedPace}
 use Rattle.h263_types.specs.declared.params.Params.{Params}
 use Rattle.h263_types.specs.Sizes.{size_of_picture}
 use Rattle.call_report.specs.Status.{video_stop}
 use Rattle.sender_end.specs.Stands.{Stands}
 use Rattle.send_command.specs.declared.machine.Send.{Send}
+use Rattle.send_command.specs.Pace.{first_of, quant_behind, target_of}
 use Rattle.send_command.specs.Stands.{SendStands}
 use Rattle.send_command.specs.Tally.{IsOf, no_counts}
 use Rattle.send_command.proofs.Answering.{start_err}
-use Rattle.send_command.proofs.Captured.{fixed}
 use Rattle.send_command.proofs.Starting.{head_stops, head_goes}
 use Rattle.send_command.proofs.machine.SendTurns.start.Goals as goal
 
@@ -24,7 +23,8 @@ returns-in_err-video-clause-gives g c = λ inputs told.
 pub returns-clause-gives : goal.returns-clause-gives
 returns-clause-gives g c = λ inputs told.
     let outside = g.D.Desk.outside in
-    let p = c.args.setup.now in
+    let setup = c.args.setup.now in
+    let p = setup.params in
     let reader = c.in_ok-video.video in
     let started = c.in_ok-sender.ensures in
     let state = c.in_ok-sender.sender.state in
@@ -33,13 +33,18 @@ returns-clause-gives g c = λ inputs told.
     let params_is : record p { format = reader.format } ≡ state.params =
     (λ i. record p { format = sym c.format.ensures i }) ∙ sym started.params
     in
-    let sender : Stands (fixed p.quant) state [] =
-    subst (λ (q : ℕ). Stands (fixed q) state []) (ap (λ (x : FixedPace). x.quant) started.pace) started.stands
+    let pace = c.in_ok-sender.sender.pace in
+    let target_is : target_of pace ≡ setup.target = ap target_of started.pace ∙ c.choose-pace.ensures.target in
+    let first_is : first_of pace ≡ p.quant = ap first_of started.pace ∙ c.choose-pace.ensures.first in
+    let sender : Stands (quant_behind setup.target p.quant) state [] =
+    subst (λ (t : Option ℕ). Stands (quant_behind t p.quant) state []) target_is
+    (subst (λ (q : ℕ). Stands (quant_behind (target_of pace) q) state []) first_is started.stands)
     in
-    head_goes c.turn_laws.ensures p inputs (outside c.args.desk.now) (outside c.head.new.desk) told c.head.ensures.others c.head.ensures.rest.written reader (SendStands new) e
+    head_goes c.turn_laws.ensures setup inputs (outside c.args.desk.now) (outside c.head.new.desk) told c.head.ensures.others c.head.ensures.rest.written reader (SendStands new) e
     (record {
       is = λ i. record {
         params = params_is i;
+        target = sym target_is i;
         entries = [];
         tally = sym c.new-2.ensures i;
         at = sym c.new.ensures.at i;
@@ -65,7 +70,7 @@ returns-clause-ready g c =
         report = ap (λ (f : Role → Bool). f Report) attached ∙ c.requires.report;
         sender = started.ready;
         format = ap (λ (q : Params). q.format) started.params ∙ c.format.ensures;
-        pace = ap (λ (x : FixedPace). x.quant) started.pace ∙ ap (λ (q : Params). q.quant) (sym started.params);
+        pace = ap first_of started.pace ∙ c.choose-pace.ensures.first ∙ ap (λ (q : Params). q.quant) (sym started.params);
         frame = omega (arith, c.in_ok-frame.ensures.len, c.in_ok-frame.frame.ok.0, c.size.ensures, ap size_of_picture c.format.ensures);
         bytes = omega (arith, c.in_ok-bytes.ensures.len, c.in_ok-bytes.bytes.ok.0);
         side = c.new.ensures.side;
