@@ -5,8 +5,8 @@ use Rattle.std.specs.List.{list_all}
 use Rattle.std.specs.Str.{bytes_eq}
 use Rattle.h263_types.specs.declared.params.Params.{Params}
 use Rattle.command_words.specs.Simple.{Text, Given, gives, value, is_once, is_whole, named, taken, whole_or_none}
-use Rattle.command_words.specs.declared.command.Command.TheVariants.{Call, Send, Recv, Rate}
-use Rattle.command_words.specs.Asked.{Asked, Row, call, send, recv, demo, rate, call_of, send_of, recv_of, demo_of, demo_with, seed_in, frames_in, rate_of, rate_with, target_in, bucket_in, asked_by, asked, params_of, IsGiven, HasNames}
+use Rattle.command_words.specs.declared.command.Command.TheVariants.{Call, Recv}
+use Rattle.command_words.specs.Asked.{Asked, Row, call, send, recv, demo, rate, call_of, send_of, send_with, target_or_none, recv_of, demo_of, demo_with, seed_in, frames_in, rate_of, rate_with, target_in, bucket_in, asked_by, asked, params_of, IsGiven, HasNames}
 
 -- a value that is given is there
 value_there : (name : Text) (given : List Given) → gives name given ≡ true → IsGiven (value given name)
@@ -92,15 +92,15 @@ module _ (given : List Given) where
       wire : IsGiven (value given (codes "wire"))
       wire = first_there (codes "wire") [] (rest_there (codes "log") (codes "wire" ∷ []) others)
 
-      go : (p : Option Params) → option_map (λ (params : Params). let it : Asked = record {
-        command = Send params;
-        video = value given (codes "in");
-        events = value given (codes "log");
-        pictures = None;
-        wire = value given (codes "wire");
-      } in it) p ≡ Some a → HasNames a
+      with_target : (p : Params) (o : Option (Option ℕ)) → option_map (send_with (value given) p) o ≡ Some a → HasNames a
+      with_target p None h = absurd (cc h)
+      with_target p (Some target) h = subst HasNames (some_is h) (video, events, wire)
+
+      go : (o : Option Params) →
+          option_and_then (λ params. option_map (send_with (value given) params)
+          (target_or_none (value given (codes "target")))) o ≡ Some a → HasNames a
       go None h = absurd (cc h)
-      go (Some p) h = subst HasNames (some_is h) (video, events, wire)
+      go (Some p) h = with_target p (target_or_none (value given (codes "target"))) h
 
   pub recv_named : (a : Asked) → given_all recv.places → recv_of (value given) ≡ Some a → HasNames a
   recv_named a all is = go (params_of (value given)) is

@@ -1,5 +1,5 @@
 -- What words ask for: a command with its parameters, and the words by which roles are attached.
-use Rattle.std.specs.Prelude.{ℕ, true, false, ◌&&◌, ◌≤◌, List, [], ◌∷◌, Option, Some, None, Result, Ok, Err, is_some, nat_le, if◌then◌else◌, codes, find, option_and_then, option_map}
+use Rattle.std.specs.Prelude.{ℕ, true, false, ◌&&◌, ◌≤◌, List, [], ◌∷◌, Option, Some, None, Result, Ok, Err, is_some, nat_le, IfSome, if◌then◌else◌, codes, find, option_and_then, option_map}
 use Rattle.std.specs.Str.{bytes_eq}
 use Rattle.h263_outside.specs.declared.desk.Role.{Role}
 use Rattle.h263_outside.specs.declared.desk.Role.TheVariants.{Video, Events, Pictures, Wire, Report, Video2, Pictures2}
@@ -99,20 +99,35 @@ call = record {
   asks = call_of;
 }
 
-abbrev pub send_of : Lookup → Option Asked
-send_of given = option_map (λ params. record {
-  command = Send params;
+-- a target of a byte at least, and of six digits at most
+abbrev pub some_target : ℕ → Option ℕ
+some_target n = if nat_le 1 n then Some n else None
+
+abbrev pub target_in : Option Text → Option ℕ
+target_in text = option_and_then some_target (option_and_then (number_in 6) text)
+
+-- the target of a command that may go without one
+abbrev pub target_or_none : Option Text → Option (Option ℕ)
+target_or_none text = if is_some text then option_map (λ n. Some n) (target_in text) else Some None
+
+abbrev pub send_with : Lookup → Params → Option ℕ → Asked
+send_with given params target = record {
+  command = Send params target;
   video = given (codes "in");
   events = given (codes "log");
   pictures = None;
   wire = given (codes "wire");
-}) (params_of given)
+}
+
+abbrev pub send_of : Lookup → Option Asked
+send_of given = option_and_then (λ params. option_map (send_with given params)
+    (target_or_none (given (codes "target")))) (params_of given)
 
 abbrev pub send : Row
 send = record {
   word = codes "send";
   places = codes "in" ∷ codes "log" ∷ codes "wire" ∷ [];
-  options = codes "quant" ∷ codes "keep" ∷ codes "radius" ∷ codes "limit" ∷ codes "slots" ∷ codes "lead" ∷ codes "clock" ∷ [];
+  options = codes "quant" ∷ codes "keep" ∷ codes "radius" ∷ codes "limit" ∷ codes "slots" ∷ codes "lead" ∷ codes "clock" ∷ codes "target" ∷ [];
   asks = send_of;
 }
 
@@ -158,13 +173,7 @@ demo = record {
   asks = demo_of;
 }
 
--- a target of a byte at least; both are of six digits at most
-abbrev pub some_target : ℕ → Option ℕ
-some_target n = if nat_le 1 n then Some n else None
-
-abbrev pub target_in : Option Text → Option ℕ
-target_in text = option_and_then some_target (option_and_then (number_in 6) text)
-
+-- a bucket of six digits at most
 abbrev pub bucket_in : Option Text → Option ℕ
 bucket_in text = option_and_then (number_in 6) text
 
@@ -215,7 +224,7 @@ word_for a Pictures2 = None
 -- the numbers of a command are in their ranges
 abbrev pub IsCommand : Command → Type 0
 IsCommand (Call params traced) = IsParams params
-IsCommand (Send params) = IsParams params
+IsCommand (Send params target) = IsParams params × IfSome target (λ n. 1 ≤ n) × IfSome target (λ n. n ≤ 999999)
 IsCommand (Recv params) = IsParams params
 IsCommand (Demo params seed frames) = IsParams params × (seed ≤ 999999999) × (1 ≤ frames) × (frames ≤ 10000)
 IsCommand (Rate target bucket) = (1 ≤ target) × (target ≤ 999999) × (bucket ≤ 999999)
@@ -228,7 +237,7 @@ IsGiven (Some text) = Unit {0}
 abbrev pub HasNamesOf : Command → Asked → Type 0
 HasNamesOf (Call params true) a = IsGiven a.video × IsGiven a.events × IsGiven a.pictures
 HasNamesOf (Call params false) a = IsGiven a.video × IsGiven a.pictures
-HasNamesOf (Send params) a = IsGiven a.video × IsGiven a.events × IsGiven a.wire
+HasNamesOf (Send params target) a = IsGiven a.video × IsGiven a.events × IsGiven a.wire
 HasNamesOf (Recv params) a = IsGiven a.events × IsGiven a.pictures × IsGiven a.wire
 HasNamesOf (Demo params seed frames) a = Unit {0}
 HasNamesOf (Rate target bucket) a = IsGiven a.events

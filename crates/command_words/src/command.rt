@@ -10,9 +10,10 @@ pub enum Command {
         params: Params,
         traced: bool,
     },
-    /// The sender alone.
+    /// The sender alone, with a target of 1 to 999,999 bytes per picture, if one is given.
     Send {
         params: Params,
+        target: Option<u32>,
     },
     /// The receiver alone.
     Recv {

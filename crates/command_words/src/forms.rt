@@ -22,7 +22,9 @@ static CALL_OPTIONS: [&str; 9] = [
 
 static SEND_PLACES: [&str; 3] = ["in", "log", "wire"];
 
-static SEND_OPTIONS: [&str; 7] = ["quant", "keep", "radius", "limit", "slots", "lead", "clock"];
+static SEND_OPTIONS: [&str; 8] = [
+    "quant", "keep", "radius", "limit", "slots", "lead", "clock", "target",
+];
 
 static RECV_PLACES: [&str; 3] = ["log", "out", "wire"];
 

@@ -4,7 +4,7 @@ use h263_outside::Role;
 use h263_types::{Clock, Format, Params};
 
 // What the words behind the first may be and what they may not.
-static USAGE: [&[&str]; 49] = [
+static USAGE: [&[&str]; 53] = [
     &[],
     &[""],
     &["convert", "in", "out"],
@@ -45,6 +45,10 @@ static USAGE: [&[&str]; 49] = [
     &["demo", "1", "0"],
     &["demo", "1", "10001"],
     &["demo", "1000000000", "1"],
+    &["send", "in", "log", "wire", "--target", "0"],
+    &["send", "in", "log", "wire", "--target", "1000000"],
+    &["send", "in", "log", "wire", "--target", "+1"],
+    &["call", "in", "out", "--target", "100"],
     &["rate", "log"],
     &["rate", "log", "--target", "342"],
     &["rate", "log", "--bucket", "200"],
@@ -191,6 +195,8 @@ static PLAIN: [&str; 3] = ["call", "in", "out"];
 
 static SENDING: [&str; 6] = ["send", "in", "log", "wire", "--clock", "custom"];
 
+static FOLLOWING: [&str; 6] = ["send", "in", "log", "wire", "--target", "100"];
+
 static RECEIVING: [&str; 9] = [
     "recv",
     "log",
@@ -219,6 +225,11 @@ fn one_command_of_each(rt: HostRuntime) {
             clock: Clock::Custom,
             ..params
         },
+        target: None,
+    };
+    let following = Command::Send {
+        params,
+        target: Some(100),
     };
     let recv = Command::Recv {
         params: Params {
@@ -241,6 +252,7 @@ fn one_command_of_each(rt: HostRuntime) {
     let table = [
         (PLAIN.as_slice(), call),
         (SENDING.as_slice(), send),
+        (FOLLOWING.as_slice(), following),
         (RECEIVING.as_slice(), recv),
         (MADE.as_slice(), demo),
         (MEASURED.as_slice(), rate),

@@ -3,9 +3,10 @@ ghost use Rattle.std.specs.Prelude.{◌≡◌, ◌≤◌, IfOk, IfSome, MatchOpt
 ghost use Rattle.std.specs.Prelude.{drop, option_map, codes};
 ghost use Rattle.h263_types.specs.Params.{IsParams};
 ghost use Rattle.clap.specs.Words.{first_value, found_of};
-ghost use Rattle.command_words.specs.Asked.{asked, asked_by, call_of, send_of, recv_of, demo_of, rate_of};
+ghost use Rattle.command_words.specs.Asked.{asked, asked_by, call_of, send_of, recv_of, demo_of};
+ghost use Rattle.command_words.specs.Asked.{rate_of};
 ghost use Rattle.command_words.specs.Asked.{params_of, coding_of, timing_of, word_for, IsCommand};
-ghost use Rattle.command_words.specs.Asked.{seed_in, frames_in, target_in, bucket_in};
+ghost use Rattle.command_words.specs.Asked.{seed_in, frames_in, target_in, target_or_none, bucket_in};
 ghost use Rattle.command_words.specs.Clap.{texts};
 ghost use Rattle.command_words.specs.View.{asked_of, row_of};
 
@@ -82,13 +83,38 @@ fn call_words<'a>(given: &ArgMatches<'a>) -> Option<Words<'a>>
     })
 }
 
+fn target(given: &ArgMatches<'_>) -> Option<u32>
+    ensures value { result ≡ target_in (first_value (found_of given.now) (codes "target")) }
+    ensures some { IfSome result (λ n. 1 ≤ n) }
+    ensures below { IfSome result (λ n. n ≤ 999999) }
+{
+    let target = number_of(given.get_str("target")?, 6)?;
+    if 1 <= target { Some(target) } else { None }
+}
+
+// The target of a command that may go without one.
+fn target_or_none(given: &ArgMatches<'_>) -> Option<Option<u32>>
+    ensures value { result ≡ target_or_none (first_value (found_of given.now) (codes "target")) }
+    ensures some { IfSome result (λ target. IfSome target (λ n. 1 ≤ n)) }
+    ensures below { IfSome result (λ target. IfSome target (λ n. n ≤ 999999)) }
+{
+    if given.get_str("target").is_some() {
+        Some(Some(target(given)?))
+    } else {
+        Some(None)
+    }
+}
+
 fn send_words<'a>(given: &ArgMatches<'a>) -> Option<Words<'a>>
     ensures value { option_map asked_of result ≡ send_of (first_value (found_of given.now)) }
     ensures ready { IfSome result (λ w. IsCommand w.command) }
 {
-    let params = params(given)?;
+    let command = Command::Send {
+        params: params(given)?,
+        target: target_or_none(given)?,
+    };
     Some(Words {
-        command: Command::Send { params },
+        command,
         video: given.get_str("in"),
         events: given.get_str("log"),
         pictures: None,
@@ -146,15 +172,6 @@ fn demo_words<'a>(given: &ArgMatches<'a>) -> Option<Words<'a>>
         pictures: None,
         wire: None,
     })
-}
-
-fn target(given: &ArgMatches<'_>) -> Option<u32>
-    ensures value { result ≡ target_in (first_value (found_of given.now) (codes "target")) }
-    ensures some { IfSome result (λ n. 1 ≤ n) }
-    ensures below { IfSome result (λ n. n ≤ 999999) }
-{
-    let target = number_of(given.get_str("target")?, 6)?;
-    if 1 <= target { Some(target) } else { None }
 }
 
 fn bucket(given: &ArgMatches<'_>) -> Option<u32>

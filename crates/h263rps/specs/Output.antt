@@ -13,6 +13,7 @@ use Rattle.command_words.specs.Simple.{Text}
 use Rattle.command_words.specs.Asked.{Asked, asked}
 use Rattle.desk_program.specs.Run.{Run, run_from, refusal}
 use Rattle.recv_command.specs.Recv.{recv_begin, recv_step}
+use Rattle.send_command.specs.declared.pace.Sending.{Sending}
 use Rattle.send_command.specs.Send.{send_begin, send_step}
 use Rattle.rate_command.specs.declared.rate.Bucket.{Bucket}
 use Rattle.rate_command.specs.Rate.{rate_begin, rate_step}
@@ -45,7 +46,7 @@ abbrev pub roles_of : Command → Asked → List (Role × Text)
 roles_of (Call params false) a = (Video, the_word a.video) ∷ (Pictures, the_word a.pictures) ∷ []
 roles_of (Call params true) a =
     (Video, the_word a.video) ∷ (Events, the_word a.events) ∷ (Pictures, the_word a.pictures) ∷ []
-roles_of (Send params) a = (Video, the_word a.video) ∷ (Events, the_word a.events) ∷ (Wire, the_word a.wire) ∷ []
+roles_of (Send params target) a = (Video, the_word a.video) ∷ (Events, the_word a.events) ∷ (Wire, the_word a.wire) ∷ []
 roles_of (Recv params) a = (Events, the_word a.events) ∷ (Pictures, the_word a.pictures) ∷ (Wire, the_word a.wire) ∷ []
 roles_of (Demo params seed frames) a = []
 roles_of (Rate target bucket) a = (Events, the_word a.events) ∷ []
@@ -59,7 +60,7 @@ order_from (Some a) = (Report, []) ∷ roles_of a.command a
 abbrev pub source_of : Command → Option Role
 source_of (Call params false) = Some Video
 source_of (Call params true) = Some Events
-source_of (Send params) = Some Events
+source_of (Send params target) = Some Events
 source_of (Recv params) = Some Events
 source_of (Demo params seed frames) = None
 source_of (Rate target bucket) = Some Events
@@ -78,6 +79,10 @@ no_command = record { turns = []; last = refusal Usage }
 abbrev pub terms_of : Params → Bool → Terms
 terms_of params traced = record { params = params; plain = not traced }
 
+-- what a sender alone is asked for
+abbrev pub sending_of : Params → Option ℕ → Sending
+sending_of params target = record { params = params; target = target }
+
 -- what a call on made input is asked for
 abbrev pub demo_terms : Params → ℕ → ℕ → DemoTerms
 demo_terms params seed frames = record { params = params; seed = seed; frames = frames }
@@ -90,7 +95,8 @@ bucket_of target bucket = record { target = target; bucket = bucket }
 abbrev pub run_of : Command → (Role → List ℕ) → Run
 run_of (Call params traced) inputs =
     run_from (call_begin (terms_of params traced) inputs) call_step (most_turns (not traced)) inputs
-run_of (Send params) inputs = run_from (send_begin params inputs) send_step 16777216 inputs
+run_of (Send params target) inputs =
+    run_from (send_begin (sending_of params target) inputs) send_step 16777216 inputs
 run_of (Recv params) inputs = run_from (recv_begin params inputs) recv_step 16777216 inputs
 run_of (Demo params seed frames) inputs =
     run_from (demo_begin (demo_terms params seed frames) inputs) demo_step (demo.most_turns (demo_terms params seed frames)) inputs

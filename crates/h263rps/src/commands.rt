@@ -25,8 +25,8 @@ use rate_command::laws::no_video_refused as no_video_measured;
 use rate_command::{Bucket, Rate};
 use recv_command::Recv;
 use recv_command::laws::no_video_refused;
-use send_command::Send;
 use send_command::laws::refused_videos as refused_by_send;
+use send_command::{Send, Sending};
 use std::alloc::Global;
 
 // Runs a command's machine.
@@ -99,11 +99,17 @@ fn traced_call<D: Desk>(alloc: Global, words: &Words<'_>, params: Params, desk: 
 }
 
 // The sender alone.
-fn send<D: Desk>(alloc: Global, words: &Words<'_>, params: Params, desk: &mut D) -> Status
+fn send<D: Desk>(
+    alloc: Global,
+    words: &Words<'_>,
+    params: Params,
+    target: Option<u32>,
+    desk: &mut D,
+) -> Status
     requires report { AreAttached ((Report, []) ∷ []) (D.outside desk.old) }
     requires names { HasNames (asked_of words.now) }
     requires command { IsCommand words.now.command }
-    requires is { words.now.command ≡ commands.Send params }
+    requires is { words.now.command ≡ commands.Send params target }
     ensures { IsRun (Some (asked_of words.now)) result (D.outside desk.old) (D.outside desk.new) }
 {
     refused_by_send();
@@ -112,7 +118,7 @@ fn send<D: Desk>(alloc: Global, words: &Words<'_>, params: Params, desk: &mut D)
         (Role::Events, word_of(words, Role::Events)),
         (Role::Wire, word_of(words, Role::Wire)),
     ];
-    carry_out::<D, Send>(alloc, &params, &order, desk)
+    carry_out::<D, Send>(alloc, &Sending { params, target }, &order, desk)
 }
 
 // The receiver alone.
@@ -185,7 +191,7 @@ pub fn command<D: Desk>(alloc: Global, words: &Words<'_>, desk: &mut D) -> Statu
             params,
             traced: true,
         } => traced_call(alloc, words, params, desk),
-        Command::Send { params } => send(alloc, words, params, desk),
+        Command::Send { params, target } => send(alloc, words, params, target, desk),
         Command::Recv { params } => recv(alloc, words, params, desk),
         Command::Demo {
             params,

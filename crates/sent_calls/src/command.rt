@@ -9,7 +9,7 @@ use command_words::{Command, Words};
 use desk_program::{attach_role, finish, perform};
 use h263_outside::{Desk, Role};
 use recv_command::Recv;
-use send_command::Send;
+use send_command::{Send, Sending};
 use std::alloc::Global;
 
 // The word by which the command attaches a role.
@@ -26,13 +26,13 @@ pub fn run<D: Desk>(alloc: Global, words: &Words<'_>, desk: &mut D) -> Status
         return status;
     }
     match words.command() {
-        Command::Send { params } => {
+        Command::Send { params, target } => {
             let order = [
                 (Role::Video, name_of(words, Role::Video)),
                 (Role::Events, name_of(words, Role::Events)),
                 (Role::Wire, name_of(words, Role::Wire)),
             ];
-            perform::<D, Send>(alloc, &params, &order, desk)
+            perform::<D, Send>(alloc, &Sending { params, target }, &order, desk)
         }
         Command::Recv { params } => {
             let order = [

@@ -3,7 +3,7 @@ use Rattle.h263_outside.specs.declared.desk.Role.{Role}
 use Rattle.h263_outside.specs.declared.desk.Role.TheVariants.{Video, Events, Wire, Report}
 use Rattle.command_words.specs.declared.command.Command.TheVariants.{Send}
 use Rattle.command_words.specs.View.{asked_of}
-use Rattle.h263rps.specs.Output.{run_of, source_of}
+use Rattle.h263rps.specs.Output.{run_of, sending_of, source_of}
 use Rattle.h263rps.specs.Promises.{IsRunOf}
 use Rattle.h263rps.proofs.Asked.{as_run}
 use Rattle.h263rps.proofs.commands.send.Goals as goal
@@ -12,9 +12,9 @@ pub returns : goal.returns
 returns g c =
     let outside = g.D.Desk.outside in
     let a = asked_of c.args.words.now in
-    let asked = Send c.args.params in
+    let asked = Send c.args.params c.args.target in
     let done = c.carry_out in
-    as_run a asked c.requires.is (c.refused_videos.ensures c.args.params) done.result (outside c.args.desk.now) (outside done.new.desk)
+    as_run a asked c.requires.is (c.refused_videos.ensures (sending_of c.args.params c.args.target)) done.result (outside c.args.desk.now) (outside done.new.desk)
     (subst (λ (roles : List (Role × List ℕ)). IsRunOf (run_of asked) ((Report, []) ∷ roles) (source_of asked) done.result (outside c.args.desk.now) (outside done.new.desk))
     (λ i. (Video, c.word_of.ensures i) ∷ (Events, c.word_of-2.ensures i) ∷ (Wire, c.word_of-3.ensures i) ∷ []) done.ensures.run)
     done.ensures.words
