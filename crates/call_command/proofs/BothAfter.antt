@@ -16,7 +16,7 @@ module _ {Frame Style Mb Picture Fault MessageFault : Type 0} (coding : Coding F
 
   -- ---- a packet
 
-  sender_after : (w : Joined Style Mb Picture) (n : ℕ) (o : Option (List ℕ)) → (option_map_or (after_bytes coding rules w n) o w).sender ≡ w.sender
+  pub sender_after : (w : Joined Style Mb Picture) (n : ℕ) (o : Option (List ℕ)) → (option_map_or (after_bytes coding rules w n) o w).sender ≡ w.sender
   sender_after w n None = refl
   sender_after w n (Some bytes) = refl
 

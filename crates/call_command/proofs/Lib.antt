@@ -26,6 +26,7 @@ mod Bringing
 mod Packing
 mod Plain
 mod EachFrame
+mod Talking
 mod Conversing
 mod Unattached
 mod FaultOfVideo

@@ -1,7 +1,10 @@
 -- What the laws of the crates below say of a call's two ends, and of a video.
 use Rattle.std.specs.Prelude.{◌≡◌, ℕ, ◌*◌, ◌≤◌, List, [], length, take, Ok}
+use Rattle.h263_outside.specs.declared.desk.Role.{Role}
+use Rattle.desk_program.specs.Run.{run_of}
 use Rattle.call_command.specs.Both.{both_after}
-use Rattle.call_command.specs.Call.{steady}
+use Rattle.call_command.specs.declared.terms.Terms.{Terms}
+use Rattle.call_command.specs.Call.{call_step, first_state, steady, talk_step}
 use Rattle.call_command.specs.Seen.{in_both, in_call}
 use Rattle.h263_types.specs.Sizes.{mbs_of}
 use Rattle.call_model.specs.Sending.{SenderEntry, packets_of}
@@ -50,6 +53,13 @@ pub record CallLaws (p : Params) : Type 0 where
 abbrev pub ShowTheSame : Params → List Frame → List Event → Type 0
 ShowTheSame p frames past =
     in_both (both_after p (steady p) frames [] past) ≡ in_call (ideal (coding p) (rules_of p) (steady p) frames past)
+
+-- from the first state on, with a receiver that had heard nothing, the call by both ends is the ideal
+-- call: the same turns, and the same end
+abbrev pub TalkIsTheCall : Terms → Type 0
+TalkIsTheCall t =
+    (at turns : ℕ) (inputs : Role → List ℕ)
+    → run_of talk_step turns (first_state t [] at) inputs ≡ run_of call_step turns (first_state t [] at) inputs
 
 -- a message is said by the bytes that are written of it, and a picture has a packet for each slice
 pub record MessageLaws (p : Params) : Type 0 where

@@ -21,7 +21,7 @@ ghost use Rattle.receiver_end.specs.State.{run_of};
 ghost use Rattle.call_command.specs.declared.terms.Terms.{Terms};
 ghost use Rattle.call_command.specs.Call.{call_begin, call_step, most_turns, steady};
 ghost use Rattle.call_command.specs.Laws.{CallLaws, MessageLaws, NearLaws, PacketLaws};
-ghost use Rattle.call_command.specs.Laws.{ShowTheSame, VideoLaws};
+ghost use Rattle.call_command.specs.Laws.{ShowTheSame, TalkIsTheCall, VideoLaws};
 ghost use Rattle.call_command.specs.Plain.{ShowsEachFrame, status_for};
 
 use back_messages::MessageFault;
@@ -97,6 +97,14 @@ pub fn ends_agree()
         → ShowTheSame p frames past }
 {
     of_the_ends();
+    of_near_events();
+}
+
+/// A call by both ends, with a new receiver, is the ideal call, turn by turn.
+pub fn talks_agree()
+    ensures { (t : Terms) → IsParams t.params → TalkIsTheCall t }
+{
+    ends_agree();
     of_near_events();
 }
 
