@@ -7,6 +7,7 @@ pub mod Both
 pub mod Counts
 pub mod Call
 pub mod Standing
+pub mod Turning
 pub mod Machine
 pub mod Converse
 pub mod Laws

@@ -1,21 +1,18 @@
 //! One turn of a call: a frame over the plain trace, a line over a recorded one.
 //!
 //! Every part is lent, so that a machine may own its ends or have them from its caller.
-ghost use Rattle.std.specs.Prelude.{◌≡◌, ◌+◌, ◌*◌, ◌≤◌, ℕ, true, false, List, [], Some};
+ghost use Rattle.std.specs.Prelude.{◌≡◌, ◌+◌, ◌*◌, ◌≤◌, true, false};
 ghost use Rattle.std.specs.Prelude.{IfErr, OnErr, OnOk};
-ghost use Rattle.h263_outside.specs.Desk.{Faults, OnlyWrites, Outside, Rose};
-ghost use Rattle.h263_outside.specs.declared.desk.Role.{Role};
-ghost use Rattle.h263_outside.specs.declared.desk.Role.TheVariants.{Events, Report};
+ghost use Rattle.h263_outside.specs.Desk.{Faults, OnlyWrites, Rose};
+ghost use Rattle.h263_outside.specs.declared.desk.Role.TheVariants.{Report};
 ghost use Rattle.loss_trace.specs.declared.event.Event.TheVariants as says;
 ghost use Rattle.desk_program.specs.Ends.{Falls, Gains, GainsFronts, HasCause, IsStop, KeepsRoles};
-ghost use Rattle.desk_program.specs.Ends.{OnEnd, OnGoing, OnSettled, Tells, TurnGives};
-ghost use Rattle.desk_program.specs.Ends.{turn_status};
+ghost use Rattle.desk_program.specs.Ends.{OnEnd, OnGoing, turn_status};
 ghost use Rattle.desk_program.specs.Texts.{on};
 ghost use Rattle.call_rings.specs.Messages.{said_of};
-ghost use Rattle.call_command.specs.Call.{CallState, by_ends, event_step, may_read, talk_step};
 ghost use Rattle.call_command.specs.Counts.{counts_of};
-ghost use Rattle.call_command.specs.Standing.{EndsStand, HasTaken, PartsReady, PartsStand};
-ghost use Rattle.call_command.specs.Standing.{StoodBefore, going_of, more_of, parts_of, source_of};
+ghost use Rattle.call_command.specs.Standing.{PartsReady, going_of, more_of, parts_of};
+ghost use Rattle.call_command.specs.Turning.{LineDoes, LineKeeps, TurnDoes, TurnKeeps, TurnReadsOut};
 
 use crate::events::{
     all_event, back_event, packet_event, play_event, reference_of_next, send_kept,
@@ -49,24 +46,21 @@ pub fn take_turn<D: Desk>(
     requires ready { PartsReady
         (parts_of terms.now video.old sender.old.state receiver.old carrier.old)
         sender.old.pace.quant (D.outside desk.old).attached }
-    ensures gives { (s : CallState) (inputs : Role → List ℕ)
-        → PartsStand (parts_of terms.now video.old sender.old.state receiver.old carrier.old)
-        s inputs → Tells (D.outside desk.old) inputs
-        → TurnGives result (talk_step s inputs)
-        (PartsStand (parts_of terms.now video.new sender.new.state receiver.new carrier.new))
-        may_read (may_read s) inputs (D.outside desk.old) (D.outside desk.new) }
+    ensures gives { TurnDoes
+        (parts_of terms.now video.old sender.old.state receiver.old carrier.old)
+        (parts_of terms.now video.new sender.new.state receiver.new carrier.new)
+        result (D.outside desk.old) (D.outside desk.new) }
     ensures falls { Falls result (more_of terms.now video.old carrier.old)
         (more_of terms.now video.new carrier.new) }
     ensures ready { OnGoing result (PartsReady
         (parts_of terms.now video.new sender.new.state receiver.new carrier.new)
         sender.new.pace.quant (D.outside desk.new).attached) }
-    ensures whole { (s : CallState) (inputs : Role → List ℕ)
-        → PartsStand (parts_of terms.now video.old sender.old.state receiver.old carrier.old)
-        s inputs → Tells (D.outside desk.old) inputs
-        → OnEnd result ((D.outside desk.new).left (source_of terms.now) ≡ Some []) }
-    ensures keeps { (s : CallState) (inputs : Role → List ℕ)
-        → PartsStand (parts_of terms.now video.old sender.old.state receiver.old carrier.old)
-        s inputs → OnSettled result (EndsStand terms.now sender.new.state receiver.new s) }
+    ensures whole { TurnReadsOut
+        (parts_of terms.now video.old sender.old.state receiver.old carrier.old)
+        result (D.outside desk.old) (D.outside desk.new) }
+    ensures keeps { TurnKeeps
+        (parts_of terms.now video.old sender.old.state receiver.old carrier.old)
+        (parts_of terms.now video.new sender.new.state receiver.new carrier.new) result }
     ensures stop { IfErr result IsStop }
     ensures cause { HasCause (turn_status result)
         (D.outside desk.old).faults (D.outside desk.new).faults }
@@ -115,24 +109,21 @@ fn frame_turn<D: Desk>(
         (parts_of terms.now video.old sender.old.state receiver.old carrier.old)
         sender.old.pace.quant (D.outside desk.old).attached }
     requires plain { terms.now.plain ≡ true }
-    ensures gives { (s : CallState) (inputs : Role → List ℕ)
-        → PartsStand (parts_of terms.now video.old sender.old.state receiver.old carrier.old)
-        s inputs → Tells (D.outside desk.old) inputs
-        → TurnGives result (talk_step s inputs)
-        (PartsStand (parts_of terms.now video.new sender.new.state receiver.new carrier.new))
-        may_read (may_read s) inputs (D.outside desk.old) (D.outside desk.new) }
+    ensures gives { TurnDoes
+        (parts_of terms.now video.old sender.old.state receiver.old carrier.old)
+        (parts_of terms.now video.new sender.new.state receiver.new carrier.new)
+        result (D.outside desk.old) (D.outside desk.new) }
     ensures falls { Falls result (more_of terms.now video.old carrier.old)
         (more_of terms.now video.new carrier.new) }
     ensures ready { OnGoing result (PartsReady
         (parts_of terms.now video.new sender.new.state receiver.new carrier.new)
         sender.new.pace.quant (D.outside desk.new).attached) }
-    ensures whole { (s : CallState) (inputs : Role → List ℕ)
-        → PartsStand (parts_of terms.now video.old sender.old.state receiver.old carrier.old)
-        s inputs → Tells (D.outside desk.old) inputs
-        → OnEnd result ((D.outside desk.new).left (source_of terms.now) ≡ Some []) }
-    ensures keeps { (s : CallState) (inputs : Role → List ℕ)
-        → PartsStand (parts_of terms.now video.old sender.old.state receiver.old carrier.old)
-        s inputs → OnSettled result (EndsStand terms.now sender.new.state receiver.new s) }
+    ensures whole { TurnReadsOut
+        (parts_of terms.now video.old sender.old.state receiver.old carrier.old)
+        result (D.outside desk.old) (D.outside desk.new) }
+    ensures keeps { TurnKeeps
+        (parts_of terms.now video.old sender.old.state receiver.old carrier.old)
+        (parts_of terms.now video.new sender.new.state receiver.new carrier.new) result }
     ensures stop { IfErr result IsStop }
     ensures cause { HasCause (turn_status result)
         (D.outside desk.old).faults (D.outside desk.new).faults }
@@ -173,24 +164,21 @@ fn line_turn<D: Desk>(
         (parts_of terms.now video.old sender.old.state receiver.old carrier.old)
         sender.old.pace.quant (D.outside desk.old).attached }
     requires plain { terms.now.plain ≡ false }
-    ensures gives { (s : CallState) (inputs : Role → List ℕ)
-        → PartsStand (parts_of terms.now video.old sender.old.state receiver.old carrier.old)
-        s inputs → Tells (D.outside desk.old) inputs
-        → TurnGives result (talk_step s inputs)
-        (PartsStand (parts_of terms.now video.new sender.new.state receiver.new carrier.new))
-        may_read (may_read s) inputs (D.outside desk.old) (D.outside desk.new) }
+    ensures gives { TurnDoes
+        (parts_of terms.now video.old sender.old.state receiver.old carrier.old)
+        (parts_of terms.now video.new sender.new.state receiver.new carrier.new)
+        result (D.outside desk.old) (D.outside desk.new) }
     ensures falls { Falls result (more_of terms.now video.old carrier.old)
         (more_of terms.now video.new carrier.new) }
     ensures ready { OnGoing result (PartsReady
         (parts_of terms.now video.new sender.new.state receiver.new carrier.new)
         sender.new.pace.quant (D.outside desk.new).attached) }
-    ensures whole { (s : CallState) (inputs : Role → List ℕ)
-        → PartsStand (parts_of terms.now video.old sender.old.state receiver.old carrier.old)
-        s inputs → Tells (D.outside desk.old) inputs
-        → OnEnd result ((D.outside desk.new).left (source_of terms.now) ≡ Some []) }
-    ensures keeps { (s : CallState) (inputs : Role → List ℕ)
-        → PartsStand (parts_of terms.now video.old sender.old.state receiver.old carrier.old)
-        s inputs → OnSettled result (EndsStand terms.now sender.new.state receiver.new s) }
+    ensures whole { TurnReadsOut
+        (parts_of terms.now video.old sender.old.state receiver.old carrier.old)
+        result (D.outside desk.old) (D.outside desk.new) }
+    ensures keeps { TurnKeeps
+        (parts_of terms.now video.old sender.old.state receiver.old carrier.old)
+        (parts_of terms.now video.new sender.new.state receiver.new carrier.new) result }
     ensures stop { IfErr result IsStop }
     ensures cause { HasCause (turn_status result)
         (D.outside desk.old).faults (D.outside desk.new).faults }
@@ -222,19 +210,18 @@ fn event_turn<D: Desk>(
         sender.old.pace.quant (D.outside desk.old).attached }
     requires recorded { terms.now.plain ≡ false }
     requires room { said_of carrier.old.messages + 400 ≤ 400 * carrier.old.trace.lines }
-    ensures gives { (before : Outside) (s : CallState) (inputs : Role → List ℕ)
-        → StoodBefore (parts_of terms.now video.old sender.old.state receiver.old carrier.old)
-        s inputs → line ≡ s.lines + 1 → HasTaken inputs before (D.outside desk.old)
-        → TurnGives result (event_step by_ends s inputs (inputs Events) event)
-        (PartsStand (parts_of terms.now video.new sender.new.state receiver.new carrier.new))
-        may_read true inputs before (D.outside desk.new) }
+    ensures gives { LineDoes line event
+        (parts_of terms.now video.old sender.old.state receiver.old carrier.old)
+        (parts_of terms.now video.new sender.new.state receiver.new carrier.new)
+        result (D.outside desk.old) (D.outside desk.new) }
     ensures trace { carrier.new.trace ≡ carrier.old.trace }
     ensures goes { OnEnd result ⊥ }
     ensures ready { OnGoing result (PartsReady
         (parts_of terms.now video.new sender.new.state receiver.new carrier.new)
         sender.new.pace.quant (D.outside desk.new).attached) }
-    ensures keeps { (s : CallState) → EndsStand terms.now sender.old.state receiver.old s
-        → OnSettled result (EndsStand terms.now sender.new.state receiver.new s) }
+    ensures keeps { LineKeeps
+        (parts_of terms.now video.old sender.old.state receiver.old carrier.old)
+        (parts_of terms.now video.new sender.new.state receiver.new carrier.new) result }
     ensures stop { IfErr result IsStop }
     ensures cause { HasCause (turn_status result)
         (D.outside desk.old).faults (D.outside desk.new).faults }
@@ -282,19 +269,18 @@ fn send_line<D: Desk>(
         (parts_of terms.now video.old sender.old.state receiver.now carrier.old)
         sender.old.pace.quant (D.outside desk.old).attached }
     requires recorded { terms.now.plain ≡ false }
-    ensures gives { (before : Outside) (s : CallState) (inputs : Role → List ℕ)
-        → StoodBefore (parts_of terms.now video.old sender.old.state receiver.now carrier.old)
-        s inputs → line ≡ s.lines + 1 → HasTaken inputs before (D.outside desk.old)
-        → TurnGives result (event_step by_ends s inputs (inputs Events) says.Send)
-        (PartsStand (parts_of terms.now video.new sender.new.state receiver.now carrier.new))
-        may_read true inputs before (D.outside desk.new) }
+    ensures gives { LineDoes line says.Send
+        (parts_of terms.now video.old sender.old.state receiver.now carrier.old)
+        (parts_of terms.now video.new sender.new.state receiver.now carrier.new)
+        result (D.outside desk.old) (D.outside desk.new) }
     ensures trace { carrier.new.trace ≡ carrier.old.trace }
     ensures goes { OnEnd result ⊥ }
     ensures ready { OnGoing result (PartsReady
         (parts_of terms.now video.new sender.new.state receiver.now carrier.new)
         sender.new.pace.quant (D.outside desk.new).attached) }
-    ensures keeps { (s : CallState) → EndsStand terms.now sender.old.state receiver.now s
-        → OnSettled result (EndsStand terms.now sender.new.state receiver.now s) }
+    ensures keeps { LineKeeps
+        (parts_of terms.now video.old sender.old.state receiver.now carrier.old)
+        (parts_of terms.now video.new sender.new.state receiver.now carrier.new) result }
     ensures stop { IfErr result IsStop }
     ensures cause { HasCause (turn_status result)
         (D.outside desk.old).faults (D.outside desk.new).faults }
@@ -338,19 +324,18 @@ fn play_line<D: Desk>(
         sender.now.pace.quant (D.outside desk.old).attached }
     requires recorded { terms.now.plain ≡ false }
     requires room { said_of carrier.old.messages + 400 ≤ 400 * carrier.old.trace.lines }
-    ensures gives { (before : Outside) (s : CallState) (inputs : Role → List ℕ)
-        → StoodBefore (parts_of terms.now video.now sender.now.state receiver.old carrier.old)
-        s inputs → line ≡ s.lines + 1 → HasTaken inputs before (D.outside desk.old)
-        → TurnGives result (event_step by_ends s inputs (inputs Events) says.Play)
-        (PartsStand (parts_of terms.now video.now sender.now.state receiver.new carrier.new))
-        may_read true inputs before (D.outside desk.new) }
+    ensures gives { LineDoes line says.Play
+        (parts_of terms.now video.now sender.now.state receiver.old carrier.old)
+        (parts_of terms.now video.now sender.now.state receiver.new carrier.new)
+        result (D.outside desk.old) (D.outside desk.new) }
     ensures trace { carrier.new.trace ≡ carrier.old.trace }
     ensures goes { OnEnd result ⊥ }
     ensures ready { OnGoing result (PartsReady
         (parts_of terms.now video.now sender.now.state receiver.new carrier.new)
         sender.now.pace.quant (D.outside desk.new).attached) }
-    ensures keeps { (s : CallState) → EndsStand terms.now sender.now.state receiver.old s
-        → OnSettled result (EndsStand terms.now sender.now.state receiver.new s) }
+    ensures keeps { LineKeeps
+        (parts_of terms.now video.now sender.now.state receiver.old carrier.old)
+        (parts_of terms.now video.now sender.now.state receiver.new carrier.new) result }
     ensures stop { IfErr result IsStop }
     ensures cause { HasCause (turn_status result)
         (D.outside desk.old).faults (D.outside desk.new).faults }
