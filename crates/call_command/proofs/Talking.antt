@@ -12,7 +12,7 @@ use Rattle.y4m.specs.Frame.{next_frame, frame_size}
 use Rattle.loss_trace.specs.declared.event.Event.{Event as Line}
 use Rattle.loss_trace.specs.declared.event.Event.TheVariants as says
 use Rattle.loss_trace.specs.declared.fault.TraceFault.TheVariants.{TooMany}
-use Rattle.loss_trace.specs.Lines.{first_line, is_closed}
+use Rattle.loss_trace.specs.Lines.{first_line}
 use Rattle.loss_trace.specs.Reading.{event_in}
 use Rattle.call_report.specs.declared.status.Status.TheVariants.{TraceRefused}
 use Rattle.desk_program.specs.Run.{Run, Step, behind, follow, refusal, run_of, silence}
@@ -32,7 +32,7 @@ use Rattle.receiver_end.specs.State as receiver_end
 use Rattle.call_command.specs.declared.terms.Terms.{Terms}
 use Rattle.call_command.specs.Trace.{delivered, passed_on}
 use Rattle.call_command.specs.Both.{bare, both_after, next_of}
-use Rattle.call_command.specs.Call.{CallState, after_line, by_ends, call_step, capture_step, captured_step, event_step, first_state, frame_step, line_step, refusal_at, steady, talk_step, trace_step, unless, video_step, with_frame, with_picture}
+use Rattle.call_command.specs.Call.{CallState, after_line, by_ends, call_step, capture_step, captured_step, event_step, first_state, frame_step, line_step, refusal_at, steady, talk_step, trace_step, unless, video_step, with_frame}
 use Rattle.call_command.specs.Laws.{NearLaws, ShowTheSame, TalkIsTheCall}
 use Rattle.call_command.specs.Seen.{Seen, in_both}
 use Rattle.call_command.proofs.After.{at_end, longer}
@@ -252,7 +252,7 @@ module _ (p : Params) where
       keeps_captured : (trace : List ℕ) (size : ℕ) (r : Result (List ℕ) Y4mFault) → refusal_at by_ends now Send ≡ None → Keeps false (captured_step now trace size r)
       keeps_captured trace size (Ok planes) none =
           let f = bare (picture_of p.format planes) in
-          let few = capture_not_far (rules_of p) (length seen.coded) seen.played seen.abouts none in
+          let few : length w.sender.coded < w.receiver.played + (rules_of p).half = capture_not_far (rules_of p) (length seen.coded) seen.played seen.abouts none in
           record {
             frames = frames ++ f ∷ [];
             past = Send ∷ past;
