@@ -12,7 +12,7 @@ use h263_outside::{Desk, HostDesk, Role};
 use std::alloc::Global;
 use std::process::ExitCode;
 
-const WORDS: [&str; 3] = ["demo", "1", "60"];
+static WORDS: [&str; 3] = ["demo", "1", "60"];
 
 // Runs the words' command, where it is a call on made input.
 fn run<D: Desk>(alloc: Global, desk: &mut D) -> Status
@@ -21,8 +21,9 @@ fn run<D: Desk>(alloc: Global, desk: &mut D) -> Status
     if let Err(status) = attach_role(desk, Role::Report, "") {
         return status;
     }
-    let Ok(words) = Words::read(alloc, &WORDS) else {
-        return finish(desk, Status::Usage);
+    let words = match Words::read(alloc, WORDS.as_slice()) {
+        Ok(words) => words,
+        Err(_) => return finish(desk, Status::OutOfMemory),
     };
     match words.command() {
         Command::Demo {
