@@ -12,7 +12,8 @@ ghost use Rattle.desk_program.specs.Texts.{on};
 ghost use Rattle.call_rings.specs.Messages.{said_of};
 ghost use Rattle.call_command.specs.Counts.{counts_of};
 ghost use Rattle.call_command.specs.Standing.{PartsReady, going_of, more_of, parts_of};
-ghost use Rattle.call_command.specs.Turning.{LineDoes, LineKeeps, TurnDoes, TurnKeeps, TurnReadsOut};
+ghost use Rattle.call_command.specs.Turning.{LineDoes, LineKeeps, TurnDoes, TurnKeeps};
+ghost use Rattle.call_command.specs.Turning.{TurnReadsOut};
 
 use crate::events::{
     all_event, back_event, packet_event, play_event, reference_of_next, send_kept,

@@ -6,7 +6,8 @@ ghost use Rattle.clap.specs.Words.{first_value, found_of};
 ghost use Rattle.command_words.specs.Asked.{asked, asked_by, call_of, send_of, recv_of, demo_of};
 ghost use Rattle.command_words.specs.Asked.{rate_of};
 ghost use Rattle.command_words.specs.Asked.{params_of, coding_of, timing_of, word_for, IsCommand};
-ghost use Rattle.command_words.specs.Asked.{seed_in, frames_in, target_in, target_or_none, bucket_in};
+ghost use Rattle.command_words.specs.Asked.{seed_in, frames_in, target_in, target_or_none};
+ghost use Rattle.command_words.specs.Asked.{bucket_in};
 ghost use Rattle.command_words.specs.Clap.{texts};
 ghost use Rattle.command_words.specs.View.{asked_of, row_of};
 
