@@ -1,12 +1,12 @@
 -- A call with ends that are lent, before its first event.
-use Rattle.std.proofs.Common.{◌≡◌, ℕ, ◌-◌, Bool, true, false, List, [], refl, sym, ap, subst, ◌∙◌, arith, if◌then◌else◌}
+use Rattle.std.proofs.Common.{◌≡◌, ℕ, ◌-◌, Bool, true, false, List, [], ◌++◌, Option, refl, sym, ap, subst, ◌∙◌, arith, if◌then◌else◌}
 use Rattle.h263_outside.specs.Desk.{Outside}
 use Rattle.h263_outside.specs.declared.desk.Role.{Role}
 use Rattle.call_report.specs.declared.status.Status.{Status}
 use Rattle.call_model.specs.Receiving.{ReceiverEntry}
 use Rattle.desk_program.specs.Ends.{AfterAll, Tells}
 use Rattle.desk_program.specs.Laws.{TurnLaws}
-use Rattle.desk_program.specs.Run.{end_state, run_of}
+use Rattle.desk_program.specs.Run.{Run, end_state, run_of}
 use Rattle.desk_program.specs.UnderWay.{EndsIn, IsUnderWay}
 use Rattle.h263_types.specs.declared.params.Params.{Params}
 use Rattle.sender_end.specs.declared.state.State.{State}
@@ -15,8 +15,9 @@ use Rattle.receiver_end.specs.State as receiver_end
 use Rattle.receiver_end.specs.declared.kept.Kept.{Kept}
 use Rattle.call_command.specs.declared.lent.World.{World}
 use Rattle.call_command.specs.declared.terms.Terms.{Terms}
-use Rattle.call_command.specs.Call.{CallState, first_state, may_read, most_turns, steady, talk_step}
-use Rattle.call_command.specs.Converse.{WorldStands, parts_of_world, talk_end, talk_of}
+use Rattle.call_command.specs.Call.{CallState, call_step, first_state, may_read, most_turns, steady, talk_step}
+use Rattle.call_command.specs.Converse.{IsFirst, WorldStands, parts_of_world, talk_end, talk_of}
+use Rattle.call_command.specs.Laws.{TalkIsTheCall}
 use Rattle.call_command.specs.Standing.{EndsStand, IsFresh, more_of}
 use Rattle.call_command.proofs.Starting.{stands_first}
 
@@ -29,18 +30,46 @@ lent_first w before inputs fresh sender_params sends sent more receiver_params p
     stands_first (parts_of_world w) fresh sender_params sends sent more before w.video.now.at inputs refl receiver_params receives
     (subst (λ (p : Params). (receiver_end.run_of p before).played ≡ 0) receiver_params (sym receives.played ∙ played))
 
+-- no frame and no line was read yet
+most_is : (w : World) → w.carrier.now.trace.lines ≡ 0 → w.video.now.more ≡ 1048576 → more_of w.terms w.video.now w.carrier.now ≡ most_turns w.terms.plain
+most_is w lines more = by_trace w.terms.plain
+  where
+    by_trace : (plain : Bool) → (if plain then w.video.now.more else 16777216 - w.carrier.now.trace.lines) ≡ most_turns plain
+    by_trace true = more
+    by_trace false = ap (λ (n : ℕ). 16777216 - n) lines
+
+-- a run of the ideal call that is under way before the first event is one by both ends
+pub alone_under_way : (w : World) → w.carrier.now.trace.lines ≡ 0 → w.video.now.more ≡ 1048576
+    → ((rest : Role → List ℕ) → WorldStands w (first_state w.terms [] w.video.now.at) rest) → TalkIsTheCall w.terms
+    → (run : Run) (inputs : Role → List ℕ) (start : Role → Option (List ℕ)) (now : Outside)
+    → IsUnderWay call_step may_read run inputs start (IsFirst w.terms w.video.now.at) (most_turns w.terms.plain) now
+    → IsUnderWay talk_step may_read run inputs start (WorldStands w) (more_of w.terms w.video.now w.carrier.now) now
+alone_under_way w lines more kept talk run inputs start now u =
+    let most = most_turns w.terms.plain in
+    let same : run_of talk_step (more_of w.terms w.video.now w.carrier.now) u.state u.rest ≡ run_of call_step most u.state u.rest =
+    ap (λ (n : ℕ). run_of talk_step n u.state u.rest) (most_is w lines more)
+    ∙ subst (λ (s : CallState). run_of talk_step most s u.rest ≡ run_of call_step most s u.rest) (sym u.kept) (talk w.video.now.at most u.rest)
+    in
+    record {
+      done = u.done;
+      state = u.state;
+      rest = u.rest;
+      kept = subst (λ (s : CallState). WorldStands w s u.rest) (sym u.kept) (kept u.rest);
+      turns = ap (λ (r : Run). u.done ++ r.turns) same ∙ u.turns;
+      last = ap (λ (r : Run). r.last) same ∙ u.last;
+      place = u.place;
+      told = u.told;
+      whole = u.whole;
+      written = u.written;
+    }
+
 module _ (w : World) (before : List ReceiverEntry) (inputs : Role → List ℕ) (now : Outside) (lines : w.carrier.now.trace.lines ≡ 0) (more : w.video.now.more ≡ 1048576)
     (kept : WorldStands w (first_state w.terms before w.video.now.at) inputs) (told : Tells now inputs) where
   abbrev first : CallState
   first = first_state w.terms before w.video.now.at
 
-  -- no frame and no line was read yet
   more_is : more_of w.terms w.video.now w.carrier.now ≡ most_turns w.terms.plain
-  more_is = by_trace w.terms.plain
-    where
-      by_trace : (plain : Bool) → (if plain then w.video.now.more else 16777216 - w.carrier.now.trace.lines) ≡ most_turns plain
-      by_trace true = more
-      by_trace false = ap (λ (n : ℕ). 16777216 - n) lines
+  more_is = most_is w lines more
 
   pub under_way : TurnLaws CallState
       → IsUnderWay talk_step may_read (talk_of w.terms before w.video.now.at inputs) inputs now.written (WorldStands w) (more_of w.terms w.video.now w.carrier.now) now

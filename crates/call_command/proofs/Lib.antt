@@ -12,7 +12,6 @@ mod Starting
 mod PassedOn
 mod Counting
 mod Readying
-mod Alone
 mod Cutting
 mod LineTurning
 mod Behind
@@ -27,6 +26,7 @@ mod Packing
 mod Plain
 mod EachFrame
 mod Talking
+mod Acting
 mod Conversing
 mod Unattached
 mod FaultOfVideo

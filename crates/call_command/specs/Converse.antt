@@ -1,14 +1,18 @@
 -- What a machine keeps in mind whose ends are lent to it, and what it makes of a call.
-use Rattle.std.specs.Prelude.{ℕ, Bool, List}
+use Rattle.std.specs.Prelude.{◌≡◌, ℕ, Bool, List, []}
 use Rattle.h263_outside.specs.declared.desk.Role.{Role}
 use Rattle.call_report.specs.declared.status.Status.TheVariants.{OutOfMemory}
 use Rattle.call_model.specs.Receiving.{ReceiverEntry}
 use Rattle.desk_program.specs.Run.{Run, Step, run_of, end_state, refusal}
 use Rattle.desk_program.specs.Run.Step.{Ends}
+use Rattle.sender_end.specs.Stands as sender_end
+use Rattle.sender_end.specs.Stands.{IsReady}
+use Rattle.receiver_end.specs.State as receiver_end
+use Rattle.call_command.specs.declared.call.Begun.{Begun}
 use Rattle.call_command.specs.declared.lent.World.{World}
 use Rattle.call_command.specs.declared.terms.Terms.{Terms}
-use Rattle.call_command.specs.Call.{CallState, first_state, most_turns, talk_step}
-use Rattle.call_command.specs.Standing.{EndsStand, Parts, PartsReady, PartsStand}
+use Rattle.call_command.specs.Call.{CallState, first_state, most_turns, steady, talk_step}
+use Rattle.call_command.specs.Standing.{CallOpens, EndsStand, Parts, PartsReady, PartsStand}
 
 -- what stays for the whole call: what is asked for, and what is lent, by name
 pub record Names : Type 0 where
@@ -44,6 +48,24 @@ WorldReady m attached = PartsReady (parts_of_world m) m.sender.now.pace.quant at
 
 abbrev pub WorldKeeps : World → CallState → Type 0
 WorldKeeps m s = EndsStand m.terms m.sender.now.state m.receiver.now s
+
+-- the state before the first event
+abbrev pub IsFirst : Terms → ℕ → CallState → (Role → List ℕ) → Type 0
+IsFirst t at s rest = s ≡ first_state t [] at
+
+-- what was begun may converse: nothing was sent, heard or played yet, and no frame was read
+pub record MayConverse (plain : Bool) (attached : Role → Bool) (begun : Begun) : Type 0 where
+  pub opens : CallOpens (record { params = begun.params; plain = plain }) attached
+  pub format : begun.video.format ≡ begun.params.format
+  pub frames : begun.video.more ≡ 1048576
+  pub ready : IsReady begun.both.sender.state
+  pub sender_params : begun.both.sender.state.params ≡ begun.params
+  pub receiver_params : begun.both.receiver.params ≡ begun.params
+  pub quant : begun.both.sender.pace.quant ≡ begun.params.quant
+  pub sent : begun.both.sender.state.sent ≡ 0
+  pub sends : sender_end.Stands (steady begun.params) begun.both.sender.state []
+  pub played : begun.both.receiver.played ≡ 0
+  pub receives : receiver_end.Stands begun.both.receiver []
 
 -- it isn't started as a command is
 abbrev pub no_begin : Terms → (Role → List ℕ) → Step CallState

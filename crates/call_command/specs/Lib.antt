@@ -8,7 +8,6 @@ pub mod Counts
 pub mod Call
 pub mod Standing
 pub mod Turning
-pub mod Machine
 pub mod Converse
 pub mod Laws
 pub mod Plain

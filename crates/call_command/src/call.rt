@@ -1,17 +1,22 @@
-//! The machine of a call.
-ghost use Rattle.std.specs.Prelude.{◌≡◌, [], IfOk};
+//! A call, from its video's head on.
+ghost use Rattle.std.specs.Prelude.{◌≡◌, ℕ, List, [], IfErr, IfOk};
+ghost use Rattle.h263_outside.specs.declared.desk.Role.{Role};
 ghost use Rattle.h263_types.specs.Params.{IsParams};
+ghost use Rattle.desk_program.specs.Ends.{HasCause, IsStop, KeepsRoles, StartGives, Tells};
+ghost use Rattle.desk_program.specs.Ends.{start_status};
 ghost use Rattle.sender_end.specs.Stands.{IsReady};
 ghost use Rattle.sender_end.specs.Stands as sender_end;
 ghost use Rattle.receiver_end.specs.State as receiver_end;
-ghost use Rattle.call_command.specs.Call.{steady};
+ghost use Rattle.call_command.specs.Call.{call_begin, may_read, steady};
+ghost use Rattle.call_command.specs.Converse.{IsFirst, MayConverse};
+ghost use Rattle.call_command.specs.Standing.{CallOpens};
 
-use crate::laws::{ends_agree, ends_run, of_near_events, of_the_video};
-use crate::mind::turn_laws;
-use crate::turning::take_turn;
-use crate::{Carrier, Terms};
+use crate::laws::of_the_video;
+use crate::mind::{run_laws, turn_laws};
+use crate::{Terms, converse};
 use call_report::Status;
-use desk_program::{Turns, put_head};
+use desk_program::{Acts, put_head};
+use h263_outside::laws::calls;
 use h263_outside::{Desk, OutOfMemory};
 use h263_types::{FixedPace, Params};
 use receiver_end::Receiver;
@@ -60,99 +65,88 @@ impl Both {
     }
 }
 
-/// The machine of a call: what it was asked for, the reader of its video, both ends, and what
-/// carries the call between them. It must be finished.
-pub struct Call {
-    terms: Terms,
+// A call before its first event: its parameters, with the format of its video, the reader of the
+// video behind the head, and both ends. They must be finished.
+struct Begun {
+    params: Params,
     video: Y4mReader,
     both: Both,
-    carrier: Carrier,
 }
 
-impl Turns for Call {
+// Reads the head, starts both ends, and writes the head of the pictures.
+fn begin<D: Desk>(alloc: Global, setup: &Terms, desk: &mut D) -> Result<Begun, Status>
+    requires { CallOpens setup.now (D.outside desk.old).attached }
+    ensures gives { (inputs : Role → List ℕ) → Tells (D.outside desk.old) inputs
+        → StartGives result (call_begin setup.now inputs)
+        (λ begun. IsFirst (record { params = begun.params; plain = setup.now.plain })
+        begun.video.at)
+        may_read inputs (D.outside desk.old) (D.outside desk.new) }
+    ensures ready { IfOk result (MayConverse setup.now.plain (D.outside desk.new).attached) }
+    ensures stop { IfErr result IsStop }
+    ensures cause { HasCause (start_status result)
+        (D.outside desk.old).faults (D.outside desk.new).faults }
+    ensures rest { KeepsRoles (D.outside desk.old) (D.outside desk.new) }
+{
+    turn_laws();
+    of_the_video();
+    let video = Y4mReader::head(desk)?;
+    let params = Params {
+        format: video.format(),
+        ..setup.params
+    };
+    let both = Both::start(alloc, &params)?;
+    if let Err(status) = put_head(desk, params.format) {
+        both.finish();
+        return Err(status);
+    }
+    Ok(Begun {
+        params,
+        video,
+        both,
+    })
+}
+
+/// The command that plays a whole call: both ends, over the plain trace of its video or over a
+/// recorded one.
+pub struct Call;
+
+impl Acts for Call {
     ghost use Rattle.std.specs.Prelude.{Some};
-    ghost use Rattle.call_command.specs.Call.{CallState, call_begin, call_step, may_read};
-    ghost use Rattle.call_command.specs.Call.{most_turns};
-    ghost use Rattle.call_command.specs.Standing.{CallOpens, more_of, source_of};
-    ghost use Rattle.call_command.specs.Machine.{CallReady, CallStands};
+    ghost use Rattle.desk_program.specs.Run.{run_from};
+    ghost use Rattle.call_command.specs.Call.{call_begin, call_step, most_turns};
+    ghost use Rattle.call_command.specs.Standing.{CallOpens, source_of};
 
     type Setup = Terms;
 
-    ghost State = { CallState };
-
-    ghost begin = { call_begin };
-
-    ghost step = { call_step };
-
-    ghost reads = { may_read };
-
-    ghost stands = { CallStands };
-
-    ghost keeps = { λ _ _. Unit {0} };
-
-    ghost Loan = { Unit {0} };
-
-    ghost loan = { λ _. tt };
-
-    ghost most = { λ t. most_turns t.plain };
-
-    ghost more = { λ m. more_of m.terms m.video m.carrier };
+    ghost run = { λ t inputs. run_from (call_begin t inputs) call_step (most_turns t.plain) inputs };
 
     ghost opens = { CallOpens };
 
-    ghost ready = { CallReady };
-
     ghost source = { λ t. Some (source_of t) };
 
-    ghost reading = { λ m. Some (source_of m.terms) };
-
-    fn start<D: Desk>(alloc: Global, setup: &Terms, desk: &mut D) -> Result<Call, Status> {
-        turn_laws();
-        of_the_video();
-        let video = Y4mReader::head(desk)?;
-        let params = Params {
-            format: video.format(),
-            ..setup.params
-        };
-        let terms = Terms {
-            params,
-            plain: setup.plain,
-        };
-        let carrier = Carrier::start(alloc, &terms)?;
-        let both = Both::start(alloc, &params)?;
-        if let Err(status) = put_head(desk, params.format) {
-            both.finish();
-            return Err(status);
+    fn act<D: Desk>(alloc: Global, setup: &Terms, desk: &mut D) -> Status {
+        calls();
+        run_laws();
+        match begin(alloc, setup, desk) {
+            Ok(mut begun) => {
+                let status = converse(
+                    alloc,
+                    desk,
+                    &begun.params,
+                    setup.plain,
+                    &mut begun.video,
+                    &mut begun.both.sender,
+                    &mut begun.both.receiver,
+                );
+                let Begun {
+                    params: _,
+                    video: _,
+                    both,
+                } = begun;
+                both.finish();
+                status
+            }
+            Err(status) => status,
         }
-        Ok(Call {
-            terms,
-            video,
-            both,
-            carrier,
-        })
-    }
-
-    fn turn<D: Desk>(&mut self, desk: &mut D) -> Result<bool, Status> {
-        ends_agree();
-        ends_run();
-        of_near_events();
-        take_turn(
-            desk,
-            &self.terms,
-            &mut self.video,
-            &mut self.both.sender,
-            &mut self.both.receiver,
-            &mut self.carrier,
-        )
-    }
-
-    fn finish(self) {
-        let Call {
-            terms: _,
-            video: _,
-            both,
-            carrier: _,
-        } = self;
-        both.finish();
     }
 }

@@ -1,17 +1,20 @@
 //! A call with ends that are lent.
-ghost use Rattle.std.specs.Prelude.{◌≡◌, ℕ, List, [], Some};
+ghost use Rattle.std.specs.Prelude.{◌≡◌, ℕ, List, [], Option, Some};
 ghost use Rattle.h263_outside.specs.declared.desk.Role.{Role};
 ghost use Rattle.call_model.specs.Receiving.{ReceiverEntry};
 ghost use Rattle.desk_program.specs.Ends.{AfterAll, HasCause, HasEnded, IsLater, IsReadOut};
 ghost use Rattle.desk_program.specs.Ends.{KeepsRoles, Tells, silent};
+ghost use Rattle.desk_program.specs.Run.{Run};
+ghost use Rattle.desk_program.specs.UnderWay.{IsUnderWay};
 ghost use Rattle.sender_end.specs.Stands.{IsReady};
 ghost use Rattle.sender_end.specs.Stands as sender_end;
 ghost use Rattle.receiver_end.specs.State as receiver_end;
-ghost use Rattle.call_command.specs.Call.{steady};
-ghost use Rattle.call_command.specs.Converse.{talk_end, talk_of};
+ghost use Rattle.call_command.specs.Call.{call_step, may_read, most_turns, steady};
+ghost use Rattle.call_command.specs.Converse.{IsFirst, talk_end, talk_of};
 ghost use Rattle.call_command.specs.Standing.{CallOpens, EndsStand, source_of};
 
-use crate::mind::turn_laws;
+use crate::laws::talks_agree;
+use crate::mind::{run_laws, turn_laws};
 use crate::turning::take_turn;
 use crate::{Carrier, Terms};
 use call_report::Status;
@@ -92,6 +95,9 @@ impl<'a> Turns for World<'a> {
 /// Takes the events of the trace, or of the plain trace, one after the other, writes the pictures
 /// that are shown and their lines, and at the end the counts. The sender was just started, and the
 /// receiver has played nothing, but may have heard anything. No frame and no line was read yet.
+///
+/// It is the call by both ends, behind whatever the receiver had heard (`gives`). With a receiver
+/// that had heard nothing it is the ideal call, which goes on with a run that is under way (`alone`).
 pub fn converse<D: Desk>(
     alloc: Global,
     desk: &mut D,
@@ -116,6 +122,12 @@ pub fn converse<D: Desk>(
         → receiver_end.Stands receiver.old before → Tells (D.outside desk.old) inputs
         → HasEnded (talk_of (record { params = params.now; plain = plain }) before video.old.at
         inputs) silent result inputs (D.outside desk.old).written (D.outside desk.new) }
+    ensures alone { (run : Run) (inputs : Role → List ℕ) (start : Role → Option (List ℕ))
+        → receiver_end.Stands receiver.old []
+        → IsUnderWay call_step may_read run inputs start
+        (IsFirst (record { params = params.now; plain = plain }) video.old.at)
+        (most_turns plain) (D.outside desk.old)
+        → HasEnded run silent result inputs start (D.outside desk.new) }
     ensures stands { (before : List ReceiverEntry) (inputs : Role → List ℕ)
         → receiver_end.Stands receiver.old before → Tells (D.outside desk.old) inputs
         → AfterAll result (EndsStand (record { params = params.now; plain = plain })
@@ -130,6 +142,8 @@ pub fn converse<D: Desk>(
     ensures rest { KeepsRoles (D.outside desk.old) (D.outside desk.new) }
 {
     turn_laws();
+    run_laws();
+    talks_agree();
     let terms = Terms {
         params: *params,
         plain,

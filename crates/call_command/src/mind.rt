@@ -1,9 +1,9 @@
 //! The laws of turns, for the state of a call.
-ghost use Rattle.desk_program.specs.Laws.{TurnLaws};
+ghost use Rattle.desk_program.specs.Laws.{RunLaws, TurnLaws};
 ghost use Rattle.call_command.specs.Call.{CallState};
 
 use crate::Terms;
-use desk_program::laws::of_turns;
+use desk_program::laws::{of_runs, of_turns};
 use std::marker::Model;
 
 // A type of the program whose values are states. The laws of turns are called with it; nothing is
@@ -26,4 +26,11 @@ pub fn turn_laws()
     ensures { TurnLaws CallState }
 {
     of_turns::<Mind>();
+}
+
+/// How a run begins, and how it ends where its start gives up or memory is refused to it.
+pub fn run_laws()
+    ensures { RunLaws CallState }
+{
+    of_runs::<Mind>();
 }

@@ -6,7 +6,7 @@ use crate::mind::turn_laws;
 use call_command::laws::{ends_agree, ends_run, of_near_events};
 use call_command::{Both, Carrier, tell_counts};
 use call_report::Status;
-use desk_program::Turns;
+use desk_program::{Acts, Turns, act_by_turns};
 use h263_outside::Desk;
 use make_input::TraceMaker;
 use std::alloc::Global;
@@ -98,5 +98,24 @@ impl Turns for Demo {
             carrier: _,
         } = self;
         both.finish();
+    }
+}
+
+impl Acts for Demo {
+    ghost use Rattle.std.specs.Prelude.{None};
+    ghost use Rattle.desk_program.specs.Run.{run_from};
+    ghost use Rattle.demo_command.specs.Demo.{demo_begin, demo_step, most_turns};
+    ghost use Rattle.demo_command.specs.Machine.{DemoOpens};
+
+    type Setup = DemoTerms;
+
+    ghost run = { λ setup inputs. run_from (demo_begin setup inputs) demo_step (most_turns setup) inputs };
+
+    ghost opens = { DemoOpens };
+
+    ghost source = { λ _. None };
+
+    fn act<D: Desk>(alloc: Global, setup: &DemoTerms, desk: &mut D) -> Status {
+        act_by_turns::<D, Demo>(alloc, setup, desk)
     }
 }

@@ -1,11 +1,15 @@
--- How the reads and writes of one turn add up, and how a turn that refuses is answered.
-use Rattle.std.specs.Prelude.{ℕ, ◌≡◌, ◌≢◌, List, Option, Some, drop}
+-- How the reads and writes of one turn add up, how a turn that refuses is answered, and how runs
+-- begin.
+use Rattle.std.specs.Prelude.{ℕ, ◌≡◌, ◌≢◌, Bool, true, List, Option, Some, drop}
 use Rattle.h263_outside.specs.Desk.{Outside, appended, GainsFront}
 use Rattle.h263_outside.specs.declared.desk.Role.{Role}
 use Rattle.call_report.specs.declared.status.Status.{Status}
-use Rattle.desk_program.specs.Run.{Step, behind, refusal}
+use Rattle.call_report.specs.declared.status.Status.TheVariants.{OutOfMemory}
+use Rattle.call_report.specs.Status.{phase}
+use Rattle.desk_program.specs.Run.{Run, Step, behind, refusal, run_from}
 use Rattle.desk_program.specs.Run.Step.{Ends}
-use Rattle.desk_program.specs.Ends.{Tells, Gains, GainsFronts, Ended}
+use Rattle.desk_program.specs.Ends.{Tells, Gains, GainsFronts, Ended, GivesUp, HasEnded, Went, silent}
+use Rattle.desk_program.specs.UnderWay.{IsUnderWay}
 use Rattle.desk_program.specs.Texts.{no_texts, on, then_also, no_bytes, of, and_of}
 
 pub record TurnLaws (State : Type 0) : Type 0 where
@@ -36,3 +40,20 @@ pub record TurnLaws (State : Type 0) : Type 0 where
   -- a turn that refuses
   pub refuses : (step : Step State) (status : Status) (inputs : Role → List ℕ) (old new : Outside) →
       step ≡ Ends (refusal status) → new.written ≡ old.written → Ended step status inputs old new
+
+pub record RunLaws (State : Type 0) : Type 0 where
+  -- behind a start that goes on the run is under way
+  pub begins : (first : Step State) (step : State → (Role → List ℕ) → Step State) (reads : State → Bool)
+      (most : ℕ) (inputs : Role → List ℕ) (old new : Outside) (stands : State → (Role → List ℕ) → Type 0)
+      → Went first stands reads true inputs old new
+      → IsUnderWay step reads (run_from first step most inputs) inputs old.written stands most new
+  -- a start that gives up has ended it
+  pub gives_up : (first : Step State) (step : State → (Role → List ℕ) → Step State)
+      (most : ℕ) (inputs : Role → List ℕ) (old new : Outside) (status : Status)
+      → GivesUp (phase status) status first true inputs old new
+      → HasEnded (run_from first step most inputs) silent status inputs old.written new
+  -- memory was refused to a run under way, and nothing was done since
+  pub no_memory : (step : State → (Role → List ℕ) → Step State) (reads : State → Bool) (run : Run)
+      (inputs : Role → List ℕ) (start : Role → Option (List ℕ)) (stands : State → (Role → List ℕ) → Type 0)
+      (more : ℕ) (now : Outside) → IsUnderWay step reads run inputs start stands more now
+      → HasEnded run silent OutOfMemory inputs start now

@@ -4,6 +4,7 @@
 //! What a run as a whole writes, takes and answers follows here, once for all commands.
 #![tactic(auto)]
 
+mod acts;
 mod attach;
 mod command;
 pub mod laws;
@@ -12,6 +13,7 @@ mod play;
 mod turns;
 mod write;
 
+pub use acts::{Acts, act_by_turns};
 pub use attach::{attach_all, attach_role};
 pub use command::perform;
 pub use lines::finish;

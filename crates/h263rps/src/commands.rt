@@ -6,7 +6,6 @@ ghost use Rattle.h263_outside.specs.declared.desk.Role.TheVariants.{Report};
 ghost use Rattle.command_words.specs.declared.command.Command.TheVariants as commands;
 ghost use Rattle.command_words.specs.Asked.{HasNames, IsCommand, IsGiven, word_for};
 ghost use Rattle.command_words.specs.View.{asked_of};
-ghost use Rattle.desk_program.specs.Run.{run_from};
 ghost use Rattle.desk_program.specs.Attached.{AreAttached, are_free, names};
 ghost use Rattle.desk_program.specs.Promises.{IsNotUsage};
 ghost use Rattle.h263rps.specs.Output.{the_word};
@@ -18,7 +17,7 @@ use call_command::{Call, Terms};
 use command_words::{Command, Words};
 use demo_command::laws::ends_well;
 use demo_command::{Demo, DemoTerms};
-use desk_program::{Turns, perform};
+use desk_program::{Acts, perform};
 use h263_outside::{Desk, Role};
 use h263_types::Params;
 use rate_command::laws::no_video_refused as no_video_measured;
@@ -29,24 +28,23 @@ use send_command::laws::refused_videos as refused_by_send;
 use send_command::{Send, Sending};
 use std::alloc::Global;
 
-// Runs a command's machine.
-fn carry_out<D: Desk, M: Turns>(
+// Carries a command out.
+fn carry_out<D: Desk, A: Acts>(
     alloc: Global,
-    setup: &M::Setup,
+    setup: &A::Setup,
     order: &[(Role, &str)],
     desk: &mut D,
 ) -> Status
     requires report { AreAttached ((Report, []) ∷ []) (D.outside desk.old) }
     requires free { IsTrue (are_free (with_role (λ _. false) Report true) (names order.now)) }
     requires opens { (now : Outside) → AreAttached ((Report, []) ∷ names order.now) now
-        → M.opens setup.now now.attached }
+        → A.opens setup.now now.attached }
     ensures run { IsRunOf
-        (λ inputs. run_from (M.begin setup.now inputs) M.step (M.most setup.now) inputs)
-        ((Report, []) ∷ names order.now) (M.source setup.now) result (D.outside desk.old)
-        (D.outside desk.new) }
+        (λ inputs. A.run setup.now inputs) ((Report, []) ∷ names order.now) (A.source setup.now)
+        result (D.outside desk.old) (D.outside desk.new) }
     ensures words { IsNotUsage result }
 {
-    perform::<D, M>(alloc, setup, order, desk)
+    perform::<D, A>(alloc, setup, order, desk)
 }
 
 // The word by which the command attaches a role.

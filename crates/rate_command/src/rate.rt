@@ -2,8 +2,8 @@
 use crate::mind::Mind;
 use crate::parts::{measure, sum_up};
 use call_report::Status;
-use desk_program::Turns;
 use desk_program::laws::of_turns;
+use desk_program::{Acts, Turns, act_by_turns};
 use event_logs::laws::cut_behind;
 use event_logs::{Entry, LogFault, LogReader, Side};
 use h263_outside::Desk;
@@ -117,5 +117,24 @@ impl Turns for Rate {
             plays: _,
             buffer: _,
         } = self;
+    }
+}
+
+impl Acts for Rate {
+    ghost use Rattle.std.specs.Prelude.{Some};
+    ghost use Rattle.h263_outside.specs.declared.desk.Role.TheVariants.{Events};
+    ghost use Rattle.desk_program.specs.Run.{run_from};
+    ghost use Rattle.rate_command.specs.Rate.{RateOpens, rate_begin, rate_step};
+
+    type Setup = Bucket;
+
+    ghost run = { λ setup inputs. run_from (rate_begin setup inputs) rate_step 16777216 inputs };
+
+    ghost opens = { RateOpens };
+
+    ghost source = { λ _. Some Events };
+
+    fn act<D: Desk>(alloc: Global, setup: &Bucket, desk: &mut D) -> Status {
+        act_by_turns::<D, Rate>(alloc, setup, desk)
     }
 }

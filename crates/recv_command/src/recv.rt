@@ -4,7 +4,7 @@ use crate::mind::Mind;
 use crate::parts::{hear, play};
 use call_report::Status;
 use desk_program::laws::of_turns;
-use desk_program::{Turns, put_head, put_line};
+use desk_program::{Acts, Turns, act_by_turns, put_head, put_line};
 use event_logs::laws::cut_behind;
 use event_logs::{Entry, LogFault, LogReader, Side};
 use h263_outside::Desk;
@@ -116,5 +116,24 @@ impl Turns for Recv {
             buffer: _,
         } = self;
         receiver.finish();
+    }
+}
+
+impl Acts for Recv {
+    ghost use Rattle.std.specs.Prelude.{Some};
+    ghost use Rattle.h263_outside.specs.declared.desk.Role.TheVariants.{Events};
+    ghost use Rattle.desk_program.specs.Run.{run_from};
+    ghost use Rattle.recv_command.specs.Recv.{RecvOpens, recv_begin, recv_step};
+
+    type Setup = Params;
+
+    ghost run = { λ setup inputs. run_from (recv_begin setup inputs) recv_step 16777216 inputs };
+
+    ghost opens = { RecvOpens };
+
+    ghost source = { λ _. Some Events };
+
+    fn act<D: Desk>(alloc: Global, setup: &Params, desk: &mut D) -> Status {
+        act_by_turns::<D, Recv>(alloc, setup, desk)
     }
 }

@@ -9,7 +9,7 @@ use crate::capture::{capture, put_picture};
 use crate::mind::turn_laws;
 use crate::{SendPace, Sending, Tally};
 use call_report::Status;
-use desk_program::{Turns, put_line};
+use desk_program::{Acts, Turns, act_by_turns, put_line};
 use event_logs::{Entry, LogFault, LogReader, Side};
 use h263_outside::Desk;
 use h263_outside::laws::calls;
@@ -189,5 +189,25 @@ impl Turns for Send {
             bytes: _,
         } = self;
         sender.finish();
+    }
+}
+
+impl Acts for Send {
+    ghost use Rattle.std.specs.Prelude.{Some};
+    ghost use Rattle.h263_outside.specs.declared.desk.Role.TheVariants.{Events};
+    ghost use Rattle.desk_program.specs.Run.{run_from};
+    ghost use Rattle.send_command.specs.Send.{most_entries, send_begin, send_step};
+    ghost use Rattle.send_command.specs.Stands.{CanSend};
+
+    type Setup = Sending;
+
+    ghost run = { λ setup inputs. run_from (send_begin setup inputs) send_step most_entries inputs };
+
+    ghost opens = { CanSend };
+
+    ghost source = { λ _. Some Events };
+
+    fn act<D: Desk>(alloc: Global, setup: &Sending, desk: &mut D) -> Status {
+        act_by_turns::<D, Send>(alloc, setup, desk)
     }
 }

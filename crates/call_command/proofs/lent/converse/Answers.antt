@@ -1,7 +1,8 @@
-use Rattle.std.proofs.Common.{ap, sym, rules}
+use Rattle.std.proofs.Common.{[], ap, sym, rules}
 use Rattle.call_command.specs.declared.lent.World.{World}
-use Rattle.call_command.specs.Converse.{Names, talk_end}
-use Rattle.call_command.proofs.Conversing.{ends_in, lent_first, lent_stand, under_way}
+use Rattle.call_command.specs.Call.{call_step, may_read, most_turns}
+use Rattle.call_command.specs.Converse.{IsFirst, Names, talk_end}
+use Rattle.call_command.proofs.Conversing.{alone_under_way, ends_in, lent_first, lent_stand, under_way}
 use Rattle.call_command.proofs.lent.converse.Goals as goal
 
 pub returns-in-Ok-clause-gives : goal.returns-in-Ok-clause-gives
@@ -55,3 +56,25 @@ returns-in-Ok-clause-stands g c = λ before inputs receives told.
     lent_stand c.take_turns.result final w.terms machine.terms _ machine.sender.now.state _ machine.receiver.now
     (ap (λ (n : Names). n.terms) names) (search (rules, sender_is)) (search (rules, receiver_is))
     (c.take_turns.ensures.keeps final (ends_in w before inputs now fresh.lines asks.frames kept told))
+
+pub returns-in-Ok-clause-alone : goal.returns-in-Ok-clause-alone
+returns-in-Ok-clause-alone g c = λ run inputs start receives u.
+    let now = g.D.Desk.outside c.args.desk.now in
+    let w : World = record {
+      terms = record { params = c.args.params.now; plain = c.args.plain };
+      video = c.args.video;
+      sender = c.args.sender;
+      receiver = c.args.receiver;
+      carrier = record { ref_ptr = c.args.video.ref_ptr; ghost_name = c.args.video.ghost_name; now = c.in-Ok.carrier };
+    } in
+    let asks = c.requires in
+    let fresh = c.in-Ok.ensures in
+    c.take_turns.ensures.gives run inputs start
+    (alone_under_way w fresh.lines asks.frames
+    (λ rest. lent_first w [] rest fresh asks.sender_params asks.sends asks.sent asks.frames asks.receiver_params asks.played receives)
+    (c.talks_agree.ensures w.terms asks.opens.params) run inputs start now u)
+
+pub returns-in-Err-clause-alone : goal.returns-in-Err-clause-alone
+returns-in-Err-clause-alone g c = λ run inputs start receives u.
+    c.run_laws.ensures.no_memory call_step may_read run inputs start (IsFirst (record { params = c.args.params.now; plain = c.args.plain }) c.args.video.now.at) (most_turns c.args.plain)
+    (g.D.Desk.outside c.args.desk.now) u

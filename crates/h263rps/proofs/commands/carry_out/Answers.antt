@@ -1,4 +1,3 @@
-use Rattle.desk_program.specs.Run.{run_from}
 use Rattle.desk_program.specs.Attached.{names}
 use Rattle.h263rps.proofs.Promised.{performed}
 use Rattle.h263rps.proofs.commands.carry_out.Goals as goal
@@ -8,6 +7,6 @@ returns-clause-run g c =
     let outside = g.D.Desk.outside in
     let says = c.perform.ensures in
     let setup = c.args.setup.now in
-    performed (λ inputs. run_from (g.M.Turns.begin setup inputs) g.M.Turns.step (g.M.Turns.most setup) inputs)
-    (names c.args.order.now) (g.M.Turns.source setup) (outside c.args.desk.now) (outside c.perform.new.desk) c.perform.result
+    performed (λ inputs. g.A.Acts.run setup inputs)
+    (names c.args.order.now) (g.A.Acts.source setup) (outside c.args.desk.now) (outside c.perform.new.desk) c.perform.result
     says.status says.texts says.prefixes says.words says.unopened says.causes says.attached says.whole_input says.taken_input

@@ -1,0 +1,49 @@
+use Rattle.std.proofs.Common.{[]}
+use Rattle.desk_program.specs.Run.{behind, run_from}
+use Rattle.call_command.specs.Call.{call_begin, call_step, may_read, most_turns}
+use Rattle.call_command.specs.Converse.{IsFirst}
+use Rattle.call_command.proofs.Acting.{later_stop, not_read_out}
+use Rattle.call_command.proofs.Counting.{cause_since, keeps_since}
+use Rattle.call_command.proofs.call.CallActs.act.Goals as goal
+
+pub returns-in-Ok-clause-gives : goal.returns-in-Ok-clause-gives
+returns-in-Ok-clause-gives g c = λ inputs told.
+    let outside = g.D.Desk.outside in
+    let t = c.args.setup.now in
+    let begun = c.in-Ok.begun in
+    let first = call_begin t inputs in
+    let most = most_turns t.plain in
+    let old = outside c.args.desk.now in
+    let mid = outside c.begin.new.desk in
+    c.converse-status.ensures.alone (run_from first call_step most inputs) inputs old.written c.in-Ok.ensures.ready.receives
+    (c.run_laws.ensures.begins first call_step may_read most inputs old mid (IsFirst (record { params = begun.params; plain = t.plain }) begun.video.at) (c.in-Ok.ensures.gives inputs told))
+
+pub returns-in-Err-clause-gives : goal.returns-in-Err-clause-gives
+returns-in-Err-clause-gives g c = λ inputs told.
+    let outside = g.D.Desk.outside in
+    let t = c.args.setup.now in
+    c.run_laws.ensures.gives_up (call_begin t inputs) call_step (most_turns t.plain) inputs (outside c.args.desk.now) (outside c.begin.new.desk) c.in-Err.status
+    (c.in-Err.ensures.gives inputs told)
+
+pub returns-in-Ok-clause-whole_input : goal.returns-in-Ok-clause-whole_input
+returns-in-Ok-clause-whole_input g c = λ inputs told.
+    let went = c.in-Ok.ensures.gives inputs told in
+    c.converse-status.ensures.whole_input [] (behind inputs went.turn.taken) c.in-Ok.ensures.ready.receives went.left
+
+pub returns-in-Err-clause-whole_input : goal.returns-in-Err-clause-whole_input
+returns-in-Err-clause-whole_input g c = λ inputs told.
+    not_read_out c.in-Err.status _ (g.D.Desk.outside c.begin.new.desk) c.in-Err.ensures.stop
+
+pub returns-in-Err-clause-later : goal.returns-in-Err-clause-later
+returns-in-Err-clause-later g c = later_stop c.in-Err.status c.in-Err.ensures.stop
+
+pub returns-in-Ok-clause-rest : goal.returns-in-Ok-clause-rest
+returns-in-Ok-clause-rest g c =
+    let outside = g.D.Desk.outside in
+    let began = c.begin.ensures.rest in
+    keeps_since (outside c.args.desk.now) (outside c.begin.new.desk) (outside c.converse-status.new.desk) began.attached began.name began.faults c.converse-status.ensures.rest
+
+pub returns-in-Ok-clause-cause : goal.returns-in-Ok-clause-cause
+returns-in-Ok-clause-cause g c =
+    let outside = g.D.Desk.outside in
+    cause_since c.converse-status.result (outside c.args.desk.now).faults (outside c.begin.new.desk).faults (outside c.converse-status.new.desk).faults c.begin.ensures.rest.faults c.calls.ensures.rose_since c.converse-status.ensures.cause
