@@ -1,5 +1,5 @@
 //! What a command does between its roles and its last line.
-ghost use Rattle.std.specs.Prelude.{◌≡◌, ℕ, Bool, List, Option};
+ghost use Rattle.std.specs.Prelude.{ℕ, Bool, List, Option};
 ghost use Rattle.h263_outside.specs.declared.desk.Role.{Role};
 ghost use Rattle.desk_program.specs.Run.{Run, run_from};
 ghost use Rattle.desk_program.specs.Ends.{HasCause, HasEnded, IsLater, IsReadOut, KeepsRoles};
