@@ -334,7 +334,7 @@ module _ (p : Params) where
     follow_same : (plain : Bool) (step : Step CallState) (a b : CallState → (Role → ℕ) → Run) → Keeps plain step
         → ((next : CallState) → IsOnWay plain next → (taken : Role → ℕ) → a next taken ≡ b next taken) → follow step a ≡ follow step b
     follow_same plain (Goes next turn) a b keeps same =
-        ap (λ (run : Run). let both : Run = record { turns = turn ∷ run.turns; last = run.last } in both) (same next keeps turn.taken)
+        ap (λ (run : Run). let longer_run : Run = record { turns = turn ∷ run.turns; last = run.last } in longer_run) (same next keeps turn.taken)
     follow_same plain (Ends last) a b keeps same = refl
 
     same_run : (turns : ℕ) (plain : Bool) (s : CallState) (inputs : Role → List ℕ) → IsOnWay plain s → run_of talk_step turns s inputs ≡ run_of call_step turns s inputs

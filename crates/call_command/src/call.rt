@@ -118,7 +118,8 @@ impl Acts for Call {
 
     type Setup = Terms;
 
-    ghost run = { λ t inputs. run_from (call_begin t inputs) call_step (most_turns t.plain) inputs };
+    ghost run = { λ t inputs. run_from (call_begin t inputs) call_step (most_turns t.plain)
+        inputs };
 
     ghost opens = { CallOpens };
 

@@ -97,7 +97,8 @@ impl<'a> Turns for World<'a> {
 /// receiver has played nothing, but may have heard anything. No frame and no line was read yet.
 ///
 /// It is the call by both ends, behind whatever the receiver had heard (`gives`). With a receiver
-/// that had heard nothing it is the ideal call, which goes on with a run that is under way (`alone`).
+/// that had heard nothing it is the ideal call, which goes on with a run that is under way
+/// (`alone`).
 pub fn converse<D: Desk>(
     alloc: Global,
     desk: &mut D,

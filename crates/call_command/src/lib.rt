@@ -2,8 +2,8 @@
 //! trace says, or nothing.
 //!
 //! `specs/Call` says what it does with each frame of the video or each line of the trace, by the
-//! ideal call of `call_model`. [`Call`] begins both ends and lends them to [`converse`], which takes
-//! the events, whatever the receiver had heard before.
+//! ideal call of `call_model`. [`Call`] begins both ends and lends them to [`converse`], which
+//! takes the events, whatever the receiver had heard before.
 #![tactic(auto)]
 
 mod call;

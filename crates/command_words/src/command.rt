@@ -25,8 +25,8 @@ pub enum Command {
         seed: u32,
         frames: u32,
     },
-    /// The meter of a log: a target of 1 to 999,999 bytes per picture, and a bucket of 999,999 bytes
-    /// at most.
+    /// The meter of a log: a target of 1 to 999,999 bytes per picture, and a bucket of 999,999
+    /// bytes at most.
     Rate {
         target: u32,
         bucket: u32,

@@ -11,8 +11,8 @@ use h263_outside::Desk;
 use make_input::TraceMaker;
 use std::alloc::Global;
 
-/// The machine of a call on made input: what it was asked for, the lines of its trace that are left,
-/// both ends, and what carries the call between them. It must be finished.
+/// The machine of a call on made input: what it was asked for, the lines of its trace that are
+/// left, both ends, and what carries the call between them. It must be finished.
 pub struct Demo {
     terms: DemoTerms,
     lines: TraceMaker,
@@ -109,7 +109,8 @@ impl Acts for Demo {
 
     type Setup = DemoTerms;
 
-    ghost run = { λ setup inputs. run_from (demo_begin setup inputs) demo_step (most_turns setup) inputs };
+    ghost run = { λ setup inputs. run_from (demo_begin setup inputs) demo_step (most_turns setup)
+        inputs };
 
     ghost opens = { DemoOpens };
 

@@ -6,7 +6,8 @@ ghost use Rattle.h263_outside.specs.declared.desk.Role.TheVariants.{Report};
 ghost use Rattle.desk_program.specs.Ends.{Tells, HasEnded, silent, HasCause, IsReadOut, Gains};
 ghost use Rattle.desk_program.specs.Attached.{AreAttached, AttachedAt, are_free, names};
 ghost use Rattle.desk_program.specs.Lines.{end_text};
-ghost use Rattle.desk_program.specs.Promises.{IsSettled, IsStopped, IsUnopened, IsNotUsage, HasStatus, HasTexts, HasPrefixes, TakesInput};
+ghost use Rattle.desk_program.specs.Promises.{IsSettled, IsStopped, IsUnopened, IsNotUsage};
+ghost use Rattle.desk_program.specs.Promises.{HasStatus, HasTexts, HasPrefixes, TakesInput};
 
 use crate::{Acts, attach_all, finish};
 use call_report::Status;
@@ -23,12 +24,16 @@ fn play<D: Desk, A: Acts>(
 ) -> Status
     requires report { AreAttached ((Report, []) ∷ []) (D.outside desk.old) }
     requires free { IsTrue (are_free (with_role (λ _. false) Report true) (names order.now)) }
-    requires opens { (now : Outside) → AreAttached ((Report, []) ∷ names order.now) now → A.opens setup.now now.attached }
+    requires opens { (now : Outside) → AreAttached ((Report, []) ∷ names order.now) now
+        → A.opens setup.now now.attached }
     ensures gives { (inputs : Role → List ℕ) → Tells (D.outside desk.old) inputs →
-        HasEnded (A.run setup.now inputs) silent result inputs (D.outside desk.old).written (D.outside desk.new) }
+        HasEnded (A.run setup.now inputs) silent result inputs (D.outside desk.old).written
+        (D.outside desk.new) }
     ensures words { IsNotUsage result }
-    ensures unopened { IsUnopened result → (D.outside desk.new).written ≡ (D.outside desk.old).written }
-    ensures whole_input { (inputs : Role → List ℕ) → Tells (D.outside desk.old) inputs → IsReadOut result (A.source setup.now) (D.outside desk.new) }
+    ensures unopened { IsUnopened result → (D.outside desk.new).written ≡
+        (D.outside desk.old).written }
+    ensures whole_input { (inputs : Role → List ℕ) → Tells (D.outside desk.old) inputs
+        → IsReadOut result (A.source setup.now) (D.outside desk.new) }
     ensures cause { HasCause result (D.outside desk.old).faults (D.outside desk.new).faults }
     ensures attached { AttachedAt ((Report, []) ∷ names order.now) result (D.outside desk.new) }
     ensures report { (D.outside desk.new).attached Report ≡ true }
@@ -50,34 +55,46 @@ pub fn perform<D: Desk, A: Acts>(
 ) -> Status
     requires report { AreAttached ((Report, []) ∷ []) (D.outside desk.old) }
     requires free { IsTrue (are_free (with_role (λ _. false) Report true) (names order.now)) }
-    requires opens { (now : Outside) → AreAttached ((Report, []) ∷ names order.now) now → A.opens setup.now now.attached }
+    requires opens { (now : Outside) → AreAttached ((Report, []) ∷ names order.now) now
+        → A.opens setup.now now.attached }
 
     // With no fault of the desk the status is that of the run, or want of memory.
     ensures status { (inputs : Role → List ℕ) → Tells (D.outside desk.old) inputs →
-        HasStatus (A.run setup.now inputs) result (D.outside desk.old).faults (D.outside desk.new).faults }
+        HasStatus (A.run setup.now inputs) result (D.outside desk.old).faults
+        (D.outside desk.new).faults }
 
     // After `Ok` and a refusal the status is that one, and exactly its texts were written.
-    ensures texts { (inputs : Role → List ℕ) → Tells (D.outside desk.old) inputs → IsSettled result →
-        HasTexts (A.run setup.now inputs) (end_text) result (D.outside desk.old).written (D.outside desk.new).written }
+    ensures texts { (inputs : Role → List ℕ) → Tells (D.outside desk.old) inputs
+        → IsSettled result →
+        HasTexts (A.run setup.now inputs) (end_text) result (D.outside desk.old).written
+        (D.outside desk.new).written }
 
-    // After `OutOfMemory`, `ReadFault` and `WriteFault` a front of each text was written, and the report in whole lines.
-    ensures prefixes { (inputs : Role → List ℕ) → Tells (D.outside desk.old) inputs → IsStopped result →
-        HasPrefixes (A.run setup.now inputs) (end_text) result (D.outside desk.old).written (D.outside desk.new).written }
+    // After `OutOfMemory`, `ReadFault` and `WriteFault` a front of each text was written, and the
+    // report in whole lines.
+    ensures prefixes { (inputs : Role → List ℕ) → Tells (D.outside desk.old) inputs
+        → IsStopped result →
+        HasPrefixes (A.run setup.now inputs) (end_text) result (D.outside desk.old).written
+        (D.outside desk.new).written }
 
     // It never answers `Usage`. Where a role could not be attached, its line alone was written.
     ensures words { IsNotUsage result }
-    ensures unopened { IsUnopened result → Gains (end_text result) (D.outside desk.old).written (D.outside desk.new).written }
+    ensures unopened { IsUnopened result → Gains (end_text result) (D.outside desk.old).written
+        (D.outside desk.new).written }
 
-    // Each fault has its cause, and the first roles of the order are attached by their names, whatever the desk tells.
+    // Each fault has its cause, and the first roles of the order are attached by their names,
+    // whatever the desk tells.
     ensures causes { HasCause result (D.outside desk.old).faults (D.outside desk.new).faults }
     ensures attached { AttachedAt ((Report, []) ∷ names order.now) result (D.outside desk.new) }
 
     // `Ok` says that the input was read to its end.
-    ensures whole_input { (inputs : Role → List ℕ) → Tells (D.outside desk.old) inputs → IsReadOut result (A.source setup.now) (D.outside desk.new) }
+    ensures whole_input { (inputs : Role → List ℕ) → Tells (D.outside desk.old) inputs
+        → IsReadOut result (A.source setup.now) (D.outside desk.new) }
 
-    // Just what the run takes is gone; after `ReadFault` the outputs are those of what was taken whole.
+    // Just what the run takes is gone; after `ReadFault` the outputs are those of what was taken
+    // whole.
     ensures taken_input { (inputs : Role → List ℕ) → Tells (D.outside desk.old) inputs →
-        TakesInput result (A.run setup.now inputs) (end_text) inputs (D.outside desk.old).written (D.outside desk.new) }
+        TakesInput result (A.run setup.now inputs) (end_text) inputs (D.outside desk.old).written
+        (D.outside desk.new) }
 {
     calls();
     let status = play::<D, A>(alloc, setup, order, desk);

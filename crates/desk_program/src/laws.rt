@@ -1,5 +1,5 @@
-//! How the reads and writes of one turn add up, and how a turn that refuses is answered. Each law is
-//! the contract of a function that does nothing.
+//! How the reads and writes of one turn add up, and how a turn that refuses is answered. Each law
+//! is the contract of a function that does nothing.
 ghost use Rattle.desk_program.specs.Laws.{RunLaws, TurnLaws};
 
 /// What the turns of a machine rest on that keeps such a state in mind.

@@ -1,7 +1,8 @@
 //! One loop for every command: a machine takes one event after another, over any desk.
 //!
-//! A command says in definitions what it does next, and how a machine in memory does that over a [`Desk`](h263_outside::Desk).
-//! What a run as a whole writes, takes and answers follows here, once for all commands.
+//! A command says in definitions what it does next, and how a machine in memory does that over a
+//! [`Desk`](h263_outside::Desk). What a run as a whole writes, takes and answers follows here, once
+//! for all commands.
 #![tactic(auto)]
 
 mod acts;

@@ -1,7 +1,7 @@
 //! A call of one flat picture, over its plain trace and over a recorded one: where call k of the
-//! desk fails, for each k up to the first that isn't made, the run ends with the fault of that call,
-//! with exactly that report, and with a front of the pictures. Where memory ran out the steps are
-//! taken again, and are then to reach their end.
+//! desk fails, for each k up to the first that isn't made, the run ends with the fault of that
+//! call, with exactly that report, and with a front of the pictures. Where memory ran out the steps
+//! are taken again, and are then to reach their end.
 ghost use Rattle.h263_types.specs.Params.{IsParams};
 ghost use Rattle.h263_outside.specs.Desk.{NoneAttached};
 
@@ -160,9 +160,9 @@ const NO_PICTURES: Status = Status::OpenFault {
     role: Role::Pictures,
 };
 
-// Three roles are attached; the head is read byte by byte and written; the frame's line is read byte
-// by byte, and its planes in five pieces; the picture's line, its planes in five pieces, and the
-// line of the report are written; the video's end is met, and the counts are written.
+// Three roles are attached; the head is read byte by byte and written; the frame's line is read
+// byte by byte, and its planes in five pieces; the picture's line, its planes in five pieces, and
+// the line of the report are written; the video's end is met, and the counts are written.
 const PLAIN: &[Stretch] = &[
     (0, 1, NO_REPORT, NOTHING),
     (1, 2, NO_VIDEO, b"cannot open video\n"),

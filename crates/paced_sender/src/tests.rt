@@ -1,5 +1,5 @@
-//! Two flat pictures with a target of 100 bytes: the first packet has 342, so the second picture has
-//! quantiser 17 in the place of 8.
+//! Two flat pictures with a target of 100 bytes: the first packet has 342, so the second picture
+//! has quantiser 17 in the place of 8.
 ghost use Rattle.std.specs.Prelude.{◌≡◌, length};
 ghost use Rattle.packet_cutter.specs.Cutting.{packets_of};
 

@@ -19,10 +19,13 @@ use rate_control::{Meter, Metered, Text, picture_text, totals_text};
 // Writes a line of the report.
 fn put_text<D: Desk>(desk: &mut D, text: &Text) -> Result<(), Status>
     requires { (D.outside desk.old).attached Report ≡ true }
-    ensures ok { OnOk result (Gains (on Report (text_of text.now)) (D.outside desk.old).written (D.outside desk.new).written) }
-    ensures err { OnErr result (GainsFronts (on Report (text_of text.now)) (D.outside desk.old).written (D.outside desk.new).written) }
+    ensures ok { OnOk result (Gains (on Report (text_of text.now)) (D.outside desk.old).written
+        (D.outside desk.new).written) }
+    ensures err { OnErr result (GainsFronts (on Report (text_of text.now))
+        (D.outside desk.old).written (D.outside desk.new).written) }
     ensures kind { IfErr result (λ status. status ≡ Status.WriteFault) }
-    ensures cause { OnErr result (Rose (D.outside desk.old).faults.write (D.outside desk.new).faults.write) }
+    ensures cause { OnErr result (Rose (D.outside desk.old).faults.write
+        (D.outside desk.new).faults.write) }
     ensures rest { OnlyWrites (D.outside desk.old) (D.outside desk.new) }
 {
     put(desk, Role::Report, text.text())
@@ -31,10 +34,13 @@ fn put_text<D: Desk>(desk: &mut D, text: &Text) -> Result<(), Status>
 // Writes the line of the picture that ended, if one did.
 fn tell<D: Desk>(desk: &mut D, metered: Metered) -> Result<(), Status>
     requires { (D.outside desk.old).attached Report ≡ true }
-    ensures ok { OnOk result (Gains (answer_text metered) (D.outside desk.old).written (D.outside desk.new).written) }
-    ensures err { OnErr result (GainsFronts (answer_text metered) (D.outside desk.old).written (D.outside desk.new).written) }
+    ensures ok { OnOk result (Gains (answer_text metered) (D.outside desk.old).written
+        (D.outside desk.new).written) }
+    ensures err { OnErr result (GainsFronts (answer_text metered) (D.outside desk.old).written
+        (D.outside desk.new).written) }
     ensures kind { IfErr result (λ status. status ≡ Status.WriteFault) }
-    ensures cause { OnErr result (Rose (D.outside desk.old).faults.write (D.outside desk.new).faults.write) }
+    ensures cause { OnErr result (Rose (D.outside desk.old).faults.write
+        (D.outside desk.new).faults.write) }
     ensures rest { OnlyWrites (D.outside desk.old) (D.outside desk.new) }
 {
     of_turns::<Mind>();
@@ -58,11 +64,14 @@ pub fn measure<D: Desk>(meter: &mut Meter, desk: &mut D, bytes: &[u8]) -> Result
     ensures stands { (packets : List (List ℕ)) → Stands meter.old packets
         → Stands meter.new (packets ++ bytes.now ∷ []) }
     ensures ok { (packets : List (List ℕ)) → Stands meter.old packets
-        → OnOk result (Gains (answer_text (metered meter.old.target packets bytes.now)) (D.outside desk.old).written (D.outside desk.new).written) }
+        → OnOk result (Gains (answer_text (metered meter.old.target packets bytes.now))
+        (D.outside desk.old).written (D.outside desk.new).written) }
     ensures err { (packets : List (List ℕ)) → Stands meter.old packets
-        → OnErr result (GainsFronts (answer_text (metered meter.old.target packets bytes.now)) (D.outside desk.old).written (D.outside desk.new).written) }
+        → OnErr result (GainsFronts (answer_text (metered meter.old.target packets bytes.now))
+        (D.outside desk.old).written (D.outside desk.new).written) }
     ensures kind { IfErr result (λ status. status ≡ Status.WriteFault) }
-    ensures cause { OnErr result (Rose (D.outside desk.old).faults.write (D.outside desk.new).faults.write) }
+    ensures cause { OnErr result (Rose (D.outside desk.old).faults.write
+        (D.outside desk.new).faults.write) }
     ensures rest { OnlyWrites (D.outside desk.old) (D.outside desk.new) }
 {
     let metered = meter.packet(bytes);
@@ -72,10 +81,13 @@ pub fn measure<D: Desk>(meter: &mut Meter, desk: &mut D, bytes: &[u8]) -> Result
 // Writes the line of the last picture, if there is one.
 fn tell_last<D: Desk>(desk: &mut D, last: Option<(u32, u64, u64)>) -> Result<(), Status>
     requires { (D.outside desk.old).attached Report ≡ true }
-    ensures ok { OnOk result (Gains (last_text last) (D.outside desk.old).written (D.outside desk.new).written) }
-    ensures err { OnErr result (GainsFronts (last_text last) (D.outside desk.old).written (D.outside desk.new).written) }
+    ensures ok { OnOk result (Gains (last_text last) (D.outside desk.old).written
+        (D.outside desk.new).written) }
+    ensures err { OnErr result (GainsFronts (last_text last) (D.outside desk.old).written
+        (D.outside desk.new).written) }
     ensures kind { IfErr result (λ status. status ≡ Status.WriteFault) }
-    ensures cause { OnErr result (Rose (D.outside desk.old).faults.write (D.outside desk.new).faults.write) }
+    ensures cause { OnErr result (Rose (D.outside desk.old).faults.write
+        (D.outside desk.new).faults.write) }
     ensures rest { OnlyWrites (D.outside desk.old) (D.outside desk.new) }
 {
     of_turns::<Mind>();
@@ -90,11 +102,14 @@ pub fn sum_up<D: Desk>(meter: Meter, desk: &mut D) -> Result<(), Status>
     requires report { (D.outside desk.old).attached Report ≡ true }
     requires meter { IsMeter meter }
     ensures ok { (packets : List (List ℕ)) → Stands meter packets
-        → OnOk result (Gains (closing_text (totals_of meter.target meter.bucket packets)) (D.outside desk.old).written (D.outside desk.new).written) }
+        → OnOk result (Gains (closing_text (totals_of meter.target meter.bucket packets))
+        (D.outside desk.old).written (D.outside desk.new).written) }
     ensures err { (packets : List (List ℕ)) → Stands meter packets
-        → OnErr result (GainsFronts (closing_text (totals_of meter.target meter.bucket packets)) (D.outside desk.old).written (D.outside desk.new).written) }
+        → OnErr result (GainsFronts (closing_text (totals_of meter.target meter.bucket packets))
+        (D.outside desk.old).written (D.outside desk.new).written) }
     ensures kind { IfErr result (λ status. status ≡ Status.WriteFault) }
-    ensures cause { OnErr result (Rose (D.outside desk.old).faults.write (D.outside desk.new).faults.write) }
+    ensures cause { OnErr result (Rose (D.outside desk.old).faults.write
+        (D.outside desk.new).faults.write) }
     ensures rest { OnlyWrites (D.outside desk.old) (D.outside desk.new) }
 {
     calls();

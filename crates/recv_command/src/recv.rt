@@ -30,7 +30,8 @@ pub struct Recv {
 impl Turns for Recv {
     ghost use Rattle.std.specs.Prelude.{◌-◌, true, Some};
     ghost use Rattle.h263_outside.specs.declared.desk.Role.TheVariants.{Events};
-    ghost use Rattle.recv_command.specs.Recv.{RecvState, recv_begin, recv_step, RecvStands, RecvOpens, RecvReady};
+    ghost use Rattle.recv_command.specs.Recv.{RecvState, recv_begin, recv_step, RecvStands};
+    ghost use Rattle.recv_command.specs.Recv.{RecvOpens, RecvReady};
 
     type Setup = Params;
 

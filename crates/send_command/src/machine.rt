@@ -201,7 +201,8 @@ impl Acts for Send {
 
     type Setup = Sending;
 
-    ghost run = { λ setup inputs. run_from (send_begin setup inputs) send_step most_entries inputs };
+    ghost run = { λ setup inputs. run_from (send_begin setup inputs) send_step most_entries
+        inputs };
 
     ghost opens = { CanSend };
 
