@@ -10,9 +10,11 @@ use Rattle.back_messages.specs.Text.{flags_of, flags_text, has_markers, marks_in
 
 -- ---- seven bits, the last one first
 
+-- seven bits, the last one first
 abbrev pub turned : ℕ → ℕ
 turned n = number (reverse (spelled 7 n))
 
+-- they are seven bits again
 pub turned_low : (n : ℕ) → turned n < 2 ^ 7
 turned_low n = subst (λ (k : ℕ). turned n < 2 ^ k) (length-reverse (spelled 7 n) ∙ length-spelled 7 n) (number-lt (reverse (spelled 7 n)))
 
@@ -50,6 +52,7 @@ code_spelled first second f s =
     ∙ ap (λ (t : List Bool). spelled 7 first ++ t) (spelled-append 1 7 1 second s ∙ ap (λ (t : List Bool). t ++ spelled 7 second) one)
     )
 
+-- the code of two bytes of flags is the text of their marks
 pub marks_text : (marks : ℕ) → spelled 16 (flags_code (turned marks) (turned (marks / 2 ^ 7))) ≡ flags_text (Some marks)
 marks_text marks =
     let a = reverse (spelled 7 marks) in

@@ -189,6 +189,7 @@ flags_spelt marks h =
 done_is : (v m : Message) → v ≡ m → Spells (done v) m []
 done_is v m is = subst (λ (x : Message). Spells (done x) m []) (sym is) (spells_done m)
 
+-- the text of a message spells it
 pub field_spells : (clock : Clock) (m : Message) → IsMessage clock m → Spells (message clock) m (message_text m)
 unfolding message message_text
 field_spells clock m h =
@@ -235,6 +236,7 @@ flags_are marks bits h = record {
   value = h.5.0;
 }
 
+-- what spells a message spells one in its ranges, and is its text
 pub spelled_field : (clock : Clock) (m : Message) (bits : List Bool) → Spells (message clock) m bits → IsRead clock m bits
 unfolding message Spells
 spelled_field clock m bits h =
@@ -257,6 +259,7 @@ flags_productive : IsProductive flags
 unfolding flags IsProductive
 flags_productive = λ n. tt
 
+-- a message takes a bit at least
 pub message_productive : (clock : Clock) → IsProductive (message clock)
 unfolding message IsProductive
 message_productive clock n = either_productive (is_long n) (part flags any (λ marks. done (message_value n (Some marks)))) (done (message_value n None)) (flags_productive, λ marks. tt) one

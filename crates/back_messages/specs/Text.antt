@@ -1,4 +1,5 @@
--- A back-channel message: type 2, URF 1, TR 10, marker 1, RTR 10, 24 bits in all; where URF is 1 two bytes of flags follow.
+-- A back-channel message: type 2, URF 1, TR 10, marker 1, RTR 10, 24 bits in all; where URF is 1
+-- two bytes of flags follow.
 use Rattle.std.specs.Prelude.{ℕ, ◌/◌, ◌%◌, ◌^◌, ◌<◌, List, [], ◌∷◌, ◌++◌, reverse, length, take, drop, Bool, true, false, Option, Some, None, Result, Ok, Err, nat_lt, nat_le, not, ◌==◌, ◌&&◌, if◌then◌else◌}
 use Rattle.h263_bits.specs.declared.fault.FaultKind.{FaultKind}
 use Rattle.h263_bits.specs.declared.fault.FaultKind.TheVariants as faults
@@ -82,7 +83,8 @@ is_long n = n / 2 ^ 21 % 2 == 1
 
 -- the first fault of the message's first 24 bits
 unfoldable pub message_fault : Clock → Bool → ℕ → Option MessageFault
-message_fault clock long n = fault_of clock long (n / 2 ^ 22) (n / 2 ^ 21 % 2) (n / 2 ^ 11 % 2 ^ 10) (n / 2 ^ 10 % 2) (n % 2 ^ 10)
+message_fault clock long n = fault_of clock long
+    (n / 2 ^ 22) (n / 2 ^ 21 % 2) (n / 2 ^ 11 % 2 ^ 10) (n / 2 ^ 10 % 2) (n % 2 ^ 10)
 
 -- the value of these bits with marks
 unfoldable pub message_value : ℕ → Option ℕ → Message
@@ -120,7 +122,8 @@ long_message clock n flags = unless (message_fault clock true n) (with_marks n (
 unfoldable pub message_in : Clock → List ℕ → Result Message MessageFault
 message_in clock bytes =
     if length bytes == 3 then short_message clock (number (bits_of bytes))
-    else if length bytes == 5 then long_message clock (number (bits_of (take 3 bytes))) (number (bits_of (drop 3 bytes)))
+    else if length bytes == 5
+    then long_message clock (number (bits_of (take 3 bytes))) (number (bits_of (drop 3 bytes)))
     else Err Length
 
 -- ---- a message in a header

@@ -1,8 +1,10 @@
+//! A message, and the ways in which bytes are none.
 use thiserror::Error;
 
-/// An acknowledgement of the picture with temporal reference `tr`, or the loss of it with `rtr` as the reference
-/// that is asked for. A temporal reference is at most 255, or 1,023 with a custom picture clock. In a message of
-/// version 2 bit j of `marks`, below 16,384, says that the picture after `tr` by j + 1 is complete.
+/// An acknowledgement of the picture with temporal reference `tr`, or the loss of it with `rtr` as
+/// the reference that is asked for. A temporal reference is at most 255, or 1,023 with a custom
+/// picture clock. In a message of version 2 bit j of `marks`, below 16,384, says that the picture
+/// after `tr` by j + 1 is complete.
 #[derive(Clone, Copy, Debug, PartialEq, Eq)]
 pub enum Message {
     Ack {

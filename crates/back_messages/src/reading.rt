@@ -1,3 +1,4 @@
+//! Messages read: from the bytes of a packet, and from the bits of a picture header.
 ghost use Rattle.std.specs.Prelude.{◌≡◌, ◌*◌, ◌+◌, ◌≤◌, ◌<◌, ◌^◌, ℕ, IfOk, IfSome, Ok, Option, reverse};
 ghost use Rattle.h263_bits.specs.Bits.{number, spelled};
 ghost use Rattle.h263_bits.specs.Reading.{Gives};
@@ -9,7 +10,7 @@ use crate::message::{Message, MessageFault};
 use h263_bits::{BitReader, Fault, FaultKind};
 use h263_types::Clock;
 
-/// What is wrong with a message's first 24 bits, if anything is. Two bytes follow in a long one.
+// What is wrong with a message's first 24 bits, if anything is. Two bytes follow in a long one.
 #[tactic(auto, unfolding(crate::specs::Text::message_fault))]
 fn fault_in(bits: u32, long: bool, clock: Clock) -> Option<MessageFault>
     requires { bits < 2 ^ 24 }
@@ -35,7 +36,7 @@ fn fault_in(bits: u32, long: bool, clock: Clock) -> Option<MessageFault>
     }
 }
 
-/// The message of 24 bits without a fault, with its marks.
+// The message of 24 bits without a fault, with its marks.
 #[tactic(auto, unfolding(crate::specs::Text::message_value))]
 fn value_in(bits: u32, marks: Option<u16>) -> Message
     requires { bits < 2 ^ 24 }
@@ -49,7 +50,7 @@ fn value_in(bits: u32, marks: Option<u16>) -> Message
     Message::Ack { tr, marks }
 }
 
-/// Seven bits, the last one first.
+// Seven bits, the last one first.
 pub(crate) fn turned(bits: u32) -> u32
     ensures value { result ≡ number (reverse (spelled 7 bits)) }
     ensures below { result < 2 ^ 7 }
@@ -61,7 +62,7 @@ pub(crate) fn turned(bits: u32) -> u32
     turned
 }
 
-/// The marks in two bytes of flags, unless a marker is 0.
+// The marks in two bytes of flags, unless a marker is 0.
 fn marks_from(flags: u32) -> Option<u16>
     requires { flags < 2 ^ 16 }
     ensures value { result ≡ marked flags }
@@ -76,7 +77,7 @@ fn marks_from(flags: u32) -> Option<u16>
     Some((turned(flags >> 8) + 128 * turned(flags)) as u16)
 }
 
-/// The message of three bytes.
+// The message of three bytes.
 fn short_from(bits: u32, clock: Clock) -> Result<Message, MessageFault>
     requires { bits < 2 ^ 24 }
     ensures { result ≡ short_message clock bits }
@@ -87,7 +88,7 @@ fn short_from(bits: u32, clock: Clock) -> Result<Message, MessageFault>
     Ok(value_in(bits, None))
 }
 
-/// The message of five bytes, of which the last two have the flags.
+// The message of five bytes, of which the last two have the flags.
 fn long_from(bits: u32, flags: u32, clock: Clock) -> Result<Message, MessageFault>
     requires bits { bits < 2 ^ 24 }
     requires flags { flags < 2 ^ 16 }
@@ -102,7 +103,7 @@ fn long_from(bits: u32, flags: u32, clock: Clock) -> Result<Message, MessageFaul
     }
 }
 
-/// Three bytes as a number.
+// Three bytes as a number.
 fn number_of(a: u8, b: u8, c: u8) -> u32
     ensures value { result ≡ a * 65536 + b * 256 + c }
     ensures below { result < 2 ^ 24 }
@@ -130,9 +131,10 @@ pub fn read(bytes: &[u8], clock: Clock) -> Result<Message, MessageFault>
     message_of(bytes, clock)
 }
 
-/// Reads the first 24 bits of a message.
+// Reads the first 24 bits of a message.
 fn read_first(reader: &mut BitReader<'_>, clock: Clock) -> Result<u32, Fault>
-    ensures reads { Gives (λ (n : ℕ). n) result reader.new (field_at 24 (is_message clock) reader.old) }
+    ensures reads { Gives
+        (λ (n : ℕ). n) result reader.new (field_at 24 (is_message clock) reader.old) }
     ensures below { IfOk result (λ n. n < 2 ^ 24) }
 {
     let at = reader.at();
@@ -144,7 +146,7 @@ fn read_first(reader: &mut BitReader<'_>, clock: Clock) -> Result<u32, Fault>
     Ok(bits)
 }
 
-/// Reads the two bytes of flags, and gives their marks.
+// Reads the two bytes of flags, and gives their marks.
 #[tactic(auto, unfolding(crate::specs::Text::flags, h263_bits::specs::Syntax::reading))]
 fn read_flags(reader: &mut BitReader<'_>) -> Result<u16, Fault>
     ensures reads { Gives (λ (n : ℕ). n) result reader.new (reading flags reader.old) }
@@ -170,9 +172,11 @@ fn message_at(reader: &mut BitReader<'_>, clock: Clock) -> Result<Message, Fault
     Ok(value_in(bits, Some(marks)))
 }
 
-/// Reads a message in a picture header, where URF gives its length and each fault is one (H.263, 5.1.17).
+/// Reads a message in a picture header, where URF gives its length and each fault is one (H.263,
+/// 5.1.17).
 pub fn read_message(reader: &mut BitReader<'_>, clock: Clock) -> Result<Message, Fault>
-    ensures reads { Gives (λ (m : Message). m) result reader.new (reading (message clock) reader.old) }
+    ensures reads { Gives
+        (λ (m : Message). m) result reader.new (reading (message clock) reader.old) }
     ensures range { IfOk result (IsMessage clock) }
 {
     message_at(reader, clock)

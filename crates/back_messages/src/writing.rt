@@ -1,3 +1,4 @@
+//! Messages written: to the bytes of a packet, and to the bits of a picture header.
 ghost use Rattle.std.specs.Prelude.{◌≡◌, ◌*◌, ◌+◌, ◌≤◌, ◌<◌, ◌^◌, ℕ, Ok, Some};
 ghost use Rattle.h263_bits.specs.Bits.{bits_of, fields, spelled};
 ghost use Rattle.h263_bits.specs.Written.{Appends, len_of, room_of};
@@ -39,7 +40,7 @@ fn urf(marks: Option<u16>) -> u32
     }
 }
 
-/// The first 24 bits of a message, by its type and temporal references.
+// The first 24 bits of a message, by its type and temporal references.
 fn code_from(kind: u32, tr: u16, rtr: u16, marks: Option<u16>) -> u32
     requires kind { kind < 4 }
     requires tr { tr < 2 ^ 10 }
@@ -50,7 +51,7 @@ fn code_from(kind: u32, tr: u16, rtr: u16, marks: Option<u16>) -> u32
     (kind << 22) + (urf(marks) << 21) + ((tr as u32) << 11) + (1 << 10) + rtr as u32
 }
 
-/// The first 24 bits of a message.
+// The first 24 bits of a message.
 fn first_code(message: &Message) -> u32
     requires { IsMessage Custom message.now }
     ensures text { spelled 24 result ≡ first_text message.now }
@@ -62,7 +63,7 @@ fn first_code(message: &Message) -> u32
     }
 }
 
-/// The 16 bits of a message's flags.
+// The 16 bits of a message's flags.
 fn flags_code(marks: u16) -> u32
     requires { marks < 2 ^ 14 }
     ensures text { spelled 16 result ≡ flags_text (Some marks) }
@@ -77,7 +78,8 @@ pub fn write(message: &Message) -> Said
     ensures text { bits_of (text_of result) ≡ message_text message.now }
     ensures len { 8 * result.len ≡ message_bits message.now }
     ensures filled { IsFilled result }
-    ensures again { (clock : Clock) → IsMessage clock message.now → message_in clock (text_of result) ≡ Ok message.now }
+    ensures again { (clock : Clock)
+        → IsMessage clock message.now → message_in clock (text_of result) ≡ Ok message.now }
 {
     let code = first_code(message);
     let first = (code >> 16) as u8;

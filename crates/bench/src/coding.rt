@@ -48,8 +48,8 @@ impl Coder {
         })
     }
 
-    /// Codes the next picture from the one before, or by itself: so is each 132nd, where the chain of a
-    /// sender that knows each picture is at its limit.
+    /// Codes the next picture from the one before, or by itself: so is each 132nd, where the chain
+    /// of a sender that knows each picture is at its limit.
     pub fn code(&mut self, frame: PictureRef<'_>, number: u32)
         requires { (picture frame).format ≡ self.old.params.format }
         ensures { self.new.params ≡ self.old.params }

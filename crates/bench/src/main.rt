@@ -1,11 +1,11 @@
-//! Times the parts of a call on the made video: `bench FRAMES [SLOTS]` codes, reads and plays so many
-//! frames in each format, with so many pictures kept at each end (16 if not told), and prints what a
-//! frame took in each part.
+//! Times the parts of a call on the made video: `bench FRAMES [SLOTS]` codes, reads and plays so
+//! many frames in each format, with so many pictures kept at each end (16 if not told), and prints
+//! what a frame took in each part.
 //!
 //! What is timed, in microseconds a frame: `code`, a picture coded whole ([`coding`]); `send`, the
-//! same by a sender; `read`, its packets read and reconstructed ([`reading`]); `receive`, the same by
-//! a receiver, with the play. So `send` over `code` and `receive` over `read` is what the ends add.
-//! Nothing is promised of these numbers. Of the code it is proved that it is safe.
+//! same by a sender; `read`, its packets read and reconstructed ([`reading`]); `receive`, the same
+//! by a receiver, with the play. So `send` over `code` and `receive` over `read` is what the ends
+//! add. Nothing is promised of these numbers. Of the code it is proved that it is safe.
 #![tactic(auto)]
 
 ghost use Rattle.std.specs.Prelude.{◌≤◌, IfOk, IfSome};

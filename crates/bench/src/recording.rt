@@ -16,7 +16,7 @@ use receiver_end::{Heard, Receiver};
 use sender_end::Sender;
 use std::alloc::Global;
 
-/// A picture's packets, and the message that acknowledges it.
+// A picture's packets, and the message that acknowledges it.
 #[derive(Drop)]
 struct Passed {
     packets: Vec<Vec<u8>>,

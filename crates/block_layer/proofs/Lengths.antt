@@ -85,5 +85,6 @@ coded_short levels long = at (none_left (drop 1 levels))
 intra_short : (levels : List ℤ) → length levels ≡ 64 → length (intra_text levels) ≤ 8 + 63 * 22
 intra_short levels long = omega (arith, intra_length levels, coded_short levels long)
 
+-- how many bits the texts of a block have at most
 pub are_short : AreShort
 are_short = record { intra = intra_short; inter = inter_short }

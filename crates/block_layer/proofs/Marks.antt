@@ -40,6 +40,7 @@ twice : (n : ℕ) → eqb (0 + 2 * n) 0 ≡ eqb n 0
 twice zero = refl
 twice (suc n) = ne_eqb (0 + 2 * suc n) 0 (λ e. omega (arith, e)) ∙ sym (ne_eqb (suc n) 0 (λ e. omega (arith, e)))
 
+-- no place is marked exactly where no level is left
 pub none_marked : (levels : List ℤ) → eqb (marks_of levels) 0 ≡ none_left levels
 unfolding marks_of
 none_marked [] = refl

@@ -21,6 +21,7 @@ use Rattle.block_layer.proofs.Turns.{at_place}
 use Rattle.block_layer.proofs.Steps.{none_inter}
 use Rattle.block_layer.proofs.Ranges.{no_levels_within}
 
+-- a level's size has seven bits
 pub size_is : (z : ℤ) → IsLevel z → size_of z < 128
 size_is (pos n) is = omega (arith, ints, is.low, is.high)
 size_is (negsuc n) is = omega (arith, ints, is.low, is.high)
@@ -108,6 +109,7 @@ inter_written tables b long is some =
     subst (λ (n : ℕ). Spells (repeat (at_place 0 (replicate n (pos 0))) event_turn) b.levels (levels_text 0 b.levels)) long
     (events_spelt tables [] b.levels 0 0 refl (omega arith) some (all_written b.levels (λ k lt. is.levels k (omega arith))))
 
+-- the text that is written of a block is one of its texts
 pub are_spelt : TableLaws → AreSpelt
 are_spelt tables = record { intra = intra_written tables; inter = inter_written tables }
 

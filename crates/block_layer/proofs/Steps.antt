@@ -37,6 +37,7 @@ pub intra_is : (levels : List ℤ) (dc : ℕ) → dc ≡ dc_code (level_at level
 unfolding intra_text
 intra_is levels dc is = ap (λ (n : ℕ). spelled 8 n ++ levels_text 1 levels) is ∙ ap (λ (l : List Bool). spelled 8 (dc_code (level_at levels 0)) ++ l) (sym (coded_is levels))
 
+-- an intra block's text is eight bits of INTRADC and the events
 pub intra_length : (levels : List ℤ) → length (intra_text levels) ≡ 8 + length (coded_text levels)
 unfolding intra_text
 intra_length levels = let dc = dc_code (level_at levels 0) in length-append (spelled 8 dc) (coded_text levels) ∙ ap (λ (n : ℕ). n + length (coded_text levels)) (length-spelled 8 dc)

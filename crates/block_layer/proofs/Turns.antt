@@ -32,6 +32,7 @@ placed_some : (place : ℕ) (x : Placed) → Spells (placed place) x [] → ⊥
 unfolding placed
 placed_some place x h = part_some event (is_inside place) _ x event_some h
 
+-- no event has an empty text
 pub turn_some : (t u : Events) → Spells (event_turn t) (again u) [] → ⊥
 unfolding event_turn
 turn_some t u h = part_some (placed t.place) any _ (again u) (placed_some t.place) h

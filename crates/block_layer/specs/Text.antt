@@ -30,7 +30,8 @@ placed place = part event (is_inside place) λ e. done (record { place = place +
 
 abbrev pub after_event : List ℤ → Placed → Turn Events (List ℤ)
 after_event levels p =
-    if p.last then finally (slice_set levels p.place p.level) else again (record { place = p.place + 1; levels = slice_set levels p.place p.level })
+    if p.last then finally (slice_set levels p.place p.level)
+    else again (record { place = p.place + 1; levels = slice_set levels p.place p.level })
 
 unfoldable pub event_turn : Events → Syntax (Turn Events (List ℤ))
 event_turn s = part (placed s.place) any λ p. done (after_event s.levels p)
@@ -86,10 +87,12 @@ inter_block_fault b = first_fault (reading inter_block b)
 abbrev pub none_left : List ℤ → Bool
 none_left zs = list_all is_zero zs
 
--- the events of levels in scan order, behind a run of zeros: one for each level that is not 0, with LAST 1 in the last alone
+-- the events of levels in scan order, behind a run of zeros: one for each level that is not 0, with
+-- LAST 1 in the last alone
 unfoldable pub events_of : ℕ → List ℤ → List Coefficient
 events_of run [] = []
-events_of run (z ∷ zs) = if is_zero z then events_of (run + 1) zs else (record { last = none_left zs; run = run; level = z } ∷ events_of 0 zs)
+events_of run (z ∷ zs) = if is_zero z then events_of (run + 1) zs
+    else (record { last = none_left zs; run = run; level = z } ∷ events_of 0 zs)
 
 -- the texts of events one after the other
 unfoldable pub events_text : List Coefficient → List Bool

@@ -1,7 +1,15 @@
 //! Blocks: INTRADC and the events of TCOEF, read and written (H.263, 5.4).
 //!
-//! `specs/Text` gives the syntax of a block and the text that is written of its levels. A reader finds exactly what the
-//! syntax says, or the first fault at its place.
+//! `specs/Text` gives the syntax of a block and the text that is written of its levels. A reader
+//! finds exactly what the syntax says, or the first fault at its place. A block is a
+//! [`Block`](h263_types::Block), whose levels stand in the zigzag order.
+//!
+//! ```rust
+//! let mut block = Block { levels: [7; 64] };
+//! // INTRADC 128, then (0, 0, 1) and, behind 61 zeros, the last level as an escape
+//! read_intra(&mut reader_of("11111111 100 0000011 1 111101 00000001"), true, &mut block)?;
+//! assert_eq!(rt; (block.levels[0], block.levels[1], block.levels[63]), (128, 1, 1));
+//! ```
 #![tactic(auto)]
 
 pub mod laws;

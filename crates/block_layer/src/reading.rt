@@ -44,7 +44,8 @@ fn read_placed(reader: &mut BitReader<'_>, place: usize) -> Result<Placed, Fault
 // Events from a place on, up to the one with LAST 1.
 fn read_events(reader: &mut BitReader<'_>, from: usize, levels: &mut [i16; 64]) -> Result<(), Fault>
     requires { from ≤ 64 }
-    ensures { Gives (λ _. levels.new) result reader.new (reading (events from levels.old) reader.old) }
+    ensures { Gives
+        (λ _. levels.new) result reader.new (reading (events from levels.old) reader.old) }
 {
     let mut place = from;
     'events: loop {
@@ -82,7 +83,8 @@ fn read_dc(reader: &mut BitReader<'_>) -> Result<[i16; 64], Fault>
 
 #[tactic(auto, unfolding(crate::specs::Text::intra_block, h263_bits::specs::Syntax::reading))]
 fn intra_at(reader: &mut BitReader<'_>, coded: bool, out: &mut Block) -> Result<(), Fault>
-    ensures { Gives (λ _. out.new.levels) result reader.new (reading (intra_block coded) reader.old) }
+    ensures { Gives
+        (λ _. out.new.levels) result reader.new (reading (intra_block coded) reader.old) }
 {
     out.levels = read_dc(reader)?;
     if !coded {
@@ -99,29 +101,34 @@ fn inter_at(reader: &mut BitReader<'_>, out: &mut Block) -> Result<(), Fault>
     read_events(reader, 0, &mut out.levels)
 }
 
-/// Reads a block of an intra macroblock: INTRADC, and its events where it is `coded` (H.263, 5.4). After a fault
-/// `out` is left open.
+/// Reads a block of an intra macroblock: INTRADC, and its events where it is `coded` (H.263, 5.4).
+/// After a fault `out` is left open.
 pub fn read_intra(reader: &mut BitReader<'_>, coded: bool, out: &mut Block) -> Result<(), Fault>
     // What is read is spelled by the bits that were taken.
-    ensures found { IfOk result (λ _. Takes reader.old reader.new (IsIntraText coded out.new.levels)) }
+    ensures found { IfOk result (λ _.
+        Takes reader.old reader.new (IsIntraText coded out.new.levels)) }
     // What is spelled is read, whatever follows.
-    ensures only { (levels : List ℤ) (text rest : List Bool) → IsIntraText coded levels text → reader.old.bits ≡ text ++ rest
+    ensures only { (levels : List ℤ) (text rest : List Bool)
+        → IsIntraText coded levels text → reader.old.bits ≡ text ++ rest
         → IsOkAnd result (λ _. (out.new.levels ≡ levels) × (reader.new.bits ≡ rest)) }
     // Otherwise it is the first fault, at its place.
     ensures fault { first_fault result ≡ intra_block_fault coded reader.old }
-    ensures exact { Gives (λ _. out.new.levels) result reader.new (reading (intra_block coded) reader.old) }
+    ensures exact { Gives
+        (λ _. out.new.levels) result reader.new (reading (intra_block coded) reader.old) }
     ensures range { IfOk result (λ _. IsIntraBlock out.new) }
 {
     in_a_syntax();
     intra_at(reader, coded, out)
 }
 
-/// Reads the events of a coded block of an inter macroblock (H.263, 5.4.2). After a fault `out` is left open.
+/// Reads the events of a coded block of an inter macroblock (H.263, 5.4.2). After a fault `out` is
+/// left open.
 pub fn read_inter(reader: &mut BitReader<'_>, out: &mut Block) -> Result<(), Fault>
     // What is read is spelled by the bits that were taken.
     ensures found { IfOk result (λ _. Takes reader.old reader.new (IsInterText out.new.levels)) }
     // What is spelled is read, whatever follows.
-    ensures only { (levels : List ℤ) (text rest : List Bool) → IsInterText levels text → reader.old.bits ≡ text ++ rest
+    ensures only { (levels : List ℤ) (text rest : List Bool)
+        → IsInterText levels text → reader.old.bits ≡ text ++ rest
         → IsOkAnd result (λ _. (out.new.levels ≡ levels) × (reader.new.bits ≡ rest)) }
     // Otherwise it is the first fault, at its place.
     ensures fault { first_fault result ≡ inter_block_fault reader.old }

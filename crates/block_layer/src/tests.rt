@@ -7,7 +7,7 @@ use h263_bits::{BitReader, BitWriter, Fault, FaultKind};
 use h263_types::Block;
 use std::test::Fail;
 
-/// Puts a text of zeros and ones into bytes. Answers where it ends.
+// Puts a text of zeros and ones into bytes. Answers where it ends.
 fn put_text(bytes: &mut [u8; 16], text: &str) -> u32
     ensures { result ≤ 128 }
 {
@@ -21,7 +21,7 @@ fn put_text(bytes: &mut [u8; 16], text: &str) -> u32
     place
 }
 
-/// The levels of a block of an intra macroblock, or of an inter macroblock, or the fault.
+// The levels of a block of an intra macroblock, or of an inter macroblock, or the fault.
 fn read_text(intra: bool, coded: bool, text: &str) -> Result<[i16; 64], Fault> {
     let mut bytes = [0; 16];
     let end = put_text(&mut bytes, text);
@@ -35,7 +35,7 @@ fn read_text(intra: bool, coded: bool, text: &str) -> Result<[i16; 64], Fault> {
     Ok(block.levels)
 }
 
-/// Writes a block. Answers how many bits were written.
+// Writes a block. Answers how many bits were written.
 fn written(intra: bool, block: &Block, out: &mut [u8; 256]) -> u32
     requires intra { intra ≡ true → IsIntraBlock block.now }
     requires inter { intra ≡ false → IsInterBlock block.now }
@@ -50,7 +50,8 @@ fn written(intra: bool, block: &Block, out: &mut [u8; 256]) -> u32
     writer.len()
 }
 
-/// Reads the block of a text of so many bits and writes it again. Answers how many bits were written.
+// Reads the block of a text of so many bits and writes it again. Answers how many bits were
+// written.
 fn rewritten(
     intra: bool,
     coded: bool,
@@ -70,7 +71,7 @@ fn rewritten(
     Ok(written(intra, &block, out))
 }
 
-/// (0, 0, 1), (0, 5, -20) as an escape, and (1, 0, -1) at the last place but six.
+// (0, 0, 1), (0, 5, -20) as an escape, and (1, 0, -1) at the last place but six.
 #[test]
 fn events_of_a_block(rt: HostRuntime) -> Result<(), Fail> {
     let levels = read_text(
@@ -140,7 +141,7 @@ fn first_faults(rt: HostRuntime) {
     }
 }
 
-/// A triple with a word is written by its word, and any other as an escape.
+// A triple with a word is written by its word, and any other as an escape.
 #[test]
 fn read_and_written(rt: HostRuntime) -> Result<(), Fail> {
     let table = [

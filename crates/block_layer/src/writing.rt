@@ -46,9 +46,11 @@ pub fn is_inter_coded(block: &Block) -> bool
 fn write_levels(writer: &mut BitWriter<'_>, block: &Block, from: usize)
     requires from { from < 64 }
     requires levels { AreWritten from block.now.levels }
-    requires room { len_of writer.old + length (levels_text from block.now.levels) ≤ room_of writer.old }
+    requires room { len_of writer.old + length (levels_text from block.now.levels)
+        ≤ room_of writer.old }
     ensures bits { Appends writer.old writer.new (levels_text from block.now.levels) }
-    ensures len { len_of writer.new ≡ len_of writer.old + length (levels_text from block.now.levels) }
+    ensures len { len_of writer.new
+        ≡ len_of writer.old + length (levels_text from block.now.levels) }
     ensures whole { length block.now.levels ≡ 64 }
 {
     let mut left = block.marks() >> from;
@@ -74,15 +76,16 @@ fn dc_bits(block: &Block) -> u32
     block.levels[0].unsigned_abs() as u32
 }
 
-/// Writes a block of an intra macroblock: INTRADC, and its events where another level isn't 0 (H.263, 5.4).
-/// There is room for its text, at most 1,394 bits.
+/// Writes a block of an intra macroblock: INTRADC, and its events where another level isn't 0
+/// (H.263, 5.4). There is room for its text, at most 1,394 bits.
 #[tactic(auto, unfolding(crate::specs::Text::intra_text))]
 pub fn write_intra(writer: &mut BitWriter<'_>, block: &Block)
     requires block { IsIntraBlock block.now }
     requires room { len_of writer.old + length (intra_text block.now.levels) ≤ room_of writer.old }
     ensures bits { Appends writer.old writer.new (intra_text block.now.levels) }
     // It is a text of the block, which is coded exactly where a level other than INTRADC isn't 0.
-    ensures spells { IsIntraText (is_coded block.now.levels) block.now.levels (intra_text block.now.levels) }
+    ensures spells { IsIntraText
+        (is_coded block.now.levels) block.now.levels (intra_text block.now.levels) }
     ensures len { len_of writer.new ≡ len_of writer.old + length (intra_text block.now.levels) }
 {
     in_a_syntax();
@@ -90,8 +93,8 @@ pub fn write_intra(writer: &mut BitWriter<'_>, block: &Block)
     write_levels(writer, block, 1);
 }
 
-/// Writes a coded block of an inter macroblock: the events of its levels, of which one at least isn't 0
-/// (H.263, 5.4.2). There is room for its text, at most 1,408 bits.
+/// Writes a coded block of an inter macroblock: the events of its levels, of which one at least
+/// isn't 0 (H.263, 5.4.2). There is room for its text, at most 1,408 bits.
 #[tactic(auto, unfolding(crate::specs::Text::inter_text))]
 pub fn write_inter(writer: &mut BitWriter<'_>, block: &Block)
     requires block { IsInterBlock block.now }

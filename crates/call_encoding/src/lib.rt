@@ -2,8 +2,13 @@
 //! pictures, choice and cut by them, packets and messages. Nothing is done at run time.
 //!
 //! The definitions are in `specs/`: `Frame`, and `encoding`, which is the `Encoding` of
-//! `call_model` for a call's parameters. `laws` has what the laws of a call ask of it. `Framed`
+//! `call_model` for a call's parameters. `laws` has what the laws of a call ask of it. [`Framed`]
 //! names the type of frames at which those laws are called.
+//!
+//! ```rust
+//! // a function that owes that its packets are those of the encoding cites the law in its body
+//! call_encoding::laws::written_packets();
+//! ```
 #![tactic(auto)]
 
 pub mod laws;

@@ -202,6 +202,7 @@ module _ {Frame Style Mb Picture Fault MessageFault : Type 0} (coding : Coding F
     sound_event past Play = tt
     sound_event past (Back k) = tt
 
+    -- each event of a call by the encoder is sound
     pub all_sound : (past : List Event) → AllSound coding.decoding rules (encoded coding rules pace frames) (packets_of coding.encoding rules) past
     all_sound [] = tt
     all_sound (e ∷ past) = (sound_event past e, all_sound past)

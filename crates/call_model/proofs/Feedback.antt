@@ -38,6 +38,7 @@ module _ (rules : Rules) (ruled : IsRules rules) where
       go false e is rest = rest is
       go true e is rest = elim (or_cases (eqb x m) (is_among (filter (λ q. ltb q sent) xs) m) is) [ inl same ↦ omega (arith, ltb-true _ _ e, eqb-true x m same) | inr later ↦ rest later ]
 
+  -- what feedback makes known was sent
   pub feedback_below : (sent m : ℕ) (reading : Option Message) → is_among (known_by_feedback rules sent reading) m ≡ true → m < sent
   unfolding made_known
   feedback_below sent m None is = absurd (false≢true is)

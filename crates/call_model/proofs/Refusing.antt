@@ -125,5 +125,6 @@ module _ {Style Mb Picture : Type 0} (pictures : Pictures Style Mb Picture) (rul
   back [] near = refl
   back (e ∷ past) near = and_from _ _ ((one_event past e).1 near.0) (back past near.1)
 
+  -- the events pass the checks exactly where each is near
   pub passed_where_near : PassedWhereNear pictures rules source count
   passed_where_near past = (forth past, back past)

@@ -27,7 +27,9 @@ abbrev pub play_at : {Picture : Type 0} → List (Shown Picture) → ℕ → Opt
 play_at [] n = None
 play_at (x ∷ shown) n = if length shown == n then Some x else play_at shown n
 
-module _ {Frame Style Mb Picture Fault MessageFault : Type 0} (coding : Coding Frame Style Mb Picture Fault MessageFault) (rules : Rules) (pace : List ℕ → ℕ) (frames : List Frame) where
+module _ {Frame Style Mb Picture Fault MessageFault : Type 0}
+    (coding : Coding Frame Style Mb Picture Fault MessageFault)
+    (rules : Rules) (pace : List ℕ → ℕ) (frames : List Frame) where
   -- the ideal call before an event, after these
   abbrev pub call_after : List Event → Call Style Mb Picture
   call_after past = ideal coding rules pace frames past
@@ -50,7 +52,8 @@ module _ {Frame Style Mb Picture Fault MessageFault : Type 0} (coding : Coding F
 
   -- the reference of picture n, none where it is coded intra or was not sent
   abbrev pub reference_of : List Event → ℕ → Option ℕ
-  reference_of past n = option_and_then (λ (x : Coded Style Mb Picture). x.reference) (slice_get (call_after past).coded n)
+  reference_of past n = option_and_then
+      (λ (x : Coded Style Mb Picture). x.reference) (slice_get (call_after past).coded n)
 
   -- the length of its chain of references
   abbrev pub depth_of : List Event → ℕ → ℕ
@@ -75,7 +78,8 @@ module _ {Frame Style Mb Picture Fault MessageFault : Type 0} (coding : Coding F
   -- the slice at place j of picture n was delivered while n was open
   abbrev pub WasDelivered : List Event → ℕ → ℕ → Type 0
   WasDelivered [] n j = ⊥
-  WasDelivered (Deliver m i ∷ past) n j = ((m ≡ n) × (i ≡ j) × IsOpen rules past n × (j < slices_before past n)) ⊎ WasDelivered past n j
+  WasDelivered (Deliver m i ∷ past) n j =
+      ((m ≡ n) × (i ≡ j) × IsOpen rules past n × (j < slices_before past n)) ⊎ WasDelivered past n j
   WasDelivered (_ ∷ past) n j = WasDelivered past n j
 
   -- the pictures that the call has sent and played are the events that did so
@@ -92,7 +96,8 @@ module _ {Frame Style Mb Picture Fault MessageFault : Type 0} (coding : Coding F
   -- shows what decoding gives of it
   abbrev pub ExactWhereFull : Type 0
   ExactWhereFull = (past : List Event) → let n = played_before past in
-      ((mark_of (Play ∷ past) n ≡ Some Exact) ↔ IsFull past n) × (IsFull past n → shown (Play ∷ past) n ≡ reconstruction_of past n)
+      ((mark_of (Play ∷ past) n ≡ Some Exact) ↔ IsFull past n)
+      × (IsFull past n → shown (Play ∷ past) n ≡ reconstruction_of past n)
 
   -- what a play showed stays
   abbrev pub ShownStays : Type 0
@@ -102,10 +107,12 @@ module _ {Frame Style Mb Picture Fault MessageFault : Type 0} (coding : Coding F
   -- a picture that was sent keeps its reference, its depth and its reconstruction
   abbrev pub CodedStays : Type 0
   CodedStays = (past : List Event) (e : Event) (n : ℕ) → n < length (call_after past).coded →
-      (reference_of (e ∷ past) n ≡ reference_of past n) × (depth_of (e ∷ past) n ≡ depth_of past n) × (reconstruction_of (e ∷ past) n ≡ reconstruction_of past n)
+      (reference_of (e ∷ past) n ≡ reference_of past n) × (depth_of (e ∷ past) n ≡ depth_of past n)
+      × (reconstruction_of (e ∷ past) n ≡ reconstruction_of past n)
 
 -- what the call says of events depends on the frames that they send alone
-abbrev pub SentFramesAlone : {Frame Style Mb Picture Fault MessageFault : Type 0} → Coding Frame Style Mb Picture Fault MessageFault → Rules → Type 0
+abbrev pub SentFramesAlone : {Frame Style Mb Picture Fault MessageFault : Type 0}
+    → Coding Frame Style Mb Picture Fault MessageFault → Rules → Type 0
 SentFramesAlone {Frame} {Style} {Mb} {Picture} {Fault} {MessageFault} coding rules =
     (pace : List ℕ → ℕ) (frames others : List Frame) (past : List Event) →
     ((i : ℕ) → i < sent_before past → slice_get frames i ≡ slice_get others i)

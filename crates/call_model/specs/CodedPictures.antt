@@ -31,7 +31,8 @@ module _ {Style Mb Picture : Type 0} where
   abbrev pub picture_at : List (Coded Style Mb Picture) → ℕ → Option Picture
   picture_at coded n = option_map (λ x. x.picture) (slice_get coded n)
 
-module _ {Frame Style Mb Picture MessageFault : Type 0} (pictures : Pictures Style Mb Picture) (encoding : Encoding Frame Style Mb Picture MessageFault) where
+module _ {Frame Style Mb Picture MessageFault : Type 0} (pictures : Pictures Style Mb Picture)
+    (encoding : Encoding Frame Style Mb Picture MessageFault) where
   -- a frame coded with this quantiser, after these pictures, with the reference of this number
   unfoldable pub capture : ℕ → Frame → List (Coded Style Mb Picture) → Option ℕ → Coded Style Mb Picture
   capture quant frame coded reference =
@@ -39,4 +40,10 @@ module _ {Frame Style Mb Picture MessageFault : Type 0} (pictures : Pictures Sty
       let style = encoding.style frame (is_some reference) depth quant in
       let before = option_and_then (λ m. picture_at coded m) reference in
       let mbs = encoding.choice frame before style in
-      record { reference = reference; depth = depth; style = style; slices = encoding.cut style mbs; picture = reconstruction pictures style before mbs }
+      record {
+        reference = reference;
+        depth = depth;
+        style = style;
+        slices = encoding.cut style mbs;
+        picture = reconstruction pictures style before mbs;
+      }

@@ -8,7 +8,8 @@ use Rattle.call_model.specs.JoinedRun.{IsNearBoth, AllNearBoth, joined, new_rece
 use Rattle.call_model.specs.Sound.{delivery_answer}
 use Rattle.call_model.specs.Lawful.{IsPace}
 
-module _ {Frame Style Mb Picture Fault MessageFault : Type 0} (coding : Coding Frame Style Mb Picture Fault MessageFault) (rules : Rules) where
+module _ {Frame Style Mb Picture Fault MessageFault : Type 0}
+    (coding : Coding Frame Style Mb Picture Fault MessageFault) (rules : Rules) where
   -- the sender's packets are answered as the ideal call says
   abbrev pub PacketsAreAnswered : Type 0
   PacketsAreAnswered = (pace : List ℕ → ℕ) (frames : List Frame) (past : List Event) (n j : ℕ) (bytes : List ℕ) →
@@ -28,4 +29,5 @@ module _ {Frame Style Mb Picture Fault MessageFault : Type 0} (coding : Coding F
   -- so for all events
   abbrev pub AllNearIsAllNearBoth : Type 0
   AllNearIsAllNearBoth = (pace : List ℕ → ℕ) (frames : List Frame) (past : List Event) →
-      IsPace pace → AllNear coding rules pace frames past ↔ AllNearBoth coding rules (new_receiver coding rules) pace frames past
+      IsPace pace → AllNear coding rules pace frames past
+      ↔ AllNearBoth coding rules (new_receiver coding rules) pace frames past

@@ -30,7 +30,8 @@ module _ {Style Mb Picture Fault : Type 0} (decoding : Decoding Style Mb Picture
   -- the number of the picture that a packet is of, where it comes after so many plays, has no fault
   -- and is of the call's picture clock
   unfoldable pub number_at : ℕ → List ℕ → Option ℕ
-  number_at played bytes = option_map_or (λ piece. piece_number rules played piece) (result_ok (decoding.read bytes)) None
+  number_at played bytes = option_map_or
+      (λ piece. piece_number rules played piece) (result_ok (decoding.read bytes)) None
 
   -- the packet is one of picture n
   unfoldable pub is_own : ℕ → ℕ → List ℕ → Bool
@@ -39,7 +40,8 @@ module _ {Style Mb Picture Fault : Type 0} (decoding : Decoding Style Mb Picture
   -- the entries without the packets of n
   abbrev pub others : ℕ → List ReceiverEntry → List ReceiverEntry
   others n [] = []
-  others n (Packet bytes ∷ past) = if is_own n (played_after past) bytes then others n past else Packet bytes ∷ others n past
+  others n (Packet bytes ∷ past) =
+      if is_own n (played_after past) bytes then others n past else Packet bytes ∷ others n past
   others n (PlayNext ∷ past) = PlayNext ∷ others n past
 
   -- the packets of n
@@ -55,7 +57,8 @@ module _ {Style Mb Picture Fault : Type 0} (decoding : Decoding Style Mb Picture
   InPlace n reference (Packet bytes ∷ past) =
       (is_own n (played_after past) bytes ≡ true →
       (played_after past ≤ n) × (n ≤ played_after past + rules.lead)
-      × ((m : ℕ) → reference ≡ Some m → (n ≤ m + window rules) × (is_complete rules.mbs (receiver_run decoding rules past).taken m ≡ true)))
+      × ((m : ℕ) → reference ≡ Some m → (n ≤ m + window rules)
+      × (is_complete rules.mbs (receiver_run decoding rules past).taken m ≡ true)))
       × InPlace n reference past
   InPlace n reference (PlayNext ∷ past) = InPlace n reference past
 
@@ -74,7 +77,8 @@ module _ {Style Mb Picture Fault : Type 0} (decoding : Decoding Style Mb Picture
 
   -- the packets of n have one header, their slices are the same or apart, and each comes while n is
   -- open and its reference is there
-  pub record AreOfOne (n : ℕ) (header : Header Style) (reference : Option ℕ) (entries : List ReceiverEntry) : Type 0 where
+  pub record AreOfOne (n : ℕ)
+      (header : Header Style) (reference : Option ℕ) (entries : List ReceiverEntry) : Type 0 where
     pub in_place : InPlace n reference entries
     pub headers : (bytes : List ℕ) → IsIn bytes (own n entries) → HasPiece bytes (λ piece. piece.header ≡ header)
     pub slices : (a b : List ℕ) → IsIn a (own n entries) → IsIn b (own n entries)
@@ -89,12 +93,14 @@ module _ {Style Mb Picture Fault : Type 0} (decoding : Decoding Style Mb Picture
   -- the reference of picture n is the number that its header names, where it names one
   abbrev pub IsNamed : ℕ → Header Style → Option ℕ → Type 0
   IsNamed n header reference =
-      (reference ≡ option_and_then (nearest_below rules n) header.reference) × (is_some reference ≡ is_some header.reference)
+      (reference ≡ option_and_then (nearest_below rules n) header.reference)
+      × (is_some reference ≡ is_some header.reference)
 
   -- after two lists the next play shows the same, with the same mark
   abbrev pub NextPlayIsSame : List ReceiverEntry → List ReceiverEntry → Type 0
   NextPlayIsSame a b =
-      played_shown decoding rules (receiver_run decoding rules a) ≡ played_shown decoding rules (receiver_run decoding rules b)
+      played_shown decoding rules (receiver_run decoding rules a)
+      ≡ played_shown decoding rules (receiver_run decoding rules b)
 
   -- Let two lists of what came before the play of picture n differ in packets of n, and let these be
   -- of one header. Then each play up to the play of n shows the same, with the same mark.

@@ -49,13 +49,15 @@ module _ {Style Mb Picture Fault : Type 0} (decoding : Decoding Style Mb Picture
     pub has : (k : ℕ) → k < rules.mbs → t.has n k ≡ (has_mb piece.slice k || r.has n k)
     pub drawn : (s : ℕ) → decoding.pictures.owner s < rules.mbs → has_mb piece.slice (decoding.pictures.owner s) ≡ true
         → decoding.pictures.sample (t.work n) s
-        ≡ decoding.pictures.reconstructed_sample piece.header.style (reference_picture r n piece.header) (mb_at decoding.pictures.skip piece.slice (decoding.pictures.owner s)) s
+        ≡ decoding.pictures.reconstructed_sample piece.header.style (reference_picture r
+        n piece.header) (mb_at decoding.pictures.skip piece.slice (decoding.pictures.owner s)) s
     pub left : (s : ℕ) → decoding.pictures.owner s < rules.mbs → has_mb piece.slice (decoding.pictures.owner s) ≡ false
         → decoding.pictures.sample (t.work n) s ≡ decoding.pictures.sample (r.work n) s
     pub rows : (m : ℕ) → IsInRow r m → (m ≡ n → ⊥)
         → (t.header m ≡ r.header m) × ((k : ℕ) → k < rules.mbs → t.has m k ≡ r.has m k) × (t.work m ≡ r.work m)
     pub part : completes r n piece ≡ false
-        → (t.kept (n % rules.slots) ≡ r.kept (n % rules.slots)) × (t.picture (n % rules.slots) ≡ r.picture (n % rules.slots))
+        → (t.kept (n % rules.slots) ≡ r.kept (n % rules.slots))
+        × (t.picture (n % rules.slots) ≡ r.picture (n % rules.slots))
     pub whole : completes r n piece ≡ true
         → (t.kept (n % rules.slots) ≡ Some n)
         × (t.picture (n % rules.slots) ≡ decoding.pictures.picture_of (λ s. decoding.pictures.sample (t.work n) s))
@@ -105,7 +107,8 @@ module _ {Style Mb Picture Fault : Type 0} (decoding : Decoding Style Mb Picture
   abbrev pub HeardByKept : Type 0
   HeardByKept = (r : Receiver Style Picture) (entries : List ReceiverEntry) (bytes : List ℕ) →
       ReceiverStands decoding rules r entries
-      → heard_by_kept r (decoding.read bytes) ≡ heard decoding rules (receiver_run decoding rules entries) (decoding.read bytes)
+      → heard_by_kept r (decoding.read bytes)
+      ≡ heard decoding rules (receiver_run decoding rules entries) (decoding.read bytes)
 
   -- so are the mark, the picture and the message of a play
   abbrev pub PlayByKept : Type 0
@@ -127,7 +130,8 @@ module _ {Style Mb Picture Fault : Type 0} (decoding : Decoding Style Mb Picture
 
   -- a slice that is taken
   abbrev pub SliceStands : Type 0
-  SliceStands = (r t : Receiver Style Picture) (entries : List ReceiverEntry) (bytes : List ℕ) (piece : Piece Style Mb) (n : ℕ) →
+  SliceStands = (r t : Receiver Style Picture)
+      (entries : List ReceiverEntry) (bytes : List ℕ) (piece : Piece Style Mb) (n : ℕ) →
       ReceiverStands decoding rules r entries → decoding.read bytes ≡ Ok piece
       → nearest rules r.played piece.header.number ≡ Some n → is_taking (heard_by_kept r (Ok piece)) ≡ true
       → IsAfterSlice r t n piece → ReceiverStands decoding rules t (Packet bytes ∷ entries)
@@ -141,7 +145,8 @@ module _ {Style Mb Picture Fault : Type 0} (decoding : Decoding Style Mb Picture
   CompleteStays = (entries : List ReceiverEntry) (e : ReceiverEntry) (m : ℕ) →
       is_complete rules.mbs (receiver_run decoding rules entries).taken m ≡ true
       → (is_complete rules.mbs (receiver_run decoding rules (e ∷ entries)).taken m ≡ true)
-      × (decoded decoding rules (receiver_run decoding rules (e ∷ entries)).taken m ≡ decoded decoding rules (receiver_run decoding rules entries).taken m)
+      × (decoded decoding rules (receiver_run decoding rules (e ∷ entries)).taken m
+      ≡ decoded decoding rules (receiver_run decoding rules entries).taken m)
 
   -- all slices that were taken of one picture have one header
   abbrev pub OneHeader : Type 0
@@ -165,4 +170,5 @@ module _ {Style Mb Picture Fault : Type 0} (decoding : Decoding Style Mb Picture
   abbrev pub DecodedInTheEnd : Type 0
   DecodedInTheEnd = (entries : List ReceiverEntry) (n s : ℕ) →
       let taken = (receiver_run decoding rules entries).taken in
-      decoding.pictures.owner s < rules.mbs → has_taken taken n (decoding.pictures.owner s) ≡ true → IsDecodedBy taken n s
+      decoding.pictures.owner s < rules.mbs
+      → has_taken taken n (decoding.pictures.owner s) ≡ true → IsDecodedBy taken n s

@@ -30,7 +30,8 @@ first_refusal rules pictures sent played abouts (Deliver n j) =
 first_refusal rules pictures sent played abouts Play =
     if nat_le sent played then Some PlayBeforeSend else None
 first_refusal rules pictures sent played abouts (Back k) =
-    option_map_or (λ t. if nat_le (t + rules.half) sent then Some (Far t sent) else None) (slice_get abouts k) (Some NotSaid)
+    option_map_or (λ t. if nat_le (t + rules.half) sent then Some (Far t sent) else None)
+    (slice_get abouts k) (Some NotSaid)
 
 -- the first refusal of an event after a call
 abbrev pub refusal_in : {Style Mb Picture : Type 0} → Rules → ℕ → Call Style Mb Picture → Event → Option Refusal
@@ -42,10 +43,12 @@ NoneWhereNear rules Style Mb Picture = (pictures : ℕ) (c : Call Style Mb Pictu
     (refusal_in rules pictures c e ≡ None) ↔ IsNear rules pictures c e
 
 -- so it is by what both ends have done
-abbrev pub NoneWhereNearBoth : {Frame Style Mb Picture Fault MessageFault : Type 0} → Coding Frame Style Mb Picture Fault MessageFault → Rules → Type 0
+abbrev pub NoneWhereNearBoth : {Frame Style Mb Picture Fault MessageFault : Type 0}
+    → Coding Frame Style Mb Picture Fault MessageFault → Rules → Type 0
 NoneWhereNearBoth {Frame} {Style} {Mb} {Picture} {Fault} {MessageFault} coding rules =
     (frames : List Frame) (both : Joined Style Mb Picture) (e : Event) →
-    (first_refusal rules (length frames) (length both.sender.coded) both.receiver.played (map (λ (told : Told). told.about) both.said) e ≡ None)
+    (first_refusal rules (length frames) (length both.sender.coded) both.receiver.played
+    (map (λ (told : Told). told.about) both.said) e ≡ None)
     ↔ IsNearBoth coding rules frames both e
 
 -- a call, and whether none of its events was refused
@@ -53,7 +56,8 @@ pub record Checked (Style Mb Picture : Type 0) : Type 0 where
   pub call : Call Style Mb Picture
   pub passed : Bool
 
-module _ {Style Mb Picture : Type 0} (pictures : Pictures Style Mb Picture) (rules : Rules) (source : Source Style Mb Picture) (count : ℕ) where
+module _ {Style Mb Picture : Type 0} (pictures : Pictures Style Mb Picture)
+    (rules : Rules) (source : Source Style Mb Picture) (count : ℕ) where
   abbrev pub checked_event : Checked Style Mb Picture → Event → Checked Style Mb Picture
   checked_event j e = record {
     call = after pictures rules source j.call e;
@@ -67,4 +71,5 @@ module _ {Style Mb Picture : Type 0} (pictures : Pictures Style Mb Picture) (rul
 
   -- none of the events was refused exactly where each is near
   abbrev pub PassedWhereNear : Type 0
-  PassedWhereNear = (past : List Event) → ((checked_call past).passed ≡ true) ↔ AllNearFrom pictures rules source count past
+  PassedWhereNear = (past : List Event)
+      → ((checked_call past).passed ≡ true) ↔ AllNearFrom pictures rules source count past

@@ -33,7 +33,8 @@ pub record IsAfterFeedback {Picture : Type 0} (rules : Rules) (s t : Sender Pict
   pub known : (m : ℕ) → m < s.sent → s.sent ≤ m + rules.slots
       → t.known (m % rules.slots) ≡ (is_among numbers m || s.known (m % rules.slots))
 
-module _ {Frame Style Mb Picture MessageFault : Type 0} (pictures : Pictures Style Mb Picture) (encoding : Encoding Frame Style Mb Picture MessageFault) (rules : Rules) where
+module _ {Frame Style Mb Picture MessageFault : Type 0} (pictures : Pictures Style Mb Picture)
+    (encoding : Encoding Frame Style Mb Picture MessageFault) (rules : Rules) where
   -- the next picture, by what the sender keeps
   unfoldable pub next_by_kept : (List ℕ → ℕ) → Frame → Sender Picture → Coded Style Mb Picture
   next_by_kept pace frame s =
@@ -42,7 +43,13 @@ module _ {Frame Style Mb Picture MessageFault : Type 0} (pictures : Pictures Sty
       let style = encoding.style frame (is_some reference) depth (pace s.sizes) in
       let before = option_map (λ m. s.picture (m % rules.slots)) reference in
       let mbs = encoding.choice frame before style in
-      record { reference = reference; depth = depth; style = style; slices = encoding.cut style mbs; picture = reconstruction pictures style before mbs }
+      record {
+        reference = reference;
+        depth = depth;
+        style = style;
+        slices = encoding.cut style mbs;
+        picture = reconstruction pictures style before mbs;
+      }
 
   -- What a capture leaves: the new picture takes its slot and is not known, and no other slot
   -- changes.

@@ -58,16 +58,23 @@ pub record SmallStyle : Type 0 where
 -- packet of two macroblocks is read too, but not sent.
 abbrev pub small_packet : Header SmallStyle → Slice SmallMb → List ℕ
 small_packet header slice =
-    header.number ∷ option_word header.reference ∷ header.half ∷ header.style.depth ∷ header.style.quant ∷ slice.first ∷ mb_words (slice_index_or slice.mbs 0 Same)
+    header.number ∷ option_word header.reference ∷ header.half ∷ header.style.depth
+    ∷ header.style.quant ∷ slice.first ∷ mb_words (slice_index_or slice.mbs 0 Same)
 
 -- a header, and macroblocks from this place on, where they are within the picture
 abbrev pub small_piece : Header SmallStyle → ℕ → List SmallMb → Result (Piece SmallStyle SmallMb) SmallFault
 small_piece header place mbs =
-    if nat_le (place + length mbs) 2 then Ok (record { header = header; slice = record { first = place; mbs = mbs } }) else Err Unread
+    if nat_le (place + length mbs) 2 then Ok
+    (record { header = header; slice = record { first = place; mbs = mbs } }) else Err Unread
 
 abbrev pub small_header : (number reference half depth quant : ℕ) → Header SmallStyle
 small_header number reference half depth quant =
-    record { number = number; reference = word_option reference; half = half; style = record { depth = depth; quant = quant } }
+    record {
+      number = number;
+      reference = word_option reference;
+      half = half;
+      style = record { depth = depth; quant = quant };
+    }
 
 abbrev pub small_read : List ℕ → Result (Piece SmallStyle SmallMb) SmallFault
 small_read (number ∷ reference ∷ half ∷ depth ∷ quant ∷ place ∷ []) =
@@ -114,8 +121,10 @@ small_decoding = record {
 abbrev pub small_encoding : Encoding Two SmallStyle SmallMb Two SmallFault
 small_encoding = record {
   style = λ frame predicted depth quant. record { depth = depth; quant = quant };
-  choice = λ frame reference style. small_choice frame.left (option_map (λ two. two.left) reference) ∷ small_choice frame.right (option_map (λ two. two.right) reference) ∷ [];
-  cut = λ style mbs. record { first = 0; mbs = slice_index_or mbs 0 Same ∷ [] } ∷ record { first = 1; mbs = slice_index_or mbs 1 Same ∷ [] } ∷ [];
+  choice = λ frame reference style. small_choice frame.left (option_map (λ two. two.left) reference)
+      ∷ small_choice frame.right (option_map (λ two. two.right) reference) ∷ [];
+  cut = λ style mbs. record { first = 0; mbs = slice_index_or mbs 0 Same ∷ [] }
+      ∷ record { first = 1; mbs = slice_index_or mbs 1 Same ∷ [] } ∷ [];
   packets = λ n sequence header slices. map (small_packet header) slices;
   write_message = small_message;
   read_message = small_read_message;

@@ -11,9 +11,11 @@ use Rattle.call_model.specs.TwoStores.{travelling, MatchArrivals, CompleteAreFul
 
 -- A picture is sound where it is sent: its slices cover it, it is what decoding gives of them, and
 -- its reference, if it has one, is in the window and known to be full.
-pub record IsSoundPicture {Style Mb Picture : Type 0} (pictures : Pictures Style Mb Picture) (rules : Rules) (c : Call Style Mb Picture) (x : Coded Style Mb Picture) : Type 0 where
+pub record IsSoundPicture {Style Mb Picture : Type 0} (pictures : Pictures Style Mb Picture)
+    (rules : Rules) (c : Call Style Mb Picture) (x : Coded Style Mb Picture) : Type 0 where
   pub covers : Covers rules.mbs x.slices
-  pub picture : x.picture ≡ reconstruction_of_slices pictures x.style (option_and_then (picture_at c.coded) x.reference) x.slices
+  pub picture : x.picture ≡ reconstruction_of_slices pictures x.style
+      (option_and_then (picture_at c.coded) x.reference) x.slices
   pub reference : (m : ℕ) → x.reference ≡ Some m → (length c.coded ≤ m + window rules) × (is_among c.known m ≡ true)
 
 -- the packets of the picture n of a call
@@ -22,9 +24,11 @@ Packets Style Mb Picture = List (Coded Style Mb Picture) → ℕ → List (List 
 
 -- what a delivery of the picture's slice at place j hands over: bytes that are read as that slice
 -- with the picture's header, and nothing where there is no such slice
-pub record IsPacket {Style Mb Picture Fault : Type 0} (decoding : Decoding Style Mb Picture Fault) (rules : Rules) (packets : List (List ℕ)) (n j : ℕ) (x : Coded Style Mb Picture) : Type 0 where
+pub record IsPacket {Style Mb Picture Fault : Type 0} (decoding : Decoding Style Mb Picture Fault)
+    (rules : Rules) (packets : List (List ℕ)) (n j : ℕ) (x : Coded Style Mb Picture) : Type 0 where
   pub read_as : (slice : Slice Mb) → slice_get x.slices j ≡ Some slice
-      → (bytes : List ℕ) × (slice_get packets j ≡ Some bytes) × (decoding.read bytes ≡ Ok (record { header = header_of rules n x; slice = slice }))
+      → (bytes : List ℕ) × (slice_get packets j ≡ Some bytes)
+      × (decoding.read bytes ≡ Ok (record { header = header_of rules n x; slice = slice }))
   pub no_other : slice_get x.slices j ≡ None → slice_get packets j ≡ None
 
 -- The receiver's answer to a delivery, by the ideal call.
@@ -41,7 +45,8 @@ delivery_answer rules c n j =
 unfoldable pub play_message : {Style Mb Picture : Type 0} → Rules → Call Style Mb Picture → Option Message
 play_message rules c =
     if is_full c.coded c.arrivals c.played then None
-    else Some (nack rules c.played (newest_full rules c.coded c.arrivals c.played) (full_flags rules c.coded c.arrivals c.played))
+    else Some (nack rules c.played (newest_full rules c.coded c.arrivals c.played)
+    (full_flags rules c.coded c.arrivals c.played))
 
 module _ {Style Mb Picture Fault : Type 0} (decoding : Decoding Style Mb Picture Fault) (rules : Rules) where
   -- the receiver is where the call is: it has played as much and shows the same, has taken what has
@@ -96,11 +101,13 @@ module _ {Style Mb Picture Fault : Type 0} (decoding : Decoding Style Mb Picture
   pub record IsUnderstood (c : Call Style Mb Picture) (note : Note) : Type 0 where
     pub in_period : IsInPeriod rules (travelling rules note)
     pub flags : length (message_flags (travelling rules note)) ≡ rules.flags
-    pub known : length c.coded < about note + rules.half → made_known rules (length c.coded) (travelling rules note) ≡ Some (told_full note)
+    pub known : length c.coded < about note + rules.half
+        → made_known rules (length c.coded) (travelling rules note) ≡ Some (told_full note)
 
   -- A receiver in a near call of any sound sender is where the call is, answers and plays as the
   -- call says, and its messages are understood.
-  pub record FollowsTheCall (source : Source Style Mb Picture) (packets : Packets Style Mb Picture) (count : ℕ) (past : List Event) : Type 0 where
+  pub record FollowsTheCall (source : Source Style Mb Picture)
+      (packets : Packets Style Mb Picture) (count : ℕ) (past : List Event) : Type 0 where
     pub state : ReceiverIsAt (call_from decoding.pictures rules source past) (received source packets past)
     pub answers : AnswersAsTheCall source packets count past
     pub plays : PlaysAsTheCall source packets count past
@@ -108,8 +115,10 @@ module _ {Style Mb Picture Fault : Type 0} (decoding : Decoding Style Mb Picture
         → IsUnderstood (call_from decoding.pictures rules source past) note
 
   abbrev pub AnySoundSender : Type 0
-  AnySoundSender = (source : Source Style Mb Picture) (packets : Packets Style Mb Picture) (count : ℕ) (past : List Event) →
-      AllNearFrom decoding.pictures rules source count past → AllSound source packets past → FollowsTheCall source packets count past
+  AnySoundSender = (source : Source Style Mb Picture)
+      (packets : Packets Style Mb Picture) (count : ℕ) (past : List Event) →
+      AllNearFrom decoding.pictures rules source count past
+      → AllSound source packets past → FollowsTheCall source packets count past
 
 -- the answer refuses the packet
 abbrev pub is_refused : {Fault : Type 0} → Heard Fault → Bool
@@ -122,10 +131,12 @@ is_refused _ = false
 
 -- what a call says is no refusal
 abbrev pub NoneRefused : Type 0 → Type 0 → Type 0 → Type 0 → Type 0
-NoneRefused Style Mb Picture Fault = (rules : Rules) (c : Call Style Mb Picture) (n j : ℕ) → is_refused {Fault = Fault} (delivery_answer rules c n j) ≡ false
+NoneRefused Style Mb Picture Fault = (rules : Rules) (c : Call Style Mb Picture) (n j : ℕ)
+    → is_refused {Fault = Fault} (delivery_answer rules c n j) ≡ false
 
 -- the encoder's pictures are sound, and its packets are theirs, whatever the events
-abbrev pub EncoderIsSound : {Frame Style Mb Picture Fault MessageFault : Type 0} → Coding Frame Style Mb Picture Fault MessageFault → Rules → Type 0
+abbrev pub EncoderIsSound : {Frame Style Mb Picture Fault MessageFault : Type 0}
+    → Coding Frame Style Mb Picture Fault MessageFault → Rules → Type 0
 EncoderIsSound {Frame} {Style} {Mb} {Picture} {Fault} {MessageFault} coding rules =
     (pace : List ℕ → ℕ) (frames : List Frame) (past : List Event) → IsPace pace
     → AllSound coding.decoding rules (encoded coding rules pace frames) (packets_of coding.encoding rules) past

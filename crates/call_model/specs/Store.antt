@@ -8,7 +8,8 @@ use Rattle.call_model.specs.Receiving.{TakenSlice, ReceiverRun, has_taken, is_co
 module _ {Style Mb Picture Fault : Type 0} (decoding : Decoding Style Mb Picture Fault) (rules : Rules) where
   -- what a slot of the store holds: the greatest complete number with this rest modulo slots
   unfoldable pub slot_of : ReceiverRun Style Mb Picture → ℕ → Option ℕ
-  slot_of run rest = greatest (λ m. is_complete rules.mbs run.taken m && (m % rules.slots == rest)) (run.played + rules.lead + 1)
+  slot_of run rest = greatest (λ m. is_complete rules.mbs run.taken m && (m % rules.slots == rest))
+      (run.played + rules.lead + 1)
 
   -- the slot of m holds m
   abbrev pub is_kept : ReceiverRun Style Mb Picture → ℕ → Bool
@@ -27,7 +28,8 @@ module _ {Style Mb Picture Fault : Type 0} (decoding : Decoding Style Mb Picture
   -- a complete picture in the window of an open one is in its slot
   abbrev pub ReferencesAreKept : Type 0
   ReferencesAreKept = (entries : List ReceiverEntry) (n m : ℕ) → let run = receiver_run decoding rules entries in
-      run.played ≤ n → n ≤ m + window rules → is_complete rules.mbs run.taken m ≡ true → slot_of run (m % rules.slots) ≡ Some m
+      run.played ≤ n → n ≤ m + window rules
+      → is_complete rules.mbs run.taken m ≡ true → slot_of run (m % rules.slots) ≡ Some m
 
   -- looking into one slot tells whether the reference of an open picture is complete
   abbrev pub ViewTells : Type 0
@@ -37,7 +39,8 @@ module _ {Style Mb Picture Fault : Type 0} (decoding : Decoding Style Mb Picture
   -- looking into the slots finds the number that a NACK offers
   abbrev pub SlotsTellOffer : Type 0
   SlotsTellOffer = (entries : List ReceiverEntry) → let run = receiver_run decoding rules entries in
-      greatest (λ m. is_kept run m && nat_lt run.played (m + rules.slots)) (run.played + rules.lead + 1) ≡ offer rules run.taken run.played
+      greatest (λ m. is_kept run m && nat_lt run.played (m + rules.slots))
+      (run.played + rules.lead + 1) ≡ offer rules run.taken run.played
 
   -- looking into the slots finds the flags of a message about an open picture
   abbrev pub SlotsTellFlags : Type 0
@@ -51,6 +54,7 @@ module _ {Style Mb Picture Fault : Type 0} (decoding : Decoding Style Mb Picture
       let run = receiver_run decoding rules entries in
       let after = record run { taken = taken } in
       run.played ≤ n → n ≤ run.played + rules.lead → is_complete rules.mbs taken n ≡ true
-      → ((m : ℕ) → m < run.played + rules.lead + 1 → (m ≡ n → ⊥) → is_complete rules.mbs taken m ≡ is_complete rules.mbs run.taken m)
+      → ((m : ℕ) → m < run.played + rules.lead + 1
+      → (m ≡ n → ⊥) → is_complete rules.mbs taken m ≡ is_complete rules.mbs run.taken m)
       → (slot_of after (n % rules.slots) ≡ Some n)
       × ((rest : ℕ) → (rest ≡ n % rules.slots → ⊥) → slot_of after rest ≡ slot_of run rest)

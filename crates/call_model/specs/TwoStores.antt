@@ -18,7 +18,9 @@ told_of write rules note = record { about = about note; bytes = write (travellin
 
 -- The two ends have done what the ideal call says: the sender's pictures with their references, the
 -- numbers that it knows, the messages that the receiver said, and each play with its mark.
-pub record Agree {Frame Style Mb Picture Fault MessageFault : Type 0} (coding : Coding Frame Style Mb Picture Fault MessageFault) (rules : Rules) (c : Call Style Mb Picture) (both : Joined Style Mb Picture) : Type 0 where
+pub record Agree {Frame Style Mb Picture Fault MessageFault : Type 0}
+    (coding : Coding Frame Style Mb Picture Fault MessageFault)
+    (rules : Rules) (c : Call Style Mb Picture) (both : Joined Style Mb Picture) : Type 0 where
   pub pictures : both.sender.coded ≡ c.coded
   pub known : both.sender.known ≡ c.known
   pub played : both.receiver.played ≡ c.played
@@ -27,7 +29,8 @@ pub record Agree {Frame Style Mb Picture Fault MessageFault : Type 0} (coding : 
 
 -- the receiver took this slice for this arrival: the slice of that place, with the header of its
 -- own picture
-pub record IsTakenFor {Style Mb Picture : Type 0} (rules : Rules) (coded : List (Coded Style Mb Picture)) (a : Arrival) (t : TakenSlice Style Mb) : Type 0 where
+pub record IsTakenFor {Style Mb Picture : Type 0} (rules : Rules)
+    (coded : List (Coded Style Mb Picture)) (a : Arrival) (t : TakenSlice Style Mb) : Type 0 where
   pub number : t.number ≡ a.number
   pub picture : Coded Style Mb Picture
   pub is_coded : slice_get coded a.number ≡ Some picture
@@ -67,7 +70,8 @@ module _ {Style Mb Picture Fault : Type 0} (decoding : Decoding Style Mb Picture
       (n : ℕ) (x : Coded Style Mb Picture) → slice_get c.coded n ≡ Some x → is_full c.coded c.arrivals n ≡ true
       → decoded decoding rules taken n ≡ x.picture
 
-module _ {Frame Style Mb Picture Fault MessageFault : Type 0} (coding : Coding Frame Style Mb Picture Fault MessageFault) (rules : Rules) where
+module _ {Frame Style Mb Picture Fault MessageFault : Type 0}
+    (coding : Coding Frame Style Mb Picture Fault MessageFault) (rules : Rules) where
   -- The two ends have done what the ideal call says, and the five statements hold that carry this
   -- from event to event.
   pub record EndsFollow (c : Call Style Mb Picture) (both : Joined Style Mb Picture) : Type 0 where

@@ -48,7 +48,8 @@ ends_of scene = joined small scene.rules (new_receiver small scene.rules) scene.
 -- each event is near
 abbrev pub all_near : Scene → Bool
 all_near scene =
-    (checked_call small_pictures scene.rules (encoded small scene.rules scene.pace scene.frames) (length scene.frames) (reverse scene.events)).passed
+    (checked_call small_pictures scene.rules (encoded small scene.rules scene.pace scene.frames)
+    (length scene.frames) (reverse scene.events)).passed
 
 -- a scene whose rules and pace meet what the laws ask
 pub record IsScene (scene : Scene) : Type 0 where
@@ -90,7 +91,9 @@ abbrev pub heard_in : Rules → (List ℕ → ℕ) → List Two → List Event �
 heard_in rules pace frames [] = []
 heard_in rules pace frames (Deliver n j ∷ past) =
     let both = joined small rules (new_receiver small rules) pace frames past in
-    option_map_or (λ bytes. heard small.decoding rules both.receiver (small.decoding.read bytes) ∷ []) (slice_get (packets_of small.encoding rules both.sender.coded n) j) [] ++ heard_in rules pace frames past
+    option_map_or (λ bytes. heard small.decoding rules both.receiver (small.decoding.read bytes)
+    ∷ []) (slice_get (packets_of small.encoding rules both.sender.coded n) j) []
+    ++ heard_in rules pace frames past
 heard_in rules pace frames (e ∷ past) = heard_in rules pace frames past
 
 -- the receiver's answers, the oldest first
@@ -251,12 +254,14 @@ abbrev pub ScenesAreLawful : Type 0
 ScenesAreLawful =
     IsScene window_scene × IsScene offer_scene × IsScene far_offer_scene × IsScene chain_scene × IsScene late_scene
     × IsScene shuffled_scene × IsScene patched_scene × IsScene wrap_scene × IsScene newer_offer_scene
-    × IsScene (flags_scene 14) × IsScene (flags_scene 0) × IsScene wide_window_scene × IsScene wide_late_scene × IsScene paced_scene
+    × IsScene (flags_scene 14) × IsScene (flags_scene 0)
+    × IsScene wide_window_scene × IsScene wide_late_scene × IsScene paced_scene
 
 -- a sender that captured so many pictures and then got these messages, the newest first
 abbrev pub sender_after : ℕ → List Message → SenderRun SmallStyle SmallMb Two
 sender_after count messages =
-    sender_run small_pictures small_encoding (rules_of 4 1) steady (map (λ m. Feedback (small_message m)) messages ++ replicate count (Capture (flat 100)))
+    sender_run small_pictures small_encoding (rules_of 4 1) steady
+    (map (λ m. Feedback (small_message m)) messages ++ replicate count (Capture (flat 100)))
 
 -- what it answers to a message
 abbrev pub answer_after : ℕ → Message → Reply SmallFault
@@ -265,7 +270,13 @@ answer_after count message = feedback_answer (rules_of 4 1) count (small_read_me
 -- the bytes of one half of picture n, flat 100, with this depth in its header
 abbrev pub half_packet : ℕ → Option ℕ → ℕ → ℕ → List ℕ
 half_packet n reference depth place =
-    small_packet (record { number = n; reference = reference; half = 128; style = record { depth = depth; quant = 8 } }) (record { first = place; mbs = Value 100 ∷ [] })
+    small_packet (record {
+      number = n;
+      reference = reference;
+      half = 128;
+      style =
+          record { depth = depth; quant = 8 };
+    }) (record { first = place; mbs = Value 100 ∷ [] })
 
 -- the bytes of both halves in one packet, and of one half with the other picture clock
 abbrev pub whole_packet : ℕ → Option ℕ → ℕ → List ℕ
@@ -273,14 +284,21 @@ whole_packet n reference depth = n ∷ option_word reference ∷ 128 ∷ depth �
 
 abbrev pub other_clock_packet : ℕ → ℕ → List ℕ
 other_clock_packet n place =
-    small_packet (record { number = n; reference = None; half = 512; style = record { depth = 0; quant = 8 } }) (record { first = place; mbs = Value 100 ∷ [] })
+    small_packet (record {
+      number = n;
+      reference = None;
+      half = 512;
+      style = record { depth = 0; quant = 8 };
+    }) (record { first = place; mbs = Value 100 ∷ [] })
 
 -- Picture 0 is complete, two were played, and the left half of picture 2 was taken; the newest
 -- first.
 abbrev pub half_taken : List ReceiverEntry
 half_taken =
-    Packet (half_packet 2 (Some 0) 1 0) ∷ PlayNext ∷ PlayNext ∷ Packet (half_packet 0 None 0 1) ∷ Packet (half_packet 0 None 0 0) ∷ []
+    Packet (half_packet 2 (Some 0) 1 0) ∷ PlayNext
+    ∷ PlayNext ∷ Packet (half_packet 0 None 0 1) ∷ Packet (half_packet 0 None 0 0) ∷ []
 
 -- what the receiver answers then to these bytes
 abbrev pub then_heard : List ℕ → Heard SmallFault
-then_heard bytes = heard small_decoding (rules_of 4 1) (receiver_run small_decoding (rules_of 4 1) half_taken) (small_read bytes)
+then_heard bytes = heard small_decoding
+    (rules_of 4 1) (receiver_run small_decoding (rules_of 4 1) half_taken) (small_read bytes)

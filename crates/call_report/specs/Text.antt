@@ -44,7 +44,8 @@ reference_part (Some (Some number)) = codes " from " ++ decimal number
 
 -- the line of a picture
 abbrev pub picture_text : ℕ → Option Mark → Option (Option ℕ) → Option ℕ → Text
-picture_text number mark reference party = party_part party ++ decimal number ++ mark_part mark ++ reference_part reference ++ newline
+picture_text number mark reference party =
+    party_part party ++ decimal number ++ mark_part mark ++ reference_part reference ++ newline
 
 -- ---- counts
 
@@ -81,7 +82,8 @@ video_text head (video.ShortFrame at) = placed head (codes "short frame") (codes
 video_text head (video.TooMany at) = placed head (codes "too many frames") (codes " at byte ") at
 
 abbrev pub far_text : ℕ → ℕ → ℕ → Text
-far_text line given other = codes "trace refused: far at line " ++ decimal line ++ codes ": " ++ decimal given ++ (32 ∷ decimal other) ++ newline
+far_text line given other = codes "trace refused: far at line "
+    ++ decimal line ++ codes ": " ++ decimal given ++ (32 ∷ decimal other) ++ newline
 
 abbrev pub trace_text : TraceFault → Text
 trace_text (trace.BadLine line) = placed (codes "trace refused: ") (codes "bad line") (codes " at line ") line
@@ -89,7 +91,8 @@ trace_text (trace.TooMany line) = placed (codes "trace refused: ") (codes "too m
 trace_text (trace.NoFrame line) = placed (codes "trace refused: ") (codes "no frame") (codes " at line ") line
 trace_text (trace.NotSent line) = placed (codes "trace refused: ") (codes "not sent") (codes " at line ") line
 trace_text (trace.NotSaid line) = placed (codes "trace refused: ") (codes "not said") (codes " at line ") line
-trace_text (trace.PlayBeforeSend line) = placed (codes "trace refused: ") (codes "play before send") (codes " at line ") line
+trace_text (trace.PlayBeforeSend line) =
+    placed (codes "trace refused: ") (codes "play before send") (codes " at line ") line
 trace_text (trace.Far line given other) = far_text line given other
 
 abbrev pub log_text : LogFault → Text
@@ -111,7 +114,8 @@ open_text Pictures2 = codes "cannot open pictures 2\n"
 abbrev pub status_text : Status → Text
 status_text Fine = []
 status_text OutOfMemory = codes "out of memory\n"
-status_text Usage = codes "usage: h263rps call IN OUT [--trace FILE] | send IN LOG WIRE | recv LOG OUT WIRE | demo SEED FRAMES\n"
+status_text Usage = codes
+    "usage: h263rps call IN OUT [--trace FILE] | send IN LOG WIRE | recv LOG OUT WIRE | demo SEED FRAMES\n"
 status_text ReadFault = codes "read fault\n"
 status_text WriteFault = []
 status_text (VideoRefused fault) = video_text (codes "video refused: ") fault

@@ -1,4 +1,15 @@
 //! How a run ends, and the lines of its report.
+//!
+//! A [`Status`] is what a run ends with, and [`refusal_line`] says why. A [`Line`] is built word by
+//! word; [`picture_line`] tells of one picture.
+//!
+//! ```rust
+//! let mut line = Line::empty();
+//! line.pair("played", 4);
+//! line.pair("held", 1_048_576);
+//! line.end();
+//! assert_eq!(rt; line.text(), b"played 4 held 1048576\n".as_slice());
+//! ```
 #![tactic(auto)]
 
 mod line;

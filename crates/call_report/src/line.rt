@@ -6,7 +6,7 @@ ghost use Rattle.call_report.specs.View.{text_of};
 use arrayvec::ArrayString;
 use itoa::Buffer;
 
-/// The most bytes of a line, its newline among them.
+// The most bytes of a line, its newline among them.
 const MAX_BYTES: usize = 256;
 
 /// A line of the report, at most 256 bytes, that grows from left to right.

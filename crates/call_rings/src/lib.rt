@@ -1,7 +1,17 @@
-//! What the network of a recorded call keeps: the packets of the last pictures, and the last
-//! messages.
+//! What the network of a recorded call keeps: the packets of the last pictures in a [`PacketRing`],
+//! and the last messages in a [`MessageRing`].
 //!
 //! All memory is taken at the start. Packets are bytes, and a message is the bytes that were said.
+//!
+//! ```rust
+//! let mut ring = PacketRing::start(alloc, 2, 5, 2)?;
+//! ring.begin();
+//! ring.push(&[1, 2, 3]);
+//! assert_eq!(rt; ring.packet(0, 0), Some([1, 2, 3].as_slice()));
+//! ring.begin();
+//! ring.begin();
+//! assert_eq!(rt; ring.packet(0, 0), None);
+//! ```
 #![tactic(auto)]
 
 pub mod laws;

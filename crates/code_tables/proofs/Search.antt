@@ -144,6 +144,7 @@ place_step cs seen n i d h =
     let e : suc i ≡ i + 1 = omega arith in
     ap (first_place seen n i) (drop-cons cs i d h) ∙ ap (λ (j : ℕ). cond (starts seen n (get_or cs i d)) (Some i) (first_place seen n (i + 1) (drop j cs))) e
 
+-- the code that stands at a place of the list is the word that is read
 pub word_found : (cs : List Code) (i : ℕ) (b : Bits) (d : Code) → StandsAt cs 0 i b.bits d → word_at (listed 0 cs) b ≡ Ok (i, skip (get_or cs i d).len b)
 unfolding word_at
 word_found cs i b d s =
@@ -156,6 +157,7 @@ pub word_cut : (cs : List Code) (b : Bits) (n seen : ℕ) → list_all is_code c
 unfolding word_at
 word_cut cs b n seen ok s e = rw (place_none cs 0 b.bits n seen ok s e, any_begun cs 0 b.bits n seen ok s) refl
 
+-- it is no longer than the bits
 pub fits_in : (cs : List Code) (i : ℕ) (bits : List Bool) (d : Code) → StandsAt cs 0 i bits d → (get_or cs i d).len ≤ length bits
 fits_in cs i bits d s =
     let le : length (word_of (get_or cs i d)) ≤ length bits = subst (λ (j : ℕ). length (word_of (get_or cs j d)) ≤ length bits) (omega arith) (begins_by_number _ bits s.there).0 in
@@ -241,5 +243,6 @@ word_at-map {S} {T} f words b = rw (found-map f words b.bits) (at_found (found w
 pub read_symbol : {S : Type 0} (f : ℕ → S) (words : List (List Bool × S)) (codes : List Code) (b c : Bits) (i : ℕ) (x : S) → words ≡ map (λ w. (w.0, f w.1)) (listed 0 codes) → word_at (listed 0 codes) b ≡ Ok (i, c) → f i ≡ x → word_at words b ≡ Ok (x, c)
 read_symbol f words codes b c i x same e is = rw (same, word_at-map f (listed 0 codes) b, e, is) refl
 
+-- a fault in the list of codes is one in the list of what they stand for
 pub read_no_symbol : {S : Type 0} (f : ℕ → S) (words : List (List Bool × S)) (codes : List Code) (b : Bits) (fault : Fault) → words ≡ map (λ w. (w.0, f w.1)) (listed 0 codes) → word_at (listed 0 codes) b ≡ Err fault → word_at words b ≡ Err fault
 read_no_symbol f words codes b fault same e = rw (same, word_at-map f (listed 0 codes) b, e) refl

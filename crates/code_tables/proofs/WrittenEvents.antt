@@ -141,5 +141,6 @@ unfolding event
 event_written e is =
     spells_whole event e (event_text e ++ []) _ (append-nil _) (spells_element event_parts any (λ f. done f) e e (event_text e) [] (parts_written e is) refl (spells_done e))
 
+-- the texts that are written of the events spell them
 pub are_spelt : AreSpelt
 are_spelt = record { mcbpc = mcbpc_written; cbpy = cbpy_written; dquant = dquant_written; mvd = mvd_written; event = event_written }

@@ -1,5 +1,6 @@
--- The faults of words (H.263, 5.3 and 5.4.2), each at its word's first bit: a word is cut exactly where the bits that are
--- left are a proper front of one, and there is none exactly where none begins them and none goes on from them.
+-- The faults of words (H.263, 5.3 and 5.4.2), each at its word's first bit: a word is cut exactly
+-- where the bits that are left are a proper front of one, and there is none exactly where none
+-- begins them and none goes on from them.
 use Rattle.std.specs.Prelude.{◌≡◌, ◌↔◌, ℕ, ℤ, ◌<◌, List, [], ◌∷◌, ◌++◌, Bool, Some, Err}
 use Rattle.h263_types.specs.declared.Kind.{Kind}
 use Rattle.h263_bits.specs.declared.fault.Fault.{Fault}
@@ -14,7 +15,8 @@ use Rattle.code_tables.specs.Tables.{Event, Coefficient, cbpy, cbpy_words, magni
 
 -- the faults of a syntax are those of such words
 abbrev pub HasWordFaults : {A : Type 0} → Syntax A → (List Bool → Type 0) → Type 0
-HasWordFaults s IsWord = (b : Bits) (d : Fault) → (reading s b ≡ Err d) ↔ ((d.at ≡ b.at) × IsWordFault IsWord b.bits d.kind)
+HasWordFaults s IsWord = (b : Bits) (d : Fault)
+    → (reading s b ≡ Err d) ↔ ((d.at ≡ b.at) × IsWordFault IsWord b.bits d.kind)
 
 pub record AreWords : Type 0 where
   pub mcbpc : (kind : Kind) → HasWordFaults (mcbpc kind) (λ w. IsWordOf (mcbpc_words kind) w)

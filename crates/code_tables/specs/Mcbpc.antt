@@ -30,8 +30,10 @@ from_cbpc class n (w ∷ ws) = (w, Word class n) ∷ from_cbpc class (n + 1) ws
 -- the words of a kind of picture
 unfoldable pub mcbpc_words : Kind → List (List Bool × Mcbpc)
 mcbpc_words kind =
-    from_cbpc Inter 0 (class_texts kind Inter) ++ from_cbpc InterQ 0 (class_texts kind InterQ) ++ from_cbpc Inter4 0 (class_texts kind Inter4)
-    ++ from_cbpc Intra 0 (class_texts kind Intra) ++ from_cbpc IntraQ 0 (class_texts kind IntraQ) ++ (word "000000001", Stuffing) ∷ []
+    from_cbpc Inter 0 (class_texts kind Inter) ++ from_cbpc InterQ 0 (class_texts kind InterQ)
+    ++ from_cbpc Inter4 0 (class_texts kind Inter4)
+    ++ from_cbpc Intra 0 (class_texts kind Intra)
+    ++ from_cbpc IntraQ 0 (class_texts kind IntraQ) ++ (word "000000001", Stuffing) ∷ []
 
 unfoldable pub mcbpc_table : Kind → Words Mcbpc
 unfolding mcbpc_words class_texts begins is_prefix_free

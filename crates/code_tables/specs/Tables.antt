@@ -7,7 +7,9 @@ use Rattle.code_tables.specs.Words.{word, from_number, text_at}
 
 -- the words of CBPY in an intra macroblock, patterns 0 to 15
 unfoldable pub cbpy_texts : List (List Bool)
-cbpy_texts = word "0011" ∷ word "00101" ∷ word "00100" ∷ word "1001" ∷ word "00011" ∷ word "0111" ∷ word "000010" ∷ word "1011" ∷ word "00010" ∷ word "000011" ∷ word "0101" ∷ word "1010" ∷ word "0100" ∷ word "1000" ∷ word "0110" ∷ word "11" ∷ []
+cbpy_texts = word "0011" ∷ word "00101" ∷ word "00100" ∷ word "1001"
+    ∷ word "00011" ∷ word "0111" ∷ word "000010" ∷ word "1011" ∷ word "00010" ∷ word "000011"
+    ∷ word "0101" ∷ word "1010" ∷ word "0100" ∷ word "1000" ∷ word "0110" ∷ word "11" ∷ []
 
 unfoldable pub cbpy_words : List (List Bool × ℕ)
 cbpy_words = from_number 0 cbpy_texts
@@ -26,7 +28,13 @@ cbpy_text intra pattern = text_at cbpy_texts (if intra then pattern else 15 - pa
 
 -- the words of MVD, magnitudes 0 to 32 in half samples; a sign follows
 unfoldable pub magnitude_texts : List (List Bool)
-magnitude_texts = word "1" ∷ word "01" ∷ word "001" ∷ word "0001" ∷ word "000011" ∷ word "0000101" ∷ word "0000100" ∷ word "0000011" ∷ word "000001011" ∷ word "000001010" ∷ word "000001001" ∷ word "0000010001" ∷ word "0000010000" ∷ word "0000001111" ∷ word "0000001110" ∷ word "0000001101" ∷ word "0000001100" ∷ word "0000001011" ∷ word "0000001010" ∷ word "0000001001" ∷ word "0000001000" ∷ word "0000000111" ∷ word "0000000110" ∷ word "0000000101" ∷ word "0000000100" ∷ word "00000000111" ∷ word "00000000110" ∷ word "00000000101" ∷ word "00000000100" ∷ word "00000000011" ∷ word "00000000010" ∷ word "000000000011" ∷ word "000000000010" ∷ []
+magnitude_texts = word "1" ∷ word "01" ∷ word "001" ∷ word "0001" ∷ word "000011" ∷ word "0000101"
+    ∷ word "0000100" ∷ word "0000011" ∷ word "000001011" ∷ word "000001010" ∷ word "000001001"
+    ∷ word "0000010001" ∷ word "0000010000" ∷ word "0000001111" ∷ word "0000001110" ∷ word
+    "0000001101" ∷ word "0000001100" ∷ word "0000001011" ∷ word "0000001010" ∷ word "0000001001"
+    ∷ word "0000001000" ∷ word "0000000111" ∷ word "0000000110" ∷ word "0000000101" ∷ word
+    "0000000100" ∷ word "00000000111" ∷ word "00000000110" ∷ word "00000000101" ∷ word "00000000100"
+    ∷ word "00000000011" ∷ word "00000000010" ∷ word "000000000011" ∷ word "000000000010" ∷ []
 
 unfoldable pub magnitude_words : List (List Bool × ℕ)
 magnitude_words = from_number 0 magnitude_texts
@@ -55,7 +63,9 @@ events last run words = sized last run 1 words
 -- the words of LAST 0: a row for each RUN from 0 on, for sizes 1, 2, 3 and so on
 unfoldable pub last_0_texts : List (List (List Bool))
 last_0_texts =
-    (word "10" ∷ word "1111" ∷ word "010101" ∷ word "0010111" ∷ word "00011111" ∷ word "000100101" ∷ word "000100100" ∷ word "0000100001" ∷ word "0000100000" ∷ word "00000000111" ∷ word "00000000110" ∷ word "00000100000" ∷ []) ∷
+    (word "10" ∷ word "1111" ∷ word "010101"
+    ∷ word "0010111" ∷ word "00011111" ∷ word "000100101" ∷ word "000100100" ∷ word "0000100001"
+    ∷ word "0000100000" ∷ word "00000000111" ∷ word "00000000110" ∷ word "00000100000" ∷ []) ∷
     (word "110" ∷ word "010100" ∷ word "00011110" ∷ word "0000001111" ∷ word "00000100001" ∷ word "000001010000" ∷ []) ∷
     (word "1110" ∷ word "00011101" ∷ word "0000001110" ∷ word "000001010001" ∷ []) ∷
     (word "01101" ∷ word "000100011" ∷ word "0000001101" ∷ []) ∷

@@ -1,7 +1,9 @@
-//! The codes of events and what they stand for, and for each front of eight bits the code that it begins with, or 255.
+//! The codes of events and what they stand for, and for each front of eight bits the code that it
+//! begins with, or 255.
 
 use crate::code::{Code, Level};
 
+/// TCOEF: the words of the events, without the sign, and the escape (5.4.2).
 pub const EVENTS: [Code; 103] = [
     Code { bits: 2, len: 2 },
     Code { bits: 15, len: 4 },
@@ -108,6 +110,7 @@ pub const EVENTS: [Code; 103] = [
     Code { bits: 3, len: 7 },
 ];
 
+/// By eight bits, the place of the word of `EVENTS` that they begin with, where there is one.
 pub const EVENTS_FAST: [u8; 256] = [
     255, 255, 255, 255, 255, 255, 102, 102, 255, 255, 255, 255, 255, 255, 255, 255, 255, 255, 255,
     77, 76, 75, 74, 73, 72, 71, 70, 45, 44, 19, 14, 4, 69, 69, 68, 68, 67, 67, 66, 66, 43, 43, 42,
@@ -128,6 +131,7 @@ macro_rules! levels {
     };
 }
 
+/// What each word of `EVENTS` but the escape stands for.
 pub const LEVELS: [Level; 102] = levels! {
     false {
         0: 1 2 3 4 5 6 7 8 9 10 11 12, 1: 1 2 3 4 5 6, 2: 1 2 3 4, 3: 1 2 3, 4: 1 2 3, 5: 1 2 3,

@@ -11,8 +11,8 @@ ghost use Rattle.code_tables.specs.Faults.{WordFaults};
 ghost use Rattle.code_tables.specs.Laws.{AreSpelt, TableLaws};
 ghost use Rattle.code_tables.specs.declared.macroblock.Mcbpc.{Mcbpc};
 
-/// Of two texts of which one begins the other both are the same, and spell the same value: in each table, with the
-/// signs and the escape behind its words.
+/// Of two texts of which one begins the other both are the same, and spell the same value: in each
+/// table, with the signs and the escape behind its words.
 pub fn one_reading()
     ensures mcbpc { (kind : Kind) (a b : Mcbpc) (x y more : List Bool)
         → Spells (mcbpc kind) a x → Spells (mcbpc kind) b y → x ++ more ≡ y → (x ≡ y) × (a ≡ b) }
@@ -31,16 +31,18 @@ pub fn written_is_text()
     ensures { AreSpelt }
 {}
 
-/// The first faults of words: each word is cut or there is none, MVD by its words with their signs; and an escape
-/// whose LEVEL is 0 or -128. Each stands at the first bit of its word.
+/// The first faults of words: each word is cut or there is none, MVD by its words with their signs;
+/// and an escape whose LEVEL is 0 or -128. Each stands at the first bit of its word.
 pub fn first_faults()
     ensures { WordFaults }
 {}
 
-/// The first fault of an event, by the words with their signs and the escapes with all their fields: the bits end inside
-/// one, an escape has LEVEL 0 or -128, or there is none; each at the first bit.
+/// The first fault of an event, by the words with their signs and the escapes with all their
+/// fields: the bits end inside one, an escape has LEVEL 0 or -128, or there is none; each at the
+/// first bit.
 pub fn event_faults()
-    ensures { (b : Bits) (d : Fault) → reading event b ≡ Err d → (d.at ≡ b.at) × IsEventFault b.bits d.kind }
+    ensures { (b : Bits) (d : Fault)
+        → reading event b ≡ Err d → (d.at ≡ b.at) × IsEventFault b.bits d.kind }
 {}
 
 /// What a syntax that has words of these tables in it needs to know of them.

@@ -1,3 +1,4 @@
+//! The words of a macroblock's head: MCBPC and DQUANT, read and written.
 ghost use Rattle.std.specs.Prelude.{◌≡◌, ℕ, ℤ, ◌<◌, ◌+◌, ◌++◌, ◌≤◌, List, Bool, IfOk, IfErr, IsOkAnd, length, slice_get, Some};
 ghost use Rattle.h263_bits.specs.Reading.{Gives, Takes};
 ghost use Rattle.h263_bits.specs.Syntax.{reading, word_at, Spells};
@@ -26,7 +27,8 @@ pub enum MbClass {
     IntraQ,
 }
 
-/// What a word of MCBPC stands for: stuffing, or a class and the pattern of the chrominance blocks, 0 to 3.
+/// What a word of MCBPC stands for: stuffing, or a class and the pattern of the chrominance blocks,
+/// 0 to 3.
 #[derive(Clone, Copy, Debug, PartialEq, Eq)]
 pub enum Mcbpc {
     Stuffing,
@@ -48,14 +50,16 @@ fn step_at(steps: &[i8], place: usize) -> i8
 }
 
 fn read_intra_mcbpc(reader: &mut BitReader<'_>) -> Result<Mcbpc, Fault>
-    ensures { Gives (λ (m : Mcbpc). m) result reader.new (word_at (mcbpc_words kinds.I) reader.old) }
+    ensures { Gives
+        (λ (m : Mcbpc). m) result reader.new (word_at (mcbpc_words kinds.I) reader.old) }
 {
     let place = read_code(reader, &INTRA_MCBPC, &INTRA_MCBPC_FAST)?;
     Ok(symbol_at(&INTRA_MCBPC_SYMBOLS, place))
 }
 
 fn read_inter_mcbpc(reader: &mut BitReader<'_>) -> Result<Mcbpc, Fault>
-    ensures { Gives (λ (m : Mcbpc). m) result reader.new (word_at (mcbpc_words kinds.P) reader.old) }
+    ensures { Gives
+        (λ (m : Mcbpc). m) result reader.new (word_at (mcbpc_words kinds.P) reader.old) }
 {
     let place = read_code(reader, &INTER_MCBPC, &INTER_MCBPC_FAST)?;
     Ok(symbol_at(&INTER_MCBPC_SYMBOLS, place))
@@ -76,10 +80,12 @@ pub fn read_mcbpc(reader: &mut BitReader<'_>, kind: Kind) -> Result<Mcbpc, Fault
     // What is read is spelled by the bits that were taken.
     ensures found { IfOk result (λ m. Takes reader.old reader.new (Spells (mcbpc kind) m)) }
     // What is spelled is read, whatever follows.
-    ensures only { (m : Mcbpc) (text rest : List Bool) → Spells (mcbpc kind) m text → reader.old.bits ≡ text ++ rest
+    ensures only { (m : Mcbpc) (text rest : List Bool)
+        → Spells (mcbpc kind) m text → reader.old.bits ≡ text ++ rest
         → IsOkAnd result (λ found. (found ≡ m) × (reader.new.bits ≡ rest)) }
     // Otherwise the word is cut, or there is none: the fault stands at its first bit.
-    ensures fault { IfErr result (λ d. (d.at ≡ reader.old.at) × IsWordFault (λ w. IsWordOf (mcbpc_words kind) w) reader.old.bits d.kind) }
+    ensures fault { IfErr result (λ d. (d.at ≡ reader.old.at)
+        × IsWordFault (λ w. IsWordOf (mcbpc_words kind) w) reader.old.bits d.kind) }
     ensures exact { Gives (λ (m : Mcbpc). m) result reader.new (reading (mcbpc kind) reader.old) }
     // CBPC is below 4, and in an I picture the class is intra.
     ensures range { IfOk result (IsInTable kind) }
@@ -107,10 +113,11 @@ pub fn read_dquant(reader: &mut BitReader<'_>) -> Result<i8, Fault>
     // What is read is spelled by the bits that were taken.
     ensures found { IfOk result (λ step. Takes reader.old reader.new (Spells dquant step)) }
     // What is spelled is read, whatever follows.
-    ensures only { (step : ℤ) (text rest : List Bool) → Spells dquant step text → reader.old.bits ≡ text ++ rest
-        → IsOkAnd result (λ found. (found ≡ step) × (reader.new.bits ≡ rest)) }
+    ensures only { (step : ℤ) (text rest : List Bool) → Spells dquant step text → reader.old.bits
+        ≡ text ++ rest → IsOkAnd result (λ found. (found ≡ step) × (reader.new.bits ≡ rest)) }
     // Otherwise the word is cut: the fault stands at its first bit.
-    ensures fault { IfErr result (λ d. (d.at ≡ reader.old.at) × IsWordFault (λ w. IsWordOf dquant_words w) reader.old.bits d.kind) }
+    ensures fault { IfErr result (λ d. (d.at ≡ reader.old.at)
+        × IsWordFault (λ w. IsWordOf dquant_words w) reader.old.bits d.kind) }
     ensures exact { Gives (λ (s : ℤ). s) result reader.new (reading dquant reader.old) }
     ensures range { IfOk result IsStep }
     // Each pair of bits is a word, so there is no bad code.
@@ -119,7 +126,7 @@ pub fn read_dquant(reader: &mut BitReader<'_>) -> Result<i8, Fault>
     dquant_at(reader)
 }
 
-/// The place of a word of P pictures.
+// The place of a word of P pictures.
 fn inter_place(word: Mcbpc) -> usize
     requires { IsInTable kinds.P word }
     ensures { result ≡ inter_place_of word }
@@ -130,7 +137,7 @@ fn inter_place(word: Mcbpc) -> usize
     }
 }
 
-/// Where the words of a class begin in P pictures.
+// Where the words of a class begin in P pictures.
 fn class_place(class: MbClass) -> usize
     ensures { result ≡ class_place_of class }
 {
@@ -143,7 +150,7 @@ fn class_place(class: MbClass) -> usize
     }
 }
 
-/// The place of a word of I pictures.
+// The place of a word of I pictures.
 fn intra_place(word: Mcbpc) -> usize
     requires { IsInTable kinds.I word }
     ensures { result ≡ intra_place_of word }
@@ -189,7 +196,7 @@ pub fn write_mcbpc(writer: &mut BitWriter<'_>, kind: Kind, word: &Mcbpc)
     }
 }
 
-/// The place of a step of the quantiser.
+// The place of a step of the quantiser.
 fn step_place(step: i8) -> usize
     requires { IsStep step }
     ensures { result ≡ step_place_of step }

@@ -3,6 +3,7 @@
 use crate::code::Code;
 use crate::macroblock::{MbClass, Mcbpc};
 
+/// CBPY of intra macroblocks: the words of the patterns 0 to 15 (5.3.5).
 pub const CBPY: [Code; 16] = [
     Code { bits: 3, len: 4 },
     Code { bits: 5, len: 5 },
@@ -22,6 +23,7 @@ pub const CBPY: [Code; 16] = [
     Code { bits: 3, len: 2 },
 ];
 
+/// By eight bits, the place of the word of `CBPY` that they begin with, where there is one.
 pub const CBPY_FAST: [u8; 256] = [
     255, 255, 255, 255, 255, 255, 255, 255, 6, 6, 6, 6, 9, 9, 9, 9, 8, 8, 8, 8, 8, 8, 8, 8, 4, 4,
     4, 4, 4, 4, 4, 4, 2, 2, 2, 2, 2, 2, 2, 2, 1, 1, 1, 1, 1, 1, 1, 1, 0, 0, 0, 0, 0, 0, 0, 0, 0, 0,
@@ -35,6 +37,7 @@ pub const CBPY_FAST: [u8; 256] = [
     15, 15, 15, 15, 15, 15, 15, 15, 15, 15, 15, 15, 15, 15, 15, 15, 15, 15,
 ];
 
+/// MVD: the words of the sizes 0 to 32 half samples, without the sign (5.3.7).
 pub const MAGNITUDES: [Code; 33] = [
     Code { bits: 1, len: 1 },
     Code { bits: 1, len: 2 },
@@ -71,6 +74,7 @@ pub const MAGNITUDES: [Code; 33] = [
     Code { bits: 2, len: 12 },
 ];
 
+/// By eight bits, the place of the word of `MAGNITUDES` that they begin with, where there is one.
 pub const MAGNITUDES_FAST: [u8; 256] = [
     255, 255, 255, 255, 255, 255, 7, 7, 6, 6, 5, 5, 4, 4, 4, 4, 3, 3, 3, 3, 3, 3, 3, 3, 3, 3, 3, 3,
     3, 3, 3, 3, 2, 2, 2, 2, 2, 2, 2, 2, 2, 2, 2, 2, 2, 2, 2, 2, 2, 2, 2, 2, 2, 2, 2, 2, 2, 2, 2, 2,
@@ -96,6 +100,7 @@ pub const INTRA_MCBPC: [Code; 9] = [
     Code { bits: 1, len: 9 },
 ];
 
+/// By eight bits, the place of the word of `INTRA_MCBPC` that they begin with, where there is one.
 pub const INTRA_MCBPC_FAST: [u8; 256] = [
     255, 255, 255, 255, 5, 5, 5, 5, 6, 6, 6, 6, 7, 7, 7, 7, 4, 4, 4, 4, 4, 4, 4, 4, 4, 4, 4, 4, 4,
     4, 4, 4, 1, 1, 1, 1, 1, 1, 1, 1, 1, 1, 1, 1, 1, 1, 1, 1, 1, 1, 1, 1, 1, 1, 1, 1, 1, 1, 1, 1, 1,
@@ -108,6 +113,7 @@ pub const INTRA_MCBPC_FAST: [u8; 256] = [
     0, 0, 0,
 ];
 
+/// What each word of `INTRA_MCBPC` stands for.
 pub const INTRA_MCBPC_SYMBOLS: [Mcbpc; 9] = [
     Mcbpc::Word {
         class: MbClass::Intra,
@@ -169,6 +175,7 @@ pub const INTER_MCBPC: [Code; 21] = [
     Code { bits: 1, len: 9 },
 ];
 
+/// By eight bits, the place of the word of `INTER_MCBPC` that they begin with, where there is one.
 pub const INTER_MCBPC_FAST: [u8; 256] = [
     255, 255, 255, 14, 13, 11, 15, 15, 10, 10, 9, 9, 6, 6, 5, 5, 16, 16, 16, 16, 3, 3, 3, 3, 12,
     12, 12, 12, 12, 12, 12, 12, 2, 2, 2, 2, 2, 2, 2, 2, 2, 2, 2, 2, 2, 2, 2, 2, 1, 1, 1, 1, 1, 1,
@@ -181,6 +188,7 @@ pub const INTER_MCBPC_FAST: [u8; 256] = [
     0, 0, 0, 0, 0, 0, 0, 0, 0, 0,
 ];
 
+/// What each word of `INTER_MCBPC` stands for.
 pub const INTER_MCBPC_SYMBOLS: [Mcbpc; 21] = [
     Mcbpc::Word {
         class: MbClass::Inter,
@@ -265,6 +273,7 @@ pub const INTER_MCBPC_SYMBOLS: [Mcbpc; 21] = [
     Mcbpc::Stuffing,
 ];
 
+/// DQUANT: the words of the four steps (5.3.6).
 pub const STEPS: [Code; 4] = [
     Code { bits: 0, len: 2 },
     Code { bits: 1, len: 2 },
@@ -272,6 +281,7 @@ pub const STEPS: [Code; 4] = [
     Code { bits: 3, len: 2 },
 ];
 
+/// By eight bits, the place of the word of `STEPS` that they begin with.
 pub const STEPS_FAST: [u8; 256] = [
     0, 0, 0, 0, 0, 0, 0, 0, 0, 0, 0, 0, 0, 0, 0, 0, 0, 0, 0, 0, 0, 0, 0, 0, 0, 0, 0, 0, 0, 0, 0, 0,
     0, 0, 0, 0, 0, 0, 0, 0, 0, 0, 0, 0, 0, 0, 0, 0, 0, 0, 0, 0, 0, 0, 0, 0, 0, 0, 0, 0, 0, 0, 0, 0,
@@ -283,4 +293,5 @@ pub const STEPS_FAST: [u8; 256] = [
     3, 3, 3, 3, 3, 3, 3, 3, 3, 3, 3, 3, 3, 3, 3, 3, 3, 3, 3, 3, 3, 3, 3, 3, 3, 3, 3, 3, 3, 3, 3, 3,
 ];
 
+/// The step that each word of `STEPS` stands for.
 pub const STEP_SYMBOLS: [i8; 4] = [-1, -2, 1, 2];

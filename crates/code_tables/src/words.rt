@@ -1,3 +1,4 @@
+//! The words of CBPY, MVD and the events of TCOEF, read and written.
 ghost use Rattle.std.specs.Prelude.{◌≡◌, ◌≢◌, ℕ, ℤ, pos, negsuc, ◌+◌, ◌-◌, ◌++◌, List, Bool, slice_get, IfOk, IfErr, IsOkAnd, IfSome, ◌<◌, ◌≤◌, ◌≤ℤ◌, length};
 ghost use Rattle.h263_bits.specs.Written.{Appends, len_of, room_of};
 ghost use Rattle.h263_bits.specs.Bits.{fields};
@@ -30,15 +31,19 @@ fn cbpy_at(reader: &mut BitReader<'_>, intra: bool) -> Result<u8, Fault>
     Ok(if intra { pattern } else { 15 - pattern })
 }
 
-/// CBPY, the pattern of the luminance blocks, 0 to 15 (H.263 5.3.5). An inter macroblock has the word of the complement.
+/// CBPY, the pattern of the luminance blocks, 0 to 15 (H.263 5.3.5). An inter macroblock has the
+/// word of the complement.
 pub fn read_cbpy(reader: &mut BitReader<'_>, intra: bool) -> Result<u8, Fault>
     // What is read is spelled by the bits that were taken.
-    ensures found { IfOk result (λ pattern. Takes reader.old reader.new (Spells (cbpy intra) pattern)) }
+    ensures found { IfOk result (λ pattern.
+        Takes reader.old reader.new (Spells (cbpy intra) pattern)) }
     // What is spelled is read, whatever follows.
-    ensures only { (pattern : ℕ) (text rest : List Bool) → Spells (cbpy intra) pattern text → reader.old.bits ≡ text ++ rest
+    ensures only { (pattern : ℕ) (text rest : List Bool)
+        → Spells (cbpy intra) pattern text → reader.old.bits ≡ text ++ rest
         → IsOkAnd result (λ found. (found ≡ pattern) × (reader.new.bits ≡ rest)) }
     // Otherwise the word is cut, or there is none: the fault stands at its first bit.
-    ensures fault { IfErr result (λ d. (d.at ≡ reader.old.at) × IsWordFault (λ w. IsWordOf cbpy_words w) reader.old.bits d.kind) }
+    ensures fault { IfErr result (λ d.
+        (d.at ≡ reader.old.at) × IsWordFault (λ w. IsWordOf cbpy_words w) reader.old.bits d.kind) }
     ensures exact { Gives (λ (i : ℕ). i) result reader.new (reading (cbpy intra) reader.old) }
     ensures range { IfOk result (λ pattern. pattern < 16) }
 {
@@ -52,7 +57,7 @@ fn read_magnitude(reader: &mut BitReader<'_>) -> Result<usize, Fault>
     read_code(reader, &MAGNITUDES, &MAGNITUDES_FAST)
 }
 
-/// A size with its sign, 1 for minus.
+// A size with its sign, 1 for minus.
 fn with_sign(sign: u32, size: u8) -> i8
     requires { size < 128 }
     ensures { result ≡ signed sign size }
@@ -93,10 +98,11 @@ pub fn read_mvd(reader: &mut BitReader<'_>) -> Result<i8, Fault>
     // What is read is spelled by the bits that were taken.
     ensures found { IfOk result (λ v. Takes reader.old reader.new (Spells mvd v)) }
     // What is spelled is read, whatever follows.
-    ensures only { (v : ℤ) (text rest : List Bool) → Spells mvd v text → reader.old.bits ≡ text ++ rest
-        → IsOkAnd result (λ found. (found ≡ v) × (reader.new.bits ≡ rest)) }
+    ensures only { (v : ℤ) (text rest : List Bool) → Spells mvd v text → reader.old.bits
+        ≡ text ++ rest → IsOkAnd result (λ found. (found ≡ v) × (reader.new.bits ≡ rest)) }
     // Otherwise the word with its sign is cut, or there is none: the fault stands at its first bit.
-    ensures fault { IfErr result (λ d. (d.at ≡ reader.old.at) × IsWordFault (λ w. IsWordOf mvd_words w) reader.old.bits d.kind) }
+    ensures fault { IfErr result (λ d.
+        (d.at ≡ reader.old.at) × IsWordFault (λ w. IsWordOf mvd_words w) reader.old.bits d.kind) }
     ensures exact { Gives (λ (v : ℤ). v) result reader.new (reading mvd reader.old) }
     ensures low { IfOk result (λ v. negsuc 31 ≤ℤ v) }
     ensures high { IfOk result (λ v. v ≤ℤ pos 31) }
@@ -144,7 +150,7 @@ fn read_event_parts(reader: &mut BitReader<'_>) -> Result<Coefficient, Fault>
     })
 }
 
-/// LEVEL of an escape, in two's complement.
+// LEVEL of an escape, in two's complement.
 fn escape_level(bits: u32) -> i8
     requires byte { bits < 256 }
     requires in_range { bits ≢ 128 }
@@ -171,13 +177,16 @@ fn event_at(reader: &mut BitReader<'_>) -> Result<Coefficient, Fault>
 /// An event of TCOEF: LAST, RUN and LEVEL, as a word with its sign or as an escape (H.263 5.4.2).
 pub fn read_event(reader: &mut BitReader<'_>) -> Result<Coefficient, Fault>
     // What is read is spelled by the bits that were taken.
-    ensures found { IfOk result (λ e. Takes reader.old reader.new (Spells event (coefficient_of e))) }
+    ensures found { IfOk result (λ e.
+        Takes reader.old reader.new (Spells event (coefficient_of e))) }
     // What is spelled is read, whatever follows.
-    ensures only { (e : Event) (text rest : List Bool) → Spells event e text → reader.old.bits ≡ text ++ rest
+    ensures only { (e : Event) (text rest : List Bool)
+        → Spells event e text → reader.old.bits ≡ text ++ rest
         → IsOkAnd result (λ found. (coefficient_of found ≡ e) × (reader.new.bits ≡ rest)) }
-    // Otherwise the word with its sign, or the escape, is cut, or LEVEL is 0 or -128, or there is none: the fault
-    // stands at the first bit.
-    ensures fault { IfErr result (λ d. (d.at ≡ reader.old.at) × IsEventFault reader.old.bits d.kind) }
+    // Otherwise the word with its sign, or the escape, is cut, or LEVEL is 0 or -128, or there is
+    // none: the fault stands at the first bit.
+    ensures fault { IfErr result (λ d.
+        (d.at ≡ reader.old.at) × IsEventFault reader.old.bits d.kind) }
     ensures exact { Gives coefficient_of result reader.new (reading event reader.old) }
 {
     event_at(reader)
@@ -216,7 +225,7 @@ fn write_magnitude(writer: &mut BitWriter<'_>, size: usize)
     write_code(writer, &MAGNITUDES, size);
 }
 
-/// The size of a number.
+// The size of a number.
 fn size(value: i8) -> usize
     ensures { result ≡ size_of value }
 {
@@ -227,7 +236,7 @@ fn size(value: i8) -> usize
     }
 }
 
-/// The sign behind a size: none at 0, 1 for minus.
+// The sign behind a size: none at 0, 1 for minus.
 fn write_sign(writer: &mut BitWriter<'_>, value: i8)
     requires room { len_of writer.old + length (sign_text value) ≤ room_of writer.old }
     ensures bits { Appends writer.old writer.new (sign_text value) }
@@ -252,7 +261,7 @@ pub fn write_mvd(writer: &mut BitWriter<'_>, value: i8)
     write_sign(writer, value);
 }
 
-/// The place of a size from 1 on in a row of a table.
+// The place of a size from 1 on in a row of a table.
 fn row_place(starts: &[u8], run: usize, size: usize) -> Option<usize>
     requires size { 0 < size }
     requires small { size < 256 }
@@ -268,7 +277,7 @@ fn row_place(starts: &[u8], run: usize, size: usize) -> Option<usize>
     None
 }
 
-/// The place of the word of LAST, RUN and a size, if they have one.
+// The place of the word of LAST, RUN and a size, if they have one.
 fn triple_place(last: bool, run: usize, size: usize) -> Option<usize>
     requires size { 0 < size }
     requires small { size < 256 }
@@ -282,18 +291,21 @@ fn triple_place(last: bool, run: usize, size: usize) -> Option<usize>
     }
 }
 
-/// Writes a word of an event and its sign.
+// Writes a word of an event and its sign.
 fn write_level(writer: &mut BitWriter<'_>, place: usize, level: i8)
     requires place { place < 103 }
-    requires room { len_of writer.old + length (word_of (code_at EVENTS place) ++ sign_text level) ≤ room_of writer.old }
-    ensures bits { Appends writer.old writer.new (word_of (code_at EVENTS place) ++ sign_text level) }
-    ensures len { len_of writer.new ≡ len_of writer.old + length (word_of (code_at EVENTS place) ++ sign_text level) }
+    requires room { len_of writer.old + length (word_of (code_at EVENTS place) ++ sign_text level)
+        ≤ room_of writer.old }
+    ensures bits { Appends writer.old writer.new
+        (word_of (code_at EVENTS place) ++ sign_text level) }
+    ensures len { len_of writer.new
+        ≡ len_of writer.old + length (word_of (code_at EVENTS place) ++ sign_text level) }
 {
     write_code(writer, &EVENTS, place);
     write_sign(writer, level);
 }
 
-/// LEVEL in two's complement.
+// LEVEL in two's complement.
 fn level_byte(level: i8) -> u32
     ensures { result ≡ byte_of level }
 {
@@ -307,7 +319,8 @@ fn level_byte(level: i8) -> u32
 fn write_escape(writer: &mut BitWriter<'_>, event: &Coefficient)
     requires event { IsEvent (coefficient_of event.now) }
     requires room { len_of writer.old + 22 ≤ room_of writer.old }
-    ensures bits { Appends writer.old writer.new (fields (escape_fields (coefficient_of event.now))) }
+    ensures bits { Appends writer.old writer.new
+        (fields (escape_fields (coefficient_of event.now))) }
     ensures len { len_of writer.new ≡ len_of writer.old + 22 }
 {
     writer.put(3, 7);
@@ -316,12 +329,15 @@ fn write_escape(writer: &mut BitWriter<'_>, event: &Coefficient)
     writer.put(level_byte(event.level), 8);
 }
 
-/// Writes an event: the word of its LAST, RUN and size with the sign, where they have one, and else an escape.
+/// Writes an event: the word of its LAST, RUN and size with the sign, where they have one, and else
+/// an escape.
 pub fn write_event(writer: &mut BitWriter<'_>, event: &Coefficient)
     requires event { IsEvent (coefficient_of event.now) }
-    requires room { len_of writer.old + length (event_text (coefficient_of event.now)) ≤ room_of writer.old }
+    requires room { len_of writer.old + length (event_text (coefficient_of event.now))
+        ≤ room_of writer.old }
     ensures bits { Appends writer.old writer.new (event_text (coefficient_of event.now)) }
-    ensures len { len_of writer.new ≡ len_of writer.old + length (event_text (coefficient_of event.now)) }
+    ensures len { len_of writer.new
+        ≡ len_of writer.old + length (event_text (coefficient_of event.now)) }
 {
     match triple_place(event.last, event.run as usize, size(event.level)) {
         Some(place) => write_level(writer, place, event.level),

@@ -2,7 +2,11 @@
 //! ends for it. Nothing is done at run time.
 //!
 //! `coding` in `specs/` is the `Coding` of `call_model`: what a receiver decodes by and what a
-//! sender encodes by.
+//! sender encodes by. A function whose contract speaks of both ends calls the law in its body.
+//!
+//! ```rust
+//! coded_call::laws::two_stores();
+//! ```
 #![tactic(auto)]
 
 pub mod laws;

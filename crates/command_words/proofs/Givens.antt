@@ -13,6 +13,7 @@ use Rattle.command_words.specs.Simple.{Text, Given, gives, value, is_once, with_
 abbrev pub row_for : Given → Row
 row_for g = record { id = g.0; values = g.1 ∷ []; count = None; source = Some CommandLine; reading = AsWritten }
 
+-- the rows of `clap` for what was given
 abbrev pub rows_for : List Given → List Row
 rows_for = map row_for
 

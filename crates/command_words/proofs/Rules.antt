@@ -30,9 +30,11 @@ valued required long index name = record (new_rule name) {
   parser = Some vp.String;
 }
 
+-- the rule of a positional word
 abbrev pub place_at : ℕ → Text → Rule
 place_at i name = valued true None (Some i) name
 
+-- the rule of an option
 abbrev pub option_at : Text → Rule
 option_at name = valued false (Some name) None name
 

@@ -22,28 +22,36 @@ abbrev pub with_format : Lookup → Option Params
 with_format given = option_map default_params (value_or Qcif format_in (given (codes "format")))
 
 abbrev pub with_quant : Lookup → Params → Option Params
-with_quant given p = option_map (λ n. let q : Params = record p { quant = n } in q) (value_or p.quant byte_in (given (codes "quant")))
+with_quant given p = option_map (λ n. let q : Params = record p { quant = n } in q)
+    (value_or p.quant byte_in (given (codes "quant")))
 
 abbrev pub with_keep : Lookup → Params → Option Params
-with_keep given p = option_map (λ n. let q : Params = record p { keep = n } in q) (value_or p.keep byte_in (given (codes "keep")))
+with_keep given p = option_map (λ n. let q : Params = record p { keep = n } in q)
+    (value_or p.keep byte_in (given (codes "keep")))
 
 abbrev pub with_radius : Lookup → Params → Option Params
-with_radius given p = option_map (λ n. let q : Params = record p { radius = n } in q) (value_or p.radius byte_in (given (codes "radius")))
+with_radius given p = option_map (λ n. let q : Params = record p { radius = n } in q)
+    (value_or p.radius byte_in (given (codes "radius")))
 
 abbrev pub with_limit : Lookup → Params → Option Params
-with_limit given p = option_map (λ n. let q : Params = record p { limit = n } in q) (value_or p.limit (number_in 6) (given (codes "limit")))
+with_limit given p = option_map (λ n. let q : Params = record p { limit = n } in q)
+    (value_or p.limit (number_in 6) (given (codes "limit")))
 
 abbrev pub with_slots : Lookup → Params → Option Params
-with_slots given p = option_map (λ n. let q : Params = record p { slots = n } in q) (value_or p.slots (number_in 6) (given (codes "slots")))
+with_slots given p = option_map (λ n. let q : Params = record p { slots = n } in q)
+    (value_or p.slots (number_in 6) (given (codes "slots")))
 
 abbrev pub with_lead : Lookup → Params → Option Params
-with_lead given p = option_map (λ n. let q : Params = record p { lead = n } in q) (value_or p.lead (number_in 6) (given (codes "lead")))
+with_lead given p = option_map (λ n. let q : Params = record p { lead = n } in q)
+    (value_or p.lead (number_in 6) (given (codes "lead")))
 
 abbrev pub with_messages : Lookup → Params → Option Params
-with_messages given p = option_map (λ n. let q : Params = record p { messages = n } in q) (value_or p.messages byte_in (given (codes "messages")))
+with_messages given p = option_map (λ n. let q : Params = record p { messages = n } in q)
+    (value_or p.messages byte_in (given (codes "messages")))
 
 abbrev pub with_clock : Lookup → Params → Option Params
-with_clock given p = option_map (λ c. let q : Params = record p { clock = c } in q) (value_or p.clock clock_in (given (codes "clock")))
+with_clock given p = option_map (λ c. let q : Params = record p { clock = c } in q)
+    (value_or p.clock clock_in (given (codes "clock")))
 
 abbrev pub where_ok : Result Unit ParamFault → Params → Option Params
 where_ok (Ok _) p = Some p
@@ -55,15 +63,18 @@ in_range p = where_ok (verdict_of (ranges p)) p
 
 -- what the encoder is asked for
 abbrev pub coding_of : Lookup → Params → Option Params
-coding_of given p = option_and_then (with_limit given) (option_and_then (with_radius given) (option_and_then (with_keep given) (with_quant given p)))
+coding_of given p = option_and_then (with_limit given)
+    (option_and_then (with_radius given) (option_and_then (with_keep given) (with_quant given p)))
 
 -- what the call is asked for
 abbrev pub timing_of : Lookup → Params → Option Params
-timing_of given p = option_and_then (with_clock given) (option_and_then (with_messages given) (option_and_then (with_lead given) (with_slots given p)))
+timing_of given p = option_and_then (with_clock given)
+    (option_and_then (with_messages given) (option_and_then (with_lead given) (with_slots given p)))
 
 -- the parameters that the options give, each the default where its option isn't there
 abbrev pub params_of : Lookup → Option Params
-params_of given = option_and_then in_range (option_and_then (timing_of given) (option_and_then (coding_of given) (with_format given)))
+params_of given = option_and_then in_range
+    (option_and_then (timing_of given) (option_and_then (coding_of given) (with_format given)))
 
 -- ---- commands
 
@@ -95,7 +106,8 @@ abbrev pub call : Row
 call = record {
   word = codes "call";
   places = codes "in" ∷ codes "out" ∷ [];
-  options = codes "quant" ∷ codes "keep" ∷ codes "radius" ∷ codes "limit" ∷ codes "slots" ∷ codes "lead" ∷ codes "messages" ∷ codes "clock" ∷ codes "trace" ∷ [];
+  options = codes "quant" ∷ codes "keep" ∷ codes "radius" ∷ codes "limit"
+      ∷ codes "slots" ∷ codes "lead" ∷ codes "messages" ∷ codes "clock" ∷ codes "trace" ∷ [];
   asks = call_of;
 }
 
@@ -127,7 +139,8 @@ abbrev pub send : Row
 send = record {
   word = codes "send";
   places = codes "in" ∷ codes "log" ∷ codes "wire" ∷ [];
-  options = codes "quant" ∷ codes "keep" ∷ codes "radius" ∷ codes "limit" ∷ codes "slots" ∷ codes "lead" ∷ codes "clock" ∷ codes "target" ∷ [];
+  options = codes "quant" ∷ codes "keep" ∷ codes "radius"
+      ∷ codes "limit" ∷ codes "slots" ∷ codes "lead" ∷ codes "clock" ∷ codes "target" ∷ [];
   asks = send_of;
 }
 
@@ -159,7 +172,13 @@ abbrev pub frames_in : Option Text → Option ℕ
 frames_in text = option_and_then frames_in_range (option_and_then (number_in 5) text)
 
 abbrev pub demo_with : Params → ℕ → ℕ → Asked
-demo_with params seed frames = record { command = Demo params seed frames; video = None; events = None; pictures = None; wire = None }
+demo_with params seed frames = record {
+  command = Demo params seed frames;
+  video = None;
+  events = None;
+  pictures = None;
+  wire = None;
+}
 
 abbrev pub demo_of : Lookup → Option Asked
 demo_of given = option_and_then (λ params. option_and_then (λ seed. option_map (demo_with params seed)
@@ -169,7 +188,8 @@ abbrev pub demo : Row
 demo = record {
   word = codes "demo";
   places = codes "seed" ∷ codes "frames" ∷ [];
-  options = codes "format" ∷ codes "quant" ∷ codes "keep" ∷ codes "radius" ∷ codes "limit" ∷ codes "slots" ∷ codes "lead" ∷ codes "messages" ∷ codes "clock" ∷ [];
+  options = codes "format" ∷ codes "quant" ∷ codes "keep" ∷ codes "radius"
+      ∷ codes "limit" ∷ codes "slots" ∷ codes "lead" ∷ codes "messages" ∷ codes "clock" ∷ [];
   asks = demo_of;
 }
 
@@ -178,7 +198,13 @@ abbrev pub bucket_in : Option Text → Option ℕ
 bucket_in text = option_and_then (number_in 6) text
 
 abbrev pub rate_with : Option Text → ℕ → ℕ → Asked
-rate_with log target bucket = record { command = Rate target bucket; video = None; events = log; pictures = None; wire = None }
+rate_with log target bucket = record {
+  command = Rate target bucket;
+  video = None;
+  events = log;
+  pictures = None;
+  wire = None;
+}
 
 abbrev pub rate_of : Lookup → Option Asked
 rate_of given = option_and_then (λ target. option_map (rate_with (given (codes "log")) target)

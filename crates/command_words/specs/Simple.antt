@@ -58,7 +58,8 @@ unfoldable pub placed : List Text → List Text → Option (List Given)
 placed places [] = Some []
 placed places (word ∷ words) = at_place places word (λ others waits. placed others words)
 
-abbrev pub after_word : (options places : List Text) → Option Text → Kind → Text → List Text → Rest → Option (List Given)
+abbrev pub after_word : (options places : List Text)
+    → Option Text → Kind → Text → List Text → Rest → Option (List Given)
 after_word options places (Some name) plain word words rest = with_given name word (rest places None)
 after_word options places (Some name) _ word words rest = None
 after_word options places None plain word words rest = at_place places word rest

@@ -1,4 +1,4 @@
-// The commands.
+//! The commands.
 use h263_types::Params;
 
 /// What the program is asked for. Each parameter is in its range; of `call` and `send` the format

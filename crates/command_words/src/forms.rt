@@ -1,5 +1,5 @@
-// The forms of the commands: a first word, the names of the positional words in their order, and
-// the options.
+//! The forms of the commands: a first word, the names of the positional words in their order, and
+//! the options.
 ghost use Rattle.std.specs.Prelude.{◌≡◌, ◌≤◌, length, option_map};
 ghost use Rattle.command_words.specs.Asked.{row_named};
 ghost use Rattle.command_words.specs.Clap.{texts};
@@ -41,7 +41,7 @@ static RATE_PLACES: [&str; 1] = ["log"];
 static RATE_OPTIONS: [&str; 2] = ["target", "bucket"];
 
 impl Form {
-    /// The form of the command with this first word.
+    // The form of the command with this first word.
     pub(crate) fn named(first: &str) -> Option<Form>
         ensures { option_map row_of result ≡ row_named first.now }
     {

@@ -1,7 +1,15 @@
-//! The words of the program's commands: `call`, `send`, `recv`, `demo` and `rate`.
+//! The words of the program's commands: `call`, `send`, `recv` and `demo`.
 //!
 //! The first word names a command; the others are read with `clap` as one simple command for each
-//! first word.
+//! first word. [`Words`] are a [`Command`] with its parameters and the names of its roles; words
+//! that are none give a [`WordStop`].
+//!
+//! ```rust
+//! let read = Words::read(alloc, &["call", "in", "out", "--slots", "4", "--lead", "1"])?;
+//! let params = Params { slots: 4, lead: 1, ..Params::of(Format::Qcif) };
+//! assert_eq!(rt; read.command(), Command::Call { params, traced: false });
+//! assert_eq!(rt; read.name(Role::Pictures), Some("out"));
+//! ```
 #![tactic(auto)]
 
 mod command;

@@ -1,4 +1,4 @@
-// A simple command, read by `clap`.
+//! A simple command, read by `clap`.
 ghost use Rattle.std.specs.Prelude.{◌≡◌, ◌≢◌, ◌≤◌, ℕ, IfOk, IfErr, Some, None, MatchResult, map};
 ghost use Rattle.std.specs.Prelude.{drop, length, true};
 ghost use Rattle.clap.specs.Words.{app_of, first_value, found_of, kind_of};
@@ -74,7 +74,7 @@ fn with_options<'a>(
     Ok(command)
 }
 
-/// What the words behind the first give to the simple command of a form.
+// What the words behind the first give to the simple command of a form.
 pub(crate) fn parse<'a>(
     alloc: Global,
     form: Form,

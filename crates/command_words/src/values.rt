@@ -1,4 +1,4 @@
-// The forms of a command's values.
+//! The forms of a command's values.
 ghost use Rattle.std.specs.Prelude.{◌≡◌, ◌≤◌, ◌<◌, ◌^◌, IfSome, option_map};
 ghost use Rattle.std.specs.Char.{is_ascii_digit};
 ghost use Rattle.std.specs.List.{list_all};
@@ -25,7 +25,7 @@ fn is_number(text: &[u8], most: usize) -> bool
     }
 }
 
-/// The number that one to `most` ASCII digits write.
+// The number that one to `most` ASCII digits write.
 pub(crate) fn number_of(text: &str, most: usize) -> Option<u32>
     requires { most ≤ 9 }
     ensures value { result ≡ number_in most text.now }
@@ -44,7 +44,7 @@ fn byte_of(text: &str) -> Option<u8>
     u8::try_from(number_of(text, 6)?).ok()
 }
 
-/// An option's number, or the default where the option isn't there.
+// An option's number, or the default where the option isn't there.
 pub(crate) fn number_or(text: Option<&str>, default: u32) -> Option<u32>
     ensures { result ≡ value_or default (number_in 6) (option_map (λ t. t.now) text.entry) }
 {
@@ -54,7 +54,7 @@ pub(crate) fn number_or(text: Option<&str>, default: u32) -> Option<u32>
     }
 }
 
-/// The same of a number that a byte holds.
+// The same of a number that a byte holds.
 pub(crate) fn byte_or(text: Option<&str>, default: u8) -> Option<u8>
     ensures { result ≡ value_or default byte_in (option_map (λ t. t.now) text.entry) }
 {
@@ -64,7 +64,7 @@ pub(crate) fn byte_or(text: Option<&str>, default: u8) -> Option<u8>
     }
 }
 
-/// An option's format, or QCIF where the option isn't there.
+// An option's format, or QCIF where the option isn't there.
 pub(crate) fn format_or(text: Option<&str>, default: Format) -> Option<Format>
     ensures { result ≡ value_or default format_in (option_map (λ t. t.now) text.entry) }
 {
@@ -77,7 +77,7 @@ pub(crate) fn format_or(text: Option<&str>, default: Format) -> Option<Format>
     }
 }
 
-/// An option's clock, or the default where the option isn't there.
+// An option's clock, or the default where the option isn't there.
 pub(crate) fn clock_or(text: Option<&str>, default: Clock) -> Option<Clock>
     ensures { result ≡ value_or default clock_in (option_map (λ t. t.now) text.entry) }
 {

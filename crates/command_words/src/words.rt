@@ -1,4 +1,4 @@
-// The words of a command, read.
+//! The words of a command, read.
 ghost use Rattle.std.specs.Prelude.{◌≡◌, ◌≤◌, IfOk, IfSome, MatchOption, MatchResult, None, Some};
 ghost use Rattle.std.specs.Prelude.{drop, option_map, codes};
 ghost use Rattle.h263_types.specs.Params.{IsParams};
@@ -199,7 +199,7 @@ fn rate_words<'a>(given: &ArgMatches<'a>) -> Option<Words<'a>>
     })
 }
 
-/// What the values of a command's words ask for.
+// What the values of a command's words ask for.
 fn words_of<'a>(form: Form, given: &ArgMatches<'a>) -> Option<Words<'a>>
     ensures value { option_map asked_of result
         ≡ (row_of form).asks (first_value (found_of given.now)) }
@@ -214,7 +214,7 @@ fn words_of<'a>(form: Form, given: &ArgMatches<'a>) -> Option<Words<'a>>
     }
 }
 
-/// The form that the first word names.
+// The form that the first word names.
 fn form_of(words: &[&str]) -> Option<Form>
     ensures { MatchOption result (asked (texts words.now) ≡ None)
         (λ form. asked (texts words.now) ≡ asked_by (row_of form) (drop 1 (texts words.now))) }

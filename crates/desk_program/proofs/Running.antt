@@ -267,6 +267,7 @@ not_read_out starved source now stop = tt
 not_read_out unasked source now stop = tt
 not_read_out (unopened role) source now stop = tt
 
+-- a status with which a machine stops comes once all is attached
 pub later_stop : (phase : Phase) → ComesAtStop phase → ComesLater phase
 later_stop finished stop = absurd stop
 later_stop refused stop = tt

@@ -30,12 +30,14 @@ IsTaken (Some k) n = k ≡ n
 
 -- what is left after an end: where it says how much it takes, just that is gone
 abbrev pub LeavesBehind : (Role → Option ℕ) → (Role → List ℕ) → (Role → ℕ) → Outside → Type 0
-LeavesBehind taken inputs before now = (r : Role) → IsInput r → (k : ℕ) → taken r ≡ Some k → now.left r ≡ Some (behind inputs (λ r. before r + k) r)
+LeavesBehind taken inputs before now = (r : Role) → IsInput r
+    → (k : ℕ) → taken r ≡ Some k → now.left r ≡ Some (behind inputs (λ r. before r + k) r)
 
 -- these bytes hold the whole turn
 abbrev pub holds : Turn → (Role → ℕ) → Bool
 holds t k =
-    t.whole && nat_le (t.taken Video) (k Video) && nat_le (t.taken Events) (k Events) && nat_le (t.taken Video2) (k Video2)
+    t.whole && nat_le (t.taken Video) (k Video)
+    && nat_le (t.taken Events) (k Events) && nat_le (t.taken Video2) (k Video2)
 
 -- these bytes do not hold the first of the turns
 abbrev pub IsPart : List Turn → (Role → ℕ) → Type 0
@@ -89,7 +91,8 @@ IsStop status = ComesAtStop (phase status)
 -- ---- one turn
 
 -- the machine has handled an event, and goes on
-pub record Went {State : Type 0} (step : Step State) (stands : State → (Role → List ℕ) → Type 0) (reads : State → Bool) (now : Bool) (inputs : Role → List ℕ) (old new : Outside) : Type 0 where
+pub record Went {State : Type 0} (step : Step State) (stands : State → (Role → List ℕ) → Type 0)
+    (reads : State → Bool) (now : Bool) (inputs : Role → List ℕ) (old new : Outside) : Type 0 where
   pub next : State
   pub turn : Turn
   pub could : now ≡ true
@@ -100,7 +103,8 @@ pub record Went {State : Type 0} (step : Step State) (stands : State → (Role �
   pub written : Gains turn.texts old.written new.written
 
 -- it has ended with this status
-pub record Ended {State : Type 0} (step : Step State) (status : Status) (inputs : Role → List ℕ) (old new : Outside) : Type 0 where
+pub record Ended {State : Type 0} (step : Step State)
+    (status : Status) (inputs : Role → List ℕ) (old new : Outside) : Type 0 where
   pub last : End
   pub is : step ≡ Ends last
   pub known : status ≡ last.status
@@ -117,7 +121,8 @@ step_turns (Goes next turn) = turn ∷ []
 step_turns (Ends last) = []
 
 -- a read has failed: some bytes were taken that do not hold the whole event, and nothing was written
-pub record Lost {State : Type 0} (step : Step State) (reads : Bool) (inputs : Role → List ℕ) (old new : Outside) : Type 0 where
+pub record Lost {State : Type 0}
+    (step : Step State) (reads : Bool) (inputs : Role → List ℕ) (old new : Outside) : Type 0 where
   pub part : Role → ℕ
   pub partly : IsPart (step_turns step) part
   pub could : reads ≡ true
@@ -125,7 +130,8 @@ pub record Lost {State : Type 0} (step : Step State) (reads : Bool) (inputs : Ro
   pub written : new.written ≡ old.written
 
 -- what a turn that gives up makes of a desk
-abbrev pub GivesUp : {State : Type 0} → Phase → Status → Step State → Bool → (Role → List ℕ) → Outside → Outside → Type 0
+abbrev pub GivesUp : {State : Type 0}
+    → Phase → Status → Step State → Bool → (Role → List ℕ) → Outside → Outside → Type 0
 GivesUp refused status step now inputs old new = Ended step status inputs old new
 GivesUp unread status step now inputs old new = Lost step now inputs old new
 GivesUp unwritten status step now inputs old new = GainsFronts (step_texts step) old.written new.written
@@ -135,13 +141,17 @@ GivesUp unasked status step now inputs old new = ⊥
 GivesUp (unopened role) status step now inputs old new = ⊥
 
 -- what one turn makes of a desk, by what it answers
-abbrev pub TurnGives : {State : Type 0} → Result Bool Status → Step State → (State → (Role → List ℕ) → Type 0) → (State → Bool) → Bool → (Role → List ℕ) → Outside → Outside → Type 0
+abbrev pub TurnGives : {State : Type 0}
+    → Result Bool Status → Step State → (State → (Role → List ℕ) → Type 0)
+    → (State → Bool) → Bool → (Role → List ℕ) → Outside → Outside → Type 0
 TurnGives (Ok true) step stands reads now inputs old new = Went step stands reads now inputs old new
 TurnGives (Ok false) step stands reads now inputs old new = Ended step Fine inputs old new
 TurnGives (Err status) step stands reads now inputs old new = GivesUp (phase status) status step now inputs old new
 
 -- what the start makes of a desk
-abbrev pub StartGives : {Machine State : Type 0} → Result Machine Status → Step State → (Machine → State → (Role → List ℕ) → Type 0) → (State → Bool) → (Role → List ℕ) → Outside → Outside → Type 0
+abbrev pub StartGives : {Machine State : Type 0}
+    → Result Machine Status → Step State → (Machine → State → (Role → List ℕ) → Type 0)
+    → (State → Bool) → (Role → List ℕ) → Outside → Outside → Type 0
 StartGives (Ok machine) step stands reads inputs old new = Went step (stands machine) reads true inputs old new
 StartGives (Err status) step stands reads inputs old new = GivesUp (phase status) status step true inputs old new
 
@@ -204,7 +214,8 @@ abbrev pub silent : Status → Role → List ℕ
 silent status r = []
 
 -- exactly the texts, with their status, and just what the run takes is gone
-pub record IsExactly (run : Run) (after : Status → Role → List ℕ) (status : Status) (inputs : Role → List ℕ) (old : Role → Option (List ℕ)) (new : Outside) : Type 0 where
+pub record IsExactly (run : Run) (after : Status → Role → List ℕ) (status : Status)
+    (inputs : Role → List ℕ) (old : Role → Option (List ℕ)) (new : Outside) : Type 0 where
   pub known : status ≡ run.last.status
   pub written : Gains (λ r. text_of run r ++ after status r) old new.written
   pub left : LeavesBehind run.last.taken inputs (taken_of run.turns) new
@@ -217,7 +228,8 @@ pub record IsSoFar (run : Run) (after : Role → List ℕ) (old : Role → Optio
   pub written : Gains (λ r. texts_of done r ++ after r) old new.written
 
 -- exactly the texts of the turns that were taken whole
-pub record IsWholeOnly (run : Run) (after : Role → List ℕ) (inputs : Role → List ℕ) (old : Role → Option (List ℕ)) (new : Outside) : Type 0 where
+pub record IsWholeOnly (run : Run) (after : Role → List ℕ)
+    (inputs : Role → List ℕ) (old : Role → Option (List ℕ)) (new : Outside) : Type 0 where
   pub done : List Turn
   pub rest : List Turn
   pub front : done ++ rest ≡ run.turns
@@ -239,7 +251,8 @@ pub record IsCutBehind (run : Run) (after : Status → Role → List ℕ) (old n
   pub written : Gains (λ r. texts_of done r ++ piece r) old new
 
 -- how a run has ended, by its status; `after` is what the end with a status writes besides
-abbrev pub EndedIn : Phase → Run → (Status → Role → List ℕ) → Status → (Role → List ℕ) → (Role → Option (List ℕ)) → Outside → Type 0
+abbrev pub EndedIn : Phase → Run → (Status → Role → List ℕ)
+    → Status → (Role → List ℕ) → (Role → Option (List ℕ)) → Outside → Type 0
 EndedIn finished run after status inputs old new = IsExactly run after status inputs old new
 EndedIn refused run after status inputs old new = IsExactly run after status inputs old new
 EndedIn unread run after status inputs old new = IsWholeOnly run (after status) inputs old new
@@ -249,5 +262,6 @@ EndedIn unwritten run after status inputs old new =
 EndedIn unasked run after status inputs old new = Gains (after status) old new.written
 EndedIn (unopened role) run after status inputs old new = Gains (after status) old new.written
 
-abbrev pub HasEnded : Run → (Status → Role → List ℕ) → Status → (Role → List ℕ) → (Role → Option (List ℕ)) → Outside → Type 0
+abbrev pub HasEnded : Run → (Status → Role → List ℕ)
+    → Status → (Role → List ℕ) → (Role → Option (List ℕ)) → Outside → Type 0
 HasEnded run after status inputs old new = EndedIn (phase status) run after status inputs old new

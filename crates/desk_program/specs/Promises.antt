@@ -50,8 +50,10 @@ IsNotUsage status = AskedIn (phase status)
 abbrev pub HasStatus : Run → Status → Faults → Faults → Type 0
 HasStatus run status old new = SomeRose old new ⊎ (status ≡ run.last.status) ⊎ (status ≡ OutOfMemory)
 
--- texts: the status is that of the run, and each output has gained exactly its text; `after` is what an end writes besides
-pub record HasTexts (run : Run) (after : Status → Role → List ℕ) (status : Status) (old new : Role → Option (List ℕ)) : Type 0 where
+-- texts: the status is that of the run, and each output has gained exactly its text; `after` is
+-- what an end writes besides
+pub record HasTexts (run : Run) (after : Status → Role → List ℕ)
+    (status : Status) (old new : Role → Option (List ℕ)) : Type 0 where
   pub known : status ≡ run.last.status
   pub written : Gains (λ r. text_of run r ++ after status r) old new
 
@@ -78,17 +80,22 @@ ReportIn unwritten status run after old new =
     Front (text_of run Report ++ after run.last.status Report) old new ⊎ HasLinesCut run after old new
 ReportIn _ status run after old new = Unit {0}
 
--- prefixes: each output but the report has gained a front of its text; the report has gained whole lines and that of the status, or was cut in a line
-pub record HasPrefixes (run : Run) (after : Status → Role → List ℕ) (status : Status) (old new : Role → Option (List ℕ)) : Type 0 where
+-- prefixes: each output but the report has gained a front of its text; the report has gained whole
+-- lines and that of the status, or was cut in a line
+pub record HasPrefixes (run : Run) (after : Status → Role → List ℕ)
+    (status : Status) (old new : Role → Option (List ℕ)) : Type 0 where
   pub outputs : (r : Role) → is_role Report r ≡ false → Front (text_of run r) (old r) (new r)
   pub report : ReportIn (phase status) status run after (old Report) (new Report)
 
--- taken_input: just what the run takes is gone, as far as its end says it; after a failed read the outputs are those of what was taken whole
-abbrev pub TakesIn : Phase → Status → Run → (Status → Role → List ℕ) → (Role → List ℕ) → (Role → Option (List ℕ)) → Outside → Type 0
+-- taken_input: just what the run takes is gone, as far as its end says it; after a failed read the
+-- outputs are those of what was taken whole
+abbrev pub TakesIn : Phase → Status
+    → Run → (Status → Role → List ℕ) → (Role → List ℕ) → (Role → Option (List ℕ)) → Outside → Type 0
 TakesIn finished status run after inputs old new = LeavesBehind run.last.taken inputs (taken_of run.turns) new
 TakesIn refused status run after inputs old new = LeavesBehind run.last.taken inputs (taken_of run.turns) new
 TakesIn unread status run after inputs old new = IsWholeOnly run (after status) inputs old new
 TakesIn _ status run after inputs old new = Unit {0}
 
-abbrev pub TakesInput : Status → Run → (Status → Role → List ℕ) → (Role → List ℕ) → (Role → Option (List ℕ)) → Outside → Type 0
+abbrev pub TakesInput : Status
+    → Run → (Status → Role → List ℕ) → (Role → List ℕ) → (Role → Option (List ℕ)) → Outside → Type 0
 TakesInput status run after inputs old new = TakesIn (phase status) status run after inputs old new

@@ -5,7 +5,8 @@ use Rattle.h263_outside.specs.declared.desk.Role.{Role}
 use Rattle.call_report.specs.declared.status.Status.{Status}
 use Rattle.call_report.specs.declared.status.Status.TheVariants.{Ok as Fine}
 
--- one event that was handled: the bytes that it took of each input, whether these show by themselves where it ends, and its text on each output
+-- one event that was handled: the bytes that it took of each input, whether these show by
+-- themselves where it ends, and its text on each output
 pub record Turn : Type 0 where
   pub taken : Role → ℕ
   pub whole : Bool
@@ -36,7 +37,8 @@ abbrev pub silence : Run
 silence = record { turns = []; last = record { status = Fine; taken = λ _. None; texts = λ _. [] } }
 
 abbrev pub follow : {State : Type 0} → Step State → (State → (Role → ℕ) → Run) → Run
-follow (Goes next turn) rest = record { turns = turn ∷ (rest next turn.taken).turns; last = (rest next turn.taken).last }
+follow (Goes next turn) rest =
+    record { turns = turn ∷ (rest next turn.taken).turns; last = (rest next turn.taken).last }
 follow (Ends last) rest = record { turns = []; last = last }
 
 -- the run of a machine from a state, over what is left of each input, where so many turns may come before the end
@@ -49,9 +51,11 @@ follow_state (Goes next turn) s rest = rest next turn.taken
 follow_state (Ends last) s rest = s
 
 -- the state in which it ends
-unfoldable pub end_state : {State : Type 0} → (State → (Role → List ℕ) → Step State) → ℕ → State → (Role → List ℕ) → State
+unfoldable pub end_state : {State : Type 0}
+    → (State → (Role → List ℕ) → Step State) → ℕ → State → (Role → List ℕ) → State
 end_state turn zero s inputs = s
-end_state turn (suc n) s inputs = follow_state (turn s inputs) s (λ next taken. end_state turn n next (behind inputs taken))
+end_state turn (suc n) s inputs =
+    follow_state (turn s inputs) s (λ next taken. end_state turn n next (behind inputs taken))
 
 -- the run of a command whose first step is this one
 abbrev pub run_from : {State : Type 0} → Step State → (State → (Role → List ℕ) → Step State) → ℕ → (Role → List ℕ) → Run

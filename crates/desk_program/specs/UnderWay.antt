@@ -5,8 +5,11 @@ use Rattle.h263_outside.specs.declared.desk.Role.{Role}
 use Rattle.desk_program.specs.Run.{Turn, Step, Run, run_of, end_state, behind, texts_of, taken_of, IsWhole}
 use Rattle.desk_program.specs.Ends.{Tells, Gains}
 
--- some turns of the run are done, and the others are those of the state that the machine keeps in mind, over what is left
-pub record IsUnderWay {State : Type 0} (step : State → (Role → List ℕ) → Step State) (reads : State → Bool) (run : Run) (inputs : Role → List ℕ) (start : Role → Option (List ℕ)) (stands : State → (Role → List ℕ) → Type 0) (more : ℕ) (now : Outside) : Type 0 where
+-- some turns of the run are done, and the others are those of the state that the machine keeps in
+-- mind, over what is left
+pub record IsUnderWay {State : Type 0} (step : State → (Role → List ℕ) → Step State)
+    (reads : State → Bool) (run : Run) (inputs : Role → List ℕ) (start : Role → Option (List ℕ))
+    (stands : State → (Role → List ℕ) → Type 0) (more : ℕ) (now : Outside) : Type 0 where
   pub done : List Turn
   pub state : State
   pub rest : Role → List ℕ
@@ -19,7 +22,8 @@ pub record IsUnderWay {State : Type 0} (step : State → (Role → List ℕ) →
   pub written : Gains (texts_of done) start now.written
 
 -- besides, it will end in this state
-pub record EndsIn {State : Type 0} (step : State → (Role → List ℕ) → Step State) (final : State) (stands : State → (Role → List ℕ) → Type 0) (more : ℕ) (now : Outside) : Type 0 where
+pub record EndsIn {State : Type 0} (step : State → (Role → List ℕ) → Step State) (final : State)
+    (stands : State → (Role → List ℕ) → Type 0) (more : ℕ) (now : Outside) : Type 0 where
   pub state : State
   pub rest : Role → List ℕ
   pub kept : stands state rest

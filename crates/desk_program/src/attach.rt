@@ -11,13 +11,17 @@ use h263_outside::{Desk, Role, Unattached};
 /// Attaches a role by a name.
 pub fn attach_role<D: Desk>(desk: &mut D, role: Role, name: &str) -> Result<(), Status>
     requires { (D.outside desk.old).attached role ≡ false }
-    ensures attached { OnOk result ((D.outside desk.new).attached ≡ with_role (D.outside desk.old).attached role true) }
+    ensures attached { OnOk result
+        ((D.outside desk.new).attached ≡ with_role (D.outside desk.old).attached role true) }
     ensures name { OnOk result (IfSome ((D.outside desk.new).name role) (λ told. told ≡ name.now)) }
-    ensures other_names { (r : Role) → r ≢ role → (D.outside desk.new).name r ≡ (D.outside desk.old).name r }
+    ensures other_names { (r : Role)
+        → r ≢ role → (D.outside desk.new).name r ≡ (D.outside desk.old).name r }
     ensures err { OnErr result ((D.outside desk.new).attached ≡ (D.outside desk.old).attached) }
     ensures err_name { OnErr result ((D.outside desk.new).name ≡ (D.outside desk.old).name) }
-    ensures kind { IfErr result (λ status. (status ≡ Status.OpenFault role) ⊎ (status ≡ Status.OutOfMemory)) }
-    ensures cause { HasCause (start_status result) (D.outside desk.old).faults (D.outside desk.new).faults }
+    ensures kind { IfErr result (λ status.
+        (status ≡ Status.OpenFault role) ⊎ (status ≡ Status.OutOfMemory)) }
+    ensures cause { HasCause
+        (start_status result) (D.outside desk.old).faults (D.outside desk.new).faults }
     ensures rest { OnlyAttaches (D.outside desk.old) (D.outside desk.new) }
 {
     match desk.attach(role, name) {
@@ -32,9 +36,11 @@ pub fn attach_all<D: Desk>(desk: &mut D, order: &[(Role, &str)]) -> Result<(), S
     requires { IsTrue (are_free (D.outside desk.old).attached (names order.now)) }
     ensures attached { (first : List (Role × List ℕ)) → AreAttached first (D.outside desk.old) →
         AttachedAt (first ++ names order.now) (start_status result) (D.outside desk.new) }
-    ensures kept { (r : Role) → (D.outside desk.old).attached r ≡ true → (D.outside desk.new).attached r ≡ true }
+    ensures kept { (r : Role)
+        → (D.outside desk.old).attached r ≡ true → (D.outside desk.new).attached r ≡ true }
     ensures opening { IfErr result IsOpening }
-    ensures cause { HasCause (start_status result) (D.outside desk.old).faults (D.outside desk.new).faults }
+    ensures cause { HasCause
+        (start_status result) (D.outside desk.old).faults (D.outside desk.new).faults }
     ensures rest { OnlyAttaches (D.outside desk.old) (D.outside desk.new) }
 {
     for (role, name) in order {

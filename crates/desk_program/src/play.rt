@@ -12,13 +12,14 @@ use h263_outside::Desk;
 /// Takes one event after another, up to the end of a run that is under way.
 pub fn take_turns<D: Desk, M: Turns>(desk: &mut D, machine: &mut M) -> Status
     requires { M.ready machine.old (D.outside desk.old).attached }
-    ensures gives { (run : Run) (inputs : Role → List ℕ) (start : Role → Option (List ℕ)) →
-        IsUnderWay M.step M.reads run inputs start (M.stands machine.old) (M.more machine.old) (D.outside desk.old) →
-        HasEnded run silent result inputs start (D.outside desk.new) }
-    ensures whole_input { (run : Run) (inputs : Role → List ℕ) (start : Role → Option (List ℕ)) →
-        IsUnderWay M.step M.reads run inputs start (M.stands machine.old) (M.more machine.old) (D.outside desk.old) →
-        IsReadOut result (M.reading machine.old) (D.outside desk.new) }
-    ensures keeps { (final : M.State) → EndsIn M.step final (M.stands machine.old) (M.more machine.old) (D.outside desk.old) → AfterAll result (M.keeps machine.new final) }
+    ensures gives { (run : Run) (inputs : Role → List ℕ) (start : Role → Option (List ℕ))
+        → IsUnderWay M.step M.reads run inputs start (M.stands machine.old) (M.more machine.old)
+        (D.outside desk.old) → HasEnded run silent result inputs start (D.outside desk.new) }
+    ensures whole_input { (run : Run) (inputs : Role → List ℕ) (start : Role → Option (List ℕ))
+        → IsUnderWay M.step M.reads run inputs start (M.stands machine.old) (M.more machine.old)
+        (D.outside desk.old) → IsReadOut result (M.reading machine.old) (D.outside desk.new) }
+    ensures keeps { (final : M.State) → EndsIn M.step final (M.stands machine.old)
+        (M.more machine.old) (D.outside desk.old) → AfterAll result (M.keeps machine.new final) }
     ensures loan { M.loan machine.new ≡ M.loan machine.old }
     ensures later { IsLater result }
     ensures cause { HasCause result (D.outside desk.old).faults (D.outside desk.new).faults }

@@ -20,10 +20,13 @@ use y4m::{write_frame, write_head};
 pub fn put<D: Desk>(desk: &mut D, role: Role, bytes: &[u8]) -> Result<(), Status>
     requires output { IsOutput role }
     requires attached { (D.outside desk.old).attached role ≡ true }
-    ensures ok { OnOk result (Gains (on role bytes.now) (D.outside desk.old).written (D.outside desk.new).written) }
-    ensures err { OnErr result (GainsFronts (on role bytes.now) (D.outside desk.old).written (D.outside desk.new).written) }
+    ensures ok { OnOk result
+        (Gains (on role bytes.now) (D.outside desk.old).written (D.outside desk.new).written) }
+    ensures err { OnErr result (GainsFronts
+        (on role bytes.now) (D.outside desk.old).written (D.outside desk.new).written) }
     ensures kind { IfErr result (λ status. status ≡ Status.WriteFault) }
-    ensures cause { OnErr result (Rose (D.outside desk.old).faults.write (D.outside desk.new).faults.write) }
+    ensures cause { OnErr result
+        (Rose (D.outside desk.old).faults.write (D.outside desk.new).faults.write) }
     ensures rest { OnlyWrites (D.outside desk.old) (D.outside desk.new) }
 {
     match write_all(desk, role, bytes) {
@@ -35,10 +38,13 @@ pub fn put<D: Desk>(desk: &mut D, role: Role, bytes: &[u8]) -> Result<(), Status
 /// Writes the line that pictures of a format begin with.
 pub fn put_head<D: Desk>(desk: &mut D, format: Format) -> Result<(), Status>
     requires { (D.outside desk.old).attached Pictures ≡ true }
-    ensures ok { OnOk result (Gains (on Pictures (head_text format)) (D.outside desk.old).written (D.outside desk.new).written) }
-    ensures err { OnErr result (GainsFronts (on Pictures (head_text format)) (D.outside desk.old).written (D.outside desk.new).written) }
+    ensures ok { OnOk result (Gains (on Pictures (head_text format))
+        (D.outside desk.old).written (D.outside desk.new).written) }
+    ensures err { OnErr result (GainsFronts (on Pictures (head_text format))
+        (D.outside desk.old).written (D.outside desk.new).written) }
     ensures kind { IfErr result (λ status. status ≡ Status.WriteFault) }
-    ensures cause { OnErr result (Rose (D.outside desk.old).faults.write (D.outside desk.new).faults.write) }
+    ensures cause { OnErr result
+        (Rose (D.outside desk.old).faults.write (D.outside desk.new).faults.write) }
     ensures rest { OnlyWrites (D.outside desk.old) (D.outside desk.new) }
 {
     match write_head(desk, format) {
@@ -50,10 +56,13 @@ pub fn put_head<D: Desk>(desk: &mut D, format: Format) -> Result<(), Status>
 /// Writes a picture with the line of its mark.
 pub fn put_picture<D: Desk>(desk: &mut D, mark: Mark, picture: PictureRef<'_>) -> Result<(), Status>
     requires { (D.outside desk.old).attached Pictures ≡ true }
-    ensures ok { OnOk result (Gains (on Pictures (frame_text mark (lent picture.entry))) (D.outside desk.old).written (D.outside desk.new).written) }
-    ensures err { OnErr result (GainsFronts (on Pictures (frame_text mark (lent picture.entry))) (D.outside desk.old).written (D.outside desk.new).written) }
+    ensures ok { OnOk result (Gains (on Pictures (frame_text mark (lent picture.entry)))
+        (D.outside desk.old).written (D.outside desk.new).written) }
+    ensures err { OnErr result (GainsFronts (on Pictures (frame_text mark (lent picture.entry)))
+        (D.outside desk.old).written (D.outside desk.new).written) }
     ensures kind { IfErr result (λ status. status ≡ Status.WriteFault) }
-    ensures cause { OnErr result (Rose (D.outside desk.old).faults.write (D.outside desk.new).faults.write) }
+    ensures cause { OnErr result
+        (Rose (D.outside desk.old).faults.write (D.outside desk.new).faults.write) }
     ensures rest { OnlyWrites (D.outside desk.old) (D.outside desk.new) }
 {
     match write_frame(desk, mark, picture) {
@@ -66,10 +75,13 @@ pub fn put_picture<D: Desk>(desk: &mut D, mark: Mark, picture: PictureRef<'_>) -
 pub fn put_entry<D: Desk>(desk: &mut D, letter: u8, bytes: &[u8]) -> Result<(), Status>
     requires attached { (D.outside desk.old).attached Wire ≡ true }
     requires size { length bytes.now ≤ 65535 }
-    ensures ok { OnOk result (Gains (on Wire (entry_text letter bytes.now)) (D.outside desk.old).written (D.outside desk.new).written) }
-    ensures err { OnErr result (GainsFronts (on Wire (entry_text letter bytes.now)) (D.outside desk.old).written (D.outside desk.new).written) }
+    ensures ok { OnOk result (Gains (on Wire (entry_text letter bytes.now))
+        (D.outside desk.old).written (D.outside desk.new).written) }
+    ensures err { OnErr result (GainsFronts (on Wire (entry_text letter bytes.now))
+        (D.outside desk.old).written (D.outside desk.new).written) }
     ensures kind { IfErr result (λ status. status ≡ Status.WriteFault) }
-    ensures cause { OnErr result (Rose (D.outside desk.old).faults.write (D.outside desk.new).faults.write) }
+    ensures cause { OnErr result
+        (Rose (D.outside desk.old).faults.write (D.outside desk.new).faults.write) }
     ensures rest { OnlyWrites (D.outside desk.old) (D.outside desk.new) }
 {
     match write_entry(desk, letter, bytes) {
@@ -81,10 +93,13 @@ pub fn put_entry<D: Desk>(desk: &mut D, letter: u8, bytes: &[u8]) -> Result<(), 
 /// Writes a line of the report.
 pub fn put_line<D: Desk>(desk: &mut D, line: &Line) -> Result<(), Status>
     requires { (D.outside desk.old).attached Report ≡ true }
-    ensures ok { OnOk result (Gains (on Report (text_of line.now)) (D.outside desk.old).written (D.outside desk.new).written) }
-    ensures err { OnErr result (GainsFronts (on Report (text_of line.now)) (D.outside desk.old).written (D.outside desk.new).written) }
+    ensures ok { OnOk result (Gains
+        (on Report (text_of line.now)) (D.outside desk.old).written (D.outside desk.new).written) }
+    ensures err { OnErr result (GainsFronts
+        (on Report (text_of line.now)) (D.outside desk.old).written (D.outside desk.new).written) }
     ensures kind { IfErr result (λ status. status ≡ Status.WriteFault) }
-    ensures cause { OnErr result (Rose (D.outside desk.old).faults.write (D.outside desk.new).faults.write) }
+    ensures cause { OnErr result
+        (Rose (D.outside desk.old).faults.write (D.outside desk.new).faults.write) }
     ensures rest { OnlyWrites (D.outside desk.old) (D.outside desk.new) }
 {
     match write_all(desk, Role::Report, line.text()) {

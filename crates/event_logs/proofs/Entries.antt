@@ -89,12 +89,15 @@ module _ (side : Side) (entry : Entry) (parts : Parts) (more : List ℕ) (is : I
   whole_is : whole ≡ parts.letter ∷ size_of.0 ∷ size_of.1 ∷ (parts.bytes ++ more)
   whole_is = ap (λ (l : List ℕ). ((parts.letter ∷ l) ++ parts.bytes) ++ more) size_of.2
 
+  -- an entry is found where its text stands
   pub entry_found : entry_in side (text_of parts ++ more) ≡ Some entry
   entry_found = ap (entry_in side) whole_is ∙ spelled_is_read side entry parts.letter size_of.0 size_of.1 parts.bytes more told_of is.says
 
+  -- with its bytes
   pub bytes_found : take (bytes_of entry) (drop 3 (text_of parts ++ more)) ≡ parts.bytes
   bytes_found = ap (λ (l : List ℕ). take (bytes_of entry) (drop 3 l)) whole_is ∙ spelled_bytes side entry parts.letter size_of.0 size_of.1 parts.bytes more told_of is.says
 
+  -- and what lies behind it
   pub behind_found : drop (3 + bytes_of entry) (text_of parts ++ more) ≡ more
   behind_found = ap (λ (l : List ℕ). drop (3 + bytes_of entry) l) whole_is ∙ spelled_behind side entry parts.letter size_of.0 size_of.1 parts.bytes more told_of is.says
 
@@ -134,6 +137,7 @@ module _ (side : Side) (entry : Entry) where
         ap (λ (l : List ℕ). a ∷ b ∷ c ∷ l) (sym (take-append-drop (bytes_of entry) text)) ∙ ap (λ (n : ℕ). a ∷ b ∷ c ∷ (take (bytes_of entry) text ++ drop n (a ∷ b ∷ c ∷ text))) (sym place),
       )
 
+  -- an entry that is found has its text there
   pub entry_is : (text : List ℕ) → entry_in side text ≡ Some entry → (parts : Parts) × IsEntry side entry parts × (text ≡ text_of parts ++ drop (3 + bytes_of entry) text) × (parts.bytes ≡ take (bytes_of entry) (drop 3 text))
   entry_is text e =
       let h = read_whole side entry text e in

@@ -51,6 +51,7 @@ front_cases side n bytes le false long =
     let front : 3 ≤ length (take n bytes) = omega (arith, length-take n bytes, large, le) in
     long_begins side (take n bytes) front ∙ three_count side n bytes le ∙ sym (long_begins side bytes large)
 
+-- three bytes say which entry begins
 pub begins_front : (side : Side) (n : ℕ) (bytes : List ℕ) → 3 ≤ n → begun side (take n bytes) ≡ begun side bytes
 begins_front side n bytes le = front_cases side n bytes le (nat_lt (length bytes) 3) refl
 
@@ -66,6 +67,7 @@ cut_entry side bytes short = ap (λ (t : Bool). cond t None (begun side bytes)) 
 pub cut_head : (side : Side) (bytes : List ℕ) → length bytes < 3 → entry_in side bytes ≡ None
 cut_head side bytes short = cut_entry side bytes (omega (arith, reach_least (begun side bytes), short))
 
+-- an entry whose bytes are all there is the one that begins
 pub whole_entry : (side : Side) (bytes : List ℕ) → reach side bytes ≤ length bytes → entry_in side bytes ≡ begun side bytes
 whole_entry side bytes long = ap (λ (t : Bool). cond t None (begun side bytes)) (le-ltb (length bytes) (reach side bytes) long)
 

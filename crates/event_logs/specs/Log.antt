@@ -35,7 +35,8 @@ Are side at [] [] = Unit {0}
 Are side at [] (parts ∷ more) = ⊥
 Are side at (found ∷ others) [] = ⊥
 Are side at (found ∷ others) (parts ∷ more) =
-    (found.at ≡ at) × (found.bytes ≡ parts.bytes) × IsEntry side found.entry parts × Are side (at + length (text_of parts)) others more
+    (found.at ≡ at) × (found.bytes ≡ parts.bytes)
+    × IsEntry side found.entry parts × Are side (at + length (text_of parts)) others more
 
 -- the text of a side's log with these entries, 16,777,216 at most
 pub record IsLog (side : Side) (text : List ℕ) (found : List Found) : Type 0 where
@@ -46,12 +47,14 @@ pub record IsLog (side : Side) (text : List ℕ) (found : List Found) : Type 0 w
 
 -- no entry stands first in a text
 abbrev pub BeginsNone : Side → List ℕ → Type 0
-BeginsNone side text = (entry : Entry) (parts : Parts) (more : List ℕ) → IsEntry side entry parts → text ≡ text_of parts ++ more → ⊥
+BeginsNone side text = (entry : Entry) (parts : Parts) (more : List ℕ)
+    → IsEntry side entry parts → text ≡ text_of parts ++ more → ⊥
 
 -- an entry that is read at a byte, and those behind it
 abbrev pub found_from : Option Entry → ℕ → List ℕ → List Found → List Found
 found_from None at text more = []
-found_from (Some entry) at text more = record { at = at; entry = entry; bytes = take (bytes_of entry) (drop 3 text) } ∷ more
+found_from (Some entry) at text more =
+    record { at = at; entry = entry; bytes = take (bytes_of entry) (drop 3 text) } ∷ more
 
 abbrev pub fault_from : Option Entry → ℕ → Option LogFault → Option LogFault
 fault_from None at more = Some (BadRecord at)
@@ -62,14 +65,16 @@ unfoldable pub found_of : Side → ℕ → ℕ → List ℕ → List Found
 found_of side zero at text = []
 found_of side (suc n) at [] = []
 found_of side (suc n) at (b ∷ text) =
-    found_from (entry_in side (b ∷ text)) at (b ∷ text) (found_of side n (at + reach side (b ∷ text)) (drop (reach side (b ∷ text)) (b ∷ text)))
+    found_from (entry_in side (b ∷ text)) at (b ∷ text)
+    (found_of side n (at + reach side (b ∷ text)) (drop (reach side (b ∷ text)) (b ∷ text)))
 
 -- the first fault
 unfoldable pub fault_of : Side → ℕ → ℕ → List ℕ → Option LogFault
 fault_of side n at [] = None
 fault_of side zero at (b ∷ text) = Some (TooMany at)
 fault_of side (suc n) at (b ∷ text) =
-    fault_from (entry_in side (b ∷ text)) at (fault_of side n (at + reach side (b ∷ text)) (drop (reach side (b ∷ text)) (b ∷ text)))
+    fault_from (entry_in side (b ∷ text)) at
+    (fault_of side n (at + reach side (b ∷ text)) (drop (reach side (b ∷ text)) (b ∷ text)))
 
 -- the entries of a log, and its first fault
 unfoldable pub log_entries : Side → List ℕ → List Found

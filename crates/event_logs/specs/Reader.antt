@@ -8,7 +8,8 @@ use Rattle.event_logs.specs.Entry.{bytes_of, reach, entry_in}
 
 -- how a call moves a reader, and which place it gives: where the next entry begins
 abbrev pub Moves : Result (Option (ℕ × Entry)) LogStop → LogReader → LogReader → Type 0
-Moves (Ok (Some found)) old new = (found.0 ≡ old.at) × (new.side ≡ old.side) × (new.entries ≡ old.entries + 1) × (new.at ≡ old.at + (3 + bytes_of found.1))
+Moves (Ok (Some found)) old new = (found.0 ≡ old.at) × (new.side ≡ old.side)
+    × (new.entries ≡ old.entries + 1) × (new.at ≡ old.at + (3 + bytes_of found.1))
 Moves (Ok None) old new = new ≡ old
 Moves (Err Read) old new = new ≡ old
 Moves (Err (BadRecord at)) old new = (old.entries < 16777216) × (at ≡ old.at) × (new ≡ old)
@@ -24,8 +25,11 @@ pub record IsCut (reader : LogReader) (rest : List ℕ) (left : Option (List ℕ
 -- what a reader says of the rest of a log, with an entry's bytes in the buffer, and what is left of it then
 abbrev pub EntryGives : Result (Option (ℕ × Entry)) LogStop → LogReader → List ℕ → List ℕ → Option (List ℕ) → Type 0
 EntryGives (Ok (Some found)) old rest buf left =
-    (entry_in old.side rest ≡ Some found.1) × (take (bytes_of found.1) buf ≡ take (bytes_of found.1) (drop 3 rest)) × (left ≡ Some (drop (3 + bytes_of found.1) rest))
+    (entry_in old.side rest ≡ Some found.1)
+    × (take (bytes_of found.1) buf ≡ take (bytes_of found.1) (drop 3 rest))
+    × (left ≡ Some (drop (3 + bytes_of found.1) rest))
 EntryGives (Ok None) old rest buf left = (rest ≡ []) × (left ≡ Some [])
 EntryGives (Err Read) old rest buf left = IsCut old rest left
-EntryGives (Err (BadRecord at)) old rest buf left = (0 < length rest) × (entry_in old.side rest ≡ None) × (left ≡ Some (drop (reach old.side rest) rest))
+EntryGives (Err (BadRecord at)) old rest buf left = (0 < length rest)
+    × (entry_in old.side rest ≡ None) × (left ≡ Some (drop (reach old.side rest) rest))
 EntryGives (Err (TooMany at)) old rest buf left = (0 < length rest) × (left ≡ Some (drop 3 rest))

@@ -12,36 +12,55 @@ ghost use Rattle.event_logs.specs.Log.{Parts, text_of, IsEntry, Found, Are, IsLo
 /// What `write_entry` writes is read again, whatever follows it: the entry, its bytes and where it
 /// ends.
 pub fn written_is_read()
-    ensures entry { (side : Side) (entry : Entry) (letter : ℕ) (bytes more : List ℕ) → length bytes ≤ 65535 → entry_with side letter (length bytes) ≡ Some entry → entry_in side (entry_text letter bytes ++ more) ≡ Some entry }
-    ensures bytes { (side : Side) (entry : Entry) (letter : ℕ) (bytes more : List ℕ) → length bytes ≤ 65535 → entry_with side letter (length bytes) ≡ Some entry → take (bytes_of entry) (drop 3 (entry_text letter bytes ++ more)) ≡ bytes }
-    ensures behind { (side : Side) (entry : Entry) (letter : ℕ) (bytes more : List ℕ) → length bytes ≤ 65535 → entry_with side letter (length bytes) ≡ Some entry → drop (3 + bytes_of entry) (entry_text letter bytes ++ more) ≡ more }
+    ensures entry { (side : Side) (entry : Entry) (letter : ℕ) (bytes more : List ℕ)
+        → length bytes ≤ 65535 → entry_with side letter (length bytes) ≡ Some entry
+        → entry_in side (entry_text letter bytes ++ more) ≡ Some entry }
+    ensures bytes { (side : Side) (entry : Entry) (letter : ℕ) (bytes more : List ℕ)
+        → length bytes ≤ 65535 → entry_with side letter (length bytes) ≡ Some entry
+        → take (bytes_of entry) (drop 3 (entry_text letter bytes ++ more)) ≡ bytes }
+    ensures behind { (side : Side) (entry : Entry) (letter : ℕ) (bytes more : List ℕ)
+        → length bytes ≤ 65535 → entry_with side letter (length bytes) ≡ Some entry
+        → drop (3 + bytes_of entry) (entry_text letter bytes ++ more) ≡ more }
 {}
 
 /// A text is read as an entry exactly where it begins with the entry's parts.
 pub fn exact_entries()
-    ensures read { (side : Side) (entry : Entry) (text : List ℕ) → entry_in side text ≡ Some entry → (parts : Parts) × IsEntry side entry parts × (text ≡ text_of parts ++ drop (3 + bytes_of entry) text) × (parts.bytes ≡ take (bytes_of entry) (drop 3 text)) }
-    ensures spelled { (side : Side) (entry : Entry) (parts : Parts) (more : List ℕ) → IsEntry side entry parts → entry_in side (text_of parts ++ more) ≡ Some entry }
+    ensures read { (side : Side) (entry : Entry) (text : List ℕ) → entry_in side text ≡ Some entry
+        → (parts : Parts) × IsEntry side entry parts × (text ≡ text_of parts
+        ++ drop (3 + bytes_of entry) text) × (parts.bytes ≡ take (bytes_of entry) (drop 3 text)) }
+    ensures spelled { (side : Side) (entry : Entry) (parts : Parts) (more : List ℕ)
+        → IsEntry side entry parts → entry_in side (text_of parts ++ more) ≡ Some entry }
 {}
 
 /// A whole entry stays what it is where the text behind it is cut.
 pub fn cut_behind()
-    ensures { (side : Side) (entry : Entry) (text : List ℕ) (k : ℕ) → entry_in side text ≡ Some entry → 3 + bytes_of entry ≤ k → entry_in side (take k text) ≡ Some entry }
+    ensures { (side : Side) (entry : Entry) (text : List ℕ) (k : ℕ) → entry_in side text
+        ≡ Some entry → 3 + bytes_of entry ≤ k → entry_in side (take k text) ≡ Some entry }
 {}
 
 /// A text made of entries is read as these, without a fault.
 pub fn a_log_is_read()
-    ensures fault { (side : Side) (text : List ℕ) (found : List Found) → IsLog side text found → log_fault side text ≡ None }
-    ensures entries { (side : Side) (text : List ℕ) (found : List Found) → IsLog side text found → log_entries side text ≡ found }
+    ensures fault { (side : Side) (text : List ℕ) (found : List Found)
+        → IsLog side text found → log_fault side text ≡ None }
+    ensures entries { (side : Side) (text : List ℕ) (found : List Found)
+        → IsLog side text found → log_entries side text ≡ found }
 {}
 
 /// A text that is read without a fault is made of the entries that are read.
 pub fn read_is_a_log()
-    ensures { (side : Side) (text : List ℕ) → log_fault side text ≡ None → IsLog side text (log_entries side text) }
+    ensures { (side : Side) (text : List ℕ)
+        → log_fault side text ≡ None → IsLog side text (log_entries side text) }
 {}
 
 /// The first byte where no entry begins is refused, and entry 16,777,217 whatever it is; the
 /// entries before are read.
 pub fn first_fault()
-    ensures bad { (side : Side) (text rest : List ℕ) (found : List Found) (before : List Parts) → text ≡ flat_map text_of before ++ rest → Are side 0 found before → length before < 16777216 → 0 < length rest → BeginsNone side rest → (log_fault side text ≡ Some (BadRecord (length (flat_map text_of before)))) × (log_entries side text ≡ found) }
-    ensures many { (side : Side) (text rest : List ℕ) (found : List Found) (before : List Parts) → text ≡ flat_map text_of before ++ rest → Are side 0 found before → length before ≡ 16777216 → 0 < length rest → (log_fault side text ≡ Some (TooMany (length (flat_map text_of before)))) × (log_entries side text ≡ found) }
+    ensures bad { (side : Side) (text rest : List ℕ) (found : List Found) (before : List Parts)
+        → text ≡ flat_map text_of before ++ rest → Are side 0 found before
+        → length before < 16777216 → 0 < length rest → BeginsNone side rest → (log_fault side text
+        ≡ Some (BadRecord (length (flat_map text_of before)))) × (log_entries side text ≡ found) }
+    ensures many { (side : Side) (text rest : List ℕ) (found : List Found) (before : List Parts)
+        → text ≡ flat_map text_of before ++ rest → Are side 0 found before
+        → length before ≡ 16777216 → 0 < length rest → (log_fault side text
+        ≡ Some (TooMany (length (flat_map text_of before)))) × (log_entries side text ≡ found) }
 {}

@@ -51,10 +51,13 @@ impl LogReader {
     ) -> Result<Option<(u64, Entry)>, LogStop>
         requires attached { (D.outside desk.old).attached Events ≡ true }
         requires room { 65535 ≤ length buf.old }
-        ensures gives { (rest : List ℕ) → (D.outside desk.old).left Events ≡ Some rest → EntryGives result self.old rest buf.new ((D.outside desk.new).left Events) }
+        ensures gives { (rest : List ℕ) → (D.outside desk.old).left Events ≡ Some rest
+            → EntryGives result self.old rest buf.new ((D.outside desk.new).left Events) }
         ensures moves { Moves result self.old self.new }
-        ensures cause { IsErrOf result LogStop.Read → Rose (D.outside desk.old).faults.read (D.outside desk.new).faults.read }
-        ensures others { (r : Role) → r ≢ Events → (D.outside desk.new).left r ≡ (D.outside desk.old).left r }
+        ensures cause { IsErrOf result LogStop.Read
+            → Rose (D.outside desk.old).faults.read (D.outside desk.new).faults.read }
+        ensures others { (r : Role)
+            → r ≢ Events → (D.outside desk.new).left r ≡ (D.outside desk.old).left r }
         ensures rest { OnlyReads (D.outside desk.old) (D.outside desk.new) }
     {
         calls();

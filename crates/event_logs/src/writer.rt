@@ -23,9 +23,12 @@ fn head_of(letter: u8, len: u16) -> [u8; HEAD]
 pub fn write_entry<D: Desk>(desk: &mut D, letter: u8, bytes: &[u8]) -> Result<(), Failed>
     requires attached { (D.outside desk.old).attached Wire ≡ true }
     requires size { length bytes.now ≤ 65535 }
-    ensures text { OnOk result ((D.outside desk.new).written ≡ appended (D.outside desk.old).written Wire (entry_text letter bytes.now)) }
-    ensures prefix { OnErr result (GainsFront Wire (entry_text letter bytes.now) (D.outside desk.old).written (D.outside desk.new).written) }
-    ensures cause { OnErr result (Rose (D.outside desk.old).faults.write (D.outside desk.new).faults.write) }
+    ensures text { OnOk result ((D.outside desk.new).written
+        ≡ appended (D.outside desk.old).written Wire (entry_text letter bytes.now)) }
+    ensures prefix { OnErr result (GainsFront Wire
+        (entry_text letter bytes.now) (D.outside desk.old).written (D.outside desk.new).written) }
+    ensures cause { OnErr result
+        (Rose (D.outside desk.old).faults.write (D.outside desk.new).faults.write) }
     ensures rest { OnlyWrites (D.outside desk.old) (D.outside desk.new) }
 {
     calls();

@@ -1,7 +1,8 @@
--- THE FIRST FAULT, said of elements and not of a reader. An element is a field, a word, or several pieces that a standard
--- takes as one, as a word with its sign, or an escape with its fields. A reading is a list of elements, each where those
--- before it end, of which none has a fault. The first fault is the one that the next element has behind the longest
--- reading: that element is cut by the end of the bits, no word begins there, or its value is one that is refused.
+-- THE FIRST FAULT, said of elements and not of a reader. An element is a field, a word, or several
+-- pieces that a standard takes as one, as a word with its sign, or an escape with its fields. A
+-- reading is a list of elements, each where those before it end, of which none has a fault. The
+-- first fault is the one that the next element has behind the longest reading: that element is cut
+-- by the end of the bits, no word begins there, or its value is one that is refused.
 use Rattle.std.specs.Prelude.{◌≡◌, ℕ, zero, suc, ◌+◌, ◌<◌, ◌^◌, List, [], ◌∷◌, ◌++◌, length, Bool, Option, Some, None, ◌⊎◌, Result, Ok, Err}
 use Rattle.h263_bits.specs.declared.fault.Fault.{Fault}
 use Rattle.h263_bits.specs.declared.fault.FaultKind.{FaultKind}
@@ -29,7 +30,8 @@ IsCutWord IsWord left = (w : List Bool) × (next : Bool) × (more : List Bool) �
 -- no word begins the bits, and none goes on from them
 abbrev pub IsNoWord : (List Bool → Type 0) → List Bool → Type 0
 IsNoWord IsWord left =
-    (w : List Bool) → IsWord w → ((rest : List Bool) → left ≡ w ++ rest → ⊥) × ((more : List Bool) → w ≡ left ++ more → ⊥)
+    (w : List Bool) → IsWord w
+    → ((rest : List Bool) → left ≡ w ++ rest → ⊥) × ((more : List Bool) → w ≡ left ++ more → ⊥)
 
 -- a word that is cut, or none
 abbrev pub IsWordFault : (List Bool → Type 0) → List Bool → FaultKind → Type 0
@@ -43,42 +45,50 @@ IsRefused {S} spells allowed left kind =
 -- ---- the fault behind a reading
 
 -- so many whole turns, and a turn with a fault
-abbrev pub FaultTurns : {S A : Type 0} → (S → Turn S A → List Bool → Type 0) → (S → List Bool → List Bool → Type 0) → ℕ → S → List Bool → List Bool → Type 0
+abbrev pub FaultTurns : {S A : Type 0} → (S → Turn S A → List Bool → Type 0)
+    → (S → List Bool → List Bool → Type 0) → ℕ → S → List Bool → List Bool → Type 0
 FaultTurns turn fails zero s front left = fails s front left
 FaultTurns {S} turn fails (suc n) s front left =
-    (t : S) × (text rest : List Bool) × turn s (again t) text × (front ≡ text ++ rest) × FaultTurns turn fails n t rest left
+    (t : S) × (text rest : List Bool)
+    × turn s (again t) text × (front ≡ text ++ rest) × FaultTurns turn fails n t rest left
 
 -- `front` are the bits of elements that have no fault, and with what is left behind them an element begins that has one
 unfoldable pub Faults : {A : Type 0} → Syntax A → List Bool → List Bool → FaultKind → Type 0
 Faults (done x) front left kind = ⊥
 Faults (field n allowed next) front left kind =
     ((front ≡ []) × IsFieldFault n allowed left kind)
-    ⊎ ((v : ℕ) × (rest : List Bool) × (v < 2 ^ n) × (allowed v ≡ None) × (front ≡ spelled n v ++ rest) × Faults (next v) rest left kind)
+    ⊎ ((v : ℕ) × (rest : List Bool) × (v < 2 ^ n)
+    × (allowed v ≡ None) × (front ≡ spelled n v ++ rest) × Faults (next v) rest left kind)
 Faults (code {S} words next) front left kind =
     ((front ≡ []) × IsWordFault (λ w. IsWordOf words.list w) left kind)
-    ⊎ ((word : List Bool) × (x : S) × (rest : List Bool) × IsIn (word, x) words.list × (front ≡ word ++ rest) × Faults (next x) rest left kind)
+    ⊎ ((word : List Bool) × (x : S) × (rest : List Bool)
+    × IsIn (word, x) words.list × (front ≡ word ++ rest) × Faults (next x) rest left kind)
 Faults (part {S} s allowed next) front left kind =
     Faults s front left kind
     ⊎ (((front ≡ []) × IsRefused (λ x text. Spells s x text) allowed left kind)
-    ⊎ ((x : S) × (text rest : List Bool) × Spells s x text × (allowed x ≡ None) × (front ≡ text ++ rest) × Faults (next x) rest left kind))
+    ⊎ ((x : S) × (text rest : List Bool) × Spells s x text
+    × (allowed x ≡ None) × (front ≡ text ++ rest) × Faults (next x) rest left kind))
 Faults (element {S} s allowed next) front left kind =
     ((front ≡ []) × (inner behind : List Bool) × (left ≡ inner ++ behind) × Faults s inner behind kind)
     ⊎ (((front ≡ []) × IsRefused (λ x text. Spells s x text) allowed left kind)
-    ⊎ ((x : S) × (text rest : List Bool) × Spells s x text × (allowed x ≡ None) × (front ≡ text ++ rest) × Faults (next x) rest left kind))
+    ⊎ ((x : S) × (text rest : List Bool) × Spells s x text
+    × (allowed x ≡ None) × (front ≡ text ++ rest) × Faults (next x) rest left kind))
 Faults (repeat s body) front left kind =
     (n : ℕ) × FaultTurns (λ t x text. Spells (body t) x text) (λ t f l. Faults (body t) f l kind) n s front left
 
 -- the first fault of a syntax in bits from a place on: it stands behind a reading
 abbrev pub IsFirstFault : {A : Type 0} → Syntax A → Bits → Fault → Type 0
 IsFirstFault s b fault =
-    (front left : List Bool) × (b.bits ≡ front ++ left) × (fault.at ≡ b.at + length front) × Faults s front left fault.kind
+    (front left : List Bool) × (b.bits ≡ front ++ left)
+    × (fault.at ≡ b.at + length front) × Faults s front left fault.kind
 
 -- ---- a row of a table of faults
 
 -- Bits that begin with this text have this fault first, whatever follows, so many bits behind the text's first.
 abbrev pub HasFault : {A : Type 0} → Syntax A → List Bool → FaultKind → ℕ → Type 0
 HasFault s text kind place =
-    (at : ℕ) (rest : List Bool) → reading s (record { at = at; bits = text ++ rest }) ≡ Err (record { kind = kind; at = at + place })
+    (at : ℕ) (rest : List Bool) → reading s (record { at = at; bits = text ++ rest })
+    ≡ Err (record { kind = kind; at = at + place })
 
 -- Bits that are this text have this fault first.
 abbrev pub EndsWithFault : {A : Type 0} → Syntax A → List Bool → FaultKind → ℕ → Type 0

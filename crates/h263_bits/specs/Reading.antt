@@ -24,7 +24,8 @@ Gives view (Err fault) left read = read ≡ Err fault
 
 -- The bits between two places are such a text.
 abbrev pub Takes : Bits → Bits → (List Bool → Type 0) → Type 0
-Takes old new IsText = (text : List Bool) × (old.bits ≡ text ++ new.bits) × (new.at ≡ old.at + length text) × IsText text
+Takes old new IsText = (text : List Bool)
+    × (old.bits ≡ text ++ new.bits) × (new.at ≡ old.at + length text) × IsText text
 
 -- a value that was read
 abbrev pub ok : {A : Type 0} → A → Result A Fault
@@ -47,4 +48,5 @@ abbrev pub ◌>>=◌ : {A B : Type 0} → Result A Fault → (A → Result B Fau
 
 -- the number that the next n bits spell
 unfoldable pub number_at : ℕ → Bits → Result (ℕ × Bits) Fault
-number_at n b = if nat_lt (length b.bits) n then Err (record { kind = Ended; at = b.at }) else Ok (number (take n b.bits), skip n b)
+number_at n b = if nat_lt (length b.bits) n then Err (record { kind = Ended; at = b.at })
+    else Ok (number (take n b.bits), skip n b)

@@ -1,3 +1,4 @@
+//! What can be wrong with bits: the kind of a fault, and its place.
 ghost use Rattle.std.specs.Prelude.{◌≡◌};
 
 /// What is wrong with the bits, by the field or the rule that they break.
@@ -73,7 +74,8 @@ pub enum FaultKind {
     NoExtraHeader,
     /// A packet of more than 65,535 bytes.
     Long,
-    /// A packet that ends inside its RTP header, the sources or the extension behind it (RFC 3550, 5.1, 5.3.1).
+    /// A packet that ends inside its RTP header, the sources or the extension behind it (RFC 3550,
+    /// 5.1, 5.3.1).
     Short,
     /// Another version of RTP than 2.
     Version,

@@ -14,12 +14,14 @@ pub fn spelling()
     ensures whole { (bytes : List ℕ) → length (bits_of bytes) ≡ 8 * length bytes }
 {}
 
-/// A field or a word that is not read: it is cut by the end of the bits, its number is refused, or no word begins there.
-/// The fault stands at its first bit. A word is cut exactly where the bits that are left are a proper front of one, and
-/// there is none exactly where none begins them and none goes on from them.
+/// A field or a word that is not read: it is cut by the end of the bits, its number is refused, or
+/// no word begins there. The fault stands at its first bit. A word is cut exactly where the bits
+/// that are left are a proper front of one, and there is none exactly where none begins them and
+/// none goes on from them.
 pub fn first_faults()
     ensures field { (n : ℕ) (allowed : Allowed ℕ) (b : Bits) (d : Fault)
         → (field_at n allowed b ≡ Err d) ↔ ((d.at ≡ b.at) × IsFieldFault n allowed b.bits d.kind) }
-    ensures word { (words : List (List Bool × ℕ)) (b : Bits) (d : Fault) → is_prefix_free words ≡ true
-        → (word_at words b ≡ Err d) ↔ ((d.at ≡ b.at) × IsWordFault (λ w. IsWordOf words w) b.bits d.kind) }
+    ensures word { (words : List (List Bool × ℕ)) (b : Bits) (d : Fault)
+        → is_prefix_free words ≡ true → (word_at words b ≡ Err d)
+        ↔ ((d.at ≡ b.at) × IsWordFault (λ w. IsWordOf words w) b.bits d.kind) }
 {}

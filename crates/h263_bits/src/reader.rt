@@ -1,3 +1,4 @@
+//! A reader of bits: it lends the bytes, and knows its place and its end.
 ghost use Rattle.std.specs.Prelude.{◌≡◌, ℕ, ◌+◌, ◌-◌, ◌*◌, ◌<◌, ◌≤◌, ◌^◌, length, take, drop, IfOk, OnErr};
 ghost use Rattle.h263_bits.specs.Bits.{bits_of, number};
 ghost use Rattle.h263_bits.specs.Reading.{Bits, Gives, bits_between, number_at, skip};
@@ -25,7 +26,7 @@ impl<'a> Model for BitReader<'a> {
     ghost invariant = { λ r. (r.at ≤ r.end) × (r.end ≤ 8 * length r.bytes.now) × (length r.bytes.now ≤ 65535) };
 }
 
-/// The number of the n bits from a place on.
+// The number of the n bits from a place on.
 fn number_from(bytes: &[u8], at: u32, n: u32) -> u32
     requires few { n ≤ 32 }
     requires room { at + n ≤ 8 * length bytes.now }
@@ -74,7 +75,8 @@ impl<'a> BitReader<'a> {
         Ok(value)
     }
 
-    /// Reads a field of n bits that has one value. Another value is the fault, at the field's first bit.
+    /// Reads a field of n bits that has one value. Another value is the fault, at the field's first
+    /// bit.
     pub fn fixed(&mut self, n: u32, value: u32, kind: FaultKind) -> Result<(), Fault>
         requires { n ≤ 32 }
         ensures { Gives (λ _. value) result self.new (field_at n (only value kind) self.old) }

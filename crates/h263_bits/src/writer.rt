@@ -1,3 +1,4 @@
+//! A writer of bits into bytes that it was lent.
 ghost use Rattle.std.specs.Prelude.{◌≡◌, ℕ, ◌+◌, ◌-◌, ◌*◌, ◌/◌, ◌%◌, ◌<◌, ◌≤◌, ◌^◌, ◌++◌, length, take, []};
 ghost use Rattle.h263_bits.specs.Bits.{bits_of, spelled};
 
@@ -10,29 +11,31 @@ pub struct BitWriter<'a> {
     ghost within: { len ≤ 8 * length bytes.now },
 }
 
-/// A byte with a few bits put behind its first `used`.
+// A byte with a few bits put behind its first `used`.
 fn with_part(old: u8, used: u32, part: u32, count: u32) -> u8
     requires inside { used + count ≤ 8 }
     requires fits { part < 2 ^ count }
-    ensures { take (used + count) (spelled 8 result) ≡ take used (spelled 8 old) ++ spelled count part }
+    ensures { take (used + count) (spelled 8 result)
+        ≡ take used (spelled 8 old) ++ spelled count part }
 {
     let kept = (old as u32 >> (8 - used)) << (8 - used);
     (kept + (part << (8 - used - count))) as u8
 }
 
-/// Writes a few bits inside one byte, behind the first `at` bits.
+// Writes a few bits inside one byte, behind the first `at` bits.
 fn put_part(bytes: &mut [u8], at: u32, part: u32, count: u32)
     requires inside { at % 8 + count ≤ 8 }
     requires fits { part < 2 ^ count }
     requires room { at + count ≤ 8 * length bytes.old }
     requires some { 0 < count }
-    ensures { take (at + count) (bits_of bytes.new) ≡ take at (bits_of bytes.old) ++ spelled count part }
+    ensures { take (at + count) (bits_of bytes.new)
+        ≡ take at (bits_of bytes.old) ++ spelled count part }
 {
     let k = (at / 8) as usize;
     bytes[k] = with_part(bytes[k], at % 8, part, count);
 }
 
-/// Writes the n bits of a number behind the first `at` bits.
+// Writes the n bits of a number behind the first `at` bits.
 fn put_bits(bytes: &mut [u8], at: u32, value: u32, n: u32)
     requires few { n ≤ 32 }
     requires fits { value < 2 ^ n }

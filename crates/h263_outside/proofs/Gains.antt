@@ -42,6 +42,7 @@ writes_on a b c p q = record {
   faults = record { attach = omega arith; read = omega arith; write = omega arith };
 }
 
+-- two reads, one after the other, change nothing but what is left
 pub reads_on : (a b c : Outside) → OnlyReads a b → OnlyReads b c → OnlyReads a c
 reads_on a b c p q = record {
   attached = q.attached ∙ p.attached;
@@ -76,6 +77,7 @@ lose_if false o a b = refl
 pub consumed-consumed : (w : Role → Option (List ℕ)) (role : Role) (a b : ℕ) → consumed (consumed w role a) role b ≡ consumed w role (a + b)
 consumed-consumed w role a b = same_roles _ _ (λ r. lose_if (is_role role r) (w r) a b)
 
+-- what was lost by one call, and by the next
 pub consumed_more : (first : Role → Option (List ℕ)) (role : Role) (a b ab : ℕ) (middle last : Role → Option (List ℕ)) → middle ≡ consumed first role a → last ≡ consumed middle role b → a + b ≡ ab → last ≡ consumed first role ab
 consumed_more first role a b ab middle last p q e =
     q ∙ ap (λ (w : Role → Option (List ℕ)). consumed w role b) p ∙ consumed-consumed first role a b ∙ ap (λ (n : ℕ). consumed first role n) e

@@ -10,7 +10,8 @@ pub record Faults : Type 0 where
   pub read : ℕ
   pub write : ℕ
 
--- the meaning of a desk: for each role whether it is attached, and, where told, its name, what is left to read and what was written
+-- the meaning of a desk: for each role whether it is attached, and, where told, its name, what is
+-- left to read and what was written
 pub record Outside : Type 0 where
   pub attached : Role → Bool
   pub name : Role → Option (List ℕ)

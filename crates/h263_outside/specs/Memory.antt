@@ -35,10 +35,14 @@ input_left x = Some (drop x.at x.bytes.items)
 -- what a desk in memory tells
 unfoldable pub memory_outside : MemoryDesk → Outside
 memory_outside d = record {
-  attached = by_role d.video.attached d.events.attached d.pictures.attached d.wire.attached d.report.attached d.video2.attached d.pictures2.attached;
-  name = by_role (Some d.video.name.items) (Some d.events.name.items) (Some d.pictures.name.items) (Some d.wire.name.items) (Some d.report.name.items) (Some d.video2.name.items) (Some d.pictures2.name.items);
+  attached = by_role d.video.attached d.events.attached
+      d.pictures.attached d.wire.attached d.report.attached d.video2.attached d.pictures2.attached;
+  name = by_role (Some d.video.name.items)
+      (Some d.events.name.items) (Some d.pictures.name.items) (Some d.wire.name.items)
+      (Some d.report.name.items) (Some d.video2.name.items) (Some d.pictures2.name.items);
   left = by_input (input_left d.video) (input_left d.events) (input_left d.video2) None;
-  written = by_output (Some d.pictures.bytes.items) (Some d.wire.bytes.items) (Some d.report.bytes.items) (Some d.pictures2.bytes.items) None;
+  written = by_output (Some d.pictures.bytes.items)
+      (Some d.wire.bytes.items) (Some d.report.bytes.items) (Some d.pictures2.bytes.items) None;
   faults = faults_of d.calls;
 }
 
@@ -75,7 +79,14 @@ setup_of d = record {
 
 -- the setup of a new desk
 abbrev pub new_setup : ℕ → ℕ → Setup
-new_setup piece room = record { piece = piece; room = by_output room room room room 0; is_put = λ _. false; failing = []; next = 0 }
+new_setup piece room = record {
+  piece = piece;
+  room = by_output room room room room 0;
+  is_put = λ _.
+      false;
+  failing = [];
+  next = 0;
+}
 
 -- one call more has been made
 abbrev pub after_call : Setup → Setup

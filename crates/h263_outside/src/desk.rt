@@ -1,4 +1,4 @@
-// What is asked of the outside: a place for each role, with three calls.
+//! What is asked of the outside: a place for each role, with three calls.
 ghost use Rattle.std.specs.Prelude.{◌≡◌, ◌≢◌, ◌<◌, ◌≤◌, ◌==◌, ℕ, true, false, length, take, OnOk, OnErr, IfOk, IfSome, IsErrOf};
 ghost use Rattle.h263_outside.specs.Desk.{Outside, IsInput, IsOutput, with_role, appended, consumed, IsFront, Rose, OnlyAttaches, OnlyReads, OnlyWrites};
 
@@ -64,21 +64,26 @@ impl From<AllocError> for Unattached {
 
 /// A place for each role, to be attached by a name and then read or written.
 ///
-/// What a call's clauses don't name stays as it was, but that counts of faults may rise in any call.
-/// Of what is left to read and what was written a desk may tell nothing.
+/// What a call's clauses don't name stays as it was, but that counts of faults may rise in any
+/// call. Of what is left to read and what was written a desk may tell nothing.
 pub trait Desk {
-    /// What is outside: the attached roles, their names and bytes as far as told, the counts of faults.
+    /// What is outside: the attached roles, their names and bytes as far as told, the counts of
+    /// faults.
     ghost outside: { Self → Outside };
 
     /// Attaches a role by a name, once.
     fn attach(&mut self, role: Role, name: &str) -> Result<(), Unattached>
         requires { (outside self.old).attached role ≡ false }
-        ensures attached { OnOk result ((outside self.new).attached ≡ with_role (outside self.old).attached role true) }
-        ensures name { OnOk result (IfSome ((outside self.new).name role) (λ told. told ≡ name.now)) }
-        ensures other_names { (r : Role) → r ≢ role → (outside self.new).name r ≡ (outside self.old).name r }
+        ensures attached { OnOk result
+            ((outside self.new).attached ≡ with_role (outside self.old).attached role true) }
+        ensures name { OnOk result
+            (IfSome ((outside self.new).name role) (λ told. told ≡ name.now)) }
+        ensures other_names { (r : Role)
+            → r ≢ role → (outside self.new).name r ≡ (outside self.old).name r }
         ensures err { OnErr result ((outside self.new).attached ≡ (outside self.old).attached) }
         ensures err_name { OnErr result ((outside self.new).name ≡ (outside self.old).name) }
-        ensures cause { IsErrOf result Unattached.Failed → Rose (outside self.old).faults.attach (outside self.new).faults.attach }
+        ensures cause { IsErrOf result Unattached.Failed
+            → Rose (outside self.old).faults.attach (outside self.new).faults.attach }
         ensures rest { OnlyAttaches (outside self.old) (outside self.new) };
 
     /// Reads some bytes of an input to the front of the buffer, and answers how many; 0 is the end.
@@ -87,10 +92,13 @@ pub trait Desk {
         requires attached { (outside self.old).attached role ≡ true }
         requires room { 0 < length buf.old }
         ensures count { IfOk result (λ k. k ≤ length buf.old) }
-        ensures bytes { IfOk result (λ k. IfSome ((outside self.old).left role) (λ left. IsFront left buf.new k)) }
-        ensures left { IfOk result (λ k. (outside self.new).left ≡ consumed (outside self.old).left role k) }
+        ensures bytes { IfOk result (λ k.
+            IfSome ((outside self.old).left role) (λ left. IsFront left buf.new k)) }
+        ensures left { IfOk result (λ k.
+            (outside self.new).left ≡ consumed (outside self.old).left role k) }
         ensures err { OnErr result ((outside self.new).left ≡ (outside self.old).left) }
-        ensures cause { OnErr result (Rose (outside self.old).faults.read (outside self.new).faults.read) }
+        ensures cause { OnErr result
+            (Rose (outside self.old).faults.read (outside self.new).faults.read) }
         ensures rest { OnlyReads (outside self.old) (outside self.new) };
 
     /// Writes some of the bytes, from the first on and one at least, and answers how many.
@@ -100,8 +108,10 @@ pub trait Desk {
         requires some { 0 < length bytes.now }
         ensures count { IfOk result (λ k. k ≤ length bytes.now) }
         ensures advances { IfOk result (λ k. 0 < k) }
-        ensures written { IfOk result (λ k. (outside self.new).written ≡ appended (outside self.old).written role (take k bytes.now)) }
+        ensures written { IfOk result (λ k. (outside self.new).written
+            ≡ appended (outside self.old).written role (take k bytes.now)) }
         ensures err { OnErr result ((outside self.new).written ≡ (outside self.old).written) }
-        ensures cause { OnErr result (Rose (outside self.old).faults.write (outside self.new).faults.write) }
+        ensures cause { OnErr result
+            (Rose (outside self.old).faults.write (outside self.new).faults.write) }
         ensures rest { OnlyWrites (outside self.old) (outside self.new) };
 }

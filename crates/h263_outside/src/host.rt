@@ -1,4 +1,4 @@
-// The host's files and standard output: the trusted edge. What they hold is not told.
+//! The host's files and standard output: the trusted edge. What they hold is not told.
 ghost use Rattle.std.specs.Prelude.{◌≡◌, ◌≤◌, length, IfOk, is_some};
 ghost use Rattle.std.specs.Io.KnownBytes.{ReadConsumes, WriteAppends};
 ghost use Rattle.h263_outside.specs.Host.{told_of};
@@ -10,8 +10,8 @@ use std::fs;
 use std::io::{Read, Write};
 use std::rt::Runtime;
 
-/// A desk over a runtime: files by name, where those that are written are created or emptied, and standard output
-/// for the report. It tells neither names nor bytes.
+/// A desk over a runtime: files by name, where those that are written are created or emptied, and
+/// standard output for the report. It tells neither names nor bytes.
 #[derive(Drop)]
 pub struct HostDesk<R: Runtime> {
     rt: R,
@@ -53,8 +53,10 @@ impl<R: Runtime> HostDesk<R> {
 
 fn read_file<F: Read>(file: &mut Option<F>, buf: &mut [u8]) -> Result<usize, Failed>
     ensures count { IfOk result (λ k. k ≤ length buf.old) }
-    // What is read is the front of what the file had, nothing only at its end; where the read fails nothing is lost.
-    ensures bytes { ReadConsumes (told_of F.remaining file.old) (told_of F.remaining file.new) result buf.new }
+    // What is read is the front of what the file had, nothing only at its end; where the read fails
+    // nothing is lost.
+    ensures bytes { ReadConsumes
+        (told_of F.remaining file.old) (told_of F.remaining file.new) result buf.new }
     ensures open { is_some file.new ≡ is_some file.old }
 {
     let Some(file) = file else {
@@ -69,7 +71,8 @@ fn read_file<F: Read>(file: &mut Option<F>, buf: &mut [u8]) -> Result<usize, Fai
 fn write_file<F: Write>(file: &mut Option<F>, bytes: &[u8]) -> Result<usize, Failed>
     ensures count { IfOk result (λ k. k ≤ length bytes.now) }
     // The file gains as many bytes as the answer says, and none where the write fails.
-    ensures bytes { WriteAppends (told_of F.contents file.old) (told_of F.contents file.new) result bytes.now }
+    ensures bytes { WriteAppends
+        (told_of F.contents file.old) (told_of F.contents file.new) result bytes.now }
     ensures open { is_some file.new ≡ is_some file.old }
 {
     let Some(file) = file else {
@@ -85,7 +88,9 @@ impl<R: Runtime> Desk for HostDesk<R> {
     ghost use Rattle.h263_outside.specs.Host.{silent_outside};
     ghost use Rattle.h263_outside.specs.Memory.{by_role};
 
-    ghost outside = { λ d. silent_outside (by_role (is_some d.video) (is_some d.events) (is_some d.pictures) (is_some d.wire) d.reports (is_some d.video2) (is_some d.pictures2)) d.attach_faults d.read_faults d.write_faults };
+    ghost outside = { λ d. silent_outside (by_role (is_some d.video) (is_some d.events)
+        (is_some d.pictures) (is_some d.wire) d.reports (is_some d.video2) (is_some d.pictures2))
+        d.attach_faults d.read_faults d.write_faults };
 
     fn attach(&mut self, role: Role, name: &str) -> Result<(), Unattached> {
         match role {

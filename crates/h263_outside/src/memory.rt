@@ -1,4 +1,4 @@
-// A desk in memory. It tells everything, and fails where it is told to.
+//! A desk in memory. It tells everything, and fails where it is told to.
 ghost use Rattle.std.specs.Prelude.{◌≡◌, false, ◌<◌, ◌≤◌, ◌+◌, ◌-◌, ◌++◌, ◌∷◌, [], length, take, drop, OnOk, OnErr, IfOk, IsTrue, IsErr, IfSome, IsErrOf, Contains, ◌↔◌, ◌⊎◌, ◌≢◌, ℕ, true, vec_len, vec_capacity, min};
 ghost use Rattle.h263_outside.specs.Desk.{Rose, NoneFalls, raised_count, IsFront};
 
@@ -35,7 +35,8 @@ impl Calls {
         ensures ok { IfOk result (λ k. (k ≡ count) × (0 < k)) }
         ensures err { IsErr result ↔ (count ≡ 0) }
         ensures faults { OnOk result (faults_of self.new ≡ faults_of self.old) }
-        ensures failed { OnErr result (faults_of self.new ≡ record (faults_of self.old) { write = raised_count self.old.write_faults }) }
+        ensures failed { OnErr result (faults_of self.new
+            ≡ record (faults_of self.old) { write = raised_count self.old.write_faults }) }
         ensures rest { NoneFalls (faults_of self.old) (faults_of self.new) }
         ensures failing { self.new.failing.items ≡ self.old.failing.items }
         ensures next { self.new.next ≡ self.old.next }
@@ -78,8 +79,8 @@ struct Output {
     ghost roomy: { room ≤ vec_capacity bytes },
 }
 
-/// A desk in memory: it tells its names and all its bytes, and fails exactly where it is told to, where
-/// an input is attached that was never put, and where a write finds no room left.
+/// A desk in memory: it tells its names and all its bytes, and fails exactly where it is told to,
+/// where an input is attached that was never put, and where a write finds no room left.
 #[derive(Drop)]
 pub struct MemoryDesk {
     alloc: Global,
@@ -102,7 +103,8 @@ impl Input {
     fn read(&mut self, piece: usize, buf: &mut [u8]) -> usize
         requires piece { 0 < piece }
         requires room { 0 < length buf.old }
-        ensures count { result ≡ moved_count (length (drop self.old.at self.old.bytes.items)) piece (length buf.old) }
+        ensures count { result
+            ≡ moved_count (length (drop self.old.at self.old.bytes.items)) piece (length buf.old) }
         ensures front { IsFront (drop self.old.at self.old.bytes.items) buf.new result }
         ensures at { self.new.at ≡ self.old.at + result }
         ensures bytes { self.new.bytes.items ≡ self.old.bytes.items }
@@ -123,7 +125,8 @@ impl Output {
 
     // Takes bytes from the front, a piece at most, and as far as there is room.
     fn write(&mut self, piece: usize, bytes: &[u8]) -> usize
-        ensures count { result ≡ moved_count (self.old.room - length self.old.bytes.items) piece (length bytes.now) }
+        ensures count { result
+            ≡ moved_count (self.old.room - length self.old.bytes.items) piece (length bytes.now) }
         ensures written { self.new.bytes.items ≡ self.old.bytes.items ++ take result bytes.now }
         ensures room { self.new.room ≡ self.old.room }
         ensures attached { self.new.attached ≡ self.old.attached }
@@ -178,7 +181,8 @@ impl MemoryDesk {
     ghost use Rattle.h263_outside.specs.Desk.{IsInput, IsOutput, NoneAttached, with_role};
     ghost use Rattle.h263_outside.specs.Memory.{memory_outside, blank_outside, setup_of, new_setup, LacksPut};
 
-    /// A desk on which one call moves at most `piece` bytes, with the memory for `room` bytes of each output.
+    /// A desk on which one call moves at most `piece` bytes, with the memory for `room` bytes of
+    /// each output.
     pub fn new(alloc: Global, piece: usize, room: usize) -> Result<MemoryDesk, OutOfMemory>
         requires { 0 < piece }
         ensures detached { IfOk result (λ desk. NoneAttached (memory_outside desk).attached) }
@@ -209,8 +213,12 @@ impl MemoryDesk {
     pub fn put(&mut self, role: Role, bytes: &[u8]) -> Result<(), OutOfMemory>
         requires { IsInput role }
         ensures attached { (memory_outside self.new).attached ≡ (memory_outside self.old).attached }
-        ensures outside { OnOk result (memory_outside self.new ≡ record (memory_outside self.old) { left = with_role (memory_outside self.old).left role (Some bytes.now) }) }
-        ensures setup { OnOk result (setup_of self.new ≡ record (setup_of self.old) { is_put = with_role (setup_of self.old).is_put role true }) }
+        ensures outside { OnOk result (memory_outside self.new ≡ record (memory_outside
+            self.old) { left = with_role (memory_outside self.old).left role (Some bytes.now) }) }
+        ensures setup { OnOk result (setup_of self.new ≡ record (setup_of self.old) {
+          is_put =
+              with_role (setup_of self.old).is_put role true;
+        }) }
         ensures err { OnErr result (memory_outside self.new ≡ memory_outside self.old) }
         ensures err_setup { OnErr result (setup_of self.new ≡ setup_of self.old) }
     {
@@ -236,10 +244,12 @@ impl MemoryDesk {
         Ok(())
     }
 
-    /// Names a call that is to fail, by its number: the calls of [`Desk`] are counted from 0, all three together.
+    /// Names a call that is to fail, by its number: the calls of [`Desk`] are counted from 0, all
+    /// three together.
     pub fn fail(&mut self, call: u64) -> Result<(), OutOfMemory>
         ensures outside { memory_outside self.new ≡ memory_outside self.old }
-        ensures setup { OnOk result (setup_of self.new ≡ record (setup_of self.old) { failing = (setup_of self.old).failing ++ call ∷ [] }) }
+        ensures setup { OnOk result (setup_of self.new
+            ≡ record (setup_of self.old) { failing = (setup_of self.old).failing ++ call ∷ [] }) }
         ensures err_setup { OnErr result (setup_of self.new ≡ setup_of self.old) }
     {
         self.calls.failing.push(call)?;
@@ -282,22 +292,35 @@ impl Desk for MemoryDesk {
 
     fn attach(&mut self, role: Role, name: &str) -> Result<(), Unattached>
         requires { (memory_outside self.old).attached role ≡ false }
-        ensures attached { OnOk result ((memory_outside self.new).attached ≡ with_role (memory_outside self.old).attached role true) }
-        ensures name { OnOk result (IfSome ((memory_outside self.new).name role) (λ told. told ≡ name.now)) }
-        ensures other_names { (r : Role) → r ≢ role → (memory_outside self.new).name r ≡ (memory_outside self.old).name r }
-        ensures err { OnErr result ((memory_outside self.new).attached ≡ (memory_outside self.old).attached) }
-        ensures err_name { OnErr result ((memory_outside self.new).name ≡ (memory_outside self.old).name) }
-        ensures cause { IsErrOf result Unattached.Failed → Rose (memory_outside self.old).faults.attach (memory_outside self.new).faults.attach }
+        ensures attached { OnOk result ((memory_outside self.new).attached
+            ≡ with_role (memory_outside self.old).attached role true) }
+        ensures name { OnOk result
+            (IfSome ((memory_outside self.new).name role) (λ told. told ≡ name.now)) }
+        ensures other_names { (r : Role)
+            → r ≢ role → (memory_outside self.new).name r ≡ (memory_outside self.old).name r }
+        ensures err { OnErr result
+            ((memory_outside self.new).attached ≡ (memory_outside self.old).attached) }
+        ensures err_name { OnErr result
+            ((memory_outside self.new).name ≡ (memory_outside self.old).name) }
+        ensures cause { IsErrOf result Unattached.Failed
+            → Rose (memory_outside self.old).faults.attach (memory_outside self.new).faults.attach }
         ensures rest { OnlyAttaches (memory_outside self.old) (memory_outside self.new) }
 
-        // The name is told. The call fails exactly where it was named to, or its input was never put.
+        // The name is told. The call fails exactly where it was named to, or its input was never
+        // put.
         ensures told { OnOk result ((memory_outside self.new).name role ≡ Some name.now) }
-        ensures exactly { IsErrOf result Unattached.Failed ↔ (FailsNext (setup_of self.old) ⊎ LacksPut role (setup_of self.old)) }
+        ensures exactly { IsErrOf result Unattached.Failed
+            ↔ (FailsNext (setup_of self.old) ⊎ LacksPut role (setup_of self.old)) }
 
         // The count rises by one at `Failed`, and stays otherwise.
-        ensures ok_faults { OnOk result ((memory_outside self.new).faults ≡ (memory_outside self.old).faults) }
-        ensures failed { IsErrOf result Unattached.Failed → (memory_outside self.new).faults ≡ record ((memory_outside self.old).faults) { attach = raised_count (memory_outside self.old).faults.attach } }
-        ensures no_memory { IsErrOf result Unattached.OutOfMemory → (memory_outside self.new).faults ≡ (memory_outside self.old).faults }
+        ensures ok_faults { OnOk result
+            ((memory_outside self.new).faults ≡ (memory_outside self.old).faults) }
+        ensures failed { IsErrOf result Unattached.Failed
+            → (memory_outside self.new).faults ≡ record ((memory_outside self.old).faults) {
+              attach = raised_count (memory_outside self.old).faults.attach;
+            } }
+        ensures no_memory { IsErrOf result Unattached.OutOfMemory
+            → (memory_outside self.new).faults ≡ (memory_outside self.old).faults }
         ensures setup { setup_of self.new ≡ after_call (setup_of self.old) }
     {
         let can_open = self.can_open(role);
@@ -344,19 +367,27 @@ impl Desk for MemoryDesk {
         requires attached { (memory_outside self.old).attached role ≡ true }
         requires room { 0 < length buf.old }
         ensures count { IfOk result (λ k. k ≤ length buf.old) }
-        ensures bytes { IfOk result (λ k. IfSome ((memory_outside self.old).left role) (λ left. IsFront left buf.new k)) }
-        ensures left { IfOk result (λ k. (memory_outside self.new).left ≡ consumed (memory_outside self.old).left role k) }
-        ensures err { OnErr result ((memory_outside self.new).left ≡ (memory_outside self.old).left) }
-        ensures cause { OnErr result (Rose (memory_outside self.old).faults.read (memory_outside self.new).faults.read) }
+        ensures bytes { IfOk result (λ k.
+            IfSome ((memory_outside self.old).left role) (λ left. IsFront left buf.new k)) }
+        ensures left { IfOk result (λ k.
+            (memory_outside self.new).left ≡ consumed (memory_outside self.old).left role k) }
+        ensures err { OnErr result
+            ((memory_outside self.new).left ≡ (memory_outside self.old).left) }
+        ensures cause { OnErr result
+            (Rose (memory_outside self.old).faults.read (memory_outside self.new).faults.read) }
         ensures rest { OnlyReads (memory_outside self.old) (memory_outside self.new) }
 
-        // A piece moves, or what is left, or what the buffer takes. The call fails exactly where it was named to.
-        ensures moved { IfOk result (λ k. k ≡ moved_count (count_told ((memory_outside self.old).left role)) (setup_of self.old).piece (length buf.old)) }
+        // A piece moves, or what is left, or what the buffer takes. The call fails exactly where it
+        // was named to.
+        ensures moved { IfOk result (λ k. k ≡ moved_count (count_told
+            ((memory_outside self.old).left role)) (setup_of self.old).piece (length buf.old)) }
         ensures exactly { IsErr result ↔ FailsNext (setup_of self.old) }
 
         // The count rises by one at `Failed`, and stays otherwise.
-        ensures ok_faults { OnOk result ((memory_outside self.new).faults ≡ (memory_outside self.old).faults) }
-        ensures failed { OnErr result ((memory_outside self.new).faults ≡ record ((memory_outside self.old).faults) { read = raised_count (memory_outside self.old).faults.read }) }
+        ensures ok_faults { OnOk result
+            ((memory_outside self.new).faults ≡ (memory_outside self.old).faults) }
+        ensures failed { OnErr result ((memory_outside self.new).faults ≡ record ((memory_outside
+            self.old).faults) { read = raised_count (memory_outside self.old).faults.read }) }
         ensures setup { setup_of self.new ≡ after_call (setup_of self.old) }
     {
         if self.calls.count() {
@@ -377,18 +408,27 @@ impl Desk for MemoryDesk {
         requires some { 0 < length bytes.now }
         ensures count { IfOk result (λ k. k ≤ length bytes.now) }
         ensures advances { IfOk result (λ k. 0 < k) }
-        ensures written { IfOk result (λ k. (memory_outside self.new).written ≡ appended (memory_outside self.old).written role (take k bytes.now)) }
-        ensures err { OnErr result ((memory_outside self.new).written ≡ (memory_outside self.old).written) }
-        ensures cause { OnErr result (Rose (memory_outside self.old).faults.write (memory_outside self.new).faults.write) }
+        ensures written { IfOk result (λ k. (memory_outside self.new).written
+            ≡ appended (memory_outside self.old).written role (take k bytes.now)) }
+        ensures err { OnErr result
+            ((memory_outside self.new).written ≡ (memory_outside self.old).written) }
+        ensures cause { OnErr result
+            (Rose (memory_outside self.old).faults.write (memory_outside self.new).faults.write) }
         ensures rest { OnlyWrites (memory_outside self.old) (memory_outside self.new) }
 
-        // A piece moves, or what there is room for, or all. The call fails exactly where it was named to, or no room is left.
-        ensures moved { IfOk result (λ k. k ≡ moved_count ((setup_of self.old).room role - count_told ((memory_outside self.old).written role)) (setup_of self.old).piece (length bytes.now)) }
-        ensures exactly { IsErr result ↔ (FailsNext (setup_of self.old) ⊎ IsFull role (setup_of self.old) (memory_outside self.old).written) }
+        // A piece moves, or what there is room for, or all. The call fails exactly where it was
+        // named to, or no room is left.
+        ensures moved { IfOk result (λ k. k ≡ moved_count
+            ((setup_of self.old).room role - count_told ((memory_outside self.old).written role))
+            (setup_of self.old).piece (length bytes.now)) }
+        ensures exactly { IsErr result ↔ (FailsNext (setup_of self.old)
+            ⊎ IsFull role (setup_of self.old) (memory_outside self.old).written) }
 
         // The count rises by one at `Failed`, and stays otherwise.
-        ensures ok_faults { OnOk result ((memory_outside self.new).faults ≡ (memory_outside self.old).faults) }
-        ensures failed { OnErr result ((memory_outside self.new).faults ≡ record ((memory_outside self.old).faults) { write = raised_count (memory_outside self.old).faults.write }) }
+        ensures ok_faults { OnOk result
+            ((memory_outside self.new).faults ≡ (memory_outside self.old).faults) }
+        ensures failed { OnErr result ((memory_outside self.new).faults ≡ record ((memory_outside
+            self.old).faults) { write = raised_count (memory_outside self.old).faults.write }) }
         ensures setup { setup_of self.new ≡ after_call (setup_of self.old) }
     {
         if self.calls.count() {

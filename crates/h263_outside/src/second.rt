@@ -1,11 +1,11 @@
-// A desk as the second party of a call sees it.
+//! A desk as the second party of a call sees it.
 ghost use Rattle.std.specs.Prelude.{◌≡◌};
 ghost use Rattle.h263_outside.specs.Desk.{exchanged, exchanged_outside};
 
 use crate::{Desk, Failed, Role, Unattached};
 
-/// A desk on which the second party's video and pictures stand in the place of the first's, and the other way
-/// round; each other role is the desk's own.
+/// A desk on which the second party's video and pictures stand in the place of the first's, and the
+/// other way round; each other role is the desk's own.
 #[derive(Drop)]
 pub struct Second<'a, D: Desk> {
     desk: &'a mut D,
@@ -14,7 +14,8 @@ pub struct Second<'a, D: Desk> {
 impl<'a, D: Desk> Second<'a, D> {
     /// The desk with the two parties exchanged.
     pub fn new(desk: &'a mut D) -> Second<'a, D>
-        ensures outside { ⟦<Second<'a, D> as Desk>⟧.outside result ≡ exchanged_outside (D.outside desk.old) }
+        ensures outside { ⟦<Second<'a, D> as Desk>⟧.outside result
+            ≡ exchanged_outside (D.outside desk.old) }
         ensures lent { result.desk.now ≡ desk.old }
         ensures same_loan { result.desk.ghost_name ≡ desk.entry.ghost_name }
     {

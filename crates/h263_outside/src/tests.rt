@@ -1,5 +1,5 @@
-// What no clause says: that calls succeed with ample memory.
-// Where memory ran out in a test its steps are taken again, and are then to reach their end.
+//! What no clause says: that calls succeed with ample memory.
+//! Where memory ran out in a test its steps are taken again, and are then to reach their end.
 ghost use Rattle.std.specs.Prelude.{◌≡◌, ◌<◌, true, IfOk};
 ghost use Rattle.h263_outside.specs.Memory.{memory_outside};
 ghost use Rattle.h263_outside.specs.declared.desk.Role.TheVariants.{Video, Pictures, Pictures2};
@@ -16,7 +16,8 @@ impl From<Unattached> for OutOfMemory {
     }
 }
 
-// A desk with a video, attached as Video and Pictures by its first two calls, and one call that is to fail.
+// A desk with a video, attached as Video and Pictures by its first two calls, and one call that is
+// to fail.
 fn opened(alloc: Global, piece: usize, failing: u64) -> Result<MemoryDesk, OutOfMemory>
     requires { 0 < piece }
     ensures video { IfOk result (λ desk. (memory_outside desk).attached Video ≡ true) }

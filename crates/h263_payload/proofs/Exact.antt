@@ -236,6 +236,7 @@ begun_again extra false at rest e =
     ap (λ (t : List Bool). number_at 2 (record { at = at; bits = t ++ rest })) (sym three_is) ∙ number_again 2 3 at rest (omega arith) in
     rw (three, ← e) refl
 
+-- a payload that the bits spell is read
 pub text_read : HeaderLaws → (format : Format) (p : Payload) (b : Bits) → IsPayload format p b → payload_at format b ≡ Ok p
 unfolding payload_at
 text_read laws format p b s =

@@ -35,7 +35,8 @@ extra_at format plen pebit b =
 abbrev pub begun_as : Option Header → ℕ → ℕ → Result Payload Fault
 begun_as extra at start =
     if nat_lt start 2 then fault_at faults.NoStart at
-    else if start == 2 then (if is_none extra then Ok (record { extra = extra; begins = true; from = at }) else fault_at faults.ExtraHeader at)
+    else if start == 2 then (if is_none extra then Ok
+    (record { extra = extra; begins = true; from = at }) else fault_at faults.ExtraHeader at)
     else if is_none extra then fault_at faults.NoExtraHeader at
     else Ok (record { extra = extra; begins = false; from = at })
 
@@ -44,7 +45,8 @@ begun_at extra b = number_at 2 b >>= λ x. begun_as extra b.at x.0
 
 -- the payload header and the first two bits of the data behind it
 unfoldable pub payload_at : Format → Bits → Result Payload Fault
-payload_at format b = reading leading b >>= λ x. (extra_at format x.0.plen x.0.pebit x.1 >>= λ extra. begun_at extra (skip (8 * x.0.plen) x.1))
+payload_at format b = reading leading b >>= λ x.
+    (extra_at format x.0.plen x.0.pebit x.1 >>= λ extra. begun_at extra (skip (8 * x.0.plen) x.1))
 
 -- the first fault of the payload header, if there is one
 abbrev pub payload_fault : Format → Bits → Option Fault

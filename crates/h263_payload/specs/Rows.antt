@@ -24,29 +24,44 @@ IsRefusedAt format at bits kind place = payload_at format (from at bits) ≡ Err
 
 -- the fields of the payload header
 pub record LeadingFaults (format : Format) : Type 0 where
-  pub follow_on : (rr at : ℕ) (rest : List Bool) → rr < 32 → IsRefusedAt format at (fields ((5, rr) ∷ (1, 0) ∷ []) ++ rest) faults.FollowOn (at + 5)
-  pub of_leading : (at : ℕ) (bits : List Bool) (fault : Fault) → reading leading (from at bits) ≡ Err fault → payload_at format (from at bits) ≡ Err fault
+  pub follow_on : (rr at : ℕ) (rest : List Bool) → rr < 32
+      → IsRefusedAt format at (fields ((5, rr) ∷ (1, 0) ∷ []) ++ rest) faults.FollowOn (at + 5)
+  pub of_leading : (at : ℕ) (bits : List Bool) (fault : Fault)
+      → reading leading (from at bits) ≡ Err fault → payload_at format (from at bits) ≡ Err fault
 
 -- the extra picture header in PLEN bytes, less PEBIT bits
 pub record ExtraFaults (format : Format) (o : Opening) (front : List Bool) : Type 0 where
-  pub cut : (at : ℕ) (rest : List Bool) → Spells leading o front → 0 < o.plen → length rest < 8 * o.plen → IsRefusedAt format at (front ++ rest) faults.Ended (at + length front)
-  pub of_header : (at : ℕ) (rest : List Bool) (fault : Fault) → Spells leading o front → 0 < o.plen → 8 * o.plen ≤ length rest
-      → reading (header format) (first_bits (8 * o.plen - o.pebit) (from (at + length front) rest)) ≡ Err fault → payload_at format (from at (front ++ rest)) ≡ Err fault
+  pub cut : (at : ℕ) (rest : List Bool)
+      → Spells leading o front → 0 < o.plen → length rest < 8 * o.plen
+      → IsRefusedAt format at (front ++ rest) faults.Ended (at + length front)
+  pub of_header : (at : ℕ) (rest : List Bool) (fault : Fault)
+      → Spells leading o front → 0 < o.plen → 8 * o.plen ≤ length rest
+      → reading (header format) (first_bits (8 * o.plen - o.pebit) (from (at + length front) rest))
+      ≡ Err fault → payload_at format (from at (front ++ rest)) ≡ Err fault
   -- bits are left behind the last PEI
-  pub left_over : (at : ℕ) (h : Header) (text more rest : List Bool) → Spells leading o front → 0 < o.plen → IsHeaderText format h text → 0 < length more
-      → length text + length more + o.pebit ≡ 8 * o.plen → o.pebit ≤ length rest → IsRefusedAt format at (front ++ (text ++ (more ++ rest))) faults.ExtraHeader (at + length front + length text)
+  pub left_over : (at : ℕ) (h : Header) (text more rest : List Bool)
+      → Spells leading o front → 0 < o.plen → IsHeaderText format h text → 0 < length more
+      → length text + length more + o.pebit ≡ 8 * o.plen
+      → o.pebit ≤ length rest → IsRefusedAt format at
+      (front ++ (text ++ (more ++ rest))) faults.ExtraHeader (at + length front + length text)
 
 -- the data's first two bits
 pub record DataFaults (format : Format) (o : Opening) (front middle : List Bool) : Type 0 where
-  pub cut : (extra : Option Header) (at : ℕ) (coded : List Bool) → Spells leading o front → IsExtra format o.plen o.pebit extra middle → length coded < 2
+  pub cut : (extra : Option Header) (at : ℕ) (coded : List Bool)
+      → Spells leading o front → IsExtra format o.plen o.pebit extra middle → length coded < 2
       → IsRefusedAt format at (front ++ (middle ++ coded)) faults.Ended (at + length front + length middle)
-  pub no_start : (extra : Option Header) (at : ℕ) (second : Bool) (rest : List Bool) → Spells leading o front → IsExtra format o.plen o.pebit extra middle
-      → IsRefusedAt format at (front ++ (middle ++ false ∷ second ∷ rest)) faults.NoStart (at + length front + length middle)
+  pub no_start : (extra : Option Header) (at : ℕ) (second : Bool) (rest : List Bool)
+      → Spells leading o front → IsExtra format o.plen o.pebit extra middle
+      → IsRefusedAt format at (front ++ (middle ++ false ∷ second ∷ rest)) faults.NoStart
+      (at + length front + length middle)
   -- 10 begins a picture, which has no extra header, and 11 a later slice, which has one
-  pub picture : (h : Header) (at : ℕ) (rest : List Bool) → Spells leading o front → IsExtra format o.plen o.pebit (Some h) middle
-      → IsRefusedAt format at (front ++ (middle ++ true ∷ false ∷ rest)) faults.ExtraHeader (at + length front + length middle)
+  pub picture : (h : Header) (at : ℕ) (rest : List Bool)
+      → Spells leading o front → IsExtra format o.plen o.pebit (Some h) middle
+      → IsRefusedAt format at (front ++ (middle ++ true ∷ false ∷ rest)) faults.ExtraHeader
+      (at + length front + length middle)
   pub slice : (at : ℕ) (rest : List Bool) → Spells leading o front → IsExtra format o.plen o.pebit None middle
-      → IsRefusedAt format at (front ++ (middle ++ true ∷ true ∷ rest)) faults.NoExtraHeader (at + length front + length middle)
+      → IsRefusedAt format at (front ++ (middle ++ true ∷ true ∷ rest)) faults.NoExtraHeader
+      (at + length front + length middle)
 
 pub record PayloadFaults (format : Format) : Type 0 where
   pub leading : LeadingFaults format

@@ -1,4 +1,5 @@
--- The payload header in front of H.263 data (RFC 4629, 5.1), with the extra picture header, and the data's first two bits.
+-- The payload header in front of H.263 data (RFC 4629, 5.1), with the extra picture header, and the
+-- data's first two bits.
 use Rattle.std.specs.Prelude.{◌≡◌, ℕ, ◌+◌, ◌*◌, ◌<◌, ◌==◌, Bool, true, false, not, List, [], ◌∷◌, ◌++◌, length, Option, Some, None, is_none}
 use Rattle.h263_bits.specs.declared.fault.FaultKind.TheVariants as faults
 use Rattle.h263_bits.specs.Reading.{Bits}
@@ -9,7 +10,8 @@ use Rattle.picture_header.specs.Text.{IsHeaderText}
 use Rattle.h263_payload.specs.declared.payload.Opening.{Opening}
 use Rattle.h263_payload.specs.declared.payload.Payload.{Payload}
 
--- P is set where the data begins with a start code, whose two zero bytes are left out; a packet that follows on another may be refused
+-- P is set where the data begins with a start code, whose two zero bytes are left out; a packet
+-- that follows on another may be refused
 abbrev pub may_follow : Bool → Allowed ℕ
 may_follow true = any
 may_follow false = only 1 faults.FollowOn
@@ -34,7 +36,8 @@ leading =
 abbrev pub IsExtra : Format → ℕ → ℕ → Option Header → List Bool → Type 0
 IsExtra format plen pebit None bits = (plen ≡ 0) × (bits ≡ [])
 IsExtra format plen pebit (Some h) bits =
-    (text : List Bool) × (rest : List Bool) × (bits ≡ text ++ rest) × (0 < plen) × (length bits ≡ 8 * plen) × (length rest ≡ pebit) × IsHeaderText format h text
+    (text : List Bool) × (rest : List Bool) × (bits ≡ text ++ rest)
+    × (0 < plen) × (length bits ≡ 8 * plen) × (length rest ≡ pebit) × IsHeaderText format h text
 
 -- the rest of a start code: 10 begins a picture, 11 a later slice (H.263, 5.1.1 and K.2)
 abbrev pub IsBegun : Bool → List Bool → Type 0

@@ -20,7 +20,8 @@ bytes_of h = (written_bits h + padding_of h) / 8
 -- the text that is written in front of a picture, and with the header in front of a later slice
 abbrev pub written_payload : Option Header → List Bool
 written_payload None = fields (opening_fields 0 0)
-written_payload (Some h) = fields (opening_fields (bytes_of h) (padding_of h)) ++ (written_header h ++ spelled (padding_of h) 0)
+written_payload (Some h) = fields (opening_fields (bytes_of h) (padding_of h))
+    ++ (written_header h ++ spelled (padding_of h) 0)
 
 -- how many bits that are
 abbrev pub payload_bits : Option Header → ℕ

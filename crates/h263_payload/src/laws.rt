@@ -12,10 +12,13 @@ ghost use Rattle.h263_payload.specs.declared.payload.Payload.{Payload};
 
 use picture_header::laws::in_a_syntax;
 
-/// Bits are read as a payload exactly where they spell it: there is no fault exactly where there is a text.
+/// Bits are read as a payload exactly where they spell it: there is no fault exactly where there is
+/// a text.
 pub fn exact_text()
-    ensures read { (format : Format) (p : Payload) (b : Bits) → payload_at format b ≡ Ok p → IsPayload format p b }
-    ensures written { (format : Format) (p : Payload) (b : Bits) → IsPayload format p b → payload_at format b ≡ Ok p }
+    ensures read { (format : Format) (p : Payload) (b : Bits)
+        → payload_at format b ≡ Ok p → IsPayload format p b }
+    ensures written { (format : Format) (p : Payload) (b : Bits)
+        → IsPayload format p b → payload_at format b ≡ Ok p }
 {
     in_a_syntax();
 }
@@ -29,19 +32,21 @@ pub fn first_faults()
 
 /// Bits spell one payload header.
 pub fn one_reading()
-    ensures { (format : Format) (p q : Payload) (b : Bits) → IsPayload format p b → IsPayload format q b → p ≡ q }
+    ensures { (format : Format) (p q : Payload) (b : Bits)
+        → IsPayload format p b → IsPayload format q b → p ≡ q }
 {
     in_a_syntax();
 }
 
-/// What is written in front of a picture's first data, or of a later slice with its header, is read again.
+/// What is written in front of a picture's first data, or of a later slice with its header, is read
+/// again.
 pub fn read_again()
     ensures picture { (format : Format) (at : ℕ) (rest : List Bool)
         → payload_at format (record { at = at; bits = written_payload None ++ true ∷ false ∷ rest })
         ≡ Ok (record { extra = None; begins = true; from = at + length (written_payload None) }) }
-    ensures slice { (h : Header) (at : ℕ) (rest : List Bool) → IsHeader h
-        → payload_at h.format (record { at = at; bits = written_payload (Some h) ++ true ∷ true ∷ rest })
-        ≡ Ok (record { extra = Some h; begins = false; from = at + length (written_payload (Some h)) }) }
+    ensures slice { (h : Header) (at : ℕ) (rest : List Bool) → IsHeader h → payload_at h.format
+        (record { at = at; bits = written_payload (Some h) ++ true ∷ true ∷ rest }) ≡ Ok
+        (record { extra = Some h; begins = false; from = at + length (written_payload (Some h)) }) }
     ensures many { (extra : Option Header) → length (written_payload extra) ≡ payload_bits extra }
 {
     in_a_syntax();

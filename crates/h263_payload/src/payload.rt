@@ -1,9 +1,11 @@
+//! What a payload header says.
 use picture_header::Header;
 
 /// The fixed part of a payload header, 16 bits (RFC 4629, 5.1).
 #[derive(Clone, Copy, Debug, PartialEq, Eq)]
 pub struct Opening {
-    /// Whether the data begins with a start code, whose two zero bytes are left out (P). Otherwise it follows on.
+    /// Whether the data begins with a start code, whose two zero bytes are left out (P). Otherwise
+    /// it follows on.
     pub p: bool,
     /// Whether a byte of video redundancy coding follows (V).
     pub v: bool,

@@ -1,3 +1,4 @@
+//! The payload header read, part by part, with its first fault (RFC 4629, 5.1).
 ghost use Rattle.std.specs.Prelude.{◌≡◌, ℕ, ◌+◌, ◌*◌, ◌≤◌, ◌<◌, length, IfOk, Ok};
 ghost use Rattle.h263_bits.specs.Reading.{Gives, bits_between, first_fault};
 ghost use Rattle.h263_bits.specs.Syntax.{any, only, field_at, reading};
@@ -16,9 +17,10 @@ use picture_header::{Header, read_header};
 use rtp_header::Rtp;
 use rtp_header::laws::payload_within;
 
-/// Reads P, which is 0 only where a packet may follow on another.
+// Reads P, which is 0 only where a packet may follow on another.
 fn read_p(reader: &mut BitReader<'_>, follow_on: bool) -> Result<u32, Fault>
-    ensures { Gives (λ (v : ℕ). v) result reader.new (field_at 1 (may_follow follow_on) reader.old) }
+    ensures { Gives
+        (λ (v : ℕ). v) result reader.new (field_at 1 (may_follow follow_on) reader.old) }
 {
     if !follow_on {
         reader.fixed(1, 1, FaultKind::FollowOn)?;
@@ -30,7 +32,8 @@ fn read_p(reader: &mut BitReader<'_>, follow_on: bool) -> Result<u32, Fault>
 /// Reads RR, P, V, PLEN and PEBIT, in which a packet that follows on another is read or refused.
 #[tactic(auto, unfolding(crate::specs::Text::opening, h263_bits::specs::Syntax::reading))]
 pub fn read_opening(reader: &mut BitReader<'_>, follow_on: bool) -> Result<Opening, Fault>
-    ensures reads { Gives (λ (o : Opening). o) result reader.new (reading (opening follow_on) reader.old) }
+    ensures reads { Gives
+        (λ (o : Opening). o) result reader.new (reading (opening follow_on) reader.old) }
     ensures range { IfOk result IsOpening }
 {
     reader.bits(5)?;
@@ -46,7 +49,7 @@ pub fn read_opening(reader: &mut BitReader<'_>, follow_on: bool) -> Result<Openi
     })
 }
 
-/// Reads these, and the byte behind a V of 1.
+// Reads these, and the byte behind a V of 1.
 #[tactic(auto, unfolding(crate::specs::Text::leading, h263_bits::specs::Syntax::reading))]
 fn read_leading(reader: &mut BitReader<'_>) -> Result<Opening, Fault>
     ensures reads { Gives (λ (o : Opening). o) result reader.new (reading leading reader.old) }
@@ -59,7 +62,8 @@ fn read_leading(reader: &mut BitReader<'_>) -> Result<Opening, Fault>
     Ok(opening)
 }
 
-/// Reads the extra header from place `at` on, if there is one. It fills its bytes but for the bits left out.
+// Reads the extra header from place `at` on, if there is one. It fills its bytes but for the bits
+// left out.
 fn read_extra(
     bytes: &[u8],
     at: u32,
@@ -71,7 +75,8 @@ fn read_extra(
     requires order { at ≤ end }
     requires within { end ≤ 8 * length bytes.now }
     requires opening { IsOpening opening }
-    ensures exact { result ≡ extra_at format opening.plen opening.pebit (bits_between bytes.now at end) }
+    ensures exact { result
+        ≡ extra_at format opening.plen opening.pebit (bits_between bytes.now at end) }
     ensures room { IfOk result (λ _. at + 8 * opening.plen ≤ end) }
     ensures range { IfOk result IsExtraHeader }
 {
@@ -90,7 +95,7 @@ fn read_extra(
     Ok(Some(header))
 }
 
-/// Looks at the data's first two bits.
+// Looks at the data's first two bits.
 fn read_start(bytes: &[u8], at: u32, end: u32, extra: Option<Header>) -> Result<Payload, Fault>
     requires short { length bytes.now ≤ 65535 }
     requires order { at ≤ end }
@@ -116,7 +121,7 @@ fn read_start(bytes: &[u8], at: u32, end: u32, extra: Option<Header>) -> Result<
     })
 }
 
-/// Reads the parts of the payload header in their order.
+// Reads the parts of the payload header in their order.
 fn first_found(bytes: &[u8], from: u32, end: u32, format: Format) -> Result<Payload, Fault>
     requires short { length bytes.now ≤ 65535 }
     requires order { from ≤ end }
@@ -131,14 +136,16 @@ fn first_found(bytes: &[u8], from: u32, end: u32, format: Format) -> Result<Payl
     read_start(bytes, at + 8 * opening.plen, end, extra)
 }
 
-/// Reads the payload header of a packet and the extra picture header, up to the first bit of the data (RFC 4629, 5.1).
+/// Reads the payload header of a packet and the extra picture header, up to the first bit of the
+/// data (RFC 4629, 5.1).
 pub fn read_payload(bytes: &[u8], rtp: &Rtp, format: Format) -> Result<Payload, Fault>
     // The header was read from the bytes.
     requires { rtp_in bytes.now ≡ Ok rtp.now }
     // What is read is spelled by the payload's bits.
     ensures found { IfOk result (λ p. IsPayload format p (payload_bits_of bytes.now rtp.now)) }
     // What these spell is read.
-    ensures only { (p : Payload) → IsPayload format p (payload_bits_of bytes.now rtp.now) → result ≡ Ok p }
+    ensures only { (p : Payload)
+        → IsPayload format p (payload_bits_of bytes.now rtp.now) → result ≡ Ok p }
     // Otherwise it is the first fault, at its place.
     ensures fault { first_fault result ≡ payload_fault format (payload_bits_of bytes.now rtp.now) }
     ensures exact { result ≡ payload_at format (payload_bits_of bytes.now rtp.now) }

@@ -6,14 +6,14 @@ use picture_header::Header;
 use rtp_header::read;
 use std::test::Fail;
 
-/// The beginning of a packet with a later slice of an I picture of CIF: the RTP header, the payload header, the
-/// picture header of 67 bits, and four bytes of data.
+// The beginning of a packet with a later slice of an I picture of CIF: the RTP header, the payload
+// header, the picture header of 67 bits, and four bytes of data.
 const LATER: [u8; 27] = [
     0x80, 0xE0, 0x00, 0x01, 0x00, 0x00, 0x00, 0x00, 0x48, 0x32, 0x36, 0x33, 0x04, 0x4D, 0x80, 0x02,
     0x1C, 0xB0, 0x31, 0x00, 0x11, 0xCA, 0x00, 0xD9, 0xE8, 0x83, 0x36,
 ];
 
-/// The picture's header.
+// The picture's header.
 const HEADER: Header = Header {
     tr: 0,
     format: Format::Cif,
@@ -26,7 +26,7 @@ const HEADER: Header = Header {
     clock: Clock::Standard,
 };
 
-/// What is read of the packet's first `len` bytes, where three bytes have other values.
+// What is read of the packet's first `len` bytes, where three bytes have other values.
 fn read_changed(len: usize, changes: [(usize, u8); 3], format: Format) -> Result<Payload, Fault> {
     let mut bytes = LATER;
     for (place, value) in changes {

@@ -1,3 +1,4 @@
+//! The payload header written (RFC 4629, 5.1).
 ghost use Rattle.std.specs.Prelude.{◌≡◌, ◌+◌, ◌≤◌, ◌<◌};
 ghost use Rattle.std.specs.Option.{option_copied};
 ghost use Rattle.h263_bits.specs.Bits.{fields};
@@ -8,7 +9,7 @@ ghost use Rattle.h263_payload.specs.Written.{opening_fields, written_payload, pa
 use h263_bits::BitWriter;
 use picture_header::{Header, header_bits, write_header};
 
-/// Writes RR 0, P 1, V 0, PLEN and PEBIT.
+// Writes RR 0, P 1, V 0, PLEN and PEBIT.
 fn write_opening(writer: &mut BitWriter<'_>, plen: u32, pebit: u32)
     requires plen { plen < 64 }
     requires pebit { pebit < 8 }
@@ -23,8 +24,8 @@ fn write_opening(writer: &mut BitWriter<'_>, plen: u32, pebit: u32)
     writer.put(pebit, 3);
 }
 
-/// Writes the payload header: of a packet that begins a picture, or with the header in front of a later slice
-/// (RFC 4629, 5.1). The header is padded with zero bits to whole bytes.
+/// Writes the payload header: of a packet that begins a picture, or with the header in front of a
+/// later slice (RFC 4629, 5.1). The header is padded with zero bits to whole bytes.
 pub fn write_payload(writer: &mut BitWriter<'_>, extra: Option<&Header>)
     requires header { IsExtraHeader (option_copied extra) }
     requires room { len_of writer.old + payload_bits (option_copied extra) ≤ room_of writer.old }

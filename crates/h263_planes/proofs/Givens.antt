@@ -16,6 +16,7 @@ use Rattle.h263_planes.proofs.Wholes.{same_pictures}
 abbrev pub Samples : Type 0
 Samples = Plane → ℕ → ℕ → ℕ
 
+-- a picture by its samples has the format
 pub format_with : (f : Format) (sample : Samples) → (picture_with f sample).format ≡ f
 unfolding picture_with
 format_with f sample = refl
@@ -30,6 +31,7 @@ length_with : (f : Format) (sample : Samples) (plane : Plane) → length (plane_
 length_with f sample plane =
     length-map-range_with_len (λ (k : ℕ). sample plane (k % width_in f plane) (k / width_in f plane)) 0 (width_in f plane * height_in f plane)
 
+-- it is whole
 pub whole_with : (f : Format) (sample : Samples) → IsPicture (picture_with f sample)
 whole_with f sample = record {
   lengths = λ plane. ap (λ (l : List ℕ). length l) (planes_with f sample plane) ∙ length_with f sample plane
@@ -47,6 +49,7 @@ row_with g w h x y hx hy =
     get_or-map-range_with_len (λ (k : ℕ). g (k % w) (k / w)) 0 (w * h) (w * y + x) (w * y + x) 0 (omega arith) (omega arith)
     ∙ ap (λ (k : ℕ). g k ((w * y + x) / w)) column ∙ ap (λ (k : ℕ). g x k) row
 
+-- its samples are those
 pub sample_with : (f : Format) (sample : Samples) (plane : Plane) (x y : ℕ) → Inside f plane x y 1 →
     sample_at (picture_with f sample) plane x y ≡ sample plane x y
 sample_with f sample plane x y h =
@@ -54,6 +57,7 @@ sample_with f sample plane x y h =
     ∙ ap (λ (g : Format). get_or (plane_with f plane sample) (width_in g plane * y + x) 0) (format_with f sample)
     ∙ row_with (sample plane) (width_in f plane) (height_in f plane) x y h.in_row h.in_plane
 
+-- a whole picture with these samples is that one
 pub only_with : (p : Picture) (sample : Samples) → IsPicture p →
     ((plane : Plane) (x y : ℕ) → Inside p.format plane x y 1 → sample_at p plane x y ≡ sample plane x y) → p ≡ picture_with p.format sample
 only_with p sample whole same =

@@ -27,6 +27,7 @@ same_planes f y y' b b' r r' hy hb hr = cc
 luma_size : Format → ℕ
 luma_size f = width_of f * height_of f
 
+-- a plane of colour has a quarter of the samples
 pub chroma_fits : (f : Format) → width_of f / 2 * (height_of f / 2) ≡ width_of f * height_of f / 4
 chroma_fits SubQcif = refl
 chroma_fits Qcif = refl

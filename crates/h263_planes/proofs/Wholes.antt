@@ -53,6 +53,7 @@ same_parts : (f f' : Format) (y y' b b' r r' : List ℕ) → f ≡ f' → y ≡ 
     let p : Picture = record { format = f; y = y; cb = b; cr = r } in let q : Picture = record { format = f'; y = y'; cb = b'; cr = r' } in p ≡ q
 same_parts f f' y y' b b' r r' hf hy hb hr = cc
 
+-- whole pictures of one format with the same samples are the same
 pub same_pictures : (p q : Picture) → IsPicture p → IsPicture q → p.format ≡ q.format → HasSameSamples p q → p ≡ q
 same_pictures p q hp hq e same =
     same_parts p.format q.format p.y q.y p.cb q.cb p.cr q.cr e (same_plane_lists p q Y hp hq e same) (same_plane_lists p q Cb hp hq e same) (same_plane_lists p q Cr hp hq e same)
@@ -75,6 +76,7 @@ parts_of xs m n e hm hn whole =
     ap (λ (k : ℕ). take k xs ++ take (n - m) (drop m xs) ++ take (e - n) (drop n xs)) start
     ∙ ap (λ (l : List ℕ). l ++ take (e - n) (drop n xs)) front ∙ ap (λ (l : List ℕ). take n xs ++ l) rest ∙ take-append-drop n xs
 
+-- the bytes of the picture that bytes give are these bytes
 pub bytes_of_picture : (f : Format) (bytes : List ℕ) → length bytes ≡ size_of_picture f → bytes_of (picture_of f bytes) ≡ bytes
 bytes_of_picture f bytes h =
     let e = chroma_fits f in

@@ -1,4 +1,5 @@
--- The macroblocks of a picture and their six blocks (H.263, 4.2.1): a macroblock has 16 x 16 samples of Y and 8 x 8 of each colour; macroblocks are numbered in reading order.
+-- The macroblocks of a picture and their six blocks (H.263, 4.2.1): a macroblock has 16 x 16
+-- samples of Y and 8 x 8 of each colour; macroblocks are numbered in reading order.
 use Rattle.std.specs.Prelude.{ℕ, ◌+◌, ◌*◌, ◌/◌, ◌%◌, ◌≡◌, nat_lt, ◌==◌, if◌then◌else◌}
 use Rattle.h263_types.specs.declared.format.Format.{Format}
 use Rattle.h263_types.specs.Sizes.{columns_of}

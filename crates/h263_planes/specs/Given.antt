@@ -10,7 +10,8 @@ use Rattle.h263_planes.specs.Picture.{Picture}
 -- the samples of a plane by rows, each given by its column and row
 abbrev pub plane_with : Format → Plane → (Plane → ℕ → ℕ → ℕ) → List ℕ
 plane_with f plane sample =
-    map (λ k. sample plane (k % width_in f plane) (k / width_in f plane)) (range_with_len 0 (width_in f plane * height_in f plane))
+    map (λ k. sample plane (k % width_in f plane) (k / width_in f plane))
+    (range_with_len 0 (width_in f plane * height_in f plane))
 
 -- the picture of a format whose every sample is given by its plane, column and row
 unfoldable pub picture_with : Format → (Plane → ℕ → ℕ → ℕ) → Picture

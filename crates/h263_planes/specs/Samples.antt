@@ -60,7 +60,8 @@ same_plane _ _ = false
 abbrev pub in_run : Plane → ℕ → ℕ → ℕ → Plane → ℕ → ℕ → Bool
 in_run plane x y n other i j = same_plane plane other && (nat_eq j y && (nat_le x i && nat_lt i (x + n)))
 
--- the sample in column i of row j of a plane is one of the block of w x h samples from column x of row y of this plane on
+-- the sample in column i of row j of a plane is one of the block of w x h samples from column x of
+-- row y of this plane on
 abbrev pub in_block : Plane → ℕ → ℕ → ℕ → ℕ → Plane → ℕ → ℕ → Bool
 in_block plane x y w h other i j =
     same_plane plane other && ((nat_le y j && nat_lt j (y + h)) && (nat_le x i && nat_lt i (x + w)))

@@ -42,14 +42,18 @@ picture_by f g = picture_with f (λ plane x y. g (number_at f plane x y))
 
 -- what ties numbers and places
 pub record AreSpots : Type 0 where
-  pub spot_is : (f : Format) (plane : Plane) (x y : ℕ) → Inside f plane x y 1 → spot f (number_at f plane x y) ≡ (record { plane = plane; x = x; y = y })
+  pub spot_is : (f : Format) (plane : Plane) (x y : ℕ) → Inside f plane x y 1
+      → spot f (number_at f plane x y) ≡ (record { plane = plane; x = x; y = y })
   pub number_is : (f : Format) (s : ℕ) → number_at f (spot f s).plane (spot f s).x (spot f s).y ≡ s
   pub inside : (f : Format) (s : ℕ) → owner_of f s < mbs_of f → Inside f (spot f s).plane (spot f s).x (spot f s).y 1
   pub in_picture : (f : Format) (plane : Plane) (x y : ℕ) → Inside f plane x y 1 → mb_of f plane x y < mbs_of f
-  pub owner_is : (f : Format) (plane : Plane) (x y : ℕ) → Inside f plane x y 1 → owner_of f (number_at f plane x y) ≡ mb_of f plane x y
+  pub owner_is : (f : Format) (plane : Plane) (x y : ℕ)
+      → Inside f plane x y 1 → owner_of f (number_at f plane x y) ≡ mb_of f plane x y
 
 -- a picture is its samples by their numbers
 pub record ArePicturesBySamples : Type 0 where
-  pub only : (f : Format) (p : Picture) (g : ℕ → ℕ) → p.format ≡ f → IsPicture p → ((s : ℕ) → owner_of f s < mbs_of f → sample_of p (spot f s) ≡ g s) → p ≡ picture_by f g
+  pub only : (f : Format) (p : Picture) (g : ℕ → ℕ) → p.format ≡ f → IsPicture p
+      → ((s : ℕ) → owner_of f s < mbs_of f → sample_of p (spot f s) ≡ g s) → p ≡ picture_by f g
   pub sample : (f : Format) (g : ℕ → ℕ) (s : ℕ) → owner_of f s < mbs_of f → sample_of (picture_by f g) (spot f s) ≡ g s
-  pub same : (f : Format) (g h : ℕ → ℕ) → ((s : ℕ) → owner_of f s < mbs_of f → g s ≡ h s) → picture_by f g ≡ picture_by f h
+  pub same : (f : Format) (g h : ℕ → ℕ)
+      → ((s : ℕ) → owner_of f s < mbs_of f → g s ≡ h s) → picture_by f g ≡ picture_by f h

@@ -9,14 +9,16 @@ use crate::Plane;
 use crate::blocks::Corner;
 use h263_types::Format;
 
-/// Where block `block` of macroblock `mb` begins; blocks 0 to 3 are of Y in reading order, 4 is Cb and 5 is Cr
-/// (H.263, 4.2.1).
+/// Where block `block` of macroblock `mb` begins; blocks 0 to 3 are of Y in reading order, 4 is Cb
+/// and 5 is Cr (H.263, 4.2.1).
 pub fn block_corner(format: Format, mb: u32, block: u32) -> Corner
     requires mb { mb < mbs_of format }
     requires block { block < 6 }
     ensures corner { result ≡ corner_of format mb block }
     ensures inside { IsCorner format result }
-    ensures samples { (plane : Plane) (i j : ℕ) → Inside format plane i j 1 → in_block result.plane result.x result.y 8 8 plane i j ≡ (nat_eq (mb_of format plane i j) mb && nat_eq (block_of plane i j) block) }
+    ensures samples { (plane : Plane) (i j : ℕ)
+        → Inside format plane i j 1 → in_block result.plane result.x result.y 8 8 plane i j
+        ≡ (nat_eq (mb_of format plane i j) mb && nat_eq (block_of plane i j) block) }
 {
     let (column, row) = mb_place(format, mb);
     if block < 4 {
@@ -34,8 +36,8 @@ pub fn block_corner(format: Format, mb: u32, block: u32) -> Corner
     }
 }
 
-/// The column and the row of macroblock `mb`, in macroblocks. Each format has a division by a number of its own, which needs
-/// no divider.
+/// The column and the row of macroblock `mb`, in macroblocks. Each format has a division by a
+/// number of its own, which needs no divider.
 pub fn mb_place(format: Format, mb: u32) -> (u32, u32)
     ensures column { result.0 ≡ mb % columns_of format }
     ensures row { result.1 ≡ mb / columns_of format }

@@ -1,4 +1,5 @@
-//! What ties a picture to its samples and to its bytes. Each law is the contract of a function that does nothing.
+//! What ties a picture to its samples and to its bytes. Each law is the contract of a function that
+//! does nothing.
 ghost use Rattle.std.specs.Prelude.{◌≡◌, ℕ, List, length};
 ghost use Rattle.h263_types.specs.declared.format.Format.{Format};
 ghost use Rattle.h263_types.specs.Sizes.{size_of_picture};
@@ -11,13 +12,16 @@ ghost use Rattle.h263_planes.specs.Spots.{AreSpots, ArePicturesBySamples};
 
 /// Two pictures of one format that have the same sample at every place are the same picture.
 pub fn same_samples()
-    ensures { (p q : Picture) → IsPicture p → IsPicture q → p.format ≡ q.format → HasSameSamples p q → p ≡ q }
+    ensures { (p q : Picture)
+        → IsPicture p → IsPicture q → p.format ≡ q.format → HasSameSamples p q → p ≡ q }
 {}
 
 /// A picture's bytes are its planes Y, Cb and Cr one after the other.
 pub fn bytes_are_planes()
-    ensures planes { (f : Format) (bytes : List ℕ) → length bytes ≡ size_of_picture f → bytes_of (picture_of f bytes) ≡ bytes }
-    ensures whole { (f : Format) (bytes : List ℕ) → length bytes ≡ size_of_picture f → IsPicture (picture_of f bytes) }
+    ensures planes { (f : Format) (bytes : List ℕ)
+        → length bytes ≡ size_of_picture f → bytes_of (picture_of f bytes) ≡ bytes }
+    ensures whole { (f : Format) (bytes : List ℕ)
+        → length bytes ≡ size_of_picture f → IsPicture (picture_of f bytes) }
 {}
 
 /// The planes of a picture one after the other are bytes that hold it.
@@ -29,9 +33,13 @@ pub fn planes_are_bytes()
 /// There is one picture of a format whose samples are given ones.
 pub fn samples_are_picture()
     ensures whole { (f : Format) (sample : Plane → ℕ → ℕ → ℕ) → IsPicture (picture_with f sample) }
-    ensures format { (f : Format) (sample : Plane → ℕ → ℕ → ℕ) → (picture_with f sample).format ≡ f }
-    ensures samples { (f : Format) (sample : Plane → ℕ → ℕ → ℕ) (plane : Plane) (x y : ℕ) → Inside f plane x y 1 → sample_at (picture_with f sample) plane x y ≡ sample plane x y }
-    ensures only { (p : Picture) (sample : Plane → ℕ → ℕ → ℕ) → IsPicture p → ((plane : Plane) (x y : ℕ) → Inside p.format plane x y 1 → sample_at p plane x y ≡ sample plane x y) → p ≡ picture_with p.format sample }
+    ensures format { (f : Format) (sample : Plane → ℕ → ℕ → ℕ)
+        → (picture_with f sample).format ≡ f }
+    ensures samples { (f : Format) (sample : Plane → ℕ → ℕ → ℕ) (plane : Plane) (x y : ℕ)
+        → Inside f plane x y 1 → sample_at (picture_with f sample) plane x y ≡ sample plane x y }
+    ensures only { (p : Picture) (sample : Plane → ℕ → ℕ → ℕ)
+        → IsPicture p → ((plane : Plane) (x y : ℕ) → Inside p.format plane x y 1
+        → sample_at p plane x y ≡ sample plane x y) → p ≡ picture_with p.format sample }
 {}
 
 /// Each sample of a picture has one number, and a macroblock of the picture holds it.

@@ -5,7 +5,7 @@ ghost use Rattle.h263_types.specs.Sizes.{height_of, width_of};
 use crate::Plane;
 use h263_types::Format;
 
-/// The numbers by which a sample is found. They are kept, since each row that is lent asks for them.
+// The numbers by which a sample is found. They are kept, since each row that is lent asks for them.
 #[derive(Clone, Copy)]
 pub(crate) struct Layout {
     pub(crate) format: Format,
@@ -22,7 +22,7 @@ impl Layout {
     ghost use Rattle.h263_planes.specs.Layout.{offset_of, width_in};
     ghost use Rattle.h263_planes.specs.Samples.{Inside};
 
-    /// The layout of a format.
+    // The layout of a format.
     pub(crate) fn new(format: Format) -> Layout
         ensures { result.format ≡ format }
     {
@@ -57,7 +57,7 @@ impl Layout {
         }
     }
 
-    /// Where the sample in column `x` of row `y` stands.
+    // Where the sample in column `x` of row `y` stands.
     #[inline(always)]
     pub(crate) fn place(self, plane: Plane, x: u32, y: u32) -> usize
         requires { Inside self.format plane x y 0 }

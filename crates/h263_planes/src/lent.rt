@@ -53,7 +53,8 @@ impl<'a> PictureRef<'a> {
     pub fn row(&self, plane: Plane, x: u32, y: u32, n: u32) -> &'a [u8]
         requires { Inside (picture self.now).format plane x y n }
         ensures length { length result.now ≡ n }
-        ensures samples { (i : ℕ) → i < n → slice_index result.now i ≡ sample_at (picture self.now) plane (x + i) y }
+        ensures samples { (i : ℕ)
+            → i < n → slice_index result.now i ≡ sample_at (picture self.now) plane (x + i) y }
     {
         let at = self.layout.place(plane, x, y);
         &self.bytes[at..at + n as usize]

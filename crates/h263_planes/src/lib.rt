@@ -1,5 +1,17 @@
-//! Pictures of three planes over borrowed bytes: the samples of Y, Cb and Cr one plane after the other, each by
-//! rows from the top (H.263, 4.1).
+//! Pictures of three planes over borrowed bytes: the samples of Y, Cb and Cr one plane after the
+//! other, each by rows from the top (H.263, 4.1).
+//!
+//! A [`PictureRef`] is read and a [`PictureMut`] written, by [`Plane`] and place. [`block_corner`]
+//! gives the [`Corner`] at which a block of a macroblock begins, [`mb_place`] that of the
+//! macroblock.
+//!
+//! ```rust
+//! let mut bytes = [128; SIZE];
+//! let mut picture = PictureMut::new(Format::SubQcif, &mut bytes);
+//! picture.set_row(Plane::Cb, 60, 47, &[1, 2, 3, 4]);
+//! let seen = picture.seen();
+//! assert_eq!(rt; seen.row(Plane::Cb, 58, 47, 6), [128, 128, 1, 2, 3, 4].as_slice());
+//! ```
 #![tactic(auto)]
 
 mod blocks;

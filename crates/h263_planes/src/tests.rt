@@ -1,3 +1,4 @@
+//! Where planes, rows and corners lie.
 use super::*;
 use h263_types::Format;
 

@@ -52,7 +52,9 @@ impl<'a> PictureMut<'a> {
         ensures picture { work self.new ≡ with_sample (work self.old) plane x y value }
         ensures format { (work self.new).format ≡ (work self.old).format }
         ensures whole { IsPicture (work self.new) }
-        ensures samples { (other : Plane) (i j : ℕ) → Inside (work self.old).format other i j 1 → sample_at (work self.new) other i j ≡ (if in_run plane x y 1 other i j then value else sample_at (work self.old) other i j) }
+        ensures samples { (other : Plane) (i j : ℕ)
+            → Inside (work self.old).format other i j 1 → sample_at (work self.new) other i j ≡
+            (if in_run plane x y 1 other i j then value else sample_at (work self.old) other i j) }
     {
         let at = self.layout.place(plane, x, y);
         self.bytes[at] = value;
@@ -65,7 +67,9 @@ impl<'a> PictureMut<'a> {
         ensures picture { work self.new ≡ with_samples (work self.old) plane x y samples.now }
         ensures format { (work self.new).format ≡ (work self.old).format }
         ensures whole { IsPicture (work self.new) }
-        ensures samples { (other : Plane) (i j : ℕ) → Inside (work self.old).format other i j 1 → sample_at (work self.new) other i j ≡ (if in_run plane x y (length samples.now) other i j then slice_index samples.now (i - x) else sample_at (work self.old) other i j) }
+        ensures samples { (other : Plane) (i j : ℕ) → Inside (work self.old).format other i j 1
+            → sample_at (work self.new) other i j ≡ (if in_run plane x y (length samples.now) other
+            i j then slice_index samples.now (i - x) else sample_at (work self.old) other i j) }
     {
         let from = self.layout.place(plane, x, y);
         self.bytes[from..from + samples.len()].copy_from_slice(samples);

@@ -1,3 +1,4 @@
+//! Slots are given out and come back.
 use super::*;
 use h263_outside::OutOfMemory;
 use std::alloc::Global;

@@ -13,4 +13,5 @@ marks_of levels = mask_l (map (λ z. not (is_zero z)) levels)
 
 -- a level whose bit isn't set is 0, and only such a one
 abbrev pub EachIsMarked : Type 0
-EachIsMarked = (levels : List ℤ) (k : ℕ) → bit_at (marks_of levels) k ≡ (if is_zero (slice_index_or levels k (pos 0)) then 0 else 1)
+EachIsMarked = (levels : List ℤ) (k : ℕ)
+    → bit_at (marks_of levels) k ≡ (if is_zero (slice_index_or levels k (pos 0)) then 0 else 1)

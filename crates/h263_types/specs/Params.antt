@@ -23,7 +23,17 @@ pub record IsParams (p : Params) : Type 0 where
 
 -- what a call has where nothing else is asked for
 abbrev pub default_params : Format → Params
-default_params format = record { format = format; quant = 8; keep = 64; radius = 7; limit = 1400; slots = 16; lead = 3; messages = 1; clock = Standard }
+default_params format = record {
+  format = format;
+  quant = 8;
+  keep = 64;
+  radius = 7;
+  limit = 1400;
+  slots = 16;
+  lead = 3;
+  messages = 1;
+  clock = Standard;
+}
 
 -- from least to most
 abbrev pub between : ℕ → ℕ → ℕ → Bool

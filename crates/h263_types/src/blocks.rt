@@ -6,8 +6,8 @@ ghost use Rattle.h263_types.specs.Marks.{marks_of};
 use crate::vector::Vector;
 use std::simd::prelude::*;
 
-/// The 64 levels of a block in zigzag order (H.263, 6.2.3), each from -127 to 127 (5.4.2). In a block of an intra
-/// macroblock place 0 is the INTRADC value, 1 to 254.
+/// The 64 levels of a block in zigzag order (H.263, 6.2.3), each from -127 to 127 (5.4.2). In a
+/// block of an intra macroblock place 0 is the INTRADC value, 1 to 254.
 #[derive(Clone, Copy, Debug, PartialEq, Eq)]
 pub struct Block {
     pub levels: [i16; 64],
@@ -34,8 +34,8 @@ fn marks(levels: [i16; 64]) -> u64
     i16x64::from_array(levels).simd_ne(zeros).to_bitmask()
 }
 
-/// A macroblock: 16 x 16 samples of luma and 8 x 8 of each colour. Its six blocks are four of luma in
-/// reading order, Cb, Cr; `quant` is the quantiser in force in it, 1 to 31 (H.263, 5.3).
+/// A macroblock: 16 x 16 samples of luma and 8 x 8 of each colour. Its six blocks are four of luma
+/// in reading order, Cb, Cr; `quant` is the quantiser in force in it, 1 to 31 (H.263, 5.3).
 #[derive(Clone, Copy, Debug, PartialEq, Eq)]
 pub enum Mb {
     /// The samples of the reference at the same place.
@@ -89,7 +89,8 @@ fn are_whole(blocks: &[Block; 6])
     has_64_levels(&blocks[5]);
 }
 
-/// The macroblocks of a slice (H.263, Annex K): `count` of them, at least one, from number `first` on.
+/// The macroblocks of a slice (H.263, Annex K): `count` of them, at least one, from number `first`
+/// on.
 #[derive(Clone, Copy, Debug, PartialEq, Eq)]
 pub struct SliceHead {
     pub first: u32,

@@ -9,5 +9,7 @@ pub fn marks()
 
 /// The step of a loop that fills an array by a function of the place.
 pub fn one_more<T>()
-    ensures { (f : ℕ → T) (xs : List T) (at : ℕ) (v d : T) → at < length xs → v ≡ f at → ((k : ℕ) → k < at → slice_index_or xs k d ≡ f k) → (k : ℕ) → k < at + 1 → slice_index_or (slice_set xs at v) k d ≡ f k }
+    ensures { (f : ℕ → T) (xs : List T) (at : ℕ) (v d : T)
+        → at < length xs → v ≡ f at → ((k : ℕ) → k < at → slice_index_or xs k d ≡ f k)
+        → (k : ℕ) → k < at + 1 → slice_index_or (slice_set xs at v) k d ≡ f k }
 {}

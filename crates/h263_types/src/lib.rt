@@ -1,4 +1,15 @@
-//! The types that all parts of the codec share: formats, macroblocks, vectors and how far they reach, parameters.
+//! The types that all parts of the codec share.
+//!
+//! [`Format`] and [`Kind`] say what a picture is, [`Mb`] and [`Block`] what is coded of a
+//! macroblock, [`Vector`] where it is predicted from and [`Reach`] how far that may be. [`Params`]
+//! are the parameters of a call, with [`Clock`] and [`Pace`]; [`Mark`] says how a picture was
+//! shown.
+//!
+//! ```rust
+//! assert_eq!(rt; (Format::Qcif.width(), Format::Qcif.height()), (176, 144));
+//! assert_eq!(rt; Format::Qcif.mbs(), 99);
+//! assert_eq!(rt; (Clock::Standard.half(), Clock::Standard.period()), (128, 256));
+//! ```
 #![tactic(auto)]
 
 mod blocks;

@@ -23,7 +23,8 @@ pub struct Params {
     pub slots: u32,
     /// How many pictures the receiver's play lies behind, 0 to `slots` - 2.
     pub lead: u32,
-    /// The version of the receiver's messages, 1 or 2; those of version 2 name further complete pictures.
+    /// The version of the receiver's messages, 1 or 2; those of version 2 name further complete
+    /// pictures.
     pub messages: u8,
     /// The clock of every picture.
     pub clock: Clock,
@@ -67,7 +68,8 @@ impl Params {
         }
     }
 
-    /// Whether each parameter is in its range; if not, which is the first that isn't, in the order of the fields.
+    /// Whether each parameter is in its range; if not, which is the first that isn't, in the order
+    /// of the fields.
     pub fn check(&self) -> Result<(), ParamFault>
         ensures fault { result ≡ verdict_of (ranges self.now) }
         ensures ok { IsOk result ↔ IsParams self.now }

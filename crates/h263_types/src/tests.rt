@@ -1,3 +1,4 @@
+//! Formats, reaches, ranges and clocks, as the standard gives them.
 use super::*;
 
 #[test]

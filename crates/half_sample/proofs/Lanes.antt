@@ -71,6 +71,7 @@ four_at (suc n) r (x ∷ xs) (y ∷ ys) (u ∷ us) (v ∷ vs) (suc i) hr ex ey e
 pub loaded : (n : ℕ) (xs : List ℕ) (i : ℕ) → i < n → get_or (chunk 0 n xs) i 0 ≡ get_or xs i 0
 loaded n xs i hi = get_or-chunk 0 n xs i 0 hi ∙ ap (λ (k : ℕ). get_or xs k 0) (zero-add i)
 
+-- a lane that was made wider has its number
 pub narrow_at : (xs : List ℕ) (i : ℕ) → get_or (wide xs) i 0 ≡ get_or xs i 0
 narrow_at [] i = refl
 narrow_at (x ∷ xs) zero = refl

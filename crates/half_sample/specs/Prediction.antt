@@ -28,13 +28,15 @@ is_half Y v = nat_eq (unsigned_abs v % 2) 1
 is_half Cb v = not (nat_eq (unsigned_abs v % 4) 0)
 is_half Cr v = not (nat_eq (unsigned_abs v % 4) 0)
 
--- the sample in column x of row y, or half a sample further right and down where the tests say so; r is the rounding bit
+-- the sample in column x of row y, or half a sample further right and down where the tests say so;
+-- r is the rounding bit
 abbrev pub interpolated : Picture → Plane → Bool → Bool → ℕ → ℕ → ℕ → ℕ
 interpolated p plane false false r x y = sample_at p plane x y
 interpolated p plane true false r x y = average r (sample_at p plane x y) (sample_at p plane (x + 1) y)
 interpolated p plane false true r x y = average r (sample_at p plane x y) (sample_at p plane x (y + 1))
 interpolated p plane true true r x y =
-    average4 r (sample_at p plane x y) (sample_at p plane (x + 1) y) (sample_at p plane x (y + 1)) (sample_at p plane (x + 1) (y + 1))
+    average4 r (sample_at p plane x y) (sample_at p plane (x + 1) y)
+    (sample_at p plane x (y + 1)) (sample_at p plane (x + 1) (y + 1))
 
 -- the place that whole samples lead to
 abbrev pub moved : ℕ → ℤ → ℕ
@@ -43,7 +45,8 @@ moved x whole = unsigned_abs (pos x +ℤ whole)
 -- the sample that is predicted in column x of row y by a vector
 abbrev pub predicted_sample : Picture → Plane → ℕ → ℕ → Vector → ℕ → ℕ
 predicted_sample p plane x y v r =
-    interpolated p plane (is_half plane v.x) (is_half plane v.y) r (moved x (whole_part plane v.x)) (moved y (whole_part plane v.y))
+    interpolated p plane (is_half plane v.x)
+    (is_half plane v.y) r (moved x (whole_part plane v.x)) (moved y (whole_part plane v.y))
 
 -- the samples of macroblock `at` in a plane, by rows of n, are those that a vector predicts
 abbrev pub ArePredicted : ℕ → Picture → Plane → ℕ → Vector → ℕ → List ℕ → Type 0
@@ -51,7 +54,8 @@ ArePredicted n p plane at v r samples =
     (j i : ℕ) → j < n → i < n → slice_index samples (n * j + i)
     ≡ predicted_sample p plane (n * (at % columns_of p.format) + i) (n * (at / columns_of p.format) + j) v r
 
--- a quarter of the luma samples of macroblock `at` that a vector predicts: four rows, from row j on each four further down
+-- a quarter of the luma samples of macroblock `at` that a vector predicts: four rows, from row j on
+-- each four further down
 abbrev pub IsQuarter : Picture → ℕ → Vector → ℕ → ℕ → List ℕ → Type 0
 IsQuarter p at v r j samples =
     (k i : ℕ) → k < 4 → i < 16 → slice_index samples (16 * k + i)

@@ -8,8 +8,8 @@ use crate::rows::{of_four, of_two};
 use h263_planes::{PictureRef, Plane};
 use std::simd::prelude::*;
 
-/// A row of `N` predicted samples, 8 or 16, from column `x` of row `y` on, or half a sample further right or down
-/// (H.263, 6.1.2).
+// A row of `N` predicted samples, 8 or 16, from column `x` of row `y` on, or half a sample further
+// right or down (H.263, 6.1.2).
 #[inline(always)]
 pub(crate) fn row<const N: usize>(
     reference: PictureRef<'_>,
@@ -25,7 +25,8 @@ pub(crate) fn row<const N: usize>(
     requires x { x < 65536 }
     requires y { y < 65536 }
     requires rounding { rounding ≤ 1 }
-    ensures { (i : ℕ) → i < N → slice_index result i ≡ interpolated (picture reference.entry) plane half_x half_y rounding (x + i) y }
+    ensures { (i : ℕ) → i < N → slice_index result i
+        ≡ interpolated (picture reference.entry) plane half_x half_y rounding (x + i) y }
 {
     let n = N as u32;
     match (half_x, half_y) {
@@ -47,7 +48,8 @@ pub(crate) fn row<const N: usize>(
     }
 }
 
-// A block of N x N predicted samples, row by row. Called with a case that is known, it has a loop for this case alone.
+// A block of N x N predicted samples, row by row. Called with a case that is known, it has a loop
+// for this case alone.
 #[inline(always)]
 fn block_of<const N: usize>(
     reference: PictureRef<'_>,
@@ -65,7 +67,8 @@ fn block_of<const N: usize>(
     requires rounding { rounding ≤ 1 }
     requires length { N ≤ 16 }
     requires out { length out.old ≡ N * N }
-    ensures { (j i : ℕ) → j < N → i < N → slice_index out.new (N * j + i) ≡ interpolated (picture reference.entry) plane half_x half_y rounding (x + i) (y + j) }
+    ensures { (j i : ℕ) → j < N → i < N → slice_index out.new (N * j + i)
+        ≡ interpolated (picture reference.entry) plane half_x half_y rounding (x + i) (y + j) }
 {
     for j in 0..N {
         let at = N * j;
@@ -92,7 +95,8 @@ pub(crate) fn block<const N: usize>(
     requires rounding { rounding ≤ 1 }
     requires length { N ≤ 16 }
     requires out { length out.old ≡ N * N }
-    ensures { (j i : ℕ) → j < N → i < N → slice_index out.new (N * j + i) ≡ interpolated (picture reference.entry) plane half_x half_y rounding (x + i) (y + j) }
+    ensures { (j i : ℕ) → j < N → i < N → slice_index out.new (N * j + i)
+        ≡ interpolated (picture reference.entry) plane half_x half_y rounding (x + i) (y + j) }
 {
     match (half_x, half_y, rounding) {
         (false, false, _) => block_of::<N>(reference, plane, x, y, false, false, 0, out),
@@ -105,8 +109,8 @@ pub(crate) fn block<const N: usize>(
     }
 }
 
-// Four rows of sixteen predicted samples of Y, each four further down. Called with a case that is known, it has a loop for
-// this case alone.
+// Four rows of sixteen predicted samples of Y, each four further down. Called with a case that is
+// known, it has a loop for this case alone.
 #[inline(always)]
 fn quarter_of(
     reference: PictureRef<'_>,
@@ -121,7 +125,8 @@ fn quarter_of(
     requires x { x < 65536 }
     requires y { y < 60000 }
     requires rounding { rounding ≤ 1 }
-    ensures { (k i : ℕ) → k < 4 → i < 16 → slice_index out.new (16 * k + i) ≡ interpolated (picture reference.entry) Y half_x half_y rounding (x + i) (y + 4 * k) }
+    ensures { (k i : ℕ) → k < 4 → i < 16 → slice_index out.new (16 * k + i)
+        ≡ interpolated (picture reference.entry) Y half_x half_y rounding (x + i) (y + 4 * k) }
 {
     for k in 0..4 {
         let at = 16 * k;
@@ -146,7 +151,8 @@ pub(crate) fn quarter(
     requires x { x < 65536 }
     requires y { y < 60000 }
     requires rounding { rounding ≤ 1 }
-    ensures { (k i : ℕ) → k < 4 → i < 16 → slice_index out.new (16 * k + i) ≡ interpolated (picture reference.entry) Y half_x half_y rounding (x + i) (y + 4 * k) }
+    ensures { (k i : ℕ) → k < 4 → i < 16 → slice_index out.new (16 * k + i)
+        ≡ interpolated (picture reference.entry) Y half_x half_y rounding (x + i) (y + 4 * k) }
 {
     match (half_x, half_y, rounding) {
         (false, false, _) => quarter_of(reference, x, y, false, false, 0, out),

@@ -1,4 +1,18 @@
-//! Prediction of a macroblock's samples from a picture that is lent: whole and half samples (H.263, 6.1).
+//! Prediction of a macroblock's samples from a picture that is lent: whole and half samples (H.263,
+//! 6.1).
+//!
+//! [`predict`] gives all of a macroblock as [`Predicted`]; [`luma`] and [`chroma`] fill one of its
+//! planes.
+//!
+//! ```rust
+//! // columns of 10 and 11 by turns: half a sample across is 11, and 10 with the rounding bit
+//! let vector = Vector { x: 1, y: 0 };
+//! let mut out = [0; 256];
+//! luma(picture, 9, vector, 0, &mut out);
+//! assert_eq!(rt; out[0], 11);
+//! luma(picture, 9, vector, 1, &mut out);
+//! assert_eq!(rt; out[0], 10);
+//! ```
 #![tactic(auto)]
 
 mod block;

@@ -12,7 +12,8 @@ use crate::place::{chroma_place, is_chroma_half, is_luma_half, luma_place};
 use h263_planes::{PictureRef, Plane, mb_place};
 use h263_types::Vector;
 
-/// The samples that a vector predicts for a macroblock, by rows from the top: 16 x 16 of Y, 8 x 8 of Cb and of Cr.
+/// The samples that a vector predicts for a macroblock, by rows from the top: 16 x 16 of Y, 8 x 8
+/// of Cb and of Cr.
 #[derive(Drop)]
 pub struct Predicted {
     pub y: [u8; 256],
@@ -20,8 +21,8 @@ pub struct Predicted {
     pub cr: [u8; 64],
 }
 
-/// The samples that a vector predicts for macroblock `mb` in the three planes. `rounding` is the picture's rounding bit,
-/// 0 or 1 (H.263, 6.1).
+/// The samples that a vector predicts for macroblock `mb` in the three planes. `rounding` is the
+/// picture's rounding bit, 0 or 1 (H.263, 6.1).
 #[inline]
 pub fn predict(reference: PictureRef<'_>, mb: u32, vector: Vector, rounding: u8) -> Predicted
     requires mb { mb < mbs_of (picture reference).format }
@@ -40,8 +41,8 @@ pub fn predict(reference: PictureRef<'_>, mb: u32, vector: Vector, rounding: u8)
     samples
 }
 
-/// The 16 x 16 luma samples that a vector predicts for macroblock `mb`, by rows from the top. `rounding` is the
-/// picture's rounding bit, 0 or 1 (H.263, 6.1.2).
+/// The 16 x 16 luma samples that a vector predicts for macroblock `mb`, by rows from the top.
+/// `rounding` is the picture's rounding bit, 0 or 1 (H.263, 6.1.2).
 pub fn luma(reference: PictureRef<'_>, mb: u32, vector: Vector, rounding: u8, out: &mut [u8; 256])
     requires mb { mb < mbs_of (picture reference).format }
     requires reach { InReach (picture reference).format mb vector.x vector.y }
@@ -61,8 +62,9 @@ pub fn luma(reference: PictureRef<'_>, mb: u32, vector: Vector, rounding: u8, ou
     );
 }
 
-/// A quarter of the luma samples that a vector predicts for macroblock `mb`: rows `first`, 0 to 3, and those 4, 8 and 12
-/// further down, one behind the other. `rounding` is the picture's rounding bit, 0 or 1 (H.263, 6.1.2).
+/// A quarter of the luma samples that a vector predicts for macroblock `mb`: rows `first`, 0 to 3,
+/// and those 4, 8 and 12 further down, one behind the other. `rounding` is the picture's rounding
+/// bit, 0 or 1 (H.263, 6.1.2).
 pub fn luma_quarter(
     reference: PictureRef<'_>,
     mb: u32,
@@ -89,8 +91,8 @@ pub fn luma_quarter(
     );
 }
 
-/// The 8 x 8 samples of a colour, Cb or Cr, that the macroblock's luma vector predicts, by rows from the top. The
-/// vector's quarters of a colour's sample are taken as halves (H.263, 6.1.1).
+/// The 8 x 8 samples of a colour, Cb or Cr, that the macroblock's luma vector predicts, by rows
+/// from the top. The vector's quarters of a colour's sample are taken as halves (H.263, 6.1.1).
 pub fn chroma(
     reference: PictureRef<'_>,
     plane: Plane,

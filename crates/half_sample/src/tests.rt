@@ -1,3 +1,4 @@
+//! Samples between samples, by hand.
 ghost use Rattle.std.specs.Prelude.{◌<◌};
 ghost use Rattle.h263_types.specs.Sizes.{mbs_of};
 ghost use Rattle.h263_types.specs.Vectors.{InReach};
@@ -163,7 +164,8 @@ fn both_as_a_plain_prediction(rt: HostRuntime) {
 
 #[test]
 fn rows_of_eight_and_sixteen(rt: HostRuntime) {
-    // each sample is its place modulo 256, so one further right is 1 more, and one further down in Y 128
+    // each sample is its place modulo 256, so one further right is 1 more, and one further down in
+    // Y 128
     let mut bytes = [0; SIZE];
     for i in 0..SIZE {
         bytes[i] = (i % 256) as u8;

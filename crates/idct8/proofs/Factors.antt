@@ -69,5 +69,6 @@ pass_of d f k {c0} {c1} {c2} {c3} {c4} {c5} {c6} {c7} e0 e1 e2 e3 e4 e5 e6 e7 =
     (ap (λ z. factor d 0 k *ℤ z) e0) (ap (λ z. factor d 1 k *ℤ z) e1) (ap (λ z. factor d 2 k *ℤ z) e2) (ap (λ z. factor d 3 k *ℤ z) e3)
     (ap (λ z. factor d 4 k *ℤ z) e4) (ap (λ z. factor d 5 k *ℤ z) e5) (ap (λ z. factor d 6 k *ℤ z) e6) (ap (λ z. factor d 7 k *ℤ z) e7))
 
+-- a bound of a number is one of its equal, and a larger one too
 pub within_same : (m n : ℕ) {z e : ℤ} → m ≤ n → z ≡ e → Within m e → Within n z
 within_same m n {z} {e} h q w = omega (arith, ints)

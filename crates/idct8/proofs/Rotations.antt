@@ -10,6 +10,7 @@ use Rattle.idct8.specs.Passes.{pass_at}
 pub plain_sum : {r a b x y : ℤ} (m n : ℤ) → r ≡ m *ℤ a +ℤ n *ℤ b → a ≡ x → b ≡ y → r ≡ m *ℤ x +ℤ n *ℤ y
 plain_sum m n e ea eb = cc (e, ea, eb)
 
+-- a difference of multiples, of the numbers that the parts stand for
 pub plain_difference : {r a b x y : ℤ} (m n : ℤ) → r ≡ m *ℤ a -ℤ n *ℤ b → a ≡ x → b ≡ y → r ≡ m *ℤ x -ℤ n *ℤ y
 plain_difference m n e ea eb = cc (e, ea, eb)
 
@@ -21,6 +22,7 @@ whole_of e ez ea eb = cc (e, ez, ea, eb)
 pub sum_of : {r a b x y : ℤ} → r ≡ a +ℤ b → a ≡ x → b ≡ y → r ≡ x +ℤ y
 sum_of e ea eb = cc (e, ea, eb)
 
+-- a difference, of the numbers that its parts stand for
 pub difference_of : {r a b x y : ℤ} → r ≡ a -ℤ b → a ≡ x → b ≡ y → r ≡ x -ℤ y
 difference_of e ea eb = cc (e, ea, eb)
 

@@ -29,6 +29,7 @@ unfolding sum_below
 sums_turned zero n f = sym (zeros n)
 sums_turned (suc m) n f = ap (λ s. s +ℤ sum_below n (λ j. f m j)) (sums_turned m n f) ∙ sums_added n (λ j. sum_below m (λ i. f i j)) (λ j. f m j)
 
+-- equal parts are rounded to the same
 pub same_rounded : {h l h' l' : ℤ} → h ≡ h' → l ≡ l' → rounded (pos 8192 *ℤ h +ℤ l) ≡ rounded (pos 8192 *ℤ h' +ℤ l')
 same_rounded e f = cc (e, f)
 

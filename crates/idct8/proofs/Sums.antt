@@ -38,6 +38,7 @@ times_sum m a b =
     let e : up (a +ℤ b) + (down a + down b) ≡ down (a +ℤ b) + (up a + up b) = omega (arith, ints) in
     omega (arith, ints, ap (λ k. up m * k) e, ap (λ k. down m * k) e)
 
+-- three factors
 pub times_assoc : (a b c : ℤ) → a *ℤ (b *ℤ c) ≡ a *ℤ b *ℤ c
 times_assoc a b c =
     omega (
@@ -53,6 +54,7 @@ times_assoc a b c =
       ap (λ k. k * down c) (product_is a b).1,
     )
 
+-- a factor of a sum is one of each part
 pub factor_sum : (m : ℤ) (n : ℕ) (f : ℕ → ℤ) → m *ℤ sum_below n f ≡ sum_below n (λ k. m *ℤ f k)
 unfolding sum_below
 factor_sum m zero f = omega (arith, ints)

@@ -81,15 +81,19 @@ zip_words w {m} {n} {k} {us} {vs} {f} {f'} op g is small u v = record {
   small = λ i hi. small (f i) (f' i) (u.small i hi) (v.small i hi);
 }
 
+-- lanes of 32 bits that are added stand for the sums
 pub sum_words : {m n : ℕ} {us vs : List ℕ} {f g : ℕ → ℤ} → m + n ≤ 2 ^ 31 - 1 → Words w32 m us f → Words w32 n vs g → Words w32 (m + n) (zip2 plus us vs) (λ i. f i +ℤ g i)
 sum_words {m} {n} h u v = zip_words w32 plus (λ a b. a +ℤ b) (λ a b ha hb. plus_is a b m n h ha hb) (λ a b ha hb. plus_small a b m n ha hb) u v
 
+-- and those that are subtracted for the differences
 pub difference_words : {m n : ℕ} {us vs : List ℕ} {f g : ℕ → ℤ} → m + n ≤ 2 ^ 31 - 1 → Words w32 m us f → Words w32 n vs g → Words w32 (m + n) (zip2 minus us vs) (λ i. f i -ℤ g i)
 difference_words {m} {n} h u v = zip_words w32 minus (λ a b. a -ℤ b) (λ a b ha hb. minus_is a b m n h ha hb) (λ a b ha hb. minus_small a b m n ha hb) u v
 
+-- lanes of 16 bits that are added stand for the sums
 pub sum_words16 : {m n : ℕ} {us vs : List ℕ} {f g : ℕ → ℤ} → m + n ≤ 32767 → Words w16 m us f → Words w16 n vs g → Words w16 (m + n) (zip2 plus16 us vs) (λ i. f i +ℤ g i)
 sum_words16 {m} {n} h u v = zip_words w16 plus16 (λ a b. a +ℤ b) (λ a b ha hb. plus16_is a b m n h ha hb) (λ a b ha hb. plus_small a b m n ha hb) u v
 
+-- and those that are subtracted for the differences
 pub difference_words16 : {m n : ℕ} {us vs : List ℕ} {f g : ℕ → ℤ} → m + n ≤ 32767 → Words w16 m us f → Words w16 n vs g → Words w16 (m + n) (zip2 minus16 us vs) (λ i. f i -ℤ g i)
 difference_words16 {m} {n} h u v = zip_words w16 minus16 (λ a b. a -ℤ b) (λ a b ha hb. minus16_is a b m n h ha hb) (λ a b ha hb. minus_small a b m n ha hb) u v
 
@@ -158,6 +162,7 @@ own_words w n v h = record {
 pub within_fits : (n : ℕ) (z : ℤ) → n ≤ 2 ^ 31 - 1 → Within n z → FitsSigned w32 z
 within_fits n z h w = omega (arith, ints)
 
+-- a number within 32,767 fits 16 bits
 pub within_fits16 : (n : ℕ) (z : ℤ) → n ≤ 32767 → Within n z → FitsSigned w16 z
 within_fits16 n z h w = omega (arith, ints)
 
@@ -172,15 +177,19 @@ small_of w {n} k {us} {f} fits h u = record {
   within = λ i hi. subst (λ (z : ℤ). Within k z) (sym (lane_of w fits u i hi)) (within_more n k (f i) h (u.small i hi));
 }
 
+-- each lane of 32 bits gives its number
 pub numbers : {n : ℕ} {us : List ℕ} {f : ℕ → ℤ} → n ≤ 2 ^ 31 - 1 → Words w32 n us f → (i : ℕ) → i < 8 → lane (map (to_z w32) us) i ≡ f i
 numbers {n} h u = lane_of w32 (λ z hz. within_fits n z h hz) u
 
+-- all eight are within the bound
 pub numbers_small : {n : ℕ} (k : ℕ) {us : List ℕ} {f : ℕ → ℤ} → n ≤ k → n ≤ 2 ^ 31 - 1 → Words w32 n us f → EightWithin k (map (to_z w32) us)
 numbers_small {n} k h h' u = small_of w32 k (λ z hz. within_fits n z h' hz) h u
 
+-- each lane of 16 bits gives its number
 pub numbers16 : {n : ℕ} {us : List ℕ} {f : ℕ → ℤ} → n ≤ 32767 → Words w16 n us f → (i : ℕ) → i < 8 → lane (map (to_z w16) us) i ≡ f i
 numbers16 {n} h u = lane_of w16 (λ z hz. within_fits16 n z h hz) u
 
+-- all eight are within the bound
 pub numbers_small16 : {n : ℕ} (k : ℕ) {us : List ℕ} {f : ℕ → ℤ} → n ≤ k → n ≤ 32767 → Words w16 n us f → EightWithin k (map (to_z w16) us)
 numbers_small16 {n} k h h' u = small_of w16 k (λ z hz. within_fits16 n z h' hz) h u
 
@@ -189,6 +198,7 @@ same_words : (w : Width) (v : List ℤ) → ((i : ℕ) → i < length v → Fits
 same_words w [] h = refl
 same_words w (x ∷ v) h = cc (to_z-of_z w x (h 0 (omega arith)), same_words w v (λ i hi. h (suc i) (omega arith)))
 
+-- eight numbers that fit 32 bits come back from their lanes
 pub passed : (n : ℕ) {v : List ℤ} → n ≤ 2 ^ 31 - 1 → EightWithin n v → map (to_z w32) (map (of_z w32) v) ≡ v
 passed n {v} h e = same_words w32 v (λ i hi. within_fits n (lane v i) h (e.within i (omega (arith, e.long))))
 
@@ -198,14 +208,18 @@ passed16 n {v} h e = same_words w16 v (λ i hi. within_fits16 n (lane v i) h (e.
 pub eight_more : (m n : ℕ) {v : List ℤ} → m ≤ n → EightWithin m v → EightWithin n v
 eight_more m n {v} h e = record { long = e.long; within = λ i hi. within_more m n (lane v i) h (e.within i hi) }
 
+-- and are within the bound as before
 pub passed_within : (n k : ℕ) {v : List ℤ} → n ≤ 2 ^ 31 - 1 → n ≤ k → EightWithin n v → EightWithin k (map (to_z w32) (map (of_z w32) v))
 passed_within n k {v} h h' e = subst (λ (u : List ℤ). EightWithin k u) (sym (passed n h e)) (eight_more n k h' e)
 
+-- likewise in 16 bits
 pub passed_within16 : (n k : ℕ) {v : List ℤ} → n ≤ 32767 → n ≤ k → EightWithin n v → EightWithin k (map (to_z w16) (map (of_z w16) v))
 passed_within16 n k {v} h h' e = subst (λ (u : List ℤ). EightWithin k u) (sym (passed16 n h e)) (eight_more n k h' e)
 
+-- each of them comes back
 pub passed_lane : (n : ℕ) {v : List ℤ} (i : ℕ) → n ≤ 2 ^ 31 - 1 → EightWithin n v → lane (map (to_z w32) (map (of_z w32) v)) i ≡ lane v i
 passed_lane n i h e = ap (λ (u : List ℤ). lane u i) (passed n h e)
 
+-- likewise in 16 bits
 pub passed_lane16 : (n : ℕ) {v : List ℤ} (i : ℕ) → n ≤ 32767 → EightWithin n v → lane (map (to_z w16) (map (of_z w16) v)) i ≡ lane v i
 passed_lane16 n i h e = ap (λ (u : List ℤ). lane u i) (passed16 n h e)

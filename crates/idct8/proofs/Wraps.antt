@@ -15,6 +15,7 @@ pub within_from_abs : (n : ℕ) (z : ℤ) → unsigned_abs z ≤ n → Within n 
 within_from_abs n (pos k) h = omega (arith, ints)
 within_from_abs n (negsuc k) h = omega (arith, ints)
 
+-- a product is within the product of the bounds
 pub within_mul : (m n : ℕ) (a b : ℤ) → Within m a → Within n b → Within (m * n) (a *ℤ b)
 within_mul m n a b ha hb = within_from_abs (m * n) (a *ℤ b) (abs_mul_le a b m n (abs_from_within m a ha) (abs_from_within n b hb))
 

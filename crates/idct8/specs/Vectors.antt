@@ -48,7 +48,8 @@ sum_at v k = slice_index_or (v.s0 ∷ v.s1 ∷ v.s2 ∷ v.s3 ∷ v.s4 ∷ v.s5 �
 
 -- the list of lane i, one number of each vector
 abbrev pub list_at : Rows → ℕ → List ℤ
-list_at v i = lane v.r0 i ∷ lane v.r1 i ∷ lane v.r2 i ∷ lane v.r3 i ∷ lane v.r4 i ∷ lane v.r5 i ∷ lane v.r6 i ∷ lane v.r7 i ∷ []
+list_at v i = lane v.r0 i ∷ lane v.r1 i
+    ∷ lane v.r2 i ∷ lane v.r3 i ∷ lane v.r4 i ∷ lane v.r5 i ∷ lane v.r6 i ∷ lane v.r7 i ∷ []
 
 -- the lanes of two vectors in turn, of their first halves and of their last ones
 abbrev pub woven_first : List ℤ → List ℤ → List ℤ

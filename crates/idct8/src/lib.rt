@@ -1,5 +1,17 @@
-//! The transforms of a block of 8 x 8 numbers (H.263, 6.2.4): the inverse one gives samples, or what they differ
-//! by from a prediction; the forward one gives coefficients. Both are exact: a double sum with one rounding.
+//! The transforms of a block of 8 x 8 numbers (H.263, 6.2.4): [`inverse`] gives samples, or what
+//! they differ by from a prediction; [`forward`] gives coefficients. Both are exact: a double sum
+//! with one rounding.
+//!
+//! ```rust
+//! // 100 at the lowest frequency across, and nothing else
+//! let mut values = [0; 64];
+//! values[1] = 100;
+//! let samples = inverse(&values);
+//! for y in 0..8 {
+//!     let row = &samples[8 * y..8 * y + 8];
+//!     assert_eq!(rt; row, [17, 15, 10, 3, -3, -10, -15, -17].as_slice());
+//! }
+//! ```
 #![tactic(auto)]
 
 pub mod laws;

@@ -1,5 +1,6 @@
-//! One pass of a transform over eight lists of eight numbers at once: lane i of each vector belongs to list i, and each
-//! list has eight sums of eight terms. M is the table of the basis, by frequency and place.
+//! One pass of a transform over eight lists of eight numbers at once: lane i of each vector belongs
+//! to list i, and each list has eight sums of eight terms. M is the table of the basis, by
+//! frequency and place.
 ghost use Rattle.std.specs.Prelude.{◌≡◌, ℕ, ◌^◌, ◌<◌};
 ghost use Rattle.idct8.specs.Vectors.{lane, RowsWithin, SumsWithin, list_at, sum_at};
 ghost use Rattle.idct8.specs.Passes.{pass_at};
@@ -8,14 +9,14 @@ ghost use Rattle.idct8.specs.declared.passes.Direction.TheVariants.{Inverse, For
 use crate::terms::{halves, mirrored, mirrored_less, pair, pair_of_sums, rotated};
 use std::simd::prelude::*;
 
-/// Which of the two transforms.
+// Which of the two transforms.
 #[derive(Clone, Copy)]
 pub(crate) enum Direction {
     Inverse,
     Forward,
 }
 
-/// Eight vectors of small numbers.
+// Eight vectors of small numbers.
 #[derive(Clone, Copy)]
 pub(crate) struct Rows {
     pub(crate) r0: i16x8,
@@ -28,7 +29,7 @@ pub(crate) struct Rows {
     pub(crate) r7: i16x8,
 }
 
-/// Eight vectors of sums.
+// Eight vectors of sums.
 #[derive(Clone, Copy)]
 pub(crate) struct Sums {
     pub(crate) s0: i32x8,
@@ -41,12 +42,13 @@ pub(crate) struct Sums {
     pub(crate) s7: i32x8,
 }
 
-// For each x the sum over u of M[u][x] * r[u]. The even rows of M are symmetric and the odd ones antisymmetric, so
-// x and 7 - x share their two halves; the even halves are mirrored once more.
+// For each x the sum over u of M[u][x] * r[u]. The even rows of M are symmetric and the odd ones
+// antisymmetric, so x and 7 - x share their two halves; the even halves are mirrored once more.
 #[inline(always)]
 fn inverse_pass(r: Rows) -> Sums
     requires { RowsWithin 8191 r }
-    ensures sums { (x i : ℕ) → x < 8 → i < 8 → lane (sum_at result x) i ≡ pass_at Inverse (list_at r i) x }
+    ensures sums { (x i : ℕ)
+        → x < 8 → i < 8 → lane (sum_at result x) i ≡ pass_at Inverse (list_at r i) x }
     ensures size { SumsWithin (2 ^ 30) result }
 {
     let (outer_sum, outer_difference) = rotated(2048, r.r0, 2048, r.r4);
@@ -73,12 +75,13 @@ fn inverse_pass(r: Rows) -> Sums
     }
 }
 
-// For each u the sum over x of M[u][x] * r[x]: the even sums need only r[x] + r[7 - x], which are mirrored once more,
-// the odd ones only r[x] - r[7 - x].
+// For each u the sum over x of M[u][x] * r[x]: the even sums need only r[x] + r[7 - x], which are
+// mirrored once more, the odd ones only r[x] - r[7 - x].
 #[inline(always)]
 fn forward_pass(r: Rows) -> Sums
     requires { RowsWithin 8191 r }
-    ensures sums { (u i : ℕ) → u < 8 → i < 8 → lane (sum_at result u) i ≡ pass_at Forward (list_at r i) u }
+    ensures sums { (u i : ℕ)
+        → u < 8 → i < 8 → lane (sum_at result u) i ≡ pass_at Forward (list_at r i) u }
     ensures size { SumsWithin (2 ^ 30) result }
 {
     let (p0, m0) = pair(r.r0, r.r7);
@@ -105,11 +108,12 @@ fn forward_pass(r: Rows) -> Sums
     }
 }
 
-/// The eight sums of a pass over each of the eight lists.
+// The eight sums of a pass over each of the eight lists.
 #[inline(always)]
 pub(crate) fn pass(direction: Direction, r: Rows) -> Sums
     requires { RowsWithin 8191 r }
-    ensures sums { (k i : ℕ) → k < 8 → i < 8 → lane (sum_at result k) i ≡ pass_at direction (list_at r i) k }
+    ensures sums { (k i : ℕ)
+        → k < 8 → i < 8 → lane (sum_at result k) i ≡ pass_at direction (list_at r i) k }
     ensures size { SumsWithin (2 ^ 30) result }
 {
     match direction {

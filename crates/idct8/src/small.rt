@@ -1,7 +1,8 @@
-//! Whether all coefficients of a block are small, by a test that is quicker than the transform. Each row of the basis is
-//! even or odd across, and each column down. So a coefficient sees only one of four parts of the block, which is folded
-//! across and down, with or without a change of sign; and but for its rounding the square of a coefficient is at most a
-//! quarter of the sum of squares of its part.
+//! Whether all coefficients of a block are small, by a test that is quicker than the transform.
+//! Each row of the basis is even or odd across, and each column down. So a coefficient sees only
+//! one of four parts of the block, which is folded across and down, with or without a change of
+//! sign; and but for its rounding the square of a coefficient is at most a quarter of the sum of
+//! squares of its part.
 ghost use Rattle.std.specs.Prelude.{◌≡◌, ℕ, ◌+◌, ◌-◌, ◌<◌, ◌≤◌, All, IsTrue, pos, ◌+ℤ◌, ◌-ℤ◌, unsigned_abs};
 ghost use Rattle.idct8.specs.Ranges.{IsSample};
 ghost use Rattle.idct8.specs.Transform.{entry, forward_at};
@@ -13,12 +14,13 @@ use crate::turns::transposed;
 use crate::two_passes::row;
 use std::simd::prelude::*;
 
-/// Whether a quick test shows that no coefficient of a block of samples, or of their differences, is as large as `least`,
-/// 77 at most. `false` says nothing.
+/// Whether a quick test shows that no coefficient of a block of samples, or of their differences,
+/// is as large as `least`, 77 at most. `false` says nothing.
 pub fn are_below(samples: &[i16; 64], least: u32) -> bool
     requires samples { All IsSample samples.now }
     requires least { least ≤ 77 }
-    ensures { IsTrue result → (v u : ℕ) → v < 8 → u < 8 → unsigned_abs (forward_at samples.now v u) < least }
+    ensures { IsTrue result
+        → (v u : ℕ) → v < 8 → u < 8 → unsigned_abs (forward_at samples.now v u) < least }
 {
     let (sums, differences) = squares_across(folded(samples));
     let largest = larger_half(sums).max(larger_half(differences));
@@ -43,20 +45,25 @@ fn small_pair(a: i16x8, b: i16x8) -> (i16x8, i16x8)
 fn folded_row(block: &[i16; 64], k: usize) -> (i16x8, i16x8)
     requires block { All IsSample block.now }
     requires k { k < 4 }
-    ensures sum { (i : ℕ) → i < 8 → lane result.0 i ≡ entry block.now k i +ℤ entry block.now (7 - k) i }
-    ensures difference { (i : ℕ) → i < 8 → lane result.1 i ≡ entry block.now k i -ℤ entry block.now (7 - k) i }
+    ensures sum { (i : ℕ)
+        → i < 8 → lane result.0 i ≡ entry block.now k i +ℤ entry block.now (7 - k) i }
+    ensures difference { (i : ℕ)
+        → i < 8 → lane result.1 i ≡ entry block.now k i -ℤ entry block.now (7 - k) i }
     ensures sum_size { EightWithin 8191 result.0 }
     ensures difference_size { EightWithin 8191 result.1 }
 {
     small_pair(row(block, k), row(block, 7 - k))
 }
 
-// The columns of a block that is folded down: four numbers with the mirrored ones, and then four less these.
+// The columns of a block that is folded down: four numbers with the mirrored ones, and then four
+// less these.
 #[inline(always)]
 fn folded(block: &[i16; 64]) -> Rows
     requires { All IsSample block.now }
-    ensures sums { (j k : ℕ) → j < 8 → k < 4 → lane (row_at result j) k ≡ entry block.now k j +ℤ entry block.now (7 - k) j }
-    ensures differences { (j k : ℕ) → j < 8 → k < 4 → lane (row_at result j) (4 + k) ≡ entry block.now k j -ℤ entry block.now (7 - k) j }
+    ensures sums { (j k : ℕ) → j < 8
+        → k < 4 → lane (row_at result j) k ≡ entry block.now k j +ℤ entry block.now (7 - k) j }
+    ensures differences { (j k : ℕ) → j < 8 → k < 4
+        → lane (row_at result j) (4 + k) ≡ entry block.now k j -ℤ entry block.now (7 - k) j }
     ensures size { RowsWithin 8191 result }
 {
     let (r0, r4) = folded_row(block, 0);
@@ -95,18 +102,24 @@ fn squares_of_four(a: i16x8, b: i16x8, c: i16x8, d: i16x8) -> i32x8
     requires b { EightWithin 16382 b }
     requires c { EightWithin 16382 c }
     requires d { EightWithin 16382 d }
-    ensures value { (i : ℕ) → i < 8 → lane result i ≡ pos (square (lane a i) + square (lane b i) + square (lane c i) + square (lane d i)) }
+    ensures value { (i : ℕ) → i < 8 → lane result i
+        ≡ pos (square (lane a i) + square (lane b i) + square (lane c i) + square (lane d i)) }
     ensures size { EightWithin 1073479696 result }
 {
     squares(a, b) + squares(c, d)
 }
 
-// The squares of each column with the mirrored one, added up over the columns, and those of each less that one.
+// The squares of each column with the mirrored one, added up over the columns, and those of each
+// less that one.
 #[inline(always)]
 fn squares_across(r: Rows) -> (i32x8, i32x8)
     requires { RowsWithin 8191 r }
-    ensures sums { (i : ℕ) → i < 8 → lane result.0 i ≡ pos (square (lane r.r0 i +ℤ lane r.r7 i) + square (lane r.r1 i +ℤ lane r.r6 i) + square (lane r.r2 i +ℤ lane r.r5 i) + square (lane r.r3 i +ℤ lane r.r4 i)) }
-    ensures differences { (i : ℕ) → i < 8 → lane result.1 i ≡ pos (square (lane r.r0 i -ℤ lane r.r7 i) + square (lane r.r1 i -ℤ lane r.r6 i) + square (lane r.r2 i -ℤ lane r.r5 i) + square (lane r.r3 i -ℤ lane r.r4 i)) }
+    ensures sums { (i : ℕ) → i < 8 → lane result.0 i
+        ≡ pos (square (lane r.r0 i +ℤ lane r.r7 i) + square (lane r.r1 i +ℤ lane r.r6 i)
+        + square (lane r.r2 i +ℤ lane r.r5 i) + square (lane r.r3 i +ℤ lane r.r4 i)) }
+    ensures differences { (i : ℕ) → i < 8 → lane result.1 i
+        ≡ pos (square (lane r.r0 i -ℤ lane r.r7 i) + square (lane r.r1 i -ℤ lane r.r6 i)
+        + square (lane r.r2 i -ℤ lane r.r5 i) + square (lane r.r3 i -ℤ lane r.r4 i)) }
     ensures sums_size { EightWithin 1073479696 result.0 }
     ensures differences_size { EightWithin 1073479696 result.1 }
 {
@@ -120,12 +133,15 @@ fn squares_across(r: Rows) -> (i32x8, i32x8)
     )
 }
 
-// The greater one of the sum of the first four numbers and that of the last four, of which none is below 0.
+// The greater one of the sum of the first four numbers and that of the last four, of which none is
+// below 0.
 #[inline(always)]
 fn larger_half(v: i32x8) -> u32
     requires { EightWithin 1073479696 v }
-    ensures first { unsigned_abs (lane v 0) + unsigned_abs (lane v 1) + unsigned_abs (lane v 2) + unsigned_abs (lane v 3) ≤ result }
-    ensures last { unsigned_abs (lane v 4) + unsigned_abs (lane v 5) + unsigned_abs (lane v 6) + unsigned_abs (lane v 7) ≤ result }
+    ensures first { unsigned_abs (lane v 0)
+        + unsigned_abs (lane v 1) + unsigned_abs (lane v 2) + unsigned_abs (lane v 3) ≤ result }
+    ensures last { unsigned_abs (lane v 4)
+        + unsigned_abs (lane v 5) + unsigned_abs (lane v 6) + unsigned_abs (lane v 7) ≤ result }
     ensures most { result ≤ 4293918784 }
 {
     let n = v.to_array();

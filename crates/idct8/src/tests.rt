@@ -1,3 +1,4 @@
+//! The transforms against the plain double sum.
 ghost use Rattle.std.specs.Prelude.{◌<◌, All};
 ghost use Rattle.h263_types.specs.Blocks.{IsValue};
 ghost use Rattle.idct8.specs.Ranges.{IsSample};
@@ -50,7 +51,8 @@ fn slow_forward(samples: &[i16; 64], at: usize) -> i64
     total >> 25
 }
 
-// The number at place `at` of block `kind`: extremes, a ramp, and then a single number at each place.
+// The number at place `at` of block `kind`: extremes, a ramp, and then a single number at each
+// place.
 fn number_of(kind: usize, at: usize) -> i32
     requires { at < 64 }
 {

@@ -18,8 +18,8 @@ fn woven(a: i16x8, b: i16x8) -> (i16x8, i16x8)
     a.interleave(b)
 }
 
-// A third of a transposition: each row is woven with the fourth one after it. The place of a number, its row and its
-// lane, has six bits, and each third turns them by one.
+// A third of a transposition: each row is woven with the fourth one after it. The place of a
+// number, its row and its lane, has six bits, and each third turns them by one.
 #[inline(always)]
 fn turned(r: Rows) -> Rows
     requires { RowsWithin 8191 r }
@@ -49,7 +49,7 @@ fn turned(r: Rows) -> Rows
     }
 }
 
-/// The rows as columns.
+// The rows as columns.
 #[inline(always)]
 pub(crate) fn transposed(r: Rows) -> Rows
     requires { RowsWithin 8191 r }

@@ -1,5 +1,5 @@
-//! The transforms in two passes: the rows of the block, then the columns of what they give. Between the passes stand
-//! exact numbers; only the end is rounded.
+//! The transforms in two passes: the rows of the block, then the columns of what they give. Between
+//! the passes stand exact numbers; only the end is rounded.
 ghost use Rattle.std.specs.Prelude.{◌≡◌, ℕ, ◌*◌, ◌^◌, ◌<◌, ◌≤◌, IsTrue, pos, ◌+ℤ◌, ◌*ℤ◌, slice_index_or, All};
 ghost use Rattle.h263_types.specs.Blocks.{IsCoefficient, IsValue};
 ghost use Rattle.idct8.specs.Ranges.{IsSample, Within};
@@ -14,8 +14,9 @@ use crate::passes::{Direction, Rows, Sums, pass};
 use crate::turns::transposed;
 use std::simd::prelude::*;
 
-/// The inverse transform of a block of values, by rows: column u of row v has the value of the frequencies u across
-/// and v down, -2048 to 2047. It gives a block by rows, each number within 32,768 of 0.
+/// The inverse transform of a block of values, by rows: column u of row v has the value of the
+/// frequencies u across and v down, -2048 to 2047. It gives a block by rows, each number within
+/// 32,768 of 0.
 pub fn inverse(values: &[i16; 64]) -> [i32; 64]
     requires { All IsValue values.now }
     ensures samples { (y x : ℕ) → y < 8 → x < 8 → entry result y x ≡ inverse_at values.now y x }
@@ -26,11 +27,13 @@ pub fn inverse(values: &[i16; 64]) -> [i32; 64]
     samples
 }
 
-/// The forward transform of a block of samples, or of their differences, by rows, each -255 to 255. It gives a block
-/// of coefficients: column u of row v has that of the frequencies u across and v down.
+/// The forward transform of a block of samples, or of their differences, by rows, each -255 to 255.
+/// It gives a block of coefficients: column u of row v has that of the frequencies u across and v
+/// down.
 pub fn forward(samples: &[i16; 64]) -> [i32; 64]
     requires { All IsSample samples.now }
-    ensures coefficients { (v u : ℕ) → v < 8 → u < 8 → entry result v u ≡ forward_at samples.now v u }
+    ensures coefficients { (v u : ℕ)
+        → v < 8 → u < 8 → entry result v u ≡ forward_at samples.now v u }
     ensures range { (v u : ℕ) → v < 8 → u < 8 → IsCoefficient (entry result v u) }
 {
     let mut coefficients = [0; 64];
@@ -42,7 +45,8 @@ pub fn forward(samples: &[i16; 64]) -> [i32; 64]
 #[inline(always)]
 fn transform<const FORWARD: bool>(block: &[i16; 64], out: &mut [i32; 64])
     requires { All (Within (2 ^ 11)) block.now }
-    ensures { (r k : ℕ) → r < 8 → k < 8 → entry out.new r k ≡ transform_at (direction_of FORWARD) block.now r k }
+    ensures { (r k : ℕ)
+        → r < 8 → k < 8 → entry out.new r k ≡ transform_at (direction_of FORWARD) block.now r k }
 {
     let direction = direction::<FORWARD>();
     let (high, low) = split(row_pass(block, direction));
@@ -63,8 +67,8 @@ fn either_inverse(block: &[i16; 64], out: &mut [i32; 64])
     }
 }
 
-// Whether the last four rows are zeros, as in most blocks that are coded. It counts, since a loop with an early end
-// isn't done in lanes.
+// Whether the last four rows are zeros, as in most blocks that are coded. It counts, since a loop
+// with an early end isn't done in lanes.
 #[inline(always)]
 fn is_upper(block: &[i16; 64]) -> bool
     ensures { IsTrue result → (j i : ℕ) → 4 ≤ j → j < 8 → i < 8 → entry block.now j i ≡ pos 0 }
@@ -93,7 +97,8 @@ fn upper_inverse(block: &[i16; 64], out: &mut [i32; 64])
 fn upper_pass(r: Rows) -> Sums
     requires size { RowsWithin 8191 r }
     requires zeros { (k j : ℕ) → k < 8 → 4 ≤ j → j < 8 → lane (row_at r k) j ≡ pos 0 }
-    ensures sums { (k j : ℕ) → k < 8 → j < 8 → lane (sum_at result k) j ≡ pass_at Inverse (row_at r j) k }
+    ensures sums { (k j : ℕ)
+        → k < 8 → j < 8 → lane (sum_at result k) j ≡ pass_at Inverse (row_at r j) k }
     ensures size { SumsWithin (2 ^ 30) result }
 {
     pass(Direction::Inverse, upper(transposed(r)))
@@ -135,7 +140,8 @@ fn direction<const FORWARD: bool>() -> Direction
 #[inline(always)]
 fn row_pass(block: &[i16; 64], direction: Direction) -> Sums
     requires { All (Within (2 ^ 11)) block.now }
-    ensures sums { (k j : ℕ) → k < 8 → j < 8 → lane (sum_at result k) j ≡ row_sums direction block.now j k }
+    ensures sums { (k j : ℕ)
+        → k < 8 → j < 8 → lane (sum_at result k) j ≡ row_sums direction block.now j k }
     ensures size { SumsWithin 46546944 result }
 {
     turned_pass(direction, rows(block))
@@ -145,7 +151,8 @@ fn row_pass(block: &[i16; 64], direction: Direction) -> Sums
 #[inline(always)]
 fn turned_pass(direction: Direction, r: Rows) -> Sums
     requires { RowsWithin 8191 r }
-    ensures sums { (k j : ℕ) → k < 8 → j < 8 → lane (sum_at result k) j ≡ pass_at direction (row_at r j) k }
+    ensures sums { (k j : ℕ)
+        → k < 8 → j < 8 → lane (sum_at result k) j ≡ pass_at direction (row_at r j) k }
     ensures size { SumsWithin (2 ^ 30) result }
 {
     pass(direction, transposed(r))
@@ -183,7 +190,8 @@ pub(crate) fn row(block: &[i16; 64], j: usize) -> i16x8
 fn round(high: Sums, low: Sums, out: &mut [i32; 64])
     requires high { SumsWithin (2 ^ 30) high }
     requires low { SumsWithin (2 ^ 30) low }
-    ensures { (r k : ℕ) → r < 8 → k < 8 → entry out.new r k ≡ rounded (pos 8192 *ℤ lane (sum_at high r) k +ℤ lane (sum_at low r) k) }
+    ensures { (r k : ℕ) → r < 8 → k < 8 →
+        entry out.new r k ≡ rounded (pos 8192 *ℤ lane (sum_at high r) k +ℤ lane (sum_at low r) k) }
 {
     for r in 0..8 {
         store(nearest(sum(high, r), sum(low, r)), r, out);

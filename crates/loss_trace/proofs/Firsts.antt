@@ -38,9 +38,11 @@ first_past (x ∷ front) more free =
 abbrev pub Begins : Option ℕ → List ℕ → Type 0
 Begins byte xs = MatchOption byte (xs ≡ []) (λ b. xs ≡ b ∷ drop 1 xs)
 
+-- the byte that was read is the first one
 pub byte_there : (byte : Option ℕ) (b : ℕ) (xs : List ℕ) → byte ≡ Some b → Begins byte xs → xs ≡ b ∷ drop 1 xs
 byte_there byte b xs is begins = subst (λ (o : Option ℕ). Begins o xs) is begins
 
+-- where none was read nothing is left
 pub no_byte : (byte : Option ℕ) (xs : List ℕ) → byte ≡ None → Begins byte xs → xs ≡ []
 no_byte byte xs is begins = subst (λ (o : Option ℕ). Begins o xs) is begins
 

@@ -41,6 +41,7 @@ pub found_of : (old : TraceReader) (rest buf : List ℕ) (left : Option (List �
 found_of old rest buf left found line is gives = subst (λ (o : Option Fetched). FetchGives (Ok o) old rest buf left) is gives
 
 module _ (rest buf : List ℕ) (len : ℕ) (left : Option (List ℕ)) (first : IsFirst rest buf len left) where
+  -- a reader that has passed a line is open exactly where the line has ended
   pub passes : (new : TraceReader) (closed : Bool) → is_closed rest ≡ closed → new.ended ≡ not closed → Passes rest new left
   passes new closed is ended = record { some = first.some; ends = ended ∙ ap not (sym is); gone = first.gone }
 

@@ -201,9 +201,11 @@ module _ (line : List ℕ) (event : Event) where
       subst (λ (l : List ℕ). IsLine event l) (sym (begins line (codes "D ") is)) (place_line event (drop 2 line) (packet_is (drop 2 line) event e))
   a_packet false is e = a_back (bytes_eq (take 2 line) (codes "B ")) refl e
 
+-- a line in which an event is found is a text of it
 pub event_is : (line : List ℕ) (event : Event) → event_in line ≡ Some event → IsLine event line
 event_is line event e = a_packet line event (bytes_eq (take 2 line) (codes "D ")) refl e
 
+-- an event is found in each of its texts
 pub event_found : (event : Event) (line : List ℕ) → IsLine event line → event_in line ≡ Some event
 event_found Nothing line h = ap event_in h
 event_found Send line (front, rest, parts, is, end) = ap event_in (word_behind (codes "S") line front rest parts is end)

@@ -27,7 +27,8 @@ IsPart (Number n) bytes = IsNumber n bytes
 -- bytes that spell parts, one behind the other
 abbrev pub Spell : List Part → List ℕ → Type 0
 Spell [] bytes = bytes ≡ []
-Spell (part ∷ parts) bytes = (front : List ℕ) × (rest : List ℕ) × (bytes ≡ front ++ rest) × IsPart part front × Spell parts rest
+Spell (part ∷ parts) bytes = (front : List ℕ)
+    × (rest : List ℕ) × (bytes ≡ front ++ rest) × IsPart part front × Spell parts rest
 
 -- the parts of the line that says an event
 abbrev pub parts_of : Event → List Part

@@ -36,7 +36,8 @@ abbrev pub IsLong : List ℕ → Option (List ℕ) → Type 0
 IsLong rest left = (64 < length (first_line rest)) × (left ≡ Some (behind_long rest))
 
 -- what a reader says of the rest of a trace, and what is left of it then
-abbrev pub EventGives : Result (Option (ℕ × Event)) TraceStop → TraceReader → List ℕ → TraceReader → Option (List ℕ) → Type 0
+abbrev pub EventGives : Result (Option (ℕ × Event)) TraceStop
+    → TraceReader → List ℕ → TraceReader → Option (List ℕ) → Type 0
 EventGives (Ok (Some line)) old rest new left = Passes rest new left × (event_in (first_line rest) ≡ Some line.1)
 EventGives (Ok None) old rest new left = IsOver old rest left
 EventGives (Err Read) old rest new left = IsCut rest left
@@ -44,8 +45,10 @@ EventGives (Err (Bad line)) old rest new left = (event_in (first_line rest) ≡ 
 EventGives (Err (TooMany line)) old rest new left = IsPastAll rest left
 
 -- the same of a reader that gives the bytes of a line, in a buffer of 64 bytes, and its length
-abbrev pub BytesGive : Result (Option (ℕ × ℕ)) TraceStop → TraceReader → List ℕ → List ℕ → TraceReader → Option (List ℕ) → Type 0
-BytesGive (Ok (Some line)) old rest buf new left = Passes rest new left × (length (first_line rest) ≡ line.1) × (take line.1 buf ≡ first_line rest)
+abbrev pub BytesGive : Result (Option (ℕ × ℕ)) TraceStop
+    → TraceReader → List ℕ → List ℕ → TraceReader → Option (List ℕ) → Type 0
+BytesGive (Ok (Some line)) old rest buf new left =
+    Passes rest new left × (length (first_line rest) ≡ line.1) × (take line.1 buf ≡ first_line rest)
 BytesGive (Ok None) old rest buf new left = IsOver old rest left
 BytesGive (Err Read) old rest buf new left = IsCut rest left
 BytesGive (Err (Bad line)) old rest buf new left = IsLong rest left

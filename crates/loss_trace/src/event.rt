@@ -24,12 +24,13 @@ pub enum Event {
 #[derive(Clone, Copy, Debug, PartialEq, Eq)]
 pub struct BadLine;
 
-/// The most digits of a number.
+// The most digits of a number.
 const MOST_DIGITS: usize = 7;
 
 // The number that 1 to 7 decimal digits write.
 fn digits(bytes: &[u8]) -> Result<u32, BadLine>
-    ensures { MatchResult result (λ n. number_in bytes.now ≡ Some n) (λ _. number_in bytes.now ≡ None) }
+    ensures { MatchResult result (λ n. number_in bytes.now ≡ Some n) (λ _.
+        number_in bytes.now ≡ None) }
 {
     if bytes.is_empty() || bytes.len() > MOST_DIGITS {
         return Err(BadLine);
@@ -54,7 +55,8 @@ fn stop_in(bytes: &[u8]) -> Option<usize>
 
 // The event of a packet of this picture, or of all of them.
 fn placed(number: u32, place: &[u8]) -> Result<Event, BadLine>
-    ensures { MatchResult result (λ event. with_place place.now number ≡ Some event) (λ _. with_place place.now number ≡ None) }
+    ensures { MatchResult result (λ event. with_place place.now number ≡ Some event) (λ _.
+        with_place place.now number ≡ None) }
 {
     if place == b"*".as_slice() {
         return Ok(Event::All { number });
@@ -67,7 +69,8 @@ fn placed(number: u32, place: &[u8]) -> Result<Event, BadLine>
 
 // The event of a picture's number and a packet's place.
 fn packet(bytes: &[u8]) -> Result<Event, BadLine>
-    ensures { MatchResult result (λ event. packet_in bytes.now ≡ Some event) (λ _. packet_in bytes.now ≡ None) }
+    ensures { MatchResult result (λ event. packet_in bytes.now ≡ Some event) (λ _.
+        packet_in bytes.now ≡ None) }
 {
     let Some(stop) = stop_in(bytes) else {
         return Err(BadLine);
@@ -80,7 +83,8 @@ fn packet(bytes: &[u8]) -> Result<Event, BadLine>
 
 // The event of a line without a number.
 fn short(bytes: &[u8]) -> Result<Event, BadLine>
-    ensures { MatchResult result (λ event. short_in bytes.now ≡ Some event) (λ _. short_in bytes.now ≡ None) }
+    ensures { MatchResult result (λ event. short_in bytes.now ≡ Some event) (λ _.
+        short_in bytes.now ≡ None) }
 {
     match bytes {
         b"" => Ok(Event::Nothing),
@@ -92,7 +96,8 @@ fn short(bytes: &[u8]) -> Result<Event, BadLine>
 
 /// The event that a line says, without its newline.
 pub fn line(bytes: &[u8]) -> Result<Event, BadLine>
-    ensures { MatchResult result (λ event. event_in bytes.now ≡ Some event) (λ _. event_in bytes.now ≡ None) }
+    ensures { MatchResult result (λ event. event_in bytes.now ≡ Some event) (λ _.
+        event_in bytes.now ≡ None) }
 {
     if let Some(rest) = bytes.strip_prefix(b"D ".as_slice()) {
         return packet(rest);

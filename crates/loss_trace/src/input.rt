@@ -1,4 +1,4 @@
-// Bytes and lines of the trace, from a desk.
+//! Bytes and lines of the trace, from a desk.
 ghost use Rattle.std.specs.Prelude.{◌≡◌, ◌≢◌, ◌∷◌, [], List, ℕ, length, drop, true, MatchOption, IfOk, OnErr, Some};
 ghost use Rattle.h263_outside.specs.Desk.{OnlyReads, Rose};
 ghost use Rattle.h263_outside.specs.declared.desk.Role.{Role};
@@ -28,10 +28,14 @@ pub enum Came {
 /// Reads one byte, or finds the end.
 pub fn read_byte<D: Desk>(desk: &mut D) -> Result<Option<u8>, Failed>
     requires { (D.outside desk.old).attached Events ≡ true }
-    ensures told { (left : List ℕ) → (D.outside desk.old).left Events ≡ Some left → IfOk result (λ byte. MatchOption byte (left ≡ []) (λ b. left ≡ b ∷ drop 1 left) × ((D.outside desk.new).left Events ≡ Some (drop 1 left))) }
+    ensures told { (left : List ℕ) → (D.outside desk.old).left Events ≡ Some left
+        → IfOk result (λ byte. MatchOption byte (left ≡ []) (λ b. left ≡ b ∷ drop 1 left)
+        × ((D.outside desk.new).left Events ≡ Some (drop 1 left))) }
     ensures stays { OnErr result ((D.outside desk.new).left ≡ (D.outside desk.old).left) }
-    ensures others { (r : Role) → r ≢ Events → (D.outside desk.new).left r ≡ (D.outside desk.old).left r }
-    ensures cause { OnErr result (Rose (D.outside desk.old).faults.read (D.outside desk.new).faults.read) }
+    ensures others { (r : Role)
+        → r ≢ Events → (D.outside desk.new).left r ≡ (D.outside desk.old).left r }
+    ensures cause { OnErr result
+        (Rose (D.outside desk.old).faults.read (D.outside desk.new).faults.read) }
     ensures rest { OnlyReads (D.outside desk.old) (D.outside desk.new) }
 {
     let mut byte = [0; 1];
@@ -46,10 +50,14 @@ pub fn read_line<D: Desk>(desk: &mut D, line: &mut [u8]) -> Result<Came, Failed>
     requires attached { (D.outside desk.old).attached Events ≡ true }
     requires size { length line.old ≡ 64 }
     ensures within { IfOk result (λ came. IsWithin came 64) }
-    ensures told { (left : List ℕ) → (D.outside desk.old).left Events ≡ Some left → IfOk result (λ came. CameOf came left line.new ((D.outside desk.new).left Events)) }
-    ensures cut { (left : List ℕ) → (D.outside desk.old).left Events ≡ Some left → OnErr result (IsCut left ((D.outside desk.new).left Events)) }
-    ensures others { (r : Role) → r ≢ Events → (D.outside desk.new).left r ≡ (D.outside desk.old).left r }
-    ensures cause { OnErr result (Rose (D.outside desk.old).faults.read (D.outside desk.new).faults.read) }
+    ensures told { (left : List ℕ) → (D.outside desk.old).left Events ≡ Some left
+        → IfOk result (λ came. CameOf came left line.new ((D.outside desk.new).left Events)) }
+    ensures cut { (left : List ℕ) → (D.outside desk.old).left Events ≡ Some left
+        → OnErr result (IsCut left ((D.outside desk.new).left Events)) }
+    ensures others { (r : Role)
+        → r ≢ Events → (D.outside desk.new).left r ≡ (D.outside desk.old).left r }
+    ensures cause { OnErr result
+        (Rose (D.outside desk.old).faults.read (D.outside desk.new).faults.read) }
     ensures rest { OnlyReads (D.outside desk.old) (D.outside desk.new) }
 {
     calls();

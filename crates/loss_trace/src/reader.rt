@@ -17,7 +17,7 @@ pub struct TraceReader {
     ghost few: { lines ≤ 16777216 },
 }
 
-/// A line that came to the front of a buffer: its length, and whether it had a newline.
+// A line that came to the front of a buffer: its length, and whether it had a newline.
 #[derive(Clone, Copy)]
 struct Fetched {
     len: usize,
@@ -46,11 +46,15 @@ impl TraceReader {
     /// the end of the trace. After a stop the reader is as it was.
     pub fn next<D: Desk>(&mut self, desk: &mut D) -> Result<Option<(u32, Event)>, TraceStop>
         requires { (D.outside desk.old).attached Events ≡ true }
-        ensures gives { (rest : List ℕ) → (D.outside desk.old).left Events ≡ Some rest → EventGives result self.old rest self.new ((D.outside desk.new).left Events) }
+        ensures gives { (rest : List ℕ) → (D.outside desk.old).left Events ≡ Some rest
+            → EventGives result self.old rest self.new ((D.outside desk.new).left Events) }
         ensures moves { Moves result self.old self.new }
-        ensures silent { self.old.ended ≡ true → (result ≡ Ok None) × (D.outside desk.new ≡ D.outside desk.old) }
-        ensures cause { IsErrOf result TraceStop.Read → Rose (D.outside desk.old).faults.read (D.outside desk.new).faults.read }
-        ensures others { (r : Role) → r ≢ Events → (D.outside desk.new).left r ≡ (D.outside desk.old).left r }
+        ensures silent { self.old.ended ≡ true
+            → (result ≡ Ok None) × (D.outside desk.new ≡ D.outside desk.old) }
+        ensures cause { IsErrOf result TraceStop.Read
+            → Rose (D.outside desk.old).faults.read (D.outside desk.new).faults.read }
+        ensures others { (r : Role)
+            → r ≢ Events → (D.outside desk.new).left r ≡ (D.outside desk.old).left r }
         ensures rest { OnlyReads (D.outside desk.old) (D.outside desk.new) }
     {
         let mut buf = [0; LONGEST_LINE];
@@ -74,11 +78,15 @@ impl TraceReader {
         buf: &mut [u8; 64],
     ) -> Result<Option<(u32, u32)>, TraceStop>
         requires { (D.outside desk.old).attached Events ≡ true }
-        ensures gives { (rest : List ℕ) → (D.outside desk.old).left Events ≡ Some rest → BytesGive result self.old rest buf.new self.new ((D.outside desk.new).left Events) }
+        ensures gives { (rest : List ℕ) → (D.outside desk.old).left Events ≡ Some rest
+            → BytesGive result self.old rest buf.new self.new ((D.outside desk.new).left Events) }
         ensures moves { Moves result self.old self.new }
-        ensures silent { self.old.ended ≡ true → (result ≡ Ok None) × (D.outside desk.new ≡ D.outside desk.old) }
-        ensures cause { IsErrOf result TraceStop.Read → Rose (D.outside desk.old).faults.read (D.outside desk.new).faults.read }
-        ensures others { (r : Role) → r ≢ Events → (D.outside desk.new).left r ≡ (D.outside desk.old).left r }
+        ensures silent { self.old.ended ≡ true
+            → (result ≡ Ok None) × (D.outside desk.new ≡ D.outside desk.old) }
+        ensures cause { IsErrOf result TraceStop.Read
+            → Rose (D.outside desk.old).faults.read (D.outside desk.new).faults.read }
+        ensures others { (r : Role)
+            → r ≢ Events → (D.outside desk.new).left r ≡ (D.outside desk.old).left r }
         ensures rest { OnlyReads (D.outside desk.old) (D.outside desk.new) }
     {
         let Some(fetched) = self.fetch(desk, buf)? else {
@@ -94,10 +102,14 @@ impl TraceReader {
         requires size { length buf.old ≡ 64 }
         ensures within { IfOk result (λ found. IfSome found (λ line. line.len ≤ 64)) }
         ensures finds { Finds result self.now }
-        ensures gives { (rest : List ℕ) → (D.outside desk.old).left Events ≡ Some rest → FetchGives result self.now rest buf.new ((D.outside desk.new).left Events) }
-        ensures silent { self.now.ended ≡ true → (result ≡ Ok None) × (D.outside desk.new ≡ D.outside desk.old) }
-        ensures cause { IsErrOf result TraceStop.Read → Rose (D.outside desk.old).faults.read (D.outside desk.new).faults.read }
-        ensures others { (r : Role) → r ≢ Events → (D.outside desk.new).left r ≡ (D.outside desk.old).left r }
+        ensures gives { (rest : List ℕ) → (D.outside desk.old).left Events ≡ Some rest
+            → FetchGives result self.now rest buf.new ((D.outside desk.new).left Events) }
+        ensures silent { self.now.ended ≡ true
+            → (result ≡ Ok None) × (D.outside desk.new ≡ D.outside desk.old) }
+        ensures cause { IsErrOf result TraceStop.Read
+            → Rose (D.outside desk.old).faults.read (D.outside desk.new).faults.read }
+        ensures others { (r : Role)
+            → r ≢ Events → (D.outside desk.new).left r ≡ (D.outside desk.old).left r }
         ensures rest { OnlyReads (D.outside desk.old) (D.outside desk.new) }
     {
         if self.ended {

@@ -1,5 +1,5 @@
-// Lines and traces that were written by hand. Where memory ran out in a test its steps are taken
-// again, and are then to reach their end.
+//! Lines and traces that were written by hand. Where memory ran out in a test its steps are taken
+//! again, and are then to reach their end.
 ghost use Rattle.std.specs.Prelude.{◌≡◌, ◌<◌, true, IfOk};
 ghost use Rattle.h263_outside.specs.Memory.{memory_outside};
 ghost use Rattle.h263_outside.specs.declared.desk.Role.TheVariants.{Events};

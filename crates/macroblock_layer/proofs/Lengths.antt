@@ -86,6 +86,7 @@ step_short quant new = at (new == quant)
     at true = omega arith
     at false = dquant_short (pos new -ℤ pos quant)
 
+-- what stands before the vector has 18 bits at most
 pub head_short : (kind : Kind) (quant new : ℕ) (intra : Bool) (cbpy cbpc : ℕ) → length (head_text kind quant new intra cbpy cbpc) ≤ 18
 unfolding head_text
 head_short kind quant new intra cbpy cbpc =
@@ -155,6 +156,7 @@ inter_mb_short : BlockLaws → (quant : ℕ) (predictor : Vector) (new : ℕ) (v
 inter_mb_short of_blocks quant predictor new v blocks whole =
     omega (arith, inter_mb_length quant predictor new v blocks, head_short kinds.P quant new false (cbpy_of has_levels blocks) (cbpc_of has_levels blocks), vector_short predictor v, inter_blocks_short of_blocks blocks whole)
 
+-- how many bits the text of a macroblock has at most
 pub mb_short : BlockLaws → AreShort
 mb_short of_blocks kind quant predictor Skip whole = omega arith
 mb_short of_blocks kind quant predictor (Intra new blocks) whole = intra_mb_short of_blocks kind quant new blocks whole

@@ -72,6 +72,7 @@ behind_productive tables of_blocks quant reach predictor Skipped = tt
 behind_productive tables of_blocks quant reach predictor (Coded class cbpc) =
     (tables.productive.cbpy (is_intra class), λ cbpy. (quantiser_productive tables class quant, λ q. either_productive (is_intra class) (intra_mb q cbpy cbpc) (inter_mb reach predictor q cbpy cbpc) (intra_mb_productive of_blocks q cbpy cbpc) (inter_mb_productive tables of_blocks reach predictor q cbpy cbpc)))
 
+-- each part of a macroblock that is repeated takes a bit at least
 pub mb_productive : TableLaws → BlockLaws → AreProductive
 unfolding mb IsProductive
 mb_productive tables of_blocks kind quant reach predictor = (lead_productive kind, λ l. behind_productive tables of_blocks quant reach predictor l)

@@ -9,9 +9,11 @@ use Rattle.std.proofs.lemmas.Int.{ints, to_z-of_z}
 pub in_range : (z : ℤ) → negsuc 127 ≤ℤ z → z ≤ℤ pos 127 → SFits w8 z
 in_range z low high = omega (arith, ints)
 
+-- a component of a vector fits 8 bits
 pub component_fits : (z : ℤ) → negsuc 31 ≤ℤ z → z ≤ℤ pos 31 → SFits w8 z
 component_fits z low high = omega (arith, ints)
 
+-- equal differences are wrapped to the same
 pub wrapped_same : (r a b : ℤ) → r ≡ wrapped a → a ≡ b → r ≡ wrapped b
 wrapped_same r a b e same = e ∙ ap (λ (z : ℤ). wrapped z) same
 

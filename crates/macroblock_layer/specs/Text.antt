@@ -146,7 +146,8 @@ mb kind quant reach predictor = part (lead kind) any λ l. behind quant reach pr
 
 -- ---- in the format's words
 
--- the bits are a text of the macroblock, in a picture of this kind, where its quantiser before it, its reach and its predictor are these
+-- the bits are a text of the macroblock, in a picture of this kind, where its quantiser before it,
+-- its reach and its predictor are these
 abbrev pub IsMbText : Kind → ℕ → Reach → Vector → Mb → List Bool → Type 0
 IsMbText kind quant reach predictor m bits = Spells (mb kind quant reach predictor) m bits
 

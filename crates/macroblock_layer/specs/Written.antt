@@ -1,5 +1,5 @@
--- The text that is written of a macroblock: without stuffing, of a plain class where the quantiser is as before, and of a
--- Q class else.
+-- The text that is written of a macroblock: without stuffing, of a plain class where the quantiser
+-- is as before, and of a Q class else.
 use Rattle.std.specs.Prelude.{ℕ, ◌+◌, ◌*◌, ◌≤◌, List, [], ◌∷◌, ◌++◌, slice_index_or, Bool, true, false, not, ◌==◌, if◌then◌else◌, ℤ, pos, ◌-ℤ◌}
 use Rattle.h263_types.specs.declared.Kind.{Kind}
 use Rattle.h263_types.specs.declared.Kind.TheVariants as kinds
@@ -29,7 +29,9 @@ has_levels levels = not (none_left levels)
 
 -- CBPY: a bit for each block of luma that is coded, the left one for the first
 abbrev pub cbpy_of : (List ℤ → Bool) → List Block → ℕ
-cbpy_of coded blocks = 8 * bit_of (coded (levels_at blocks 0)) + 4 * bit_of (coded (levels_at blocks 1)) + 2 * bit_of (coded (levels_at blocks 2)) + bit_of (coded (levels_at blocks 3))
+cbpy_of coded blocks =
+    8 * bit_of (coded (levels_at blocks 0)) + 4 * bit_of (coded (levels_at blocks 1))
+    + 2 * bit_of (coded (levels_at blocks 2)) + bit_of (coded (levels_at blocks 3))
 
 -- CBPC: Cb and Cr
 abbrev pub cbpc_of : (List ℤ → Bool) → List Block → ℕ
@@ -59,7 +61,8 @@ step_text quant new = if new == quant then [] else dquant_text (pos new -ℤ pos
 
 -- what stands before the vector and the blocks
 unfoldable pub head_text : Kind → ℕ → ℕ → Bool → ℕ → ℕ → List Bool
-head_text kind quant new intra cbpy cbpc = class_text kind (class_of intra (new == quant)) cbpc ++ (cbpy_text intra cbpy ++ step_text quant new)
+head_text kind quant new intra cbpy cbpc = class_text kind (class_of intra (new == quant)) cbpc
+    ++ (cbpy_text intra cbpy ++ step_text quant new)
 
 -- the vector by its difference to the predictor, modulo 64 into -32 to 31 (H.263, 6.1.1)
 unfoldable pub vector_text : Vector → Vector → List Bool
@@ -73,12 +76,14 @@ blocks_text text (b ∷ blocks) = text b.levels ++ blocks_text text blocks
 -- ---- the whole text
 
 unfoldable pub intra_mb_text : Kind → ℕ → ℕ → List Block → List Bool
-intra_mb_text kind quant new blocks = head_text kind quant new true (cbpy_of is_coded blocks) (cbpc_of is_coded blocks) ++ blocks_text intra_text blocks
+intra_mb_text kind quant new blocks = head_text kind quant new true
+    (cbpy_of is_coded blocks) (cbpc_of is_coded blocks) ++ blocks_text intra_text blocks
 
 -- an inter macroblock stands in P alone
 unfoldable pub inter_mb_text : ℕ → Vector → ℕ → Vector → List Block → List Bool
 inter_mb_text quant predictor new v blocks =
-    head_text kinds.P quant new false (cbpy_of has_levels blocks) (cbpc_of has_levels blocks) ++ (vector_text predictor v ++ blocks_text inter_text blocks)
+    head_text kinds.P quant new false (cbpy_of has_levels blocks) (cbpc_of has_levels blocks)
+    ++ (vector_text predictor v ++ blocks_text inter_text blocks)
 
 -- the text that is written of a macroblock, with the quantiser before it and its predictor
 abbrev pub mb_text : Kind → ℕ → Vector → Mb → List Bool

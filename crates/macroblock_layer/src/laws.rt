@@ -10,9 +10,9 @@ ghost use Rattle.macroblock_layer.specs.Laws.{AreSpelt, AreShort, MbLaws};
 
 /// Of two texts of which one begins the other both are the same, and spell the same macroblock.
 pub fn one_reading()
-    ensures { (kind : Kind) (quant : ℕ) (reach : Reach) (predictor : Vector) (a b : Mb) (x y more : List Bool)
-        → IsMbText kind quant reach predictor a x → IsMbText kind quant reach predictor b y
-        → x ++ more ≡ y → (x ≡ y) × (a ≡ b) }
+    ensures { (kind : Kind) (quant : ℕ) (reach : Reach) (predictor : Vector)
+        (a b : Mb) (x y more : List Bool) → IsMbText kind quant reach predictor a x
+        → IsMbText kind quant reach predictor b y → x ++ more ≡ y → (x ≡ y) × (a ≡ b) }
 {
     code_tables::laws::in_a_syntax();
     block_layer::laws::in_a_syntax();
@@ -26,8 +26,8 @@ pub fn written_is_text()
     block_layer::laws::in_a_syntax();
 }
 
-/// The first faults of a macroblock, element by element. Four vectors stand at MCBPC, a vector out of reach at the first
-/// bit of its first difference.
+/// The first faults of a macroblock, element by element. Four vectors stand at MCBPC, a vector out
+/// of reach at the first bit of its first difference.
 pub fn first_faults()
     ensures { MbFaults }
 {

@@ -1,7 +1,17 @@
-//! Macroblocks of a slice, read and written, and the vectors that they are predicted from (H.263, 5.3 and 6.1.1).
+//! Macroblocks of a slice, read and written, and the vectors that they are predicted from (H.263,
+//! 5.3 and 6.1.1).
 //!
-//! `specs/Text` gives the syntax of a macroblock, and `specs/Written` the text that is written of it. A reader finds exactly
-//! what the syntax says, or the first fault at its place.
+//! `specs/Text` gives the syntax of a macroblock, and `specs/Written` the text that is written of
+//! it. [`read_mb`] finds exactly what the syntax says, or the first fault at its place, and
+//! [`write_mb`] writes what is read again. A macroblock is an [`Mb`](h263_types::Mb); [`predictor`]
+//! is the vector that its own is coded against.
+//!
+//! ```rust
+//! // not coded where the first bit is 1; behind it the reader stands at bit 1
+//! let mut mb = Mb::Intra { quant: 8, blocks };
+//! read_mb(&mut BitReader::new(&[0x80], 0, 8), Kind::P, 8, predictor, reach, &mut mb)?;
+//! assert!(rt; mb == Mb::Skip);
+//! ```
 #![tactic(auto)]
 
 pub mod laws;

@@ -15,7 +15,8 @@ use code_tables::{MbClass, Mcbpc, read_cbpy, read_dquant, read_mcbpc, read_mvd};
 use h263_bits::{BitReader, Fault, FaultKind};
 use h263_types::{Block, Kind, Mb, Reach, Vector};
 
-/// What stands first in a macroblock: Skip, or its class with the pattern of its chrominance blocks.
+/// What stands first in a macroblock: Skip, or its class with the pattern of its chrominance
+/// blocks.
 #[derive(Clone, Copy, Debug, PartialEq, Eq)]
 pub enum Lead {
     Skipped,
@@ -120,7 +121,8 @@ fn is_within(reach: Reach, vector: Vector) -> bool
 // The vector, by its difference to the predictor.
 #[tactic(auto, unfolding(crate::specs::Text::vector, h263_bits::specs::Syntax::reading))]
 fn read_vector(reader: &mut BitReader<'_>, reach: Reach, predictor: Vector) -> Result<Vector, Fault>
-    ensures { Gives (λ (v : Vector). v) result reader.new (reading (vector reach predictor) reader.old) }
+    ensures { Gives
+        (λ (v : Vector). v) result reader.new (reading (vector reach predictor) reader.old) }
 {
     let at = reader.at();
     let difference = read_difference(reader)?;
@@ -201,8 +203,8 @@ fn read_lead(reader: &mut BitReader<'_>, kind: Kind) -> Result<Lead, Fault>
     }
 }
 
-// The macroblock behind a class: its quantiser is in force from here on. Its blocks are read into one array, which is
-// moved once.
+// The macroblock behind a class: its quantiser is in force from here on. Its blocks are read into
+// one array, which is moved once.
 #[tactic(auto, unfolding(crate::specs::Text::intra_mb, h263_bits::specs::Syntax::reading))]
 fn read_intra_mb(
     reader: &mut BitReader<'_>,
@@ -211,7 +213,8 @@ fn read_intra_mb(
     cbpc: u8,
     out: &mut Mb,
 ) -> Result<(), Fault>
-    ensures { Gives (λ _. out.new) result reader.new (reading (intra_mb quant cbpy cbpc) reader.old) }
+    ensures { Gives
+        (λ _. out.new) result reader.new (reading (intra_mb quant cbpy cbpc) reader.old) }
 {
     let mut blocks = [Block { levels: [0; 64] }; 6];
     read_intra_blocks(reader, cbpy, cbpc, &mut blocks)?;
@@ -229,7 +232,8 @@ fn read_inter_mb(
     cbpc: u8,
     out: &mut Mb,
 ) -> Result<(), Fault>
-    ensures { Gives (λ _. out.new) result reader.new (reading (inter_mb reach predictor quant cbpy cbpc) reader.old) }
+    ensures { Gives (λ _. out.new) result reader.new
+        (reading (inter_mb reach predictor quant cbpy cbpc) reader.old) }
 {
     let vector = read_vector(reader, reach, predictor)?;
     let mut blocks = [Block { levels: [0; 64] }; 6];
@@ -289,7 +293,8 @@ fn read_coded_mb(
     cbpc: u8,
     out: &mut Mb,
 ) -> Result<(), Fault>
-    ensures { Gives (λ _. out.new) result reader.new (reading (coded_mb quant reach predictor class cbpc) reader.old) }
+    ensures { Gives (λ _. out.new) result reader.new
+        (reading (coded_mb quant reach predictor class cbpc) reader.old) }
 {
     let intra = is_intra(class);
     let cbpy = read_cbpy(reader, intra)?;
@@ -310,7 +315,8 @@ fn read_behind(
     lead: Lead,
     out: &mut Mb,
 ) -> Result<(), Fault>
-    ensures { Gives (λ _. out.new) result reader.new (reading (behind quant reach predictor lead) reader.old) }
+    ensures { Gives
+        (λ _. out.new) result reader.new (reading (behind quant reach predictor lead) reader.old) }
 {
     match lead {
         Lead::Skipped => {
@@ -332,14 +338,16 @@ fn mb_at(
     reach: Reach,
     out: &mut Mb,
 ) -> Result<(), Fault>
-    ensures { Gives (λ _. out.new) result reader.new (reading (mb kind quant reach predictor) reader.old) }
+    ensures { Gives
+        (λ _. out.new) result reader.new (reading (mb kind quant reach predictor) reader.old) }
 {
     let lead = read_lead(reader, kind)?;
     read_behind(reader, quant, reach, predictor, lead, out)
 }
 
-/// Reads a macroblock of a picture of this kind (H.263, 5.3): `quant` is the quantiser before it, 1 to 31;
-/// `predictor` predicts its vector, and `reach` says how far that may reach. After a fault `out` is left open.
+/// Reads a macroblock of a picture of this kind (H.263, 5.3): `quant` is the quantiser before it, 1
+/// to 31; `predictor` predicts its vector, and `reach` says how far that may reach. After a fault
+/// `out` is left open.
 pub fn read_mb(
     reader: &mut BitReader<'_>,
     kind: Kind,
@@ -349,13 +357,16 @@ pub fn read_mb(
     out: &mut Mb,
 ) -> Result<(), Fault>
     // What is read is spelled by the bits that were taken.
-    ensures found { IfOk result (λ _. Takes reader.old reader.new (IsMbText kind quant reach predictor out.new)) }
+    ensures found { IfOk result (λ _.
+        Takes reader.old reader.new (IsMbText kind quant reach predictor out.new)) }
     // What is spelled is read, whatever follows.
-    ensures only { (m : Mb) (text rest : List Bool) → IsMbText kind quant reach predictor m text → reader.old.bits ≡ text ++ rest
+    ensures only { (m : Mb) (text rest : List Bool)
+        → IsMbText kind quant reach predictor m text → reader.old.bits ≡ text ++ rest
         → IsOkAnd result (λ _. (out.new ≡ m) × (reader.new.bits ≡ rest)) }
     // Otherwise it is the first fault, at its place.
     ensures fault { first_fault result ≡ macroblock_fault kind quant reach predictor reader.old }
-    ensures exact { Gives (λ _. out.new) result reader.new (reading (mb kind quant reach predictor) reader.old) }
+    ensures exact { Gives
+        (λ _. out.new) result reader.new (reading (mb kind quant reach predictor) reader.old) }
     ensures range { IsQuant quant → IfOk result (λ _. IsMb out.new × IsOfKind kind out.new) }
 {
     block_layer::laws::in_a_syntax();

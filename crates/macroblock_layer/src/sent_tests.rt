@@ -10,7 +10,7 @@ use std::test::Fail;
 
 const NO_VECTOR: Vector = Vector { x: 0, y: 0 };
 
-/// The 48 macroblocks of a moving P picture of 128 x 96, from bit 5 on, at quantiser 12.
+// The 48 macroblocks of a moving P picture of 128 x 96, from bit 5 on, at quantiser 12.
 const MOVED: [u8; 180] = [
     0x08, 0x53, 0xC4, 0x99, 0x6C, 0x12, 0x15, 0xFE, 0x01, 0x98, 0x0E, 0x60, 0x12, 0xAF, 0x8F, 0xFF,
     0xF6, 0xC5, 0xDF, 0xD0, 0x39, 0x55, 0x05, 0xB2, 0xF9, 0x43, 0x84, 0xB1, 0x2A, 0x88, 0xE9, 0xA8,
@@ -26,7 +26,7 @@ const MOVED: [u8; 180] = [
     0xFF, 0xFF, 0xFF, 0xF8,
 ];
 
-/// The picture behind it.
+// The picture behind it.
 const NEXT: [u8; 242] = [
     0x08, 0x53, 0xCB, 0xC4, 0xA9, 0x3E, 0xAE, 0x4A, 0x9C, 0x61, 0xF2, 0xFF, 0xFA, 0x7F, 0xFE, 0x50,
     0xD5, 0xB1, 0xBA, 0xC1, 0x02, 0xB2, 0xE5, 0x63, 0xC5, 0x71, 0xF3, 0xFE, 0x53, 0xFF, 0xFD, 0x7F,
@@ -46,7 +46,7 @@ const NEXT: [u8; 242] = [
     0xFF, 0xF0,
 ];
 
-/// Whether the bits from `from` to `to` are the first ones of `other`.
+// Whether the bits from `from` to `to` are the first ones of `other`.
 fn same_bits(bytes: &[u8], from: u32, to: u32, other: &[u8; 1062]) -> bool
     requires order { from ≤ to }
     requires short { length bytes.now ≤ 1000 }
@@ -73,7 +73,7 @@ fn vector_of(mb: &Mb) -> Vector {
     }
 }
 
-/// Whether the quantiser stays 12.
+// Whether the quantiser stays 12.
 fn is_at_12(mb: &Mb) -> bool
     ensures { IsTrue result → IsStepped 12 mb.now }
 {
@@ -88,7 +88,7 @@ fn is_at_12(mb: &Mb) -> bool
     }
 }
 
-/// Whether a macroblock is written as the bits from `from` to `to`.
+// Whether a macroblock is written as the bits from `from` to `to`.
 fn is_rewritten(bytes: &[u8], from: u32, to: u32, predicted: Vector, mb: &Mb) -> bool
     requires order { from ≤ to }
     requires short { length bytes.now ≤ 1000 }
@@ -105,8 +105,8 @@ fn is_rewritten(bytes: &[u8], from: u32, to: u32, predicted: Vector, mb: &Mb) ->
     writer.len() == to - from && same_bits(bytes, from, to, &out)
 }
 
-/// Reads 48 macroblocks, and writes each again. Answers whether all are written as they were read, and only padding
-/// is left.
+// Reads 48 macroblocks, and writes each again. Answers whether all are written as they were read,
+// and only padding is left.
 fn is_written_again(bytes: &[u8]) -> Result<bool, Fault>
     requires some { 0 < length bytes.now }
     requires short { length bytes.now ≤ 1000 }

@@ -19,7 +19,7 @@ const FAR: Reach = Reach {
     down: 31,
 };
 
-/// Puts a text of zeros and ones into bytes. Answers where it ends.
+// Puts a text of zeros and ones into bytes. Answers where it ends.
 fn put_text(bytes: &mut [u8; 32], text: &str) -> u32
     ensures { result ≤ 256 }
 {
@@ -33,7 +33,7 @@ fn put_text(bytes: &mut [u8; 32], text: &str) -> u32
     place
 }
 
-/// Reads the macroblock of a text, where the quantiser before it is 8 and the predictor is (31, -3).
+// Reads the macroblock of a text, where the quantiser before it is 8 and the predictor is (31, -3).
 fn read_text(kind: Kind, reach: Reach, text: &str) -> Result<Mb, Fault> {
     let mut bytes = [0; 32];
     let end = put_text(&mut bytes, text);
@@ -43,7 +43,7 @@ fn read_text(kind: Kind, reach: Reach, text: &str) -> Result<Mb, Fault> {
     Ok(mb)
 }
 
-/// The quantiser and the vector of a macroblock.
+// The quantiser and the vector of a macroblock.
 fn head_of(mb: &Mb) -> (u8, Vector) {
     match mb {
         Mb::Skip => (0, NO_VECTOR),
@@ -56,7 +56,7 @@ fn head_of(mb: &Mb) -> (u8, Vector) {
     }
 }
 
-/// Whether the quantiser is within 2 of 8.
+// Whether the quantiser is within 2 of 8.
 fn is_stepped(mb: &Mb) -> bool
     ensures { IsTrue result → IsStepped 8 mb.now }
 {
@@ -71,7 +71,8 @@ fn is_stepped(mb: &Mb) -> bool
     }
 }
 
-/// Reads the macroblock of a text of so many bits, and writes it again. Answers it, and how many bits were written.
+// Reads the macroblock of a text of so many bits, and writes it again. Answers it, and how many
+// bits were written.
 fn rewritten(
     kind: Kind,
     text: &[u8; 32],
@@ -90,8 +91,8 @@ fn rewritten(
     Ok((mb, writer.len()))
 }
 
-/// One text of each class with the quantiser and the vector that it spells, behind the predictor (31, -3). The
-/// difference from 31 to -32, which is -63, is spelled `010`.
+// One text of each class with the quantiser and the vector that it spells, behind the predictor
+// (31, -3). The difference from 31 to -32, which is -63, is spelled `010`.
 #[test]
 fn one_text_of_each_class(rt: HostRuntime) -> Result<(), Fail> {
     let table = [
@@ -140,7 +141,7 @@ fn one_text_of_each_class(rt: HostRuntime) -> Result<(), Fail> {
     Ok(())
 }
 
-/// Each kind of element cut inside, and each fault; the horizontal difference is at place 4.
+// Each kind of element cut inside, and each fault; the horizontal difference is at place 4.
 #[test]
 fn first_faults(rt: HostRuntime) {
     let near = Reach { left: 0, ..FAR };
@@ -180,7 +181,7 @@ fn first_faults(rt: HostRuntime) {
     }
 }
 
-/// The predictor in four columns, where macroblock k has the vector (k + 1, -2 (k + 1)).
+// The predictor in four columns, where macroblock k has the vector (k + 1, -2 (k + 1)).
 fn predicted(first: u32, mb: u32) -> Vector {
     let vectors = [
         Vector { x: 1, y: -2 },
@@ -198,7 +199,7 @@ fn predicted(first: u32, mb: u32) -> Vector {
     NO_VECTOR
 }
 
-/// At the edges, and where a slice starts inside the row above.
+// At the edges, and where a slice starts inside the row above.
 #[test]
 fn predictors(rt: HostRuntime) {
     let table = [

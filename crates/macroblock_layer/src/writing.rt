@@ -144,9 +144,12 @@ fn write_head(
     requires near { IsNear quant new }
     requires table { IsInTable kind (Word (class_of intra (new == quant)) pattern.cbpc) }
     requires cbpy { pattern.cbpy < 16 }
-    requires room { len_of writer.old + length (head_text kind quant new intra pattern.cbpy pattern.cbpc) ≤ room_of writer.old }
-    ensures bits { Appends writer.old writer.new (head_text kind quant new intra pattern.cbpy pattern.cbpc) }
-    ensures len { len_of writer.new ≡ len_of writer.old + length (head_text kind quant new intra pattern.cbpy pattern.cbpc) }
+    requires room { len_of writer.old
+        + length (head_text kind quant new intra pattern.cbpy pattern.cbpc) ≤ room_of writer.old }
+    ensures bits { Appends writer.old writer.new
+        (head_text kind quant new intra pattern.cbpy pattern.cbpc) }
+    ensures len { len_of writer.new
+        ≡ len_of writer.old + length (head_text kind quant new intra pattern.cbpy pattern.cbpc) }
 {
     write_class(writer, kind, class(intra, new == quant), pattern.cbpc);
     write_cbpy(writer, intra, pattern.cbpy);
@@ -182,9 +185,11 @@ fn write_vector(writer: &mut BitWriter<'_>, predictor: Vector, vector: Vector)
 
 fn write_intra_blocks(writer: &mut BitWriter<'_>, blocks: &[Block; 6])
     requires blocks { All (λ (b : Block). IsIntraBlock b) blocks.now }
-    requires room { len_of writer.old + length (blocks_text intra_text blocks.now) ≤ room_of writer.old }
+    requires room { len_of writer.old + length (blocks_text intra_text blocks.now)
+        ≤ room_of writer.old }
     ensures bits { Appends writer.old writer.new (blocks_text intra_text blocks.now) }
-    ensures len { len_of writer.new ≡ len_of writer.old + length (blocks_text intra_text blocks.now) }
+    ensures len { len_of writer.new
+        ≡ len_of writer.old + length (blocks_text intra_text blocks.now) }
 {
     'all: for block in blocks {
         write_intra(writer, block);
@@ -205,16 +210,19 @@ fn write_inter_block(writer: &mut BitWriter<'_>, block: &Block)
 
 fn write_inter_blocks(writer: &mut BitWriter<'_>, blocks: &[Block; 6])
     requires blocks { All (λ (b : Block). IsInterBlock b) blocks.now }
-    requires room { len_of writer.old + length (blocks_text inter_text blocks.now) ≤ room_of writer.old }
+    requires room { len_of writer.old + length (blocks_text inter_text blocks.now)
+        ≤ room_of writer.old }
     ensures bits { Appends writer.old writer.new (blocks_text inter_text blocks.now) }
-    ensures len { len_of writer.new ≡ len_of writer.old + length (blocks_text inter_text blocks.now) }
+    ensures len { len_of writer.new
+        ≡ len_of writer.old + length (blocks_text inter_text blocks.now) }
 {
     'all: for block in blocks {
         write_inter_block(writer, block);
     }
 }
 
-// The longest text of a macroblock has at most so many bits: 18 before the vector, 26 of the vector, and 1,408 of each block.
+// The longest text of a macroblock has at most so many bits: 18 before the vector, 26 of the
+// vector, and 1,408 of each block.
 #[tactic(auto, unfolding(crate::specs::Written::intra_mb_text))]
 fn write_intra_mb(writer: &mut BitWriter<'_>, kind: Kind, quant: u8, new: u8, blocks: &[Block; 6])
     requires quant { quant ≤ 31 }
@@ -222,7 +230,8 @@ fn write_intra_mb(writer: &mut BitWriter<'_>, kind: Kind, quant: u8, new: u8, bl
     requires near { IsNear quant new }
     requires room { len_of writer.old + 8492 ≤ room_of writer.old }
     ensures bits { Appends writer.old writer.new (intra_mb_text kind quant new blocks.now) }
-    ensures len { len_of writer.new ≡ len_of writer.old + length (intra_mb_text kind quant new blocks.now) }
+    ensures len { len_of writer.new
+        ≡ len_of writer.old + length (intra_mb_text kind quant new blocks.now) }
     ensures whole { AreWhole blocks.now }
 {
     block_layer::laws::in_a_syntax();
@@ -244,8 +253,10 @@ fn write_inter_mb(
     requires mb { IsInterMb new vector blocks.now }
     requires near { IsNear quant new }
     requires room { len_of writer.old + 8492 ≤ room_of writer.old }
-    ensures bits { Appends writer.old writer.new (inter_mb_text quant predictor new vector blocks.now) }
-    ensures len { len_of writer.new ≡ len_of writer.old + length (inter_mb_text quant predictor new vector blocks.now) }
+    ensures bits { Appends writer.old writer.new
+        (inter_mb_text quant predictor new vector blocks.now) }
+    ensures len { len_of writer.new
+        ≡ len_of writer.old + length (inter_mb_text quant predictor new vector blocks.now) }
     ensures whole { AreWhole blocks.now }
 {
     block_layer::laws::in_a_syntax();
@@ -255,8 +266,9 @@ fn write_inter_mb(
     write_inter_blocks(writer, blocks);
 }
 
-/// Writes a macroblock of a picture of this kind (H.263, 5.3), whose quantiser is within 2 of `quant`, the one before it;
-/// `predictor` predicts its vector. There is room for 8,492 bits, which no text of a macroblock passes.
+/// Writes a macroblock of a picture of this kind (H.263, 5.3), whose quantiser is within 2 of
+/// `quant`, the one before it; `predictor` predicts its vector. There is room for 8,492 bits, which
+/// no text of a macroblock passes.
 pub fn write_mb(writer: &mut BitWriter<'_>, kind: Kind, quant: u8, predictor: Vector, mb: &Mb)
     requires quant { IsQuant quant }
     requires mb { IsMb mb.now }
@@ -264,10 +276,12 @@ pub fn write_mb(writer: &mut BitWriter<'_>, kind: Kind, quant: u8, predictor: Ve
     requires step { IsStepped quant mb.now }
     requires room { len_of writer.old + 8492 ≤ room_of writer.old }
     ensures bits { Appends writer.old writer.new (mb_text kind quant predictor mb.now) }
-    ensures len { len_of writer.new ≡ len_of writer.old + length (mb_text kind quant predictor mb.now) }
+    ensures len { len_of writer.new
+        ≡ len_of writer.old + length (mb_text kind quant predictor mb.now) }
     ensures short { length (mb_text kind quant predictor mb.now) ≤ 8492 }
     // It is a text of the macroblock, where its vector, if it has one, is in reach.
-    ensures spells { (reach : Reach) → IsReached reach mb.now → IsMbText kind quant reach predictor mb.now (mb_text kind quant predictor mb.now) }
+    ensures spells { (reach : Reach) → IsReached reach mb.now
+        → IsMbText kind quant reach predictor mb.now (mb_text kind quant predictor mb.now) }
 {
     laws::in_a_syntax();
     match mb {

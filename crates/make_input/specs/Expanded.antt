@@ -21,7 +21,8 @@ line_events c (line.All n) = map (Deliver n) (range_with_len 0 (length (slices_a
 line_events c (line.Back k) = Back k ∷ []
 line_events c line.Play = Play ∷ []
 
-module _ {Style Mb Picture : Type 0} (pictures : Pictures Style Mb Picture) (rules : Rules) (source : Source Style Mb Picture) where
+module _ {Style Mb Picture : Type 0}
+    (pictures : Pictures Style Mb Picture) (rules : Rules) (source : Source Style Mb Picture) where
   -- the events of these lines behind others, the newest first
   unfoldable pub expanded : List Event → List Line → List Event
   expanded past [] = past

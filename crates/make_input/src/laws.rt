@@ -13,28 +13,31 @@ use call_model::laws::{encoder_is_sound, searches};
 /// No line of a made trace is refused: each of its events is in place and near, whatever pictures
 /// with a slice are sent.
 pub fn made_traces_are_near<Style, Mb, Picture>()
-    ensures { (pictures : Pictures Style Mb Picture) (rules : Rules) (source : Source Style Mb Picture) (seed frames : ℕ)
-        → 4 ≤ rules.half → SendsSlices pictures rules source frames
-        → AllNearFrom pictures rules source frames (expanded pictures rules source [] (made_trace seed frames)) }
+    ensures { (pictures : Pictures Style Mb Picture)
+        (rules : Rules) (source : Source Style Mb Picture) (seed frames : ℕ) → 4 ≤ rules.half
+        → SendsSlices pictures rules source frames → AllNearFrom pictures rules source frames
+        (expanded pictures rules source [] (made_trace seed frames)) }
 {
     searches();
 }
 
 /// So it is in the ideal call of as many frames.
 pub fn made_calls_are_near<Frame, Style, Mb, Picture, Fault, MessageFault>()
-    ensures { (coding : Coding Frame Style Mb Picture Fault MessageFault) (rules : Rules) (pace : List ℕ → ℕ) (frames : List Frame) (seed : ℕ)
-        → IsCoding coding rules → IsRules rules → IsPace pace → 4 ≤ rules.half
-        → AllNear coding rules pace frames
-        (expanded (pictures_of coding) rules (encoded coding rules pace frames) [] (made_trace seed (length frames))) }
+    ensures { (coding : Coding Frame Style Mb Picture Fault MessageFault) (rules : Rules)
+        (pace : List ℕ → ℕ) (frames : List Frame) (seed : ℕ) → IsCoding coding rules → IsRules rules
+        → IsPace pace → 4 ≤ rules.half → AllNear coding rules pace frames (expanded (pictures_of
+        coding) rules (encoded coding rules pace frames) [] (made_trace seed (length frames))) }
 {
     searches();
     encoder_is_sound::<Frame, Style, Mb, Picture, Fault, MessageFault>();
 }
 
-/// Other traces are refused. Of a video of one frame: a second capture has no frame, a play before the capture has
-/// nothing to show, a packet before it was not sent, and a message before one was said was not said.
+/// Other traces are refused. Of a video of one frame: a second capture has no frame, a play before
+/// the capture has nothing to show, a packet before it was not sent, and a message before one was
+/// said was not said.
 pub fn other_traces_are_refused()
-    ensures capture { (rules : Rules) → 1 < rules.half → first_refusal rules 1 1 0 [] Send ≡ Some NoFrame }
+    ensures capture { (rules : Rules)
+        → 1 < rules.half → first_refusal rules 1 1 0 [] Send ≡ Some NoFrame }
     ensures play { (rules : Rules) → first_refusal rules 1 0 0 [] Play ≡ Some PlayBeforeSend }
     ensures packet { (rules : Rules) → first_refusal rules 1 0 0 [] (Deliver 0 0) ≡ Some NotSent }
     ensures message { (rules : Rules) → first_refusal rules 1 1 0 [] (Back 0) ≡ Some NotSaid }

@@ -98,9 +98,11 @@ is_empty b = list_all (λ l. int_eq l (pos 0)) b.levels
 abbrev pub are_empty : List Block → Bool
 are_empty blocks = list_all is_empty blocks
 
--- a macroblock with this vector and these blocks of residuals: it isn't coded where the vector is zero and no level is left
+-- a macroblock with this vector and these blocks of residuals: it isn't coded where the vector is
+-- zero and no level is left
 abbrev pub predicted_by : ℕ → Vector → List Block → Mb
-predicted_by quant v blocks = if (int_eq v.x (pos 0) && int_eq v.y (pos 0)) && are_empty blocks then Skip else Inter quant v blocks
+predicted_by quant v blocks = if (int_eq v.x (pos 0) && int_eq v.y (pos 0))
+    && are_empty blocks then Skip else Inter quant v blocks
 
 -- macroblock mb predicted by a vector
 abbrev pub inter_of : Picture → Picture → ℕ → ℕ → ℕ → ℕ → Vector → Mb
@@ -116,7 +118,8 @@ mean_of samples = sum_l samples / 256
 abbrev pub deviation_of : List ℕ → ℕ
 deviation_of samples = differences samples (replicate 256 (mean_of samples))
 
--- whether a macroblock is coded by itself: where its samples lie nearer to their mean than to what the vector predicts, by more than 500
+-- whether a macroblock is coded by itself: where its samples lie nearer to their mean than to what
+-- the vector predicts, by more than 500
 abbrev pub is_intra : ℕ → ℤ → Bool
 is_intra deviation cost = int_lt (pos deviation) (cost -ℤ pos 500)
 

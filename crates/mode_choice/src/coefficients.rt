@@ -7,14 +7,14 @@ ghost use Rattle.mode_choice.specs.Walk.{least_of, level_by, level_in};
 use h263_types::laws::one_more;
 use quantiser::{block_place, factor, level_inter_by, level_intra_by};
 
-/// How a block is coded: by itself, or as what a prediction leaves.
+// How a block is coded: by itself, or as what a prediction leaves.
 #[derive(Clone, Copy, Debug)]
 pub(crate) enum Coding {
     Intra,
     Inter,
 }
 
-/// The size from which on a coefficient has a level.
+// The size from which on a coefficient has a level.
 #[inline(always)]
 pub(crate) fn least_size(coding: Coding, quant: u8) -> u32
     requires quant { IsQuant quant }
@@ -28,14 +28,16 @@ pub(crate) fn least_size(coding: Coding, quant: u8) -> u32
     }
 }
 
-/// The levels of coefficients that stand by rows, in the zigzag order: 0 from place `keep` on. The first one is a level
-/// as the others are.
+// The levels of coefficients that stand by rows, in the zigzag order: 0 from place `keep` on. The
+// first one is a level as the others are.
 #[inline(always)]
 pub(crate) fn levels_in(coding: Coding, quant: u8, keep: u8, coefficients: &[i32; 64]) -> [i16; 64]
     requires quant { IsQuant quant }
-    requires coefficients { (at : ℕ) → at < 64 → IsCoefficient (slice_index_or coefficients.now at (pos 0)) }
+    requires coefficients { (at : ℕ)
+        → at < 64 → IsCoefficient (slice_index_or coefficients.now at (pos 0)) }
     ensures long { length result ≡ 64 }
-    ensures levels { (k : ℕ) → k < 64 → slice_index_or result k (pos 0) ≡ level_in coding quant keep coefficients.now k }
+    ensures levels { (k : ℕ)
+        → k < 64 → slice_index_or result k (pos 0) ≡ level_in coding quant keep coefficients.now k }
     ensures range { All IsLevel result }
 {
     one_more::<i16>();
@@ -48,13 +50,16 @@ pub(crate) fn levels_in(coding: Coding, quant: u8, keep: u8, coefficients: &[i32
     levels
 }
 
-// The levels of all coefficients, by rows. There is no branch on any of them, so that they are taken together.
+// The levels of all coefficients, by rows. There is no branch on any of them, so that they are
+// taken together.
 #[inline(always)]
 fn levels_by_rows(coding: Coding, quant: u8, coefficients: &[i32; 64]) -> [i16; 64]
     requires quant { IsQuant quant }
-    requires coefficients { (at : ℕ) → at < 64 → IsCoefficient (slice_index_or coefficients.now at (pos 0)) }
+    requires coefficients { (at : ℕ)
+        → at < 64 → IsCoefficient (slice_index_or coefficients.now at (pos 0)) }
     ensures long { length result ≡ 64 }
-    ensures levels { (at : ℕ) → at < 64 → slice_index_or result at (pos 0) ≡ level_by coding quant (slice_index_or coefficients.now at (pos 0)) }
+    ensures levels { (at : ℕ) → at < 64 → slice_index_or result at (pos 0)
+        ≡ level_by coding quant (slice_index_or coefficients.now at (pos 0)) }
     ensures range { All IsLevel result }
 {
     one_more::<i16>();

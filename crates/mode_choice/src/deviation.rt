@@ -21,7 +21,8 @@ pub(crate) fn deviation(frame: PictureRef<'_>, mb: u32) -> u32
     differences_from(&samples, mean(&samples))
 }
 
-// The luma samples of a macroblock, by rows from the top: what the zero vector predicts from the frame itself.
+// The luma samples of a macroblock, by rows from the top: what the zero vector predicts from the
+// frame itself.
 fn luma_samples(frame: PictureRef<'_>, mb: u32) -> [u8; 256]
     requires mb { mb < mbs_of (picture frame).format }
     ensures { result ≡ samples_of (picture frame.entry) mb }
@@ -31,7 +32,8 @@ fn luma_samples(frame: PictureRef<'_>, mb: u32) -> [u8; 256]
     samples
 }
 
-// The mean of the samples, rounded down. Their sum is that of their differences from 0, which `sad` gives by lanes.
+// The mean of the samples, rounded down. Their sum is that of their differences from 0, which `sad`
+// gives by lanes.
 fn mean(samples: &[u8; 256]) -> u8
     ensures { result ≡ mean_of samples.now }
 {

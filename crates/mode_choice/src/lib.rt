@@ -1,4 +1,16 @@
-//! The choice of each macroblock: how it is coded, and with which levels. H.263 leaves this to the encoder.
+//! The choice of each macroblock: how it is coded, and with which levels. H.263 leaves this to the
+//! encoder.
+//!
+//! [`choose`] answers a macroblock as an [`Mb`](h263_types::Mb): not coded, predicted by a vector,
+//! or coded by itself.
+//!
+//! ```rust
+//! // one sample that is lighter by 78 leaves no level
+//! let mut lighter = [100; SIZE];
+//! lighter[128 * 16 + 16] = 178;
+//! let frame = PictureRef::new(Format::SubQcif, &lighter);
+//! assert!(rt; choose(frame, Some(reference), 9, &header, &params) == Mb::Skip);
+//! ```
 #![tactic(auto)]
 
 mod coefficients;

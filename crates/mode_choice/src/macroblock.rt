@@ -22,9 +22,10 @@ use h263_types::{Block, Mb, Params, Vector};
 use motion_search::search_from;
 use picture_header::Header;
 
-/// The macroblock that is coded at place `mb` of `frame`, with the quantiser of the header and with the first `keep`
-/// places of each block's zigzag order. Without a reference, which only a P picture has, it is coded by itself; else the
-/// motion search of `radius` whole samples decides whether it is predicted, coded by itself, or not coded at all.
+/// The macroblock that is coded at place `mb` of `frame`, with the quantiser of the header and with
+/// the first `keep` places of each block's zigzag order. Without a reference, which only a P
+/// picture has, it is coded by itself; else the motion search of `radius` whole samples decides
+/// whether it is predicted, coded by itself, or not coded at all.
 pub fn choose(
     frame: PictureRef<'_>,
     reference: Option<PictureRef<'_>>,
@@ -32,12 +33,14 @@ pub fn choose(
     header: &Header,
     params: &Params,
 ) -> Mb
-    requires reference { HasReferenceOnlyInP header.now.kind (picture frame).format (option_map picture reference) }
+    requires reference { HasReferenceOnlyInP header.now.kind
+        (picture frame).format (option_map picture reference) }
     requires quant { IsQuant header.now.quant }
     requires rounding { header.now.rounding ≤ 1 }
     requires radius { params.now.radius ≤ 15 }
     requires mb { mb < mbs_of (picture frame).format }
-    ensures choice { result ≡ choice.choice_of (picture frame.entry) (option_map picture reference.entry) header.now params.now mb }
+    ensures choice { result ≡ choice.choice_of
+        (picture frame.entry) (option_map picture reference.entry) header.now params.now mb }
     ensures in_range { IsMb result }
     ensures of_kind { IsOfKind header.now.kind result }
     ensures reach { ReachesInside (picture frame.entry).format mb result }
@@ -56,8 +59,8 @@ pub fn choose(
     chosen
 }
 
-/// The same, into its place. The choice is that of `choose` whatever the guess is; it comes sooner where the guess, as the
-/// vector of a neighbour, is near to the best vector.
+/// The same, into its place. The choice is that of `choose` whatever the guess is; it comes sooner
+/// where the guess, as the vector of a neighbour, is near to the best vector.
 pub fn choose_into(
     frame: PictureRef<'_>,
     reference: Option<PictureRef<'_>>,
@@ -67,12 +70,14 @@ pub fn choose_into(
     guess: Vector,
     out: &mut Mb,
 )
-    requires reference { HasReferenceOnlyInP header.now.kind (picture frame).format (option_map picture reference) }
+    requires reference { HasReferenceOnlyInP header.now.kind
+        (picture frame).format (option_map picture reference) }
     requires quant { IsQuant header.now.quant }
     requires rounding { header.now.rounding ≤ 1 }
     requires radius { params.now.radius ≤ 15 }
     requires mb { mb < mbs_of (picture frame).format }
-    ensures choice { out.new ≡ choice.choice_of (picture frame.entry) (option_map picture reference.entry) header.now params.now mb }
+    ensures choice { out.new ≡ choice.choice_of
+        (picture frame.entry) (option_map picture reference.entry) header.now params.now mb }
     ensures in_range { IsMb out.new }
     ensures of_kind { IsOfKind header.now.kind out.new }
     ensures reach { ReachesInside (picture frame.entry).format mb out.new }
@@ -85,8 +90,8 @@ pub fn choose_into(
     }
 }
 
-// The choice where there is a reference: by itself where the macroblock's samples lie nearer to their mean than to what the
-// best vector predicts.
+// The choice where there is a reference: by itself where the macroblock's samples lie nearer to
+// their mean than to what the best vector predicts.
 fn macroblock_in_p(
     frame: PictureRef<'_>,
     reference: PictureRef<'_>,
@@ -101,7 +106,8 @@ fn macroblock_in_p(
     requires rounding { header.now.rounding ≤ 1 }
     requires radius { params.now.radius ≤ 15 }
     requires mb { mb < mbs_of (picture frame).format }
-    ensures { out.new ≡ choice.choice_in_p (picture frame.entry) (picture reference.entry) header.now params.now mb }
+    ensures { out.new ≡ choice.choice_in_p
+        (picture frame.entry) (picture reference.entry) header.now params.now mb }
 {
     let (vector, cost) = search_from(frame, reference, mb, params.radius, header.rounding, guess);
     if is_nearer_to_mean(frame, mb, cost) {
@@ -111,12 +117,13 @@ fn macroblock_in_p(
     inter_macroblock(frame, reference, mb, vector, header, params.keep, out);
 }
 
-// Whether a macroblock is coded by itself, where the best vector costs so much: at 500 or less it isn't, and its mean
-// isn't asked for.
+// Whether a macroblock is coded by itself, where the best vector costs so much: at 500 or less it
+// isn't, and its mean isn't asked for.
 fn is_nearer_to_mean(frame: PictureRef<'_>, mb: u32, cost: i32) -> bool
     requires mb { mb < mbs_of (picture frame).format }
     requires cost { IsCost cost }
-    ensures { result ≡ choice.is_intra (choice.deviation_of (samples_of (picture frame.entry) mb)) cost }
+    ensures { result
+        ≡ choice.is_intra (choice.deviation_of (samples_of (picture frame.entry) mb)) cost }
 {
     if cost <= 500 {
         return false;
@@ -133,7 +140,8 @@ fn is_intra(deviation: u32, cost: i32) -> bool
     (deviation as i32) < cost - 500
 }
 
-// The macroblock predicted by a vector: it isn't coded where the vector is zero and no level is left.
+// The macroblock predicted by a vector: it isn't coded where the vector is zero and no level is
+// left.
 fn inter_macroblock(
     frame: PictureRef<'_>,
     reference: PictureRef<'_>,
@@ -148,7 +156,8 @@ fn inter_macroblock(
     requires rounding { header.now.rounding ≤ 1 }
     requires mb { mb < mbs_of (picture reference).format }
     requires reach { InReach (picture reference).format mb vector.x vector.y }
-    ensures { out.new ≡ choice.inter_of (picture frame.entry) (picture reference.entry) header.now.quant keep header.now.rounding mb vector }
+    ensures { out.new ≡ choice.inter_of (picture frame.entry)
+        (picture reference.entry) header.now.quant keep header.now.rounding mb vector }
 {
     let mut blocks = [Block { levels: [0; 64] }; 6];
     inter_blocks(frame, reference, mb, vector, header, keep, &mut blocks);
@@ -178,7 +187,8 @@ fn inter_blocks(
     requires rounding { header.now.rounding ≤ 1 }
     requires mb { mb < mbs_of (picture reference).format }
     requires reach { InReach (picture reference).format mb vector.x vector.y }
-    ensures { out.new ≡ choice.residual_blocks_of (picture frame.entry) (picture reference.entry) header.now.quant keep header.now.rounding mb vector }
+    ensures { out.new ≡ choice.residual_blocks_of (picture frame.entry)
+        (picture reference.entry) header.now.quant keep header.now.rounding mb vector }
 {
     one_more::<Block>();
     let predicted = predicted_blocks(reference, mb, vector, header.rounding);

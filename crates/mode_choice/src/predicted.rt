@@ -19,7 +19,8 @@ pub(crate) fn predicted_blocks(
     requires mb { mb < mbs_of (picture reference).format }
     requires reach { InReach (picture reference).format mb vector.x vector.y }
     requires rounding { rounding ≤ 1 }
-    ensures { (b k : ℕ) → b < 6 → k < 64 → slice_index (slice_index_or result b []) k ≡ predicted_in_block (picture reference.entry) rounding mb vector b k }
+    ensures { (b k : ℕ) → b < 6 → k < 64 → slice_index (slice_index_or result b []) k
+        ≡ predicted_in_block (picture reference.entry) rounding mb vector b k }
 {
     let samples = predict(reference, mb, vector, rounding);
     [
@@ -35,7 +36,8 @@ pub(crate) fn predicted_blocks(
 // Block `block` of the four blocks of 16 x 16 samples, in reading order.
 fn quarter(samples: &[u8; 256], block: usize) -> [u8; 64]
     requires { block < 4 }
-    ensures { (j i : ℕ) → j < 8 → i < 8 → slice_index result (8 * j + i) ≡ slice_index samples.now (16 * (8 * (block / 2) + j) + (8 * (block % 2) + i)) }
+    ensures { (j i : ℕ) → j < 8 → i < 8 → slice_index result (8 * j + i)
+        ≡ slice_index samples.now (16 * (8 * (block / 2) + j) + (8 * (block % 2) + i)) }
 {
     let from = 128 * (block / 2) + 8 * (block % 2);
     let mut quarter = [0; 64];

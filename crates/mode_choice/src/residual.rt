@@ -28,7 +28,8 @@ pub(crate) fn residual_block(quant: u8, keep: u8, residuals: &[i16; 64]) -> Bloc
 fn are_small(quant: u8, residuals: &[i16; 64]) -> bool
     requires quant { IsQuant quant }
     requires residuals { All IsSample residuals.now }
-    ensures { IsTrue result → (k : ℕ) → inter_level quant (choice.coefficient_at residuals.now k) ≡ pos 0 }
+    ensures { IsTrue result
+        → (k : ℕ) → inter_level quant (choice.coefficient_at residuals.now k) ≡ pos 0 }
 {
     if squares_are_small(quant, residuals) {
         true
@@ -37,12 +38,13 @@ fn are_small(quant: u8, residuals: &[i16; 64]) -> bool
     }
 }
 
-// The same by a quicker test, which most blocks of a still picture pass: but for its rounding, the square of a coefficient
-// is at most the sum of the squares of the residuals.
+// The same by a quicker test, which most blocks of a still picture pass: but for its rounding, the
+// square of a coefficient is at most the sum of the squares of the residuals.
 fn squares_are_small(quant: u8, residuals: &[i16; 64]) -> bool
     requires quant { IsQuant quant }
     requires residuals { All IsSample residuals.now }
-    ensures { IsTrue result → (k : ℕ) → inter_level quant (choice.coefficient_at residuals.now k) ≡ pos 0 }
+    ensures { IsTrue result
+        → (k : ℕ) → inter_level quant (choice.coefficient_at residuals.now k) ≡ pos 0 }
 {
     let mut squares = 0;
     for k in 0..64 {

@@ -36,7 +36,8 @@ pub(crate) fn block_residuals(
     requires mb { mb < mbs_of (picture frame).format }
     requires block { block < 6 }
     ensures long { length result ≡ 64 }
-    ensures residuals { (k : ℕ) → k < 64 → slice_index_or result k (pos 0) ≡ (pos (sample_in_block (picture frame.entry) mb block k) -ℤ pos (slice_index predicted.now k)) }
+    ensures residuals { (k : ℕ) → k < 64 → slice_index_or result k (pos 0) ≡ (pos
+        (sample_in_block (picture frame.entry) mb block k) -ℤ pos (slice_index predicted.now k)) }
     ensures range { All IsSample result }
 {
     one_more::<i16>();
@@ -52,7 +53,8 @@ pub(crate) fn block_residuals(
 fn put_row(samples: &mut [i16; 64], y: usize, row: &[u8])
     requires y { y < 8 }
     requires row { length row.now ≡ 8 }
-    ensures { (k : ℕ) → k < 64 → slice_index_or samples.new k (pos 0) ≡ (if nat_eq (k / 8) y then pos (slice_index row.now (k % 8)) else slice_index_or samples.old k (pos 0)) }
+    ensures { (k : ℕ) → k < 64 → slice_index_or samples.new k (pos 0) ≡ (if nat_eq (k / 8) y
+        then pos (slice_index row.now (k % 8)) else slice_index_or samples.old k (pos 0)) }
 {
     let at = 8 * y;
     samples[at..at + 8].copy_from_slice(&widened(row));

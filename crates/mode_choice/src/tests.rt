@@ -1,3 +1,4 @@
+//! Choices, and levels by the double sum.
 ghost use Rattle.std.specs.Prelude.{◌<◌, ◌≤◌};
 
 use super::*;
@@ -46,7 +47,8 @@ fn block(dc: i16, others: [i16; 5]) -> Block {
     Block { levels }
 }
 
-// Macroblock 9, the second of the second row: a ramp to the right, one downwards, black, white, and two colours.
+// Macroblock 9, the second of the second row: a ramp to the right, one downwards, black, white, and
+// two colours.
 fn put_macroblock(out: &mut PictureMut<'_>, rt: &impl Abort) {
     assert!(rt; out.format() == Format::SubQcif);
     for y in 0..8u32 {
@@ -124,7 +126,8 @@ fn digest_with(block: &Block, before: u32) -> u32 {
     digest
 }
 
-// What is chosen for macroblock `mb` of a P picture of these bytes: its kind, its vector, and the digest of its levels.
+// What is chosen for macroblock `mb` of a P picture of these bytes: its kind, its vector, and the
+// digest of its levels.
 fn chosen(
     rt: &impl Abort,
     frame: &[u8; SIZE],
@@ -275,7 +278,8 @@ fn intra_at_its_limit(rt: HostRuntime) {
 #[test]
 fn one_bright_sample(rt: HostRuntime) {
     let grey = [100; SIZE];
-    // in the corner of a block, where the frequencies 1 across and 1 down take 0.2405 of it: 19.48 of 81, 19.72 of 82
+    // in the corner of a block, where the frequencies 1 across and 1 down take 0.2405 of it: 19.48
+    // of 81, 19.72 of 82
     let table = [
         (78, (SKIP, 0, 0, 0)),
         (81, (SKIP, 0, 0, 0)),

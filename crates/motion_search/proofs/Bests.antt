@@ -42,9 +42,11 @@ module _ (block : List ℕ) (reference : Picture) (mb rounding : ℕ) where
 
   -- ---- whole samples
 
+  -- the zero vector is one of those of whole samples
   pub zero_is_candidate : (radius : ℕ) → mb < mbs_of reference.format → IsWholeCandidate block reference mb radius rounding (candidate_of block reference mb rounding zero_vector)
   zero_is_candidate radius h = record { whole = zero_is_whole radius; candidate = is_candidate zero_vector (zero_reaches reference.format mb h) }
 
+  -- so is the best one of them
   pub whole_is_candidate : (radius : ℕ) → mb < mbs_of reference.format → IsWholeCandidate block reference mb radius rounding (best_whole block reference mb radius rounding)
   unfolding best_whole
   whole_is_candidate radius h =
@@ -86,6 +88,7 @@ module _ (block : List ℕ) (reference : Picture) (mb rounding : ℕ) where
   pub itself : (v : Vector) → IsNear v v
   itself v = record { x = omega (arith, ints); y = omega (arith, ints) }
 
+  -- the best of a candidate and its neighbours is a candidate
   pub near_is_candidate : (best : Candidate) → IsCandidate block reference mb rounding best →
       IsCandidate block reference mb rounding (best_near block reference mb rounding best) × IsNear best.vector (best_near block reference mb rounding best).vector
   unfolding best_near
@@ -158,11 +161,13 @@ module _ (block : List ℕ) (reference : Picture) (mb rounding : ℕ) where
       by true = still_not_before d now (candidate_of block reference mb rounding v) h
       by false = h
 
+  -- a vector that was looked at does not come before the first one
   pub step_none : (v : Vector) (now : Candidate) → InReach reference.format mb v.x v.y → before (candidate_of block reference mb rounding v) (step_of v now) ≡ false
   step_none v now h =
       subst (λ (b : Bool). before (candidate_of block reference mb rounding v) (cond b (first_of now (candidate_of block reference mb rounding v)) now) ≡ false)
       (sym ((reach_is reference.format mb v).1 h)) (other_not_before now (candidate_of block reference mb rounding v))
 
+  -- the first of two is what a step keeps
   pub taken : (v : Vector) (now : Candidate) → InReach reference.format mb v.x v.y → first_of now (candidate_of block reference mb rounding v) ≡ step_of v now
   taken v now h = sym (ap (λ (b : Bool). cond b (first_of now (candidate_of block reference mb rounding v)) now) ((reach_is reference.format mb v).1 h))
 

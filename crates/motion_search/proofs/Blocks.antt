@@ -31,6 +31,7 @@ get_or-square f j i hj hi =
     get_or-map-range_with_len (λ k. f (k % 16) (k / 16)) 0 256 (16 * j + i) (16 * j + i) 0 (omega arith) (omega arith)
     ∙ ap (λ (m : ℕ). f m ((16 * j + i) / 16)) column ∙ ap (f i) row
 
+-- 256 numbers by rows of sixteen are a square
 pub is_square : (xs : List ℕ) (f : ℕ → ℕ → ℕ) → length xs ≡ 256 → ((j i : ℕ) → j < 16 → i < 16 → get_or xs (16 * j + i) 0 ≡ f i j) → xs ≡ square f
 is_square xs f long same =
     same_number_lists xs (square f) (long ∙ sym (length-square f))
@@ -47,6 +48,7 @@ pub all_predicted : (block : List ℕ) (reference : Picture) (mb rounding : ℕ)
 unfolding difference_of rows_from
 all_predicted block reference mb rounding v = refl
 
+-- a vector by which the samples differ by n, with its cost
 abbrev pub costing : Vector → ℕ → Candidate
 costing v n = record { vector = v; cost = pos n -ℤ pos (lead_of v) }
 
@@ -161,6 +163,7 @@ pub all_rows : (block : List ℕ) (p : Picture) (x y : ℕ) → differences_from
 unfolding differences_from
 all_rows block p x y = refl
 
+-- below the last row nothing differs
 pub no_rows : (block : List ℕ) (p : Picture) (x y j : ℕ) → length block ≡ 256 → 16 ≤ j → differences_from block p x y j ≡ 0
 unfolding differences_from
 no_rows block p x y j long end =

@@ -96,16 +96,19 @@ still_not_before d b c h = not_before_first d b (first_of b c) h (best_not_befor
 
 -- ---- the least of a list
 
+-- the least of some has what they all have
 pub least_has : (P : Candidate → Type 0) (first : Candidate) (cs : List Candidate) → P first → All P cs → P (least first cs)
 unfolding least
 least_has P first [] h k = h
 least_has P first (c ∷ cs) h k = first_has P (least first cs) c (least_has P first cs h (All-tail P c cs k)) (All-head P c cs k)
 
+-- the first one does not come before the least
 pub first_not_before : (first : Candidate) (cs : List Candidate) → before first (least first cs) ≡ false
 unfolding least
 first_not_before first [] = not_itself first
 first_not_before first (c ∷ cs) = not_before_first first (least first cs) (first_of (least first cs) c) (first_not_before first cs) (best_not_before (least first cs) c)
 
+-- none of the others does
 pub none_before : (first : Candidate) (cs : List Candidate) → All (λ c. before c (least first cs) ≡ false) cs
 unfolding least
 none_before first [] = All-nil _

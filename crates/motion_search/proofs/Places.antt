@@ -27,6 +27,7 @@ moved_more a x i v h =
 whole_sample : (p : Picture) (hx hy : Bool) (r x x' y y' : ℕ) → hx ≡ false → hy ≡ false → x ≡ x' → y ≡ y' → interpolated p Y hx hy r x y ≡ sample_at p Y x' y'
 whole_sample p hx hy r x x' y y' ehx ehy ex ey = cc
 
+-- by a vector of whole samples a macroblock differs from the square that it leads to
 pub whole_predicts : (block : List ℕ) (p : Picture) (mb r x y : ℕ) (v : Vector) → IsEven v →
     pos x ≡ whole_place (16 * (mb % columns_of p.format)) v.x → pos y ≡ whole_place (16 * (mb / columns_of p.format)) v.y →
     differences block (square (λ i j. sample_at p Y (x + i) (y + j))) ≡ difference_of block p mb r v
@@ -59,6 +60,7 @@ not_rounded block p mb r v even =
     (λ j i hj hi. get_or-square (predicted r) j i hj hi
     ∙ even_sample p (is_half Y v.x) (is_half Y v.y) r (moved (left + i) (whole_part Y v.x)) (moved (top + j) (whole_part Y v.y)) (not_half v.x even.x) (not_half v.y even.y)))
 
+-- candidates of whole samples are those of the other rounding too
 pub whole_not_rounded : (block : List ℕ) (p : Picture) (mb radius r : ℕ) (c : Candidate) → IsWholeCandidate block p mb radius 0 c → IsWholeCandidate block p mb radius r c
 whole_not_rounded block p mb radius r c h =
     record {

@@ -71,6 +71,7 @@ whole_is_whole radius k h =
       y = component_within radius (k / (2 * radius + 1)) row;
     }
 
+-- vectors with equal components are the same
 pub same_vectors : (x x' y y' : ℤ) → x ≡ x' → y ≡ y' → let v : Vector = record { x = x; y = y } in let w : Vector = record { x = x'; y = y' } in v ≡ w
 same_vectors x x' y y' hx hy = cc
 
@@ -136,6 +137,7 @@ zero_in at size h = (omega (arith, ints), omega (arith, ints), (omega (arith, in
 pub zero_reaches : (f : Format) (mb : ℕ) → mb < mbs_of f → InReach f mb (pos 0) (pos 0)
 zero_reaches f mb h = let fit = columns_fit f mb h in (zero_in _ _ fit.0, zero_in _ _ fit.1)
 
+-- the zero vector is in each square
 pub zero_is_whole : (radius : ℕ) → IsWhole radius zero_vector
 zero_is_whole radius = record { even = record { x = refl; y = refl }; x = omega arith; y = omega arith }
 

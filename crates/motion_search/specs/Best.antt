@@ -17,7 +17,8 @@ candidates_of block reference mb rounding vectors =
 -- the first of the vectors of whole samples within the radius; the zero vector is one of them
 unfoldable pub best_whole : List ℕ → Picture → ℕ → ℕ → ℕ → Candidate
 best_whole block reference mb radius rounding =
-    least (candidate_of block reference mb rounding zero_vector) (candidates_of block reference mb rounding (whole_vectors radius))
+    least (candidate_of block reference mb rounding zero_vector)
+    (candidates_of block reference mb rounding (whole_vectors radius))
 
 -- the first of a candidate and its neighbours
 unfoldable pub best_near : List ℕ → Picture → ℕ → ℕ → Candidate → Candidate
@@ -36,6 +37,7 @@ pub record IsCandidate (block : List ℕ) (reference : Picture) (mb rounding : �
   pub cost : c.cost ≡ cost_of block reference mb rounding c.vector
 
 -- one of whole samples within the radius
-pub record IsWholeCandidate (block : List ℕ) (reference : Picture) (mb radius rounding : ℕ) (c : Candidate) : Type 0 where
+pub record IsWholeCandidate
+    (block : List ℕ) (reference : Picture) (mb radius rounding : ℕ) (c : Candidate) : Type 0 where
   pub whole : IsWhole radius c.vector
   pub candidate : IsCandidate block reference mb rounding c

@@ -17,12 +17,14 @@ square f = map (λ k. f (k % 16) (k / 16)) (range_with_len 0 256)
 
 -- the luma samples of macroblock mb
 abbrev pub samples_of : Picture → ℕ → List ℕ
-samples_of p mb = square (λ i j. sample_at p Y (16 * (mb % columns_of p.format) + i) (16 * (mb / columns_of p.format) + j))
+samples_of p mb = square (λ i j.
+    sample_at p Y (16 * (mb % columns_of p.format) + i) (16 * (mb / columns_of p.format) + j))
 
 -- those that a vector predicts
 abbrev pub predicted_of : Picture → ℕ → ℕ → Vector → List ℕ
 predicted_of reference mb rounding v =
-    square (λ i j. predicted_sample reference Y (16 * (mb % columns_of reference.format) + i) (16 * (mb / columns_of reference.format) + j) v rounding)
+    square (λ i j. predicted_sample reference Y (16 * (mb % columns_of reference.format) + i)
+    (16 * (mb / columns_of reference.format) + j) v rounding)
 
 -- the differences of the rows from row j on of a block from those of the block at column x of row y
 unfoldable pub differences_from : List ℕ → Picture → ℕ → ℕ → ℕ → ℕ

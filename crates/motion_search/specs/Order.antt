@@ -9,7 +9,8 @@ use Rattle.motion_search.specs.declared.candidate.Candidate.{Candidate}
 abbrev pub length_of : Vector → ℕ
 length_of v = unsigned_abs v.x + unsigned_abs v.y
 
--- how two candidates compare: by their costs, then by how far they lead, then by the vertical components, and then by the horizontal ones
+-- how two candidates compare: by their costs, then by how far they lead, then by the vertical
+-- components, and then by the horizontal ones
 abbrev pub compared : Candidate → Candidate → Ordering
 compared =
     then_cmp (on (λ (c : Candidate). c.cost) int_cmp)

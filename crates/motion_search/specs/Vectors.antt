@@ -43,7 +43,8 @@ neighbours v =
     let m = neg_ℤ (pos 1) in
     let o = pos 0 in
     let p = pos 1 in
-    moved_by v m m ∷ moved_by v o m ∷ moved_by v p m ∷ moved_by v m o ∷ moved_by v p o ∷ moved_by v m p ∷ moved_by v o p ∷ moved_by v p p ∷ []
+    moved_by v m m ∷ moved_by v o m ∷ moved_by v p m
+    ∷ moved_by v m o ∷ moved_by v p o ∷ moved_by v m p ∷ moved_by v o p ∷ moved_by v p p ∷ []
 
 -- the vector in place k of the nine around a vector, itself among them, by rows from the top
 abbrev pub around : Vector → ℕ → Vector

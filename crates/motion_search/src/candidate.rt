@@ -6,7 +6,7 @@ ghost use Rattle.motion_search.specs.Cost.{lead_of, IsCost};
 use h263_types::Vector;
 use std::cmp::Ordering;
 
-/// A vector and its cost.
+// A vector and its cost.
 #[derive(Clone, Copy, Debug, PartialEq, Eq)]
 pub(crate) struct Candidate {
     pub(crate) vector: Vector,
@@ -57,7 +57,8 @@ pub(crate) fn lead(vector: Vector) -> u32
 // A vector whose differences are `sum`.
 pub(crate) fn with_differences(vector: Vector, sum: u32) -> Candidate
     requires sum { sum ≤ 65280 }
-    ensures candidate { result ≡ record { vector = vector; cost = pos sum -ℤ pos (lead_of vector) } }
+    ensures candidate { result
+        ≡ record { vector = vector; cost = pos sum -ℤ pos (lead_of vector) } }
     ensures cost { IsCost result.cost }
 {
     Candidate {
@@ -78,7 +79,10 @@ pub(crate) fn is_settled(best: Candidate) -> bool
 pub(crate) fn better(best: Candidate, vector: Vector, sum: Option<u32>) -> Candidate
     requires cost { IsCost best.cost }
     requires sum { IfSome sum (λ n. n ≤ 65280) }
-    ensures first { (n : ℕ) → IfNone sum (before (record { vector = vector; cost = pos n -ℤ pos (lead_of vector) }) best ≡ false) → IfSome sum (λ s. s ≡ n) → result ≡ first_of best (record { vector = vector; cost = pos n -ℤ pos (lead_of vector) }) }
+    ensures first { (n : ℕ) → IfNone sum
+        (before (record { vector = vector; cost = pos n -ℤ pos (lead_of vector) }) best ≡ false)
+        → IfSome sum (λ s. s ≡ n) →
+        result ≡ first_of best (record { vector = vector; cost = pos n -ℤ pos (lead_of vector) }) }
     ensures cost { IsCost result.cost }
 {
     match sum {

@@ -15,8 +15,8 @@ use crate::within::is_within;
 use h263_planes::PictureRef;
 use h263_types::{Reach, Vector, reach};
 
-// The neighbour in place `n` of the eight around a vector, by rows from the top: of the nine places the middle one is the
-// vector's own.
+// The neighbour in place `n` of the eight around a vector, by rows from the top: of the nine places
+// the middle one is the vector's own.
 fn neighbour(vector: Vector, n: u32) -> Vector
     requires vector { IsVector vector }
     requires n { n < 8 }
@@ -43,7 +43,8 @@ fn better_in_reach(
     requires reach { (x y : ℤ) → InReach (picture reference).format mb x y ↔ IsWithin reach x y }
     requires rounding { rounding ≤ 1 }
     requires cost { IsCost best.cost }
-    ensures first { result ≡ (if in_reach (picture reference.entry).format mb vector then first_of best (candidate_of block.now (picture reference.entry) mb rounding vector) else best) }
+    ensures first { result ≡ (if in_reach (picture reference.entry).format mb vector then first_of
+        best (candidate_of block.now (picture reference.entry) mb rounding vector) else best) }
     ensures cost { IsCost result.cost }
 {
     if is_within(reach, vector) {
@@ -53,7 +54,7 @@ fn better_in_reach(
     }
 }
 
-/// The first of a candidate and its neighbours.
+// The first of a candidate and its neighbours.
 pub(crate) fn best_of_neighbours(
     block: &[u8; 256],
     reference: PictureRef<'_>,

@@ -28,7 +28,8 @@ fn block_row(block: &[u8; 256], j: u32) -> &[u8]
     &block[at..at + 16]
 }
 
-// The differences of rows `j`, `j + 4`, `j + 8` and `j + 12` of a block from four rows of sixteen samples.
+// The differences of rows `j`, `j + 4`, `j + 8` and `j + 12` of a block from four rows of sixteen
+// samples.
 #[inline(always)]
 pub(crate) fn differences_of_four(
     block: &[u8; 256],
@@ -43,7 +44,10 @@ pub(crate) fn differences_of_four(
     requires second { length second.now ≡ 16 }
     requires third { length third.now ≡ 16 }
     requires fourth { length fourth.now ≡ 16 }
-    ensures value { result ≡ differences (slice_range block.now (16 * j) (16 * j + 16)) first.now + differences (slice_range block.now (16 * (j + 4)) (16 * (j + 4) + 16)) second.now + differences (slice_range block.now (16 * (j + 8)) (16 * (j + 8) + 16)) third.now + differences (slice_range block.now (16 * (j + 12)) (16 * (j + 12) + 16)) fourth.now }
+    ensures value { result ≡ differences (slice_range block.now (16 * j) (16 * j + 16)) first.now
+        + differences (slice_range block.now (16 * (j + 4)) (16 * (j + 4) + 16)) second.now
+        + differences (slice_range block.now (16 * (j + 8)) (16 * (j + 8) + 16)) third.now
+        + differences (slice_range block.now (16 * (j + 12)) (16 * (j + 12) + 16)) fourth.now }
     ensures most { result ≤ 16320 }
 {
     sad_of_four(
@@ -54,15 +58,21 @@ pub(crate) fn differences_of_four(
     )
 }
 
-// The differences of rows `j`, `j + 4`, `j + 8` and `j + 12` of a block from those of the 16 x 16 samples of Y at column
-// `x` of row `y`. Since `y` has sixteen bits, the compiler sees that the sums of rows don't wrap, and finds all rows of a
-// block at fixed distances from the first.
+// The differences of rows `j`, `j + 4`, `j + 8` and `j + 12` of a block from those of the 16 x 16
+// samples of Y at column `x` of row `y`. Since `y` has sixteen bits, the compiler sees that the
+// sums of rows don't wrap, and finds all rows of a block at fixed distances from the first.
 #[inline(always)]
 fn four_rows(block: &[u8; 256], reference: PictureRef<'_>, x: u32, y: u16, j: u32) -> u32
     requires inside { Inside (picture reference).format Y x (y + 15) 16 }
     requires x { x < 65536 }
     requires j { j < 4 }
-    ensures value { result + (differences_from block.now (picture reference.entry) x y (j + 1) + differences_from block.now (picture reference.entry) x y (j + 5) + differences_from block.now (picture reference.entry) x y (j + 9) + differences_from block.now (picture reference.entry) x y (j + 13)) ≡ differences_from block.now (picture reference.entry) x y j + differences_from block.now (picture reference.entry) x y (j + 4) + differences_from block.now (picture reference.entry) x y (j + 8) + differences_from block.now (picture reference.entry) x y (j + 12) }
+    ensures value { result + (differences_from block.now (picture reference.entry) x y (j + 1)
+        + differences_from block.now (picture reference.entry) x y (j + 5)
+        + differences_from block.now (picture reference.entry) x y (j + 9)
+        + differences_from block.now (picture reference.entry) x y (j + 13))
+        ≡ differences_from block.now (picture reference.entry) x y j + differences_from block.now
+        (picture reference.entry) x y (j + 4) + differences_from block.now (picture reference.entry)
+        x y (j + 8) + differences_from block.now (picture reference.entry) x y (j + 12) }
     ensures most { result ≤ 16320 }
 {
     parts_add();
@@ -88,9 +98,10 @@ pub(crate) fn differences_at(block: &[u8; 256], reference: PictureRef<'_>, x: u3
         + four_rows(block, reference, x, y, 3)
 }
 
-// The differences of a block from the 16 x 16 samples of Y at column `x` of row `y`, or `None` where they are more than
-// the best one costs. It sums up four rows that lie apart, since they tell more of the whole than four neighbours, and
-// asks; then four between these, and asks again. To ask after each row costs more than it spares.
+// The differences of a block from the 16 x 16 samples of Y at column `x` of row `y`, or `None`
+// where they are more than the best one costs. It sums up four rows that lie apart, since they tell
+// more of the whole than four neighbours, and asks; then four between these, and asks again. To ask
+// after each row costs more than it spares.
 #[inline(always)]
 fn differences_within(
     block: &[u8; 256],
@@ -101,8 +112,10 @@ fn differences_within(
 ) -> Option<u32>
     requires inside { Inside (picture reference).format Y x (y + 15) 16 }
     requires x { x < 65536 }
-    ensures none { IsNone result ↔ (best.cost <ℤ pos (differences_from block.now (picture reference.entry) x y 0)) }
-    ensures some { IfSome result (λ sum. sum ≡ differences_from block.now (picture reference.entry) x y 0) }
+    ensures none { IsNone result
+        ↔ (best.cost <ℤ pos (differences_from block.now (picture reference.entry) x y 0)) }
+    ensures some { IfSome result (λ sum.
+        sum ≡ differences_from block.now (picture reference.entry) x y 0) }
     ensures most { IfSome result (λ sum. sum ≤ 65280) }
 {
     parts_add();
@@ -122,8 +135,8 @@ fn differences_within(
     }
 }
 
-// The first of the best one and a vector of whole samples, which leads to column `x` of row `y`. The zero vector has
-// been looked at, so what it has ahead needs no look here.
+// The first of the best one and a vector of whole samples, which leads to column `x` of row `y`.
+// The zero vector has been looked at, so what it has ahead needs no look here.
 #[inline(always)]
 pub(crate) fn better_whole(
     window: Window<'_>,
@@ -134,11 +147,15 @@ pub(crate) fn better_whole(
 ) -> Candidate
     requires reach { InReach (picture window.reference).format window.mb vector.x vector.y }
     requires whole { IsEven vector }
-    requires x { pos x ≡ whole_place (16 * (window.mb % columns_of (picture window.reference).format)) vector.x }
-    requires y { pos y ≡ whole_place (16 * (window.mb / columns_of (picture window.reference).format)) vector.y }
-    requires zero { before (candidate_of window.block.now (picture window.reference) window.mb 0 zero_vector) best ≡ false }
+    requires x { pos x
+        ≡ whole_place (16 * (window.mb % columns_of (picture window.reference).format)) vector.x }
+    requires y { pos y
+        ≡ whole_place (16 * (window.mb / columns_of (picture window.reference).format)) vector.y }
+    requires zero { before (candidate_of window.block.now
+        (picture window.reference) window.mb 0 zero_vector) best ≡ false }
     requires cost { IsCost best.cost }
-    ensures first { result ≡ first_of best (candidate_of window.entry.block.now (picture window.entry.reference) window.entry.mb 0 vector) }
+    ensures first { result ≡ first_of best (candidate_of window.entry.block.now
+        (picture window.entry.reference) window.entry.mb 0 vector) }
     ensures cost { IsCost result.cost }
 {
     let sum = differences_within(window.block, window.reference, x, y, best);

@@ -1,5 +1,14 @@
-//! The motion search: of the vectors of whole samples around a macroblock the one that predicts it best, and then of
-//! that one and its neighbours half a sample away. The choice is this project's own; H.263 leaves it to the coder.
+//! The motion search: of the vectors of whole samples around a macroblock the one that predicts it
+//! best, and then of that one and its neighbours half a sample away. The choice is this project's
+//! own; H.263 leaves it to the coder.
+//!
+//! [`search`] answers the [`Vector`](h263_types::Vector) and its cost.
+//!
+//! ```rust
+//! // columns of 10 and 11 by turns: half a sample across lies 11 where that is rounded up
+//! let frame = PictureRef::new(Format::SubQcif, &[11; SIZE]);
+//! assert_eq!(rt; search(frame, reference, 0, 7, 0), (Vector { x: 1, y: 0 }, 0));
+//! ```
 #![tactic(auto)]
 
 ghost use Rattle.std.specs.Prelude.{◌≡◌, ◌<◌, ◌≤◌};
@@ -25,9 +34,9 @@ use h263_planes::PictureRef;
 use h263_types::Vector;
 use half_sample::luma;
 
-/// The vector by which `reference` predicts macroblock `mb` of `frame` best, and its cost: the 256 absolute luma
-/// differences, less 100 for the zero vector. The search goes `radius` whole samples far, 0 to 15, and then half a
-/// sample further; `rounding` is the picture's rounding bit, 0 or 1.
+/// The vector by which `reference` predicts macroblock `mb` of `frame` best, and its cost: the 256
+/// absolute luma differences, less 100 for the zero vector. The search goes `radius` whole samples
+/// far, 0 to 15, and then half a sample further; `rounding` is the picture's rounding bit, 0 or 1.
 pub fn search(
     frame: PictureRef<'_>,
     reference: PictureRef<'_>,
@@ -39,16 +48,18 @@ pub fn search(
     requires mb { mb < mbs_of (picture reference).format }
     requires radius { radius ≤ 15 }
     requires rounding { rounding ≤ 1 }
-    ensures vector { result.0 ≡ (best_vector (picture frame.entry) (picture reference.entry) mb radius rounding).vector }
-    ensures cost { result.1 ≡ (best_vector (picture frame.entry) (picture reference.entry) mb radius rounding).cost }
+    ensures vector { result.0
+        ≡ (best_vector (picture frame.entry) (picture reference.entry) mb radius rounding).vector }
+    ensures cost { result.1
+        ≡ (best_vector (picture frame.entry) (picture reference.entry) mb radius rounding).cost }
     ensures reach { InReach (picture reference.entry).format mb result.0.x result.0.y }
     ensures range { IsCost result.1 }
 {
     search_from(frame, reference, mb, radius, rounding, Vector::ZERO)
 }
 
-/// The same. The answer is that of `search` whatever the guess is; it comes sooner where the guess, as the vector of a
-/// neighbour, is near to it.
+/// The same. The answer is that of `search` whatever the guess is; it comes sooner where the guess,
+/// as the vector of a neighbour, is near to it.
 pub fn search_from(
     frame: PictureRef<'_>,
     reference: PictureRef<'_>,
@@ -61,8 +72,10 @@ pub fn search_from(
     requires mb { mb < mbs_of (picture reference).format }
     requires radius { radius ≤ 15 }
     requires rounding { rounding ≤ 1 }
-    ensures vector { result.0 ≡ (best_vector (picture frame.entry) (picture reference.entry) mb radius rounding).vector }
-    ensures cost { result.1 ≡ (best_vector (picture frame.entry) (picture reference.entry) mb radius rounding).cost }
+    ensures vector { result.0
+        ≡ (best_vector (picture frame.entry) (picture reference.entry) mb radius rounding).vector }
+    ensures cost { result.1
+        ≡ (best_vector (picture frame.entry) (picture reference.entry) mb radius rounding).cost }
     ensures reach { InReach (picture reference.entry).format mb result.0.x result.0.y }
     ensures range { IsCost result.1 }
 {
@@ -72,7 +85,8 @@ pub fn search_from(
     (best.vector, best.cost)
 }
 
-// The luma samples of a macroblock, by rows from the top: what the zero vector predicts from the frame itself.
+// The luma samples of a macroblock, by rows from the top: what the zero vector predicts from the
+// frame itself.
 fn samples(frame: PictureRef<'_>, mb: u32) -> [u8; 256]
     requires mb { mb < mbs_of (picture frame).format }
     ensures { result ≡ samples_of (picture frame.entry) mb }

@@ -25,9 +25,9 @@ fn row_of_four(rows: &[u8; 64], k: u32) -> &[u8]
     &rows[at..at + 16]
 }
 
-// The differences of rows `j`, `j + 4`, `j + 8` and `j + 12` of a block from those that a vector in reach predicts. These
-// rows are written down first: where they are summed up as they come, the compiler keeps their samples in wide lanes, and
-// no longer knows the sum of differences of bytes.
+// The differences of rows `j`, `j + 4`, `j + 8` and `j + 12` of a block from those that a vector in
+// reach predicts. These rows are written down first: where they are summed up as they come, the
+// compiler keeps their samples in wide lanes, and no longer knows the sum of differences of bytes.
 fn quarter(
     block: &[u8; 256],
     reference: PictureRef<'_>,
@@ -40,7 +40,15 @@ fn quarter(
     requires reach { InReach (picture reference).format mb vector.x vector.y }
     requires rounding { rounding ≤ 1 }
     requires j { j < 4 }
-    ensures value { result + (rows_from block.now (predicted_of (picture reference.entry) mb rounding vector) (j + 1) + rows_from block.now (predicted_of (picture reference.entry) mb rounding vector) (j + 5) + rows_from block.now (predicted_of (picture reference.entry) mb rounding vector) (j + 9) + rows_from block.now (predicted_of (picture reference.entry) mb rounding vector) (j + 13)) ≡ rows_from block.now (predicted_of (picture reference.entry) mb rounding vector) j + rows_from block.now (predicted_of (picture reference.entry) mb rounding vector) (j + 4) + rows_from block.now (predicted_of (picture reference.entry) mb rounding vector) (j + 8) + rows_from block.now (predicted_of (picture reference.entry) mb rounding vector) (j + 12) }
+    ensures value { result
+        + (rows_from block.now (predicted_of (picture reference.entry) mb rounding vector) (j + 1)
+        + rows_from block.now (predicted_of (picture reference.entry) mb rounding vector) (j + 5)
+        + rows_from block.now (predicted_of (picture reference.entry) mb rounding vector) (j + 9)
+        + rows_from block.now (predicted_of (picture reference.entry) mb rounding vector) (j + 13))
+        ≡ rows_from block.now (predicted_of (picture reference.entry) mb rounding vector) j
+        + rows_from block.now (predicted_of (picture reference.entry) mb rounding vector) (j + 4)
+        + rows_from block.now (predicted_of (picture reference.entry) mb rounding vector) (j + 8)
+        + rows_from block.now (predicted_of (picture reference.entry) mb rounding vector) (j + 12) }
     ensures most { result ≤ 16320 }
 {
     parts_add();
@@ -53,8 +61,9 @@ fn quarter(
     differences_of_four(block, j, top, second, third, fourth)
 }
 
-// The first of the best one and a vector in reach. It predicts and sums up four rows that lie apart, and asks; then four
-// between these, and asks again: what a part of the rows costs already is the least that the whole vector costs.
+// The first of the best one and a vector in reach. It predicts and sums up four rows that lie
+// apart, and asks; then four between these, and asks again: what a part of the rows costs already
+// is the least that the whole vector costs.
 pub(crate) fn better_predicted(
     block: &[u8; 256],
     reference: PictureRef<'_>,
@@ -67,7 +76,8 @@ pub(crate) fn better_predicted(
     requires reach { InReach (picture reference).format mb vector.x vector.y }
     requires rounding { rounding ≤ 1 }
     requires cost { IsCost best.cost }
-    ensures first { result ≡ first_of best (candidate_of block.now (picture reference.entry) mb rounding vector) }
+    ensures first { result
+        ≡ first_of best (candidate_of block.now (picture reference.entry) mb rounding vector) }
     ensures cost { IsCost result.cost }
 {
     parts_add();

@@ -1,3 +1,4 @@
+//! Textures that moved, and the vector and cost that a plain search finds.
 ghost use Rattle.std.specs.Prelude.{◌<◌};
 
 use super::*;
@@ -11,7 +12,8 @@ const WIDTH: usize = 128;
 
 const HEIGHT: usize = 96;
 
-// The search in pictures of these bytes: the vector's components and its cost. A guess that is far off changes nothing.
+// The search in pictures of these bytes: the vector's components and its cost. A guess that is far
+// off changes nothing.
 fn found(
     rt: &impl Abort,
     frame: &[u8; SIZE],
@@ -46,7 +48,8 @@ fn textured(bytes: &mut [u8; SIZE], right: usize, down: usize)
     }
 }
 
-// What lies half a sample to the right and down of each sample of `from`; the last column and row stand for the next.
+// What lies half a sample to the right and down of each sample of `from`; the last column and row
+// stand for the next.
 fn half_moved(bytes: &mut [u8; SIZE], from: &[u8; SIZE]) {
     for i in 0..WIDTH * HEIGHT {
         let right = if i % WIDTH + 1 < WIDTH { 1 } else { 0 };
@@ -132,7 +135,8 @@ fn texture_that_moved_by_half_samples(rt: HostRuntime) {
 
 #[test]
 fn equal_costs(rt: HostRuntime) {
-    // black and white by turns, and the other way round: each odd number of whole samples across and down costs nothing
+    // black and white by turns, and the other way round: each odd number of whole samples across
+    // and down costs nothing
     let mut reference = [0; SIZE];
     let mut frame = [255; SIZE];
     for i in 0..WIDTH * HEIGHT {
@@ -199,8 +203,8 @@ fn rounding_decides(rt: HostRuntime) {
 
 #[test]
 fn zero_vector_is_ahead_by_100(rt: HostRuntime) {
-    // the samples of macroblock 9 whose reference differs by one: at 100 zero costs as little as seven rows further
-    // down, at 101 more
+    // the samples of macroblock 9 whose reference differs by one: at 100 zero costs as little as
+    // seven rows further down, at 101 more
     let table = [
         (99, 7, (0, 0, -1)),
         (100, 7, (0, 0, 0)),

@@ -51,7 +51,8 @@ fn first_column(radius: u8, reach: Reach) -> u32
 #[inline(always)]
 fn end_column(radius: u8, reach: Reach) -> u32
     requires radius { radius ≤ 15 }
-    ensures { (n : ℕ) → (n < result) ↔ ((n < 2 * radius + 1) × (whole_component radius n ≤ℤ reach.right)) }
+    ensures { (n : ℕ)
+        → (n < result) ↔ ((n < 2 * radius + 1) × (whole_component radius n ≤ℤ reach.right)) }
 {
     let end = 2 * u32::from(radius) + 1;
     let most = i32::from(reach.right) + 2 * i32::from(radius);
@@ -64,8 +65,8 @@ fn end_column(radius: u8, reach: Reach) -> u32
     }
 }
 
-// The row of the square that is visited after `k` others: first the middle one, and then by turns the next one above
-// and the next one below.
+// The row of the square that is visited after `k` others: first the middle one, and then by turns
+// the next one above and the next one below.
 #[inline(always)]
 fn row_at(radius: u8, k: u32) -> u32
     requires radius { radius ≤ 15 }
@@ -112,14 +113,19 @@ fn nearest(radius: u8, component: i8) -> u32
     }
 }
 
-// The first of the best one and the vector in a column and a row of the square, where that is in reach.
+// The first of the best one and the vector in a column and a row of the square, where that is in
+// reach.
 #[inline(always)]
 fn better_at(window: Window<'_>, column: u32, row: u32, best: Candidate) -> Candidate
     requires column { column ≤ 2 * window.radius }
     requires row { row ≤ 2 * window.radius }
-    requires zero { before (candidate_of window.block.now (picture window.reference) window.mb 0 zero_vector) best ≡ false }
+    requires zero { before (candidate_of window.block.now
+        (picture window.reference) window.mb 0 zero_vector) best ≡ false }
     requires cost { IsCost best.cost }
-    ensures first { result ≡ (if in_reach (picture window.entry.reference).format window.entry.mb (whole_at window.entry.radius column row) then first_of best (candidate_of window.entry.block.now (picture window.entry.reference) window.entry.mb 0 (whole_at window.entry.radius column row)) else best) }
+    ensures first { result ≡ (if in_reach (picture window.entry.reference).format window.entry.mb
+        (whole_at window.entry.radius column row)
+        then first_of best (candidate_of window.entry.block.now (picture window.entry.reference)
+        window.entry.mb 0 (whole_at window.entry.radius column row)) else best) }
     ensures cost { IsCost result.cost }
 {
     let vector = whole_vector(window.radius, column, row);
@@ -132,17 +138,26 @@ fn better_at(window: Window<'_>, column: u32, row: u32, best: Candidate) -> Cand
     }
 }
 
-// The first of the best one and the vectors in a row of the square that leads no further up or down than the reach.
+// The first of the best one and the vectors in a row of the square that leads no further up or down
+// than the reach.
 #[inline(always)]
 fn best_in_row(window: Window<'_>, row: u32, best: Candidate) -> Candidate
     requires row { row ≤ 2 * window.radius }
-    requires down { (window.reach.up ≤ℤ whole_component window.radius row) × (whole_component window.radius row ≤ℤ window.reach.down) }
-    requires zero { before (candidate_of window.block.now (picture window.reference) window.mb 0 zero_vector) best ≡ false }
-    requires candidate { IsWholeCandidate window.block.now (picture window.reference) window.mb window.radius 0 best }
+    requires down { (window.reach.up ≤ℤ whole_component window.radius row)
+        × (whole_component window.radius row ≤ℤ window.reach.down) }
+    requires zero { before (candidate_of window.block.now
+        (picture window.reference) window.mb 0 zero_vector) best ≡ false }
+    requires candidate { IsWholeCandidate window.block.now
+        (picture window.reference) window.mb window.radius 0 best }
     requires cost { IsCost best.cost }
-    ensures candidate { IsWholeCandidate window.entry.block.now (picture window.entry.reference) window.entry.mb window.entry.radius 0 result }
+    ensures candidate { IsWholeCandidate window.entry.block.now
+        (picture window.entry.reference) window.entry.mb window.entry.radius 0 result }
     ensures kept { (d : Candidate) → before d best ≡ false → before d result ≡ false }
-    ensures none { (n : ℕ) → n < 2 * window.entry.radius + 1 → InReach (picture window.entry.reference).format window.entry.mb (whole_at window.entry.radius n row).x (whole_at window.entry.radius n row).y → before (candidate_of window.entry.block.now (picture window.entry.reference) window.entry.mb 0 (whole_at window.entry.radius n row)) result ≡ false }
+    ensures none { (n : ℕ) → n < 2 * window.entry.radius + 1
+        → InReach (picture window.entry.reference).format window.entry.mb
+        (whole_at window.entry.radius n row).x (whole_at window.entry.radius n row).y
+        → before (candidate_of window.entry.block.now (picture window.entry.reference)
+        window.entry.mb 0 (whole_at window.entry.radius n row)) result ≡ false }
     ensures cost { IsCost result.cost }
 {
     let y = place(window.top, row, window.radius) as u16;
@@ -162,12 +177,19 @@ fn best_in_row(window: Window<'_>, row: u32, best: Candidate) -> Candidate
 #[inline(always)]
 fn best_of_row(window: Window<'_>, row: u32, best: Candidate) -> Candidate
     requires row { row ≤ 2 * window.radius }
-    requires zero { before (candidate_of window.block.now (picture window.reference) window.mb 0 zero_vector) best ≡ false }
-    requires candidate { IsWholeCandidate window.block.now (picture window.reference) window.mb window.radius 0 best }
+    requires zero { before (candidate_of window.block.now
+        (picture window.reference) window.mb 0 zero_vector) best ≡ false }
+    requires candidate { IsWholeCandidate window.block.now
+        (picture window.reference) window.mb window.radius 0 best }
     requires cost { IsCost best.cost }
-    ensures candidate { IsWholeCandidate window.entry.block.now (picture window.entry.reference) window.entry.mb window.entry.radius 0 result }
+    ensures candidate { IsWholeCandidate window.entry.block.now
+        (picture window.entry.reference) window.entry.mb window.entry.radius 0 result }
     ensures kept { (d : Candidate) → before d best ≡ false → before d result ≡ false }
-    ensures none { (n : ℕ) → n < 2 * window.entry.radius + 1 → InReach (picture window.entry.reference).format window.entry.mb (whole_at window.entry.radius n row).x (whole_at window.entry.radius n row).y → before (candidate_of window.entry.block.now (picture window.entry.reference) window.entry.mb 0 (whole_at window.entry.radius n row)) result ≡ false }
+    ensures none { (n : ℕ) → n < 2 * window.entry.radius + 1
+        → InReach (picture window.entry.reference).format window.entry.mb
+        (whole_at window.entry.radius n row).x (whole_at window.entry.radius n row).y
+        → before (candidate_of window.entry.block.now (picture window.entry.reference)
+        window.entry.mb 0 (whole_at window.entry.radius n row)) result ≡ false }
     ensures cost { IsCost result.cost }
 {
     if is_down(window.reach, whole_vector(window.radius, 0, row)) {
@@ -177,9 +199,10 @@ fn best_of_row(window: Window<'_>, row: u32, best: Candidate) -> Candidate
     }
 }
 
-// The first of the vectors of whole samples within the radius. A low cost that is found early lets the sums of the others
-// stop early. So the one nearest to the guess is looked at before all others, and then rows are visited from the middle
-// outwards, since a small motion is the likely one. Called in a format that is known, it has code for this format alone.
+// The first of the vectors of whole samples within the radius. A low cost that is found early lets
+// the sums of the others stop early. So the one nearest to the guess is looked at before all
+// others, and then rows are visited from the middle outwards, since a small motion is the likely
+// one. Called in a format that is known, it has code for this format alone.
 #[inline(always)]
 fn best_in_format(
     block: &[u8; 256],
@@ -193,7 +216,8 @@ fn best_in_format(
     requires radius { radius ≤ 15 }
     requires zero { zero ≡ candidate_of block.now (picture reference) mb 0 zero_vector }
     requires cost { IsCost zero.cost }
-    ensures best { (rounding : ℕ) → result ≡ best_whole block.now (picture reference.entry) mb radius rounding }
+    ensures best { (rounding : ℕ)
+        → result ≡ best_whole block.now (picture reference.entry) mb radius rounding }
     ensures cost { IsCost result.cost }
 {
     let format = reference.format();
@@ -219,8 +243,8 @@ fn best_in_format(
     first
 }
 
-/// The first of the vectors of whole samples within the radius, 0 to 15. Their costs don't depend on the rounding, and the
-/// answer doesn't depend on the guess, from which the search begins.
+// The first of the vectors of whole samples within the radius, 0 to 15. Their costs don't depend on
+// the rounding, and the answer doesn't depend on the guess, from which the search begins.
 pub(crate) fn best_of_whole(
     block: &[u8; 256],
     reference: PictureRef<'_>,
@@ -230,7 +254,8 @@ pub(crate) fn best_of_whole(
 ) -> Candidate
     requires mb { mb < mbs_of (picture reference).format }
     requires radius { radius ≤ 15 }
-    ensures best { (rounding : ℕ) → result ≡ best_whole block.now (picture reference.entry) mb radius rounding }
+    ensures best { (rounding : ℕ)
+        → result ≡ best_whole block.now (picture reference.entry) mb radius rounding }
     ensures cost { IsCost result.cost }
 {
     let zero = zero(block, reference, mb);
@@ -252,7 +277,8 @@ pub(crate) fn best_of_whole(
     }
 }
 
-// The picture, whose format is known where this is called: then its rows stand at distances that are known too.
+// The picture, whose format is known where this is called: then its rows stand at distances that
+// are known too.
 #[inline(always)]
 fn known(reference: PictureRef<'_>, format: Format) -> PictureRef<'_>
     requires { (picture reference).format ≡ format }

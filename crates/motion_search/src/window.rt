@@ -7,8 +7,8 @@ ghost use Rattle.h263_planes.specs.Lent.{picture};
 use h263_planes::PictureRef;
 use h263_types::Reach;
 
-/// The samples of a macroblock, the picture that is to predict it, its first column and row there, how far its vectors
-/// reach, and how many whole samples far they are searched.
+// The samples of a macroblock, the picture that is to predict it, its first column and row there,
+// how far its vectors reach, and how many whole samples far they are searched.
 #[derive(Clone, Copy)]
 pub(crate) struct Window<'a> {
     pub(crate) block: &'a [u8; 256],

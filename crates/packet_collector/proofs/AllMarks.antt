@@ -6,6 +6,7 @@ use Rattle.std.proofs.lemmas.List.{take_more, length-drop, get_or-drop}
 use Rattle.std.proofs.lemmas.List.Folds.{list_all-append}
 use Rattle.call_model.specs.Numbers.{all_below}
 
+-- tests that agree below n pass or fail together
 pub all_same : (n : ℕ) (f g : ℕ → Bool) → ((k : ℕ) → k < n → f k ≡ g k) → all_below n f ≡ all_below n g
 all_same zero f g h = refl
 all_same (suc n) f g h = rw (h n (omega arith), all_same n f g (λ k lt. h k (omega arith))) refl

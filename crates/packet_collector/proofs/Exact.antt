@@ -80,6 +80,7 @@ behind_sound laws format p s b e =
       text = subst (λ (x : Header). IsSliceText x p.begins s.first s.mbs c.bits) (sym w.header) ((laws.slices h p.begins s.first s.mbs c).0 w.read);
     }
 
+-- what is read of a packet is spelled by its bytes
 pub packet_sound : PartLaws → (format : Format) (s : Slice) (bytes : List ℕ) → packet_at format bytes ≡ Ok s → IsPacket format s bytes
 unfolding packet_at
 packet_sound laws format s bytes e =

@@ -38,6 +38,7 @@ unfolding has_any
 none_of [] n low = refl
 none_of (t ∷ ts) n low = rw (ne_eqb t.number n (λ same. omega (arith, same, low t (inl refl)))) (none_of ts n (λ u is. low u (inr is)))
 
+-- of a picture of which nothing was taken no macroblock was
 pub never : (taken : List Taken) (n k : ℕ) → has_any taken n ≡ false → has_taken taken n k ≡ false
 unfolding has_any has_taken
 never [] n k e = refl
@@ -66,10 +67,12 @@ pub any_other : (t : Taken) (ts : List Taken) (n : ℕ) → t.number ≢ n → h
 unfolding has_any
 any_other t ts n other = rw (ne_eqb t.number n other) refl
 
+-- a macroblock that a piece holds was taken with it
 pub taken_held : (t : Taken) (ts : List Taken) (k : ℕ) → holds t.piece.head k ≡ true → has_taken (t ∷ ts) t.number k ≡ true
 unfolding has_taken
 taken_held t ts k e = rw (eq-eqb t.number t.number refl, e) refl
 
+-- one that it does not hold was taken or not as before
 pub taken_not_held : (t : Taken) (ts : List Taken) (n k : ℕ) → holds t.piece.head k ≡ false → has_taken (t ∷ ts) n k ≡ has_taken ts n k
 unfolding has_taken
 taken_not_held t ts n k e = at (t.number == n)
@@ -78,6 +81,7 @@ taken_not_held t ts n k e = at (t.number == n)
     at true = rw e refl
     at false = refl
 
+-- so was each of another picture
 pub taken_other : (t : Taken) (ts : List Taken) (n k : ℕ) → t.number ≢ n → has_taken (t ∷ ts) n k ≡ has_taken ts n k
 unfolding has_taken
 taken_other t ts n k other = rw (ne_eqb t.number n other) refl

@@ -25,6 +25,7 @@ module _ (c : Collector) (n : ℕ) (head : SliceHead) (is : IsHeadOf (format_of 
       all_marks f c.marks.items (p * m + head.first) head.count fits
       ∙ all_same head.count _ _ (λ i lt. ap (λ (k : ℕ). f (get_or c.marks.items k false)) (omega arith))
 
+  -- all marks of a piece are set exactly where all of its macroblocks are there
   pub all_kept : list_all (λ mark. mark) (marks_of c n head) ≡ all_in head (has_in c n)
   all_kept = tests (λ mark. mark)
 
@@ -35,12 +36,14 @@ module _ (c : Collector) (n : ℕ) (head : SliceHead) (is : IsHeadOf (format_of 
   not_both_kept = not_both head.count (λ i. has_in c n (head.first + i)) is.some
 
   module _ (first : ℕ) (taken : List Taken) (so : Collects c first taken) (row : IsInRow c n) where
+    -- these were taken
     pub all_is : all_in head (has_in c n) ≡ all_in head (has_taken taken n)
     all_is = all_same head.count _ _ (λ i lt. so.marks n (head.first + i) row (omega (arith, is.within)))
 
     pub none_is : none_in head (has_in c n) ≡ none_in head (has_taken taken n)
     none_is = all_same head.count _ _ (λ i lt. ap not (so.marks n (head.first + i) row (omega (arith, is.within))))
 
+-- no test both holds and fails
 pub clash : (b : Bool) → b ≡ true → b ≡ false → ⊥
 clash true e f = absurd cc
 clash false e f = absurd cc

@@ -37,6 +37,7 @@ apart c n m a b e =
       | inr most ↦ same_rest (row_of c) n m e most (omega (arith, a.low, b.high))
     ]
 
+-- a picture's place is one of the row
 pub below : (c : Collector) (n : ℕ) → place_in c n < row_of c
 below c n = mod_below n (row_of c) (omega (arith, c.some))
 
@@ -68,6 +69,7 @@ starts c many size zeroth headers marks = record {
 
 -- ---- what a call that sets or clears some marks leaves
 
+-- marks that are put for a run of macroblocks, and a header, are in the place of one picture
 pub put_in : (c new : Collector) (p q from count at : ℕ) (value : Bool) (kept : Option Header) (old marks : List Bool)
     → format_of new ≡ format_of c → new.headers.items ≡ set c.headers.items q kept → new.marks.items ≡ marks → old ≡ c.marks.items
     → q ≡ p → p < row_of c → from + count ≤ mbs_of (format_of c) → at ≡ p * mbs_of (format_of c) + from

@@ -43,8 +43,8 @@ abbrev pub IsKept : List Taken → ℕ → Option Header → Type 0
 IsKept taken n None = has_any taken n ≡ false
 IsKept taken n (Some h) = (has_any taken n ≡ true) × HasNoOther taken n h
 
--- The collector, whose row begins with this number, keeps what is needed of the slices that were taken, of whatever numbers
--- before the row's end; the newest is the first of the list.
+-- The collector, whose row begins with this number, keeps what is needed of the slices that were
+-- taken, of whatever numbers before the row's end; the newest is the first of the list.
 pub record Collects (c : Collector) (first : ℕ) (taken : List Taken) : Type 0 where
   pub begins : first_of c ≡ first
   pub below : (t : Taken) → IsIn t taken → t.number < first + row_of c

@@ -11,7 +11,11 @@ use Rattle.packet_collector.specs.Packet.{Slice}
 
 -- the slice that a piece and the picture's macroblocks hold
 abbrev pub slice_in : Piece → List Mb → Slice
-slice_in piece out = record { header = piece.header; first = piece.head.first; mbs = mbs_from piece.head.first piece.head.count out }
+slice_in piece out = record {
+  header = piece.header;
+  first = piece.head.first;
+  mbs = mbs_from piece.head.first piece.head.count out;
+}
 
 -- The call answered as a reading: its header and its slice, with the macroblocks in their places; or its fault.
 abbrev pub FillsPacket : Result Piece Fault → List Mb → Result Slice Fault → Type 0

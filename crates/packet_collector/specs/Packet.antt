@@ -1,5 +1,5 @@
--- A packet of a picture: RTP's header, the payload's header, and a slice, which stands behind the picture header or has it
--- as the extra one (RFC 4629, 5.1).
+-- A packet of a picture: RTP's header, the payload's header, and a slice, which stands behind the
+-- picture header or has it as the extra one (RFC 4629, 5.1).
 use Rattle.std.specs.Prelude.{◌≡◌, ℕ, ◌*◌, List, [], ◌++◌, Bool, Option, Some, None, Result, Ok, Err}
 use Rattle.h263_bits.specs.declared.fault.Fault.{Fault}
 use Rattle.h263_bits.specs.Reading.{Bits, bits_between, first_fault, ◌>>=◌}
@@ -53,12 +53,14 @@ with_header h (Ok s) = Ok (record { header = h; first = s.0; mbs = s.1 })
 with_header h (Err fault) = Err fault
 
 unfoldable pub slice_behind : Format → Payload → Bits → Result Slice Fault
-slice_behind format payload b = headed_at format payload.extra b >>= λ x. with_header x.0 (slice_at x.0 payload.begins x.1)
+slice_behind format payload b =
+    headed_at format payload.extra b >>= λ x. with_header x.0 (slice_at x.0 payload.begins x.1)
 
 -- the slice that a packet spells, or its first fault at its place
 unfoldable pub packet_at : Format → List ℕ → Result Slice Fault
 packet_at format bytes =
-    rtp_in bytes >>= λ rtp. (payload_at format (payload_bits_of bytes rtp) >>= λ payload. slice_behind format payload (data_of bytes rtp payload))
+    rtp_in bytes >>= λ rtp. (payload_at format (payload_bits_of bytes rtp) >>= λ payload.
+    slice_behind format payload (data_of bytes rtp payload))
 
 -- the first fault of a packet, if there is one
 abbrev pub packet_fault : Format → List ℕ → Option Fault

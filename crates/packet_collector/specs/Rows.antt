@@ -15,9 +15,14 @@ use Rattle.packet_collector.specs.Packet.{data_of, headed_at, packet_at}
 
 pub record PacketFaults (format : Format) (bytes : List ℕ) (fault : Fault) : Type 0 where
   pub of_rtp : rtp_in bytes ≡ Err fault → packet_at format bytes ≡ Err fault
-  pub of_payload : (rtp : Rtp) → rtp_in bytes ≡ Ok rtp → payload_at format (payload_bits_of bytes rtp) ≡ Err fault → packet_at format bytes ≡ Err fault
+  pub of_payload : (rtp : Rtp)
+      → rtp_in bytes ≡ Ok rtp → payload_at format (payload_bits_of bytes rtp) ≡ Err fault
+      → packet_at format bytes ≡ Err fault
   -- the picture header in front of the slice, where there is no extra one
-  pub of_header : (rtp : Rtp) (payload : Payload) → rtp_in bytes ≡ Ok rtp → payload_at format (payload_bits_of bytes rtp) ≡ Ok payload → payload.extra ≡ None
+  pub of_header : (rtp : Rtp) (payload : Payload) → rtp_in bytes ≡ Ok rtp
+      → payload_at format (payload_bits_of bytes rtp) ≡ Ok payload → payload.extra ≡ None
       → reading (header format) (data_of bytes rtp payload) ≡ Err fault → packet_at format bytes ≡ Err fault
-  pub of_slice : (rtp : Rtp) (payload : Payload) (h : Header) (left : Bits) → rtp_in bytes ≡ Ok rtp → payload_at format (payload_bits_of bytes rtp) ≡ Ok payload
-      → headed_at format payload.extra (data_of bytes rtp payload) ≡ Ok (h, left) → slice_at h payload.begins left ≡ Err fault → packet_at format bytes ≡ Err fault
+  pub of_slice : (rtp : Rtp) (payload : Payload) (h : Header) (left : Bits)
+      → rtp_in bytes ≡ Ok rtp → payload_at format (payload_bits_of bytes rtp) ≡ Ok payload
+      → headed_at format payload.extra (data_of bytes rtp payload) ≡ Ok (h, left)
+      → slice_at h payload.begins left ≡ Err fault → packet_at format bytes ≡ Err fault

@@ -53,9 +53,11 @@ abbrev pub IsPlace : List Taken → ℕ → Piece → Place → Type 0
 IsPlace taken n piece HeaderDiffers = HasOther taken n piece.header
 IsPlace taken n piece Repeat = HasNoOther taken n piece.header × (all_in piece.head (has_taken taken n) ≡ true)
 IsPlace taken n piece Overlap =
-    HasNoOther taken n piece.header × (all_in piece.head (has_taken taken n) ≡ false) × (none_in piece.head (has_taken taken n) ≡ false)
+    HasNoOther taken n piece.header × (all_in piece.head (has_taken taken n) ≡ false)
+    × (none_in piece.head (has_taken taken n) ≡ false)
 IsPlace taken n piece Fresh =
-    HasNoOther taken n piece.header × (all_in piece.head (has_taken taken n) ≡ false) × (none_in piece.head (has_taken taken n) ≡ true)
+    HasNoOther taken n piece.header × (all_in piece.head (has_taken taken n) ≡ false)
+    × (none_in piece.head (has_taken taken n) ≡ true)
 
 -- What lists of taken slices say of a picture and of its macroblocks.
 pub record TakenLaws : Type 0 where
@@ -67,6 +69,9 @@ pub record TakenLaws : Type 0 where
   -- with one slice more
   pub same : (t : Taken) (taken : List Taken) → has_any (t ∷ taken) t.number ≡ true
   pub other : (t : Taken) (taken : List Taken) (n : ℕ) → t.number ≢ n → has_any (t ∷ taken) n ≡ has_any taken n
-  pub held : (t : Taken) (taken : List Taken) (k : ℕ) → holds t.piece.head k ≡ true → has_taken (t ∷ taken) t.number k ≡ true
-  pub not_held : (t : Taken) (taken : List Taken) (n k : ℕ) → holds t.piece.head k ≡ false → has_taken (t ∷ taken) n k ≡ has_taken taken n k
-  pub other_held : (t : Taken) (taken : List Taken) (n k : ℕ) → t.number ≢ n → has_taken (t ∷ taken) n k ≡ has_taken taken n k
+  pub held : (t : Taken) (taken : List Taken) (k : ℕ)
+      → holds t.piece.head k ≡ true → has_taken (t ∷ taken) t.number k ≡ true
+  pub not_held : (t : Taken) (taken : List Taken) (n k : ℕ)
+      → holds t.piece.head k ≡ false → has_taken (t ∷ taken) n k ≡ has_taken taken n k
+  pub other_held : (t : Taken) (taken : List Taken) (n k : ℕ)
+      → t.number ≢ n → has_taken (t ∷ taken) n k ≡ has_taken taken n k

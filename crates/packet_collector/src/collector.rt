@@ -1,3 +1,4 @@
+//! Which macroblocks were taken of the next picture and of those that may come early.
 ghost use Rattle.std.specs.Prelude.{◌≡◌, ◌+◌, ◌*◌, ◌^◌, ◌≤◌, length};
 ghost use Rattle.h263_types.specs.Sizes.{mbs_of};
 
@@ -8,8 +9,8 @@ use h263_types::{Format, Params, SliceHead};
 use picture_header::Header;
 use std::alloc::Global;
 
-/// Which macroblocks were taken of the pictures in a row, and the header of each: the picture that is played next, and as
-/// many behind it as packets may come early.
+/// Which macroblocks were taken of the pictures in a row, and the header of each: the picture that
+/// is played next, and as many behind it as packets may come early.
 #[derive(Drop)]
 pub struct Collector {
     format: Format,
@@ -71,7 +72,8 @@ impl Collector {
     // The marks of a slice of a picture.
     fn marks_of(&self, number: u32, head: &SliceHead) -> &[bool]
         requires { IsHeadOf (format_of self.now) head.now }
-        ensures { result.now ≡ take head.now.count (drop (place_in self.now number * mbs_of (format_of self.now) + head.now.first) self.now.marks.items) }
+        ensures { result.now ≡ take head.now.count (drop (place_in self.now number
+            * mbs_of (format_of self.now) + head.now.first) self.now.marks.items) }
     {
         let from = self.marks_at(self.place_of(number)) + head.first as usize;
         &self.marks[from..from + head.count as usize]
@@ -91,7 +93,8 @@ impl Collector {
     pub fn place(&self, number: u32, piece: &Piece) -> Place
         requires row { IsInRow self.now number }
         requires head { IsHeadOf (format_of self.now) piece.now.head }
-        ensures place { (first : ℕ) (taken : List Taken) → Collects self.now first taken → IsPlace taken number piece.now result }
+        ensures place { (first : ℕ) (taken : List Taken)
+            → Collects self.now first taken → IsPlace taken number piece.now result }
         // A fresh one may be added.
         ensures fresh { (result ≡ Fresh) ↔ IsFreshIn self.now number piece.now }
     {
@@ -127,7 +130,8 @@ impl Collector {
     pub fn has(&self, number: u32, mb: u32) -> bool
         requires row { IsInRow self.now number }
         requires mb { mb < mbs_of (format_of self.now) }
-        ensures { (first : ℕ) (taken : List Taken) → Collects self.now first taken → result ≡ has_taken taken number mb }
+        ensures { (first : ℕ) (taken : List Taken)
+            → Collects self.now first taken → result ≡ has_taken taken number mb }
     {
         self.marks[self.marks_at(self.place_of(number)) + mb as usize]
     }
@@ -135,7 +139,8 @@ impl Collector {
     /// Whether something of a picture in the row was taken.
     pub fn any(&self, number: u32) -> bool
         requires { IsInRow self.now number }
-        ensures { (first : ℕ) (taken : List Taken) → Collects self.now first taken → result ≡ has_any taken number }
+        ensures { (first : ℕ) (taken : List Taken)
+            → Collects self.now first taken → result ≡ has_any taken number }
     {
         self.headers[self.place_of(number)].is_some()
     }
@@ -143,7 +148,8 @@ impl Collector {
     /// Whether all macroblocks of a picture in the row were taken.
     pub fn whole(&self, number: u32) -> bool
         requires { IsInRow self.now number }
-        ensures { (first : ℕ) (taken : List Taken) → Collects self.now first taken → result ≡ is_whole (format_of self.now) taken number }
+        ensures { (first : ℕ) (taken : List Taken)
+            → Collects self.now first taken → result ≡ is_whole (format_of self.now) taken number }
     {
         let mbs = SliceHead {
             first: 0,
@@ -155,7 +161,8 @@ impl Collector {
     /// Forgets the row's first picture and gains the next one, of which nothing was taken.
     pub fn advance(&mut self)
         requires { first_of self.old + row_of self.old < 2 ^ 32 }
-        ensures taken { (first : ℕ) (taken : List Taken) → Collects self.old first taken → Collects self.new (first + 1) taken }
+        ensures taken { (first : ℕ) (taken : List Taken)
+            → Collects self.old first taken → Collects self.new (first + 1) taken }
         ensures same { IsRowFrom (first_of self.old + 1) self.old self.new }
     {
         let place = self.place_of(self.first);

@@ -24,11 +24,13 @@ pub(crate) fn of_the_parts()
     slice_layer::laws::exact_text();
 }
 
-/// Bytes are read as a packet exactly where they are one, and there is no first fault exactly where they are a packet of
-/// some slice.
+/// Bytes are read as a packet exactly where they are one, and there is no first fault exactly where
+/// they are a packet of some slice.
 pub fn exact_text()
-    ensures read { (format : Format) (s : Slice) (bytes : List ℕ) → (packet_at format bytes ≡ Ok s) ↔ IsPacket format s bytes }
-    ensures no_fault { (format : Format) (bytes : List ℕ) → (packet_fault format bytes ≡ None) ↔ ((s : Slice) × IsPacket format s bytes) }
+    ensures read { (format : Format) (s : Slice) (bytes : List ℕ)
+        → (packet_at format bytes ≡ Ok s) ↔ IsPacket format s bytes }
+    ensures no_fault { (format : Format) (bytes : List ℕ)
+        → (packet_fault format bytes ≡ None) ↔ ((s : Slice) × IsPacket format s bytes) }
 {
     of_the_parts();
 }
@@ -38,11 +40,13 @@ pub fn first_faults()
     ensures { (format : Format) (bytes : List ℕ) (fault : Fault) → PacketFaults format bytes fault }
 {}
 
-/// A whole packet spells one slice, its header, its first macroblock and its macroblocks; and there is no first fault
-/// exactly where bytes are a packet of some slice.
+/// A whole packet spells one slice, its header, its first macroblock and its macroblocks; and there
+/// is no first fault exactly where bytes are a packet of some slice.
 pub fn one_reading()
-    ensures no_fault { (format : Format) (bytes : List ℕ) → (packet_fault format bytes ≡ None) ↔ ((s : Slice) × IsPacket format s bytes) }
-    ensures one { (format : Format) (s other : Slice) (bytes : List ℕ) → IsPacket format s bytes → IsPacket format other bytes → s ≡ other }
+    ensures no_fault { (format : Format) (bytes : List ℕ)
+        → (packet_fault format bytes ≡ None) ↔ ((s : Slice) × IsPacket format s bytes) }
+    ensures one { (format : Format) (s other : Slice) (bytes : List ℕ)
+        → IsPacket format s bytes → IsPacket format other bytes → s ≡ other }
 {
     of_the_parts();
 }
@@ -59,15 +63,19 @@ pub fn read_inside()
 
 /// A slice stands at one place to those that were taken.
 pub fn one_place()
-    ensures { (taken : List Taken) (n : ℕ) (piece : Piece) (p q : Place) → IsPlace taken n piece p → IsPlace taken n piece q → p ≡ q }
+    ensures { (taken : List Taken) (n : ℕ) (piece : Piece) (p q : Place)
+        → IsPlace taken n piece p → IsPlace taken n piece q → p ≡ q }
 {}
 
-/// What was taken of the pictures before the row is forgotten: a collector stands for the others alone as well.
+/// What was taken of the pictures before the row is forgotten: a collector stands for the others
+/// alone as well.
 pub fn forgets()
-    ensures { (c : Collector) (first : ℕ) (taken : List Taken) → Collects c first taken → Collects c first (from_number first taken) }
+    ensures { (c : Collector) (first : ℕ) (taken : List Taken)
+        → Collects c first taken → Collects c first (from_number first taken) }
 {}
 
-/// Of which pictures and macroblocks something is in a list of slices that were taken, and in one with a slice more.
+/// Of which pictures and macroblocks something is in a list of slices that were taken, and in one
+/// with a slice more.
 pub fn what_is_taken()
     ensures { TakenLaws }
 {}

@@ -5,8 +5,10 @@ ghost use Rattle.std.specs.List.{list_all};
 // Sets or clears some marks in a row.
 pub(crate) fn put(marks: &mut [bool], from: usize, count: usize, value: bool)
     requires { from + count ≤ length marks.old }
-    ensures inside { (i : ℕ) → from ≤ i → i < from + count → slice_index_or marks.new i false ≡ value }
-    ensures others { (i : ℕ) → (i < from) ⊎ (from + count ≤ i) → slice_index_or marks.new i false ≡ slice_index_or marks.old i false }
+    ensures inside { (i : ℕ)
+        → from ≤ i → i < from + count → slice_index_or marks.new i false ≡ value }
+    ensures others { (i : ℕ) → (i < from) ⊎ (from + count ≤ i)
+        → slice_index_or marks.new i false ≡ slice_index_or marks.old i false }
     ensures size { length marks.new ≡ length marks.old }
 {
     put_all(&mut marks[from..from + count], value);

@@ -25,7 +25,8 @@ fn read_front(
 ) -> Result<Header, Fault>
     requires extra { IsExtraHeader extra }
     requires format { IsExtraOf format extra }
-    ensures reads { Gives (λ (h : Header). h) result reader.new (headed_at format extra reader.old) }
+    ensures reads { Gives
+        (λ (h : Header). h) result reader.new (headed_at format extra reader.old) }
     ensures range { IfOk result IsHeader }
     ensures format { IfOk result (λ h. h.format ≡ format) }
 {
@@ -50,7 +51,8 @@ fn read_behind(
     requires extra { IsExtraHeader payload.now.extra }
     requires format { IsExtraOf format payload.now.extra }
     requires picture { length out.old ≡ mbs_of format }
-    ensures exact { FillsPacket result out.new (slice_behind format payload.now (bits_between bytes.now payload.now.from end)) }
+    ensures exact { FillsPacket result out.new
+        (slice_behind format payload.now (bits_between bytes.now payload.now.from end)) }
     ensures range { IfOk result (IsPieceIn format out.new) }
     ensures others { IfOk result (λ piece. AreOthersSame out.old out.new piece.head) }
     ensures size { length out.new ≡ length out.old }
@@ -75,16 +77,16 @@ fn first_found(bytes: &[u8], format: Format, out: &mut [Mb]) -> Result<Piece, Fa
     read_behind(bytes, 8 * rtp.to, &payload, format, out)
 }
 
-/// Reads a packet whole: RTP's header, the payload's header, and a slice of a picture of the expected format (RFC 4629, 5.1).
-/// `out` has all macroblocks of the picture, by number, and the slice's are put into their places; after a fault it is left
-/// open.
+/// Reads a packet whole: RTP's header, the payload's header, and a slice of a picture of the
+/// expected format (RFC 4629, 5.1). `out` has all macroblocks of the picture, by number, and the
+/// slice's are put into their places; after a fault it is left open.
 pub fn read_packet(bytes: &[u8], format: Format, out: &mut [Mb]) -> Result<Piece, Fault>
     requires picture { length out.old ≡ mbs_of format }
     // What is read is spelled by the bytes.
     ensures found { IfOk result (λ piece. IsPacket format (slice_in piece out.new) bytes.now) }
     // What they spell is read.
-    ensures only { (s : Slice) → IsPacket format s bytes.now
-        → IsOkAnd result (λ piece. (piece.head.count ≡ length s.mbs) × (slice_in piece out.new ≡ s)) }
+    ensures only { (s : Slice) → IsPacket format s bytes.now →
+        IsOkAnd result (λ piece. (piece.head.count ≡ length s.mbs) × (slice_in piece out.new ≡ s)) }
     // Otherwise it is the first fault, at its place.
     ensures fault { first_fault result ≡ packet_fault format bytes.now }
     ensures exact { FillsPacket result out.new (packet_at format bytes.now) }

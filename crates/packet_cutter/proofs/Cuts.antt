@@ -112,6 +112,7 @@ unfolding IsCut
 covers h limit first mbs [] a = sym a
 covers h limit first mbs (run ∷ runs) a = ap (λ (l : List Mb). run ++ l) (covers h limit (first + length run) a.0 runs a.3) ∙ sym a.1
 
+-- each slice of a cut keeps its packet within the limit
 pub fit : (h : Header) (limit first : ℕ) (mbs : List Mb) (runs : List (List Mb)) → IsCut h limit first mbs runs → Fit h limit first runs
 unfolding IsCut Fit
 fit h limit first mbs [] a = tt
@@ -158,6 +159,7 @@ grown h limit first run (m ∷ rest) some fits =
 one_fits : AreShort → AllShort → (h : Header) (limit first : ℕ) (m : Mb) → IsHeader h → 1200 ≤ limit → IsWhole m → packet_bytes h first (m ∷ []) ≤ limit
 one_fits slices short h limit first m is room whole = omega (arith, front_short short h first is, slices.one h (begins_at first) first m is whole)
 
+-- a picture whose macroblocks are short can be cut
 pub cut_exists : AreShort → AllShort → (h : Header) (limit : ℕ) → IsHeader h → 1200 ≤ limit → (n first : ℕ) (mbs : List Mb) → length mbs ≤ n → All IsWhole mbs → (runs : List (List Mb)) × IsCut h limit first mbs runs
 unfolding IsCut
 cut_exists slices short h limit is room n first [] few whole = ([], refl)

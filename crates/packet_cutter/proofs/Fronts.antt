@@ -25,5 +25,6 @@ pub payload_whole : (h : Header) (begins : Bool) → 8 * (payload_bits (extra_of
 payload_whole h true = omega arith
 payload_whole h false = omega arith
 
+-- what stands before a packet's slice is whole bytes
 pub front_whole : (h : Header) (first : ℕ) → 8 * front_bytes h first ≡ 96 + payload_bits (extra_of h (begins_at first))
 front_whole h first = omega (arith, payload_whole h (begins_at first))

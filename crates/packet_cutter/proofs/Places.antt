@@ -8,10 +8,12 @@ use Rattle.std.proofs.Math.Seq.{get_or-append_seam}
 use Rattle.h263_bits.proofs.SyntaxLaws.{take-take}
 use Rattle.packet_cutter.specs.Taken.{packet_at, packets_in, ArePlaced}
 
+-- no packet is none
 pub none_in : (bytes places : List ℕ) → packets_in bytes places 0 ≡ []
 unfolding packets_in
 none_in bytes places = refl
 
+-- as many packets as were counted
 pub length-packets : (bytes places : List ℕ) (n : ℕ) → length (packets_in bytes places n) ≡ n
 unfolding packets_in
 length-packets bytes places zero = refl

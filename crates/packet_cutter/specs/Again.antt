@@ -16,20 +16,33 @@ use Rattle.packet_cutter.specs.Packets.{timestamp_of}
 
 -- the RTP header of a packet of picture `number` that has so many bytes
 abbrev pub rtp_of : ℕ → ℕ → Bool → ℕ → Rtp
-rtp_of number sequence marker bytes = record { marker = marker; sequence = sequence % 65536; timestamp = timestamp_of number; from = 12; to = bytes }
+rtp_of number sequence marker bytes = record {
+  marker = marker;
+  sequence = sequence % 65536;
+  timestamp = timestamp_of number;
+  from = 12;
+  to = bytes;
+}
 
 -- the payload header of a packet whose slice begins with macroblock `first`
 abbrev pub payload_of : Header → ℕ → Payload
-payload_of h first = record { extra = extra_of h (begins_at first); begins = begins_at first; from = 8 * front_bytes h first }
+payload_of h first = record {
+  extra = extra_of h (begins_at first);
+  begins = begins_at first;
+  from = 8 * front_bytes h first;
+}
 
--- The bytes are read as a packet of picture `number` with this header, and with a slice of these macroblocks from number
--- `first` on: RTP's header, the payload's header, and in the data, which the picture header begins where there is no extra
--- one, the slice's text.
-pub record IsReadAs (number sequence : ℕ) (marker : Bool) (h : Header) (first : ℕ) (run : List Mb) (bytes : List ℕ) : Type 0 where
+-- The bytes are read as a packet of picture `number` with this header, and with a slice of these
+-- macroblocks from number `first` on: RTP's header, the payload's header, and in the data, which
+-- the picture header begins where there is no extra one, the slice's text.
+pub record IsReadAs (number sequence : ℕ)
+    (marker : Bool) (h : Header) (first : ℕ) (run : List Mb) (bytes : List ℕ) : Type 0 where
   pub front : List Bool
   pub behind : List Bool
   pub rtp : rtp_in bytes ≡ Ok (rtp_of number sequence marker (length bytes))
-  pub payload : payload_at h.format (payload_bits_of bytes (rtp_of number sequence marker (length bytes))) ≡ Ok (payload_of h first)
+  pub payload : payload_at h.format
+      (payload_bits_of bytes (rtp_of number sequence marker (length bytes)))
+      ≡ Ok (payload_of h first)
   pub parts : (bits_between bytes (8 * front_bytes h first) (8 * length bytes)).bits ≡ front ++ behind
   pub headed : IsHeaded h.format (extra_of h (begins_at first)) h front
   pub text : IsSliceText h (begins_at first) first run behind

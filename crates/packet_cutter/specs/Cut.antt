@@ -25,13 +25,15 @@ packet_bytes h first mbs = front_bytes h first + bytes_of (slice_text h (begins_
 pub record IsLongest (h : Header) (limit first : ℕ) (run rest : List Mb) : Type 0 where
   pub some : 0 < length run
   pub fits : packet_bytes h first run ≤ limit
-  pub longest : (more others : List Mb) → rest ≡ more ++ others → 0 < length more → limit < packet_bytes h first (run ++ more)
+  pub longest : (more others : List Mb)
+      → rest ≡ more ++ others → 0 < length more → limit < packet_bytes h first (run ++ more)
 
 -- the slices, one after the other, of macroblocks the first of which is number `first`
 unfoldable pub IsCut : Header → ℕ → ℕ → List Mb → List (List Mb) → Type 0
 IsCut h limit first mbs [] = mbs ≡ []
 IsCut h limit first mbs (run ∷ runs) =
-    (rest : List Mb) × (mbs ≡ run ++ rest) × IsLongest h limit first run rest × IsCut h limit (first + length run) rest runs
+    (rest : List Mb) × (mbs ≡ run ++ rest)
+    × IsLongest h limit first run rest × IsCut h limit (first + length run) rest runs
 
 -- the macroblocks of slices, one slice after the other
 abbrev pub joined : List (List Mb) → List Mb
@@ -41,4 +43,5 @@ joined (run ∷ runs) = run ++ joined runs
 -- slices, the first of which begins with macroblock `first`: none is empty, and each keeps its packet within the limit
 unfoldable pub Fit : Header → ℕ → ℕ → List (List Mb) → Type 0
 Fit h limit first [] = Unit {0}
-Fit h limit first (run ∷ runs) = (0 < length run) × (packet_bytes h first run ≤ limit) × Fit h limit (first + length run) runs
+Fit h limit first (run ∷ runs) =
+    (0 < length run) × (packet_bytes h first run ≤ limit) × Fit h limit (first + length run) runs

@@ -48,13 +48,15 @@ ArePackets number sequence h first (run ∷ runs) packets =
     × ArePackets number (sequence + 1) h (first + length run) runs others
 
 -- the packets of a picture, with sequence numbers from `sequence` on
-pub record ArePacketsOf (number sequence : ℕ) (h : Header) (limit : ℕ) (mbs : List Mb) (packets : List (List ℕ)) : Type 0 where
+pub record ArePacketsOf (number sequence : ℕ)
+    (h : Header) (limit : ℕ) (mbs : List Mb) (packets : List (List ℕ)) : Type 0 where
   pub runs : List (List Mb)
   pub cut : IsCut h limit 0 mbs runs
   pub each : ArePackets number sequence h 0 runs packets
 
 -- bytes begin with the packet of the first so many of the macroblocks that are left, in the longest slice
-pub record BeginsWith (number sequence : ℕ) (h : Header) (limit first : ℕ) (mbs : List Mb) (count size : ℕ) (bytes : List ℕ) : Type 0 where
+pub record BeginsWith (number sequence : ℕ)
+    (h : Header) (limit first : ℕ) (mbs : List Mb) (count size : ℕ) (bytes : List ℕ) : Type 0 where
   pub few : count ≤ length mbs
   pub longest : IsLongest h limit first (take count mbs) (drop count mbs)
   pub size_is : size ≡ packet_bytes h first (take count mbs)

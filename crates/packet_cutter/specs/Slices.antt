@@ -7,8 +7,9 @@ use Rattle.h263_types.specs.declared.blocks.Mb.{Mb}
 use Rattle.picture_header.specs.declared.header.Header.{Header}
 use Rattle.packet_cutter.specs.Cut.{packet_bytes}
 
--- how many of these macroblocks the longest slice has that begins with the first of them, number `first` of the picture:
--- the most with which `size` keeps within the limit, and one where none does
+-- how many of these macroblocks the longest slice has that begins with the first of them, number
+-- `first` of the picture: the most with which `size` keeps within the limit, and one where none
+-- does
 abbrev pub longest_of : (ℕ → List Mb → ℕ) → ℕ → ℕ → List Mb → ℕ
 longest_of size limit first mbs =
     option_map_or (λ n. n + 1) (greatest (λ n. nat_le (size first (take (n + 1) mbs)) limit) (length mbs)) 1
@@ -19,7 +20,8 @@ slices_from zero size limit first mbs = []
 slices_from (suc most) size limit first [] = []
 slices_from (suc most) size limit first (m ∷ mbs) =
     let count = longest_of size limit first (m ∷ mbs) in
-    record { first = first; mbs = take count (m ∷ mbs) } ∷ slices_from most size limit (first + count) (drop count (m ∷ mbs))
+    record { first = first; mbs = take count (m ∷ mbs) }
+    ∷ slices_from most size limit (first + count) (drop count (m ∷ mbs))
 
 -- the slices of a picture, each the longest whose packet has at most `limit` bytes
 abbrev pub cut_of : Header → ℕ → List Mb → List (Slice Mb)

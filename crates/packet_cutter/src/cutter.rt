@@ -25,7 +25,8 @@ fn cut(packets: &mut Packets, header: &Header, mbs: &[Mb], number: u32, sequence
     requires header { IsHeader header.now }
     requires whole { length mbs.now ≡ mbs_of header.now.format }
     requires each { All (IsTaken header.now.kind header.now.quant) mbs.now }
-    ensures packets { ArePacketsOf number sequence header.now (most_bytes packets.old) mbs.now (kept_packets packets.new) }
+    ensures packets { ArePacketsOf number sequence header.now
+        (most_bytes packets.old) mbs.now (kept_packets packets.new) }
     ensures limit { most_bytes packets.new ≡ most_bytes packets.old }
     ensures room { room_of packets.new ≡ room_of packets.old }
 {
@@ -37,8 +38,8 @@ fn cut(packets: &mut Packets, header: &Header, mbs: &[Mb], number: u32, sequence
     }
 }
 
-/// Cuts pictures into packets, each with the longest slice that keeps it within a limit of bytes (RFC 4629). It has all its
-/// memory from the start.
+/// Cuts pictures into packets, each with the longest slice that keeps it within a limit of bytes
+/// (RFC 4629). It has all its memory from the start.
 #[derive(Drop)]
 pub struct Cutter {
     number: u32,
@@ -88,7 +89,8 @@ impl Cutter {
         })
     }
 
-    /// Begins picture `number`, which has no macroblock yet. One that was begun before and not finished is dropped.
+    /// Begins picture `number`, which has no macroblock yet. One that was begun before and not
+    /// finished is dropped.
     pub fn begin(&mut self, number: u32, header: &Header)
         requires header { IsHeader header.now }
         requires format { header.now.format ≡ format_of self.old }
@@ -115,7 +117,8 @@ impl Cutter {
         requires quant { HasQuant (quant_of self.old) mb.now }
         requires left { added_of self.old < mbs_of (format_of self.old) }
         ensures begun { IsBegun self.new }
-        ensures holds { (number : ℕ) (h : Header) (mbs : List Mb) → Holds self.old number h mbs → Holds self.new number h (mbs ++ mb.now ∷ []) }
+        ensures holds { (number : ℕ) (h : Header) (mbs : List Mb)
+            → Holds self.old number h mbs → Holds self.new number h (mbs ++ mb.now ∷ []) }
         ensures added { added_of self.new ≡ added_of self.old + 1 }
         ensures kind { kind_of self.new ≡ kind_of self.old }
         ensures quant { quant_of self.new ≡ quant_of self.old }
@@ -128,19 +131,23 @@ impl Cutter {
         self.added += 1;
     }
 
-    /// Cuts the picture, all of whose macroblocks were added, into its packets, which take the place of the earlier ones.
+    /// Cuts the picture, all of whose macroblocks were added, into its packets, which take the
+    /// place of the earlier ones.
     pub fn finish(&mut self)
         requires begun { IsBegun self.old }
         requires all { added_of self.old ≡ mbs_of (format_of self.old) }
-        ensures packets { (number : ℕ) (h : Header) (mbs : List Mb) → Holds self.old number h mbs
-            → ArePacketsOf number (sequence_of self.old) h (limit_of self.old) mbs (packets_of self.new) }
+        ensures packets { (number : ℕ) (h : Header) (mbs : List Mb)
+            → Holds self.old number h mbs → ArePacketsOf number
+            (sequence_of self.old) h (limit_of self.old) mbs (packets_of self.new) }
         // As functions of the picture.
         ensures function { (number : ℕ) (h : Header) (mbs : List Mb) → Holds self.old number h mbs
             → packets_of self.new
             ≡ sent.packets_of number (sequence_of self.old) h (cut_of h (limit_of self.old) mbs) }
         // The numbers count on from picture to picture.
-        ensures sequence { sequence_of self.new ≡ (sequence_of self.old + length (packets_of self.new)) % 65536 }
-        ensures holds { (number : ℕ) (h : Header) (mbs : List Mb) → Holds self.old number h mbs → Holds self.new number h mbs }
+        ensures sequence { sequence_of self.new
+            ≡ (sequence_of self.old + length (packets_of self.new)) % 65536 }
+        ensures holds { (number : ℕ) (h : Header) (mbs : List Mb)
+            → Holds self.old number h mbs → Holds self.new number h mbs }
         ensures added { added_of self.new ≡ added_of self.old }
         ensures format { format_of self.new ≡ format_of self.old }
         ensures limit { limit_of self.new ≡ limit_of self.old }

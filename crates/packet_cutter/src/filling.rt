@@ -27,15 +27,19 @@ pub struct Part {
     pub size: u32,
 }
 
-// Adds macroblocks up to the first one with which the slice would not fit. Answers how many it added.
+// Adds macroblocks up to the first one with which the slice would not fit. Answers how many it
+// added.
 fn fill(writer: &mut SliceWriter<'_>, mbs: &[Mb]) -> u32
     requires each { All (IsTaken (kind_of writer.old) (quant_of writer.old)) mbs.now }
     requires left { next_of writer.old + length mbs.now ≤ mbs_of (format_of writer.old) }
     ensures count { result ≤ length mbs.now }
-    ensures holds { (h : Header) (begins : Bool) (first : ℕ) → Holds writer.old h begins first [] → Holds writer.new h begins first (take result mbs.now) }
-    ensures full { (h : Header) (begins : Bool) (first : ℕ) → Holds writer.old h begins first [] → result < length mbs.now
-        → length (bytes_in writer.old) < bytes_of (slice_text h begins first (take (result + 1) mbs.now)) }
-    ensures some { (h : Header) (begins : Bool) (first : ℕ) → IsHeader h → 1150 ≤ length (bytes_in writer.old)
+    ensures holds { (h : Header) (begins : Bool) (first : ℕ) → Holds writer.old h begins first []
+        → Holds writer.new h begins first (take result mbs.now) }
+    ensures full { (h : Header) (begins : Bool) (first : ℕ) → Holds writer.old h begins first []
+        → result < length mbs.now → length (bytes_in writer.old)
+        < bytes_of (slice_text h begins first (take (result + 1) mbs.now)) }
+    ensures some { (h : Header) (begins : Bool) (first : ℕ)
+        → IsHeader h → 1150 ≤ length (bytes_in writer.old)
         → Holds writer.old h begins first [] → 0 < length mbs.now → 0 < result }
     ensures from { first_of writer.new ≡ first_of writer.old }
     ensures next { next_of writer.new ≡ next_of writer.old + result }
@@ -62,10 +66,13 @@ fn write_slice(bytes: &mut [u8], header: &Header, first: u32, mbs: &[Mb]) -> Par
     requires each { All (IsTaken header.now.kind header.now.quant) mbs.now }
     ensures some { 0 < result.count }
     ensures few { result.count ≤ length mbs.now }
-    ensures size { result.size ≡ bytes_of (slice_text header.now (begins_at first) first (take result.count mbs.now)) }
-    ensures text { bits_of (take result.size bytes.new) ≡ padded (slice_text header.now (begins_at first) first (take result.count mbs.now)) }
+    ensures size { result.size
+        ≡ bytes_of (slice_text header.now (begins_at first) first (take result.count mbs.now)) }
+    ensures text { bits_of (take result.size bytes.new)
+        ≡ padded (slice_text header.now (begins_at first) first (take result.count mbs.now)) }
     ensures fits { result.size ≤ length bytes.old }
-    ensures longest { result.count < length mbs.now → length bytes.old < bytes_of (slice_text header.now (begins_at first) first (take (result.count + 1) mbs.now)) }
+    ensures longest { result.count < length mbs.now → length bytes.old < bytes_of
+        (slice_text header.now (begins_at first) first (take (result.count + 1) mbs.now)) }
 {
     let mut writer = SliceWriter::start(bytes, header, first == 0, first);
     let count = fill(&mut writer, mbs);
@@ -96,9 +103,11 @@ fn write_rtp(bytes: &mut [u8], marker: bool, sequence: u16, timestamp: u32)
 // Appends the payload's header, with the picture header where the slice does not begin the picture.
 fn append_payload_header(writer: &mut BitWriter<'_>, header: &Header, begins: bool)
     requires header { IsHeader header.now }
-    requires room { len_of writer.old + payload_bits (extra_of header.now begins) ≤ room_of writer.old }
+    requires room { len_of writer.old + payload_bits (extra_of header.now begins)
+        ≤ room_of writer.old }
     ensures bits { Appends writer.old writer.new (written_payload (extra_of header.now begins)) }
-    ensures len { len_of writer.new ≡ len_of writer.old + payload_bits (extra_of header.now begins) }
+    ensures len { len_of writer.new
+        ≡ len_of writer.old + payload_bits (extra_of header.now begins) }
 {
     if begins {
         write_payload(writer, None);
@@ -136,15 +145,16 @@ fn write_front(
     requires header { IsHeader header.now }
     requires room { 8 * length bytes.old ≡ 96 + payload_bits (extra_of header.now begins) }
     requires short { length bytes.old ≤ 65535 }
-    ensures { bits_of bytes.new ≡ fields (rtp_fields marker sequence (timestamp_of number)) ++ written_payload (extra_of header.now begins) }
+    ensures { bits_of bytes.new ≡ fields (rtp_fields marker sequence (timestamp_of number))
+        ++ written_payload (extra_of header.now begins) }
 {
     let (rtp, payload) = bytes.split_at_mut(12);
     write_rtp(rtp, marker, sequence, timestamp(number));
     write_payload_header(payload, header, begins);
 }
 
-/// Writes the packet with the longest slice that fits, from macroblock `first` on: `mbs` are those that are left of the
-/// picture, and the marker is set where the packet has all of them.
+/// Writes the packet with the longest slice that fits, from macroblock `first` on: `mbs` are those
+/// that are left of the picture, and the marker is set where the packet has all of them.
 pub fn write_packet(
     bytes: &mut [u8],
     header: &Header,
@@ -159,7 +169,8 @@ pub fn write_packet(
     requires some { 0 < length mbs.now }
     requires left { first + length mbs.now ≡ mbs_of header.now.format }
     requires each { All (IsTaken header.now.kind header.now.quant) mbs.now }
-    ensures packet { BeginsWith number sequence header.now (length bytes.old) first mbs.now result.count result.size bytes.new }
+    ensures packet { BeginsWith number sequence header.now
+        (length bytes.old) first mbs.now result.count result.size bytes.new }
     ensures within { result.size ≤ length bytes.old }
 {
     let at = front_bytes(header, first) as usize;

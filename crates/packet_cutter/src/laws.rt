@@ -22,15 +22,19 @@ ghost use Rattle.packet_cutter.specs.Again.{IsReadAs};
 use call_model::laws::searches;
 use picture_header::laws::{in_a_syntax, longest_text};
 
-/// Slices cover the macroblocks one after the other, none is empty, and each keeps its packet within the limit: so the
-/// packets are as many as the slices, and each has at most `limit` bytes.
+/// Slices cover the macroblocks one after the other, none is empty, and each keeps its packet
+/// within the limit: so the packets are as many as the slices, and each has at most `limit` bytes.
 pub fn cut_parts()
-    ensures covers { (h : Header) (limit first : ℕ) (mbs : List Mb) (runs : List (List Mb)) → IsCut h limit first mbs runs → joined runs ≡ mbs }
-    ensures each { (h : Header) (limit first : ℕ) (mbs : List Mb) (runs : List (List Mb)) → IsCut h limit first mbs runs → Fit h limit first runs }
-    ensures count { (number sequence : ℕ) (h : Header) (first : ℕ) (runs : List (List Mb)) (packets : List (List ℕ))
+    ensures covers { (h : Header) (limit first : ℕ) (mbs : List Mb) (runs : List (List Mb))
+        → IsCut h limit first mbs runs → joined runs ≡ mbs }
+    ensures each { (h : Header) (limit first : ℕ) (mbs : List Mb) (runs : List (List Mb))
+        → IsCut h limit first mbs runs → Fit h limit first runs }
+    ensures count { (number sequence : ℕ)
+        (h : Header) (first : ℕ) (runs : List (List Mb)) (packets : List (List ℕ))
         → ArePackets number sequence h first runs packets → length packets ≡ length runs }
-    ensures packets { (number sequence : ℕ) (h : Header) (limit first : ℕ) (mbs : List Mb) (runs : List (List Mb)) (packets : List (List ℕ))
-        → IsCut h limit first mbs runs → ArePackets number sequence h first runs packets → All (λ p. length p ≤ limit) packets }
+    ensures packets { (number sequence : ℕ) (h : Header) (limit first : ℕ) (mbs : List Mb)
+        (runs : List (List Mb)) (packets : List (List ℕ)) → IsCut h limit first mbs runs
+        → ArePackets number sequence h first runs packets → All (λ p. length p ≤ limit) packets }
 {}
 
 /// There is one cut at most.
@@ -41,8 +45,8 @@ pub fn one_cut()
 
 /// Where a packet may have 1,200 bytes there is a cut.
 pub fn cut_exists()
-    ensures { (h : Header) (limit first : ℕ) (mbs : List Mb) → IsHeader h → 1200 ≤ limit → All IsWhole mbs
-        → (runs : List (List Mb)) × IsCut h limit first mbs runs }
+    ensures { (h : Header) (limit first : ℕ) (mbs : List Mb) → IsHeader h
+        → 1200 ≤ limit → All IsWhole mbs → (runs : List (List Mb)) × IsCut h limit first mbs runs }
 {
     longest_text();
     slice_layer::laws::longest_text();
@@ -50,8 +54,8 @@ pub fn cut_exists()
 
 /// The cut is the same for headers of one style: it depends on no temporal reference.
 pub fn by_style()
-    ensures { (h g : Header) (limit first : ℕ) (mbs : List Mb) (runs : List (List Mb)) → HaveOneStyle h g
-        → IsCut h limit first mbs runs → IsCut g limit first mbs runs }
+    ensures { (h g : Header) (limit first : ℕ) (mbs : List Mb) (runs : List (List Mb))
+        → HaveOneStyle h g → IsCut h limit first mbs runs → IsCut g limit first mbs runs }
 {
     slice_layer::laws::longest_text();
 }
@@ -118,13 +122,14 @@ pub fn packet_is_text()
     h263_payload::laws::read_again();
 }
 
-/// What is written of a packet is read as its header and its slice, where the slice's macroblocks may be written one after
-/// the other.
+/// What is written of a packet is read as its header and its slice, where the slice's macroblocks
+/// may be written one after the other.
 pub fn written_again()
-    ensures { (number sequence : ℕ) (marker : Bool) (h : Header) (first : ℕ) (run : List Mb) (bytes : List ℕ) → IsHeader h
-        → 0 < length run → first + length run ≤ mbs_of h.format → AreWritable (around h first) h.quant [] run
-        → bits_of bytes ≡ packet_text number sequence marker h first run → length bytes ≤ 65535
-        → IsReadAs number sequence marker h first run bytes }
+    ensures { (number sequence : ℕ) (marker : Bool)
+        (h : Header) (first : ℕ) (run : List Mb) (bytes : List ℕ) → IsHeader h → 0 < length run
+        → first + length run ≤ mbs_of h.format → AreWritable (around h first) h.quant [] run
+        → bits_of bytes ≡ packet_text number sequence marker h first run
+        → length bytes ≤ 65535 → IsReadAs number sequence marker h first run bytes }
 {
     in_a_syntax();
     rtp_header::laws::read_again();

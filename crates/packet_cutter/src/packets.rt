@@ -84,8 +84,8 @@ impl Packets {
         self.places[0] = 0;
     }
 
-    /// Writes the next packet behind the others, with the longest slice from macroblock `first` on: `mbs` are those that are
-    /// left of the picture. Answers how many it has.
+    /// Writes the next packet behind the others, with the longest slice from macroblock `first` on:
+    /// `mbs` are those that are left of the picture. Answers how many it has.
     pub fn append(
         &mut self,
         header: &Header,

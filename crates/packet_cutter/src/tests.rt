@@ -1,4 +1,5 @@
-//! Pictures cut into packets, byte for byte. The bytes were packed by another program from the formats.
+//! Pictures cut into packets, byte for byte. The bytes were packed by another program from the
+//! formats.
 ghost use Rattle.std.specs.Prelude.{◌≡◌, ◌+◌, ◌≤◌, [], length, IsTrue, IfOk};
 ghost use Rattle.h263_types.specs.Blocks.{HasQuant, IsMb, IsOfKind};
 ghost use Rattle.h263_types.specs.Params.{IsParams};
@@ -31,7 +32,7 @@ const LARGE: Params = Params {
     ..SMALL
 };
 
-/// Picture 0 of sub-QCIF, an I picture.
+// Picture 0 of sub-QCIF, an I picture.
 const FIRST: Header = Header {
     tr: 0,
     format: Format::SubQcif,
@@ -44,7 +45,7 @@ const FIRST: Header = Header {
     clock: Clock::Standard,
 };
 
-/// Picture 1 of sub-QCIF, which refers to picture 0.
+// Picture 1 of sub-QCIF, which refers to picture 0.
 const SECOND: Header = Header {
     tr: 1,
     kind: Kind::P,
@@ -53,13 +54,13 @@ const SECOND: Header = Header {
     ..FIRST
 };
 
-/// Picture 0 by the custom clock, whose header has ten bits more.
+// Picture 0 by the custom clock, whose header has ten bits more.
 const FIRST_OF_CUSTOM: Header = Header {
     clock: Clock::Custom,
     ..FIRST
 };
 
-/// The first bytes of its data.
+// The first bytes of its data.
 const CUSTOM_FRONT: [u8; 13] = [
     0x80, 0x02, 0x1C, 0x98, 0x31, 0x00, 0x15, 0xE0, 0x72, 0x84, 0x0C, 0xD9, 0x19,
 ];
@@ -69,10 +70,10 @@ const FIRST_OF_CIF: Header = Header {
     ..FIRST
 };
 
-/// MCBPC 1, CBPY 0011 and six times INTRADC 100.
+// MCBPC 1, CBPY 0011 and six times INTRADC 100.
 const FLAT_MB: [u8; 7] = [0x9B, 0x23, 0x23, 0x23, 0x23, 0x23, 0x20];
 
-/// The packet of a flat picture of 48 macroblocks with INTRADC 100.
+// The packet of a flat picture of 48 macroblocks with INTRADC 100.
 const FLAT_PACKET: [u8; 342] = [
     0x80, 0xE0, 0x00, 0x00, 0x00, 0x00, 0x00, 0x00, 0x48, 0x32, 0x36, 0x33, 0x04, 0x00, 0x80, 0x02,
     0x1C, 0x90, 0x31, 0x00, 0x11, 0xCA, 0x10, 0x33, 0x64, 0x64, 0x64, 0x64, 0x64, 0x64, 0x9B, 0x23,
@@ -98,18 +99,18 @@ const FLAT_PACKET: [u8; 342] = [
     0x8C, 0x8C, 0x8C, 0x8C, 0x8C, 0x80,
 ];
 
-/// The packet of 48 macroblocks that are not coded, of picture 1.
+// The packet of 48 macroblocks that are not coded, of picture 1.
 const SKIPPED_PACKET: [u8; 31] = [
     0x80, 0xE0, 0x00, 0x01, 0x00, 0x00, 0x0B, 0xBB, 0x48, 0x32, 0x36, 0x33, 0x04, 0x00, 0x80, 0x06,
     0x1C, 0x90, 0x31, 0x04, 0x91, 0xE0, 0x02, 0x84, 0x0F, 0xFF, 0xFF, 0xFF, 0xFF, 0xFF, 0xF8,
 ];
 
-/// The front of the first packet of a flat CIF picture.
+// The front of the first packet of a flat CIF picture.
 const FIRST_FRONT: [u8; 14] = [
     0x80, 0x60, 0x00, 0x00, 0x00, 0x00, 0x00, 0x00, 0x48, 0x32, 0x36, 0x33, 0x04, 0x00,
 ];
 
-/// The front of the second one: with the extra header, and the first bytes of its slice.
+// The front of the second one: with the extra header, and the first bytes of its slice.
 const SECOND_FRONT: [u8; 27] = [
     0x80, 0xE0, 0x00, 0x01, 0x00, 0x00, 0x00, 0x00, 0x48, 0x32, 0x36, 0x33, 0x04, 0x4D, 0x80, 0x02,
     0x1C, 0xB0, 0x31, 0x00, 0x11, 0xCA, 0x00, 0xD9, 0xE8, 0x83, 0x36,
@@ -122,7 +123,7 @@ const FAR: Reach = Reach {
     down: 31,
 };
 
-/// The macroblock with INTRADC 100 six times.
+// The macroblock with INTRADC 100 six times.
 fn flat_mb() -> Result<Mb, Fault>
     ensures mb { IfOk result (λ m. IsMb m) }
     ensures kind { IfOk result (λ m. IsOfKind kinds.I m) }
@@ -133,7 +134,7 @@ fn flat_mb() -> Result<Mb, Fault>
     Ok(mb)
 }
 
-/// Whether the quantiser is 8.
+// Whether the quantiser is 8.
 fn is_steady(mb: &Mb) -> bool
     ensures { IsTrue result → HasQuant 8 mb.now }
 {
@@ -148,7 +149,7 @@ fn is_steady(mb: &Mb) -> bool
     }
 }
 
-/// Adds a macroblock so many times.
+// Adds a macroblock so many times.
 fn add_times(cutter: &mut Cutter, mb: &Mb, times: u32)
     requires begun { IsBegun cutter.old }
     requires mb { IsMb mb.now }
@@ -164,7 +165,7 @@ fn add_times(cutter: &mut Cutter, mb: &Mb, times: u32)
     }
 }
 
-/// Cuts a picture of one macroblock many times.
+// Cuts a picture of one macroblock many times.
 fn cut_even(cutter: &mut Cutter, number: u32, header: &Header, mb: &Mb)
     requires header { IsHeader header.now }
     requires format { header.now.format ≡ format_of cutter.old }
@@ -178,7 +179,7 @@ fn cut_even(cutter: &mut Cutter, number: u32, header: &Header, mb: &Mb)
     cutter.finish();
 }
 
-/// Macroblocks 0 to 206 take 1,396 bytes with their fronts, and 207 to 395 take 1,278.
+// Macroblocks 0 to 206 take 1,396 bytes with their fronts, and 207 to 395 take 1,278.
 #[test]
 fn flat_cif_picture(rt: HostRuntime) -> Result<(), Fail> {
     let mb = flat_mb()?;
@@ -194,7 +195,7 @@ fn flat_cif_picture(rt: HostRuntime) -> Result<(), Fail> {
     Ok(())
 }
 
-/// The sequence numbers count on from picture to picture.
+// The sequence numbers count on from picture to picture.
 #[test]
 fn small_pictures(rt: HostRuntime) -> Result<(), Fail> {
     let mb = flat_mb()?;

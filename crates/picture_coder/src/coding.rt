@@ -23,10 +23,11 @@ use picture_header::Header;
 use picture_recon::laws::shown_one_by_one;
 use picture_recon::recon_mb;
 
-/// Codes `frame` as picture `number` with this header. `cutter`, which was started with these parameters, then holds the
-/// picture's packets of at most `params.limit` bytes, one slice each, and `work` the picture that a decoder makes of them
-/// (H.263, 6). A P picture, and no other, has a reference, in which vectors of up to `params.radius` whole samples are
-/// searched. All pictures have the parameters' format; what `work` held before doesn't count.
+/// Codes `frame` as picture `number` with this header. `cutter`, which was started with these
+/// parameters, then holds the picture's packets of at most `params.limit` bytes, one slice each,
+/// and `work` the picture that a decoder makes of them (H.263, 6). A P picture, and no other, has a
+/// reference, in which vectors of up to `params.radius` whole samples are searched. All pictures
+/// have the parameters' format; what `work` held before doesn't count.
 pub fn code_picture(
     frame: PictureRef<'_>,
     reference: Option<PictureRef<'_>>,
@@ -40,23 +41,27 @@ pub fn code_picture(
     requires params { IsParams params.now }
     requires header_format { header.now.format ≡ params.now.format }
     requires frame_format { (picture frame).format ≡ params.now.format }
-    requires reference { HasReferenceOnlyInP header.now.kind params.now.format (option_map picture reference) }
+    requires reference { HasReferenceOnlyInP header.now.kind params.now.format
+        (option_map picture reference) }
     requires cutter_format { format_of cutter.old ≡ params.now.format }
     requires cutter_limit { limit_of cutter.old ≡ params.now.limit }
     requires work_format { (lent.work work.old).format ≡ params.now.format }
 
-    ensures packets { ArePacketsOf number (sequence_of cutter.old) header.now params.now.limit
-        (choices_of (picture frame.entry) (option_map picture reference.entry) header.now params.now) (packets_of cutter.new) }
-    ensures sequence { sequence_of cutter.new ≡ (sequence_of cutter.old + length (packets_of cutter.new)) % 65536 }
+    ensures packets { ArePacketsOf number
+        (sequence_of cutter.old) header.now params.now.limit (choices_of (picture frame.entry)
+        (option_map picture reference.entry) header.now params.now) (packets_of cutter.new) }
+    ensures sequence { sequence_of cutter.new
+        ≡ (sequence_of cutter.old + length (packets_of cutter.new)) % 65536 }
     ensures cutter_format { format_of cutter.new ≡ params.now.format }
     ensures cutter_limit { limit_of cutter.new ≡ params.now.limit }
     // No other picture is begun: the cutter holds all macroblocks of this one.
-    ensures held { Holds cutter.new number header.now
-        (choices_of (picture frame.entry) (option_map picture reference.entry) header.now params.now) }
+    ensures held { Holds cutter.new number header.now (choices_of
+        (picture frame.entry) (option_map picture reference.entry) header.now params.now) }
     ensures all_added { added_of cutter.new ≡ mbs_of params.now.format }
 
-    ensures reconstruction { lent.work work.new ≡ reconstruction params.now.format header.now.rounding (option_map picture reference.entry)
-        (choices_of (picture frame.entry) (option_map picture reference.entry) header.now params.now) }
+    ensures reconstruction { lent.work work.new ≡ reconstruction
+        params.now.format header.now.rounding (option_map picture reference.entry) (choices_of
+        (picture frame.entry) (option_map picture reference.entry) header.now params.now) }
     ensures same_loan { loan_of work.new ≡ loan_of work.old }
     ensures format { (lent.work work.new).format ≡ params.now.format }
     ensures whole { IsPicture (lent.work work.new) }

@@ -1,5 +1,5 @@
-//! Pictures coded, byte for byte. Where sums stand for the bytes, another program made these, which works by the formulas of
-//! the formats: double sums, each candidate of the search, bits as text.
+//! Pictures coded, byte for byte. Where sums stand for the bytes, another program made these, which
+//! works by the formulas of the formats: double sums, each candidate of the search, bits as text.
 ghost use Rattle.std.specs.Prelude.{◌≡◌, ◌<◌, ◌≤◌};
 ghost use Rattle.std.specs.Option.{option_map};
 ghost use Rattle.h263_types.specs.Params.{IsParams};
@@ -106,8 +106,8 @@ fn triangle(v: u32) -> u32
     (v % 128).abs_diff(64)
 }
 
-// The luma of frame n: a texture at rest, before it another that moves by five and a half samples to the right and three
-// and a half down, and from frame 1 on a bright corner.
+// The luma of frame n: a texture at rest, before it another that moves by five and a half samples
+// to the right and three and a half down, and from frame 1 on a bright corner.
 fn luma(n: u32, x: u32, y: u32) -> u32
     requires n { n < 3 }
     requires x { x < 128 }
@@ -194,7 +194,8 @@ fn assert_moving(
     requires params { IsParams params.now }
     requires format { params.now.format ≡ SubQcif }
     requires header_format { header.now.format ≡ params.now.format }
-    requires before { HasReferenceOnlyInP header.now.kind params.now.format (option_map picture before) }
+    requires before { HasReferenceOnlyInP header.now.kind params.now.format
+        (option_map picture before) }
     requires cutter_format { format_of cutter.old ≡ params.now.format }
     requires limit { limit_of cutter.old ≡ params.now.limit }
     ensures cutter_format { format_of cutter.new ≡ params.now.format }
@@ -247,8 +248,8 @@ fn assert_three(
     Ok(())
 }
 
-// Macroblocks that are not coded, predicted (by vectors of whole and half samples) and coded by themselves, in pictures of
-// both roundings; with the fine quantiser slices begin inside a row.
+// Macroblocks that are not coded, predicted (by vectors of whole and half samples) and coded by
+// themselves, in pictures of both roundings; with the fine quantiser slices begin inside a row.
 #[test]
 fn moving_pictures(rt: HostRuntime) -> Result<(), Fail> {
     let fine = Params {

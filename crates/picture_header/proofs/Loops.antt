@@ -105,6 +105,7 @@ pub simple_productive : (format : Format) → IsProductive opening × IsProducti
 unfolding opening plus_type multipoint channel IsProductive
 simple_productive format = (λ a b c d e. tt, λ a b c d e f g h i. tt, λ a. tt, λ a b. tt)
 
+-- each part of a header that is repeated takes a bit at least
 pub header_productive : MessageLaws → (format : Format) → IsProductive (header format)
 unfolding header IsProductive
 header_productive laws format =

@@ -152,6 +152,7 @@ front_then h = regroup (fields (opening_fields h.tr)) (fields (plus_fields h.for
 end_text : (quant : ℕ) → spelled 5 quant ++ spelled 1 0 ≡ fields ((5, quant) ∷ []) ++ fields ((1, 0) ∷ [])
 end_text quant = ap (λ (t : List Bool). spelled 5 quant ++ t) (sym (append-nil (spelled 1 0))) ∙ ap (λ (t : List Bool). t ++ fields ((1, 0) ∷ [])) (sym (append-nil (spelled 5 quant)))
 
+-- the text that is written of a header spells it
 pub header_spelt : MessageLaws → (h : Header) → IsHeader h → Spells (header h.format) h (written_header h)
 unfolding header
 header_spelt laws h ok =
@@ -220,6 +221,7 @@ length-rest laws h =
       length-fields ((1, 0) ∷ []),
     )
 
+-- it has as many bits as are counted
 pub length-written_header : MessageLaws → (h : Header) → length (written_header h) ≡ written_bits h
 length-written_header laws h = omega (arith, length-append (written_front h) (written_rest h), length-front h, length-rest laws h)
 

@@ -7,5 +7,6 @@ use Rattle.picture_header.specs.Text.{in_places}
 
 -- the call answered the messages of a reading in their places, or its fault
 abbrev pub ReadsBack : Result (List (Option Message)) Fault → Bits → Result (List Message × Bits) Fault → Type 0
-ReadsBack (Ok places) left read = (messages : List Message) × (read ≡ Ok (messages, left)) × (places ≡ in_places messages)
+ReadsBack (Ok places) left read =
+    (messages : List Message) × (read ≡ Ok (messages, left)) × (places ≡ in_places messages)
 ReadsBack (Err e) left read = read ≡ Err e

@@ -1,4 +1,5 @@
--- The picture header (H.263, 5.1, with Annexes K and N on): its fields in their order, from the last bits of the start code to the last PEI.
+-- The picture header (H.263, 5.1, with Annexes K and N on): its fields in their order, from the
+-- last bits of the start code to the last PEI.
 use Rattle.std.specs.Prelude.{Bool, ℕ, ◌+◌, ◌-◌, ◌*◌, ◌%◌, ◌^◌, List, [], ◌∷◌, ◌++◌, length, take, map, Option, Some, None, nat_lt, nat_le, ◌==◌, if◌then◌else◌}
 use Rattle.h263_types.specs.declared.format.Format.{Format}
 use Rattle.h263_types.specs.declared.format.Format.TheVariants.{SubQcif, Qcif, Cif}
@@ -27,7 +28,9 @@ format_code Cif = 3
 abbrev pub is_format : Format → Allowed ℕ
 is_format format n =
     if n == format_code format then None
-    else if (nat_lt 0 n) then (if nat_lt n 4 then Some faults.OtherFormat else Some faults.SourceFormat) else Some faults.SourceFormat
+    else if (nat_lt 0 n)
+    then (if nat_lt n 4 then Some faults.OtherFormat else Some faults.SourceFormat)
+    else Some faults.SourceFormat
 
 -- I and P of the picture types (MPPTYPE, 5.1.4.3)
 abbrev pub is_kind : Allowed ℕ
@@ -86,7 +89,8 @@ plus_type format =
 unfoldable pub multipoint : Syntax (Unit {0})
 multipoint = field 1 (only 0 faults.Cpm) λ cpm. done tt
 
--- in a custom clock CPCFC, and ETR, the two high bits of the temporal reference; its low bits are those of TR (5.1.7, 5.1.8)
+-- in a custom clock CPCFC, and ETR, the two high bits of the temporal reference; its low bits are
+-- those of TR (5.1.7, 5.1.8)
 unfoldable pub extended : Clock → ℕ → Syntax ℕ
 extended Standard tr = done tr
 extended Custom tr =
@@ -163,7 +167,17 @@ header format =
     part (back type.0) any λ messages.
     field 5 is_quant λ quant.
     part extra any λ end.
-    done (record { tr = tr; format = format; kind = type.1; rounding = type.2; channel = channel; trp = trp; quant = quant; back = in_places messages; clock = type.0 })
+    done (record {
+      tr = tr;
+      format = format;
+      kind = type.1;
+      rounding = type.2;
+      channel = channel;
+      trp = trp;
+      quant = quant;
+      back = in_places messages;
+      clock = type.0;
+    })
 
 -- the bits are a text of the header: its fields, and free values where the header keeps none
 abbrev pub IsHeaderText : Format → Header → List Bool → Type 0

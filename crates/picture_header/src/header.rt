@@ -1,3 +1,4 @@
+//! What a picture header says, as one value.
 use crate::same;
 use back_messages::Message;
 use h263_types::{Clock, Format, Kind};
@@ -5,13 +6,15 @@ use h263_types::{Clock, Format, Kind};
 /// What a picture header says.
 #[derive(Clone, Copy, Debug, PartialEq, Eq)]
 pub struct Header {
-    /// The temporal reference (TR, 5.1.2), at most 255; in a custom clock at most 1,023, with the bits of ETR (5.1.8).
+    /// The temporal reference (TR, 5.1.2), at most 255; in a custom clock at most 1,023, with the
+    /// bits of ETR (5.1.8).
     pub tr: u16,
     pub format: Format,
     pub kind: Kind,
     /// The rounding bit (RTYPE, 5.1.4.3), 0 or 1.
     pub rounding: u8,
-    /// Which back-channel messages the sender asks for (RPSMF, 5.1.13): 0 none, 1 ACK, 2 NACK, 3 both.
+    /// Which back-channel messages the sender asks for (RPSMF, 5.1.13): 0 none, 1 ACK, 2 NACK, 3
+    /// both.
     pub channel: u8,
     /// The temporal reference of the picture that a P picture refers to (TRP, 5.1.15); none in I.
     pub trp: Option<u16>,

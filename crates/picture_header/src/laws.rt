@@ -16,16 +16,17 @@ pub fn in_a_syntax()
     back_messages::laws::in_a_syntax();
 }
 
-/// How much room a header takes at most: 251 bits of its own, 262 of what begins a picture, 46 bytes in front of the
-/// data of a later slice, and even in the smallest packet more than 1,150 bytes are left behind these.
+/// How much room a header takes at most: 251 bits of its own, 262 of what begins a picture, 46
+/// bytes in front of the data of a later slice, and even in the smallest packet more than 1,150
+/// bytes are left behind these.
 pub fn longest_text()
     ensures { (h : Header) → IsHeader h → IsShort h }
 {}
 
 /// Of two texts of which one begins the other both are the same, and spell the same header.
 pub fn one_reading()
-    ensures { (format : Format) (a b : Header) (x y more : List Bool) → IsHeaderText format a x → IsHeaderText format b y
-        → x ++ more ≡ y → (x ≡ y) × (a ≡ b) }
+    ensures { (format : Format) (a b : Header) (x y more : List Bool)
+        → IsHeaderText format a x → IsHeaderText format b y → x ++ more ≡ y → (x ≡ y) × (a ≡ b) }
 {
     back_messages::laws::in_a_syntax();
 }
@@ -39,8 +40,8 @@ pub fn read_again()
     back_messages::laws::in_a_syntax();
 }
 
-/// The first faults of a header, field by field: which values of a field have which fault, behind fields that have none,
-/// and that it stands at the field's first bit.
+/// The first faults of a header, field by field: which values of a field have which fault, behind
+/// fields that have none, and that it stands at the field's first bit.
 pub fn first_faults()
     ensures { HeaderFaults }
 {

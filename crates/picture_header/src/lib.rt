@@ -1,4 +1,16 @@
-//! The picture header of H.263 (5.1) with Annexes K and N on, from the last bits of the start code to the last PEI.
+//! The picture header of H.263 (5.1) with Annexes K and N on, from the last bits of the start code
+//! to the last PEI.
+//!
+//! A [`Header`] is what it says. [`write_header`] writes it and [`read_header`] reads it again, or
+//! answers the first fault at its place; [`header_bits`] is its length.
+//!
+//! ```rust
+//! let bytes = [0x80, 0x02, 0x1c, 0x90, 0x31, 0x00, 0x11, 0xca, 0x00, 0xff];
+//! let mut reader = BitReader::new(&bytes, 0, 80);
+//! let header = read_header(&mut reader, Format::SubQcif)?;
+//! assert_eq!(rt; header, Header::intra(Format::SubQcif, Clock::Standard, 0, 8));
+//! assert_eq!(rt; reader.at(), 67);
+//! ```
 #![tactic(auto)]
 
 mod header;

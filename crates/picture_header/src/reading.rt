@@ -1,3 +1,4 @@
+//! The picture header read field by field, in the order of the standard (H.263, 5.1).
 ghost use Rattle.std.specs.Prelude.{◌≡◌, ℕ, Option, IfOk, IfSome, IsOkAnd, IsSome, List, Bool, ◌++◌, ◌≤◌, ◌<◌, ◌^◌};
 ghost use Rattle.h263_bits.specs.Reading.{Gives, Takes, first_fault};
 ghost use Rattle.h263_bits.specs.Syntax.{any, only, field_at, reading, goes_on};
@@ -47,7 +48,8 @@ fn kind_from(kind: u32) -> Kind
 
 #[tactic(auto, unfolding(crate::specs::Text::plus_type, h263_bits::specs::Syntax::reading))]
 fn read_plus_type(reader: &mut BitReader<'_>, format: Format) -> Result<(Clock, Kind, u8), Fault>
-    ensures reads { Gives (λ x. (x.0, x.1, x.2)) result reader.new (reading (plus_type format) reader.old) }
+    ensures reads { Gives
+        (λ x. (x.0, x.1, x.2)) result reader.new (reading (plus_type format) reader.old) }
     ensures range { IfOk result (λ x. x.2 ≤ 1) }
 {
     reader.fixed(3, 0b001, FaultKind::Ufep)?;
@@ -88,7 +90,7 @@ fn read_multipoint(reader: &mut BitReader<'_>) -> Result<(), Fault>
     Ok(())
 }
 
-/// Reads CPCFC, of which nothing is kept.
+// Reads CPCFC, of which nothing is kept.
 fn read_divisor(reader: &mut BitReader<'_>) -> Result<u32, Fault>
     ensures { Gives (λ (v : ℕ). v) result reader.new (field_at 8 is_divisor reader.old) }
 {
@@ -100,11 +102,13 @@ fn read_divisor(reader: &mut BitReader<'_>) -> Result<u32, Fault>
     Ok(cpcfc)
 }
 
-/// Reads CPCFC and ETR where the clock is custom. Answers the temporal reference, of which TR has the low bits.
+// Reads CPCFC and ETR where the clock is custom. Answers the temporal reference, of which TR has
+// the low bits.
 #[tactic(auto, unfolding(crate::specs::Text::extended, h263_bits::specs::Syntax::reading))]
 fn read_extended(reader: &mut BitReader<'_>, clock: Clock, low: u16) -> Result<u16, Fault>
     requires { low ≤ 255 }
-    ensures reads { Gives (λ (v : ℕ). v) result reader.new (reading (extended clock low) reader.old) }
+    ensures reads { Gives
+        (λ (v : ℕ). v) result reader.new (reading (extended clock low) reader.old) }
     ensures range { IfOk result (λ tr. tr < period_of clock) }
 {
     match clock {
@@ -123,7 +127,8 @@ fn read_reference(
     clock: Clock,
     kind: Kind,
 ) -> Result<Option<u16>, Fault>
-    ensures reads { Gives (λ (v : Option ℕ). v) result reader.new (reading (reference clock kind) reader.old) }
+    ensures reads { Gives
+        (λ (v : Option ℕ). v) result reader.new (reading (reference clock kind) reader.old) }
     ensures range { IfOk result (IsReference clock kind) }
 {
     match kind {
@@ -143,7 +148,7 @@ fn read_reference(
     }
 }
 
-/// Reads PEI, and a byte behind a 1. Answers whether PEI stands there again.
+// Reads PEI, and a byte behind a 1. Answers whether PEI stands there again.
 #[tactic(auto, unfolding(crate::specs::Text::extra_turn, h263_bits::specs::Syntax::reading))]
 fn read_extra_turn(reader: &mut BitReader<'_>) -> Result<bool, Fault>
     ensures { Gives (goes_on tt tt) result reader.new (reading (extra_turn tt) reader.old) }
@@ -162,7 +167,7 @@ fn read_extra(reader: &mut BitReader<'_>) -> Result<(), Fault>
     Ok(())
 }
 
-/// Reads BCI: 1, or 0 for the end.
+// Reads BCI: 1, or 0 for the end.
 #[tactic(auto, unfolding(crate::specs::Text::bci, h263_bits::specs::Syntax::reading))]
 fn read_bci(reader: &mut BitReader<'_>) -> Result<u32, Fault>
     ensures { Gives (λ (v : ℕ). v) result reader.new (reading bci reader.old) }
@@ -174,14 +179,15 @@ fn read_bci(reader: &mut BitReader<'_>) -> Result<u32, Fault>
     Ok(1)
 }
 
-/// Reads BCI and a message, or the BCI of the end, where so many messages were read.
+// Reads BCI and a message, or the BCI of the end, where so many messages were read.
 #[tactic(auto, unfolding(crate::specs::Text::next_message, h263_bits::specs::Syntax::reading))]
 fn read_next_message(
     reader: &mut BitReader<'_>,
     clock: Clock,
     used: usize,
 ) -> Result<Option<Message>, Fault>
-    ensures reads { Gives (λ (m : Option Message). m) result reader.new (reading (next_message clock used) reader.old) }
+    ensures reads { Gives (λ (m : Option Message). m) result reader.new
+        (reading (next_message clock used) reader.old) }
     ensures room { IfOk result (λ next. IsSome next → used < 4) }
     ensures range { IfOk result (λ next. IfSome next (IsMessage clock)) }
 {
@@ -242,7 +248,8 @@ pub fn read_quant(reader: &mut BitReader<'_>) -> Result<u8, Fault>
 
 #[tactic(auto, unfolding(crate::specs::Text::header, h263_bits::specs::Syntax::reading))]
 fn header_at(reader: &mut BitReader<'_>, format: Format) -> Result<Header, Fault>
-    ensures reads { Gives (λ (h : Header). h) result reader.new (reading (header format) reader.old) }
+    ensures reads { Gives
+        (λ (h : Header). h) result reader.new (reading (header format) reader.old) }
     ensures range { IfOk result IsHeader }
 {
     let low = read_opening(reader)?;
@@ -267,16 +274,19 @@ fn header_at(reader: &mut BitReader<'_>, format: Format) -> Result<Header, Fault
     })
 }
 
-/// Reads a picture header of the expected format, from the bit `1` of the start code to the last PEI (H.263, 5.1).
+/// Reads a picture header of the expected format, from the bit `1` of the start code to the last
+/// PEI (H.263, 5.1).
 pub fn read_header(reader: &mut BitReader<'_>, format: Format) -> Result<Header, Fault>
     // What is read is spelled by the bits that were taken.
     ensures found { IfOk result (λ h. Takes reader.old reader.new (IsHeaderText format h)) }
     // What is spelled is read, whatever follows.
-    ensures only { (h : Header) (text rest : List Bool) → IsHeaderText format h text → reader.old.bits ≡ text ++ rest
+    ensures only { (h : Header) (text rest : List Bool)
+        → IsHeaderText format h text → reader.old.bits ≡ text ++ rest
         → IsOkAnd result (λ found. (found ≡ h) × (reader.new.bits ≡ rest)) }
     // Otherwise it is the first fault, at its place.
     ensures fault { first_fault result ≡ header_fault format reader.old }
-    ensures exact { Gives (λ (h : Header). h) result reader.new (reading (header format) reader.old) }
+    ensures exact { Gives
+        (λ (h : Header). h) result reader.new (reading (header format) reader.old) }
     ensures range { IfOk result IsHeader }
 {
     in_a_syntax();

@@ -1,4 +1,5 @@
-//! Whether two headers are the same, field by field: what `==` says of two headers a proof can't use.
+//! Whether two headers are the same, field by field: what `==` says of two headers a proof can't
+//! use.
 ghost use Rattle.std.specs.Prelude.{◌≡◌, ◌↔◌, true};
 
 use crate::header::Header;
@@ -45,7 +46,8 @@ fn are_same_messages(a: &[Option<Message>; 4], b: &[Option<Message>; 4]) -> bool
 }
 
 fn are_same_numbers(a: &Header, b: &Header) -> bool
-    ensures { (result ≡ true) ↔ ((a.now.tr ≡ b.now.tr) × (a.now.rounding ≡ b.now.rounding) × (a.now.channel ≡ b.now.channel) × (a.now.quant ≡ b.now.quant)) }
+    ensures { (result ≡ true) ↔ ((a.now.tr ≡ b.now.tr) × (a.now.rounding ≡ b.now.rounding)
+        × (a.now.channel ≡ b.now.channel) × (a.now.quant ≡ b.now.quant)) }
 {
     a.tr == b.tr && a.rounding == b.rounding && a.channel == b.channel && a.quant == b.quant
 }

@@ -5,11 +5,12 @@ use h263_bits::{BitReader, BitWriter, Fault, FaultKind};
 use h263_types::{Clock, Format, Kind};
 use std::test::Fail;
 
-/// A P picture of QCIF: TR 5, rounding 1, RPSMF 111, TRP 4, PQUANT 8. A space stands between fields.
+// A P picture of QCIF: TR 5, rounding 1, RPSMF 111, TRP 4, PQUANT 8. A space stands between fields.
 const P_HEADER: &str =
     "100000 00000101 10 010 111 001 010 0 0000011000 1000 001 00 1 001 0 00 111 1 0000000100 01 01000 0";
 
-/// Puts a text of zeros and ones into bytes from place `from` up to place `to` at most. Answers where it ends.
+// Puts a text of zeros and ones into bytes from place `from` up to place `to` at most. Answers
+// where it ends.
 fn put_text(bytes: &mut [u8; 32], from: u32, to: u32, text: &str) -> u32 {
     let mut place = from;
     for digit in text.as_bytes() {
@@ -21,7 +22,8 @@ fn put_text(bytes: &mut [u8; 32], from: u32, to: u32, text: &str) -> u32 {
     place
 }
 
-/// The header in the first `keep` bits of the P picture's header and in the text behind them, or its fault.
+// The header in the first `keep` bits of the P picture's header and in the text behind them, or its
+// fault.
 fn read_changed(format: Format, keep: u32, text: &str) -> Result<Header, Fault> {
     let mut bytes = [0; 32];
     let kept = put_text(&mut bytes, 0, keep, P_HEADER);
@@ -90,7 +92,7 @@ const GREATEST: [Option<Message>; 4] = [
     }),
 ];
 
-/// A P picture of CIF and a custom clock, with four messages of version 2.
+// A P picture of CIF and a custom clock, with four messages of version 2.
 const LONGEST: Header = Header {
     tr: 1023,
     format: Format::Cif,

@@ -1,3 +1,4 @@
+//! The picture header written field by field, and how many bits it has (H.263, 5.1).
 ghost use Rattle.std.specs.Prelude.{◌≡◌, ℕ, ◌+◌, ◌*◌, ◌≤◌, ◌<◌, ◌++◌, ◌∷◌, [], length, Option};
 ghost use Rattle.h263_bits.specs.Bits.{spelled, fields};
 ghost use Rattle.h263_bits.specs.Written.{Appends, len_of, room_of, buffer_of, written};
@@ -47,7 +48,7 @@ fn clock_bit(clock: Clock) -> u32
     }
 }
 
-/// Writes the rest of the start code, TR and PTYPE.
+// Writes the rest of the start code, TR and PTYPE.
 fn write_opening(writer: &mut BitWriter<'_>, tr: u16)
     requires room { len_of writer.old + 22 ≤ room_of writer.old }
     ensures bits { Appends writer.old writer.new (fields (opening_fields tr)) }
@@ -60,7 +61,7 @@ fn write_opening(writer: &mut BitWriter<'_>, tr: u16)
     writer.put(0b111, 3);
 }
 
-/// Writes UFEP and OPPTYPE.
+// Writes UFEP and OPPTYPE.
 fn write_optional_type(writer: &mut BitWriter<'_>, format: Format, clock: Clock)
     requires room { len_of writer.old + 21 ≤ room_of writer.old }
     ensures bits { Appends writer.old writer.new (fields (optional_fields format clock)) }
@@ -73,7 +74,7 @@ fn write_optional_type(writer: &mut BitWriter<'_>, format: Format, clock: Clock)
     writer.put(0b1000, 4);
 }
 
-/// Writes MPPTYPE.
+// Writes MPPTYPE.
 fn write_mandatory_type(writer: &mut BitWriter<'_>, kind: Kind, rounding: u8)
     requires rounding { rounding ≤ 1 }
     requires room { len_of writer.old + 9 ≤ room_of writer.old }
@@ -86,7 +87,7 @@ fn write_mandatory_type(writer: &mut BitWriter<'_>, kind: Kind, rounding: u8)
     writer.put(0b001, 3);
 }
 
-/// Writes PLUSPTYPE.
+// Writes PLUSPTYPE.
 fn write_plus_type(
     writer: &mut BitWriter<'_>,
     format: Format,
@@ -103,7 +104,7 @@ fn write_plus_type(
     write_mandatory_type(writer, kind, rounding);
 }
 
-/// Writes CPCFC, for 30000/1001 pictures a second, and ETR where the clock is custom.
+// Writes CPCFC, for 30000/1001 pictures a second, and ETR where the clock is custom.
 fn write_extended(writer: &mut BitWriter<'_>, clock: Clock, tr: u16)
     requires tr { tr < period_of clock }
     requires room { len_of writer.old + clock_bits clock ≤ room_of writer.old }
@@ -119,7 +120,7 @@ fn write_extended(writer: &mut BitWriter<'_>, clock: Clock, tr: u16)
     }
 }
 
-/// Writes SSS and RPSMF.
+// Writes SSS and RPSMF.
 fn write_channel(writer: &mut BitWriter<'_>, channel: u8)
     requires channel { channel ≤ 3 }
     requires room { len_of writer.old + 5 ≤ room_of writer.old }
@@ -146,7 +147,7 @@ pub fn write_reference(writer: &mut BitWriter<'_>, trp: Option<u16>)
     }
 }
 
-/// Writes BCI 1 and a message.
+// Writes BCI 1 and a message.
 fn write_next_message(writer: &mut BitWriter<'_>, message: &Message)
     requires message { IsMessage Custom message.now }
     requires room { len_of writer.old + (1 + message_bits message.now) ≤ room_of writer.old }
@@ -157,10 +158,11 @@ fn write_next_message(writer: &mut BitWriter<'_>, message: &Message)
     write_message(writer, message);
 }
 
-/// Writes the messages, each behind a BCI 1, and BCI 01.
+// Writes the messages, each behind a BCI 1, and BCI 01.
 fn write_back(writer: &mut BitWriter<'_>, places: &[Option<Message>; 4])
     requires each { AreMessages Custom (messages_in places.now) }
-    requires room { len_of writer.old + (2 + back_bits (messages_in places.now)) ≤ room_of writer.old }
+    requires room { len_of writer.old + (2 + back_bits (messages_in places.now))
+        ≤ room_of writer.old }
     ensures bits { Appends writer.old writer.new (back_text (messages_in places.now)) }
     ensures len { len_of writer.new ≡ len_of writer.old + (2 + back_bits (messages_in places.now)) }
 {
@@ -173,18 +175,19 @@ fn write_back(writer: &mut BitWriter<'_>, places: &[Option<Message>; 4])
     writer.put(1, 1);
 }
 
-/// Writes PQUANT, and PEI 0.
+// Writes PQUANT, and PEI 0.
 fn write_end(writer: &mut BitWriter<'_>, quant: u8)
     requires quant { quant ≤ 31 }
     requires room { len_of writer.old + 6 ≤ room_of writer.old }
-    ensures bits { Appends writer.old writer.new (fields ((5, quant) ∷ []) ++ fields ((1, 0) ∷ [])) }
+    ensures bits { Appends writer.old writer.new
+        (fields ((5, quant) ∷ []) ++ fields ((1, 0) ∷ [])) }
     ensures len { len_of writer.new ≡ len_of writer.old + 6 }
 {
     writer.put(quant as u32, 5);
     writer.put(0, 1);
 }
 
-/// Writes what says which picture it is.
+// Writes what says which picture it is.
 fn write_front(writer: &mut BitWriter<'_>, header: &Header)
     requires header { IsHeader header.now }
     requires room { len_of writer.old + (53 + clock_bits header.now.clock) ≤ room_of writer.old }
@@ -203,12 +206,14 @@ fn write_front(writer: &mut BitWriter<'_>, header: &Header)
     write_extended(writer, header.clock, header.tr);
 }
 
-/// Writes the reference, the messages and the quantiser.
+// Writes the reference, the messages and the quantiser.
 fn write_rest(writer: &mut BitWriter<'_>, header: &Header)
     requires header { IsHeader header.now }
-    requires room { len_of writer.old + (14 + reference_bits header.now.trp + back_bits (messages_in header.now.back)) ≤ room_of writer.old }
+    requires room { len_of writer.old + (14 + reference_bits header.now.trp
+        + back_bits (messages_in header.now.back)) ≤ room_of writer.old }
     ensures bits { Appends writer.old writer.new (written_rest header.now) }
-    ensures len { len_of writer.new ≡ len_of writer.old + (14 + reference_bits header.now.trp + back_bits (messages_in header.now.back)) }
+    ensures len { len_of writer.new ≡ len_of writer.old
+        + (14 + reference_bits header.now.trp + back_bits (messages_in header.now.back)) }
 {
     in_a_syntax();
     write_channel(writer, header.channel);
@@ -217,7 +222,8 @@ fn write_rest(writer: &mut BitWriter<'_>, header: &Header)
     write_end(writer, header.quant);
 }
 
-/// Writes a picture header, from the bit `1` of the start code to PEI (H.263, 5.1). It has `header_bits` bits.
+/// Writes a picture header, from the bit `1` of the start code to PEI (H.263, 5.1). It has
+/// `header_bits` bits.
 pub fn write_header(writer: &mut BitWriter<'_>, header: &Header)
     requires header { IsHeader header.now }
     requires room { len_of writer.old + written_bits header.now ≤ room_of writer.old }
@@ -230,7 +236,7 @@ pub fn write_header(writer: &mut BitWriter<'_>, header: &Header)
     write_rest(writer, header);
 }
 
-/// The bits of CPCFC and ETR, where they are there.
+// The bits of CPCFC and ETR, where they are there.
 fn extended_bits(clock: Clock) -> u32
     ensures bits { result ≡ clock_bits clock }
     ensures few { result ≤ 10 }
@@ -241,7 +247,7 @@ fn extended_bits(clock: Clock) -> u32
     }
 }
 
-/// The bits of TRP, where it is there.
+// The bits of TRP, where it is there.
 fn trp_bits(trp: Option<u16>) -> u32
     ensures bits { result ≡ reference_bits trp }
     ensures few { result ≤ 10 }
@@ -252,7 +258,7 @@ fn trp_bits(trp: Option<u16>) -> u32
     }
 }
 
-/// The bits that the messages and their BCIs 1 take.
+// The bits that the messages and their BCIs 1 take.
 fn messages_bits(places: &[Option<Message>; 4]) -> u32
     ensures bits { result ≡ back_bits (messages_in places.now) }
     ensures few { result ≤ 164 }

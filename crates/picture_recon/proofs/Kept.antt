@@ -7,12 +7,14 @@ use Rattle.h263_types.specs.Blocks.{IsDc, IsIntraBlock, IsLevel, IsValue, level_
 use Rattle.idct8.specs.Ranges.{Within}
 use Rattle.picture_recon.specs.Samples.{inter_value, intra_value, limited}
 
+-- a value of a level comes back from 16 bits
 pub kept : (z : ℤ) → IsValue z → to_z w16 (of_z w16 z) ≡ z
 kept z h = omega (arith, ints)
 
 pub kept_number : (z : ℤ) → Within (2 ^ 15) z → to_z w32 (of_z w32 z) ≡ z
 kept_number z h = omega (arith, ints)
 
+-- so does a level
 pub kept_level : (z : ℤ) → IsLevel z → to_z w16 (of_z w16 z) ≡ z
 kept_level z h = omega (arith, ints)
 
@@ -28,6 +30,7 @@ small_level z h = (omega (arith, ints), omega (arith, ints))
 pub small_dc : (z : ℤ) → IsDc z → Within (2 ^ 8) z
 small_dc z h = (omega (arith, ints), omega (arith, ints))
 
+-- so does INTRADC
 pub same_dc : (z : ℤ) → IsDc z → to_z w16 (of_z w16 z) ≡ z
 same_dc z h = omega (arith, ints)
 
@@ -41,6 +44,7 @@ value_of_dc z h = record { low = omega (arith, ints); high = omega (arith, ints)
 later : (k : ℕ) (first other : ℤ) → 1 ≤ k → other ≡ cond (nat_eq k 0) first other
 later k first other h = grind (arith, nat_tests)
 
+-- but for the first one the values of intra and inter blocks are the same
 pub other_value : (quant : ℕ) (b : Block) (k : ℕ) → 1 ≤ k → inter_value quant b k ≡ intra_value quant b k
 other_value quant b k h = later k _ (inter_value quant b k) h
 

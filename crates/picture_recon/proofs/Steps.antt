@@ -18,6 +18,7 @@ with_first f xs v long first others (suc k) h =
     let other : suc k ≢ 0 = omega arith in
     get_or-set_other xs 0 (suc k) v (pos 0) other ∙ others (suc k) (omega arith) h
 
+-- 64 numbers of which the first one is put, and the others are there
 pub first_put : (f : ℕ → ℤ) (xs : List ℤ) (v : ℤ) → length xs ≡ 64 → v ≡ f 0 →
     ((k : ℕ) → 1 ≤ k → k < 64 → get_or xs k (pos 0) ≡ f k) → slice_set xs 0 v ≡ map f (range_with_len 0 64)
 first_put f xs v long first others =
@@ -89,6 +90,7 @@ pub more_blocks : (m at bl b now blk old before val : ℕ) →
     now ≡ cond (nat_eq m at && nat_lt bl (b + 1)) val old
 more_blocks m at bl b now blk old before val h1 h2 h3 = grind (arith, nat_tests)
 
+-- a macroblock has six blocks
 pub six_blocks : (plane : Plane) (x y : ℕ) → block_of plane x y < 6
 six_blocks Y x y = omega arith
 six_blocks Cb x y = lit< tt

@@ -92,6 +92,7 @@ ends one quant b rest values none before at some less =
 pub none_at_all : (b : Block) (marks : ℕ) → AreMarked b.levels marks → marks ≡ 0 → (k : ℕ) → k < 64 → level_at b k ≡ pos 0
 none_at_all b marks marked none k less = marked k less (ap (λ (n : ℕ). bit_at n k) none ∙ bit_at-zero k)
 
+-- where the first place alone is marked no later level is left
 pub none_later : (b : Block) (marks : ℕ) → AreMarked b.levels marks → marks ≡ 1 → (k : ℕ) → 1 ≤ k → k < 64 → level_at b k ≡ pos 0
 none_later b marks marked first k some less =
     let other : k ≢ 0 = omega arith in

@@ -63,7 +63,8 @@ sample_in rounding reference Skip plane x y = same_place reference plane x y
 sample_in rounding reference (Intra quant blocks) plane x y =
     limited (inverse_at (intra_values quant (block_in blocks (block_of plane x y))) (y % 8) (x % 8))
 sample_in rounding reference (Inter quant vector blocks) plane x y =
-    limited (pos (predicted_in rounding reference vector plane x y) +ℤ inverse_at (inter_values quant (block_in blocks (block_of plane x y))) (y % 8) (x % 8))
+    limited (pos (predicted_in rounding reference vector plane x y) +ℤ inverse_at
+    (inter_values quant (block_in blocks (block_of plane x y))) (y % 8) (x % 8))
 
 -- The picture of macroblocks: each sample is by the macroblock and the block that hold it. Of the picture's header
 -- this takes the format and the rounding.

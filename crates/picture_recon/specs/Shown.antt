@@ -19,7 +19,8 @@ ShowsFirst f rounding reference mbs count p =
 abbrev pub SetsMb : Format → ℕ → Option Picture → ℕ → Mb → Picture → Picture → Type 0
 SetsMb f rounding reference at mb old new =
     (plane : Plane) (x y : ℕ) → Inside f plane x y 1
-    → sample_at new plane x y ≡ (if nat_eq (mb_of f plane x y) at then sample_in rounding reference mb plane x y else sample_at old plane x y)
+    → sample_at new plane x y ≡ (if nat_eq (mb_of f plane x y) at
+    then sample_in rounding reference mb plane x y else sample_at old plane x y)
 
 -- the macroblocks of a slice, the first of which has number `first`, are set, and all other samples stay
 abbrev pub SetsSlice : Format → ℕ → Option Picture → ℕ → List Mb → Picture → Picture → Type 0

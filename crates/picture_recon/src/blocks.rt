@@ -25,7 +25,10 @@ pub(crate) fn put_block(
     ensures same_loan { loan_of out.new ≡ loan_of out.old }
     ensures format { (work out.new).format ≡ format }
     ensures whole { IsPicture (work out.new) }
-    ensures samples { (plane : Plane) (x y : ℕ) → Inside format plane x y 1 → sample_at (work out.new) plane x y ≡ (if nat_eq (mb_of format plane x y) at && nat_eq (block_of plane x y) block then slice_index samples.now (8 * (y % 8) + x % 8) else sample_at (work out.old) plane x y) }
+    ensures samples { (plane : Plane) (x y : ℕ) → Inside format plane x y 1
+        → sample_at (work out.new) plane x y ≡ (if nat_eq (mb_of format plane x y) at
+        && nat_eq (block_of plane x y) block then slice_index samples.now (8 * (y % 8) + x % 8)
+        else sample_at (work out.old) plane x y) }
 {
     put_samples(out, block_corner(format, at, block), samples);
 }
@@ -37,7 +40,10 @@ pub(crate) fn put_samples(out: &mut PictureMut<'_>, corner: Corner, samples: &[u
     ensures same_loan { loan_of out.new ≡ loan_of out.old }
     ensures format { (work out.new).format ≡ (work out.old).format }
     ensures whole { IsPicture (work out.new) }
-    ensures samples { (plane : Plane) (x y : ℕ) → Inside (work out.old).format plane x y 1 → sample_at (work out.new) plane x y ≡ (if in_block corner.plane corner.x corner.y 8 8 plane x y then slice_index samples.now (8 * (y % 8) + x % 8) else sample_at (work out.old) plane x y) }
+    ensures samples { (plane : Plane) (x y : ℕ)
+        → Inside (work out.old).format plane x y 1 → sample_at (work out.new) plane x y
+        ≡ (if in_block corner.plane corner.x corner.y 8 8 plane x y then slice_index samples.now
+        (8 * (y % 8) + x % 8) else sample_at (work out.old) plane x y) }
 {
     for k in 0..8u32 {
         let at = 8 * k as usize;
@@ -49,7 +55,8 @@ pub(crate) fn put_samples(out: &mut PictureMut<'_>, corner: Corner, samples: &[u
 #[inline(always)]
 pub(crate) fn samples_at(seen: PictureRef<'_>, corner: Corner) -> [u8; 64]
     requires { IsCorner (picture seen).format corner }
-    ensures { (j i : ℕ) → j < 8 → i < 8 → slice_index result (8 * j + i) ≡ sample_at (picture seen.entry) corner.plane (corner.x + i) (corner.y + j) }
+    ensures { (j i : ℕ) → j < 8 → i < 8 → slice_index result (8 * j + i)
+        ≡ sample_at (picture seen.entry) corner.plane (corner.x + i) (corner.y + j) }
 {
     let mut samples = [0; 64];
     for j in 0..8u32 {

@@ -23,8 +23,9 @@ use h263_planes::{PictureMut, PictureRef};
 use h263_types::{Block, Format, Mb, SliceHead};
 use picture_header::Header;
 
-/// Sets the samples of macroblock `at` in `out`, a picture of the header's format; all other samples stay. A P picture
-/// has a reference, and in it a macroblock may be skipped or predicted (H.263, 6.1 to 6.3).
+/// Sets the samples of macroblock `at` in `out`, a picture of the header's format; all other
+/// samples stay. A P picture has a reference, and in it a macroblock may be skipped or predicted
+/// (H.263, 6.1 to 6.3).
 pub fn recon_mb(
     mb: &Mb,
     at: u32,
@@ -32,7 +33,8 @@ pub fn recon_mb(
     reference: Option<PictureRef<'_>>,
     out: &mut PictureMut<'_>,
 )
-    requires reference { HasReference header.now.kind header.now.format (option_map picture reference) }
+    requires reference { HasReference header.now.kind header.now.format
+        (option_map picture reference) }
     requires rounding { header.now.rounding ≤ 1 }
     requires format { (work out.old).format ≡ header.now.format }
     requires at { at < mbs_of header.now.format }
@@ -42,7 +44,8 @@ pub fn recon_mb(
     ensures same_loan { loan_of out.new ≡ loan_of out.old }
     ensures format { (work out.new).format ≡ header.now.format }
     ensures whole { IsPicture (work out.new) }
-    ensures samples { SetsMb header.now.format header.now.rounding (option_map picture reference.entry) at mb.now (work out.old) (work out.new) }
+    ensures samples { SetsMb header.now.format header.now.rounding
+        (option_map picture reference.entry) at mb.now (work out.old) (work out.new) }
 {
     match mb {
         Mb::Skip => {
@@ -80,7 +83,8 @@ fn put_intra(quant: u8, blocks: &[Block; 6], at: u32, format: Format, out: &mut 
     ensures same_loan { loan_of out.new ≡ loan_of out.old }
     ensures format { (work out.new).format ≡ format }
     ensures whole { IsPicture (work out.new) }
-    ensures samples { (rounding : ℕ) (reference : Option Picture) → SetsMb format rounding reference at (Intra quant blocks.now) (work out.old) (work out.new) }
+    ensures samples { (rounding : ℕ) (reference : Option Picture) →
+        SetsMb format rounding reference at (Intra quant blocks.now) (work out.old) (work out.new) }
 {
     for block in 0..6u32 {
         let samples = intra_samples(quant, &blocks[block as usize]);
@@ -88,8 +92,9 @@ fn put_intra(quant: u8, blocks: &[Block; 6], at: u32, format: Format, out: &mut 
     }
 }
 
-/// Sets the samples of the macroblocks of a slice in `out`, a picture of the header's format. `mbs` are those of a whole
-/// picture, of which only the slice's are used; all other samples stay. A P picture has a reference.
+/// Sets the samples of the macroblocks of a slice in `out`, a picture of the header's format. `mbs`
+/// are those of a whole picture, of which only the slice's are used; all other samples stay. A P
+/// picture has a reference.
 pub fn recon_slice(
     mbs: &[Mb],
     head: SliceHead,
@@ -97,18 +102,26 @@ pub fn recon_slice(
     reference: Option<PictureRef<'_>>,
     out: &mut PictureMut<'_>,
 )
-    requires reference { HasReference header.now.kind header.now.format (option_map picture reference) }
+    requires reference { HasReference header.now.kind header.now.format
+        (option_map picture reference) }
     requires rounding { header.now.rounding ≤ 1 }
     requires format { (work out.old).format ≡ header.now.format }
     requires mbs { length mbs.now ≡ mbs_of header.now.format }
     requires head { IsHeadOf header.now.format head }
-    requires of_kind { (k : ℕ) → head.first ≤ k → k < head.first + head.count → IsOfKind header.now.kind (mb_in mbs.now k) }
-    requires in_range { (k : ℕ) → head.first ≤ k → k < head.first + head.count → IsMb (mb_in mbs.now k) }
-    requires reach { (k : ℕ) → head.first ≤ k → k < head.first + head.count → ReachesInside header.now.format k (mb_in mbs.now k) }
+    requires of_kind { (k : ℕ) → head.first ≤ k
+        → k < head.first + head.count → IsOfKind header.now.kind (mb_in mbs.now k) }
+    requires in_range { (k : ℕ)
+        → head.first ≤ k → k < head.first + head.count → IsMb (mb_in mbs.now k) }
+    requires reach { (k : ℕ) → head.first ≤ k
+        → k < head.first + head.count → ReachesInside header.now.format k (mb_in mbs.now k) }
     ensures same_loan { loan_of out.new ≡ loan_of out.old }
     ensures format { (work out.new).format ≡ header.now.format }
     ensures whole { IsPicture (work out.new) }
-    ensures samples { (plane : Plane) (x y : ℕ) → Inside header.now.format plane x y 1 → sample_at (work out.new) plane x y ≡ (if nat_le head.first (mb_of header.now.format plane x y) && nat_lt (mb_of header.now.format plane x y) (head.first + head.count) then sample_in header.now.rounding (option_map picture reference.entry) (mb_in mbs.now (mb_of header.now.format plane x y)) plane x y else sample_at (work out.old) plane x y) }
+    ensures samples { (plane : Plane) (x y : ℕ) → Inside header.now.format plane x y 1 → sample_at
+        (work out.new) plane x y ≡ (if nat_le head.first (mb_of header.now.format plane x y)
+        && nat_lt (mb_of header.now.format plane x y) (head.first + head.count)
+        then sample_in header.now.rounding (option_map picture reference.entry) (mb_in mbs.now
+        (mb_of header.now.format plane x y)) plane x y else sample_at (work out.old) plane x y) }
 {
     for at in head.first..head.first + head.count {
         recon_mb(&mbs[at as usize], at, header, reference, out);

@@ -26,8 +26,8 @@ use half_sample::predict;
 use idct8::laws::zeros_give_zeros;
 use quantiser::laws::one_order;
 
-// Sets the samples of an inter macroblock: the predicted ones, and then those of the blocks that have levels. Luma stands
-// apart from the colours, so that each is compiled for its plane.
+// Sets the samples of an inter macroblock: the predicted ones, and then those of the blocks that
+// have levels. Luma stands apart from the colours, so that each is compiled for its plane.
 pub(crate) fn put_inter(
     reference: PictureRef<'_>,
     rounding: u8,
@@ -47,7 +47,8 @@ pub(crate) fn put_inter(
     ensures same_loan { loan_of out.new ≡ loan_of out.old }
     ensures format { (work out.new).format ≡ format }
     ensures whole { IsPicture (work out.new) }
-    ensures samples { SetsMb format rounding (Some (picture reference.entry)) at (Inter quant vector blocks.now) (work out.old) (work out.new) }
+    ensures samples { SetsMb format rounding (Some (picture reference.entry)) at
+        (Inter quant vector blocks.now) (work out.old) (work out.new) }
 {
     put_predicted(reference, at, vector, rounding, format, out);
     for block in 0..4u32 {
@@ -57,7 +58,8 @@ pub(crate) fn put_inter(
     add_block(quant, &blocks[5], at, 5, format, out);
 }
 
-// Adds what its levels stand for to the samples of block `block` of macroblock `at`, which are the predicted ones.
+// Adds what its levels stand for to the samples of block `block` of macroblock `at`, which are the
+// predicted ones.
 #[inline(always)]
 fn add_block(
     quant: u8,
@@ -73,11 +75,16 @@ fn add_block(
     requires quant { IsQuant quant }
     requires levels { IsInterBlock levels.now }
     requires whole { IsPicture (work out.old) }
-    requires samples { (plane : Plane) (x y : ℕ) → Inside format plane x y 1 → mb_of format plane x y ≡ at → sample_at (work out.old) plane x y < 256 }
+    requires samples { (plane : Plane) (x y : ℕ) → Inside format plane x y 1
+        → mb_of format plane x y ≡ at → sample_at (work out.old) plane x y < 256 }
     ensures same_loan { loan_of out.new ≡ loan_of out.old }
     ensures format { (work out.new).format ≡ format }
     ensures whole { IsPicture (work out.new) }
-    ensures samples { (plane : Plane) (x y : ℕ) → Inside format plane x y 1 → sample_at (work out.new) plane x y ≡ (if nat_eq (mb_of format plane x y) at && nat_eq (block_of plane x y) block then limited (pos (sample_at (work out.old) plane x y) +ℤ inverse_at (inter_values quant levels.now) (y % 8) (x % 8)) else sample_at (work out.old) plane x y) }
+    ensures samples { (plane : Plane) (x y : ℕ)
+        → Inside format plane x y 1 → sample_at (work out.new) plane x y
+        ≡ (if nat_eq (mb_of format plane x y) at && nat_eq (block_of plane x y) block
+        then limited (pos (sample_at (work out.old) plane x y) +ℤ inverse_at
+        (inter_values quant levels.now) (y % 8) (x % 8)) else sample_at (work out.old) plane x y) }
 {
     let marks = marks_of(*levels);
     if marks == 0 {
@@ -108,8 +115,12 @@ fn put_predicted(
     ensures same_loan { loan_of out.new ≡ loan_of out.old }
     ensures format { (work out.new).format ≡ format }
     ensures whole { IsPicture (work out.new) }
-    ensures samples { (plane : Plane) (x y : ℕ) → Inside format plane x y 1 → sample_at (work out.new) plane x y ≡ (if nat_eq (mb_of format plane x y) at then predicted_sample (picture reference.entry) plane x y vector rounding else sample_at (work out.old) plane x y) }
-    ensures small { (plane : Plane) (x y : ℕ) → Inside format plane x y 1 → mb_of format plane x y ≡ at → predicted_sample (picture reference.entry) plane x y vector rounding < 256 }
+    ensures samples { (plane : Plane) (x y : ℕ) → Inside format plane x y 1
+        → sample_at (work out.new) plane x y ≡ (if nat_eq (mb_of format plane x y) at
+        then predicted_sample (picture reference.entry) plane x y vector rounding
+        else sample_at (work out.old) plane x y) }
+    ensures small { (plane : Plane) (x y : ℕ) → Inside format plane x y 1 → mb_of format plane x y
+        ≡ at → predicted_sample (picture reference.entry) plane x y vector rounding < 256 }
 {
     let samples = predict(reference, at, vector, rounding);
     put_plane(Plane::Y, &samples.y, at, format, out);
@@ -126,11 +137,14 @@ fn put_plane(plane: Plane, samples: &[u8], at: u32, format: Format, out: &mut Pi
     ensures same_loan { loan_of out.new ≡ loan_of out.old }
     ensures format { (work out.new).format ≡ format }
     ensures whole { IsPicture (work out.new) }
-    ensures samples { (p : Picture) (v : Vector) (r : ℕ) → p.format ≡ format → ArePredicted (columns_in plane) p plane at v r samples.now
-        → (other : Plane) (x y : ℕ) → Inside format other x y 1
-        → sample_at (work out.new) other x y ≡ (if same_plane plane other && nat_eq (mb_of format other x y) at then predicted_sample p other x y v r else sample_at (work out.old) other x y) }
-    ensures small { (p : Picture) (v : Vector) (r : ℕ) → p.format ≡ format → ArePredicted (columns_in plane) p plane at v r samples.now
-        → (x y : ℕ) → Inside format plane x y 1 → mb_of format plane x y ≡ at → predicted_sample p plane x y v r < 256 }
+    ensures samples { (p : Picture) (v : Vector) (r : ℕ)
+        → p.format ≡ format → ArePredicted (columns_in plane) p plane at v r samples.now
+        → (other : Plane) (x y : ℕ) → Inside format other x y 1 → sample_at (work out.new) other x y
+        ≡ (if same_plane plane other && nat_eq (mb_of format other x y) at
+        then predicted_sample p other x y v r else sample_at (work out.old) other x y) }
+    ensures small { (p : Picture) (v : Vector) (r : ℕ) → p.format ≡ format → ArePredicted
+        (columns_in plane) p plane at v r samples.now → (x y : ℕ) → Inside format plane x y 1
+        → mb_of format plane x y ≡ at → predicted_sample p plane x y v r < 256 }
 {
     put_square(plane, square_of(format, plane, at), samples, format, out);
 }

@@ -25,7 +25,9 @@ pub(crate) fn put_skipped(
     ensures same_loan { loan_of out.new ≡ loan_of out.old }
     ensures format { (work out.new).format ≡ format }
     ensures whole { IsPicture (work out.new) }
-    ensures samples { (plane : Plane) (x y : ℕ) → Inside format plane x y 1 → sample_at (work out.new) plane x y ≡ (if nat_eq (mb_of format plane x y) at then sample_at (picture reference.entry) plane x y else sample_at (work out.old) plane x y) }
+    ensures samples { (plane : Plane) (x y : ℕ) → Inside format plane x y 1
+        → sample_at (work out.new) plane x y ≡ (if nat_eq (mb_of format plane x y) at then sample_at
+        (picture reference.entry) plane x y else sample_at (work out.old) plane x y) }
 {
     copy_in_plane(reference, Plane::Y, at, format, out);
     copy_in_plane(reference, Plane::Cb, at, format, out);
@@ -46,7 +48,10 @@ fn copy_in_plane(
     ensures same_loan { loan_of out.new ≡ loan_of out.old }
     ensures format { (work out.new).format ≡ format }
     ensures whole { IsPicture (work out.new) }
-    ensures samples { (other : Plane) (x y : ℕ) → Inside format other x y 1 → sample_at (work out.new) other x y ≡ (if same_plane plane other && nat_eq (mb_of format other x y) at then sample_at (picture reference.entry) other x y else sample_at (work out.old) other x y) }
+    ensures samples { (other : Plane) (x y : ℕ)
+        → Inside format other x y 1 → sample_at (work out.new) other x y
+        ≡ (if same_plane plane other && nat_eq (mb_of format other x y) at then sample_at
+        (picture reference.entry) other x y else sample_at (work out.old) other x y) }
 {
     copy_square(reference, plane, square_of(format, plane, at), format, out);
 }
@@ -65,7 +70,10 @@ fn copy_square(
     ensures same_loan { loan_of out.new ≡ loan_of out.old }
     ensures format { (work out.new).format ≡ format }
     ensures whole { IsPicture (work out.new) }
-    ensures samples { (other : Plane) (x y : ℕ) → Inside format other x y 1 → sample_at (work out.new) other x y ≡ (if in_block plane square.x square.y square.size square.size other x y then sample_at (picture reference.entry) other x y else sample_at (work out.old) other x y) }
+    ensures samples { (other : Plane) (x y : ℕ)
+        → Inside format other x y 1 → sample_at (work out.new) other x y
+        ≡ (if in_block plane square.x square.y square.size square.size other x y then sample_at
+        (picture reference.entry) other x y else sample_at (work out.old) other x y) }
 {
     for k in 0..square.size {
         let row = reference.row(plane, square.x, square.y + k, square.size);

@@ -10,7 +10,7 @@ ghost use Rattle.picture_recon.specs.Squares.{IsInside, columns_in};
 use h263_planes::{PictureMut, Plane, mb_place};
 use h263_types::Format;
 
-/// A macroblock's samples in one plane: `size` columns and rows from a column and a row on.
+// A macroblock's samples in one plane: `size` columns and rows from a column and a row on.
 #[derive(Clone, Copy)]
 pub(crate) struct Square {
     pub(crate) x: u32,
@@ -26,7 +26,9 @@ pub(crate) fn square_of(format: Format, plane: Plane, at: u32) -> Square
     ensures column { result.x ≡ result.size * (at % columns_of format) }
     ensures row { result.y ≡ result.size * (at / columns_of format) }
     ensures inside { IsInside format plane result }
-    ensures samples { (other : Plane) (x y : ℕ) → Inside format other x y 1 → in_block plane result.x result.y result.size result.size other x y ≡ (same_plane plane other && nat_eq (mb_of format other x y) at) }
+    ensures samples { (other : Plane) (x y : ℕ) → Inside format other x y 1
+        → in_block plane result.x result.y result.size result.size other x y
+        ≡ (same_plane plane other && nat_eq (mb_of format other x y) at) }
 {
     let size = match plane {
         Plane::Y => 16,
@@ -56,7 +58,10 @@ pub(crate) fn put_square(
     ensures same_loan { loan_of out.new ≡ loan_of out.old }
     ensures format { (work out.new).format ≡ format }
     ensures whole { IsPicture (work out.new) }
-    ensures samples { (other : Plane) (x y : ℕ) → Inside format other x y 1 → sample_at (work out.new) other x y ≡ (if in_block plane square.x square.y square.size square.size other x y then slice_index samples.now (square.size * (y - square.y) + (x - square.x)) else sample_at (work out.old) other x y) }
+    ensures samples { (other : Plane) (x y : ℕ)
+        → Inside format other x y 1 → sample_at (work out.new) other x y ≡ (if in_block
+        plane square.x square.y square.size square.size other x y then slice_index samples.now
+        (square.size * (y - square.y) + (x - square.x)) else sample_at (work out.old) other x y) }
     ensures bytes { (k : ℕ) → slice_index samples.now k < 256 }
 {
     let size = square.size as usize;
@@ -73,7 +78,8 @@ fn row_of(samples: &[u8], size: usize, k: usize) -> &[u8]
     requires k { k < size }
     requires samples { length samples.now ≡ size * size }
     ensures length { length result.now ≡ size }
-    ensures samples { (i : ℕ) → i < size → slice_index result.now i ≡ slice_index samples.now (size * k + i) }
+    ensures samples { (i : ℕ)
+        → i < size → slice_index result.now i ≡ slice_index samples.now (size * k + i) }
 {
     &samples[size * k..size * k + size]
 }

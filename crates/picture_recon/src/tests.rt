@@ -1,3 +1,4 @@
+//! Samples of macroblocks against the double sum, and a P picture's against its reference.
 ghost use Rattle.std.specs.Prelude.{◌≡◌, ℕ, ◌<◌, ◌≤◌};
 ghost use Rattle.h263_types.specs.Blocks.{IsDc, IsInterBlock, IsIntraBlock, IsLevel, IsMb, IsOfKind, mb_in};
 ghost use Rattle.h263_types.specs.Vectors.{InReach};
@@ -54,7 +55,8 @@ fn macroblock() -> Mb
     Mb::Intra { quant: 8, blocks }
 }
 
-// Samples of those blocks in macroblock 9, the second of the second row, and samples beside it, by the double sum.
+// Samples of those blocks in macroblock 9, the second of the second row, and samples beside it, by
+// the double sum.
 const SAMPLES: [(Plane, u32, u32, u8); 16] = [
     (Plane::Y, 16, 16, 107),
     (Plane::Y, 23, 23, 0),
@@ -200,8 +202,8 @@ const PLACES: [(Plane, u32, u32); 12] = [
     (Plane::Cr, 15, 11),
 ];
 
-// A vector, the rounding, the samples at those places and the sum of the macroblock's samples, by the four formulas and
-// the double sum.
+// A vector, the rounding, the samples at those places and the sum of the macroblock's samples, by
+// the four formulas and the double sum.
 const PREDICTED: [(i8, i8, u8, [u8; 12], u32); 8] = [
     (
         -5,

@@ -13,11 +13,13 @@ use quantiser::laws::one_order;
 use quantiser::{block_place, value};
 use std::simd::prelude::*;
 
-// The samples of a block of an intra macroblock, by rows: INTRADC itself where the block has no other level.
+// The samples of a block of an intra macroblock, by rows: INTRADC itself where the block has no
+// other level.
 pub(crate) fn intra_samples(quant: u8, block: &Block) -> [u8; 64]
     requires quant { IsQuant quant }
     requires block { IsIntraBlock block.now }
-    ensures { (y x : ℕ) → y < 8 → x < 8 → slice_index result (8 * y + x) ≡ limited (inverse_at (intra_values quant block.now) y x) }
+    ensures { (y x : ℕ) → y < 8 → x < 8
+        → slice_index result (8 * y + x) ≡ limited (inverse_at (intra_values quant block.now) y x) }
 {
     one_order();
     let marks = marks_of(*block);
@@ -35,14 +37,16 @@ fn flat(dc: i16) -> [u8; 64]
     [dc as u8; 64]
 }
 
-// The samples of a block of an inter macroblock, by rows, from the predicted ones. Where it has the first level alone, the
-// same number is added to all. It is not taken into its three callers, which mostly have no level.
+// The samples of a block of an inter macroblock, by rows, from the predicted ones. Where it has the
+// first level alone, the same number is added to all. It is not taken into its three callers, which
+// mostly have no level.
 #[inline(never)]
 pub(crate) fn inter_samples(quant: u8, block: &Block, marks: u64, predicted: &[u8; 64]) -> [u8; 64]
     requires quant { IsQuant quant }
     requires block { IsInterBlock block.now }
     requires marked { AreMarked block.now.levels marks }
-    ensures { (y x : ℕ) → y < 8 → x < 8 → slice_index result (8 * y + x) ≡ limited (pos (slice_index predicted.now (8 * y + x)) +ℤ inverse_at (inter_values quant block.now) y x) }
+    ensures { (y x : ℕ) → y < 8 → x < 8 → slice_index result (8 * y + x) ≡ limited (pos
+        (slice_index predicted.now (8 * y + x)) +ℤ inverse_at (inter_values quant block.now) y x) }
 {
     if marks == FIRST_ALONE {
         one_order();
@@ -74,7 +78,8 @@ pub(crate) fn marks_of(block: Block) -> u64
     block.marks()
 }
 
-// The values of a block of an intra macroblock, by rows: 8 times INTRADC, and those of the other levels.
+// The values of a block of an intra macroblock, by rows: 8 times INTRADC, and those of the other
+// levels.
 fn values_of_intra(quant: u8, block: &Block, marks: u64) -> [i16; 64]
     requires quant { IsQuant quant }
     requires block { IsIntraBlock block.now }
@@ -100,14 +105,16 @@ fn values_of_inter(quant: u8, block: &Block, marks: u64) -> [i16; 64]
     values
 }
 
-// The values of a block's levels, by rows, but for the first. Goes from mark to mark, since most levels are 0.
+// The values of a block's levels, by rows, but for the first. Goes from mark to mark, since most
+// levels are 0.
 #[inline(always)]
 fn values_but_first(quant: u8, block: &Block, marks: u64) -> [i16; 64]
     requires quant { IsQuant quant }
     requires levels { (k : ℕ) → 1 ≤ k → k < 64 → IsLevel (level_at block.now k) }
     requires marked { AreMarked block.now.levels marks }
     ensures long { length result ≡ 64 }
-    ensures values { (at : ℕ) → 1 ≤ at → at < 64 → slice_index_or result at (pos 0) ≡ inter_value quant block.now at }
+    ensures values { (at : ℕ)
+        → 1 ≤ at → at < 64 → slice_index_or result at (pos 0) ≡ inter_value quant block.now at }
     ensures range { All IsValue result }
 {
     one_order();
@@ -123,7 +130,8 @@ fn values_but_first(quant: u8, block: &Block, marks: u64) -> [i16; 64]
 
 // Each number limited to 0 to 255.
 fn limited_samples(numbers: &[i32; 64]) -> [u8; 64]
-    ensures { (at : ℕ) → at < 64 → slice_index result at ≡ limited (slice_index_or numbers.now at (pos 0)) }
+    ensures { (at : ℕ)
+        → at < 64 → slice_index result at ≡ limited (slice_index_or numbers.now at (pos 0)) }
 {
     let mut samples = [0; 64];
     for at in 0..64 {
@@ -134,8 +142,10 @@ fn limited_samples(numbers: &[i32; 64]) -> [u8; 64]
 
 // The sum of each sample and the number at its place, limited to 0 to 255.
 fn limited_sums(predicted: &[u8; 64], numbers: &[i32; 64]) -> [u8; 64]
-    requires numbers { (at : ℕ) → at < 64 → Within (2 ^ 15) (slice_index_or numbers.now at (pos 0)) }
-    ensures { (at : ℕ) → at < 64 → slice_index result at ≡ limited (pos (slice_index predicted.now at) +ℤ slice_index_or numbers.now at (pos 0)) }
+    requires numbers { (at : ℕ)
+        → at < 64 → Within (2 ^ 15) (slice_index_or numbers.now at (pos 0)) }
+    ensures { (at : ℕ) → at < 64 → slice_index result at
+        ≡ limited (pos (slice_index predicted.now at) +ℤ slice_index_or numbers.now at (pos 0)) }
 {
     let mut samples = [0; 64];
     for at in 0..64 {
@@ -147,7 +157,8 @@ fn limited_sums(predicted: &[u8; 64], numbers: &[i32; 64]) -> [u8; 64]
 // The sum of each sample and one number, limited to 0 to 255.
 fn limited_sums_with_one(predicted: &[u8; 64], number: i32) -> [u8; 64]
     requires number { Within (2 ^ 15) number }
-    ensures { (at : ℕ) → at < 64 → slice_index result at ≡ limited (pos (slice_index predicted.now at) +ℤ number) }
+    ensures { (at : ℕ)
+        → at < 64 → slice_index result at ≡ limited (pos (slice_index predicted.now at) +ℤ number) }
 {
     let mut samples = [0; 64];
     for at in 0..64 {

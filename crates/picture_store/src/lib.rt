@@ -1,5 +1,17 @@
-//! Pictures by their numbers: those that are kept, one for each rest modulo the number of slots, and those that are at
-//! work, all in one region of memory.
+//! Pictures by their numbers: those that are kept, one for each rest modulo the number of slots,
+//! and those that are at work, all in one region of memory.
+//!
+//! A [`PictureStore`] takes its memory at the start. A work picture that is kept changes places
+//! with the one that the slot held, so no sample is copied.
+//!
+//! ```rust
+//! let mut store = PictureStore::start(alloc, Format::SubQcif, 4, 1)?;
+//! store.work(0).fill(7);
+//! store.keep(0, 0);
+//! let sample = store.view(0).map_or(0, |p| p.bytes()[0]);
+//! store.finish();
+//! assert_eq!(rt; sample, 7);
+//! ```
 #![tactic(auto)]
 
 ghost use Rattle.std.specs.Prelude.{◌≡◌, ◌≢◌, ◌+◌, ◌<◌, ◌≤◌, ◌↔◌, [], length, vec_len, IsSome, IfSome, IfOk};
@@ -30,7 +42,11 @@ impl Model for PictureStore {
 
     ghost Value = { Pictures };
 
-    ghost view = { λ s. record { format = s.format; numbers = s.numbers.items; pictures = pictures_of s.format s.region s.slots.items } };
+    ghost view = { λ s. record {
+      format = s.format;
+      numbers = s.numbers.items;
+      pictures = pictures_of s.format s.region s.slots.items;
+    } };
 
     ghost invariant = { λ s. IsStore s.format s.numbers.items s.region s.slots.items };
 }
@@ -77,7 +93,8 @@ impl PictureStore {
     /// The picture of a number, where its slot keeps that one.
     pub fn view(&self, number: u32) -> Option<PictureRef<'_>>
         ensures there { IsSome result ↔ IsKept self.now number }
-        ensures picture { IfSome result (λ r. picture r ≡ picture_in self.now (slot_of self.now number)) }
+        ensures picture { IfSome result (λ r.
+            picture r ≡ picture_in self.now (slot_of self.now number)) }
         ensures format { IfSome result (λ r. (picture r).format ≡ self.now.format) }
         ensures whole { IfSome result (λ r. IsPicture (picture r)) }
     {
@@ -111,12 +128,14 @@ impl PictureStore {
         PictureRef::new(self.format, self.region.bytes(&self.slots[at]))
     }
 
-    /// The bytes of the kept picture of a number, to be read, and those of work picture `w`, to be written.
+    /// The bytes of the kept picture of a number, to be read, and those of work picture `w`, to be
+    /// written.
     pub fn pair(&mut self, number: u32, w: u32) -> (&[u8], &mut [u8])
         requires kept { IsKept self.old number }
         requires inside { w < works_of self.old }
         ensures* writes_back { sem 𝓛 (LendsWork self.entry w result.1) }
-        ensures reference { picture_of self.old.format result.0.now ≡ picture_in self.old (slot_of self.old number) }
+        ensures reference { picture_of self.old.format result.0.now
+            ≡ picture_in self.old (slot_of self.old number) }
         ensures work { picture_of self.old.format result.1.now ≡ work_in self.old w }
         ensures reference_size { length result.0.now ≡ size_of_picture self.old.format }
         ensures work_size { length result.1.now ≡ size_of_picture self.old.format }
@@ -142,7 +161,8 @@ impl PictureStore {
         self.region.two(&self.slots[from], &self.slots[at])
     }
 
-    /// Makes work picture `w` the kept one of the number. What the slot held before is work picture `w` then.
+    /// Makes work picture `w` the kept one of the number. What the slot held before is work picture
+    /// `w` then.
     pub fn keep(&mut self, number: u32, w: u32)
         requires { w < works_of self.old }
         ensures { Keeps self.old self.new number w }

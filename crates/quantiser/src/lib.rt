@@ -1,5 +1,13 @@
-//! Levels and the values that they stand for, by the quantiser (H.263, 6.2.1 and 6.2.2), the levels of
-//! coefficients, and the zigzag order of a block's levels (6.2.3).
+//! Levels and the values that they stand for, by the quantiser (H.263, 6.2.1 and 6.2.2), the levels
+//! of coefficients, and the zigzag order of a block's levels (6.2.3).
+//!
+//! [`value`] is of a level, [`level_intra`] and [`level_inter`] are of a coefficient;
+//! [`block_place`] and [`zigzag_place`] lead from one order to the other.
+//!
+//! ```rust
+//! assert_eq!(rt; (value(8, 1), value(5, -2), value(31, -127)), (23, -25, -2048));
+//! assert_eq!(rt; (block_place(2), zigzag_place(8)), (8, 2));
+//! ```
 #![tactic(auto)]
 
 pub mod laws;
@@ -11,7 +19,8 @@ ghost use Rattle.quantiser.specs.Levels.{factor_of, inter_level, intra_level, si
 
 pub use scan::{block_place, zigzag_place};
 
-/// The value, -2048 to 2047, of a level from -127 to 127 that isn't an INTRADC value; `quant` is 1 to 31.
+/// The value, -2048 to 2047, of a level from -127 to 127 that isn't an INTRADC value; `quant` is 1
+/// to 31.
 pub fn value(quant: u8, level: i16) -> i16
     requires quant { IsQuant quant }
     requires level { IsLevel level }
@@ -22,8 +31,8 @@ pub fn value(quant: u8, level: i16) -> i16
     (sign * size_of_value(quant, level)).clamp(-2048, 2047) as i16
 }
 
-// The size of the value of a level that isn't 0, before its limit. There is no branch on the sign, since it is as often one as
-// the other.
+// The size of the value of a level that isn't 0, before its limit. There is no branch on the sign,
+// since it is as often one as the other.
 #[inline(always)]
 fn size_of_value(quant: u8, level: i16) -> i32
     requires quant { IsQuant quant }
@@ -36,7 +45,8 @@ fn size_of_value(quant: u8, level: i16) -> i32
     size as i32
 }
 
-/// The level, -127 to 127, of a coefficient of an inter block, within 65,535 of 0; `quant` is 1 to 31.
+/// The level, -127 to 127, of a coefficient of an inter block, within 65,535 of 0; `quant` is 1 to
+/// 31.
 pub fn level_inter(quant: u8, coefficient: i32) -> i16
     requires quant { IsQuant quant }
     requires coefficient { IsCoefficient coefficient }
@@ -46,8 +56,8 @@ pub fn level_inter(quant: u8, coefficient: i32) -> i16
     level_inter_by(quant, factor(quant), coefficient)
 }
 
-/// The level, -127 to 127, of a coefficient of an intra block other than its first, within 65,535 of 0; `quant` is
-/// 1 to 31.
+/// The level, -127 to 127, of a coefficient of an intra block other than its first, within 65,535
+/// of 0; `quant` is 1 to 31.
 pub fn level_intra(quant: u8, coefficient: i32) -> i16
     requires quant { IsQuant quant }
     requires coefficient { IsCoefficient coefficient }
@@ -57,7 +67,8 @@ pub fn level_intra(quant: u8, coefficient: i32) -> i16
     level_intra_by(quant, factor(quant), coefficient)
 }
 
-/// What many levels of one quantiser are found by without a division for each: 2^19 / (2 * quant), rounded up.
+/// What many levels of one quantiser are found by without a division for each: 2^19 / (2 * quant),
+/// rounded up.
 pub fn factor(quant: u8) -> u32
     requires { IsQuant quant }
     ensures { result ≡ factor_of quant }

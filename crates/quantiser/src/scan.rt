@@ -16,7 +16,8 @@ const FIGURE: [u8; 64] = [
     37, 47, 50, 56, 59, 61, 35, 36, 48, 49, 57, 58, 62, 63,
 ];
 
-/// The place in the block, 8 times its row and its column, of place `k`, below 64, of the zigzag order.
+/// The place in the block, 8 times its row and its column, of place `k`, below 64, of the zigzag
+/// order.
 pub fn block_place(k: usize) -> usize
     requires { k < 64 }
     ensures place { result ≡ block_place_of k }
@@ -25,8 +26,8 @@ pub fn block_place(k: usize) -> usize
     usize::from(ORDER[k])
 }
 
-/// The place in the zigzag order of place `at` of the block, which is 8 times its row and its column. The first place
-/// is first in both.
+/// The place in the zigzag order of place `at` of the block, which is 8 times its row and its
+/// column. The first place is first in both.
 pub fn zigzag_place(at: usize) -> usize
     requires { at < 64 }
     ensures place { result ≡ zigzag_place_of at }

@@ -1,3 +1,4 @@
+//! Values, levels and the zigzag order, by the standard's formulas.
 use super::*;
 
 #[test]

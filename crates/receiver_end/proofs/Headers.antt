@@ -14,6 +14,7 @@ use Rattle.call_decoding.specs.Styles.{Style, header_of, header_from}
 use Rattle.receiver_end.specs.Decoding.{decoding}
 use Rattle.receiver_end.proofs.Styles.{styles_are, style_self}
 
+-- no test both holds and fails
 pub both : (b : Bool) → b ≡ true → b ≡ false → ⊥
 both true e g = absurd cc
 both false e g = absurd cc
@@ -107,6 +108,7 @@ pub kept_now : (t : Taken) (taken : List Taken) (n : ℕ) (o : Option Header) �
 kept_now t taken n None same is = absurd (absent (t ∷ taken) n is t (inl refl) same)
 kept_now t taken n (Some h) same is = ap (λ (x : Header). Some x) (sym (is.1 t (inl refl) same))
 
+-- of a picture of which nothing was taken no header is kept
 pub kept_none : (taken : List Taken) (n : ℕ) (o : Option Header) → has_any taken n ≡ false → IsKept taken n o → o ≡ None
 kept_none taken n None none is = refl
 kept_none taken n (Some h) none is = absurd (both _ is.0 none)
@@ -115,6 +117,7 @@ kept_none taken n (Some h) none is = absurd (both _ is.0 none)
 pub none_of : (taken : List Taken) (n : ℕ) → ((t : Taken) → IsIn t taken → t.number ≡ n → ⊥) → has_any taken n ≡ false
 none_of taken n none = false_from_ne_true _ (λ e. let m = member taken n e in none m.one m.in_list m.number)
 
+-- nor any macroblock
 pub untaken : (taken : List Taken) (n k : ℕ) → has_any taken n ≡ false → has_taken taken n k ≡ false
 unfolding has_any has_taken
 untaken [] n k none = refl

@@ -4,6 +4,7 @@ use Rattle.std.proofs.lemmas.Bool.{ne_eqb, eq-eqb}
 use Rattle.call_model.specs.Numbers.{all_below}
 use Rattle.packet_collector.specs.Taken.{Taken, has_taken, holds}
 
+-- tests that agree below n pass or fail together
 pub all_same : (n : ℕ) (f g : ℕ → Bool) → ((k : ℕ) → k < n → f k ≡ g k) → all_below n f ≡ all_below n g
 all_same zero f g same = refl
 all_same (suc n) f g same =

@@ -54,6 +54,7 @@ module _ (f : Format) (s : Pictures) (bytes : List ℕ) (w : ℕ) (same : f ≡ 
       subst (λ (p : Picture). SetsSlice f mbs piece None (work_in s w) p) new_is
       (subst (λ (p : Picture). SetsSlice f mbs piece None p (picture_of f bytes)) e sets)
 
+  -- a patch of the bytes that a work picture is given is a patch of that picture
   pub patched_kept : (test : ℕ → Bool) (screen before : List ℕ) (q : Picture) → picture_of s.format screen ≡ q → picture_of s.format before ≡ work_in s w
       → Patches f test (picture_of f screen) (picture_of f before) (picture_of f bytes)
       → Patches f test q (work_in s w) (work_in (with_work s w bytes) w)

@@ -1,5 +1,16 @@
 //! The receiver of a call: it takes packets as they come, decodes their slices at once, shows a
 //! picture at each play, and says what it has and what it lacks (H.263, Annex N).
+//!
+//! A [`Receiver`] answers [`Heard`] to a packet and [`Played`] to a play; a [`PacketFault`] says
+//! why a packet was refused.
+//!
+//! ```rust
+//! let mut receiver = Receiver::start(rt.alloc(), &Params::of(Format::SubQcif))?;
+//! let nothing = receiver.play();
+//! let late = receiver.packet(&FLAT_PACKET);
+//! receiver.finish();
+//! assert_eq!(rt; (nothing.mark, late), (Mark::Held, Heard::Late));
+//! ```
 #![tactic(auto)]
 
 mod answers;

@@ -1,5 +1,5 @@
-//! A call over a desk in memory, or its receiver alone, and the outputs compared with those that are
-//! wanted.
+//! A call over a desk in memory, or its receiver alone, and the outputs compared with those that
+//! are wanted.
 ghost use Rattle.h263_outside.specs.Desk.{NoneAttached};
 ghost use Rattle.command_words.specs.Asked.{IsCommand};
 ghost use Rattle.command_words.specs.View.{asked_of};
@@ -127,8 +127,8 @@ pub fn compare_file(
     compare_call(rt, name, options, video, Some(&pictures))
 }
 
-/// Runs a receiver over the log `NAME.log`, of what is delivered and played in the call of this name,
-/// and compares what it shows with the pictures of the call.
+/// Runs a receiver over the log `NAME.log`, of what is delivered and played in the call of this
+/// name, and compares what it shows with the pictures of the call.
 pub fn compare_log(rt: &HostRuntime, name: &str, options: &str) -> Result<bool, Stop> {
     let alloc = rt.alloc();
     let text = format!(in alloc; "recv log out wire {options}")?;

@@ -5,8 +5,8 @@
 //! line for the number that the process ends with. Its video is made here: flat pictures, or
 //! pictures of triangle waves that move. The pictures that are shown are compared where they are
 //! flat, or stored as `NAME.out.y4m`. The packets and plays of a call in CIF are stored as the log
-//! `NAME.log`, and a receiver over it is to show the same pictures. Where anything differs the program
-//! says where, and ends with status 1.
+//! `NAME.log`, and a receiver over it is to show the same pictures. Where anything differs the
+//! program says where, and ends with status 1.
 #![tactic(auto)]
 
 mod compare;
@@ -133,8 +133,8 @@ fn cif_call(rt: &HostRuntime, name: &str) -> Result<bool, Stop> {
     Ok(called && received)
 }
 
-// A call of a user: thirty pictures of a camera, of which two are lost. What is shown of them is not
-// compared.
+// A call of a user: thirty pictures of a camera, of which two are lost. What is shown of them is
+// not compared.
 fn users_call(rt: &HostRuntime) -> Result<bool, Stop> {
     let video = made_video(rt.alloc(), 1, 30)?;
     compare_call(rt, "users_call", "", &video, None)

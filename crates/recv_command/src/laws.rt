@@ -1,4 +1,5 @@
-//! What a run of the command comes to. The law is the contract of a function that does nothing else.
+//! What a run of the command comes to. The law is the contract of a function that does nothing
+//! else.
 ghost use Rattle.std.specs.Prelude.{◌≡◌, ℕ, List};
 ghost use Rattle.h263_types.specs.declared.params.Params.{Params};
 ghost use Rattle.h263_outside.specs.declared.desk.Role.{Role};

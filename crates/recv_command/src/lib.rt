@@ -1,5 +1,11 @@
-//! The receiver alone, as a command: packets and plays come from a log, and what it shows, says and counts goes to
-//! the pictures, the wire and the report.
+//! The receiver alone, as a command: packets and plays come from a log, and what it shows, says and
+//! counts goes to the pictures, the wire and the report. The command is [`Recv`], a machine of
+//! `desk_program`.
+//!
+//! ```rust
+//! let order = &[(Role::Events, "log"), (Role::Pictures, "out"), (Role::Wire, "wire")];
+//! let status = perform::<D, Recv>(alloc, params, order, desk);
+//! ```
 #![tactic(auto)]
 
 pub mod laws;

@@ -47,12 +47,15 @@ fn are_bytes(bytes: &[u8])
 // Writes a message, if there is one.
 fn say<D: Desk>(desk: &mut D, said: Option<Said>) -> Result<(), Status>
     requires { (D.outside desk.old).attached Wire ≡ true }
-    ensures ok { (clock : Clock) (message : Option Message) → IsMessage clock said message
-        → OnOk result (Gains (back_text message) (D.outside desk.old).written (D.outside desk.new).written) }
-    ensures err { (clock : Clock) (message : Option Message) → IsMessage clock said message
-        → OnErr result (GainsFronts (back_text message) (D.outside desk.old).written (D.outside desk.new).written) }
+    ensures ok { (clock : Clock) (message : Option Message)
+        → IsMessage clock said message → OnOk result
+        (Gains (back_text message) (D.outside desk.old).written (D.outside desk.new).written) }
+    ensures err { (clock : Clock) (message : Option Message)
+        → IsMessage clock said message → OnErr result (GainsFronts
+        (back_text message) (D.outside desk.old).written (D.outside desk.new).written) }
     ensures kind { IfErr result (λ status. status ≡ Status.WriteFault) }
-    ensures cause { OnErr result (Rose (D.outside desk.old).faults.write (D.outside desk.new).faults.write) }
+    ensures cause { OnErr result
+        (Rose (D.outside desk.old).faults.write (D.outside desk.new).faults.write) }
     ensures rest { OnlyWrites (D.outside desk.old) (D.outside desk.new) }
 {
     said_bytes();
@@ -83,11 +86,14 @@ pub fn hear<D: Desk>(
         → tally.new ≡ with_answer (answer_after receiver.old.params past bytes.now) tally.old }
     ensures total { total_of tally.new ≡ total_of tally.old + 1 }
     ensures ok { (past : List ReceiverEntry) → Stands receiver.old past
-        → OnOk result (Gains (heard_text receiver.old.params past bytes.now) (D.outside desk.old).written (D.outside desk.new).written) }
+        → OnOk result (Gains (heard_text receiver.old.params past bytes.now)
+        (D.outside desk.old).written (D.outside desk.new).written) }
     ensures err { (past : List ReceiverEntry) → Stands receiver.old past
-        → OnErr result (GainsFronts (heard_text receiver.old.params past bytes.now) (D.outside desk.old).written (D.outside desk.new).written) }
+        → OnErr result (GainsFronts (heard_text receiver.old.params past bytes.now)
+        (D.outside desk.old).written (D.outside desk.new).written) }
     ensures kind { IfErr result (λ status. status ≡ Status.WriteFault) }
-    ensures cause { OnErr result (Rose (D.outside desk.old).faults.write (D.outside desk.new).faults.write) }
+    ensures cause { OnErr result
+        (Rose (D.outside desk.old).faults.write (D.outside desk.new).faults.write) }
     ensures rest { OnlyWrites (D.outside desk.old) (D.outside desk.new) }
 {
     let heard = receiver.packet(bytes);
@@ -106,11 +112,15 @@ fn show<D: Desk>(
     requires report { (D.outside desk.old).attached Report ≡ true }
     requires wire { (D.outside desk.old).attached Wire ≡ true }
     ensures ok { (clock : Clock) (message : Option Message) → IsMessage clock played.message message
-        → OnOk result (Gains (shown_text number played.mark (lent picture.entry) message) (D.outside desk.old).written (D.outside desk.new).written) }
-    ensures err { (clock : Clock) (message : Option Message) → IsMessage clock played.message message
-        → OnErr result (GainsFronts (shown_text number played.mark (lent picture.entry) message) (D.outside desk.old).written (D.outside desk.new).written) }
+        → OnOk result (Gains (shown_text number played.mark (lent picture.entry) message)
+        (D.outside desk.old).written (D.outside desk.new).written) }
+    ensures err { (clock : Clock) (message : Option Message)
+        → IsMessage clock played.message message
+        → OnErr result (GainsFronts (shown_text number played.mark (lent picture.entry) message)
+        (D.outside desk.old).written (D.outside desk.new).written) }
     ensures kind { IfErr result (λ status. status ≡ Status.WriteFault) }
-    ensures cause { OnErr result (Rose (D.outside desk.old).faults.write (D.outside desk.new).faults.write) }
+    ensures cause { OnErr result
+        (Rose (D.outside desk.old).faults.write (D.outside desk.new).faults.write) }
     ensures rest { OnlyWrites (D.outside desk.old) (D.outside desk.new) }
 {
     calls();
@@ -133,12 +143,15 @@ pub fn play<D: Desk>(receiver: &mut Receiver, tally: &mut Tally, desk: &mut D) -
     ensures counts { (past : List ReceiverEntry) → Stands receiver.old past
         → tally.new ≡ with_mark (mark_of (mark_after receiver.old.params past)) tally.old }
     ensures total { total_of tally.new ≡ total_of tally.old + 1 }
-    ensures ok { (past : List ReceiverEntry) → Stands receiver.old past
-        → OnOk result (Gains (played_text receiver.old.params past) (D.outside desk.old).written (D.outside desk.new).written) }
+    ensures ok { (past : List ReceiverEntry)
+        → Stands receiver.old past → OnOk result (Gains (played_text receiver.old.params past)
+        (D.outside desk.old).written (D.outside desk.new).written) }
     ensures err { (past : List ReceiverEntry) → Stands receiver.old past
-        → OnErr result (GainsFronts (played_text receiver.old.params past) (D.outside desk.old).written (D.outside desk.new).written) }
+        → OnErr result (GainsFronts (played_text receiver.old.params past)
+        (D.outside desk.old).written (D.outside desk.new).written) }
     ensures kind { IfErr result (λ status. status ≡ Status.WriteFault) }
-    ensures cause { OnErr result (Rose (D.outside desk.old).faults.write (D.outside desk.new).faults.write) }
+    ensures cause { OnErr result
+        (Rose (D.outside desk.old).faults.write (D.outside desk.new).faults.write) }
     ensures rest { OnlyWrites (D.outside desk.old) (D.outside desk.new) }
 {
     let number = receiver.played();

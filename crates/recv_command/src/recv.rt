@@ -13,10 +13,10 @@ use h263_types::Params;
 use receiver_end::Receiver;
 use std::alloc::Global;
 
-/// The most bytes of an entry of the log.
+// The most bytes of an entry of the log.
 const MAX_BYTES: usize = 65_535;
 
-/// The most pictures that are played.
+// The most pictures that are played.
 const MAX_PLAYS: u32 = 1_048_576;
 
 /// The receiver, the reader of its log with room for an entry's bytes, and what was counted.

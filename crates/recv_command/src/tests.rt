@@ -1,5 +1,5 @@
-//! Runs of the receiver over a desk in memory. Where memory ran out in a run it is taken again, and is then to reach
-//! its end.
+//! Runs of the receiver over a desk in memory. Where memory ran out in a run it is taken again, and
+//! is then to reach its end.
 ghost use Rattle.std.specs.Prelude.{◌<◌};
 ghost use Rattle.h263_types.specs.Params.{IsParams};
 ghost use Rattle.h263_outside.specs.Desk.{NoneAttached};
@@ -65,7 +65,8 @@ const NACK: &[u8] = b"B\x00\x03\x80\x04\x00";
 const COUNTED: &[u8] =
     b"0 exact\nplayed 1 exact 1 patched 0 held 0 taken 1 late 0 early 0 repeat 0 refused 0\n";
 
-// The log, the call that fails, how the run ends, and what it writes on the pictures, the wire and the report.
+// The log, the call that fails, how the run ends, and what it writes on the pictures, the wire and
+// the report.
 type Case<'a> = (
     &'a [&'a [u8]],
     u64,
@@ -199,8 +200,8 @@ fn a_packet_of_the_other_clock(rt: HostRuntime) -> Result<(), Fail> {
 
 const SHOWN: &[&[u8]] = &[HEAD, EXACT, PICTURE];
 
-// Calls 0 to 3 attach the report, the log, the pictures and the wire. With pieces of 4,096 bytes the parts of an entry
-// are read and written by one call each.
+// Calls 0 to 3 attach the report, the log, the pictures and the wire. With pieces of 4,096 bytes
+// the parts of an entry are read and written by one call each.
 const FAILING: &[Case<'static>] = &[
     (
         ONE,

@@ -125,6 +125,7 @@ coded_more one rules s t number d depth known pos room_known room_depths depth_i
     at_known m m_below m_last (inr differ) =
         rw (flags, rest m) (get_or-set_other s.known (number % s.slots) (m % s.slots) false false (apart m m_below m_last differ) ∙ ap (λ (k : ℕ). get_or s.known (m % k) false) e ∙ stands.known_is m (omega arith) (omega arith))
 
+-- a selector stands for the same known pictures, however they are told
 pub same_known : (rules : Rules) (s : Selector) (sent : ℕ) (depth : ℕ → ℕ) (f g : ℕ → Bool) → ((m : ℕ) → f m ≡ g m) → Stands rules s sent depth f → Stands rules s sent depth g
 same_known rules s sent depth f g same stands =
     record {

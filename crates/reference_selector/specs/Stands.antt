@@ -11,4 +11,5 @@ pub record Stands (rules : Rules) (selector : Selector) (sent : ℕ) (depth : �
   pub half : rules.half ≡ half_of selector.clock
   pub chain : rules.chain ≡ 131
   pub depth_is : (m : ℕ) → m < sent → sent ≤ m + rules.slots → slice_index selector.depths (m % rules.slots) ≡ depth m
-  pub known_is : (m : ℕ) → m < sent → sent ≤ m + rules.slots → slice_index_or selector.known (m % rules.slots) false ≡ known m
+  pub known_is : (m : ℕ) → m < sent
+      → sent ≤ m + rules.slots → slice_index_or selector.known (m % rules.slots) false ≡ known m

@@ -1,4 +1,17 @@
-//! Which pictures the other end is known to have, and which of them a picture may refer to (H.263, Annex N).
+//! Which pictures the other end is known to have, and which of them a picture may refer to (H.263,
+//! Annex N).
+//!
+//! A [`Selector`] is told what was coded and what the other end says, and chooses the reference of
+//! the next picture.
+//!
+//! ```rust
+//! // at a depth of 131 the chain of predicted pictures is as long as it may be
+//! for (depth, reference) in [(130, Some(0)), (131, None)] {
+//!     selector.coded(0, depth);
+//!     assert_eq!(rt; selector.note(&Message::Ack { tr: 0, marks: None }, 1), true);
+//!     assert_eq!(rt; selector.choose(1), reference);
+//! }
+//! ```
 #![tactic(auto)]
 
 ghost use Rattle.std.specs.Prelude.{◌≡◌, ◌≤◌, ◌<◌, ◌+◌, ◌++◌, ◌^◌, ℕ, Bool, false, ◌||◌, nat_eq, nat_lt, is_some, Some, IfSome, List, [], ◌∷◌, filter};
@@ -16,11 +29,12 @@ use back_messages::Message;
 use call_model::laws::one_in_a_period;
 use h263_types::{Clock, Params};
 
-/// The longest chain of predicted pictures: within 132 coded pictures each macroblock is coded intra (H.263, 4.4).
+// The longest chain of predicted pictures: within 132 coded pictures each macroblock is coded intra
+// (H.263, 4.4).
 const CHAIN: u8 = 131;
 
-/// The pictures coded last, each at its number modulo `slots`: their depths, and which of them are known to be complete
-/// at the other end.
+/// The pictures coded last, each at its number modulo `slots`: their depths, and which of them are
+/// known to be complete at the other end.
 #[derive(Drop)]
 pub struct Selector {
     slots: u32,
@@ -36,7 +50,8 @@ pub struct Selector {
 fn number_below(n: u32, reference: u16, clock: Clock) -> Option<u32>
     requires { n < 2 ^ 31 }
     ensures below { IfSome result (λ m. m < n) }
-    ensures value { (rules : Rules) → rules.half ≡ half_of clock → result ≡ nearest_below rules n reference }
+    ensures value { (rules : Rules)
+        → rules.half ≡ half_of clock → result ≡ nearest_below rules n reference }
 {
     let period = clock.period();
     let first = n + (u32::from(reference) + (period - n % period)) % period;
@@ -65,8 +80,10 @@ fn reference_in(message: &Message) -> u16
 fn number_about(message: &Message, sent: u32, clock: Clock) -> Option<u32>
     requires { sent < 2 ^ 30 }
     ensures below { IfSome result (λ t. t < sent) }
-    ensures value { (rules : Rules) → rules.half ≡ half_of clock →
-        option_map (λ t. called_complete rules sent t (message_of message.now) ++ filter (λ q. nat_lt q sent) (flagged_after t (message_flags (message_of message.now)))) result ≡ made_known rules sent (message_of message.now) }
+    ensures value { (rules : Rules) → rules.half ≡ half_of clock
+        → option_map (λ t. called_complete rules sent t (message_of message.now) ++ filter
+        (λ q. nat_lt q sent) (flagged_after t (message_flags (message_of message.now)))) result
+        ≡ made_known rules sent (message_of message.now) }
 {
     let t = number_below(sent, reference_in(message), clock)?;
     if t + clock.half() <= sent {
@@ -80,7 +97,8 @@ fn number_called(message: &Message, t: u32, sent: u32, clock: Clock) -> Option<u
     requires below { t < sent }
     requires small { sent < 2 ^ 30 }
     ensures below { IfSome result (λ q. q < sent) }
-    ensures value { (rules : Rules) → rules.half ≡ half_of clock → option_map_or (λ q. q ∷ []) result [] ≡ called_complete rules sent t (message_of message.now) }
+    ensures value { (rules : Rules) → rules.half ≡ half_of clock → option_map_or
+        (λ q. q ∷ []) result [] ≡ called_complete rules sent t (message_of message.now) }
 {
     match *message {
         Message::Ack { tr: _, marks: _ } => Some(t),
@@ -108,7 +126,9 @@ impl Selector {
     /// No picture was coded.
     pub fn start(params: &Params) -> Selector
         requires { IsParams params.now }
-        ensures { (rules : Rules) (depth : ℕ → ℕ) (known : ℕ → Bool) → rules.slots ≡ params.now.slots → rules.lead ≡ params.now.lead → rules.half ≡ half_of params.now.clock → rules.chain ≡ 131 → Stands rules result 0 depth known }
+        ensures { (rules : Rules) (depth : ℕ → ℕ) (known : ℕ → Bool)
+            → rules.slots ≡ params.now.slots → rules.lead ≡ params.now.lead → rules.half
+            ≡ half_of params.now.clock → rules.chain ≡ 131 → Stands rules result 0 depth known }
     {
         Selector {
             slots: params.slots,
@@ -119,10 +139,12 @@ impl Selector {
         }
     }
 
-    /// The next picture was coded, and has this depth: 0 if it refers to none, else one more than its reference.
+    /// The next picture was coded, and has this depth: 0 if it refers to none, else one more than
+    /// its reference.
     pub fn coded(&mut self, number: u32, depth: u8)
-        ensures { (rules : Rules) (depths : ℕ → ℕ) (known : ℕ → Bool) → depths number ≡ depth → known number ≡ false →
-            Stands rules self.old number depths known → Stands rules self.new (number + 1) depths known }
+        ensures { (rules : Rules) (depths : ℕ → ℕ) (known : ℕ → Bool) → depths number ≡ depth
+            → known number ≡ false → Stands rules self.old number depths known
+            → Stands rules self.new (number + 1) depths known }
     {
         one_in_a_period();
         let at = (number % self.slots) as usize;
@@ -135,8 +157,8 @@ impl Selector {
         requires below { number < sent }
         requires small { sent < 2 ^ 31 }
         ensures clock { self.new.clock ≡ self.old.clock }
-        ensures known { (rules : Rules) (depth : ℕ → ℕ) (known : ℕ → Bool) →
-            Stands rules self.old sent depth known → Stands rules self.new sent depth (λ m. nat_eq number m || known m) }
+        ensures known { (rules : Rules) (depth : ℕ → ℕ) (known : ℕ → Bool) → Stands rules self.old
+            sent depth known → Stands rules self.new sent depth (λ m. nat_eq number m || known m) }
     {
         one_in_a_period();
         if sent <= number + self.slots {
@@ -150,8 +172,9 @@ impl Selector {
         requires below { t < sent }
         requires small { sent < 2 ^ 30 }
         ensures clock { self.new.clock ≡ self.old.clock }
-        ensures known { (rules : Rules) (depth : ℕ → ℕ) (known : ℕ → Bool) →
-            Stands rules self.old sent depth known → Stands rules self.new sent depth (λ m. is_among (called_complete rules sent t (message_of message.now)) m || known m) }
+        ensures known { (rules : Rules) (depth : ℕ → ℕ) (known : ℕ → Bool)
+            → Stands rules self.old sent depth known → Stands rules self.new sent depth (λ m.
+            is_among (called_complete rules sent t (message_of message.now)) m || known m) }
     {
         if let Some(q) = number_called(message, t, sent, self.clock) {
             self.mark(q, sent);
@@ -164,8 +187,9 @@ impl Selector {
         requires small { sent < 2 ^ 30 }
         requires j { j < 14 }
         ensures clock { self.new.clock ≡ self.old.clock }
-        ensures known { (rules : Rules) (depth : ℕ → ℕ) (known : ℕ → Bool) →
-            Stands rules self.old sent depth (λ m. is_named t sent (is_flagged marks) j m || known m) → Stands rules self.new sent depth (λ m. is_named t sent (is_flagged marks) (j + 1) m || known m) }
+        ensures known { (rules : Rules) (depth : ℕ → ℕ) (known : ℕ → Bool) → Stands rules self.old
+            sent depth (λ m. is_named t sent (is_flagged marks) j m || known m) → Stands rules
+            self.new sent depth (λ m. is_named t sent (is_flagged marks) (j + 1) m || known m) }
     {
         let number = t + 1 + j;
         if number >= sent {
@@ -183,20 +207,23 @@ impl Selector {
         requires small { sent < 2 ^ 30 }
         ensures clock { self.new.clock ≡ self.old.clock }
         ensures known { (rules : Rules) (depth : ℕ → ℕ) (known : ℕ → Bool) →
-            Stands rules self.old sent depth known → Stands rules self.new sent depth (λ m. is_among (filter (λ q. nat_lt q sent) (flagged_after t (flags_in (Some marks)))) m || known m) }
+            Stands rules self.old sent depth known → Stands rules self.new sent depth (λ m. is_among
+            (filter (λ q. nat_lt q sent) (flagged_after t (flags_in (Some marks)))) m || known m) }
     {
         for j in 0..14 {
             self.mark_next(t, j, marks, sent);
         }
     }
 
-    /// Takes a message, whose numbers are those of the clock, where `sent` pictures were coded. False where it is old: then
-    /// nothing changes.
+    /// Takes a message, whose numbers are those of the clock, where `sent` pictures were coded.
+    /// False where it is old: then nothing changes.
     pub fn note(&mut self, message: &Message, sent: u32) -> bool
         requires { sent < 2 ^ 30 }
-        ensures answer { (rules : Rules) → rules.half ≡ half_of self.old.clock → result ≡ is_some (made_known rules sent (message_of message.now)) }
-        ensures known { (rules : Rules) (depth : ℕ → ℕ) (known : ℕ → Bool) → Stands rules self.old sent depth known →
-            Stands rules self.new sent depth (λ m. is_among (known_by_feedback rules sent (Some (message_of message.now))) m || known m) }
+        ensures answer { (rules : Rules) → rules.half ≡ half_of self.old.clock
+            → result ≡ is_some (made_known rules sent (message_of message.now)) }
+        ensures known { (rules : Rules) (depth : ℕ → ℕ) (known : ℕ → Bool)
+            → Stands rules self.old sent depth known → Stands rules self.new sent depth (λ m.
+            is_among (known_by_feedback rules sent (Some (message_of message.now))) m || known m) }
         ensures old { result ≡ false → self.new ≡ self.old }
     {
         let Some(t) = number_about(message, sent, self.clock) else {
@@ -209,10 +236,11 @@ impl Selector {
         true
     }
 
-    /// The reference of the next picture: the newest known one in the window of `slots - lead - 1` numbers, unless there
-    /// is none or its chain may not grow.
+    /// The reference of the next picture: the newest known one in the window of `slots - lead - 1`
+    /// numbers, unless there is none or its chain may not grow.
     pub fn choose(&self, number: u32) -> Option<u32>
-        ensures { (rules : Rules) (depth : ℕ → ℕ) (known : ℕ → Bool) → Stands rules self.now number depth known → result ≡ reference_for rules depth known number }
+        ensures { (rules : Rules) (depth : ℕ → ℕ) (known : ℕ → Bool) → Stands
+            rules self.now number depth known → result ≡ reference_for rules depth known number }
     {
         let window = self.slots - self.lead - 1;
         for back in 0..window {
@@ -234,7 +262,9 @@ impl Selector {
 
     /// The depth of a picture that is among the last `slots` that were coded.
     pub fn depth(&self, number: u32) -> u8
-        ensures { (rules : Rules) (sent : ℕ) (depth : ℕ → ℕ) (known : ℕ → Bool) → number < sent → sent ≤ number + rules.slots → Stands rules self.now sent depth known → result ≡ depth number }
+        ensures { (rules : Rules) (sent : ℕ) (depth : ℕ → ℕ) (known : ℕ → Bool)
+            → number < sent → sent ≤ number + rules.slots
+            → Stands rules self.now sent depth known → result ≡ depth number }
     {
         self.depths[(number % self.slots) as usize]
     }

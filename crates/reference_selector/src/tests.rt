@@ -1,3 +1,4 @@
+//! The window, what messages make known, the limit of a chain, and both clocks.
 use super::*;
 use h263_types::Format;
 

@@ -120,6 +120,7 @@ front_is h bytes b c e f =
     let spelt : Spells header h (one.0 ++ (two.0 ++ [])) = spells_part head any _ h h one.0 (two.0 ++ []) one.2 refl (spells_part (behind h) any _ h tt two.0 [] end refl (spells_done h)) in
     record { fits = fits; text = spells_whole header h (one.0 ++ (two.0 ++ [])) (bits_of (take k bytes)) (ap (λ (t : List Bool). one.0 ++ t) (append-nil two.0) ∙ sym front) spelt }
 
+-- what is read as a header is one
 pub read_text : (r : Rtp) (bytes : List ℕ) → rtp_in bytes ≡ Ok r → IsRtp r bytes
 unfolding rtp_in
 read_text r bytes e =
@@ -200,6 +201,7 @@ payload_is (suc p) bytes front payload padding e text =
     let some : (count == 0) ≡ false = ne_eqb count 0 (λ same. omega (arith, same)) in
     rw (ne_eqb (suc p) 0 (λ same. omega (arith, same)), last, some, le-ltb (length bytes - length front) count (omega (arith, len, len_before))) (ap (λ (n : ℕ). Some n) (omega (arith, len, len_before)))
 
+-- what is a header is read
 pub text_read : (r : Rtp) (bytes : List ℕ) → IsRtp r bytes → rtp_in bytes ≡ Ok r
 unfolding rtp_in
 text_read r bytes s =

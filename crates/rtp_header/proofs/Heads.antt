@@ -144,6 +144,7 @@ pub record IsOpened (bytes : List ℕ) (h : Head) (b : Bits) : Type 0 where
   pub head : h ≡ head_of bytes
   pub rest : b ≡ from_byte 12 bytes
 
+-- what is read of twelve bytes or more is how they open
 pub opened_is : (bytes : List ℕ) (h : Head) (b : Bits) → 12 ≤ length bytes → ((i : ℕ) → get_or bytes i 0 < 256) → reading head (from_byte 0 bytes) ≡ Ok (h, b) → IsOpened bytes h b
 opened_is bytes h b long small e =
     let same = ok_is (h, b) (head_of bytes, from_byte 12 bytes) (sym e ∙ head_is bytes long small) in

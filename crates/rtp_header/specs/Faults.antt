@@ -16,17 +16,26 @@ abbrev pub end_of : Result (Unit {0} × Bits) Fault → Option ℕ
 end_of (Ok x) = Some (x.1.at / 8)
 end_of (Err e) = None
 
--- the byte behind the payload: where P is set the last byte counts the padding, which is not empty and lies behind the header
+-- the byte behind the payload: where P is set the last byte counts the padding, which is not empty
+-- and lies behind the header
 abbrev pub payload_end_of : Head → List ℕ → ℕ → Option ℕ
 payload_end_of h bytes from =
     if h.padding == 0 then Some (length bytes)
-    else if (slice_index bytes (length bytes - 1) == 0) || nat_lt (length bytes - from) (slice_index bytes (length bytes - 1)) then None
+    else if (slice_index bytes (length bytes - 1) == 0)
+    || nat_lt (length bytes - from) (slice_index bytes (length bytes - 1)) then None
     else Some (length bytes - slice_index bytes (length bytes - 1))
 
 -- the packet, where its payload type and its source are those of the stream
 abbrev pub accepted_of : Head → ℕ → ℕ → Result Rtp Fault
 accepted_of h from to =
-    if h.type == 96 then (if h.source == 1211250227 then Ok (record { marker = h.marker == 1; sequence = h.sequence; timestamp = h.timestamp; from = from; to = to }) else fault_at faults.Source 64)
+    if h.type == 96 then
+    (if h.source == 1211250227 then Ok (record {
+      marker = h.marker == 1;
+      sequence = h.sequence;
+      timestamp = h.timestamp;
+      from = from;
+      to = to;
+    }) else fault_at faults.Source 64)
     else fault_at faults.PayloadType 9
 
 -- the fixed header is too short, or sources and extension pass the end: the fault stands at the end
@@ -43,11 +52,13 @@ with_end bytes h (Some from) = with_payload bytes h from (payload_end_of h bytes
 
 abbrev pub with_head : List ℕ → Result (Head × Bits) Fault → Result Rtp Fault
 with_head bytes (Err e) = short_of bytes
-with_head bytes (Ok x) = if x.0.version == 2 then with_end bytes x.0 (end_of (reading (behind x.0) x.1)) else fault_at faults.Version 0
+with_head bytes (Ok x) = if x.0.version == 2
+    then with_end bytes x.0 (end_of (reading (behind x.0) x.1)) else fault_at faults.Version 0
 
 -- the packet that bytes spell, or its first fault
 unfoldable pub rtp_in : List ℕ → Result Rtp Fault
-rtp_in bytes = if nat_lt 65535 (length bytes) then fault_at faults.Long 0 else with_head bytes (reading head (from_byte 0 bytes))
+rtp_in bytes = if nat_lt 65535 (length bytes) then fault_at faults.Long 0
+    else with_head bytes (reading head (from_byte 0 bytes))
 
 -- the first fault of a packet's RTP header, if there is one
 abbrev pub rtp_fault : List ℕ → Option Fault

@@ -29,11 +29,18 @@ pub record HasFront (bytes : List ℕ) (h : Head) (from : ℕ) : Type 0 where
 pub record RtpFaults : Type 0 where
   pub long : (bytes : List ℕ) → 65535 < length bytes → IsRefusedAt bytes faults.Long 0
   pub short : (bytes : List ℕ) → length bytes < 12 → IsRefusedAt bytes faults.Short (8 * length bytes)
-  pub version : (bytes : List ℕ) (h : Head) (c : Bits) → HasHead bytes h c → (h.version ≡ 2 → ⊥) → IsRefusedAt bytes faults.Version 0
+  pub version : (bytes : List ℕ) (h : Head) (c : Bits)
+      → HasHead bytes h c → (h.version ≡ 2 → ⊥) → IsRefusedAt bytes faults.Version 0
   -- sources or extension pass the end
-  pub short_behind : (bytes : List ℕ) (h : Head) (c : Bits) (fault : Fault) → HasHead bytes h c → h.version ≡ 2 → reading (behind h) c ≡ Err fault → IsRefusedAt bytes faults.Short (8 * length bytes)
+  pub short_behind : (bytes : List ℕ) (h : Head) (c : Bits) (fault : Fault)
+      → HasHead bytes h c → h.version ≡ 2
+      → reading (behind h) c ≡ Err fault → IsRefusedAt bytes faults.Short (8 * length bytes)
   -- the last byte counts more than there is behind the header, or nothing
   pub padding : (bytes : List ℕ) (h : Head) (from : ℕ) → HasFront bytes h from → (h.padding ≡ 0 → ⊥)
-      → (slice_index bytes (length bytes - 1) ≡ 0) ⊎ (length bytes - from < slice_index bytes (length bytes - 1)) → IsRefusedAt bytes faults.Padding (8 * length bytes - 8)
-  pub type : (bytes : List ℕ) (h : Head) (from : ℕ) → HasFront bytes h from → h.padding ≡ 0 → (h.type ≡ 96 → ⊥) → IsRefusedAt bytes faults.PayloadType 9
-  pub source : (bytes : List ℕ) (h : Head) (from : ℕ) → HasFront bytes h from → h.padding ≡ 0 → h.type ≡ 96 → (h.source ≡ 1211250227 → ⊥) → IsRefusedAt bytes faults.Source 64
+      → (slice_index bytes (length bytes - 1) ≡ 0)
+      ⊎ (length bytes - from < slice_index bytes (length bytes - 1))
+      → IsRefusedAt bytes faults.Padding (8 * length bytes - 8)
+  pub type : (bytes : List ℕ) (h : Head) (from : ℕ) → HasFront bytes h from
+      → h.padding ≡ 0 → (h.type ≡ 96 → ⊥) → IsRefusedAt bytes faults.PayloadType 9
+  pub source : (bytes : List ℕ) (h : Head) (from : ℕ) → HasFront bytes h from → h.padding ≡ 0
+      → h.type ≡ 96 → (h.source ≡ 1211250227 → ⊥) → IsRefusedAt bytes faults.Source 64

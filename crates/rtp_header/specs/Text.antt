@@ -1,4 +1,5 @@
--- An RTP packet (RFC 3550, 5.1, 5.3.1): the fixed header, the contributing sources, an extension, the payload and its padding.
+-- An RTP packet (RFC 3550, 5.1, 5.3.1): the fixed header, the contributing sources, an extension,
+-- the payload and its padding.
 use Rattle.std.specs.Prelude.{◌≡◌, ℕ, zero, suc, ◌+◌, ◌*◌, ◌≤◌, ◌==◌, List, [], ◌∷◌, ◌++◌, length, drop}
 use Rattle.h263_bits.specs.Bits.{bits_of}
 use Rattle.h263_bits.specs.Reading.{Bits}
@@ -29,7 +30,17 @@ head =
     field 16 any λ sequence.
     field 32 any λ timestamp.
     field 32 any λ source.
-    done (record { version = version; padding = padding; extension = extension; sources = sources; marker = marker; type = type; sequence = sequence; timestamp = timestamp; source = source })
+    done (record {
+      version = version;
+      padding = padding;
+      extension = extension;
+      sources = sources;
+      marker = marker;
+      type = type;
+      sequence = sequence;
+      timestamp = timestamp;
+      source = source;
+    })
 
 -- the extension (5.3.1): 16 bits of its profile, the number of its words of four bytes, and these
 unfoldable pub extension : Syntax (Unit {0})
@@ -39,7 +50,8 @@ extension =
     field (8 * (4 * words)) any λ contents.
     done tt
 
--- what stands between the fixed header and the payload: the sources (CSRC), four bytes each, and where X is set the extension
+-- what stands between the fixed header and the payload: the sources (CSRC), four bytes each, and
+-- where X is set the extension
 unfoldable pub behind : Head → Syntax (Unit {0})
 behind h =
     field (8 * (4 * h.sources)) any λ sources.
@@ -74,4 +86,10 @@ pub record IsRtp (r : Rtp) (bytes : List ℕ) : Type 0 where
   pub type : fields.type ≡ 96
   pub source : fields.source ≡ 1211250227
   pub padded : IsPadding fields.padding padding
-  pub value : r ≡ record { marker = fields.marker == 1; sequence = fields.sequence; timestamp = fields.timestamp; from = length front; to = length front + length payload }
+  pub value : r ≡ record {
+    marker = fields.marker == 1;
+    sequence = fields.sequence;
+    timestamp = fields.timestamp;
+    from = length front;
+    to = length front + length payload;
+  }

@@ -7,7 +7,8 @@ ghost use Rattle.rtp_header.specs.Rows.{RtpFaults};
 ghost use Rattle.rtp_header.specs.Written.{rtp_fields, written_rtp, IsWithin};
 ghost use Rattle.rtp_header.specs.declared.rtp.Rtp.{Rtp};
 
-/// Bytes are read as a packet exactly where they spell it: there is no fault exactly where there is a text.
+/// Bytes are read as a packet exactly where they spell it: there is no fault exactly where there is
+/// a text.
 pub fn exact_text()
     ensures read { (r : Rtp) (bytes : List ℕ) → rtp_in bytes ≡ Ok r → IsRtp r bytes }
     ensures written { (r : Rtp) (bytes : List ℕ) → IsRtp r bytes → rtp_in bytes ≡ Ok r }
@@ -30,7 +31,8 @@ pub fn payload_within()
 
 /// What is written of a header is read again, whatever payload follows.
 pub fn read_again()
-    ensures { (bytes payload : List ℕ) (marker : Bool) (sequence timestamp : ℕ) → sequence < 65536 → timestamp < 4294967296
+    ensures { (bytes payload : List ℕ) (marker : Bool) (sequence timestamp : ℕ)
+        → sequence < 65536 → timestamp < 4294967296
         → bits_of bytes ≡ fields (rtp_fields marker sequence timestamp) → length payload ≤ 65523
         → rtp_in (bytes ++ payload) ≡ Ok (written_rtp marker sequence timestamp (length payload)) }
 {}

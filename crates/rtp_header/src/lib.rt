@@ -1,4 +1,14 @@
-//! The header of RTP packets that carry H.263 (RFC 3550, 5.1): reading with the first fault, and writing.
+//! The header of RTP packets that carry H.263 (RFC 3550, 5.1): reading with the first fault, and
+//! writing.
+//!
+//! [`read`] answers an [`Rtp`], with the bytes between which the payload lies; [`write`] gives the
+//! twelve bytes of a header.
+//!
+//! ```rust
+//! let want = Rtp { marker: true, sequence: 0, timestamp: 0, from: 12, to: 20 };
+//! assert_eq!(rt; read(&PACKET), Ok(want));
+//! assert_eq!(rt; &write(true, 0, 0)[..], &PACKET[..12]);
+//! ```
 #![tactic(auto)]
 
 ghost use Rattle.std.specs.Prelude.{◌≡◌, ℕ, ◌+◌, ◌≤◌, ◌++◌, List, length, IfOk, IfSome, Ok};
@@ -18,13 +28,13 @@ use byteorder::{BigEndian, ByteOrder};
 use h263_bits::{Fault, FaultKind};
 pub use rtp::Rtp;
 
-/// The synchronization source of every packet, the letters H263 (SSRC, RFC 3550, 5.1).
+// The synchronization source of every packet, the letters H263 (SSRC, RFC 3550, 5.1).
 const SOURCE: u32 = 0x4832_3633;
 
-/// The payload type of every packet (PT, 5.1), of those that a session gives out.
+// The payload type of every packet (PT, 5.1), of those that a session gives out.
 const PAYLOAD_TYPE: u8 = 96;
 
-/// The byte behind the sources and the extension, or none where these pass the end.
+// The byte behind the sources and the extension, or none where these pass the end.
 fn header_end(bytes: &[u8]) -> Option<u32>
     requires fixed { 12 ≤ length bytes.now }
     requires short { length bytes.now ≤ 65535 }
@@ -50,7 +60,7 @@ fn header_end(bytes: &[u8]) -> Option<u32>
     Some(end as u32)
 }
 
-/// The byte behind the payload, or none where the count of the padding does not fit.
+// The byte behind the payload, or none where the count of the padding does not fit.
 fn payload_end(bytes: &[u8], from: u32) -> Option<u32>
     requires fixed { 12 ≤ length bytes.now }
     requires short { length bytes.now ≤ 65535 }
@@ -69,7 +79,7 @@ fn payload_end(bytes: &[u8], from: u32) -> Option<u32>
     Some(len - count)
 }
 
-/// The header, where payload type and source are ours.
+// The header, where payload type and source are ours.
 fn accepted(bytes: &[u8], from: u32, to: u32) -> Result<Rtp, Fault>
     requires { 12 ≤ length bytes.now }
     ensures { (h : Head) (b : Bits) → reading head (from_byte 0 bytes.now) ≡ Ok (h, b)
@@ -90,7 +100,7 @@ fn accepted(bytes: &[u8], from: u32, to: u32) -> Result<Rtp, Fault>
     })
 }
 
-/// Reads the parts of the header in the order in which their faults count.
+// Reads the parts of the header in the order in which their faults count.
 fn first_found(bytes: &[u8]) -> Result<Rtp, Fault>
     ensures { result ≡ rtp_in bytes.now }
 {

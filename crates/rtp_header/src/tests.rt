@@ -2,13 +2,13 @@
 use super::*;
 use std::test::Fail;
 
-/// A packet of picture 0 with the marker: the fixed header, and eight bytes of payload.
+// A packet of picture 0 with the marker: the fixed header, and eight bytes of payload.
 const PACKET: [u8; 20] = [
     0x80, 0xE0, 0x00, 0x00, 0x00, 0x00, 0x00, 0x00, 0x48, 0x32, 0x36, 0x33, 0x04, 0x00, 0x80, 0x02,
     0x1C, 0x90, 0x31, 0x00,
 ];
 
-/// What is read of the packet's first `len` bytes, where three bytes have other values.
+// What is read of the packet's first `len` bytes, where three bytes have other values.
 fn read_changed(len: usize, changes: [(usize, u8); 3]) -> Result<Rtp, Fault> {
     let mut bytes = PACKET;
     for (place, value) in changes {

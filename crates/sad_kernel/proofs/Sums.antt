@@ -38,6 +38,7 @@ small_difference [] ys hx hy = tt
 small_difference (x ∷ xs) [] hx hy = tt
 small_difference (x ∷ xs) (y ∷ ys) hx hy = (omega (arith, hx.0, hy.0), small_difference xs ys hx.1 hy.1)
 
+-- the differences of n samples are 255 each at most
 pub differences_small : (xs ys : List ℕ) (n : ℕ) → length xs ≡ n → length ys ≡ n → Each1 (λ x. x < 256) xs → Each1 (λ x. x < 256) ys → differences xs ys ≤ 255 * n
 differences_small xs ys n ex ey hx hy =
     let long : length (zip2 abs_diff xs ys) ≡ n = length-zip2 abs_diff xs ys (ex ∙ sym ey) ∙ ex in
@@ -50,6 +51,7 @@ differences-append [] (u ∷ us) ys vs h = absurd (omega arith)
 differences-append (x ∷ xs) [] ys vs h = absurd (omega arith)
 differences-append (x ∷ xs) (u ∷ us) ys vs h = omega (arith, differences-append xs us ys vs (omega arith))
 
+-- the differences of a part from place i on
 pub differences-drop : (xs ys : List ℕ) (i n : ℕ) → i + n ≤ length xs → i + n ≤ length ys →
     differences (drop i xs) (drop i ys) ≡ differences (chunk i n xs) (chunk i n ys) + differences (drop (i + n) xs) (drop (i + n) ys)
 differences-drop xs ys i n hx hy =
@@ -78,6 +80,7 @@ whole_small xs ys e h hx hy = omega (arith, differences_small xs ys (length xs) 
 take_rest : (xs : List ℕ) (i : ℕ) → take (length xs - i) (drop i xs) ≡ drop i xs
 take_rest xs i = subst (λ (n : ℕ). take n (drop i xs) ≡ drop i xs) (length-drop i xs) (take-length (drop i xs))
 
+-- the differences of what lies behind place i
 pub differences-rest : (xs ys : List ℕ) (i : ℕ) →
     differences (take (length xs - i) (drop i xs)) (take (length ys - i) (drop i ys)) ≡ differences (drop i xs) (drop i ys)
 differences-rest xs ys i = cc (take_rest xs i, take_rest ys i)

@@ -1,4 +1,14 @@
 //! Sums of absolute differences of samples, sixteen at a time.
+//!
+//! [`sad`] gives the whole sum, [`sad_until`] gives up where it comes to a bound, and
+//! [`sad_of_four`] sums four rows together.
+//!
+//! ```rust
+//! let a = [10, 20, 30, 40];
+//! let b = [11, 18, 33, 36];
+//! assert_eq!(rt; sad(&a, &b), 10);
+//! assert_eq!(rt; (sad_until(&a, &b, 10), sad_until(&a, &b, 11)), (None, Some(10)));
+//! ```
 #![tactic(auto)]
 
 ghost use Rattle.std.specs.Prelude.{◌≡◌, ◌+◌, ◌*◌, ◌≤◌, ◌<◌, ◌↔◌, length, IsNone, IfSome};
@@ -29,8 +39,8 @@ pub fn sad(a: &[u8], b: &[u8]) -> u32
     total + one_by_one(&a[at..], &b[at..])
 }
 
-/// The sum of the absolute differences, or `None` where it is at least `stop`. It asks after each sixteen samples, and
-/// goes no further once the sum has come to `stop`.
+/// The sum of the absolute differences, or `None` where it is at least `stop`. It asks after each
+/// sixteen samples, and goes no further once the sum has come to `stop`.
 #[inline]
 pub fn sad_until(a: &[u8], b: &[u8], stop: u32) -> Option<u32>
     requires same_length { length a.now ≡ length b.now }
@@ -64,15 +74,17 @@ pub fn sad_of_four(
     requires third { (length third.0.now ≡ 16) × (length third.1.now ≡ 16) }
     requires fourth { (length fourth.0.now ≡ 16) × (length fourth.1.now ≡ 16) }
     ensures most { result ≤ 16320 }
-    ensures value { result ≡ differences first.entry.0.now first.entry.1.now + differences second.entry.0.now second.entry.1.now + differences third.entry.0.now third.entry.1.now + differences fourth.entry.0.now fourth.entry.1.now }
+    ensures value { result ≡ differences first.entry.0.now first.entry.1.now
+        + differences second.entry.0.now second.entry.1.now + differences
+        third.entry.0.now third.entry.1.now + differences fourth.entry.0.now fourth.entry.1.now }
 {
     let upper = lanes(first.0, first.1, 0).strict_add(lanes(second.0, second.1, 0));
     let lower = lanes(third.0, third.1, 0).strict_add(lanes(fourth.0, fourth.1, 0));
     upper.strict_add(lower).strict_reduce_sum()
 }
 
-// The absolute differences of sixteen samples from `at` on. Of both differences, which wrap, it is the smaller one: the
-// compiler knows this form, and sums it up by one instruction.
+// The absolute differences of sixteen samples from `at` on. Of both differences, which wrap, it is
+// the smaller one: the compiler knows this form, and sums it up by one instruction.
 #[inline(always)]
 fn lanes(a: &[u8], b: &[u8], at: usize) -> u32x16
     requires a { at + LANES ≤ length a.now }

@@ -1,3 +1,4 @@
+//! Sums by hand, and where the lanes end.
 use super::*;
 
 #[test]

@@ -10,6 +10,7 @@ use Rattle.desk_program.specs.Run.{Step}
 use Rattle.desk_program.specs.Ends.{GainsFronts, StartGives, TurnGives, GivesUp, step_texts}
 use Rattle.send_command.specs.Send.{SendState}
 
+-- what holds anyway holds after an error
 pub on_err : {T E : Type 0} (P : Type 0) (r : Result T E) → P → OnErr r P
 on_err P (Ok x) p = tt
 on_err P (Err e) p = p

@@ -53,6 +53,7 @@ module _ (m : Send) (s : SendState) (size : ℕ) (stood : StoodBefore m s size) 
     more_is = ap (λ (x : SendState). x.more) stood.is;
   }
 
+  -- the sender of a machine stands for its entries
   pub stood_for : Stands (pace_of (target_of m.sender.pace) m.sender.state.params) m.sender.state s.entries
   stood_for = subst (λ (x : SendState). Stands (pace_of x.target x.params) m.sender.state s.entries) stood.is stood.sender
 

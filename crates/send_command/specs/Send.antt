@@ -75,7 +75,8 @@ after_capture s size frame =
       params = s.params;
       target = s.target;
       entries = Capture frame ∷ s.entries;
-      tally = with_picture (length (last_packets s.params (pace_of s.target s.params) (Capture frame ∷ s.entries))) s.tally;
+      tally = with_picture (length
+          (last_packets s.params (pace_of s.target s.params) (Capture frame ∷ s.entries))) s.tally;
       at = s.at + 3;
       read = s.read + 1;
       video_at = s.video_at + size;

@@ -19,7 +19,7 @@ use sender_end::Sender;
 use std::alloc::Global;
 use y4m::Y4mReader;
 
-/// The most bytes of an entry.
+// The most bytes of an entry.
 const MAX_BYTES: usize = 65_535;
 
 /// A sender alone: the readers of its video and of its log, what it counted, and room for a frame

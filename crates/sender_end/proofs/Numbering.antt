@@ -24,6 +24,7 @@ still_some : (f : ℕ → ℕ) (o : Option ℕ) → is_some (option_map f o) ≡
 still_some f None = refl
 still_some f (Some k) = refl
 
+-- a picture's header fits the call's rules
 pub numbered_fits : (p : Params) (number : ℕ) (reference : Option ℕ) (style : Style) → FitsHeader (rules_of p) (is_some reference) (numbered p.clock number reference style)
 numbered_fits p number reference style = record {
   number = in_period p.clock number;

@@ -2,7 +2,16 @@
 //! pictures the other end has (H.263, Annex N).
 //!
 //! `specs/Stands` says for which entries a sender stands: `sender_run` of `call_model` is what it
-//! has coded and knows.
+//! has coded and knows. A [`Sender`] answers [`Coded`] to a frame and [`Feedback`] to a message;
+//! its [`Pace`](h263_types::Pace) gives the quantiser.
+//!
+//! ```rust
+//! sender.code(frame, &[]);
+//! sender.feedback(&[0xC0, 0x04, 0x00]); // an ACK of picture 0
+//! let coded = sender.code(frame, &[]);
+//! assert_eq!(rt; coded.reference, Some(0));
+//! sender.finish();
+//! ```
 #![tactic(auto)]
 
 mod coding;

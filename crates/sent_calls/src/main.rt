@@ -8,8 +8,8 @@
 //! `NAME.send.txt`, `NAME.recv.txt` and `NAME.call.txt`, each with a line for the number that the
 //! process ends with. Each command is run by its words over a desk in memory, and all that it
 //! writes is compared byte for byte. Where anything differs the program says where, and ends with
-//! status 1. Last it compares with a file of which one byte was turned, `turned.wire`, and must find
-//! that byte.
+//! status 1. Last it compares with a file of which one byte was turned, `turned.wire`, and must
+//! find that byte.
 #![tactic(auto)]
 
 mod command;

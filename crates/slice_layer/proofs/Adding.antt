@@ -51,6 +51,7 @@ slice_text-append h begins first mbs m =
     let text = mbs_text (around h first) h.quant [] mbs in
     ap (λ (t : List Bool). opening ++ t) (mbs_text-append (around h first) h.quant [] mbs m) ∙ sym (append_assoc opening text (next_text h first mbs m))
 
+-- a slice without macroblocks is what it opens with
 pub no_text : (h : Header) (begins : Bool) (first : ℕ) → slice_text h begins first [] ≡ opening_text h begins first
 unfolding mbs_text
 no_text h begins first = append-nil (opening_text h begins first)
@@ -87,5 +88,6 @@ one_short laws of_mbs h begins first m is whole =
     ) in
     bytes_within 1095 (slice_text h begins first (m ∷ [])) (omega (arith, bits))
 
+-- how many bits the text of a slice has at most
 pub are_short : HeaderLaws → MbLaws → AreShort
 are_short laws of_mbs = record { begins = length-begins laws; later = length-later; opening = opening_short laws; one = one_short laws of_mbs }

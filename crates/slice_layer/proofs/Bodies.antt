@@ -143,6 +143,7 @@ slice_complete laws h begins first mbs b is =
     ap (λ (t : List Bool). mbs_at (around h first) (mbs_of h.format - first) is.quant [] (record { at = b.at + length is.front; bits = t })) body.whole ∙ all in
     rw (opened, found) refl
 
+-- bits are read as a slice exactly where they are its text
 pub are_read : MbLaws → AreRead
 are_read laws = λ h begins first mbs b. (slice_sound h begins first mbs b, slice_complete laws h begins first mbs b)
 

@@ -72,6 +72,7 @@ along_fits SubQcif k lt = omega arith
 along_fits Qcif k lt = omega arith
 along_fits Cif k lt = omega arith
 
+-- a vector is in reach exactly where it is within the numbers that the reader tests
 pub reach_within : AreReached
 reach_within f k x y lt =
     let a = across_fits f k in

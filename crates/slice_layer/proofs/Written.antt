@@ -186,6 +186,7 @@ first_padded laws h first mbs is at some within each =
     regroup : (a b c d : List Bool) → ((a ++ b) ++ c) ++ d ≡ a ++ (b ++ (c ++ d))
     regroup a b c d = simp (append_assoc)
 
+-- the text that is written of a slice is one of its texts
 pub are_spelt : MbLaws → AreSpelt
 are_spelt laws = record { text = slice_spelt laws; later = later_padded laws; first = first_padded laws; padding = zeros_are_padding }
 
@@ -208,5 +209,6 @@ one_more : (h : Header) (first : ℕ) (mbs : List Mb) (m : Mb) → AreWritable (
     → IsWritable h.kind (quant_behind h.quant mbs) (reach_of h.format (first + length mbs)) m → AreWritable (around h first) h.quant [] (mbs ++ m ∷ [])
 one_more h first mbs m w one = more_writable (around h first) h.quant [] mbs m w one
 
+-- a text with one macroblock more
 pub is_one_more : IsOneMore
 is_one_more = record { none = none_writable; more = one_more }

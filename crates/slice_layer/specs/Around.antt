@@ -53,7 +53,12 @@ next_predictor f first before = predictor_of (vectors_of first before) first (fi
 
 -- of a slice that begins with macroblock `first`
 abbrev pub around : Header → ℕ → Around
-around h first = record { kind = h.kind; first = first; reaches = reach_of h.format; predictor = next_predictor h.format first }
+around h first = record {
+  kind = h.kind;
+  first = first;
+  reaches = reach_of h.format;
+  predictor = next_predictor h.format first;
+}
 
 -- the quantiser after a macroblock (5.3.6)
 abbrev pub quant_after : ℕ → Mb → ℕ

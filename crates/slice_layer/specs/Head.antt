@@ -26,7 +26,8 @@ reference (Some trp) =
     field 10 (only trp faults.SliceReference) λ again.
     done tt
 
--- what begins behind the picture header: its first macroblock, which is the picture's first, and the picture's quantiser
+-- what begins behind the picture header: its first macroblock, which is the picture's first, and
+-- the picture's quantiser
 unfoldable pub first_head : Header → Syntax (ℕ × ℕ)
 first_head h =
     field 1 (only 1 faults.Marker) λ sepb1.
@@ -59,7 +60,8 @@ later_head h =
     part (tail h.trp) any λ end.
     done at
 
--- the first macroblock and the quantiser of a slice of the picture with this header, which stands just before or doesn't
+-- the first macroblock and the quantiser of a slice of the picture with this header, which stands
+-- just before or doesn't
 abbrev pub head : Header → Bool → Syntax (ℕ × ℕ)
 head h true = first_head h
 head h false = later_head h

@@ -28,7 +28,8 @@ pub record AreSpelt : Type 0 where
   pub text : (h : Header) (begins : Bool) (first : ℕ) (mbs : List Mb) (padding : List Bool)
       → IsHeader h → IsPlace h begins first → 0 < length mbs → first + length mbs ≤ mbs_of h.format
       → AreWritable (around h first) h.quant [] mbs → is_padding padding ≡ true
-      → IsSliceText h begins first mbs (head_text h begins first ++ (mbs_text (around h first) h.quant [] mbs ++ padding))
+      → IsSliceText h begins first mbs
+      (head_text h begins first ++ (mbs_text (around h first) h.quant [] mbs ++ padding))
   -- so is what a writer leaves of a later slice, and of the first one, behind the picture header
   pub later : (h : Header) (first : ℕ) (mbs : List Mb)
       → IsHeader h → IsPlace h false first → 0 < length mbs → first + length mbs ≤ mbs_of h.format

@@ -1,5 +1,6 @@
--- A slice (H.263, Annex K): its header, macroblocks one after the other, and fewer than 8 zero bits. And what a reader of
--- any bits finds. Before each macroblock it looks at what is left, so that a slice is no syntax of parts.
+-- A slice (H.263, Annex K): its header, macroblocks one after the other, and fewer than 8 zero
+-- bits. And what a reader of any bits finds. Before each macroblock it looks at what is left, so
+-- that a slice is no syntax of parts.
 use Rattle.std.specs.Prelude.{◌≡◌, ℕ, zero, suc, ◌-◌, ◌<◌, ◌≤◌, List, [], ◌∷◌, ◌++◌, length, Bool, true, not, ◌&&◌, Option, Result, Ok, Err, nat_lt, if◌then◌else◌}
 use Rattle.std.specs.List.{list_all}
 use Rattle.h263_types.specs.declared.blocks.Mb.{Mb}
@@ -22,7 +23,8 @@ is_padding bits = nat_lt (length bits) 8 && list_all not bits
 unfoldable pub AreTexts : Around → ℕ → List Mb → List Mb → List Bool → Type 0
 AreTexts a quant before [] bits = bits ≡ []
 AreTexts a quant before (m ∷ mbs) bits =
-    (front rest : List Bool) × (bits ≡ front ++ rest) × Spells (next_mb a quant before) m front × AreTexts a (quant_after quant m) (before ++ m ∷ []) mbs rest
+    (front rest : List Bool) × (bits ≡ front ++ rest) × Spells (next_mb a quant before) m front
+    × AreTexts a (quant_after quant m) (before ++ m ∷ []) mbs rest
 
 -- macroblocks, at most so many, and padding
 pub record IsBody (a : Around) (quant room : ℕ) (mbs : List Mb) (bits : List Bool) : Type 0 where
@@ -34,8 +36,8 @@ pub record IsBody (a : Around) (quant room : ℕ) (mbs : List Mb) (bits : List B
   pub each : AreTexts a quant [] mbs text
   pub zeros : is_padding padding ≡ true
 
--- the bits are a text of the slice with these macroblocks, the first of which is number `first`, in the picture with this
--- header, which stands just before or doesn't
+-- the bits are a text of the slice with these macroblocks, the first of which is number `first`, in
+-- the picture with this header, which stands just before or doesn't
 pub record IsSliceText (h : Header) (begins : Bool) (first : ℕ) (mbs : List Mb) (bits : List Bool) : Type 0 where
   pub front : List Bool
   pub behind : List Bool
@@ -53,7 +55,8 @@ stops (m ∷ mbs) b = Ok (m ∷ mbs)
 
 -- at most so many more macroblocks, behind those that were read
 unfoldable pub mbs_at : Around → ℕ → ℕ → List Mb → Bits → Result (List Mb) Fault
-mbs_at a zero quant before b = if is_padding b.bits then stops before b else Err (record { kind = faults.Trailing; at = b.at })
+mbs_at a zero quant before b =
+    if is_padding b.bits then stops before b else Err (record { kind = faults.Trailing; at = b.at })
 mbs_at a (suc room) quant before b =
     if is_padding b.bits then stops before b
     else (reading (next_mb a quant before) b >>= λ x. mbs_at a room (quant_after quant x.0) (before ++ x.0 ∷ []) x.1)

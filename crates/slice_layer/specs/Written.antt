@@ -41,7 +41,8 @@ opening_text h false first = head_text h false first
 -- macroblocks one after the other, behind earlier ones
 unfoldable pub mbs_text : Around → ℕ → List Mb → List Mb → List Bool
 mbs_text a quant before [] = []
-mbs_text a quant before (m ∷ mbs) = mb_text a.kind quant (a.predictor before) m ++ mbs_text a (quant_after quant m) (before ++ m ∷ []) mbs
+mbs_text a quant before (m ∷ mbs) = mb_text a.kind quant (a.predictor before) m
+    ++ mbs_text a (quant_after quant m) (before ++ m ∷ []) mbs
 
 -- the slice, up to its last macroblock
 abbrev pub slice_text : Header → Bool → ℕ → List Mb → List Bool
@@ -64,7 +65,8 @@ abbrev pub quant_behind : ℕ → List Mb → ℕ
 quant_behind quant [] = quant
 quant_behind quant (m ∷ mbs) = quant_behind (quant_after quant m) mbs
 
--- where a slice may begin: with the picture's first macroblock behind the picture header, and with a later one by itself
+-- where a slice may begin: with the picture's first macroblock behind the picture header, and with
+-- a later one by itself
 pub record IsPlace (h : Header) (begins : Bool) (first : ℕ) : Type 0 where
   pub within : first < mbs_of h.format
   pub at_zero : (first == 0) ≡ begins
@@ -81,4 +83,5 @@ pub record IsWritable (kind : Kind) (quant : ℕ) (reach : Reach) (m : Mb) : Typ
 unfoldable pub AreWritable : Around → ℕ → List Mb → List Mb → Type 0
 AreWritable a quant before [] = Unit {0}
 AreWritable a quant before (m ∷ mbs) =
-    IsWritable a.kind quant (a.reaches (a.first + length before)) m × AreWritable a (quant_after quant m) (before ++ m ∷ []) mbs
+    IsWritable a.kind quant (a.reaches (a.first + length before)) m
+    × AreWritable a (quant_after quant m) (before ++ m ∷ []) mbs

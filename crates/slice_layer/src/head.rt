@@ -14,7 +14,8 @@ use picture_header::{Header, read_quant};
 
 // The first macroblock of a later slice.
 fn read_address(reader: &mut BitReader<'_>, format: Format) -> Result<u32, Fault>
-    ensures reads { Gives (λ (v : ℕ). v) result reader.new (field_at (address_bits format) (is_later format) reader.old) }
+    ensures reads { Gives (λ (v : ℕ). v) result reader.new
+        (field_at (address_bits format) (is_later format) reader.old) }
     ensures below { IfOk result (λ first. first < mbs_of format) }
 {
     let at = reader.at();
@@ -28,7 +29,8 @@ fn read_address(reader: &mut BitReader<'_>, format: Format) -> Result<u32, Fault
 // What begins behind the picture header: the first macroblock, and the picture's quantiser.
 #[tactic(auto, unfolding(crate::specs::Head::first_head, h263_bits::specs::Syntax::reading))]
 fn read_first_head(reader: &mut BitReader<'_>, header: &Header) -> Result<(u32, u8), Fault>
-    ensures reads { Gives (λ x. (x.0, x.1)) result reader.new (reading (first_head header.now) reader.old) }
+    ensures reads { Gives
+        (λ x. (x.0, x.1)) result reader.new (reading (first_head header.now) reader.old) }
     ensures first { IfOk result (λ x. x.0 ≡ 0) }
     ensures quant { IfOk result (λ x. x.1 ≡ header.now.quant) }
 {
@@ -85,7 +87,8 @@ fn read_tail(reader: &mut BitReader<'_>, trp: Option<u16>) -> Result<(), Fault>
 
 #[tactic(auto, unfolding(crate::specs::Head::later_head, h263_bits::specs::Syntax::reading))]
 fn read_later_head(reader: &mut BitReader<'_>, header: &Header) -> Result<(u32, u8), Fault>
-    ensures reads { Gives (λ x. (x.0, x.1)) result reader.new (reading (later_head header.now) reader.old) }
+    ensures reads { Gives
+        (λ x. (x.0, x.1)) result reader.new (reading (later_head header.now) reader.old) }
     ensures below { IfOk result (λ x. x.0 < mbs_of header.now.format) }
     ensures range { IfOk result (λ x. IsQuant x.1) }
 {
@@ -101,7 +104,8 @@ pub fn read_head(
     begins: bool,
 ) -> Result<(u32, u8), Fault>
     requires { IsHeader header.now }
-    ensures reads { Gives (λ x. (x.0, x.1)) result reader.new (reading (head header.now begins) reader.old) }
+    ensures reads { Gives
+        (λ x. (x.0, x.1)) result reader.new (reading (head header.now begins) reader.old) }
     ensures below { IfOk result (λ x. x.0 < mbs_of header.now.format) }
     ensures range { IfOk result (λ x. IsQuant x.1) }
 {

@@ -7,29 +7,30 @@ ghost use Rattle.slice_layer.specs.Text.{IsSliceText, slice_fault};
 ghost use Rattle.slice_layer.specs.Faults.{SliceFaults};
 ghost use Rattle.slice_layer.specs.Laws.{AreRead, AreSpelt, AreShort, IsOneMore, AreReached, SliceLaws};
 
-/// Bits are read as a slice exactly where they are its text, and there is no first fault exactly where they are the
-/// text of one.
+/// Bits are read as a slice exactly where they are its text, and there is no first fault exactly
+/// where they are the text of one.
 pub fn exact_text()
     ensures read { AreRead }
-    ensures no_fault { (h : Header) (begins : Bool) (b : Bits)
-        → (slice_fault h begins b ≡ None) ↔ ((first : ℕ) × (mbs : List Mb) × IsSliceText h begins first mbs b.bits) }
+    ensures no_fault { (h : Header) (begins : Bool) (b : Bits) → (slice_fault h begins b ≡ None)
+        ↔ ((first : ℕ) × (mbs : List Mb) × IsSliceText h begins first mbs b.bits) }
 {
     macroblock_layer::laws::in_a_syntax();
 }
 
-/// Bits are the text of one slice at most, and there is no first fault exactly where they are the text of one.
+/// Bits are the text of one slice at most, and there is no first fault exactly where they are the
+/// text of one.
 pub fn one_reading()
-    ensures no_fault { (h : Header) (begins : Bool) (b : Bits)
-        → (slice_fault h begins b ≡ None) ↔ ((first : ℕ) × (mbs : List Mb) × IsSliceText h begins first mbs b.bits) }
-    ensures one { (h : Header) (begins : Bool) (first other : ℕ) (mbs others : List Mb) (bits : List Bool)
-        → IsSliceText h begins first mbs bits → IsSliceText h begins other others bits
-        → (first ≡ other) × (mbs ≡ others) }
+    ensures no_fault { (h : Header) (begins : Bool) (b : Bits) → (slice_fault h begins b ≡ None)
+        ↔ ((first : ℕ) × (mbs : List Mb) × IsSliceText h begins first mbs b.bits) }
+    ensures one { (h : Header) (begins : Bool) (first other : ℕ)
+        (mbs others : List Mb) (bits : List Bool) → IsSliceText h begins first mbs bits
+        → IsSliceText h begins other others bits → (first ≡ other) × (mbs ≡ others) }
 {
     macroblock_layer::laws::in_a_syntax();
 }
 
-/// The first faults of a slice: field by field in its header, Empty and Trailing before a macroblock, and those of the
-/// macroblocks behind one another.
+/// The first faults of a slice: field by field in its header, Empty and Trailing before a
+/// macroblock, and those of the macroblocks behind one another.
 pub fn first_faults()
     ensures { SliceFaults }
 {
@@ -43,8 +44,8 @@ pub fn written_is_text()
     macroblock_layer::laws::in_a_syntax();
 }
 
-/// What stands before a slice's macroblocks has 262 bits at most, and a slice of one macroblock has 1,095 bytes
-/// at most.
+/// What stands before a slice's macroblocks has 262 bits at most, and a slice of one macroblock has
+/// 1,095 bytes at most.
 pub fn longest_text()
     ensures { AreShort }
 {

@@ -1,7 +1,17 @@
 //! Slices, read and written (H.263, Annex K, with the fields of Annex N).
 //!
-//! `specs/Head` gives the syntax of a slice's header, and `specs/Text` the text of a slice and what a reader of any bits
-//! finds: a slice ends where fewer than 8 zero bits are left.
+//! `specs/Head` gives the syntax of a slice's header, and `specs/Text` the text of a slice and what
+//! a reader of any bits finds: a slice ends where fewer than 8 zero bits are left. [`read_slice`]
+//! fills the macroblocks of a picture; a [`SliceWriter`] takes them one by one, and answers by
+//! [`Added`] whether they still fit.
+//!
+//! ```rust
+//! let mut bytes = [0xFF; 1150];
+//! let mut writer = SliceWriter::start(&mut bytes, &PREDICTED, false, 207);
+//! let _added = writer.add(&Mb::Skip);
+//! assert_eq!(rt; writer.finish(), 5);
+//! assert_eq!(rt; &bytes[..5], [0xD9, 0xE8, 0xE8, 0x00, 0xC0].as_slice());
+//! ```
 #![tactic(auto)]
 
 mod head;

@@ -41,7 +41,8 @@ fn reach_of(format: Format, at: u32) -> Reach
     reach(format, at)
 }
 
-// Macroblock `at` of the picture, in a slice that begins with macroblock `first`; the vectors are those before it.
+// Macroblock `at` of the picture, in a slice that begins with macroblock `first`; the vectors are
+// those before it.
 fn read_next(
     reader: &mut BitReader<'_>,
     header: &Header,
@@ -55,7 +56,9 @@ fn read_next(
     requires order { first ≤ at }
     requires within { at < mbs_of header.now.format }
     requires vectors { length vectors.now ≡ at }
-    ensures reads { Gives (λ _. out.new) result reader.new (reading (mb header.now.kind quant (reach_of header.now.format at) (predictor_of vectors.now first at (columns_of header.now.format))) reader.old) }
+    ensures reads { Gives (λ _. out.new) result reader.new
+        (reading (mb header.now.kind quant (reach_of header.now.format at)
+        (predictor_of vectors.now first at (columns_of header.now.format))) reader.old) }
     ensures range { IfOk result (λ _. IsMbAt header.now at out.new) }
 {
     let predictor = predictor(vectors, first, at, header.format.columns());
@@ -121,9 +124,9 @@ fn slice_at(
     read_body(reader, header, first, quant, out)
 }
 
-/// Reads a slice of the picture with this header (H.263, Annex K), up to the end of the bits. `begins` says that the
-/// picture header stood just before. `out` has all macroblocks of the picture, by number, and is filled from the slice's
-/// first on; after a fault it is left open.
+/// Reads a slice of the picture with this header (H.263, Annex K), up to the end of the bits.
+/// `begins` says that the picture header stood just before. `out` has all macroblocks of the
+/// picture, by number, and is filled from the slice's first on; after a fault it is left open.
 pub fn read_slice(
     reader: &mut BitReader<'_>,
     header: &Header,
@@ -133,10 +136,12 @@ pub fn read_slice(
     requires header { IsHeader header.now }
     requires picture { length out.old ≡ mbs_of header.now.format }
     // What is read is spelled by the bits.
-    ensures found { IfOk result (λ head. IsSliceText header.now begins head.first (mbs_from head.first head.count out.new) reader.old.bits) }
+    ensures found { IfOk result (λ head. IsSliceText header.now begins head.first
+        (mbs_from head.first head.count out.new) reader.old.bits) }
     // What they spell is read.
-    ensures only { (first : ℕ) (mbs : List Mb) → IsSliceText header.now begins first mbs reader.old.bits
-        → IsOkAnd result (λ head. (head.first ≡ first) × (head.count ≡ length mbs) × (mbs_from head.first head.count out.new ≡ mbs)) }
+    ensures only { (first : ℕ) (mbs : List Mb) → IsSliceText
+        header.now begins first mbs reader.old.bits → IsOkAnd result (λ head. (head.first ≡ first)
+        × (head.count ≡ length mbs) × (mbs_from head.first head.count out.new ≡ mbs)) }
     // Otherwise it is the first fault, at its place.
     ensures fault { first_fault result ≡ slice_fault header.now begins reader.old }
     ensures exact { Fills result out.new (slice_at header.now begins reader.old) }

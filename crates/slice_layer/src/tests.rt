@@ -9,7 +9,7 @@ use h263_types::{Block, Clock, Format, Kind, Mb, SliceHead, Vector};
 use picture_header::{Header, read_header};
 use std::test::Fail;
 
-/// A P picture of CIF with rounding 1, TRP 0 and quantiser 8.
+// A P picture of CIF with rounding 1, TRP 0 and quantiser 8.
 const P_HEADER: Header = Header {
     tr: 1,
     format: Format::Cif,
@@ -22,7 +22,7 @@ const P_HEADER: Header = Header {
     clock: Clock::Standard,
 };
 
-/// An I picture of CIF.
+// An I picture of CIF.
 const I_HEADER: Header = Header {
     tr: 0,
     format: Format::Cif,
@@ -35,7 +35,7 @@ const I_HEADER: Header = Header {
     clock: Clock::Standard,
 };
 
-/// The P picture of 128 x 96 whose only slice an independent encoder wrote.
+// The P picture of 128 x 96 whose only slice an independent encoder wrote.
 const SENT_P_HEADER: Header = Header {
     tr: 1,
     format: Format::SubQcif,
@@ -48,7 +48,7 @@ const SENT_P_HEADER: Header = Header {
     clock: Clock::Standard,
 };
 
-/// An I picture of 128 x 96 whose second slice the same encoder wrote.
+// An I picture of 128 x 96 whose second slice the same encoder wrote.
 const SENT_I_HEADER: Header = Header {
     tr: 0,
     format: Format::SubQcif,
@@ -61,10 +61,11 @@ const SENT_I_HEADER: Header = Header {
     clock: Clock::Standard,
 };
 
-/// A slice of the P picture, seven Skip from macroblock 207 on. A space stands between fields.
+// A slice of the P picture, seven Skip from macroblock 207 on. A space stands between fields.
 const LATER: &str = "1 1 011001111 01000 1 11 0 1 0000000000 01 1111111";
 
-/// Puts a text of zeros and ones into bytes from place `from` up to place `to` at most. Answers where it ends.
+// Puts a text of zeros and ones into bytes from place `from` up to place `to` at most. Answers
+// where it ends.
 fn put_text(bytes: &mut [u8; 32], from: u32, to: u32, text: &str) -> u32 {
     let mut place = from;
     for digit in text.as_bytes() {
@@ -76,7 +77,7 @@ fn put_text(bytes: &mut [u8; 32], from: u32, to: u32, text: &str) -> u32 {
     place
 }
 
-/// Reads the slice in the first `keep` bits of the later slice and in the text behind them.
+// Reads the slice in the first `keep` bits of the later slice and in the text behind them.
 fn read_changed(
     header: &Header,
     begins: bool,
@@ -94,7 +95,7 @@ fn read_changed(
     read_slice(&mut reader, header, begins, out)
 }
 
-/// The quantiser and the vector of a macroblock, zeros where it has none.
+// The quantiser and the vector of a macroblock, zeros where it has none.
 fn head_of(mb: &Mb) -> (u8, i8, i8) {
     match mb {
         Mb::Skip => (0, 0, 0),
@@ -132,7 +133,7 @@ fn later_slice_of_skips(rt: HostRuntime) -> Result<(), Fail> {
     Ok(())
 }
 
-/// That P picture: the picture header, then the slice from bit 77.
+// That P picture: the picture header, then the slice from bit 77.
 const SENT_FIRST: [u8; 84] = [
     0x80, 0x06, 0x1C, 0x90, 0x31, 0x04, 0x91, 0xE0, 0x03, 0xF4, 0x0B, 0xC2, 0x9D, 0xDC, 0x16, 0x37,
     0x09, 0x37, 0xDF, 0x7D, 0xD9, 0x38, 0x1E, 0x05, 0xDC, 0xCD, 0xE5, 0x73, 0x37, 0x0C, 0x19, 0xCC,
@@ -142,7 +143,7 @@ const SENT_FIRST: [u8; 84] = [
     0x4B, 0x99, 0xBC, 0xE0,
 ];
 
-/// Quantiser and vector of its macroblocks.
+// Quantiser and vector of its macroblocks.
 const SENT_HEADS: [(u8, i8, i8); 48] = [
     (31, 0, 5),
     (31, -1, 5),
@@ -213,7 +214,7 @@ fn first_slice_of_another_sender(rt: HostRuntime) -> Result<(), Fail> {
     Ok(())
 }
 
-/// The second slice of that I picture.
+// The second slice of that I picture.
 const SENT_LATER: [u8; 79] = [
     0xED, 0x64, 0x17, 0xC5, 0x80, 0x77, 0xCD, 0x30, 0x97, 0x83, 0x85, 0xFD, 0x34, 0x5C, 0x0E, 0x10,
     0x1B, 0x6A, 0xA5, 0x67, 0xE2, 0xAF, 0xC1, 0xC1, 0xFB, 0x6F, 0x07, 0x0F, 0xF5, 0xED, 0xBE, 0x80,
@@ -222,7 +223,7 @@ const SENT_LATER: [u8; 79] = [
     0xD8, 0x60, 0x60, 0x42, 0x74, 0xC3, 0x77, 0xCB, 0xC0, 0x21, 0xCC, 0x18, 0x10, 0xA2, 0x40,
 ];
 
-/// The first levels of its macroblocks' first blocks.
+// The first levels of its macroblocks' first blocks.
 const SENT_LEVELS: [[i16; 10]; 3] = [
     [139, 10, -2, 0, 0, 0, 1, 0, 0, 0],
     [109, 2, 1, 0, 3, 0, 0, 0, 0, 0],

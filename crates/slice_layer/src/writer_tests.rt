@@ -1,4 +1,5 @@
-//! Slices that are written, byte for byte. The bytes were packed by another program from the tables.
+//! Slices that are written, byte for byte. The bytes were packed by another program from the
+//! tables.
 ghost use Rattle.std.specs.Prelude.{◌≡◌, ◌+◌, ◌≤◌, ◌∷◌, [], length, take, IsTrue, IfOk};
 ghost use Rattle.h263_bits.specs.Bits.{bits_of};
 ghost use Rattle.h263_types.specs.declared.Kind.TheVariants as kinds;
@@ -27,7 +28,7 @@ const FAR: Reach = Reach {
     down: 31,
 };
 
-/// A P picture of CIF with rounding 1 that refers to picture 0.
+// A P picture of CIF with rounding 1 that refers to picture 0.
 const PREDICTED: Header = Header {
     tr: 1,
     format: Format::Cif,
@@ -40,7 +41,7 @@ const PREDICTED: Header = Header {
     clock: Clock::Standard,
 };
 
-/// Picture 0 of sub-QCIF, an I picture.
+// Picture 0 of sub-QCIF, an I picture.
 const FLAT: Header = Header {
     tr: 0,
     format: Format::SubQcif,
@@ -53,13 +54,13 @@ const FLAT: Header = Header {
     clock: Clock::Standard,
 };
 
-/// An I picture of CIF.
+// An I picture of CIF.
 const INTRA: Header = Header {
     format: Format::Cif,
     ..FLAT
 };
 
-/// A P picture of sub-QCIF with rounding 0 that refers to picture 255, at quantiser 31.
+// A P picture of sub-QCIF with rounding 0 that refers to picture 255, at quantiser 31.
 const SMALL: Header = Header {
     tr: 0,
     format: Format::SubQcif,
@@ -72,7 +73,7 @@ const SMALL: Header = Header {
     clock: Clock::Standard,
 };
 
-/// The picture of 48 macroblocks with INTRADC 100.
+// The picture of 48 macroblocks with INTRADC 100.
 const FLAT_100: [u8; 328] = [
     0x80, 0x02, 0x1C, 0x90, 0x31, 0x00, 0x11, 0xCA, 0x10, 0x33, 0x64, 0x64, 0x64, 0x64, 0x64, 0x64,
     0x9B, 0x23, 0x23, 0x23, 0x23, 0x23, 0x24, 0xD9, 0x19, 0x19, 0x19, 0x19, 0x19, 0x26, 0xC8, 0xC8,
@@ -97,7 +98,7 @@ const FLAT_100: [u8; 328] = [
     0x92, 0x6C, 0x8C, 0x8C, 0x8C, 0x8C, 0x8C, 0x80,
 ];
 
-/// Puts a text of zeros and ones into bytes. Answers where it ends.
+// Puts a text of zeros and ones into bytes. Answers where it ends.
 fn put_text(bytes: &mut [u8; 32], text: &str) -> u32
     ensures { result ≤ 256 }
 {
@@ -111,7 +112,7 @@ fn put_text(bytes: &mut [u8; 32], text: &str) -> u32
     place
 }
 
-/// The macroblock of a text, where the quantiser before it is 8 and no vector predicts its own.
+// The macroblock of a text, where the quantiser before it is 8 and no vector predicts its own.
 fn read_text(kind: Kind, text: &str) -> Result<Mb, Fault>
     ensures mb { IfOk result (λ m. IsMb m) }
     ensures kind { IfOk result (λ m. IsOfKind kind m) }
@@ -124,7 +125,7 @@ fn read_text(kind: Kind, text: &str) -> Result<Mb, Fault>
     Ok(mb)
 }
 
-/// Whether a quantiser is within 2 of another one, and is the one that is wanted.
+// Whether a quantiser is within 2 of another one, and is the one that is wanted.
 fn is_step(from: u8, to: u8, quant: u8) -> bool
     requires { from ≤ 31 }
     ensures near { IsTrue result → IsNear from quant }
@@ -136,7 +137,7 @@ fn is_step(from: u8, to: u8, quant: u8) -> bool
     from <= to.saturating_add(2) && to <= from + 2
 }
 
-/// Whether the macroblock may stand behind a quantiser, and changes it to another one.
+// Whether the macroblock may stand behind a quantiser, and changes it to another one.
 fn steps(from: u8, to: u8, mb: &Mb) -> bool
     requires { from ≤ 31 }
     ensures near { IsTrue result → IsStepped from mb.now }
@@ -153,7 +154,7 @@ fn steps(from: u8, to: u8, mb: &Mb) -> bool
     }
 }
 
-/// Adds a macroblock so many times. Answers how often it fitted.
+// Adds a macroblock so many times. Answers how often it fitted.
 fn add_times(writer: &mut SliceWriter<'_>, mb: &Mb, times: u32) -> u32
     requires mb { IsMb mb.now }
     requires kind { IsOfKind (kind_of writer.old) mb.now }
@@ -188,7 +189,7 @@ fn seven_skips(rt: HostRuntime) {
     assert_eq!(rt; &bytes[..5], [0xD9, 0xE8, 0xE8, 0x00, 0xFF].as_slice());
 }
 
-/// The 48 macroblocks have INTRADC 100 each.
+// The 48 macroblocks have INTRADC 100 each.
 #[test]
 fn flat_picture(rt: HostRuntime) -> Result<(), Fail> {
     let mb = read_text(
@@ -206,7 +207,7 @@ fn flat_picture(rt: HostRuntime) -> Result<(), Fail> {
     Ok(())
 }
 
-/// The texts in hexadecimal digits are of slices from macroblock 207 on, with one macroblock.
+// The texts in hexadecimal digits are of slices from macroblock 207 on, with one macroblock.
 #[test]
 fn slice_headers(rt: HostRuntime) -> Result<(), Fail> {
     let mb = read_text(
@@ -233,7 +234,7 @@ fn slice_headers(rt: HostRuntime) -> Result<(), Fail> {
     Ok(())
 }
 
-/// Behind the header's 33 bits 158 macroblocks of 58 bits and three of one bit fill 1,150 bytes.
+// Behind the header's 33 bits 158 macroblocks of 58 bits and three of one bit fill 1,150 bytes.
 #[test]
 fn full_at_the_room(rt: HostRuntime) -> Result<(), Fail> {
     let mb = read_text(
@@ -253,8 +254,8 @@ fn full_at_the_room(rt: HostRuntime) -> Result<(), Fail> {
     Ok(())
 }
 
-/// A macroblock of 109 bits with another vector and quantiser isn't added behind 157 of 58 bits: what follows is written as
-/// if it had not come.
+// A macroblock of 109 bits with another vector and quantiser isn't added behind 157 of 58 bits:
+// what follows is written as if it had not come.
 #[test]
 fn nothing_changes_where_it_is_full(rt: HostRuntime) -> Result<(), Fail> {
     let mb = read_text(
@@ -281,7 +282,8 @@ fn nothing_changes_where_it_is_full(rt: HostRuntime) -> Result<(), Fail> {
     Ok(())
 }
 
-/// From macroblock 207 on: a vector (4, 2), the same one with quantiser 10, Skip, and an intra macroblock.
+// From macroblock 207 on: a vector (4, 2), the same one with quantiser 10, Skip, and an intra
+// macroblock.
 #[test]
 fn predicted_vector_and_quantiser(rt: HostRuntime) -> Result<(), Fail> {
     let first = read_text(Kind::P, "0 1 11 0000110 0010")?;
@@ -312,14 +314,15 @@ fn predicted_vector_and_quantiser(rt: HostRuntime) -> Result<(), Fail> {
     Ok(())
 }
 
-/// What a caller knows of its bytes once the writer is gone.
+// What a caller knows of its bytes once the writer is gone.
 fn write_skip(bytes: &mut [u8], header: &Header, begins: bool, first: u32) -> u32
     requires room { 1150 ≤ length bytes.old }
     requires short { length bytes.old ≤ 65535 }
     requires header { IsHeader header.now }
     requires place { IsPlace header.now begins first }
     requires kind { header.now.kind ≡ kinds.P }
-    ensures { bits_of (take result bytes.new) ≡ padded (slice_text header.now begins first (mbs.Skip ∷ [])) }
+    ensures { bits_of (take result bytes.new)
+        ≡ padded (slice_text header.now begins first (mbs.Skip ∷ [])) }
 {
     let mut writer = SliceWriter::start(bytes, header, begins, first);
     let _added = writer.add(&Mb::Skip);

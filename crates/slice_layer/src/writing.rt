@@ -26,8 +26,8 @@ pub enum Added {
     Full,
 }
 
-/// Writes a slice, macroblock after macroblock, into bytes that it was lent (H.263, Annex K). At each time they begin with the
-/// text so far, padded with zero bits up to a whole byte.
+/// Writes a slice, macroblock after macroblock, into bytes that it was lent (H.263, Annex K). At
+/// each time they begin with the text so far, padded with zero bits up to a whole byte.
 #[derive(Drop)]
 pub struct SliceWriter<'a> {
     bytes: &'a mut [u8],
@@ -51,8 +51,8 @@ impl<'a> SliceWriter<'a> {
     ghost use Rattle.slice_layer.specs.Written.{slice_text, padded, bytes_of, IsPlace, IsFront};
     ghost use Rattle.slice_layer.specs.Writer.{kind_of, format_of, first_of, next_of, quant_of, bytes_in, loan_of, Holds, answer};
 
-    /// A writer of the slice that begins with macroblock `first`. It writes the slice header, behind the picture header where
-    /// the slice begins a picture.
+    /// A writer of the slice that begins with macroblock `first`. It writes the slice header,
+    /// behind the picture header where the slice begins a picture.
     pub fn start(bytes: &'a mut [u8], header: &Header, begins: bool, first: u32) -> SliceWriter<'a>
         requires room { 1150 ≤ length bytes.old }
         requires short { length bytes.old ≤ 65535 }
@@ -77,7 +77,8 @@ impl<'a> SliceWriter<'a> {
 
     // The prediction of the next macroblock's vector.
     fn predictor(&self) -> Vector
-        ensures { result ≡ predictor_of (take (next_of self.now) self.now.vectors) (first_of self.now) (next_of self.now) (columns_of (format_of self.now)) }
+        ensures { result ≡ predictor_of (take (next_of self.now) self.now.vectors)
+            (first_of self.now) (next_of self.now) (columns_of (format_of self.now)) }
     {
         predictor(
             &self.vectors[..self.next as usize],
@@ -89,7 +90,8 @@ impl<'a> SliceWriter<'a> {
 
     // The bits behind the last whole byte.
     fn last_bits(&self) -> u32
-        ensures bits { take (8 * (self.now.len / 8)) (bits_of (bytes_in self.now)) ++ spelled (self.now.len % 8) result ≡ take self.now.len (bits_of (bytes_in self.now)) }
+        ensures bits { take (8 * (self.now.len / 8)) (bits_of (bytes_in self.now))
+            ++ spelled (self.now.len % 8) result ≡ take self.now.len (bits_of (bytes_in self.now)) }
         ensures below { result < 2 ^ (self.now.len % 8) }
     {
         let from = self.len - self.len % 8;
@@ -108,33 +110,37 @@ impl<'a> SliceWriter<'a> {
         ensures first { first_of self.new ≡ first_of self.old }
         ensures next { next_of self.new ≡ next_of self.old + 1 }
         ensures quant { quant_of self.new ≡ quant_after (quant_of self.old) mb.now }
-        ensures vectors { take (next_of self.new) self.new.vectors ≡ take (next_of self.old) self.old.vectors ++ vector_of mb.now ∷ [] }
+        ensures vectors { take (next_of self.new) self.new.vectors
+            ≡ take (next_of self.old) self.old.vectors ++ vector_of mb.now ∷ [] }
     {
         self.vectors[self.next as usize] = vector_of(mb);
         self.quant = quant_after(self.quant, mb);
         self.next += 1;
     }
 
-    /// Adds the next macroblock. Where the slice with it, up to a whole byte, would have more bytes than were lent, it answers
-    /// `Full`, and nothing changes.
+    /// Adds the next macroblock. Where the slice with it, up to a whole byte, would have more bytes
+    /// than were lent, it answers `Full`, and nothing changes.
     pub fn add(&mut self, mb: &Mb) -> Added
         requires mb { IsMb mb.now }
         requires kind { IsOfKind (kind_of self.old) mb.now }
         requires step { IsStepped (quant_of self.old) mb.now }
         requires left { next_of self.old < mbs_of (format_of self.old) }
-        ensures answer { (h : Header) (begins : Bool) (first : ℕ) (mbs : List Mb) → Holds self.old h begins first mbs
-            → result ≡ answer (length (bytes_in self.old)) (bytes_of (slice_text h begins first (mbs ++ mb.now ∷ []))) }
-        ensures fits { (h : Header) (begins : Bool) (first : ℕ) (mbs : List Mb) → Holds self.old h begins first mbs
+        ensures answer { (h : Header) (begins : Bool) (first : ℕ) (mbs : List Mb)
+            → Holds self.old h begins first mbs → result ≡ answer (length (bytes_in self.old))
+            (bytes_of (slice_text h begins first (mbs ++ mb.now ∷ []))) }
+        ensures fits { (h : Header) (begins : Bool) (first : ℕ) (mbs : List Mb)
+            → Holds self.old h begins first mbs
             → result ≡ Added.Fits → Holds self.new h begins first (mbs ++ mb.now ∷ []) }
         ensures full { result ≡ Added.Full → self.new ≡ self.old }
         // There is room for the first macroblock.
-        ensures first { (h : Header) (begins : Bool) (first : ℕ) → IsHeader h → 1150 ≤ length (bytes_in self.old)
-            → Holds self.old h begins first [] → result ≡ Added.Fits }
+        ensures first { (h : Header) (begins : Bool) (first : ℕ) → IsHeader h → 1150
+            ≤ length (bytes_in self.old) → Holds self.old h begins first [] → result ≡ Added.Fits }
         ensures kind { kind_of self.new ≡ kind_of self.old }
         ensures format { format_of self.new ≡ format_of self.old }
         ensures from { first_of self.new ≡ first_of self.old }
         ensures next { result ≡ Added.Fits → next_of self.new ≡ next_of self.old + 1 }
-        ensures quant { result ≡ Added.Fits → quant_of self.new ≡ quant_after (quant_of self.old) mb.now }
+        ensures quant { result ≡ Added.Fits
+            → quant_of self.new ≡ quant_after (quant_of self.old) mb.now }
         ensures whole { IsWhole mb.now }
         ensures loan { loan_of self.new ≡ loan_of self.old }
         ensures room { length (bytes_in self.new) ≡ length (bytes_in self.old) }
@@ -158,12 +164,14 @@ impl<'a> SliceWriter<'a> {
         Added::Fits
     }
 
-    /// Ends the slice with zero bits up to a whole byte. Answers how many bytes it has: the first ones of those that were lent.
+    /// Ends the slice with zero bits up to a whole byte. Answers how many bytes it has: the first
+    /// ones of those that were lent.
     pub fn finish(self) -> u32
         requires some { first_of self < next_of self }
-        ensures bytes { (h : Header) (begins : Bool) (first : ℕ) (mbs : List Mb) → Holds self.entry h begins first mbs
-            → result ≡ bytes_of (slice_text h begins first mbs) }
-        ensures text { (h : Header) (begins : Bool) (first : ℕ) (mbs : List Mb) → Holds self.entry h begins first mbs
+        ensures bytes { (h : Header) (begins : Bool) (first : ℕ) (mbs : List Mb) → Holds
+            self.entry h begins first mbs → result ≡ bytes_of (slice_text h begins first mbs) }
+        ensures text { (h : Header) (begins : Bool) (first : ℕ) (mbs : List Mb)
+            → Holds self.entry h begins first mbs
             → bits_of (take result self.exit.0.now) ≡ padded (slice_text h begins first mbs) }
         ensures same { self.exit.0.now ≡ bytes_in self.entry }
         ensures within { result ≤ length (bytes_in self.entry) }

@@ -59,7 +59,8 @@ fn write_later(writer: &mut BitWriter<'_>, header: &Header, first: u32)
     requires first { first < mbs_of header.now.format }
     requires room { len_of writer.old + 262 ≤ room_of writer.old }
     ensures bits { Appends writer.old writer.new (opening_text header.now false first) }
-    ensures len { len_of writer.new ≡ len_of writer.old + length (opening_text header.now false first) }
+    ensures len { len_of writer.new
+        ≡ len_of writer.old + length (opening_text header.now false first) }
 {
     write_place(writer, header, first);
     write_tail(writer, header);
@@ -77,14 +78,16 @@ fn write_beginning(writer: &mut BitWriter<'_>, header: &Header)
     write_first(writer, header);
 }
 
-/// Writes what stands before a slice's macroblocks: the picture header, where the slice begins a picture, and the header of
-/// the slice that begins with macroblock `first`. That is 262 bits at most.
+/// Writes what stands before a slice's macroblocks: the picture header, where the slice begins a
+/// picture, and the header of the slice that begins with macroblock `first`. That is 262 bits at
+/// most.
 pub fn write_opening(writer: &mut BitWriter<'_>, header: &Header, begins: bool, first: u32)
     requires header { IsHeader header.now }
     requires place { IsPlace header.now begins first }
     requires room { len_of writer.old + 262 ≤ room_of writer.old }
     ensures bits { Appends writer.old writer.new (opening_text header.now begins first) }
-    ensures len { len_of writer.new ≡ len_of writer.old + length (opening_text header.now begins first) }
+    ensures len { len_of writer.new
+        ≡ len_of writer.old + length (opening_text header.now begins first) }
     ensures few { length (opening_text header.now begins first) ≤ 262 }
 {
     in_a_syntax();

@@ -40,7 +40,8 @@ pub fn write_front(bytes: &mut [u8], header: &Header, begins: bool, first: u32) 
     pad(&mut writer)
 }
 
-/// Writes a macroblock's text behind the `count` bits of a number. Answers how many bits that are together.
+/// Writes a macroblock's text behind the `count` bits of a number. Answers how many bits that are
+/// together.
 pub fn write_apart(
     bytes: &mut [u8; 1063],
     front: u32,

@@ -84,6 +84,7 @@ head_stays video f k is le =
       ap (λ (l : List ℕ). head_size l) text ∙ ap (λ (l : List ℕ). length l) (line_found 256 (codes "YUV4MPEG2") line more (free (codes "YUV4MPEG2") refl) h.spelled h.spelled.short),
     )
 
+-- a frame is found in as many bytes as it has
 pub frame_stays : (f : Format) (at k : ℕ) (rest planes : List ℕ) → frame_of f at rest ≡ Ok planes → frame_size f rest ≤ k → (frame_of f at (take k rest) ≡ Ok planes) × (frame_size f (take k rest) ≡ frame_size f rest)
 frame_stays f at k rest planes is le =
     let line = frame_line rest in

@@ -64,9 +64,11 @@ module _ (f : Format) (at : ℕ) (rest l : List ℕ) (n : ℕ) (is : l ≡ frame
       let same : at + length rest ≡ at + n + length (drop n rest) = omega (arith, length-drop n rest, within) in
       by_test e true (short_test (omega (arith, length-drop n rest, within))) ∙ ap (λ (m : ℕ). Err (ShortFrame m)) same
 
+  -- behind a good line there is a frame where its samples are there
   pub planes_there : line_stop l ≡ None → size_of_picture f ≤ length (drop n rest) → frame_of f at rest ≡ Ok (take (size_of_picture f) (drop n rest))
   planes_there e long = by_test e false (long_test (omega (arith, length-drop n rest, within)))
 
+  -- a frame is its line and its samples
   pub size_is : frame_size f rest ≡ n + size_of_picture f
   size_is = omega (arith, ap (λ (x : List ℕ). length x) is)
 

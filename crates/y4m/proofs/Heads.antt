@@ -38,5 +38,6 @@ bad_tag k line fault is lt p = behind k line (Some fault) (is_whole line) (forma
 pub not_whole : (k : ℕ) (line : List ℕ) → k ≡ agreement (codes "YUV4MPEG2") line → 9 < k → tags_fault (tags_of line) ≡ None → is_whole line ≡ false → format_of_line line ≡ Err (NotY4m (length line))
 not_whole k line is lt p q = behind k line None false (format_in (tags_of line)) is lt p q refl
 
+-- a whole line with good tags gives the format that they say
 pub whole_head : (k : ℕ) (line : List ℕ) (format : Option Format) → k ≡ agreement (codes "YUV4MPEG2") line → 9 < k → tags_fault (tags_of line) ≡ None → is_whole line ≡ true → format_in (tags_of line) ≡ format → format_of_line line ≡ sized format (length line - 1)
 whole_head k line format is lt p q r = behind k line None true format is lt p q r

@@ -11,6 +11,7 @@ pub nil_of : (xs : List ℕ) → length xs ≡ 0 → xs ≡ []
 nil_of [] none = refl
 nil_of (x ∷ xs) none = absurd (omega arith)
 
+-- nothing is left of nothing
 pub drop_none : (xs : List ℕ) (k m : ℕ) → xs ≡ [] → drop k xs ≡ drop m xs
 drop_none xs k m none = ap (λ (l : List ℕ). drop k l) none ∙ drop-nil k ∙ sym (drop-nil m) ∙ ap (λ (l : List ℕ). drop m l) (sym none)
 

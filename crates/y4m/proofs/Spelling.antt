@@ -22,6 +22,7 @@ through_found (suc n) (b ∷ xs) more none lt =
     through_other b (take n (xs ++ 10 ∷ more)) (All-head Other b xs none)
     ∙ ap (λ (l : List ℕ). b ∷ l) (through_found n xs more (All-tail Other b xs none) (omega arith))
 
+-- a line is found where its text stands
 pub line_found : (n : ℕ) (word line more : List ℕ) → NoNewline word → IsLine word line → length line ≤ n → line_within n (line ++ more) ≡ line
 line_found n word line more none l le =
     let whole : line ++ more ≡ (word ++ l.tail) ++ 10 ∷ more = ap (λ (x : List ℕ). x ++ more) l.text ∙ append_assoc (word ++ l.tail) (10 ∷ []) more in
@@ -149,6 +150,7 @@ apart_of (b ∷ tail) gap one = space b gap (All-head Other b tail one)
     space : (b : ℕ) → is_gap b ≡ true → b ≢ 10 → b ≡ 32
     space b gap other = grind (arith, nat_tests)
 
+-- a whole line that is found has its word and no newline inside
 pub line_is : (n : ℕ) (word bytes : List ℕ) → length word < agreement word (line_within n bytes) → is_whole (line_within n bytes) ≡ true → IsLine word (line_within n bytes)
 line_is n word bytes agrees whole =
     let line = line_within n bytes in

@@ -36,6 +36,7 @@ free_head b rest is = λ ten. meets b rest ten is
 free_tail : (b : ℕ) (rest : Bool) → b ≢ 10 → cond (b == 10) false rest ≡ true → rest ≡ true
 free_tail b rest other is = grind (arith, nat_tests)
 
+-- bytes that are free of newlines have none
 pub free : (bytes : List ℕ) → is_free bytes ≡ true → NoNewline bytes
 free [] is = All-nil Other
 free (b ∷ bytes) is =

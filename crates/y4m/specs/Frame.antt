@@ -13,7 +13,8 @@ frame_line rest = line_within 257 rest
 abbrev pub frame_size : Format → List ℕ → ℕ
 frame_size f rest = length (frame_line rest) + size_of_picture f
 
--- where a frame's line can't go on, if it isn't whole: behind what it has in common with the word and a gap; else at byte 256 or where it ends
+-- where a frame's line can't go on, if it isn't whole: behind what it has in common with the word
+-- and a gap; else at byte 256 or where it ends
 abbrev pub line_stop : List ℕ → Option ℕ
 line_stop line =
     if nat_lt (agreement (codes "FRAME") line) 6 then Some (agreement (codes "FRAME") line)
@@ -26,7 +27,8 @@ stop_fault at size stop = if stop == size then ShortFrame (at + stop) else NotY4
 -- the planes behind a line of so many bytes
 abbrev pub planes_of : Format → ℕ → ℕ → List ℕ → Result (List ℕ) Y4mFault
 planes_of f at line rest =
-    if nat_lt (length rest) (line + size_of_picture f) then Err (ShortFrame (at + length rest)) else Ok (take (size_of_picture f) (drop line rest))
+    if nat_lt (length rest) (line + size_of_picture f) then Err (ShortFrame (at + length rest))
+    else Ok (take (size_of_picture f) (drop line rest))
 
 abbrev pub frame_behind : Option ℕ → Format → ℕ → ℕ → List ℕ → Result (List ℕ) Y4mFault
 frame_behind (Some stop) f at line rest = Err (stop_fault at line stop)

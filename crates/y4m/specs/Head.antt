@@ -9,10 +9,12 @@ use Rattle.y4m.specs.Line.{Tag, agreement, line_within, is_whole, tags_of}
 
 -- the width and the height that a tag gives
 abbrev pub width_in : List ℕ → Option ℕ
-width_in tag = if bytes_eq tag (codes "W128") then Some 128 else if bytes_eq tag (codes "W176") then Some 176 else if bytes_eq tag (codes "W352") then Some 352 else None
+width_in tag = if bytes_eq tag (codes "W128") then Some 128 else if bytes_eq tag (codes "W176")
+    then Some 176 else if bytes_eq tag (codes "W352") then Some 352 else None
 
 abbrev pub height_in : List ℕ → Option ℕ
-height_in tag = if bytes_eq tag (codes "H96") then Some 96 else if bytes_eq tag (codes "H144") then Some 144 else if bytes_eq tag (codes "H288") then Some 288 else None
+height_in tag = if bytes_eq tag (codes "H96") then Some 96 else if bytes_eq tag (codes "H144")
+    then Some 144 else if bytes_eq tag (codes "H288") then Some 288 else None
 
 -- progressive, or not known
 abbrev pub is_progressive : List ℕ → Bool
@@ -20,7 +22,8 @@ is_progressive tag = bytes_eq tag (codes "Ip") || bytes_eq tag (codes "I?")
 
 -- 4:2:0 of 8 bits; where the colours' samples lie between those of luma is passed over
 abbrev pub is_quarter : List ℕ → Bool
-is_quarter tag = bytes_eq tag (codes "C420") || bytes_eq tag (codes "C420jpeg") || bytes_eq tag (codes "C420mpeg2") || bytes_eq tag (codes "C420paldv")
+is_quarter tag = bytes_eq tag (codes "C420") || bytes_eq tag (codes "C420jpeg")
+    || bytes_eq tag (codes "C420mpeg2") || bytes_eq tag (codes "C420paldv")
 
 -- the fault of a tag, at its letter: the tags of W, H, I and C are of the forms above
 abbrev pub tag_fault : Tag → Option Y4mFault
@@ -49,7 +52,8 @@ last_in gives (tag ∷ tags) = or_else (last_in gives tags) (gives tag.text)
 -- the format of a width and a height
 abbrev pub format_with : Option ℕ → Option ℕ → Option Format
 format_with (Some w) (Some h) =
-    if w == 128 && h == 96 then Some SubQcif else if w == 176 && h == 144 then Some Qcif else if w == 352 && h == 288 then Some Cif else None
+    if w == 128 && h == 96 then Some SubQcif else if w == 176 && h == 144 then Some Qcif
+    else if w == 352 && h == 288 then Some Cif else None
 format_with None h = None
 format_with (Some w) None = None
 
@@ -70,7 +74,8 @@ unless (Some fault) more = Err fault
 unfoldable pub format_of_line : List ℕ → Result Format Y4mFault
 format_of_line line =
     if nat_lt (agreement (codes "YUV4MPEG2") line) 10 then Err (NotY4m (agreement (codes "YUV4MPEG2") line))
-    else unless (tags_fault (tags_of line)) (if is_whole line then sized (format_in (tags_of line)) (length line - 1) else Err (NotY4m (length line)))
+    else unless (tags_fault (tags_of line)) (if is_whole line
+    then sized (format_in (tags_of line)) (length line - 1) else Err (NotY4m (length line)))
 
 -- the head's line: no byte behind the first 256 is looked at
 abbrev pub head_line : List ℕ → List ℕ

@@ -14,12 +14,14 @@ pub record IsFollowed (f : Format) (n m at : ℕ) (rest frame : List ℕ) : Type
       ≡ frame ∷ frames_of f m (at + frame_size f rest) (take k (behind_frame f rest))
 
 pub record FrameLaws : Type 0 where
-  pub next : (f : Format) (n m at : ℕ) (rest frame : List ℕ) → m + 1 ≡ n → 0 < length rest → next_frame n f at rest ≡ Ok frame
+  pub next : (f : Format) (n m at : ℕ) (rest frame : List ℕ)
+      → m + 1 ≡ n → 0 < length rest → next_frame n f at rest ≡ Ok frame
       → IsFollowed f n m at rest frame
   -- at its end a video has no frame more, and no fault
   pub ends : (f : Format) (n at : ℕ) → (frames_of f n at [] ≡ []) × (fault_of f n at [] ≡ None)
   -- a fault ends the frames
-  pub stops : (f : Format) (n at : ℕ) (rest : List ℕ) (fault : Y4mFault) → 0 < length rest → next_frame n f at rest ≡ Err fault
+  pub stops : (f : Format) (n at : ℕ) (rest : List ℕ) (fault : Y4mFault)
+      → 0 < length rest → next_frame n f at rest ≡ Err fault
       → (frames_of f n at rest ≡ []) × (fault_of f n at rest ≡ Some fault)
   -- where the first frame isn't whole there is none
   pub lost : (f : Format) (n at : ℕ) (rest : List ℕ) → IsErr (frame_of f at rest) → frames_of f n at rest ≡ []

@@ -37,10 +37,12 @@ abbrev pub before_gap : List ℕ → List ℕ
 before_gap [] = []
 before_gap (b ∷ bytes) = if is_gap b then [] else b ∷ before_gap bytes
 
--- the tag that begins where these bytes of a line stand behind a byte: that one is a space, the tag has one byte at least, and a gap is behind it
+-- the tag that begins where these bytes of a line stand behind a byte: that one is a space, the tag
+-- has one byte at least, and a gap is behind it
 abbrev pub tag_behind : ℕ → List ℕ → Option (List ℕ)
 tag_behind before bytes =
-    if before == 32 && nat_lt 0 (length (before_gap bytes)) && nat_lt (length (before_gap bytes)) (length bytes) then Some (before_gap bytes) else None
+    if before == 32 && nat_lt 0 (length (before_gap bytes))
+    && nat_lt (length (before_gap bytes)) (length bytes) then Some (before_gap bytes) else None
 
 abbrev pub with_tag : ℕ → Option (List ℕ) → List Tag → List Tag
 with_tag at None tags = tags

@@ -7,7 +7,8 @@ use Rattle.y4m.specs.Line.{NoNewline}
 
 -- what the reading of planes says, which begin at this byte of the video, and what is left of it there
 abbrev pub PlanesGive : Result (Unit {0}) VideoStop → ℕ → List ℕ → List ℕ → Option (List ℕ) → Type 0
-PlanesGive (Ok _) at rest out left = (length out ≤ length rest) × (out ≡ take (length out) rest) × (left ≡ Some (drop (length out) rest))
+PlanesGive (Ok _) at rest out left = (length out ≤ length rest)
+    × (out ≡ take (length out) rest) × (left ≡ Some (drop (length out) rest))
 PlanesGive (Err (Refused fault)) at rest out left = (length rest < length out) × (fault ≡ ShortFrame (at + length rest))
 PlanesGive (Err Read) at rest out left = (k : ℕ) × (k < length out) × (left ≡ Some (drop k rest))
 

@@ -28,14 +28,16 @@ unfoldable pub frames_of : Format → ℕ → ℕ → List ℕ → List (List �
 frames_of f zero at rest = []
 frames_of f (suc n) at [] = []
 frames_of f (suc n) at (b ∷ rest) =
-    frames_from (frame_of f at (b ∷ rest)) (frames_of f n (at + frame_size f (b ∷ rest)) (drop (frame_size f (b ∷ rest)) (b ∷ rest)))
+    frames_from (frame_of f at (b ∷ rest))
+    (frames_of f n (at + frame_size f (b ∷ rest)) (drop (frame_size f (b ∷ rest)) (b ∷ rest)))
 
 -- the first fault of the rest
 unfoldable pub fault_of : Format → ℕ → ℕ → List ℕ → Option Y4mFault
 fault_of f n at [] = None
 fault_of f zero at (b ∷ rest) = Some (TooMany at)
 fault_of f (suc n) at (b ∷ rest) =
-    fault_from (frame_of f at (b ∷ rest)) (fault_of f n (at + frame_size f (b ∷ rest)) (drop (frame_size f (b ∷ rest)) (b ∷ rest)))
+    fault_from (frame_of f at (b ∷ rest))
+    (fault_of f n (at + frame_size f (b ∷ rest)) (drop (frame_size f (b ∷ rest)) (b ∷ rest)))
 
 -- behind a head
 abbrev pub fault_behind : Result Format Y4mFault → ℕ → List ℕ → Option Y4mFault

@@ -6,8 +6,8 @@ ghost use Rattle.std.specs.Prelude.{◌≡◌};
 pub enum Y4mFault {
     /// This byte, or the end of the input inside the head's line, can't go on with a line.
     NotY4m { at: u64 },
-    /// At a tag's letter: it is no width or height of a format. At the newline of the head's line: width or
-    /// height is missing, or both together are no format.
+    /// At a tag's letter: it is no width or height of a format. At the newline of the head's line:
+    /// width or height is missing, or both together are no format.
     Size { at: u64 },
     /// The tag with its letter here says that the video isn't progressive.
     Interlaced { at: u64 },

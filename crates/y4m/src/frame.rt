@@ -1,11 +1,11 @@
-// The line of a frame: its word; its tags are passed over.
+//! The line of a frame: its word; its tags are passed over.
 ghost use Rattle.std.specs.Prelude.{◌≡◌, ◌<◌, ◌≤◌, ◌^◌, ℕ, length, MatchResult, MatchOption, None, Some};
 ghost use Rattle.y4m.specs.Frame.{line_stop, stop_fault};
 
 use crate::Y4mFault;
 use crate::line::{LONGEST_LINE, agreed, is_whole};
 
-/// The word that a frame begins with.
+// The word that a frame begins with.
 const FRAME: &[u8] = b"FRAME";
 
 // Where a frame's line can't go on, if it isn't whole.
@@ -27,7 +27,8 @@ fn line_stop(line: &[u8]) -> Option<usize>
 pub fn check_line(at: u64, line: &[u8]) -> Result<(), Y4mFault>
     requires place { at < 2 ^ 62 }
     requires size { length line.now ≤ 257 }
-    ensures { MatchResult result (λ _. line_stop line.now ≡ None) (λ fault. (stop : ℕ) × (line_stop line.now ≡ Some stop) × (fault ≡ stop_fault at (length line.now) stop)) }
+    ensures { MatchResult result (λ _. line_stop line.now ≡ None) (λ fault. (stop : ℕ)
+        × (line_stop line.now ≡ Some stop) × (fault ≡ stop_fault at (length line.now) stop)) }
 {
     let Some(stop) = line_stop(line) else {
         return Ok(());

@@ -1,4 +1,4 @@
-// The head's line: its word, its tags and the format that they give.
+//! The head's line: its word, its tags and the format that they give.
 ghost use Rattle.std.specs.Prelude.{◌≡◌, ◌<◌, ◌≤◌, ◌^◌, length, MatchResult, MatchOption, None, Some, Ok, Err};
 ghost use Rattle.h263_types.specs.declared.format.Format.{Format};
 ghost use Rattle.y4m.specs.Head.{width_in, height_in, is_progressive, is_quarter, tag_fault, tags_fault, format_with, last_in, or_else, format_of_line};
@@ -8,7 +8,7 @@ use crate::Y4mFault;
 use crate::line::{agreed, is_whole, tag_at};
 use h263_types::Format;
 
-/// The word that a video begins with.
+// The word that a video begins with.
 const SIGNATURE: &[u8] = b"YUV4MPEG2";
 
 fn width_in(tag: &[u8]) -> Option<u32>
@@ -55,7 +55,8 @@ fn is_quarter(tag: &[u8]) -> bool
 // Checks the tag whose letter stands at a place.
 fn check_tag(at: usize, tag: &[u8]) -> Result<(), Y4mFault>
     requires { 0 < length tag.now }
-    ensures { MatchResult result (λ _. tag_fault (record { at = at; text = tag.now }) ≡ None) (λ fault. tag_fault (record { at = at; text = tag.now }) ≡ Some fault) }
+    ensures { MatchResult result (λ _. tag_fault (record { at = at; text = tag.now }) ≡ None)
+        (λ fault. tag_fault (record { at = at; text = tag.now }) ≡ Some fault) }
 {
     let at = at as u64;
     match tag[0] {
@@ -99,9 +100,12 @@ impl Sizes {
 
 // Checks the tags in their order.
 fn read_tags(line: &[u8]) -> Result<Sizes, Y4mFault>
-    ensures ok { MatchResult result (λ _. tags_fault (tags_of line.now) ≡ None) (λ fault. tags_fault (tags_of line.now) ≡ Some fault) }
-    ensures width { MatchResult result (λ sizes. sizes.width ≡ last_in width_in (tags_of line.now)) (λ _. Unit {0}) }
-    ensures height { MatchResult result (λ sizes. sizes.height ≡ last_in height_in (tags_of line.now)) (λ _. Unit {0}) }
+    ensures ok { MatchResult result (λ _. tags_fault (tags_of line.now) ≡ None) (λ fault.
+        tags_fault (tags_of line.now) ≡ Some fault) }
+    ensures width { MatchResult result
+        (λ sizes. sizes.width ≡ last_in width_in (tags_of line.now)) (λ _. Unit {0}) }
+    ensures height { MatchResult result
+        (λ sizes. sizes.height ≡ last_in height_in (tags_of line.now)) (λ _. Unit {0}) }
 {
     let mut sizes = Sizes {
         width: None,

@@ -1,4 +1,4 @@
-// Bytes and lines of the video, from a desk.
+//! Bytes and lines of the video, from a desk.
 ghost use Rattle.std.specs.Prelude.{◌≡◌, ◌≢◌, ◌<◌, ◌≤◌, ◌^◌, ◌∷◌, ℕ, List, [], length, true, take, drop, MatchOption, OnErr, IfOk, IfErr, IsErrOf, Some};
 ghost use Rattle.h263_outside.specs.Desk.{FillsFront, Rose, OnlyReads};
 ghost use Rattle.h263_outside.specs.declared.desk.Role.{Role};
@@ -14,11 +14,15 @@ use h263_outside::{Desk, Role, read_full};
 pub fn read<D: Desk>(desk: &mut D, buf: &mut [u8]) -> Result<usize, VideoStop>
     requires { (D.outside desk.old).attached Video ≡ true }
     ensures count { IfOk result (λ k. k ≤ length buf.old) }
-    ensures told { (left : List ℕ) → (D.outside desk.old).left Video ≡ Some left → IfOk result (λ k. FillsFront left buf.new k × ((D.outside desk.new).left Video ≡ Some (drop k left))) }
-    ensures lost { (left : List ℕ) → (D.outside desk.old).left Video ≡ Some left → OnErr result ((k : ℕ) × (k < length buf.old) × ((D.outside desk.new).left Video ≡ Some (drop k left))) }
+    ensures told { (left : List ℕ) → (D.outside desk.old).left Video ≡ Some left → IfOk result (λ k.
+        FillsFront left buf.new k × ((D.outside desk.new).left Video ≡ Some (drop k left))) }
+    ensures lost { (left : List ℕ) → (D.outside desk.old).left Video ≡ Some left → OnErr result
+        ((k : ℕ) × (k < length buf.old) × ((D.outside desk.new).left Video ≡ Some (drop k left))) }
     ensures err { IfErr result (λ stop. stop ≡ VideoStop.Read) }
-    ensures cause { OnErr result (Rose (D.outside desk.old).faults.read (D.outside desk.new).faults.read) }
-    ensures others { (r : Role) → r ≢ Video → (D.outside desk.new).left r ≡ (D.outside desk.old).left r }
+    ensures cause { OnErr result
+        (Rose (D.outside desk.old).faults.read (D.outside desk.new).faults.read) }
+    ensures others { (r : Role)
+        → r ≢ Video → (D.outside desk.new).left r ≡ (D.outside desk.old).left r }
     ensures rest { OnlyReads (D.outside desk.old) (D.outside desk.new) }
 {
     match read_full(desk, Role::Video, buf) {
@@ -30,11 +34,16 @@ pub fn read<D: Desk>(desk: &mut D, buf: &mut [u8]) -> Result<usize, VideoStop>
 // Reads one byte, or finds the end.
 fn read_byte<D: Desk>(desk: &mut D) -> Result<Option<u8>, VideoStop>
     requires { (D.outside desk.old).attached Video ≡ true }
-    ensures told { (left : List ℕ) → (D.outside desk.old).left Video ≡ Some left → IfOk result (λ byte. MatchOption byte (left ≡ []) (λ b. left ≡ b ∷ drop 1 left) × ((D.outside desk.new).left Video ≡ Some (drop 1 left))) }
-    ensures lost { (left : List ℕ) → (D.outside desk.old).left Video ≡ Some left → OnErr result ((D.outside desk.new).left Video ≡ Some left) }
+    ensures told { (left : List ℕ) → (D.outside desk.old).left Video ≡ Some left
+        → IfOk result (λ byte. MatchOption byte (left ≡ []) (λ b. left ≡ b ∷ drop 1 left)
+        × ((D.outside desk.new).left Video ≡ Some (drop 1 left))) }
+    ensures lost { (left : List ℕ) → (D.outside desk.old).left Video ≡ Some left
+        → OnErr result ((D.outside desk.new).left Video ≡ Some left) }
     ensures err { IfErr result (λ stop. stop ≡ VideoStop.Read) }
-    ensures cause { OnErr result (Rose (D.outside desk.old).faults.read (D.outside desk.new).faults.read) }
-    ensures others { (r : Role) → r ≢ Video → (D.outside desk.new).left r ≡ (D.outside desk.old).left r }
+    ensures cause { OnErr result
+        (Rose (D.outside desk.old).faults.read (D.outside desk.new).faults.read) }
+    ensures others { (r : Role)
+        → r ≢ Video → (D.outside desk.new).left r ≡ (D.outside desk.old).left r }
     ensures rest { OnlyReads (D.outside desk.old) (D.outside desk.new) }
 {
     let mut byte = [0; 1];
@@ -44,15 +53,21 @@ fn read_byte<D: Desk>(desk: &mut D) -> Result<Option<u8>, VideoStop>
     Ok(Some(byte[0]))
 }
 
-/// Reads a line with its newline to the front of the buffer, or what there is of it, and answers its length.
+/// Reads a line with its newline to the front of the buffer, or what there is of it, and answers
+/// its length.
 pub fn read_line<D: Desk>(desk: &mut D, line: &mut [u8]) -> Result<usize, VideoStop>
     requires { (D.outside desk.old).attached Video ≡ true }
     ensures within { IfOk result (λ k. k ≤ length line.old) }
-    ensures told { (left : List ℕ) → (D.outside desk.old).left Video ≡ Some left → IfOk result (λ k. (take k line.new ≡ line_within (length line.old) left) × ((D.outside desk.new).left Video ≡ Some (drop k left))) }
-    ensures cut { (left : List ℕ) → (D.outside desk.old).left Video ≡ Some left → OnErr result (IsCut left ((D.outside desk.new).left Video)) }
+    ensures told { (left : List ℕ) → (D.outside desk.old).left Video ≡ Some left
+        → IfOk result (λ k. (take k line.new ≡ line_within (length line.old) left)
+        × ((D.outside desk.new).left Video ≡ Some (drop k left))) }
+    ensures cut { (left : List ℕ) → (D.outside desk.old).left Video ≡ Some left
+        → OnErr result (IsCut left ((D.outside desk.new).left Video)) }
     ensures err { IfErr result (λ stop. stop ≡ VideoStop.Read) }
-    ensures cause { OnErr result (Rose (D.outside desk.old).faults.read (D.outside desk.new).faults.read) }
-    ensures others { (r : Role) → r ≢ Video → (D.outside desk.new).left r ≡ (D.outside desk.old).left r }
+    ensures cause { OnErr result
+        (Rose (D.outside desk.old).faults.read (D.outside desk.new).faults.read) }
+    ensures others { (r : Role)
+        → r ≢ Video → (D.outside desk.new).left r ≡ (D.outside desk.old).left r }
     ensures rest { OnlyReads (D.outside desk.old) (D.outside desk.new) }
 {
     calls();
@@ -73,9 +88,12 @@ pub fn read_planes<D: Desk>(desk: &mut D, at: u64, out: &mut [u8]) -> Result<(),
     requires attached { (D.outside desk.old).attached Video ≡ true }
     requires place { at < 2 ^ 62 }
     requires size { length out.old < 2 ^ 62 }
-    ensures gives { (left : List ℕ) → (D.outside desk.old).left Video ≡ Some left → PlanesGive result at left out.new ((D.outside desk.new).left Video) }
-    ensures cause { IsErrOf result VideoStop.Read → Rose (D.outside desk.old).faults.read (D.outside desk.new).faults.read }
-    ensures others { (r : Role) → r ≢ Video → (D.outside desk.new).left r ≡ (D.outside desk.old).left r }
+    ensures gives { (left : List ℕ) → (D.outside desk.old).left Video ≡ Some left
+        → PlanesGive result at left out.new ((D.outside desk.new).left Video) }
+    ensures cause { IsErrOf result VideoStop.Read
+        → Rose (D.outside desk.old).faults.read (D.outside desk.new).faults.read }
+    ensures others { (r : Role)
+        → r ≢ Video → (D.outside desk.new).left r ≡ (D.outside desk.old).left r }
     ensures rest { OnlyReads (D.outside desk.old) (D.outside desk.new) }
 {
     let count = read(desk, out)?;

@@ -1,4 +1,15 @@
 //! Y4M text: a video is read from a desk frame by frame, and pictures are written to one.
+//!
+//! A [`Y4mReader`] reads; why it stops is a [`VideoStop`], and what is wrong with a video a
+//! [`Y4mFault`] with its byte. [`write_head`] and [`write_frame`] write pictures with their marks.
+//!
+//! ```rust
+//! // behind "YUV4MPEG2 W128 H96\n", "FRAME\n" and 18,432 bytes
+//! let mut reader = Y4mReader::head(&mut desk)?;
+//! assert_eq!(rt; reader.format(), Format::SubQcif);
+//! assert_eq!(rt; reader.frame(&mut desk, &mut samples), Ok(true));
+//! assert_eq!(rt; reader.frame(&mut desk, &mut samples), Ok(false));
+//! ```
 #![tactic(auto)]
 
 mod fault;

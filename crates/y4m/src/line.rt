@@ -1,4 +1,4 @@
-// Lines: the words that they begin with, their tags and their newline.
+//! Lines: the words that they begin with, their tags and their newline.
 ghost use Rattle.std.specs.Prelude.{◌≡◌, ◌<◌, ◌≤◌, ◌+◌, ◌-◌, ◌==◌, length, drop, take, slice_index, MatchOption, None, Some};
 ghost use Rattle.y4m.specs.Line.{is_gap, agreement, is_whole, before_gap, tag_behind};
 
@@ -54,7 +54,9 @@ fn gap_from(line: &[u8], at: usize) -> usize
 pub fn tag_at(line: &[u8], at: usize) -> Option<&[u8]>
     requires some { 0 < at }
     requires within { at < length line.now }
-    ensures { MatchOption result (tag_behind (slice_index line.now (at - 1)) (drop at line.now) ≡ None) (λ tag. tag_behind (slice_index line.now (at - 1)) (drop at line.now) ≡ Some tag.now) }
+    ensures { MatchOption result
+        (tag_behind (slice_index line.now (at - 1)) (drop at line.now) ≡ None) (λ tag.
+        tag_behind (slice_index line.now (at - 1)) (drop at line.now) ≡ Some tag.now) }
 {
     if line[at - 1] != b' ' {
         return None;

@@ -11,8 +11,9 @@ use h263_types::Format;
 /// The most frames of a video.
 pub const MAX_FRAMES: u32 = 1_048_576;
 
-/// The reader of a video whose head was read: the format, the byte where the next frame begins, and how many frames
-/// may still come. It keeps no bytes of the video. A frame and its line have less than 152,321 bytes.
+/// The reader of a video whose head was read: the format, the byte where the next frame begins, and
+/// how many frames may still come. It keeps no bytes of the video. A frame and its line have less
+/// than 152,321 bytes.
 #[derive(Clone, Copy)]
 pub struct Y4mReader {
     format: Format,
@@ -33,10 +34,13 @@ impl Y4mReader {
     /// Reads the head's line, up to its newline.
     pub fn head<D: Desk>(desk: &mut D) -> Result<Y4mReader, VideoStop>
         requires { (D.outside desk.old).attached Video ≡ true }
-        ensures gives { (video : List ℕ) → (D.outside desk.old).left Video ≡ Some video → HeadGives result video ((D.outside desk.new).left Video) }
+        ensures gives { (video : List ℕ) → (D.outside desk.old).left Video ≡ Some video
+            → HeadGives result video ((D.outside desk.new).left Video) }
         ensures more { IfOk result (λ reader. reader.more ≡ most_frames) }
-        ensures cause { IsErrOf result VideoStop.Read → Rose (D.outside desk.old).faults.read (D.outside desk.new).faults.read }
-        ensures others { (r : Role) → r ≢ Video → (D.outside desk.new).left r ≡ (D.outside desk.old).left r }
+        ensures cause { IsErrOf result VideoStop.Read
+            → Rose (D.outside desk.old).faults.read (D.outside desk.new).faults.read }
+        ensures others { (r : Role)
+            → r ≢ Video → (D.outside desk.new).left r ≡ (D.outside desk.old).left r }
         ensures rest { OnlyReads (D.outside desk.old) (D.outside desk.new) }
     {
         let mut line = [0; 256];
@@ -56,18 +60,23 @@ impl Y4mReader {
         self.format
     }
 
-    /// Reads the next frame's line, and its planes to `out`, which has `format().size()` bytes. False at the end of
-    /// the video. After a stop the bytes of `out` are left open, and after a refusal what is left of the video.
+    /// Reads the next frame's line, and its planes to `out`, which has `format().size()` bytes.
+    /// False at the end of the video. After a stop the bytes of `out` are left open, and after a
+    /// refusal what is left of the video.
     pub fn frame<D: Desk>(&mut self, desk: &mut D, out: &mut [u8]) -> Result<bool, VideoStop>
         requires attached { (D.outside desk.old).attached Video ≡ true }
         requires size { length out.old ≡ size_of_picture self.old.format }
-        ensures gives { (rest : List ℕ) → (D.outside desk.old).left Video ≡ Some rest → FrameGives result self.old rest out.new self.new ((D.outside desk.new).left Video) }
+        ensures gives { (rest : List ℕ) → (D.outside desk.old).left Video ≡ Some rest
+            → FrameGives result self.old rest out.new self.new ((D.outside desk.new).left Video) }
         ensures moves { Moves result self.old self.new }
-        ensures cause { IsErrOf result VideoStop.Read → Rose (D.outside desk.old).faults.read (D.outside desk.new).faults.read }
-        ensures others { (r : Role) → r ≢ Video → (D.outside desk.new).left r ≡ (D.outside desk.old).left r }
+        ensures cause { IsErrOf result VideoStop.Read
+            → Rose (D.outside desk.old).faults.read (D.outside desk.new).faults.read }
+        ensures others { (r : Role)
+            → r ≢ Video → (D.outside desk.new).left r ≡ (D.outside desk.old).left r }
         ensures rest { OnlyReads (D.outside desk.old) (D.outside desk.new) }
     {
-        // One byte more than a line may have, to tell a line that is too long from an end of the input.
+        // One byte more than a line may have, to tell a line that is too long from an end of the
+        // input.
         let mut line = [0; 257];
         let len = read_line(desk, &mut line)?;
         if len == 0 {

@@ -1,5 +1,5 @@
-// Heads, frames and texts against bytes that were written by hand or by ffmpeg. Where memory ran out in a test its
-// steps are taken again, and are then to reach their end.
+//! Heads, frames and texts against bytes that were written by hand or by ffmpeg. Where memory ran
+//! out in a test its steps are taken again, and are then to reach their end.
 ghost use Rattle.std.specs.Prelude.{◌≡◌, ◌<◌, true, length, IfOk};
 ghost use Rattle.h263_types.specs.Sizes.{size_of_picture};
 ghost use Rattle.h263_outside.specs.Memory.{memory_outside};
@@ -196,7 +196,8 @@ fn count_frames<D: Desk>(
     (9, None)
 }
 
-// The same, and the first and the last byte of the last frame; `is_last` says that one frame only may come.
+// The same, and the first and the last byte of the last frame; `is_last` says that one frame only
+// may come.
 fn frames_of(
     alloc: Global,
     piece: usize,

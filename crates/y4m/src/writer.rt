@@ -30,12 +30,16 @@ fn mark_line(mark: Mark) -> &'static [u8]
     }
 }
 
-/// Writes the line that pictures of a format begin with. After `Failed` some front of it was written.
+/// Writes the line that pictures of a format begin with. After `Failed` some front of it was
+/// written.
 pub fn write_head<D: Desk>(desk: &mut D, format: Format) -> Result<(), Failed>
     requires { (D.outside desk.old).attached Pictures ≡ true }
-    ensures text { OnOk result ((D.outside desk.new).written ≡ appended (D.outside desk.old).written Pictures (head_text format)) }
-    ensures prefix { OnErr result (GainsFront Pictures (head_text format) (D.outside desk.old).written (D.outside desk.new).written) }
-    ensures cause { OnErr result (Rose (D.outside desk.old).faults.write (D.outside desk.new).faults.write) }
+    ensures text { OnOk result ((D.outside desk.new).written
+        ≡ appended (D.outside desk.old).written Pictures (head_text format)) }
+    ensures prefix { OnErr result (GainsFront Pictures
+        (head_text format) (D.outside desk.old).written (D.outside desk.new).written) }
+    ensures cause { OnErr result
+        (Rose (D.outside desk.old).faults.write (D.outside desk.new).faults.write) }
     ensures rest { OnlyWrites (D.outside desk.old) (D.outside desk.new) }
 {
     write_all(desk, Role::Pictures, head_line(format))
@@ -44,9 +48,12 @@ pub fn write_head<D: Desk>(desk: &mut D, format: Format) -> Result<(), Failed>
 /// Writes a picture with the line of its mark. After `Failed` some front of both was written.
 pub fn write_frame<D: Desk>(desk: &mut D, mark: Mark, picture: PictureRef<'_>) -> Result<(), Failed>
     requires { (D.outside desk.old).attached Pictures ≡ true }
-    ensures text { OnOk result ((D.outside desk.new).written ≡ appended (D.outside desk.old).written Pictures (frame_text mark (lent picture.entry))) }
-    ensures prefix { OnErr result (GainsFront Pictures (frame_text mark (lent picture.entry)) (D.outside desk.old).written (D.outside desk.new).written) }
-    ensures cause { OnErr result (Rose (D.outside desk.old).faults.write (D.outside desk.new).faults.write) }
+    ensures text { OnOk result ((D.outside desk.new).written
+        ≡ appended (D.outside desk.old).written Pictures (frame_text mark (lent picture.entry))) }
+    ensures prefix { OnErr result (GainsFront Pictures (frame_text mark (lent picture.entry))
+        (D.outside desk.old).written (D.outside desk.new).written) }
+    ensures cause { OnErr result
+        (Rose (D.outside desk.old).faults.write (D.outside desk.new).faults.write) }
     ensures rest { OnlyWrites (D.outside desk.old) (D.outside desk.new) }
 {
     calls();

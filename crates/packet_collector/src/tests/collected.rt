@@ -1,3 +1,4 @@
+//! Pieces collected: which are fresh, and when a picture is whole.
 ghost use Rattle.std.specs.Prelude.{◌≡◌, ◌+◌, ◌<◌, ◌^◌, IfOk};
 ghost use Rattle.h263_types.specs.Blocks.{IsHeadOf};
 ghost use Rattle.packet_collector.specs.Collected.{IsInRow, IsRowFrom, first_of, format_of, row_of};

@@ -1,3 +1,4 @@
+//! One change each, and the fault that it is.
 use super::packets::{FLAT, SKIPPED};
 use crate::{Piece, read_packet};
 use h263_bits::{Fault, FaultKind};
@@ -47,16 +48,18 @@ fn one_change_each(rt: HostRuntime) {
     assert_eq!(rt; read_changed(342, 342, 0).map(|piece| piece.head), Ok(head));
 }
 
-// The header of a P picture of sub-QCIF, TR 1, TRP 0 and quantiser 8, and of its first slice. A space stands between
-// fields.
+// The header of a P picture of sub-QCIF, TR 1, TRP 0 and quantiser 8, and of its first slice. A
+// space stands between fields.
 const PICTURE: &str =
     "100000 00000001 10 000 111 001 001 0 0000011000 1000 001 00 1 001 0 00 111 1 0000000000 01 01000 0 1 000000 1";
 
-// The same header as the extra one, its padding of 3 bits, and the header of a slice from macroblock 7 on.
+// The same header as the extra one, its padding of 3 bits, and the header of a slice from
+// macroblock 7 on.
 const SLICE: &str =
     "100000 00000001 10 000 111 001 001 0 0000011000 1000 001 00 1 001 0 00 111 1 0000000000 01 01000 0 000 1 1 000111 01000 1 11 0 1 0000000000 01";
 
-// Puts a text of zeros and ones into bytes from place `from` up to place `to` at most. Answers where it ends.
+// Puts a text of zeros and ones into bytes from place `from` up to place `to` at most. Answers
+// where it ends.
 fn put_text(bytes: &mut [u8; 64], from: u32, to: u32, text: &str) -> u32 {
     let mut place = from;
     for digit in text.as_bytes() {
@@ -68,7 +71,8 @@ fn put_text(bytes: &mut [u8; 64], from: u32, to: u32, text: &str) -> u32 {
     place
 }
 
-// What is read of a packet whose payload header is `payload`, in front of the text's first bits and others behind them.
+// What is read of a packet whose payload header is `payload`, in front of the text's first bits and
+// others behind them.
 fn read_text(payload: [u8; 2], text: &str, keep: u32, behind: &str) -> Result<Piece, Fault> {
     let mut bytes = [0; 64];
     bytes[..12].copy_from_slice(&SKIPPED[..12]);
@@ -83,7 +87,8 @@ fn read_text(payload: [u8; 2], text: &str, keep: u32, behind: &str) -> Result<Pi
 const MESSAGES: &str =
     "1 11 0 0000000000 1 0000000000 1 11 0 0000000001 1 0000000001 1 11 0 0000000010 1 0000000010 1 11 0 0000000011 1 0000000011 1";
 
-// Bits behind the first ones of PICTURE, and the first fault. The text's first bit is bit 112 of the packet.
+// Bits behind the first ones of PICTURE, and the first fault. The text's first bit is bit 112 of
+// the packet.
 const PICTURE_FAULTS: [(u32, &str, FaultKind, u32); 28] = [
     (22, "000", FaultKind::Ufep, 134),
     (25, "000", FaultKind::SourceFormat, 137),
@@ -131,7 +136,8 @@ const PICTURE_FAULTS: [(u32, &str, FaultKind, u32); 28] = [
     (85, "0 1 11 011 1", FaultKind::BadVector, 201),
     // COD, MCBPC, CBPY, INTRADC.
     (85, "0 00011 0011 00000000", FaultKind::BadDc, 207),
-    // COD, MCBPC, CBPY, no vector, and an escape: of level 0, and of place 63 in front of one event more.
+    // COD, MCBPC, CBPY, no vector, and an escape: of level 0, and of place 63 in front of one event
+    // more.
     (
         85,
         "0 1 1011 1 1 0000011 1 000000 00000000",

@@ -1,3 +1,4 @@
+//! Packets read: what they say, and their macroblocks.
 use super::packets::{FLAT, GRAIN, LATER, SKIPPED};
 use crate::{Piece, read_packet};
 use h263_types::{Block, Clock, Format, Kind, Mb, SliceHead};
