@@ -47,6 +47,14 @@ fn start(rt: &impl Abort, alloc: Global) -> Result<(), OutOfMemory> {
     Ok(())
 }
 
+// Room that no machine has.
+#[test]
+fn refused_start(rt: HostRuntime) -> Result<(), Fail> {
+    let refused = MemoryDesk::new(rt.alloc(), 7, usize::MAX).is_err();
+    assert!(rt; refused);
+    Ok(())
+}
+
 #[test]
 fn pieces_and_room(rt: HostRuntime) -> Result<(), Fail> {
     if let Err(OutOfMemory) = move_pieces(&rt, rt.alloc()) {
