@@ -213,12 +213,11 @@ impl MemoryDesk {
     pub fn put(&mut self, role: Role, bytes: &[u8]) -> Result<(), OutOfMemory>
         requires { IsInput role }
         ensures attached { (memory_outside self.new).attached ≡ (memory_outside self.old).attached }
-        ensures outside { OnOk result (memory_outside self.new ≡ record (memory_outside
-            self.old) { left = with_role (memory_outside self.old).left role (Some bytes.now) }) }
-        ensures setup { OnOk result (setup_of self.new ≡ record (setup_of self.old) {
-          is_put =
-              with_role (setup_of self.old).is_put role true;
-        }) }
+        ensures outside { OnOk result (memory_outside self.new
+            ≡ record (memory_outside self.old)
+            { left = with_role (memory_outside self.old).left role (Some bytes.now) }) }
+        ensures setup { OnOk result (setup_of self.new ≡ record (setup_of self.old)
+            { is_put = with_role (setup_of self.old).is_put role true }) }
         ensures err { OnErr result (memory_outside self.new ≡ memory_outside self.old) }
         ensures err_setup { OnErr result (setup_of self.new ≡ setup_of self.old) }
     {
@@ -386,8 +385,9 @@ impl Desk for MemoryDesk {
         // The count rises by one at `Failed`, and stays otherwise.
         ensures ok_faults { OnOk result
             ((memory_outside self.new).faults ≡ (memory_outside self.old).faults) }
-        ensures failed { OnErr result ((memory_outside self.new).faults ≡ record ((memory_outside
-            self.old).faults) { read = raised_count (memory_outside self.old).faults.read }) }
+        ensures failed { OnErr result ((memory_outside self.new).faults
+            ≡ record ((memory_outside self.old).faults)
+            { read = raised_count (memory_outside self.old).faults.read }) }
         ensures setup { setup_of self.new ≡ after_call (setup_of self.old) }
     {
         if self.calls.count() {
@@ -427,8 +427,9 @@ impl Desk for MemoryDesk {
         // The count rises by one at `Failed`, and stays otherwise.
         ensures ok_faults { OnOk result
             ((memory_outside self.new).faults ≡ (memory_outside self.old).faults) }
-        ensures failed { OnErr result ((memory_outside self.new).faults ≡ record ((memory_outside
-            self.old).faults) { write = raised_count (memory_outside self.old).faults.write }) }
+        ensures failed { OnErr result ((memory_outside self.new).faults
+            ≡ record ((memory_outside self.old).faults)
+            { write = raised_count (memory_outside self.old).faults.write }) }
         ensures setup { setup_of self.new ≡ after_call (setup_of self.old) }
     {
         if self.calls.count() {
