@@ -1,6 +1,5 @@
 pub mod Heads
 pub mod Readers
 pub mod Results
-pub mod Writes
 pub mod Entries
 pub mod Logs

@@ -6,7 +6,7 @@ ghost use Rattle.event_logs.specs.Text.{head_text, entry_text};
 
 use crate::entry::HEAD;
 use byteorder::{BigEndian, ByteOrder};
-use h263_outside::laws::calls;
+use h263_outside::laws::{calls, fronts_of_two};
 use h263_outside::{Desk, Failed, Role, write_all};
 
 // What stands before the bytes of an entry.
@@ -32,6 +32,7 @@ pub fn write_entry<D: Desk>(desk: &mut D, letter: u8, bytes: &[u8]) -> Result<()
     ensures rest { OnlyWrites (D.outside desk.old) (D.outside desk.new) }
 {
     calls();
+    fronts_of_two();
     write_all(desk, Role::Wire, &head_of(letter, bytes.len() as u16))?;
     write_all(desk, Role::Wire, bytes)
 }

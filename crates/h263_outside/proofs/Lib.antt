@@ -3,3 +3,4 @@ pub mod Roles
 pub mod Inputs
 pub mod Outputs
 pub mod Fronts
+pub mod Writes

@@ -35,6 +35,16 @@ pub fn fronts()
         → Before rest all old middle → new ≡ middle → Before rest all old new }
 {}
 
+/// A text that one role gains behind another: a front of the first is a front of both, and so is a
+/// front of the second behind the first.
+pub fn fronts_of_two()
+    ensures first { (role : Role) (a b : List ℕ) (old new : Role → Option (List ℕ))
+        → GainsFront role a old new → GainsFront role (a ++ b) old new }
+    ensures second { (role : Role) (a b : List ℕ) (old middle new : Role → Option (List ℕ))
+        → middle ≡ appended old role a
+        → GainsFront role b middle new → GainsFront role (a ++ b) old new }
+{}
+
 /// What a write on one role says of that role, and of each other one.
 pub fn roles()
     ensures gains { (role : Role) (bytes : List ℕ) (old new : Role → Option (List ℕ))

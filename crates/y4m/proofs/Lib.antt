@@ -11,6 +11,5 @@ pub mod Stops
 pub mod Tags
 pub mod Videos
 pub mod Words
-pub mod Writes
 pub mod Written
 mod ByFrames

@@ -5,7 +5,7 @@ ghost use Rattle.h263_outside.specs.declared.desk.Role.TheVariants.{Pictures};
 ghost use Rattle.h263_planes.specs.Lent.{picture as lent};
 ghost use Rattle.y4m.specs.Text.{head_text, mark_text, frame_text};
 
-use h263_outside::laws::calls;
+use h263_outside::laws::{calls, fronts_of_two};
 use h263_outside::{Desk, Failed, Role, write_all};
 use h263_planes::PictureRef;
 use h263_types::{Format, Mark};
@@ -57,6 +57,7 @@ pub fn write_frame<D: Desk>(desk: &mut D, mark: Mark, picture: PictureRef<'_>) -
     ensures rest { OnlyWrites (D.outside desk.old) (D.outside desk.new) }
 {
     calls();
+    fronts_of_two();
     write_all(desk, Role::Pictures, mark_line(mark))?;
     write_all(desk, Role::Pictures, picture.bytes())
 }

@@ -5,12 +5,12 @@ use Rattle.h263_outside.specs.declared.desk.Role.TheVariants.{Pictures}
 use Rattle.h263_planes.specs.Lent.{picture as lent}
 use Rattle.h263_planes.specs.Samples.{bytes_of}
 use Rattle.y4m.specs.Text.{mark_text}
-use Rattle.y4m.proofs.Writes.{after_any, front_first, front_second}
+use Rattle.y4m.proofs.Results.{after_any}
 use Rattle.y4m.proofs.writer.write_frame.Goals as goal
 
 pub returns-in_err-write_all-clause-prefix : goal.returns-in_err-write_all-clause-prefix
 returns-in_err-write_all-clause-prefix g c =
-    after_any c.from_residual.result (front_first Pictures (mark_text c.args.mark) (bytes_of (lent c.args.picture)) _ _ (subst (λ (l : List ℕ). GainsFront Pictures l (g.D.Desk.outside c.args.desk.now).written (g.D.Desk.outside c.write_all.new.desk).written) c.mark_line.ensures c.in_err-write_all.ensures.err))
+    after_any c.from_residual.result (c.fronts_of_two.ensures.first Pictures (mark_text c.args.mark) (bytes_of (lent c.args.picture)) _ _ (subst (λ (l : List ℕ). GainsFront Pictures l (g.D.Desk.outside c.args.desk.now).written (g.D.Desk.outside c.write_all.new.desk).written) c.mark_line.ensures c.in_err-write_all.ensures.err))
 
 pub returns-clause-prefix : goal.returns-clause-prefix
 returns-clause-prefix g c =
@@ -20,5 +20,5 @@ returns-clause-prefix g c =
     let new = (g.D.Desk.outside c.write_all-2.new.desk).written in
     let line : middle ≡ appended old Pictures (mark_text c.args.mark) = c.in_ok-write_all.ensures.ok ∙ ap (λ (l : List ℕ). appended old Pictures l) c.mark_line.ensures in
     on_err_weaker c.write_all-2.result
-    (λ (f : GainsFront Pictures c.bytes.result.now middle new). front_second c.calls.ensures.gained Pictures (mark_text c.args.mark) planes old middle new line (subst (λ (l : List ℕ). GainsFront Pictures l middle new) c.bytes.ensures f))
+    (λ (f : GainsFront Pictures c.bytes.result.now middle new). c.fronts_of_two.ensures.second Pictures (mark_text c.args.mark) planes old middle new line (subst (λ (l : List ℕ). GainsFront Pictures l middle new) c.bytes.ensures f))
     c.write_all-2.ensures.err
