@@ -32,6 +32,12 @@ faults_of c = record { attach = c.attach_faults; read = c.read_faults; write = c
 abbrev pub input_left : Input → Option (List ℕ)
 input_left x = Some (drop x.at x.bytes.items)
 
+-- an input from which bytes were read is attached by its name, and was put or not, as before
+pub record OnlyMoves (old new : Input) : Type 0 where
+  pub attached : new.attached ≡ old.attached
+  pub is_put : new.is_put ≡ old.is_put
+  pub name : new.name.items ≡ old.name.items
+
 -- what a desk in memory tells
 unfoldable pub memory_outside : MemoryDesk → Outside
 memory_outside d = record {

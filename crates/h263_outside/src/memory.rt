@@ -97,7 +97,7 @@ pub struct MemoryDesk {
 }
 
 impl Input {
-    ghost use Rattle.h263_outside.specs.Memory.{moved_count};
+    ghost use Rattle.h263_outside.specs.Memory.{moved_count, OnlyMoves};
 
     // Copies bytes to the front of the buffer, a piece at most.
     fn read(&mut self, piece: usize, buf: &mut [u8]) -> usize
@@ -108,9 +108,7 @@ impl Input {
         ensures front { IsFront (drop self.old.at self.old.bytes.items) buf.new result }
         ensures at { self.new.at ≡ self.old.at + result }
         ensures bytes { self.new.bytes.items ≡ self.old.bytes.items }
-        ensures attached { self.new.attached ≡ self.old.attached }
-        ensures is_put { self.new.is_put ≡ self.old.is_put }
-        ensures name { self.new.name.items ≡ self.old.name.items }
+        ensures rest { OnlyMoves self.old self.new }
     {
         let count = (self.bytes.len() - self.at).min(piece).min(buf.len());
         let end = self.at + count;
