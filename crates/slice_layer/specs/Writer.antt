@@ -36,6 +36,13 @@ bytes_in w = w.bytes.now
 abbrev pub loan_of : SliceWriter → GName
 loan_of w = w.bytes.ghost_name
 
+-- a writer goes on with its slice: of the same picture, from the same macroblock on, in the same loan
+pub record GoesOn (old new : SliceWriter) : Type 0 where
+  pub kind : kind_of new ≡ kind_of old
+  pub format : format_of new ≡ format_of old
+  pub first : first_of new ≡ first_of old
+  pub loan : loan_of new ≡ loan_of old
+
 -- the writer holds these macroblocks of the slice that begins with macroblock `first`: the bytes begin with their text
 pub record Holds (w : SliceWriter) (h : Header) (begins : Bool) (first : ℕ) (mbs : List Mb) : Type 0 where
   pub text : IsFront (slice_text h begins first mbs) (bytes_in w)

@@ -49,7 +49,7 @@ pub struct SliceWriter<'a> {
 
 impl<'a> SliceWriter<'a> {
     ghost use Rattle.slice_layer.specs.Written.{slice_text, padded, bytes_of, IsPlace, IsFront};
-    ghost use Rattle.slice_layer.specs.Writer.{kind_of, format_of, first_of, next_of, quant_of, bytes_in, loan_of, Holds, answer};
+    ghost use Rattle.slice_layer.specs.Writer.{kind_of, format_of, first_of, next_of, quant_of, bytes_in, loan_of, GoesOn, Holds, answer};
 
     /// A writer of the slice that begins with macroblock `first`. It writes the slice header,
     /// behind the picture header where the slice begins a picture.
@@ -102,12 +102,9 @@ impl<'a> SliceWriter<'a> {
     fn keep(&mut self, mb: &Mb)
         requires mb { IsMb mb.now }
         requires left { next_of self.old < 396 }
+        ensures slice { GoesOn self.old self.new }
         ensures bytes { bytes_in self.new ≡ bytes_in self.old }
-        ensures loan { loan_of self.new ≡ loan_of self.old }
         ensures len { self.new.len ≡ self.old.len }
-        ensures kind { kind_of self.new ≡ kind_of self.old }
-        ensures format { format_of self.new ≡ format_of self.old }
-        ensures first { first_of self.new ≡ first_of self.old }
         ensures next { next_of self.new ≡ next_of self.old + 1 }
         ensures quant { quant_of self.new ≡ quant_after (quant_of self.old) mb.now }
         ensures vectors { take (next_of self.new) self.new.vectors
@@ -135,14 +132,11 @@ impl<'a> SliceWriter<'a> {
         // There is room for the first macroblock.
         ensures first { (h : Header) (begins : Bool) (first : ℕ) → IsHeader h → 1150
             ≤ length (bytes_in self.old) → Holds self.old h begins first [] → result ≡ Added.Fits }
-        ensures kind { kind_of self.new ≡ kind_of self.old }
-        ensures format { format_of self.new ≡ format_of self.old }
-        ensures from { first_of self.new ≡ first_of self.old }
+        ensures slice { GoesOn self.old self.new }
         ensures next { result ≡ Added.Fits → next_of self.new ≡ next_of self.old + 1 }
         ensures quant { result ≡ Added.Fits
             → quant_of self.new ≡ quant_after (quant_of self.old) mb.now }
         ensures whole { IsWhole mb.now }
-        ensures loan { loan_of self.new ≡ loan_of self.old }
         ensures room { length (bytes_in self.new) ≡ length (bytes_in self.old) }
     {
         in_a_syntax();

@@ -43,4 +43,4 @@ returns-clause-fits c h begins first mbs holds fits =
     let written : IsFront (slice_text h begins first mbs ++ next_text h first mbs m) c.paste.new.bytes = subst (λ (t : List Bool). IsFront (slice_text h begins first mbs ++ t) c.paste.new.bytes) next text in
     held w c.keep.new.self h begins first mbs m holds (subst (λ (l : List ℕ). IsFront (slice_text h begins first mbs ++ next_text h first mbs m) l) (sym c.keep.ensures.bytes) written)
     (omega (arith, c.keep.ensures.len, c.write_apart-len.ensures.len, ap length next))
-    (record { kind = c.keep.ensures.kind; format = c.keep.ensures.format; from = c.keep.ensures.first; next = c.keep.ensures.next; quant = c.keep.ensures.quant; vectors = c.keep.ensures.vectors })
+    (record { kind = c.keep.ensures.slice.kind; format = c.keep.ensures.slice.format; from = c.keep.ensures.slice.first; next = c.keep.ensures.next; quant = c.keep.ensures.quant; vectors = c.keep.ensures.vectors })
