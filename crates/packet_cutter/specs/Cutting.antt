@@ -35,6 +35,15 @@ sequence_of c = c.sequence
 abbrev pub packets_of : Cutter → List (List ℕ)
 packets_of c = kept_packets c.packets
 
+-- a cutter goes on with its picture: nothing of it has changed but the macroblocks that were added
+pub record OnlyAdds (old new : Cutter) : Type 0 where
+  pub kind : kind_of new ≡ kind_of old
+  pub quant : quant_of new ≡ quant_of old
+  pub format : format_of new ≡ format_of old
+  pub limit : limit_of new ≡ limit_of old
+  pub sequence : sequence_of new ≡ sequence_of old
+  pub packets : packets_of new ≡ packets_of old
+
 -- a picture is begun, and its macroblocks so far are of its kind and have its quantiser
 pub record IsBegun (c : Cutter) : Type 0 where
   pub header : IsHeader c.header

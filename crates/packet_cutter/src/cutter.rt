@@ -67,7 +67,7 @@ fn put(place: &mut Mb, mb: &Mb)
 }
 
 impl Cutter {
-    ghost use Rattle.packet_cutter.specs.Cutting.{format_of, limit_of, kind_of, quant_of, added_of, sequence_of, packets_of, IsBegun, Holds};
+    ghost use Rattle.packet_cutter.specs.Cutting.{format_of, limit_of, kind_of, quant_of, added_of, sequence_of, packets_of, OnlyAdds, IsBegun, Holds};
 
     /// A cutter of pictures of the parameters' format into packets of `limit` bytes at most.
     pub fn start(alloc: Global, params: &Params) -> Result<Cutter, OutOfMemory>
@@ -120,12 +120,7 @@ impl Cutter {
         ensures holds { (number : ℕ) (h : Header) (mbs : List Mb)
             → Holds self.old number h mbs → Holds self.new number h (mbs ++ mb.now ∷ []) }
         ensures added { added_of self.new ≡ added_of self.old + 1 }
-        ensures kind { kind_of self.new ≡ kind_of self.old }
-        ensures quant { quant_of self.new ≡ quant_of self.old }
-        ensures format { format_of self.new ≡ format_of self.old }
-        ensures limit { limit_of self.new ≡ limit_of self.old }
-        ensures sequence { sequence_of self.new ≡ sequence_of self.old }
-        ensures packets { packets_of self.new ≡ packets_of self.old }
+        ensures rest { OnlyAdds self.old self.new }
     {
         put(&mut self.mbs[self.added as usize], mb);
         self.added += 1;

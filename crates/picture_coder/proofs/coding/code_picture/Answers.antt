@@ -32,12 +32,12 @@ loop-at-preserved c =
             (ap (λ (m : Mb). take at mbs ++ m ∷ []) c.choose_into.ensures.choice ∙ sym (c.one_for_each_place.ensures.next frame reference h params at inside))
             (c.add.ensures.holds c.args.number h (take at mbs) c.loop-at.invariant.added.holds);
         added = c.add.ensures.added ∙ ap (λ (n : ℕ). n + 1) c.loop-at.invariant.added.added;
-        kind = c.add.ensures.kind ∙ c.loop-at.invariant.added.kind;
-        quant = c.add.ensures.quant ∙ c.loop-at.invariant.added.quant;
-        format = c.add.ensures.format ∙ c.loop-at.invariant.added.format;
+        kind = c.add.ensures.rest.kind ∙ c.loop-at.invariant.added.kind;
+        quant = c.add.ensures.rest.quant ∙ c.loop-at.invariant.added.quant;
+        format = c.add.ensures.rest.format ∙ c.loop-at.invariant.added.format;
       };
-      limit = c.add.ensures.limit ∙ c.loop-at.invariant.limit;
-      sequence = c.add.ensures.sequence ∙ c.loop-at.invariant.sequence;
+      limit = c.add.ensures.rest.limit ∙ c.loop-at.invariant.limit;
+      sequence = c.add.ensures.rest.sequence ∙ c.loop-at.invariant.sequence;
       shown = record {
         whole = c.recon_mb.ensures.whole;
         format = c.recon_mb.ensures.format;
