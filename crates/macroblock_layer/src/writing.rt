@@ -11,7 +11,7 @@ ghost use Rattle.code_tables.specs.Mcbpc.{IsInTable};
 ghost use Rattle.code_tables.specs.Tables.{bit_of, cbpy_text};
 ghost use Rattle.block_layer.specs.Text.{none_left, is_coded, intra_text, inter_text};
 ghost use Rattle.macroblock_layer.specs.Text.{wrapped, IsMbText};
-ghost use Rattle.macroblock_layer.specs.Written.{levels_at, has_levels, cbpy_of, cbpc_of, class_of, cod_text, class_text, step_text, head_text, vector_text, blocks_text, intra_mb_text, inter_mb_text, mb_text, IsNear, IsStepped, IsReached};
+ghost use Rattle.macroblock_layer.specs.Written.{levels_at, coded_in, cbpy_of, cbpc_of, class_of, cod_text, class_text, step_text, head_text, vector_text, blocks_text, intra_mb_text, inter_mb_text, mb_text, IsNear, IsStepped, IsReached};
 
 use crate::laws;
 use crate::reading::wrapped;
@@ -41,38 +41,32 @@ fn cbpc(a: bool, b: bool) -> u8
     2 * a as u8 + b as u8
 }
 
-fn intra_pattern(blocks: &[Block; 6]) -> Pattern
-    ensures cbpy { result.cbpy ≡ cbpy_of is_coded blocks.now }
-    ensures cbpc { result.cbpc ≡ cbpc_of is_coded blocks.now }
-    ensures cbpy_below { result.cbpy < 16 }
-    ensures cbpc_below { result.cbpc < 4 }
-    ensures whole { AreWhole blocks.now }
+// Whether a block is coded. In an intra macroblock INTRADC isn't looked at.
+fn is_coded_in(intra: bool, block: &Block) -> bool
+    ensures coded { result ≡ coded_in intra block.now.levels }
+    ensures whole { length block.now.levels ≡ 64 }
 {
-    let a = is_intra_coded(&blocks[0]);
-    let b = is_intra_coded(&blocks[1]);
-    let c = is_intra_coded(&blocks[2]);
-    let d = is_intra_coded(&blocks[3]);
-    let e = is_intra_coded(&blocks[4]);
-    let f = is_intra_coded(&blocks[5]);
-    Pattern {
-        cbpy: cbpy(a, b, c, d),
-        cbpc: cbpc(e, f),
+    if intra {
+        is_intra_coded(block)
+    } else {
+        is_inter_coded(block)
     }
 }
 
-fn inter_pattern(blocks: &[Block; 6]) -> Pattern
-    ensures cbpy { result.cbpy ≡ cbpy_of has_levels blocks.now }
-    ensures cbpc { result.cbpc ≡ cbpc_of has_levels blocks.now }
+// Which of the six blocks of a macroblock are coded.
+fn pattern_of(intra: bool, blocks: &[Block; 6]) -> Pattern
+    ensures cbpy { result.cbpy ≡ cbpy_of (coded_in intra) blocks.now }
+    ensures cbpc { result.cbpc ≡ cbpc_of (coded_in intra) blocks.now }
     ensures cbpy_below { result.cbpy < 16 }
     ensures cbpc_below { result.cbpc < 4 }
     ensures whole { AreWhole blocks.now }
 {
-    let a = is_inter_coded(&blocks[0]);
-    let b = is_inter_coded(&blocks[1]);
-    let c = is_inter_coded(&blocks[2]);
-    let d = is_inter_coded(&blocks[3]);
-    let e = is_inter_coded(&blocks[4]);
-    let f = is_inter_coded(&blocks[5]);
+    let a = is_coded_in(intra, &blocks[0]);
+    let b = is_coded_in(intra, &blocks[1]);
+    let c = is_coded_in(intra, &blocks[2]);
+    let d = is_coded_in(intra, &blocks[3]);
+    let e = is_coded_in(intra, &blocks[4]);
+    let f = is_coded_in(intra, &blocks[5]);
     Pattern {
         cbpy: cbpy(a, b, c, d),
         cbpc: cbpc(e, f),
@@ -235,7 +229,7 @@ fn write_intra_mb(writer: &mut BitWriter<'_>, kind: Kind, quant: u8, new: u8, bl
     ensures whole { AreWhole blocks.now }
 {
     block_layer::laws::in_a_syntax();
-    let pattern = intra_pattern(blocks);
+    let pattern = pattern_of(true, blocks);
     write_head(writer, kind, quant, new, true, pattern);
     write_intra_blocks(writer, blocks);
 }
@@ -260,7 +254,7 @@ fn write_inter_mb(
     ensures whole { AreWhole blocks.now }
 {
     block_layer::laws::in_a_syntax();
-    let pattern = inter_pattern(blocks);
+    let pattern = pattern_of(false, blocks);
     write_head(writer, Kind::P, quant, new, false, pattern);
     write_vector(writer, predictor, vector);
     write_inter_blocks(writer, blocks);
