@@ -87,73 +87,75 @@ fn lines_of_refusals(rt: HostRuntime) {
     }
 }
 
+// Refusals at a byte, and the line of each.
+const AT_A_BYTE: [(Status, &str); 10] = [
+    (
+        Status::VideoRefused {
+            fault: Y4mFault::NotY4m { at: 0 },
+        },
+        "video refused: not y4m at byte 0\n",
+    ),
+    (
+        Status::VideoRefused {
+            fault: Y4mFault::Size { at: 10 },
+        },
+        "video refused: size at byte 10\n",
+    ),
+    (
+        Status::VideoRefused {
+            fault: Y4mFault::Interlaced { at: 9 },
+        },
+        "video refused: interlaced at byte 9\n",
+    ),
+    (
+        Status::VideoRefused {
+            fault: Y4mFault::Colour { at: 25 },
+        },
+        "video refused: colour at byte 25\n",
+    ),
+    (
+        Status::VideoRefused {
+            fault: Y4mFault::ShortFrame { at: 18_480 },
+        },
+        "video refused: short frame at byte 18480\n",
+    ),
+    (
+        Status::VideoRefused {
+            fault: Y4mFault::TooMany { at: 1 },
+        },
+        "video refused: too many frames at byte 1\n",
+    ),
+    (
+        Status::Video2Refused {
+            fault: Y4mFault::NotY4m { at: 3 },
+        },
+        "video 2 refused: not y4m at byte 3\n",
+    ),
+    (
+        Status::LogRefused {
+            fault: LogFault::BadRecord { at: 0 },
+        },
+        "log refused: bad record at byte 0\n",
+    ),
+    (
+        Status::LogRefused {
+            fault: LogFault::NoFrame { at: 3 },
+        },
+        "log refused: no frame at byte 3\n",
+    ),
+    (
+        Status::LogRefused {
+            fault: LogFault::TooMany {
+                at: 18_446_744_073_709_551_615,
+            },
+        },
+        "log refused: too many records at byte 18446744073709551615\n",
+    ),
+];
+
 #[test]
 fn lines_of_faults_at_a_byte(rt: HostRuntime) {
-    let table = [
-        (
-            Status::VideoRefused {
-                fault: Y4mFault::NotY4m { at: 0 },
-            },
-            "video refused: not y4m at byte 0\n",
-        ),
-        (
-            Status::VideoRefused {
-                fault: Y4mFault::Size { at: 10 },
-            },
-            "video refused: size at byte 10\n",
-        ),
-        (
-            Status::VideoRefused {
-                fault: Y4mFault::Interlaced { at: 9 },
-            },
-            "video refused: interlaced at byte 9\n",
-        ),
-        (
-            Status::VideoRefused {
-                fault: Y4mFault::Colour { at: 25 },
-            },
-            "video refused: colour at byte 25\n",
-        ),
-        (
-            Status::VideoRefused {
-                fault: Y4mFault::ShortFrame { at: 18_480 },
-            },
-            "video refused: short frame at byte 18480\n",
-        ),
-        (
-            Status::VideoRefused {
-                fault: Y4mFault::TooMany { at: 1 },
-            },
-            "video refused: too many frames at byte 1\n",
-        ),
-        (
-            Status::Video2Refused {
-                fault: Y4mFault::NotY4m { at: 3 },
-            },
-            "video 2 refused: not y4m at byte 3\n",
-        ),
-        (
-            Status::LogRefused {
-                fault: LogFault::BadRecord { at: 0 },
-            },
-            "log refused: bad record at byte 0\n",
-        ),
-        (
-            Status::LogRefused {
-                fault: LogFault::NoFrame { at: 3 },
-            },
-            "log refused: no frame at byte 3\n",
-        ),
-        (
-            Status::LogRefused {
-                fault: LogFault::TooMany {
-                    at: 18_446_744_073_709_551_615,
-                },
-            },
-            "log refused: too many records at byte 18446744073709551615\n",
-        ),
-    ];
-    for (status, text) in table {
+    for (status, text) in AT_A_BYTE {
         assert_eq!(rt; refusal_line(&status).text(), text.as_bytes());
     }
 }
