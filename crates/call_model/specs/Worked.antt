@@ -274,8 +274,7 @@ half_packet n reference depth place =
       number = n;
       reference = reference;
       half = 128;
-      style =
-          record { depth = depth; quant = 8 };
+      style = record { depth = depth; quant = 8 };
     }) (record { first = place; mbs = Value 100 ∷ [] })
 
 -- the bytes of both halves in one packet, and of one half with the other picture clock

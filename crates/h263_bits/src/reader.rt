@@ -23,7 +23,8 @@ impl<'a> Model for BitReader<'a> {
 
     ghost view = { λ r. bits_between r.bytes.now r.at r.end };
 
-    ghost invariant = { λ r. (r.at ≤ r.end) × (r.end ≤ 8 * length r.bytes.now) × (length r.bytes.now ≤ 65535) };
+    ghost invariant = { λ r. (r.at ≤ r.end) × (r.end ≤ 8 * length r.bytes.now)
+        × (length r.bytes.now ≤ 65535) };
 }
 
 // The number of the n bits from a place on.

@@ -88,8 +88,7 @@ abbrev pub new_setup : ℕ → ℕ → Setup
 new_setup piece room = record {
   piece = piece;
   room = by_output room room room room 0;
-  is_put = λ _.
-      false;
+  is_put = λ _. false;
   failing = [];
   next = 0;
 }

@@ -313,9 +313,8 @@ impl Desk for MemoryDesk {
         ensures ok_faults { OnOk result
             ((memory_outside self.new).faults ≡ (memory_outside self.old).faults) }
         ensures failed { IsErrOf result Unattached.Failed
-            → (memory_outside self.new).faults ≡ record ((memory_outside self.old).faults) {
-              attach = raised_count (memory_outside self.old).faults.attach;
-            } }
+            → (memory_outside self.new).faults ≡ record ((memory_outside self.old).faults)
+            { attach = raised_count (memory_outside self.old).faults.attach } }
         ensures no_memory { IsErrOf result Unattached.OutOfMemory
             → (memory_outside self.new).faults ≡ (memory_outside self.old).faults }
         ensures setup { setup_of self.new ≡ after_call (setup_of self.old) }
@@ -376,8 +375,9 @@ impl Desk for MemoryDesk {
 
         // A piece moves, or what is left, or what the buffer takes. The call fails exactly where it
         // was named to.
-        ensures moved { IfOk result (λ k. k ≡ moved_count (count_told
-            ((memory_outside self.old).left role)) (setup_of self.old).piece (length buf.old)) }
+        ensures moved { IfOk result (λ k. k ≡ moved_count
+            (count_told ((memory_outside self.old).left role))
+            (setup_of self.old).piece (length buf.old)) }
         ensures exactly { IsErr result ↔ FailsNext (setup_of self.old) }
 
         // The count rises by one at `Failed`, and stays otherwise.

@@ -25,8 +25,9 @@ pub fn made_traces_are_near<Style, Mb, Picture>()
 pub fn made_calls_are_near<Frame, Style, Mb, Picture, Fault, MessageFault>()
     ensures { (coding : Coding Frame Style Mb Picture Fault MessageFault) (rules : Rules)
         (pace : List ℕ → ℕ) (frames : List Frame) (seed : ℕ) → IsCoding coding rules → IsRules rules
-        → IsPace pace → 4 ≤ rules.half → AllNear coding rules pace frames (expanded (pictures_of
-        coding) rules (encoded coding rules pace frames) [] (made_trace seed (length frames))) }
+        → IsPace pace → 4 ≤ rules.half → AllNear coding rules pace frames
+        (expanded (pictures_of coding) rules
+        (encoded coding rules pace frames) [] (made_trace seed (length frames))) }
 {
     searches();
     encoder_is_sound::<Frame, Style, Mb, Picture, Fault, MessageFault>();

@@ -42,7 +42,8 @@ pub fn one_for_each_place()
     ensures each { (frame : Picture) (reference : Option Picture)
         (h : Header) (params : Params) (mb : ℕ) → mb < mbs_of frame.format → slice_index_or
         (choices_of frame reference h params) mb Skip ≡ choice_of frame reference h params mb }
-    ensures next { (frame : Picture) (reference : Option Picture) (h : Header) (params : Params) (mb : ℕ)
+    ensures next { (frame : Picture) (reference : Option Picture)
+        (h : Header) (params : Params) (mb : ℕ)
         → mb < mbs_of frame.format → take (mb + 1) (choices_of frame reference h params) ≡ take mb
         (choices_of frame reference h params) ++ choice_of frame reference h params mb ∷ [] }
     ensures all { (frame : Picture) (reference : Option Picture) (h : Header) (params : Params)

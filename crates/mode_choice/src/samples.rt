@@ -36,8 +36,9 @@ pub(crate) fn block_residuals(
     requires mb { mb < mbs_of (picture frame).format }
     requires block { block < 6 }
     ensures long { length result ≡ 64 }
-    ensures residuals { (k : ℕ) → k < 64 → slice_index_or result k (pos 0) ≡ (pos
-        (sample_in_block (picture frame.entry) mb block k) -ℤ pos (slice_index predicted.now k)) }
+    ensures residuals { (k : ℕ) → k < 64 → slice_index_or result k (pos 0)
+        ≡ (pos (sample_in_block (picture frame.entry) mb block k)
+        -ℤ pos (slice_index predicted.now k)) }
     ensures range { All IsSample result }
 {
     one_more::<i16>();

@@ -56,8 +56,9 @@ pub fn half_step_is_best()
         → IsNear from.vector (best_near block reference mb rounding from).vector }
     ensures none_before { (block : List ℕ) (reference : Picture) (mb rounding : ℕ)
         (from : Candidate) (v : Vector) → IsCandidate block reference mb rounding from
-        → IsNear from.vector v → InReach reference.format mb v.x v.y → IsFalse (before
-        (candidate_of block reference mb rounding v) (best_near block reference mb rounding from)) }
+        → IsNear from.vector v → InReach reference.format mb v.x v.y
+        → IsFalse (before (candidate_of block reference mb rounding v)
+        (best_near block reference mb rounding from)) }
 {}
 
 /// The best vector is in reach, and its cost is what its prediction leaves of the frame.

@@ -55,13 +55,15 @@ pub fn code_picture(
     ensures cutter_format { format_of cutter.new ≡ params.now.format }
     ensures cutter_limit { limit_of cutter.new ≡ params.now.limit }
     // No other picture is begun: the cutter holds all macroblocks of this one.
-    ensures held { Holds cutter.new number header.now (choices_of
-        (picture frame.entry) (option_map picture reference.entry) header.now params.now) }
+    ensures held { Holds cutter.new number header.now
+        (choices_of (picture frame.entry) (option_map picture reference.entry)
+        header.now params.now) }
     ensures all_added { added_of cutter.new ≡ mbs_of params.now.format }
 
     ensures reconstruction { lent.work work.new ≡ reconstruction
-        params.now.format header.now.rounding (option_map picture reference.entry) (choices_of
-        (picture frame.entry) (option_map picture reference.entry) header.now params.now) }
+        params.now.format header.now.rounding (option_map picture reference.entry)
+        (choices_of (picture frame.entry) (option_map picture reference.entry)
+        header.now params.now) }
     ensures same_loan { loan_of work.new ≡ loan_of work.old }
     ensures format { (lent.work work.new).format ≡ params.now.format }
     ensures whole { IsPicture (lent.work work.new) }

@@ -45,8 +45,9 @@ pub(crate) fn inter_samples(quant: u8, block: &Block, marks: u64, predicted: &[u
     requires quant { IsQuant quant }
     requires block { IsInterBlock block.now }
     requires marked { AreMarked block.now.levels marks }
-    ensures { (y x : ℕ) → y < 8 → x < 8 → slice_index result (8 * y + x) ≡ limited (pos
-        (slice_index predicted.now (8 * y + x)) +ℤ inverse_at (inter_values quant block.now) y x) }
+    ensures { (y x : ℕ) → y < 8 → x < 8 → slice_index result (8 * y + x)
+        ≡ limited (pos (slice_index predicted.now (8 * y + x))
+        +ℤ inverse_at (inter_values quant block.now) y x) }
 {
     if marks == FIRST_ALONE {
         one_order();

@@ -17,5 +17,6 @@ impl Model for Mind {
 
     ghost Value = { RecvState };
 
-    ghost view = { λ m. record { params = m.params; past = []; tally = m.tally; at = 0; entries = 0 } };
+    ghost view = { λ m.
+        record { params = m.params; past = []; tally = m.tally; at = 0; entries = 0 } };
 }

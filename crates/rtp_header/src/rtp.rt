@@ -1,4 +1,5 @@
 //! What an RTP header says.
+
 /// What the header of an RTP packet says (RFC 3550, 5.1).
 #[derive(Clone, Copy, Debug, PartialEq, Eq)]
 pub struct Rtp {
