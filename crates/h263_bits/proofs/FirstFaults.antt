@@ -170,24 +170,24 @@ unfolding is_cut
 cut_of {S} words left cut = any_here (λ (v : List Bool × S). begins left v.0) words (cut.0, cut.3.0) (ap (begins left) cut.4 ∙ begins_itself left (cut.1 ∷ cut.2)) cut.3.1
 
 none_of_no : {S : Type 0} (words : List (List Bool × S)) (left : List Bool) → IsNoWord (λ w. IsWordOf words w) left → found words left ≡ None
-none_of_no {S} words left no = at_found (found words left) refl
+none_of_no {S} words left unmet = at_found (found words left) refl
   where
     at_found : (o : Option (List Bool × S)) → found words left ≡ o → o ≡ None
     at_found None h = refl
     at_found (Some u) h =
         let i = found_in words left u h in
-        let two = no u.0 (u.1, i.0) in
+        let two = unmet u.0 (u.1, i.0) in
         absurd (two.0 (drop (length u.0) left) (begins_parts u.0 left i.1))
 
 uncut_of_no : {S : Type 0} (words : List (List Bool × S)) (left : List Bool) → IsNoWord (λ w. IsWordOf words w) left → is_cut words left ≡ false
 unfolding is_cut
-uncut_of_no {S} words left no = at_any (list_any (λ (v : List Bool × S). begins left v.0) words) refl
+uncut_of_no {S} words left unmet = at_any (list_any (λ (v : List Bool × S). begins left v.0) words) refl
   where
     at_any : (t : Bool) → list_any (λ (v : List Bool × S). begins left v.0) words ≡ t → t ≡ false
     at_any false h = refl
     at_any true h =
         let m = any_of (λ (v : List Bool × S). begins left v.0) words h in
-        let two = no m.0.0 (m.0.1, m.1) in
+        let two = unmet m.0.0 (m.0.1, m.1) in
         absurd (two.1 (drop (length left) m.0.0) (begins_parts left m.0.0 m.2))
 
 pub word_fault_again : {S : Type 0} (words : List (List Bool × S)) (at : ℕ) (left : List Bool) (kind : FaultKind) → is_prefix_free words ≡ true → IsWordFault (λ w. IsWordOf words w) left kind → word_at words (record { at = at; bits = left }) ≡ Err (record { kind = kind; at = at })

@@ -14,7 +14,7 @@ use Rattle.h263_bits.specs.Bits.{bits_of, number, spelled, fields}
 use Rattle.h263_bits.specs.Written.{Appends, written}
 use Rattle.h263_bits.specs.Reading.{Bits, bits_between, Gives, Takes, ok, err, first_fault, skip, number_at, ◌>>=◌}
 use Rattle.h263_bits.specs.Syntax.{Syntax, Allowed, IsIn, Words, begins, found, is_cut, taken, is_prefix_free, Turn, again, finally, done, field, code, part, element, repeat, refused, field_at, word_at, standing_at, turned, turns_at, either, Turns, Spells, reading, IsProductive}
-use Rattle.h263_bits.proofs.BitLists.{length-spelled, length-bits_of, bits_of-append, bits_of-drop, bits_of-take, number-append, number-lt, number-spelled, spelled-low, spelled-number, spelled-append, number-middle, number-push, take-take, length-window, drop-window}
+use Rattle.h263_bits.proofs.BitLists.{length-spelled, length-bits_of, number-lt, number-spelled, spelled-number, length-window, drop-window}
 
 -- the value of a step that did not fail
 pub bind_ok : {A B : Type 0} (r : Result A Fault) (f : A → Result B Fault) (y : B) → (r >>= f) ≡ Ok y → (x : A) × (r ≡ Ok x) × (f x ≡ Ok y)

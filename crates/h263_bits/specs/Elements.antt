@@ -3,13 +3,13 @@
 -- reading is a list of elements, each where those before it end, of which none has a fault. The
 -- first fault is the one that the next element has behind the longest reading: that element is cut
 -- by the end of the bits, no word begins there, or its value is one that is refused.
-use Rattle.std.specs.Prelude.{◌≡◌, ℕ, zero, suc, ◌+◌, ◌<◌, ◌^◌, List, [], ◌∷◌, ◌++◌, length, Bool, Option, Some, None, ◌⊎◌, Result, Ok, Err}
+use Rattle.std.specs.Prelude.{◌≡◌, ℕ, zero, suc, ◌+◌, ◌<◌, ◌^◌, List, [], ◌∷◌, ◌++◌, length, Bool, Some, None, ◌⊎◌, Err}
 use Rattle.h263_bits.specs.declared.fault.Fault.{Fault}
 use Rattle.h263_bits.specs.declared.fault.FaultKind.{FaultKind}
 use Rattle.h263_bits.specs.declared.fault.FaultKind.TheVariants.{Ended, BadCode}
 use Rattle.h263_bits.specs.Bits.{spelled}
 use Rattle.h263_bits.specs.Reading.{Bits}
-use Rattle.h263_bits.specs.Syntax.{Syntax, Allowed, IsIn, Turn, again, finally, done, field, code, part, element, repeat, Spells, reading}
+use Rattle.h263_bits.specs.Syntax.{Syntax, Allowed, IsIn, Turn, again, done, field, code, part, element, repeat, Spells, reading}
 
 -- ---- the fault of one element
 
