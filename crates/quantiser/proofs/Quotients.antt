@@ -79,7 +79,9 @@ steps_are size q h =
 
 -- the product is small
 pub factor_small : (q : ℕ) → IsQuant q → factor_of q ≤ 262144
-factor_small q h = omega (arith, h.low, factor_exact q (omega (arith, h.low)))
+factor_small q h =
+    let less : factor_of q < 262145 = (div-lt_iff_lt-mul {k = 2 * q} {x = 524287 + 2 * q} {y = 262145} (omega (arith, h.low))).1 (omega (arith, h.low)) in
+    omega (arith, less)
 
 pub product_small : (size q : ℕ) → IsQuant q → min size (254 * q) * factor_of q ≤ 7874 * 262144
 product_small size q h = mul-le-mul (let small : min size (254 * q) ≤ 7874 = omega (arith, h.high) in small) (factor_small q h)
