@@ -8,6 +8,7 @@ CLOCK = 90_000
 # A picture's time on that clock: 1001/30000 of a second.
 TICKS_A_PICTURE = 3_003
 PAYLOAD_TYPE = 96
+HEADER_BYTES = 12
 
 
 @dataclass(frozen=True)
@@ -21,7 +22,7 @@ class RtpHeader:
 
 def rtp_header(packet: bytes) -> Optional[RtpHeader]:
     """The header, or None where the bytes are no RTP of version 2."""
-    if len(packet) < 12 or packet[0] >> 6 != 2:
+    if len(packet) < HEADER_BYTES or packet[0] >> 6 != 2:
         return None
-    _, kind, sequence, timestamp, _ = struct.unpack(">BBHII", packet[:12])
+    _, kind, sequence, timestamp, _ = struct.unpack(">BBHII", packet[:HEADER_BYTES])
     return RtpHeader(kind & 0x7F, sequence, timestamp)

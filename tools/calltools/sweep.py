@@ -1,10 +1,11 @@
 """Quality under loss at equal bytes: calls over one lossy network, each way of answering losses with a quantiser of its own."""
 
 from dataclasses import dataclass, replace
+from functools import cache
 from pathlib import Path
-from typing import Iterator, Optional
+from typing import Iterable, Iterator, Optional
 
-from . import joined, quality, svg, y4m
+from . import joined, plain, quality, svg, y4m
 from .trace import Loss, Network, trace
 
 MOST_QUANT = 31
@@ -12,17 +13,25 @@ MOST_QUANT = 31
 
 @dataclass(frozen=True)
 class Way:
-    """How a call answers losses: messages that come back so many pictures late, or none (intra pictures alone)."""
+    """How a call answers losses: messages that come back so many pictures late, or none (intra pictures alone).
+
+    With `plain` it is ffmpeg's coder, which hears of no loss: every so many pictures one is coded by itself.
+    """
 
     name: str
     back: Optional[int]
     colour: str
+    plain: Optional[int] = None
 
 
 WAYS = (
     Way("acknowledged at once", 0, "#2b8a5a"),
     Way("acknowledged 4 pictures late", 4, "#5b7fa6"),
     Way("intra pictures alone", None, "#e6a23c"),
+)
+PLAIN_WAYS = (
+    Way("ffmpeg, one intra picture", None, "#b03a48", 600),
+    Way("ffmpeg, one intra picture in ten", None, "#8a5fa8", 10),
 )
 
 
@@ -41,6 +50,7 @@ class Sweep:
     """One video at one budget of bytes, over networks that lose in bursts; each rate is drawn `seeds` times."""
 
     call: joined.Call
+    size: y4m.Size
     pictures: int
     budget: int
     burst: float
@@ -69,29 +79,44 @@ class Sweep:
         return here
 
     def _run(self, way: Way, rate: float, seed: int, quant: int) -> Point:
-        call = replace(self.call, options={**self.call.options, "quant": str(quant)})
         # A picture is lost whole or not at all, as where each is one packet.
         network = Network(packets=1, delay=0, jitter=0, hold=0, back=way.back or 0)
         lines = list(trace(self.pictures, network, Loss(rate, rate, self.burst), seed))
+        if way.plain is not None:
+            return self._run_plain(way.plain, lines, quant)
+        call = replace(self.call, options={**self.call.options, "quant": str(quant)})
         if way.back is None:
             lines = [line for line in lines if not line.startswith("B")]
         told = joined.joined_call(call, lines)
         exact = sum(picture.mark == "exact" for picture in told.pictures) / len(told.pictures)
-        return Point(quant, joined.bytes_of_packets(call), _luma_psnr(call.video, call.file("shown.y4m")), exact)
+        return Point(quant, joined.bytes_of_packets(call), self._psnr(_samples_of(call.file("shown.y4m"))), exact)
+
+    def _run_plain(self, every: int, lines: list[str], quant: int) -> Point:
+        stream = self._plain_stream(quant, every)
+        arrived = [f"D {number}.*" in lines for number in range(self.pictures)]
+        shown = list(plain.shown_of(stream, arrived, self.size, self.call.room))
+        # Exact: it came, and is what a decoder shows that missed nothing.
+        exact = sum(came and one == other for came, one, other in zip(arrived, shown, stream.shown))
+        return Point(quant, stream.bytes, self._psnr(shown), exact / self.pictures)
+
+    @cache
+    def _plain_stream(self, quant: int, every: int) -> plain.PlainStream:
+        return plain.coded(self.call.video, self.size, quant, every, self.call.room)
+
+    def _psnr(self, shown: Iterable[bytes]) -> float:
+        """PSNR of Y over all pictures."""
+        pairs = zip(_samples_of(self.call.video), shown)
+        return sum((quality.errors_between(self.size, a, b) for a, b in pairs), quality.NO_ERRORS).psnr()[0]
 
 
-def _luma_psnr(before: Path, after: Path) -> float:
-    total = quality.NO_ERRORS
-    with open(before, "rb") as one, open(after, "rb") as other:
-        sent, shown = y4m.Y4mReader(one, str(before)), y4m.Y4mReader(other, str(after))
-        for a, b in zip(sent, shown):
-            total += quality.errors_between(sent.size, a.samples, b.samples)
-    return total.psnr()[0]
+def _samples_of(path: Path) -> Iterator[bytes]:
+    with open(path, "rb") as file:
+        yield from (frame.samples for frame in y4m.Y4mReader(file, str(path)))
 
 
-def points_of(sweep: Sweep, rates: list[float]) -> Iterator[tuple[Way, list[Point]]]:
+def points_of(sweep: Sweep, rates: list[float], ways: Iterable[Way]) -> Iterator[tuple[Way, list[Point]]]:
     """Each way with its points, one a rate."""
-    for way in WAYS:
+    for way in ways:
         points: list[Point] = []
         for rate in rates:
             points.append(sweep.point(way, rate, points[-1].quant if points else 8))
