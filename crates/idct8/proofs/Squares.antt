@@ -34,7 +34,7 @@ same_squares ea eb ec ed = cc (ea, eb, ec, ed)
 -- the sizes of such sums
 pub size_of_sums : {a b c d a' b' c' d' z : ℤ} → z ≡ pos (square a + square b + square c + square d) → a ≡ a' → b ≡ b' → c ≡ c' → d ≡ d' →
     unsigned_abs z ≡ square a' + square b' + square c' + square d'
-size_of_sums {a} {b} {c} {d} {a'} {b'} {c'} {d'} {z} e ea eb ec ed = ap unsigned_abs (e ∙ same_squares {a} {b} {c} {d} {a'} {b'} {c'} {d'} ea eb ec ed)
+size_of_sums {a} {b} {c} {d} {a'} {b'} {c'} {d'} {z} e ea eb ec ed = ap unsigned_abs (e ∙ same_squares {a = a} {b = b} {c = c} {d = d} {a' = a'} {b' = b'} {c' = c'} {d' = d'} ea eb ec ed)
 
 -- a row of samples
 pub sample_row : (block v : List ℤ) (k : ℕ) → length block ≡ 64 → k < 8 → All IsSample block → length v ≡ 8 → ((i : ℕ) → i < 8 → lane v i ≡ entry block k i) → EightWithin 255 v
@@ -44,12 +44,12 @@ sample_row block v k long hk samples eight numbers = record {
 }
 
 -- the first four and the last four of eight numbers
-pub first_four : {c0 c1 c2 c3 c4 c5 c6 c7 : ℤ} (f : ℕ → ℤ) (k : ℕ) → k < 4 → c0 ≡ f 0 → c1 ≡ f 1 → c2 ≡ f 2 → c3 ≡ f 3 → lane (c0 ∷ c1 ∷ c2 ∷ c3 ∷ c4 ∷ c5 ∷ c6 ∷ c7 ∷ []) k ≡ f k
-first_four {c0} {c1} {c2} {c3} {c4} {c5} {c6} {c7} f k hk e0 e1 e2 e3 =
+pub first_four : {c0 c1 c2 c3 : ℤ} (c4 c5 c6 c7 : ℤ) (f : ℕ → ℤ) (k : ℕ) → k < 4 → c0 ≡ f 0 → c1 ≡ f 1 → c2 ≡ f 2 → c3 ≡ f 3 → lane (c0 ∷ c1 ∷ c2 ∷ c3 ∷ c4 ∷ c5 ∷ c6 ∷ c7 ∷ []) k ≡ f k
+first_four {c0} {c1} {c2} {c3} c4 c5 c6 c7 f k hk e0 e1 e2 e3 =
     below_four (λ k. lane (c0 ∷ c1 ∷ c2 ∷ c3 ∷ c4 ∷ c5 ∷ c6 ∷ c7 ∷ []) k ≡ f k) e0 e1 e2 e3 k hk
 
-pub last_four : {c0 c1 c2 c3 c4 c5 c6 c7 : ℤ} (f : ℕ → ℤ) (k : ℕ) → k < 4 → c4 ≡ f 0 → c5 ≡ f 1 → c6 ≡ f 2 → c7 ≡ f 3 → lane (c0 ∷ c1 ∷ c2 ∷ c3 ∷ c4 ∷ c5 ∷ c6 ∷ c7 ∷ []) (4 + k) ≡ f k
-last_four {c0} {c1} {c2} {c3} {c4} {c5} {c6} {c7} f k hk e4 e5 e6 e7 =
+pub last_four : (c0 c1 c2 c3 : ℤ) {c4 c5 c6 c7 : ℤ} (f : ℕ → ℤ) (k : ℕ) → k < 4 → c4 ≡ f 0 → c5 ≡ f 1 → c6 ≡ f 2 → c7 ≡ f 3 → lane (c0 ∷ c1 ∷ c2 ∷ c3 ∷ c4 ∷ c5 ∷ c6 ∷ c7 ∷ []) (4 + k) ≡ f k
+last_four c0 c1 c2 c3 {c4} {c5} {c6} {c7} f k hk e4 e5 e6 e7 =
     below_four (λ k. lane (c0 ∷ c1 ∷ c2 ∷ c3 ∷ c4 ∷ c5 ∷ c6 ∷ c7 ∷ []) (4 + k) ≡ f k) e4 e5 e6 e7 k hk
 
 -- the size of a lane that was read

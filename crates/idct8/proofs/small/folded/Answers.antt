@@ -1,4 +1,4 @@
-use Rattle.std.proofs.Common.{ℕ, ◌+◌, ◌-◌, ◌∙◌, ap, lit≤, ℤ, ◌+ℤ◌, ◌-ℤ◌, List}
+use Rattle.std.proofs.Common.{◌+◌, ◌-◌, ◌∙◌, ap, lit≤, ℤ, ◌+ℤ◌, ◌-ℤ◌, List}
 use Rattle.idct8.specs.Transform.{entry}
 use Rattle.idct8.specs.Vectors.{lane}
 use Rattle.idct8.proofs.Squares.{first_four, last_four}
@@ -20,7 +20,7 @@ transposed-requires c = record {
 pub returns-clause-sums : goal.returns-clause-sums
 returns-clause-sums c j k hj hk =
     ap (λ (v : List ℤ). lane v k) (c.transposed.ensures.rows j hj)
-    ∙ first_four (λ k. entry c.args.block.now k j +ℤ entry c.args.block.now (7 - k) j) k hk
+    ∙ first_four _ _ _ _ (λ k. entry c.args.block.now k j +ℤ entry c.args.block.now (7 - k) j) k hk
     (passed_lane16 8191 j (lit≤ tt) c.folded_row.ensures.sum_size ∙ c.folded_row.ensures.sum j hj)
     (passed_lane16 8191 j (lit≤ tt) c.folded_row-2.ensures.sum_size ∙ c.folded_row-2.ensures.sum j hj)
     (passed_lane16 8191 j (lit≤ tt) c.folded_row-3.ensures.sum_size ∙ c.folded_row-3.ensures.sum j hj)
@@ -29,7 +29,7 @@ returns-clause-sums c j k hj hk =
 pub returns-clause-differences : goal.returns-clause-differences
 returns-clause-differences c j k hj hk =
     ap (λ (v : List ℤ). lane v (4 + k)) (c.transposed.ensures.rows j hj)
-    ∙ last_four (λ k. entry c.args.block.now k j -ℤ entry c.args.block.now (7 - k) j) k hk
+    ∙ last_four _ _ _ _ (λ k. entry c.args.block.now k j -ℤ entry c.args.block.now (7 - k) j) k hk
     (passed_lane16 8191 j (lit≤ tt) c.folded_row.ensures.difference_size ∙ c.folded_row.ensures.difference j hj)
     (passed_lane16 8191 j (lit≤ tt) c.folded_row-2.ensures.difference_size ∙ c.folded_row-2.ensures.difference j hj)
     (passed_lane16 8191 j (lit≤ tt) c.folded_row-3.ensures.difference_size ∙ c.folded_row-3.ensures.difference j hj)

@@ -1,4 +1,4 @@
-use Rattle.std.proofs.Common.{ℕ, ◌-◌, ◌^◌, ◌∙◌, lit≤, arith}
+use Rattle.std.proofs.Common.{◌-◌, ◌^◌, ◌∙◌, lit≤, arith}
 use Rattle.idct8.proofs.Results.{sample_within}
 use Rattle.idct8.proofs.Rotations.{sum_of, difference_of}
 use Rattle.idct8.proofs.Squares.{sample_row}
