@@ -1,19 +1,19 @@
 -- An event that isn't read is cut inside a word or an escape, is a bad escape, or is none.
-use Rattle.std.proofs.Common.{◌≡◌, ◌⊎◌, ℕ, zero, suc, ◌+◌, ◌-◌, ◌*◌, ◌^◌, ◌<◌, ◌≤◌, Bool, true, false, cond, refl, ap, sym, ◌∙◌, subst, add-zero, append_assoc, arith, inl, inr, List, [], ◌∷◌, ◌++◌, length, drop, eqb, Option, Some, None, Err}
+use Rattle.std.proofs.Common.{◌≡◌, ◌⊎◌, ℕ, ◌+◌, ◌-◌, ◌*◌, ◌^◌, ◌<◌, Bool, true, false, cond, refl, ap, sym, ◌∙◌, subst, add-zero, append_assoc, arith, inl, inr, List, [], ◌∷◌, ◌++◌, length, drop, eqb, Option, Some, None, Err}
 use Rattle.std.specs.Prelude.{replicate, ◌==◌}
 use Rattle.std.proofs.lemmas.Bool.{eqb-true}
 use Rattle.std.proofs.lemmas.List.{append-nil, length-append, length-replicate}
 use Rattle.h263_bits.specs.declared.fault.Fault.{Fault}
 use Rattle.h263_bits.specs.declared.fault.FaultKind.{FaultKind}
-use Rattle.h263_bits.specs.declared.fault.FaultKind.TheVariants.{Ended, BadCode, BadLevel}
+use Rattle.h263_bits.specs.declared.fault.FaultKind.TheVariants.{BadLevel}
 use Rattle.h263_bits.specs.Bits.{number, spelled, fields}
 use Rattle.h263_bits.specs.Reading.{Bits}
-use Rattle.h263_bits.specs.Syntax.{Syntax, IsIn, reading, any, field, done, begins}
-use Rattle.h263_bits.specs.Elements.{IsFieldFault, IsWordOf, IsCutWord, IsNoWord, IsWordFault, Faults}
-use Rattle.h263_bits.proofs.SyntaxLaws.{begins_parts, begins_itself, both_begin, fault_found, number-append, number-lt, spelled-number, length-spelled}
+use Rattle.h263_bits.specs.Syntax.{IsIn, reading, any, field, done, begins}
+use Rattle.h263_bits.specs.Elements.{IsFieldFault, IsWordOf, IsCutWord, IsWordFault, Faults}
+use Rattle.h263_bits.proofs.SyntaxLaws.{begins_parts, begins_itself, both_begin, fault_found, number-append, number-lt, spelled-number}
 use Rattle.code_tables.specs.Words.{word}
 use Rattle.code_tables.specs.Tables.{Event, Coefficient, level_of, sized, events, from_runs, last_0_texts, last_1_texts, tcoef_words, event_table, event_parts, event, after_word, is_level}
-use Rattle.code_tables.specs.EventWords.{IsSigned, escape_text, IsEscape, IsBadEscape, IsEventWord, IsEventFault}
+use Rattle.code_tables.specs.EventWords.{escape_text, IsBadEscape, IsEventWord, IsEventFault}
 use Rattle.code_tables.proofs.Productive.{event_productive}
 use Rattle.code_tables.proofs.FaultRows.{in_behind}
 
@@ -38,18 +38,18 @@ none_rows last run (row ∷ rows) w h = elim (in_cases (w, None) (events last ru
 
 escape_listed : IsIn (word "0000011", None) tcoef_words
 unfolding tcoef_words
-escape_listed = in_behind (word "0000011", None) (from_runs false 0 last_0_texts) (from_runs true 0 last_1_texts ++ (word "0000011", None) ∷ []) (in_behind (word "0000011", None) (from_runs true 0 last_1_texts) ((word "0000011", None) ∷ []) (inl refl))
+escape_listed = in_behind (word "0000011", None) (from_runs false 0 last_0_texts ++ from_runs true 0 last_1_texts) ((word "0000011", None) ∷ []) (inl refl)
 
 none_is : (w : List Bool) → IsIn (w, None) tcoef_words → w ≡ word "0000011"
 unfolding tcoef_words
 none_is w h =
-    elim (in_cases (w, None) (from_runs false 0 last_0_texts) (from_runs true 0 last_1_texts ++ (word "0000011", None) ∷ []) h) [
-      | inl g ↦ absurd (none_rows false 0 last_0_texts w g)
-      | inr g ↦
-          elim (in_cases (w, None) (from_runs true 0 last_1_texts) ((word "0000011", None) ∷ []) g) [
-            | inl k ↦ absurd (none_rows true 0 last_1_texts w k)
-            | inr k ↦ elim k [ inl e ↦ sym (ap (λ (p : List Bool × Option Event). p.0) e) | inr z ↦ absurd z ]
+    elim (in_cases (w, None) (from_runs false 0 last_0_texts ++ from_runs true 0 last_1_texts) ((word "0000011", None) ∷ []) h) [
+      | inl g ↦
+          elim (in_cases (w, None) (from_runs false 0 last_0_texts) (from_runs true 0 last_1_texts) g) [
+            | inl k ↦ absurd (none_rows false 0 last_0_texts w k)
+            | inr k ↦ absurd (none_rows true 0 last_1_texts w k)
           ]
+      | inr g ↦ elim g [ inl e ↦ sym (ap (λ (p : List Bool × Option Event). p.0) e) | inr z ↦ absurd z ]
     ]
 
 -- each word of the table begins one with its sign or its fields
@@ -137,6 +137,7 @@ unfolding number
 last_one k = refl
 
 fill_odd : (bits : List Bool) → length bits < 8 → FillsOdd bits
+unfolding fills_with
 fill_odd bits lt =
     let zeros = replicate (7 - length bits) false in
     let more = zeros ++ true ∷ [] in
@@ -220,6 +221,11 @@ fields_fault rest left kind (inr a) = subst (λ (t : List Bool). IsEventFault ((
     behind_run : (last run : ℕ) (more : List Bool) → last < 2 → run < 64 → Faults (field 8 is_level λ level. done (escaped last run level)) more left kind → IsEventFault ((word "0000011" ++ (spelled 1 last ++ (spelled 6 run ++ more))) ++ left) kind
     behind_run last run more lt small (inl f) = subst (λ (t : List Bool). IsEventFault ((word "0000011" ++ (spelled 1 last ++ (spelled 6 run ++ t))) ++ left) kind) (sym f.0) (at f.1)
       where
+        regroup : (w a r v x : List Bool) → (w ++ (a ++ (r ++ []))) ++ (v ++ x) ≡ (w ++ (a ++ (r ++ (v ++ [])))) ++ x
+        regroup w a r v x =
+            ap (λ (t : List Bool). (w ++ (a ++ t)) ++ (v ++ x)) (append-nil r) ∙ sym (append_assoc (w ++ (a ++ r)) v x) ∙ ap (λ (t : List Bool). t ++ x) (append_assoc w (a ++ r) v)
+            ∙ ap (λ (t : List Bool). (w ++ t) ++ x) (append_assoc a r v) ∙ ap (λ (t : List Bool). (w ++ (a ++ (r ++ t))) ++ x) (sym (append-nil v))
+
         at : IsFieldFault 8 is_level left kind → IsEventFault ((word "0000011" ++ (spelled 1 last ++ (spelled 6 run ++ []))) ++ left) kind
         at (inl g) = inl (level_cut last run left lt small g.0, g.1)
         at (inr g) =
@@ -227,11 +233,6 @@ fields_fault rest left kind (inr a) = subst (λ (t : List Bool). IsEventFault ((
             let whole : (word "0000011" ++ (spelled 1 last ++ (spelled 6 run ++ []))) ++ left ≡ escape_text last run g.0 ++ g.1 =
             ap (λ (t : List Bool). (word "0000011" ++ (spelled 1 last ++ (spelled 6 run ++ []))) ++ t) g.3 ∙ regroup (word "0000011") (spelled 1 last) (spelled 6 run) (spelled 8 g.0) g.1 in
             inr (inl (record { last = last; run = run; level = g.0; rest = g.1; one = lt; six = small; bad = b.0; parts = whole }, b.1))
-
-        regroup : (w a r v x : List Bool) → (w ++ (a ++ (r ++ []))) ++ (v ++ x) ≡ (w ++ (a ++ (r ++ (v ++ [])))) ++ x
-        regroup w a r v x =
-            ap (λ (t : List Bool). (w ++ (a ++ t)) ++ (v ++ x)) (append-nil r) ∙ sym (append_assoc (w ++ (a ++ r)) v x) ∙ ap (λ (t : List Bool). t ++ x) (append_assoc w (a ++ r) v)
-            ∙ ap (λ (t : List Bool). (w ++ t) ++ x) (append_assoc a r v) ∙ ap (λ (t : List Bool). (w ++ (a ++ (r ++ t))) ++ x) (sym (append-nil v))
     behind_run last run more lt small (inr g) = absurd g.5
 
     behind_last : (last : ℕ) (more : List Bool) → last < 2 → Faults (field 6 any λ run. field 8 is_level λ level. done (escaped last run level)) more left kind → IsEventFault ((word "0000011" ++ (spelled 1 last ++ more)) ++ left) kind

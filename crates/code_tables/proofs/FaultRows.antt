@@ -1,17 +1,17 @@
 -- The rows of the table of faults.
-use Rattle.std.proofs.Common.{◌≡◌, ℕ, ◌+◌, ◌-◌, ◌<◌, Bool, true, false, refl, sym, ap, ◌∙◌, arith, inl, inr, List, [], ◌∷◌, ◌++◌, length, Option, Some, None, Err}
-use Rattle.std.specs.Prelude.{ℤ, pos, ◌↔◌}
+use Rattle.std.proofs.Common.{◌≡◌, ℕ, ◌+◌, ◌-◌, ◌<◌, Bool, true, false, refl, sym, ap, ◌∙◌, arith, inl, inr, List, [], ◌∷◌, ◌++◌, length, Some, None}
+use Rattle.std.specs.Prelude.{pos}
 use Rattle.std.proofs.lemmas.List.{append-nil}
 use Rattle.h263_types.specs.declared.Kind.{Kind}
 use Rattle.h263_types.specs.declared.Kind.TheVariants as kinds
 use Rattle.h263_bits.specs.declared.fault.FaultKind.TheVariants.{Ended, BadCode, BadLevel}
 use Rattle.h263_bits.specs.Bits.{spelled, fields}
-use Rattle.h263_bits.specs.Syntax.{IsIn, IsProductive, Spells, reading, begins, any, done, element, field}
+use Rattle.h263_bits.specs.Syntax.{IsIn, IsProductive, Spells, reading, begins, any, done, element}
 use Rattle.h263_bits.specs.Elements.{IsWordOf, HasFault, EndsWithFault}
 use Rattle.h263_bits.proofs.SyntaxLaws.{word_only, fault_of_no_word, fault_in_element, fault_of_element, fault_behind_word, fault_behind_field, fault_here, fault_of_cut, ends_behind_word, ends_in_element, fault_of_text, spells_code, spells_field, spells_done}
 use Rattle.code_tables.specs.Words.{word}
 use Rattle.code_tables.specs.Mcbpc.{mcbpc, mcbpc_table, mcbpc_words, class_texts, dquant, dquant_table, dquant_words}
-use Rattle.code_tables.specs.Tables.{Event, cbpy, cbpy_table, cbpy_words, cbpy_texts, mvd, mvd_parts, magnitude_table, magnitude_words, magnitude_texts, signed, is_difference, event, event_parts, event_table, tcoef_words, from_runs, last_0_texts, last_1_texts, after_word, is_level, level_of}
+use Rattle.code_tables.specs.Tables.{Event, cbpy, cbpy_table, cbpy_words, cbpy_texts, mvd, mvd_parts, magnitude_table, magnitude_words, magnitude_texts, signed, is_difference, event, event_parts, event_table, tcoef_words, from_runs, last_0_texts, last_1_texts, after_word, is_level}
 use Rattle.code_tables.specs.Faults.{HasWordFaults, AreWords, HaveBadCodes, HasEventFaults, WordFaults}
 use Rattle.code_tables.proofs.Productive.{mvd_productive}
 use Rattle.code_tables.proofs.Written.{in_numbers}

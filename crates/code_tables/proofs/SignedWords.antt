@@ -1,16 +1,16 @@
 -- MVD by its words with their signs.
-use Rattle.std.proofs.Common.{◌≡◌, ◌⊎◌, ℕ, zero, suc, ◌+◌, ◌-◌, ◌*◌, ◌<◌, ◌≤◌, Bool, true, false, refl, ap, sym, ◌∙◌, subst, cond, add-zero, append_assoc, arith, inl, inr, List, [], ◌∷◌, ◌++◌, length, drop, eqb, Option, Some, None, Err}
+use Rattle.std.proofs.Common.{◌≡◌, ◌⊎◌, ℕ, zero, suc, ◌+◌, ◌<◌, ◌≤◌, Bool, true, false, refl, ap, sym, ◌∙◌, subst, cond, add-zero, append_assoc, arith, inl, inr, List, [], ◌∷◌, ◌++◌, length, drop, eqb, Some, None, Err}
 use Rattle.std.specs.Prelude.{ℤ, pos, negsuc, neg_ℤ, ◌↔◌, ◌&&◌, not}
 use Rattle.std.specs.List.{list_all}
-use Rattle.std.proofs.lemmas.List.{append-nil, length-append}
+use Rattle.std.proofs.lemmas.List.{append-nil}
 use Rattle.std.proofs.lemmas.Bool.{ne_eqb, eqb-true}
 use Rattle.h263_bits.specs.declared.fault.Fault.{Fault}
 use Rattle.h263_bits.specs.declared.fault.FaultKind.{FaultKind}
-use Rattle.h263_bits.specs.declared.fault.FaultKind.TheVariants.{Ended, BadCode}
+use Rattle.h263_bits.specs.declared.fault.FaultKind.TheVariants.{BadCode}
 use Rattle.h263_bits.specs.Bits.{spelled}
 use Rattle.h263_bits.specs.Reading.{Bits}
 use Rattle.h263_bits.specs.Syntax.{Syntax, IsIn, Spells, reading, any, field, done, either, begins, is_prefix_free}
-use Rattle.h263_bits.specs.Elements.{IsFieldFault, IsWordOf, IsCutWord, IsNoWord, IsWordFault, IsRefused, Faults}
+use Rattle.h263_bits.specs.Elements.{IsFieldFault, IsWordOf, IsWordFault, Faults}
 use Rattle.h263_bits.proofs.SyntaxLaws.{begins_parts, begins_itself, both_begin, fault_found, no_word_of_front, apart_words, exact_words}
 use Rattle.code_tables.specs.Words.{word, from_number, text_at}
 use Rattle.code_tables.specs.Tables.{magnitude_texts, magnitude_words, magnitude_table, mvd, mvd_parts, mvd_words, with_signs, signed, is_difference}
@@ -89,9 +89,9 @@ many = refl
 -- the word of a magnitude from 1 on, with a sign that it may have
 with_sign_in : (w : List Bool) (size sign : ℕ) → IsIn (w, size) (from_number 1 (drop 1 magnitude_texts)) → sign < 2 → (sign ≡ 0 → size ≡ 32 → ⊥) → IsIn (w ++ spelled 1 sign, signed sign size) mvd_words
 unfolding mvd_words
-with_sign_in w size sign h lt no =
+with_sign_in w size sign h lt below =
     let m = from_on (drop 1 magnitude_texts) 1 size w h in
-    inr (signed_in (drop 1 magnitude_texts) 1 size w sign h lt (λ z. omega (arith, m.1, many, no z)))
+    inr (signed_in (drop 1 magnitude_texts) 1 size w sign h lt (λ z. omega (arith, m.1, many, below z)))
 
 zero_in : IsIn (word "1", pos 0) mvd_words
 unfolding mvd_words
@@ -136,8 +136,8 @@ sign_in w size x rest i h free =
     let x-is : x ≡ signed sign size = h.5.0 in
     let rest-is : rest ≡ spelled 1 sign = h.4 ∙ ap (λ (t : List Bool). spelled 1 sign ++ t) h.5.1 ∙ append-nil (spelled 1 sign) in
     let free-is : is_difference (signed sign size) ≡ None = ap is_difference (sym x-is) ∙ free in
-    let no : sign ≡ 0 → size ≡ 32 → ⊥ = λ z. not_32 size (ap (λ (k : ℕ). is_difference (signed k size)) (sym z) ∙ free-is) in
-    let got : IsIn (w ++ spelled 1 sign, signed sign size) mvd_words = with_sign_in w size sign i h.2 no in
+    let below : sign ≡ 0 → size ≡ 32 → ⊥ = λ z. not_32 size (ap (λ (k : ℕ). is_difference (signed k size)) (sym z) ∙ free-is) in
+    let got : IsIn (w ++ spelled 1 sign, signed sign size) mvd_words = with_sign_in w size sign i h.2 below in
     subst (λ (t : List Bool). IsIn (w ++ t, x) mvd_words) (sym rest-is) (subst (λ (z : ℤ). IsIn (w ++ spelled 1 sign, z) mvd_words) (sym x-is) got)
 
 parts_in : (x : ℤ) (text : List Bool) → Spells mvd_parts x text → is_difference x ≡ None → IsIn (text, x) mvd_words
@@ -249,7 +249,7 @@ text_32 text h = at (first_or h.0 h.1 h.3)
     at : ((h.0 ≡ word "1") × (h.1 ≡ 0)) ⊎ IsIn (h.0, h.1) (from_number 1 (drop 1 magnitude_texts)) → text ≡ plus_32
     at (inl z) =
         let end : Spells (either true (done (pos 0)) (signs h.1)) (pos 32) h.2 = subst (λ (k : ℕ). Spells (either (eqb k 0) (done (pos 0)) (signs h.1)) (pos 32) h.2) z.1 h.5 in
-        absurd (let no : pos 32 ≡ pos 0 = end.0 in cc)
+        absurd (let zero_is : pos 32 ≡ pos 0 = end.0 in cc)
     at (inr i) =
         let m = from_on (drop 1 magnitude_texts) 1 h.1 h.0 i in
         let some : eqb h.1 0 ≡ false = ne_eqb h.1 0 (λ e. omega (arith, e, m.0)) in

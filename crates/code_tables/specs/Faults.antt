@@ -11,7 +11,7 @@ use Rattle.h263_bits.specs.Syntax.{Syntax, IsIn, Spells, reading}
 use Rattle.h263_bits.specs.Elements.{IsWordOf, IsWordFault, HasFault, EndsWithFault}
 use Rattle.code_tables.specs.Words.{word}
 use Rattle.code_tables.specs.Mcbpc.{mcbpc, mcbpc_words, dquant, dquant_words}
-use Rattle.code_tables.specs.Tables.{Event, Coefficient, cbpy, cbpy_words, magnitude_words, mvd, mvd_words, tcoef_words, event}
+use Rattle.code_tables.specs.Tables.{Event, cbpy, cbpy_words, mvd, mvd_words, tcoef_words, event}
 
 -- the faults of a syntax are those of such words
 abbrev pub HasWordFaults : {A : Type 0} → Syntax A → (List Bool → Type 0) → Type 0
