@@ -40,11 +40,14 @@ next_of p pace frame both =
 
 -- The sender stands for what these events have done to it, and so does the receiver, behind what it
 -- had taken before.
-pub record AreJoined (p : Params) (pace : List ℕ → ℕ) (sender : State) (receiver : Kept) (frames : List Frame) (before : List ReceiverEntry) (past : List Event) : Type 0 where
+pub record AreJoined (p : Params) (pace : List ℕ → ℕ) (sender : State) (receiver : Kept)
+    (frames : List Frame) (before : List ReceiverEntry) (past : List Event) : Type 0 where
   pub sender_params : sender.params ≡ p
   pub receiver_params : receiver.params ≡ p
-  pub sends : sender_end.Stands pace sender (sender_entries (coding p) (rules_of p) (receiver_end.run_of p before) pace frames past)
-  pub receives : receiver_end.Stands receiver (receiver_entries (coding p) (rules_of p) (receiver_end.run_of p before) pace frames past ++ before)
+  pub sends : sender_end.Stands pace sender
+      (sender_entries (coding p) (rules_of p) (receiver_end.run_of p before) pace frames past)
+  pub receives : receiver_end.Stands receiver (receiver_entries
+      (coding p) (rules_of p) (receiver_end.run_of p before) pace frames past ++ before)
 
 -- the sender stands for some entries
 pub record IsStanding (pace : List ℕ → ℕ) (sender : State) : Type 0 where
@@ -53,9 +56,12 @@ pub record IsStanding (pace : List ℕ → ℕ) (sender : State) : Type 0 where
 
 -- A frame was sent as the next picture, its packets were delivered in their order, and the next
 -- picture was played: what was coded, and the mark of the play.
-pub record IsPassed (p : Params) (pace : List ℕ → ℕ) (frames : List Frame) (before : List ReceiverEntry) (past : List Event) (frame : Frame) (coded : Coded) (mark : Mark) (sender : State) (receiver : Kept) : Type 0 where
+pub record IsPassed (p : Params)
+    (pace : List ℕ → ℕ) (frames : List Frame) (before : List ReceiverEntry) (past : List Event)
+    (frame : Frame) (coded : Coded) (mark : Mark) (sender : State) (receiver : Kept) : Type 0 where
   pub joined : AreJoined p pace sender receiver frames before (passed_on coded.number coded.packets past)
   pub number : coded.number ≡ length (both_after p pace frames before past).sender.coded
   pub packets : coded.packets ≡ length (next_of p pace frame (both_after p pace frames before past)).slices
   pub reference : coded.reference ≡ (next_of p pace frame (both_after p pace frames before past)).reference
-  pub mark_is : mark ≡ mark_of (played_mark (decoding p.format) (rules_of p) (both_after p pace frames before (delivered coded.number coded.packets ++ Send ∷ past)).receiver)
+  pub mark_is : mark ≡ mark_of (played_mark (decoding p.format) (rules_of p) (both_after
+      p pace frames before (delivered coded.number coded.packets ++ Send ∷ past)).receiver)

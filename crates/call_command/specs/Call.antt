@@ -156,18 +156,22 @@ module _ (view : View) where
   -- the first refusal of an event, as far as it is told before a frame is read
   abbrev pub refusal_at : CallState → Event → Option Refusal
   refusal_at s e =
-      first_refusal (rules_of s.params) (length (view s).coded + 1) (length (view s).coded) (view s).played (view s).abouts e
+      first_refusal (rules_of s.params)
+      (length (view s).coded + 1) (length (view s).coded) (view s).played (view s).abouts e
 
   -- what the line says is done
   abbrev pub event_step : CallState → (Role → List ℕ) → List ℕ → Line → Step CallState
   event_step s inputs trace says.Nothing = Goes (after_line s trace) (line_turn trace no_texts)
   event_step s inputs trace says.Send = unless s trace Send (refusal_at s Send) (capture_step s trace (inputs Video))
   event_step s inputs trace (says.Packet n j) =
-      unless s trace (Deliver n j) (refusal_at s (Deliver n j)) (Goes (after_line (with_packet s n j) trace) (line_turn trace no_texts))
+      unless s trace (Deliver n j) (refusal_at s (Deliver n j))
+      (Goes (after_line (with_packet s n j) trace) (line_turn trace no_texts))
   event_step s inputs trace (says.All n) =
-      unless s trace (Deliver n 0) (refusal_at s (Deliver n 0)) (Goes (after_line (with_packets s n) trace) (line_turn trace no_texts))
+      unless s trace (Deliver n 0) (refusal_at s (Deliver n 0))
+      (Goes (after_line (with_packets s n) trace) (line_turn trace no_texts))
   event_step s inputs trace (says.Back k) =
-      unless s trace (Back k) (refusal_at s (Back k)) (Goes (after_line (with_message s k) trace) (line_turn trace no_texts))
+      unless s trace (Back k) (refusal_at s (Back k))
+      (Goes (after_line (with_message s k) trace) (line_turn trace no_texts))
   event_step s inputs trace says.Play =
       unless s trace Play (refusal_at s Play)
       (Goes (after_line (with_play s) trace) (line_turn trace (play_texts (view (with_play s)) (view s).played)))
@@ -196,7 +200,11 @@ module _ (view : View) where
   frame_step s video (Ok planes) =
       let size = frame_size s.params.format video in
       Goes (record (with_picture s planes) { at = s.at + size; more = s.more - 1 })
-      (record { taken = of Video size; whole = true; texts = play_texts (view (with_picture s planes)) (length s.frames) })
+      (record {
+        taken = of Video size;
+        whole = true;
+        texts = play_texts (view (with_picture s planes)) (length s.frames);
+      })
   frame_step s video (Err fault) = Ends (refusal (VideoRefused fault))
 
   abbrev pub video_step : CallState → List ℕ → Step CallState

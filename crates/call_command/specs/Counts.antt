@@ -44,7 +44,8 @@ counts_text played sent exact patched held =
 -- the line of a call: how many pictures were played and sent, and how the plays were marked
 abbrev pub call_text : Seen → Text
 call_text seen =
-    counts_text seen.played (length seen.coded) (count_of one_exact seen.plays) (count_of one_patched seen.plays) (count_of one_held seen.plays)
+    counts_text seen.played (length seen.coded) (count_of one_exact seen.plays)
+    (count_of one_patched seen.plays) (count_of one_held seen.plays)
 
 -- ---- as they are counted
 

@@ -95,7 +95,8 @@ HasReferences references coded = AreNoted references (map (λ (x : Coded Style M
 -- ---- all of it
 
 -- the network keeps what both ends have sent and said
-pub record HasKept (p : Params) (packets : PacketRing) (messages : MessageRing) (references : References) (both : Joined Style Mb Picture) : Type 0 where
+pub record HasKept (p : Params) (packets : PacketRing) (messages : MessageRing)
+    (references : References) (both : Joined Style Mb Picture) : Type 0 where
   pub packets_are : HasPackets p packets both.sender.coded
   pub messages_are : HasMessages messages both.said
   pub references_are : HasReferences references both.sender.coded

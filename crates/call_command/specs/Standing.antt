@@ -51,12 +51,15 @@ row_texts n mark reference picture =
 -- Both ends have done these events, where these frames are there to be sent and the receiver had
 -- heard these entries before. The events are near, the marks of the plays are counted, and over a
 -- recorded trace the network keeps what was sent and said.
-pub record Holds (t : Terms) (sender : State) (receiver : Kept) (carrier : Carrier) (before : List ReceiverEntry) (frames : List Frame) (past : List Event) : Type 0 where
+pub record Holds (t : Terms) (sender : State) (receiver : Kept) (carrier : Carrier)
+    (before : List ReceiverEntry) (frames : List Frame) (past : List Event) : Type 0 where
   pub joined : AreJoined t.params (steady t.params) sender receiver frames before past
-  pub near : AllNearBoth (coding t.params) (rules_of t.params) (receiver_end.run_of t.params before) (steady t.params) frames past
+  pub near : AllNearBoth (coding t.params)
+      (rules_of t.params) (receiver_end.run_of t.params before) (steady t.params) frames past
   pub tally : AreCounted carrier.tally (both_after t.params (steady t.params) frames before past).plays
   pub network : t.plain ≡ false
-      → HasKept t.params carrier.packets carrier.messages carrier.references (both_after t.params (steady t.params) frames before past)
+      → HasKept t.params carrier.packets carrier.messages carrier.references
+      (both_after t.params (steady t.params) frames before past)
 
 -- with the packets and the reference of a picture more
 abbrev pub with_packets_kept : Carrier → PacketRing → References → Carrier

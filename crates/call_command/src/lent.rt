@@ -26,7 +26,7 @@ use sender_end::Sender;
 use std::alloc::Global;
 use y4m::Y4mReader;
 
-/// The machine of a call whose ends and video are lent.
+// The machine of a call whose ends and video are lent.
 #[derive(Drop)]
 struct World<'a> {
     terms: Terms,

@@ -4,6 +4,12 @@
 //! `specs/Call` says what it does with each frame of the video or each line of the trace, by the
 //! ideal call of `call_model`. [`Call`] begins both ends and lends them to [`converse`], which
 //! takes the events, whatever the receiver had heard before.
+//!
+//! ```rust
+//! let order = &[(Role::Video, "in.y4m"), (Role::Pictures, "out.y4m")];
+//! let terms = Terms { params, plain: true };
+//! let status = perform::<D, Call>(alloc, &terms, order, desk);
+//! ```
 #![tactic(auto)]
 
 mod call;

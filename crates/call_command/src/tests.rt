@@ -1,5 +1,5 @@
-// Runs over a desk in memory. Where memory ran out in a test its steps are taken again, and are
-// then to reach their end.
+//! Runs over a desk in memory. Where memory ran out in a test its steps are taken again, and are
+//! then to reach their end.
 ghost use Rattle.std.specs.Prelude.{◌≡◌, ◌<◌, true, OnOk};
 ghost use Rattle.h263_types.specs.Params.{IsParams};
 ghost use Rattle.h263_outside.specs.Desk.{NoneAttached};

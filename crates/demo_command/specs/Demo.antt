@@ -53,7 +53,8 @@ with_line t past line = onto (line_events (made_call t past) line) past
 -- the events of all these lines behind others, the newest first
 abbrev pub made_events : DemoTerms → List Event → List Line → List Event
 made_events t past lines =
-    expanded (pictures_of (coding t.params)) (rules_of t.params) (encoded (coding t.params) (rules_of t.params) (steady t.params) (made_video t)) past lines
+    expanded (pictures_of (coding t.params)) (rules_of t.params)
+    (encoded (coding t.params) (rules_of t.params) (steady t.params) (made_video t)) past lines
 
 -- ---- line by line
 

@@ -17,7 +17,8 @@ use Rattle.demo_command.specs.Demo.{made_call, made_events, made_video}
 
 pub record MadeLaws (t : DemoTerms) : Type 0 where
   -- each event of the made trace is in place and near
-  pub near : AllNear (coding t.params) (rules_of t.params) (steady t.params) (made_video t) (made_events t [] (made_trace t.seed t.frames))
+  pub near : AllNear (coding t.params) (rules_of t.params)
+      (steady t.params) (made_video t) (made_events t [] (made_trace t.seed t.frames))
   -- each picture that was sent has a slice
   pub slices : (past : List Event) (n : ℕ) → n < length (made_call t past).coded
       → 0 < length (slices_at (made_call t past).coded n)

@@ -19,15 +19,15 @@ use h263_bits::Fault;
 use h263_types::Mb;
 use make_input::laws::made_calls_are_near;
 
-/// Whatever its inputs hold, the command ends with `Ok`, and tells the counts of the ideal call of the
-/// made video over the made trace, and nothing else.
+/// Whatever its inputs hold, the command ends with `Ok`, and tells the counts of the ideal call of
+/// the made video over the made trace, and nothing else.
 pub fn counts_are_told()
     ensures { (t : DemoTerms) (inputs : Role → List ℕ)
         → TellsCounts t (run_from (demo_begin t inputs) demo_step (most_turns t) inputs) }
 {}
 
-/// No line of the made trace is refused in the call of the made video: each of its events is in place
-/// and near. And each picture that is sent has a slice.
+/// No line of the made trace is refused in the call of the made video: each of its events is in
+/// place and near. And each picture that is sent has a slice.
 pub fn of_made_input()
     ensures { (t : DemoTerms) → IsParams t.params → MadeLaws t }
 {

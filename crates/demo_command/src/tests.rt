@@ -1,5 +1,5 @@
-// Runs over a desk in memory. Where memory ran out in a test its steps are taken again, and are
-// then to reach their end.
+//! Runs over a desk in memory. Where memory ran out in a test its steps are taken again, and are
+//! then to reach their end.
 ghost use Rattle.std.specs.Prelude.{◌≡◌, ◌≤◌};
 ghost use Rattle.h263_types.specs.Params.{IsParams};
 ghost use Rattle.h263_outside.specs.Desk.{NoneAttached};
@@ -99,8 +99,8 @@ fn one_made_frame_by_the_custom_clock(rt: HostRuntime) -> Result<(), Fail> {
     Ok(())
 }
 
-// By the draws of seed 1 four of the first sixteen pictures are lost: 7, 13, 14 and 15. Of the others
-// each packet arrives, in time.
+// By the draws of seed 1 four of the first sixteen pictures are lost: 7, 13, 14 and 15. Of the
+// others each packet arrives, in time.
 #[test]
 fn sixteen_made_frames(rt: HostRuntime) -> Result<(), Fail> {
     let small = Params::of(Format::SubQcif);

@@ -99,7 +99,8 @@ run_of (Send params target) inputs =
     run_from (send_begin (sending_of params target) inputs) send_step 16777216 inputs
 run_of (Recv params) inputs = run_from (recv_begin params inputs) recv_step 16777216 inputs
 run_of (Demo params seed frames) inputs =
-    run_from (demo_begin (demo_terms params seed frames) inputs) demo_step (demo.most_turns (demo_terms params seed frames)) inputs
+    run_from (demo_begin (demo_terms params seed frames) inputs) demo_step
+    (demo.most_turns (demo_terms params seed frames)) inputs
 run_of (Rate target bucket) inputs =
     run_from (rate_begin (bucket_of target bucket) inputs) rate_step 16777216 inputs
 

@@ -34,7 +34,8 @@ pub record IsRunOf (output : (Role → List ℕ) → Run) (order : List (Role ×
   pub texts : (inputs : Role → List ℕ) → Tells old inputs → IsSettled result
       → HasTexts (output inputs) end_text result old.written new.written
   -- after want of memory and a fault of a read or a write a front of each was written
-  pub prefixes : (inputs : Role → List ℕ) → Tells old inputs → IsStopped result → IsCutOff (output inputs) result old new
+  pub prefixes : (inputs : Role → List ℕ)
+      → Tells old inputs → IsStopped result → IsCutOff (output inputs) result old new
   -- where the words are no command, or a role could not be attached, that line alone was written
   pub unread : before_reading (phase result) ≡ true → Gains (end_text result) old.written new.written
   -- each fault has its cause, whatever the desk tells

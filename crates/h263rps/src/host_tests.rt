@@ -1,4 +1,4 @@
-// The host's desk on real files, in the folder that the test is run in.
+//! The host's desk on real files, in the folder that the test is run in.
 ghost use Rattle.std.specs.Prelude.{◌≡◌, false};
 ghost use Rattle.h263_outside.specs.declared.desk.Role.TheVariants.{Video, Pictures};
 

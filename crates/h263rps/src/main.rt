@@ -36,7 +36,8 @@ fn texts_of(alloc: Global, words: &[String]) -> Result<Vec<&str>, AllocError>
 // Runs the words behind the program's name.
 fn run_words<D: Desk>(alloc: Global, words: &[String], desk: &mut D) -> Status
     requires { NoneAttached (D.outside desk.old).attached }
-    ensures { IsRun (command_of (map string_bytes words.now)) result (D.outside desk.old) (D.outside desk.new) }
+    ensures { IsRun
+        (command_of (map string_bytes words.now)) result (D.outside desk.old) (D.outside desk.new) }
 {
     match texts_of(alloc, words) {
         Ok(texts) => run(alloc, &texts, desk),

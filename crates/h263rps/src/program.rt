@@ -27,7 +27,8 @@ fn unasked(stop: WordStop) -> Status
 /// Runs the command that the words are, on a desk with nothing attached.
 pub fn run<D: Desk>(alloc: Global, words: &[&str], desk: &mut D) -> Status
     requires { NoneAttached (D.outside desk.old).attached }
-    ensures { IsRun (command_of (texts words.now)) result (D.outside desk.old) (D.outside desk.new) }
+    ensures { IsRun
+        (command_of (texts words.now)) result (D.outside desk.old) (D.outside desk.new) }
 {
     names_are_given();
     if let Err(status) = attach_role(desk, Role::Report, "") {

@@ -1,5 +1,5 @@
-//! Runs over a desk in memory. Where memory ran out in a test its steps are taken again, and are then
-//! to reach their end.
+//! Runs over a desk in memory. Where memory ran out in a test its steps are taken again, and are
+//! then to reach their end.
 ghost use Rattle.std.specs.Prelude.{◌<◌};
 ghost use Rattle.h263_outside.specs.Desk.{IsOutput};
 
@@ -219,10 +219,10 @@ fn refused_videos(rt: HostRuntime) -> Result<(), Fail> {
 
 const READ: &[u8] = b"read fault\n";
 
-// Call 0 attaches the report, 1 the video and 2 the pictures; 3 to 21 read the head byte by byte, 22
-// writes it, 23 to 28 read the frame's line, and 29 to 33 its planes in pieces of 4,096 bytes; 34
-// writes the picture's line, 35 to 39 its planes, and 40 its line of the report; 41 reads the end of
-// the video, and 42 writes the counts. A refusal's line is one more write.
+// Call 0 attaches the report, 1 the video and 2 the pictures; 3 to 21 read the head byte by byte,
+// 22 writes it, 23 to 28 read the frame's line, and 29 to 33 its planes in pieces of 4,096 bytes;
+// 34 writes the picture's line, 35 to 39 its planes, and 40 its line of the report; 41 reads the
+// end of the video, and 42 writes the counts. A refusal's line is one more write.
 const FAULTS: &[(u64, Status, Parts<'static>, Parts<'static>)] = &[
     (
         0,

@@ -11,10 +11,10 @@ use h263_outside::laws::calls;
 use rate_control::Meter;
 use std::alloc::Global;
 
-/// The most bytes of an entry of the log.
+// The most bytes of an entry of the log.
 const MAX_BYTES: usize = 65_535;
 
-/// The most plays of a log.
+// The most plays of a log.
 const MAX_PLAYS: u32 = 1_048_576;
 
 /// What the log is measured against.

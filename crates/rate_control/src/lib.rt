@@ -1,6 +1,11 @@
 //! A rate controller and its meter: a pace that follows a target in bytes per picture, and a meter
 //! for any log of packets. Both measure by the level of a leaking bucket: each picture pours its
 //! bytes in, and each picture's time lets the target out.
+//!
+//! ```rust
+//! let pace = BucketPace::new(342, 8);
+//! assert_eq!(rt; pace.quant(&[684]), 12);
+//! ```
 #![tactic(auto)]
 
 pub mod laws;

@@ -3,7 +3,7 @@ use super::*;
 use h263_bits::{Fault, FaultKind};
 use h263_types::Pace;
 
-/// The most bytes of a packet here.
+// The most bytes of a packet here.
 const MAX_BYTES: usize = 400;
 
 #[test]
@@ -26,7 +26,7 @@ fn quantisers_of_sizes(rt: HostRuntime) {
     }
 }
 
-/// A packet of the time with room behind its header.
+// A packet of the time with room behind its header.
 fn packet_at(timestamp: u32) -> [u8; MAX_BYTES] {
     let mut bytes = [0; MAX_BYTES];
     bytes[..12].copy_from_slice(&rtp_header::write(false, 0, timestamp));

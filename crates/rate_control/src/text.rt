@@ -6,7 +6,7 @@ use crate::meter::Totals;
 use arrayvec::ArrayString;
 use itoa::Buffer;
 
-/// The most bytes of a line, its newline among them.
+// The most bytes of a line, its newline among them.
 const MAX_BYTES: usize = 128;
 
 /// A line of at most 128 bytes.
