@@ -1,5 +1,5 @@
 -- The rows of the table of faults.
-use Rattle.std.proofs.Common.{◌≡◌, ℕ, ◌+◌, ◌<◌, ◌≤◌, Bool, true, false, cond, eqb, refl, sym, ap, arith, List, [], ◌∷◌, ◌++◌, length, Some, None}
+use Rattle.std.proofs.Common.{◌≡◌, ℕ, ◌+◌, ◌<◌, ◌≤◌, Bool, true, false, refl, sym, arith, List, [], ◌∷◌, ◌++◌, length, Some, None}
 use Rattle.std.specs.Prelude.{ℤ, slice_set}
 use Rattle.std.proofs.lemmas.Bool.{lt-ltb, le-ltb, ne_eqb}
 use Rattle.std.proofs.lemmas.List.{append-nil}
@@ -12,7 +12,7 @@ use Rattle.h263_bits.proofs.SyntaxLaws.{first_fault_is, fault_here, fault_in_par
 use Rattle.code_tables.specs.Laws.{TableLaws}
 use Rattle.code_tables.specs.Tables.{Coefficient, event}
 use Rattle.block_layer.specs.Text.{is_inside, placed, after_event, event_turn, events, is_dc, dc_of, no_levels, intra_dc, intra_block, inter_block}
-use Rattle.block_layer.specs.Faults.{AreFirst, DcFaults, EventFaults, BlockFaults}
+use Rattle.block_layer.specs.Faults.{DcFaults, BlockFaults}
 use Rattle.block_layer.proofs.Turns.{at_place, next, turn_some}
 use Rattle.block_layer.proofs.Productive.{dc_productive, turn_productive, intra_productive, inter_productive}
 
