@@ -1,6 +1,5 @@
 -- The rows of the table of faults.
-use Rattle.std.proofs.Common.{◌≡◌, ℕ, zero, suc, ◌+◌, ◌-◌, ◌*◌, ◌<◌, ◌≤◌, Bool, true, false, cond, refl, sym, ap, ◌∙◌, append_assoc, arith, List, [], ◌∷◌, ◌++◌, length, take, drop, Option, Some, None, Result, Ok, Err}
-use Rattle.std.specs.Prelude.{◌==◌, is_none}
+use Rattle.std.proofs.Common.{◌≡◌, ℕ, ◌+◌, ◌-◌, ◌*◌, ◌<◌, ◌≤◌, Bool, true, false, refl, sym, ap, ◌∙◌, append_assoc, arith, List, [], ◌∷◌, ◌++◌, length, take, drop, Option, Some, None, Result, Ok, Err}
 use Rattle.std.proofs.lemmas.Bool.{lt-ltb, le-ltb, ne_eqb}
 use Rattle.std.proofs.lemmas.List.{length-append, take_at, drop_at}
 use Rattle.h263_types.specs.declared.format.Format.{Format}
@@ -8,8 +7,8 @@ use Rattle.h263_bits.specs.declared.fault.Fault.{Fault}
 use Rattle.h263_bits.specs.declared.fault.FaultKind.{FaultKind}
 use Rattle.h263_bits.specs.declared.fault.FaultKind.TheVariants as faults
 use Rattle.h263_bits.specs.Bits.{spelled, fields}
-use Rattle.h263_bits.specs.Reading.{Bits, number_at, skip, err, ◌>>=◌}
-use Rattle.h263_bits.specs.Syntax.{Spells, reading, any, only}
+use Rattle.h263_bits.specs.Reading.{Bits, number_at, skip, ◌>>=◌}
+use Rattle.h263_bits.specs.Syntax.{Spells, reading, any}
 use Rattle.h263_bits.specs.Elements.{HasFault}
 use Rattle.h263_bits.proofs.SyntaxLaws.{stands, complete, number_again, fault_in_part, fault_behind_field, fault_here}
 use Rattle.picture_header.specs.declared.header.Header.{Header}
@@ -18,8 +17,8 @@ use Rattle.picture_header.specs.Laws.{HeaderLaws}
 use Rattle.h263_payload.specs.declared.payload.Opening.{Opening}
 use Rattle.h263_payload.specs.declared.payload.Payload.{Payload}
 use Rattle.h263_payload.specs.Text.{may_follow, opening, leading, IsExtra}
-use Rattle.h263_payload.specs.Faults.{first_bits, filled, extra_at, begun_as, begun_at, payload_at}
-use Rattle.h263_payload.specs.Rows.{from, IsRefusedAt, LeadingFaults, ExtraFaults, DataFaults, PayloadFaults}
+use Rattle.h263_payload.specs.Faults.{first_bits, filled, extra_at, begun_at, payload_at}
+use Rattle.h263_payload.specs.Rows.{from, IsRefusedAt, PayloadFaults}
 use Rattle.h263_payload.proofs.Exact.{leading_productive, extra_again, two_is, three_is}
 
 -- ---- the fields of the payload header

@@ -7,7 +7,6 @@ use Rattle.h263_bits.specs.declared.fault.FaultKind.TheVariants as faults
 use Rattle.h263_bits.specs.Bits.{fields}
 use Rattle.h263_bits.specs.Reading.{Bits}
 use Rattle.h263_bits.specs.Syntax.{Spells, reading}
-use Rattle.h263_bits.specs.Elements.{HasFault}
 use Rattle.picture_header.specs.declared.header.Header.{Header}
 use Rattle.picture_header.specs.Text.{header, IsHeaderText}
 use Rattle.h263_payload.specs.declared.payload.Opening.{Opening}

@@ -1,7 +1,7 @@
 -- A packet has the faults of its parts.
-use Rattle.std.proofs.Common.{◌≡◌, ℕ, refl, sym, ap, ◌∙◌, List, Option, None, Result, Ok, Err}
+use Rattle.std.proofs.Common.{◌≡◌, ℕ, refl, ap, ◌∙◌, List, Option, None, Ok, Err}
 use Rattle.h263_bits.specs.declared.fault.Fault.{Fault}
-use Rattle.h263_bits.specs.Reading.{Bits, ◌>>=◌}
+use Rattle.h263_bits.specs.Reading.{Bits}
 use Rattle.h263_bits.specs.Syntax.{reading}
 use Rattle.h263_types.specs.declared.format.Format.{Format}
 use Rattle.picture_header.specs.declared.header.Header.{Header}
@@ -11,7 +11,7 @@ use Rattle.rtp_header.specs.Faults.{rtp_in}
 use Rattle.h263_payload.specs.declared.payload.Payload.{Payload}
 use Rattle.h263_payload.specs.Faults.{payload_at, payload_bits_of}
 use Rattle.slice_layer.specs.Text.{slice_at}
-use Rattle.packet_collector.specs.Packet.{data_of, headed_at, with_header, slice_behind, packet_at}
+use Rattle.packet_collector.specs.Packet.{data_of, headed_at, slice_behind, packet_at}
 use Rattle.packet_collector.specs.Rows.{PacketFaults}
 
 in_rtp : (format : Format) (bytes : List ℕ) (fault : Fault) → rtp_in bytes ≡ Err fault → packet_at format bytes ≡ Err fault

@@ -1,6 +1,5 @@
 -- The rows of the table of faults, each by the fields in front of it.
-use Rattle.std.proofs.Common.{◌≡◌, ℕ, zero, suc, ◌+◌, ◌*◌, ◌%◌, ◌^◌, ◌<◌, ◌≤◌, Bool, true, false, cond, eqb, ltb, refl, sym, ap, subst, ◌∙◌, arith, inl, inr, List, [], ◌∷◌, ◌++◌, length, Option, Some, None}
-use Rattle.std.specs.Prelude.{nat_lt, nat_le}
+use Rattle.std.proofs.Common.{◌≡◌, ℕ, ◌+◌, ◌^◌, ◌<◌, ◌≤◌, Bool, true, false, eqb, ltb, refl, sym, subst, arith, List, [], ◌∷◌, ◌++◌, length, Option, Some, None}
 use Rattle.std.proofs.lemmas.Bool.{lt-ltb, le-ltb, le-leb, ne_eqb}
 use Rattle.std.proofs.lemmas.List.{append-nil}
 use Rattle.h263_types.specs.declared.format.Format.{Format}
@@ -8,19 +7,19 @@ use Rattle.h263_types.specs.declared.format.Format.TheVariants.{SubQcif, Qcif, C
 use Rattle.h263_types.specs.declared.Kind.{Kind}
 use Rattle.h263_types.specs.declared.Kind.TheVariants as kinds
 use Rattle.h263_types.specs.declared.clock.Clock.{Clock}
-use Rattle.h263_types.specs.declared.clock.Clock.TheVariants.{Standard, Custom}
+use Rattle.h263_types.specs.declared.clock.Clock.TheVariants.{Custom}
 use Rattle.h263_types.specs.Clocks.{period_of}
 use Rattle.h263_bits.specs.declared.fault.FaultKind.{FaultKind}
 use Rattle.h263_bits.specs.declared.fault.FaultKind.TheVariants as faults
 use Rattle.h263_bits.specs.Bits.{spelled, fields}
-use Rattle.h263_bits.specs.Syntax.{Syntax, Spells, IsProductive, any, only, done, field, part, element, either, again, repeat}
+use Rattle.h263_bits.specs.Syntax.{Syntax, Spells, IsProductive, any, only, done, field, part, either, again, repeat}
 use Rattle.h263_bits.specs.Elements.{HasFault}
-use Rattle.h263_bits.proofs.SyntaxLaws.{first_fault_is, only_other, fault_here, fault_behind_field, fault_in_part, fault_of_part, fault_behind_part, fault_in_element, fault_of_element, fault_behind_element, fault_in_turn, fault_behind_turn, spells_field, spells_done, spells_part}
+use Rattle.h263_bits.proofs.SyntaxLaws.{first_fault_is, only_other, fault_here, fault_behind_field, fault_in_part, fault_behind_part, fault_in_element, fault_of_element, fault_behind_element, fault_in_turn, fault_behind_turn, spells_field, spells_done}
 use Rattle.back_messages.specs.declared.message.Message.{Message}
 use Rattle.back_messages.specs.declared.message.MessageFault.{MessageFault}
 use Rattle.back_messages.specs.Text.{message_fault, message_value, is_long, has_markers, is_message, is_marked, flags, message}
 use Rattle.back_messages.specs.Laws.{MessageLaws}
-use Rattle.picture_header.specs.Text.{format_code, is_format, is_kind, is_divisor, is_channel, is_low, is_quant, opening, plus_type, multipoint, extended, channel, reference, has_room, bci, next_message, after_message, back_turn, back, extra, header}
+use Rattle.picture_header.specs.Text.{format_code, is_format, is_kind, is_divisor, is_channel, is_low, is_quant, opening, plus_type, multipoint, extended, channel, reference, has_room, bci, next_message, back_turn, back, header}
 use Rattle.picture_header.specs.Faults.{OpeningFaults, PlusTypeFaults, MiddleFaults, MessageFaults, PartFaults, HeaderFaults}
 use Rattle.picture_header.proofs.Loops.{simple_productive, extended_productive, reference_productive, bci_productive, next_productive, back_some, back_productive, header_productive}
 

@@ -6,7 +6,7 @@ use Rattle.h263_types.specs.declared.format.Format.{Format}
 use Rattle.h263_types.specs.declared.Kind.{Kind}
 use Rattle.h263_types.specs.declared.Kind.TheVariants as kinds
 use Rattle.h263_types.specs.declared.clock.Clock.{Clock}
-use Rattle.h263_types.specs.declared.clock.Clock.TheVariants.{Standard, Custom}
+use Rattle.h263_types.specs.declared.clock.Clock.TheVariants.{Custom}
 use Rattle.h263_types.specs.Clocks.{period_of}
 use Rattle.h263_bits.specs.declared.fault.Fault.{Fault}
 use Rattle.h263_bits.specs.declared.fault.FaultKind.{FaultKind}

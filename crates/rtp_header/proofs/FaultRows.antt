@@ -1,17 +1,15 @@
 -- The rows of the table of faults.
-use Rattle.std.proofs.Common.{◌≡◌, ◌⊎◌, ℕ, zero, suc, ◌+◌, ◌-◌, ◌*◌, ◌/◌, ◌<◌, ◌≤◌, Bool, true, false, cond, refl, sym, ap, ◌∙◌, arith, inl, inr, List, [], ◌∷◌, ◌++◌, length, drop, Option, Some, None, Result, Ok, Err, eq-eqb}
-use Rattle.std.specs.Prelude.{◌==◌, ◌||◌, nat_lt, slice_index}
+use Rattle.std.proofs.Common.{◌≡◌, ◌⊎◌, ℕ, ◌-◌, ◌*◌, ◌<◌, ◌≤◌, Bool, true, false, cond, refl, ap, ◌∙◌, arith, inl, inr, List, length, Some, None, Result, Ok, Err, eq-eqb}
+use Rattle.std.specs.Prelude.{◌==◌, ◌||◌, slice_index}
 use Rattle.std.proofs.lemmas.Bool.{lt-ltb, le-ltb, ne_eqb}
 use Rattle.std.proofs.lemmas.List.{length-append}
 use Rattle.h263_bits.specs.declared.fault.Fault.{Fault}
 use Rattle.h263_bits.specs.declared.fault.FaultKind.TheVariants as faults
-use Rattle.h263_bits.specs.Bits.{bits_of}
 use Rattle.h263_bits.specs.Reading.{Bits}
 use Rattle.h263_bits.specs.Syntax.{reading}
 use Rattle.h263_bits.proofs.SyntaxLaws.{stands, sound, length-bits_of}
-use Rattle.rtp_header.specs.declared.rtp.Rtp.{Rtp}
 use Rattle.rtp_header.specs.Text.{Head, head, behind, from_byte}
-use Rattle.rtp_header.specs.Faults.{rtp_in, with_head, with_end, with_payload, end_of, payload_end_of, accepted_of, short_of}
+use Rattle.rtp_header.specs.Faults.{rtp_in, with_head, with_end, with_payload, end_of, payload_end_of, accepted_of}
 use Rattle.rtp_header.specs.Rows.{IsRefusedAt, HasHead, HasFront, RtpFaults}
 use Rattle.rtp_header.proofs.Heads.{head_length}
 

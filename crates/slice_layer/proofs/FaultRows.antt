@@ -6,7 +6,6 @@ use Rattle.h263_types.specs.declared.format.Format.{Format}
 use Rattle.h263_types.specs.declared.format.Format.TheVariants.{SubQcif, Qcif, Cif}
 use Rattle.h263_types.specs.declared.blocks.Mb.{Mb}
 use Rattle.h263_types.specs.Sizes.{mbs_of}
-use Rattle.std.specs.Prelude.{◌⊎◌}
 use Rattle.h263_bits.specs.declared.fault.Fault.{Fault}
 use Rattle.h263_bits.specs.declared.fault.FaultKind.{FaultKind}
 use Rattle.h263_bits.specs.declared.fault.FaultKind.TheVariants as faults
@@ -22,8 +21,8 @@ use Rattle.slice_layer.specs.Around.{Around, around, quant_after, next_mb}
 use Rattle.slice_layer.specs.Head.{address_bits, is_later, reference, first_head, place, tail, later_head, head}
 use Rattle.slice_layer.specs.Text.{is_padding, AreTexts, stops, mbs_at, numbered, body_at, slice_at}
 use Rattle.slice_layer.specs.Written.{quant_behind}
-use Rattle.slice_layer.specs.Faults.{FirstHeadFaults, PlaceFaults, TailFaults, LaterHeadFaults, HasSliceFault, BodyFaults, StopsAt, IsBodyFault, IsSliceFault, SliceFaults}
-use Rattle.slice_layer.proofs.Heads.{reference_productive, place_productive, tail_productive, head_productive}
+use Rattle.slice_layer.specs.Faults.{TailFaults, HasSliceFault, StopsAt, IsBodyFault, IsSliceFault, SliceFaults}
+use Rattle.slice_layer.proofs.Heads.{reference_productive, place_productive, head_productive}
 use Rattle.slice_layer.proofs.Marked.{mb_marked}
 
 -- ---- behind the picture header
