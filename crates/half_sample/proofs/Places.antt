@@ -58,8 +58,8 @@ luma_inside f mb v {x} {y} {hx} {hy} r ex ey ehx ehy =
     record { in_row = across; in_plane = omega arith }
 
 -- four of its rows read no further down
-pub quarter_inside : (f : Format) (first : ℕ) → first < 4 → {x y n half : ℕ} → Inside f Y x (y + 15 + half) n → Inside f Y x (y + first + 12 + half) n
-quarter_inside f first h {x} {y} {n} {half} i = record { in_row = i.in_row; in_plane = omega (arith, h, i.in_plane) }
+pub quarter_inside : (f : Format) (first y half : ℕ) → first < 4 → {x n : ℕ} → Inside f Y x (y + 15 + half) n → Inside f Y x (y + first + 12 + half) n
+quarter_inside f first y half h {x} {n} i = record { in_row = i.in_row; in_plane = omega (arith, h, i.in_plane) }
 
 -- a luma component in reach keeps the samples of a colour inside their plane, at its beginning
 pub colour_begins : (k size : ℕ) (v : ℤ) → InSide (16 * k) size v → pos 0 ≤ℤ (pos (8 * k) +ℤ int_shr v 2)

@@ -15,7 +15,7 @@ quarter-requires-clause-inside c =
     let sy = to_z-of_z w8 c.args.vector.y fy in
     let column = c.mb_place-column.ensures.column ∙ ap (λ f. c.args.mb % columns_of f) c.format.ensures.format in
     let row = c.mb_place-column.ensures.row ∙ ap (λ f. c.args.mb / columns_of f) c.format.ensures.format in
-    quarter_inside (picture c.args.reference).format c.args.first c.requires.first
+    quarter_inside (picture c.args.reference).format c.args.first c.luma_place-2.result (cond c.is_luma_half-2.result 1 0) c.requires.first
     (luma_inside (picture c.args.reference).format c.args.mb c.args.vector c.requires.reach
     (same_place (λ k. 16 * k) (whole_part Y) c.luma_place.ensures column sx)
     (same_place (λ k. 16 * k) (whole_part Y) c.luma_place-2.ensures row sy)
