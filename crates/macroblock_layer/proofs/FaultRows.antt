@@ -1,5 +1,5 @@
 -- The rows of the table of faults.
-use Rattle.std.proofs.Common.{◌≡◌, ℕ, ◌+◌, Bool, true, false, refl, sym, subst, arith, inl, inr, List, [], ◌∷◌, ◌++◌, length, Some, None}
+use Rattle.std.proofs.Common.{◌≡◌, ℕ, ◌+◌, Bool, true, false, refl, sym, subst, arith, List, [], ◌∷◌, ◌++◌, length, Some}
 use Rattle.std.specs.Prelude.{ℤ}
 use Rattle.std.proofs.lemmas.List.{append-nil}
 use Rattle.h263_types.specs.declared.Kind.{Kind}
@@ -9,12 +9,11 @@ use Rattle.h263_types.specs.declared.vector.Reach.{Reach}
 use Rattle.h263_bits.specs.declared.fault.FaultKind.{FaultKind}
 use Rattle.h263_bits.specs.declared.fault.FaultKind.TheVariants as faults
 use Rattle.h263_bits.specs.Bits.{is_set, spelled}
-use Rattle.h263_bits.specs.Syntax.{IsIn, IsProductive, Spells, Turn, again, any, done, either}
+use Rattle.h263_bits.specs.Syntax.{IsIn, IsProductive, Spells, again, any, either}
 use Rattle.h263_bits.specs.Elements.{HasFault}
-use Rattle.h263_bits.proofs.SyntaxLaws.{first_fault_is, fault_in_part, fault_behind_part, fault_of_whole_part, fault_behind_field, fault_in_turn, fault_behind_turn, spells_code, spells_field, spells_part, spells_done}
+use Rattle.h263_bits.proofs.SyntaxLaws.{first_fault_is, fault_in_part, fault_behind_part, fault_of_whole_part, fault_behind_field, fault_in_turn, fault_behind_turn, spells_field}
 use Rattle.code_tables.specs.declared.macroblock.MbClass.{MbClass}
 use Rattle.code_tables.specs.declared.macroblock.MbClass.TheVariants as classes
-use Rattle.code_tables.specs.declared.macroblock.Mcbpc.{Mcbpc}
 use Rattle.code_tables.specs.declared.macroblock.Mcbpc.TheVariants.{Stuffing, Word}
 use Rattle.code_tables.specs.Words.{word}
 use Rattle.code_tables.specs.Mcbpc.{mcbpc, mcbpc_table, mcbpc_words, mcbpc_text, dquant}
@@ -25,7 +24,7 @@ use Rattle.block_layer.specs.Text.{intra_block, inter_block}
 use Rattle.block_layer.specs.Laws.{BlockLaws}
 use Rattle.macroblock_layer.specs.declared.reading.Lead.{Lead}
 use Rattle.macroblock_layer.specs.Text.{no_four, class_turn, lead_turn, lead, is_intra, quantiser, moved, is_within, in_reach, difference, vector, blocks, intra, inter, intra_mb, inter_mb, coded_mb, behind, mb}
-use Rattle.macroblock_layer.specs.Faults.{LeadFaults, VectorFaults, CodedFaults, block_in, BlockFaults, MbFaults}
+use Rattle.macroblock_layer.specs.Faults.{LeadFaults, CodedFaults, block_in, BlockFaults, MbFaults}
 use Rattle.macroblock_layer.proofs.Leads.{lead_some, turn_productive, lead_productive}
 use Rattle.macroblock_layer.proofs.Productive.{quantiser_productive, difference_productive, vector_productive, intra_block_productive, inter_block_productive, mb_productive}
 

@@ -1,5 +1,5 @@
 -- Six blocks that are read one after the other, each into its place.
-use Rattle.std.proofs.Common.{◌≡◌, ℕ, suc, ◌/◌, ◌%◌, ◌^◌, Bool, List, [], ◌∷◌, length, set, Ok, refl, sym, ap, subst, arith}
+use Rattle.std.proofs.Common.{◌≡◌, ℕ, ◌/◌, ◌%◌, ◌^◌, Bool, List, [], ◌∷◌, length, set, Ok, refl, sym, ap, subst, arith}
 use Rattle.std.specs.Prelude.{◌==◌}
 use Rattle.h263_bits.specs.Bits.{is_set}
 use Rattle.h263_bits.specs.Reading.{Bits}

@@ -1,6 +1,6 @@
 -- THE FAULTS OF A MACROBLOCK (H.263, 5.3), element by element: COD, MCBPC, CBPY, DQUANT, the two
 -- vector differences, and the blocks.
-use Rattle.std.specs.Prelude.{◌≡◌, ◌↔◌, ℕ, ℤ, ◌+◌, List, [], ◌∷◌, ◌++◌, length, Bool, true, false, Err}
+use Rattle.std.specs.Prelude.{◌≡◌, ◌↔◌, ℕ, ℤ, ◌+◌, List, ◌∷◌, ◌++◌, length, Bool, true, false, Err}
 use Rattle.h263_types.specs.declared.Kind.{Kind}
 use Rattle.h263_types.specs.declared.Kind.TheVariants as kinds
 use Rattle.h263_types.specs.declared.vector.Vector.{Vector}
