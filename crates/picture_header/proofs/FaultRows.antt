@@ -62,15 +62,15 @@ format_small Qcif = omega arith
 format_small Cif = omega arith
 
 other_format : (format other : Format) → (other ≡ format → ⊥) → is_format format (format_code other) ≡ Some faults.OtherFormat
-other_format SubQcif SubQcif no = absurd (no refl)
-other_format SubQcif Qcif no = refl
-other_format SubQcif Cif no = refl
-other_format Qcif SubQcif no = refl
-other_format Qcif Qcif no = absurd (no refl)
-other_format Qcif Cif no = refl
-other_format Cif SubQcif no = refl
-other_format Cif Qcif no = refl
-other_format Cif Cif no = absurd (no refl)
+other_format SubQcif SubQcif other = absurd (other refl)
+other_format SubQcif Qcif other = refl
+other_format SubQcif Cif other = refl
+other_format Qcif SubQcif other = refl
+other_format Qcif Qcif other = absurd (other refl)
+other_format Qcif Cif other = refl
+other_format Cif SubQcif other = refl
+other_format Cif Qcif other = refl
+other_format Cif Cif other = absurd (other refl)
 
 no_format : (format : Format) → is_format format 0 ≡ Some faults.SourceFormat
 no_format SubQcif = refl
@@ -114,9 +114,9 @@ type_high_source format n le lt =
 
 type_other_source : (format other : Format) → (other ≡ format → ⊥) → HasFault (plus_type format) (fields ((3, 1) ∷ (3, (format_code other)) ∷ [])) faults.OtherFormat 3
 unfolding plus_type
-type_other_source format other no =
+type_other_source format other unlike =
     fault_behind_field 3 (only 1 faults.Ufep) _ 1 (fields ((3, (format_code other)) ∷ [])) faults.OtherFormat 0 (omega arith) refl
-    (fault_here 3 (is_format format) _ (format_code other) [] faults.OtherFormat (format_small other) (other_format format other no))
+    (fault_here 3 (is_format format) _ (format_code other) [] faults.OtherFormat (format_small other) (other_format format other unlike))
 
 type_modes : (format : Format) (clock n : ℕ) → clock < 2 → n < 1024 → (n ≡ 24 → ⊥) → HasFault (plus_type format) (fields ((3, 1) ∷ (3, (format_code format)) ∷ (1, clock) ∷ (10, n) ∷ [])) faults.Modes 7
 unfolding plus_type
@@ -291,20 +291,20 @@ abbrev behind_24 : ℕ → Bool → Syntax Message
 behind_24 n long = either long (part flags any λ marks. done (message_value n (Some marks))) (done (message_value n None))
 
 flags_part : (n marks : ℕ) → marks < 2 ^ 16 → has_markers marks ≡ false → HasFault (behind_24 n true) (fields ((16, marks) ∷ [])) faults.Messages 0
-flags_part n marks small no = fault_in_part flags any (λ marks. done (message_value n (Some marks))) (fields ((16, marks) ∷ [])) faults.Messages 0 (in_flags marks small no)
+flags_part n marks small bad = fault_in_part flags any (λ marks. done (message_value n (Some marks))) (fields ((16, marks) ∷ [])) faults.Messages 0 (in_flags marks small bad)
 
 long_message_row : (clock : Clock) (n marks : ℕ) → n < 2 ^ 24 → marks < 2 ^ 16 → message_fault clock (is_long n) n ≡ None → is_long n ≡ true → has_markers marks ≡ false
     → HasFault (message clock) (fields ((24, n) ∷ (16, marks) ∷ [])) faults.Messages 24
 unfolding message
-long_message_row clock n marks lt small e long no =
+long_message_row clock n marks lt small e long bad =
     let inner : HasFault (behind_24 n (is_long n)) (fields ((16, marks) ∷ [])) faults.Messages 0 =
-    subst (λ (t : Bool). HasFault (behind_24 n t) (fields ((16, marks) ∷ [])) faults.Messages 0) (sym long) (flags_part n marks small no) in
+    subst (λ (t : Bool). HasFault (behind_24 n t) (fields ((16, marks) ∷ [])) faults.Messages 0) (sym long) (flags_part n marks small bad) in
     fault_behind_field 24 (is_message clock) (λ m. behind_24 m (is_long m)) n (fields ((16, marks) ∷ [])) faults.Messages 0 lt (good_message clock n e) inner
 
 flags_row : (clock : Clock) (used n marks : ℕ) → used < 4 → n < 2 ^ 24 → marks < 2 ^ 16 → message_fault clock (is_long n) n ≡ None → is_long n ≡ true → has_markers marks ≡ false
     → HasFault (next_message clock used) (fields ((1, 1) ∷ (24, n) ∷ (16, marks) ∷ [])) faults.Messages 25
 unfolding spelled
-flags_row clock used n marks room lt small e long no = behind_bci clock used (fields ((24, n) ∷ (16, marks) ∷ [])) faults.Messages 24 room (long_message_row clock n marks lt small e long no)
+flags_row clock used n marks few lt small e long bad = behind_bci clock used (fields ((24, n) ∷ (16, marks) ∷ [])) faults.Messages 24 few (long_message_row clock n marks lt small e long bad)
 
 turn_here : (clock : Clock) (messages : List Message) (text : List Bool) (kind : FaultKind) (place : ℕ) → HasFault (next_message clock (length messages)) text kind place → HasFault (repeat messages (back_turn clock)) text kind place
 unfolding back_turn
