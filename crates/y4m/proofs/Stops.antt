@@ -136,11 +136,11 @@ not_of_tag tag n e = grind arith
 
 not_of_tags : (tags : List Tag) (n : ℕ) → tags_fault tags ≡ Some (NotY4m n) → ⊥
 not_of_tags [] n e = cc
-not_of_tags (tag ∷ tags) n e = at (tag_fault tag) refl e
+not_of_tags (tag ∷ tags) n e = at (tag_fault tag) refl e (not_of_tags tags n)
   where
-    at : (o : Option Y4mFault) → tag_fault tag ≡ o → tags_fault (tag ∷ tags) ≡ Some (NotY4m n) → ⊥
-    at None is e = not_of_tags tags n (let same : tags_fault (tag ∷ tags) ≡ tags_fault tags = rw is refl in sym same ∙ e)
-    at (Some fault) is e = not_of_tag tag n (let same : tags_fault (tag ∷ tags) ≡ Some fault = rw is refl in is ∙ sym same ∙ e)
+    at : (o : Option Y4mFault) → tag_fault tag ≡ o → tags_fault (tag ∷ tags) ≡ Some (NotY4m n) → (tags_fault tags ≡ Some (NotY4m n) → ⊥) → ⊥
+    at None is e more = more (let same : tags_fault (tag ∷ tags) ≡ tags_fault tags = rw is refl in sym same ∙ e)
+    at (Some fault) is e more = not_of_tag tag n (let same : tags_fault (tag ∷ tags) ≡ Some fault = rw is refl in is ∙ sym same ∙ e)
 
 not_of_size : (o : Option Format) (at n : ℕ) → sized o at ≡ Err (NotY4m n) → ⊥
 not_of_size None at n e = cc
