@@ -1,21 +1,21 @@
 -- An event that isn't read is cut inside a word or an escape, is a bad escape, or is none.
-use Rattle.std.proofs.Common.{◌≡◌, ◌⊎◌, ℕ, ◌+◌, ◌-◌, ◌*◌, ◌^◌, ◌<◌, Bool, true, false, cond, refl, ap, sym, ◌∙◌, subst, add-zero, append_assoc, arith, inl, inr, List, [], ◌∷◌, ◌++◌, length, drop, eqb, Option, Some, None, Err}
-use Rattle.std.specs.Prelude.{replicate, ◌==◌}
-use Rattle.std.proofs.lemmas.Bool.{eqb-true}
+use Rattle.std.proofs.Common.{◌≡◌, ◌⊎◌, ℕ, ◌+◌, ◌-◌, ◌*◌, ◌^◌, ◌<◌, Bool, true, false, cond, refl, ap, sym, ◌∙◌, subst, add-zero, append_assoc, arith, inl, inr, List, [], ◌∷◌, ◌++◌, length, drop, eqb, Option, Some, None, Result, Ok, Err}
+use Rattle.std.specs.Prelude.{replicate, ◌==◌, ◌↔◌}
+use Rattle.std.proofs.lemmas.Bool.{eqb-true, ne_eqb}
 use Rattle.std.proofs.lemmas.List.{append-nil, length-append, length-replicate}
 use Rattle.h263_bits.specs.declared.fault.Fault.{Fault}
 use Rattle.h263_bits.specs.declared.fault.FaultKind.{FaultKind}
 use Rattle.h263_bits.specs.declared.fault.FaultKind.TheVariants.{BadLevel}
-use Rattle.h263_bits.specs.Bits.{number, spelled, fields}
-use Rattle.h263_bits.specs.Reading.{Bits}
-use Rattle.h263_bits.specs.Syntax.{IsIn, reading, any, field, done, begins}
-use Rattle.h263_bits.specs.Elements.{IsFieldFault, IsWordOf, IsCutWord, IsWordFault, Faults}
-use Rattle.h263_bits.proofs.SyntaxLaws.{begins_parts, begins_itself, both_begin, fault_found, number-append, number-lt, spelled-number}
+use Rattle.h263_bits.specs.Bits.{is_set, number, spelled, fields}
+use Rattle.h263_bits.specs.Reading.{Bits, err}
+use Rattle.h263_bits.specs.Syntax.{IsIn, Spells, reading, any, field, done, begins}
+use Rattle.h263_bits.specs.Elements.{IsFieldFault, IsWordOf, IsCutWord, IsNoWord, IsWordFault, Faults}
+use Rattle.h263_bits.proofs.SyntaxLaws.{stands, err_not_ok, sound, complete, one_reading, spells_done, spells_field, spells_code, spells_element, spells_whole, begins_parts, begins_itself, both_begin, fault_found, number-append, number-lt, spelled-number}
 use Rattle.code_tables.specs.Words.{word}
-use Rattle.code_tables.specs.Tables.{Event, Coefficient, level_of, sized, events, from_runs, last_0_texts, last_1_texts, tcoef_words, event_table, event_parts, event, after_word, is_level}
+use Rattle.code_tables.specs.Tables.{Event, Coefficient, level_of, sized, events, from_runs, last_0_texts, last_1_texts, tcoef_words, event_table, event_parts, event, after_word, is_level, signed}
 use Rattle.code_tables.specs.EventWords.{escape_text, IsBadEscape, IsEventWord, IsEventFault}
 use Rattle.code_tables.proofs.Productive.{event_productive}
-use Rattle.code_tables.proofs.FaultRows.{in_behind}
+use Rattle.code_tables.proofs.FaultRows.{in_behind, level_row}
 
 -- ---- the table: each word stands for an event, but the escape
 
@@ -277,3 +277,146 @@ event_fault b d e =
     let m = event_faults f.0 f.1 d.kind f.4 in
     let whole : b.bits ≡ f.1 = f.2 ∙ ap (λ (t : List Bool). t ++ f.1) m.0 in
     (f.3 ∙ ap (λ (t : List Bool). b.at + length t) m.0 ∙ add-zero b.at, subst (λ (t : List Bool). IsEventFault t d.kind) (sym whole) m.1)
+
+-- ---- the way back: what is a fault is found
+
+-- LEVEL that is allowed
+allowed_level : (v : ℕ) → is_level v ≡ None → (v ≡ 0 → ⊥) × (v ≡ 128 → ⊥)
+allowed_level v is = (
+  λ e. let h : is_level 0 ≡ None = subst (λ (k : ℕ). is_level k ≡ None) e is in cc,
+  λ e. let h : is_level 128 ≡ None = subst (λ (k : ℕ). is_level k ≡ None) e is in cc,
+)
+
+good_level : (v : ℕ) → (v ≡ 0 → ⊥) → (v ≡ 128 → ⊥) → is_level v ≡ None
+good_level v zero middle = rw (ne_eqb v 0 zero, ne_eqb v 128 middle) refl
+
+one_bit : (v : ℕ) → spelled 1 v ≡ is_set v 0 ∷ []
+unfolding spelled
+one_bit v = refl
+
+bit_spelled : (sign : Bool) → spelled 1 (cond sign 1 0) ≡ sign ∷ []
+unfolding spelled
+bit_spelled true = refl
+bit_spelled false = refl
+
+bit_below : (sign : Bool) → cond sign 1 0 < 2
+bit_below true = omega arith
+bit_below false = omega arith
+
+in_table : (w : List Bool) (o : Option Event) → IsIn (w, o) tcoef_words → IsIn (w, o) event_table.list
+unfolding event_table
+in_table w o h = h
+
+in_list : (w : List Bool) (o : Option Event) → IsIn (w, o) event_table.list → IsIn (w, o) tcoef_words
+unfolding event_table
+in_list w o h = h
+
+-- each word is spelled for an event
+pub record IsSpelt (text : List Bool) : Type 0 where
+  pub value : Coefficient
+  pub spelt : Spells event value text
+
+as_event : (a : Coefficient) (front text : List Bool) → Spells event_parts a front → front ≡ text → IsSpelt text
+unfolding event
+as_event a front text h e = record { value = a; spelt = spells_whole event a (front ++ []) text (append-nil front ∙ e) (spells_element event_parts any done a a front [] h refl (spells_done a)) }
+
+word_spelt : (w : List Bool) → IsEventWord w → IsSpelt w
+unfolding event_parts
+word_spelt w (inl r) =
+    let v : ℕ = cond r.sign 1 0 in
+    let a : Coefficient = record { last = r.event.last; run = r.event.run; level = signed v r.event.size } in
+    as_event a (r.front ++ (spelled 1 v ++ [])) w
+    (spells_code event_table after_word a r.front (Some r.event) (spelled 1 v ++ []) (in_table r.front (Some r.event) r.listed) (spells_field 1 any _ a v [] (bit_below r.sign) refl (spells_done a)))
+    (ap (λ (t : List Bool). r.front ++ t) (append-nil (spelled 1 v) ∙ bit_spelled r.sign) ∙ sym r.parts)
+word_spelt w (inr r) =
+    let a : Coefficient = escaped r.last r.run r.level in
+    let tail : List Bool = fields ((1, r.last) ∷ (6, r.run) ∷ (8, r.level) ∷ []) in
+    as_event a (word "0000011" ++ tail) w
+    (spells_code event_table after_word a (word "0000011") None tail (in_table (word "0000011") None escape_listed)
+    (spells_field 1 any _ a r.last (fields ((6, r.run) ∷ (8, r.level) ∷ [])) r.one refl
+    (spells_field 6 any _ a r.run (fields ((8, r.level) ∷ [])) r.six refl
+    (spells_field 8 is_level _ a r.level [] r.eight (good_level r.level r.some r.great) (spells_done a)))))
+    (sym r.parts)
+
+-- and what is spelled for an event is such a word
+of_word : (w : List Bool) (o : Option Event) (rest : List Bool) (x : Coefficient) → IsIn (w, o) tcoef_words → Spells (after_word o) x rest → IsEventWord (w ++ rest)
+unfolding Spells
+of_word w (Some e) rest x i s =
+    let rest-is : rest ≡ is_set s.0 0 ∷ [] = s.4 ∙ ap (λ (t : List Bool). spelled 1 s.0 ++ t) s.5.1 ∙ append-nil (spelled 1 s.0) ∙ one_bit s.0 in
+    inl (record { front = w; event = e; sign = is_set s.0 0; listed = i; parts = ap (λ (t : List Bool). w ++ t) rest-is })
+of_word w None rest x i s =
+    let a = s.5 in
+    let b = a.5 in
+    let free = allowed_level b.0 b.3 in
+    let tail : rest ≡ fields ((1, s.0) ∷ (6, a.0) ∷ (8, b.0) ∷ []) =
+    s.4 ∙ ap (λ (t : List Bool). spelled 1 s.0 ++ t) (a.4 ∙ ap (λ (t : List Bool). spelled 6 a.0 ++ t) (b.4 ∙ ap (λ (t : List Bool). spelled 8 b.0 ++ t) b.5.1)) in
+    inr (record { last = s.0; run = a.0; level = b.0; one = s.2; six = a.2; eight = b.2; some = free.0; great = free.1; parts = ap (λ (t : List Bool). t ++ rest) (none_is w i) ∙ ap (λ (t : List Bool). word "0000011" ++ t) tail })
+
+parts_word : (x : Coefficient) (text : List Bool) → Spells event_parts x text → IsEventWord text
+unfolding Spells event_parts
+parts_word x text h = subst (λ (t : List Bool). IsEventWord t) (sym h.4) (of_word h.0 h.1 h.2 x (in_list h.0 h.1 h.3) h.5)
+
+is_word : (x : Coefficient) (text : List Bool) → Spells event x text → IsEventWord text
+unfolding Spells event
+is_word x text h =
+    let whole : text ≡ h.1 = h.3 ∙ ap (λ (t : List Bool). h.1 ++ t) h.6.1 ∙ append-nil h.1 in
+    subst (λ (t : List Bool). IsEventWord t) (sym whole) (parts_word h.0 h.1 h.4)
+
+-- a bad escape begins no word, and no word begins it
+refused_level : (v : ℕ) → (v ≡ 0) ⊎ (v ≡ 128) → (v < 256) × (is_level v ≡ Some BadLevel)
+refused_level v (inl e) = (omega (arith, e), subst (λ (k : ℕ). is_level k ≡ Some BadLevel) (sym e) refl)
+refused_level v (inr e) = (omega (arith, e), subst (λ (k : ℕ). is_level k ≡ Some BadLevel) (sym e) refl)
+
+no_bad : (w more bits : List Bool) → IsEventWord w → bits ≡ w ++ more → IsBadEscape bits → ⊥
+no_bad w more bits is e r =
+    let s = word_spelt w is in
+    let v = refused_level r.level r.bad in
+    let good : reading event (record { at = 0; bits = w ++ more }) ≡ Ok (s.value, record { at = 0 + length w; bits = more }) = complete event s.value w more 0 event_productive s.spelt in
+    let bad : reading event (record { at = 0; bits = escape_text r.last r.run r.level ++ r.rest }) ≡ Err (record { kind = BadLevel; at = 0 + 0 }) = level_row r.last r.run r.level r.one r.six v.0 v.1 0 r.rest in
+    err_not_ok _ _ (sym bad ∙ ap (λ (t : List Bool). reading event (record { at = 0; bits = t })) (sym r.parts ∙ e) ∙ good)
+
+-- no word goes on from a bad escape
+cut_bad : (left : List Bool) → IsCutWord (λ w. IsEventWord w) left → IsBadEscape left → ⊥
+cut_bad left cut r =
+    let tail : List Bool = cut.1 ∷ cut.2 in
+    no_bad cut.0 [] (left ++ tail) cut.3 (sym cut.4 ∙ sym (append-nil cut.0)) (record { last = r.last; run = r.run; level = r.level; rest = r.rest ++ tail; one = r.one; six = r.six; bad = r.bad; parts = ap (λ (t : List Bool). t ++ tail) r.parts ∙ append_assoc (escape_text r.last r.run r.level) r.rest tail })
+
+no_cut : (left : List Bool) → IsNoWord (λ w. IsEventWord w) left → IsCutWord (λ w. IsEventWord w) left → ⊥
+no_cut left none cut = let two = none cut.0 cut.3 in two.1 (cut.1 ∷ cut.2) cut.4
+
+one_kind : (left : List Bool) (k l : FaultKind) → IsEventFault left k → IsEventFault left l → k ≡ l
+one_kind left k l (inl p) (inl q) = p.1 ∙ sym q.1
+one_kind left k l (inl p) (inr (inl q)) = absurd (cut_bad left p.0 q.0)
+one_kind left k l (inl p) (inr (inr q)) = absurd (no_cut left q.0 p.0)
+one_kind left k l (inr (inl p)) (inl q) = absurd (cut_bad left q.0 p.0)
+one_kind left k l (inr (inl p)) (inr (inl q)) = p.1 ∙ sym q.1
+one_kind left k l (inr (inl p)) (inr (inr q)) = absurd (q.1 p.0)
+one_kind left k l (inr (inr p)) (inl q) = absurd (no_cut left p.0 q.0)
+one_kind left k l (inr (inr p)) (inr (inl q)) = absurd (p.1 q.0)
+one_kind left k l (inr (inr p)) (inr (inr q)) = p.2 ∙ sym q.2
+
+-- bits that begin with a word have no fault
+not_read : (w more bits : List Bool) (kind : FaultKind) → IsEventWord w → bits ≡ w ++ more → IsEventFault bits kind → ⊥
+not_read w more bits kind is e (inl f) =
+    let cut = f.0 in
+    let tail : List Bool = cut.1 ∷ cut.2 in
+    let s = word_spelt w is in
+    let t = word_spelt cut.0 cut.3 in
+    let whole : w ++ (more ++ tail) ≡ cut.0 = sym (append_assoc w more tail) ∙ ap (λ (x : List Bool). x ++ tail) (sym e) ∙ sym cut.4 in
+    let same = one_reading event s.value t.value w cut.0 (more ++ tail) event_productive s.spelt t.spelt whole in
+    omega (arith, ap length whole, ap length same.0, length-append w (more ++ tail), length-append more tail)
+not_read w more bits kind is e (inr (inl f)) = no_bad w more bits is e f.0
+not_read w more bits kind is e (inr (inr f)) = let two = f.0 w is in two.0 more e
+
+-- An event isn't read exactly where it is cut inside a word or an escape, is a bad escape, or is none.
+pub event_faults_are : (b : Bits) (d : Fault) → (reading event b ≡ Err d) ↔ ((d.at ≡ b.at) × IsEventFault b.bits d.kind)
+event_faults_are b d = (λ e. event_fault b d e, λ h. at_reading (reading event b) refl h)
+  where
+    at_reading : (r : Result (Coefficient × Bits) Fault) → reading event b ≡ r → (d.at ≡ b.at) × IsEventFault b.bits d.kind → reading event b ≡ Err d
+    at_reading (Ok x) e h =
+        let t = sound event b x.1 x.0 e in
+        absurd (not_read t.0 x.1.bits b.bits d.kind (is_word x.0 t.0 t.2) t.1.parts h.1)
+    at_reading (Err c) e h =
+        let g = event_fault b c e in
+        let kind : c.kind ≡ d.kind = one_kind b.bits c.kind d.kind g.1 h.1 in
+        e ∙ ap (λ (k : FaultKind). err {A = Coefficient × Bits} (stands k c.at)) kind ∙ ap (λ (p : ℕ). err {A = Coefficient × Bits} (stands d.kind p)) (g.0 ∙ sym h.0)

@@ -89,7 +89,7 @@ unfolding event_table tcoef_words
 escape_in = in_behind (word "0000011", None) (from_runs false 0 last_0_texts) (from_runs true 0 last_1_texts ++ (word "0000011", None) ∷ []) (in_behind (word "0000011", None) (from_runs true 0 last_1_texts) ((word "0000011", None) ∷ []) (inl refl))
 
 -- the fields of an escape, up to a LEVEL that is refused
-level_row : (last run level : ℕ) → last < 2 → run < 64 → level < 256 → is_level level ≡ Some BadLevel → HasFault event (word "0000011" ++ fields ((1, last) ∷ (6, run) ∷ (8, level) ∷ [])) BadLevel 0
+pub level_row : (last run level : ℕ) → last < 2 → run < 64 → level < 256 → is_level level ≡ Some BadLevel → HasFault event (word "0000011" ++ fields ((1, last) ∷ (6, run) ∷ (8, level) ∷ [])) BadLevel 0
 unfolding event event_parts
 level_row last run level l r v refused =
     fault_in_element event_parts any done (word "0000011" ++ fields ((1, last) ∷ (6, run) ∷ (8, level) ∷ [])) BadLevel 14

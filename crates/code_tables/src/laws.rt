@@ -1,5 +1,5 @@
 //! Laws over the definitions alone.
-ghost use Rattle.std.specs.Prelude.{◌≡◌, ℕ, ℤ, ◌+◌, ◌++◌, List, [], ◌∷◌, Bool, length, map, Err};
+ghost use Rattle.std.specs.Prelude.{◌≡◌, ◌↔◌, ℕ, ℤ, ◌+◌, ◌++◌, List, [], ◌∷◌, Bool, length, map, Err};
 ghost use Rattle.h263_types.specs.declared.Kind.{Kind};
 ghost use Rattle.h263_bits.specs.declared.fault.Fault.{Fault};
 ghost use Rattle.h263_bits.specs.Reading.{Bits};
@@ -42,7 +42,7 @@ pub fn first_faults()
 /// first bit.
 pub fn event_faults()
     ensures { (b : Bits) (d : Fault)
-        → reading event b ≡ Err d → (d.at ≡ b.at) × IsEventFault b.bits d.kind }
+        → (reading event b ≡ Err d) ↔ ((d.at ≡ b.at) × IsEventFault b.bits d.kind) }
 {}
 
 /// What a syntax that has words of these tables in it needs to know of them.
