@@ -7,10 +7,8 @@ use Rattle.std.proofs.lemmas.List.FromFn.{length-map-range_with_len, get_or-map-
 use Rattle.std.proofs.lemmas.List.{get_or-take, get_or-drop}
 use Rattle.sad_kernel.specs.Differences.{differences}
 use Rattle.h263_types.specs.declared.vector.Vector.{Vector}
-use Rattle.h263_types.specs.Sizes.{columns_of}
 use Rattle.h263_planes.specs.Picture.{Picture}
 use Rattle.h263_planes.specs.declared.Plane.TheVariants.{Y}
-use Rattle.half_sample.specs.Prediction.{predicted_sample}
 use Rattle.motion_search.specs.declared.candidate.Candidate.{Candidate}
 use Rattle.h263_planes.specs.Samples.{sample_at}
 use Rattle.std.proofs.Math.ListN.{drop_of_length-le}

@@ -1,4 +1,4 @@
-use Rattle.std.proofs.Common.{◌≡◌, ◌≤◌, ◌<◌, ◌+◌, ◌*◌, ◌/◌, ◌%◌, ◌∙◌, ap, sym, subst, arith, cond, ℕ, Bool, false, pos, ◌-ℤ◌, ◌<ℤ◌}
+use Rattle.std.proofs.Common.{◌≡◌, ◌≤◌, ◌+◌, ◌*◌, ◌/◌, ◌%◌, ◌∙◌, ap, sym, subst, arith, cond, ℕ, Bool, false}
 use Rattle.std.proofs.lemmas.Int.{ints}
 use Rattle.h263_types.specs.Sizes.{columns_of}
 use Rattle.h263_planes.specs.Lent.{picture}
@@ -6,7 +6,7 @@ use Rattle.h263_planes.specs.declared.Plane.TheVariants.{Y}
 use Rattle.half_sample.specs.Prediction.{predicted_sample}
 use Rattle.motion_search.specs.declared.candidate.Candidate.{Candidate}
 use Rattle.motion_search.specs.Order.{before, first_of}
-use Rattle.motion_search.specs.Cost.{candidate_of, difference_of, predicted_of, lead_of, IsCost}
+use Rattle.motion_search.specs.Cost.{candidate_of, difference_of, predicted_of, IsCost}
 use Rattle.motion_search.specs.Rows.{rows_from}
 use Rattle.motion_search.proofs.Blocks.{all_predicted, costing, half_small, no_rows_of_two, quarter_small, quarters_add, two_rows_fall}
 use Rattle.motion_search.proofs.Orders.{dearer_not_before, first_has}
