@@ -1,5 +1,5 @@
 -- Where the levels of a block stand.
-use Rattle.std.proofs.Common.{◌≡◌, ℕ, zero, suc, ◌/◌, ◌<◌, ◌≤◌, ℤ, pos, min, List, [], ◌∷◌, get_or, slice_index, Bool, true, false, cond, nat_lt, refl, arith, lit<, ltb-true}
+use Rattle.std.proofs.Common.{◌≡◌, ℕ, zero, suc, ◌<◌, ◌≤◌, ℤ, pos, min, List, [], ◌∷◌, get_or, slice_index, Bool, true, false, cond, nat_lt, refl, arith, lit<, ltb-true}
 use Rattle.std.specs.List.{list_all}
 use Rattle.std.proofs.lemmas.Int.{ints}
 use Rattle.std.proofs.lemmas.Bool.{and_parts}

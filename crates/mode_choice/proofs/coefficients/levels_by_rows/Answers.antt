@@ -1,4 +1,4 @@
-use Rattle.std.proofs.Common.{◌≡◌, ◌∙◌, ap, arith, refl, subst, sym, ℕ, ◌<◌, ℤ, pos, get_or, length, length-set, to_z, of_z, w16, w32}
+use Rattle.std.proofs.Common.{◌≡◌, ◌∙◌, ap, arith, refl, subst, sym, ℕ, ◌<◌, ℤ, pos, get_or, length, length-set, to_z, of_z, w16}
 use Rattle.std.proofs.lemmas.List.Elements.{All-set, All-replicate}
 use Rattle.h263_types.specs.Blocks.{IsLevel}
 use Rattle.mode_choice.specs.Walk.{level_by}

@@ -1,11 +1,11 @@
-use Rattle.std.proofs.Common.{◌≡◌, ◌≢◌, ◌∙◌, ap, arith, refl, subst, sym, ℕ, ◌<◌, ◌≤◌, ℤ, min, pos, get_or, get_or-set_other, length, length-set, to_z, of_z, w16}
+use Rattle.std.proofs.Common.{◌≡◌, ◌≢◌, ◌∙◌, ap, arith, refl, subst, sym, ℕ, ◌<◌, ℤ, min, pos, get_or, get_or-set_other, length, length-set, to_z, of_z, w16}
 use Rattle.std.proofs.lemmas.List.{get_or-replicate}
 use Rattle.std.proofs.lemmas.List.Elements.{All-set, All-replicate}
 use Rattle.h263_types.specs.Blocks.{IsLevel}
 use Rattle.quantiser.specs.Zigzag.{block_place_of}
 use Rattle.mode_choice.specs.Walk.{level_by}
 use Rattle.mode_choice.proofs.Levels.{level_kept}
-use Rattle.mode_choice.proofs.Walk.{block_place_below, kept_or_none, zero_level}
+use Rattle.mode_choice.proofs.Walk.{kept_or_none, zero_level}
 use Rattle.mode_choice.proofs.coefficients.levels_in.Goals as goal
 
 pub loop-k-init : goal.loop-k-init

@@ -9,7 +9,7 @@ use Rattle.mode_choice.proofs.coefficients.levels_in.Given as goal
 abbrev pub invariant-loop-k : goal.invariant-loop-k
 invariant-loop-k l = record {
   long : length l.levels ≡ 64;
-  stand : (j : ℕ) → j < l.k → get_or l.levels j (pos 0) ≡ level_by l.coding l.quant (get_or l.coefficients (block_place_of j) (pos 0));
+  stand : (j : ℕ) → j < l.k → get_or l.levels j (pos 0) ≡ level_by l.fn.coding l.fn.quant (get_or l.coefficients (block_place_of j) (pos 0));
   none : (j : ℕ) → l.k ≤ j → j < 64 → get_or l.levels j (pos 0) ≡ pos 0;
   range : All IsLevel l.levels;
 }
