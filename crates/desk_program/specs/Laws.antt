@@ -41,19 +41,23 @@ pub record TurnLaws (State : Type 0) : Type 0 where
   pub refuses : (step : Step State) (status : Status) (inputs : Role → List ℕ) (old new : Outside) →
       step ≡ Ends (refusal status) → new.written ≡ old.written → Ended step status inputs old new
 
+-- where a run begins, just one state is kept in mind
+abbrev pub IsFrom : {State : Type 0} → State → State → (Role → List ℕ) → Type 0
+IsFrom from s rest = s ≡ from
+
 pub record RunLaws (State : Type 0) : Type 0 where
-  -- behind a start that goes on the run is under way
-  pub begins : (first : Step State) (step : State → (Role → List ℕ) → Step State) (reads : State → Bool)
-      (most : ℕ) (inputs : Role → List ℕ) (old new : Outside) (stands : State → (Role → List ℕ) → Type 0)
-      → Went first stands reads true inputs old new
-      → IsUnderWay step reads (run_from first step most inputs) inputs old.written stands most new
+  -- behind a start that goes on to some state the run is under way
+  pub begins : (from : State) (first : Step State) (step : State → (Role → List ℕ) → Step State)
+      (reads : State → Bool) (most : ℕ) (inputs : Role → List ℕ) (old new : Outside)
+      → Went first (IsFrom from) reads true inputs old new
+      → IsUnderWay step reads (run_from first step most inputs) inputs old.written (IsFrom from) most new
   -- a start that gives up has ended it
   pub gives_up : (first : Step State) (step : State → (Role → List ℕ) → Step State)
       (most : ℕ) (inputs : Role → List ℕ) (old new : Outside) (status : Status)
       → GivesUp (phase status) status first true inputs old new
       → HasEnded (run_from first step most inputs) silent status inputs old.written new
-  -- memory was refused to a run under way, and nothing was done since
-  pub no_memory : (step : State → (Role → List ℕ) → Step State) (reads : State → Bool) (run : Run)
-      (inputs : Role → List ℕ) (start : Role → Option (List ℕ)) (stands : State → (Role → List ℕ) → Type 0)
-      (more : ℕ) (now : Outside) → IsUnderWay step reads run inputs start stands more now
+  -- memory was refused to a run under way from some state, and nothing was done since
+  pub no_memory : (from : State) (step : State → (Role → List ℕ) → Step State) (reads : State → Bool)
+      (run : Run) (inputs : Role → List ℕ) (start : Role → Option (List ℕ)) (more : ℕ) (now : Outside)
+      → IsUnderWay step reads run inputs start (IsFrom from) more now
       → HasEnded run silent OutOfMemory inputs start now

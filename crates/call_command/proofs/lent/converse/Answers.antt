@@ -1,7 +1,7 @@
 use Rattle.std.proofs.Common.{[], ap, sym, rules}
 use Rattle.call_command.specs.declared.lent.World.{World}
-use Rattle.call_command.specs.Call.{call_step, may_read, most_turns}
-use Rattle.call_command.specs.Converse.{IsFirst, Names, talk_end}
+use Rattle.call_command.specs.Call.{call_step, first_state, may_read, most_turns}
+use Rattle.call_command.specs.Converse.{Names, talk_end}
 use Rattle.call_command.proofs.Conversing.{alone_under_way, ends_in, lent_first, lent_stand, under_way}
 use Rattle.call_command.proofs.lent.converse.Goals as goal
 
@@ -76,5 +76,5 @@ returns-in-Ok-clause-alone g c = λ run inputs start receives u.
 
 pub returns-in-Err-clause-alone : goal.returns-in-Err-clause-alone
 returns-in-Err-clause-alone g c = λ run inputs start receives u.
-    c.run_laws.ensures.no_memory call_step may_read run inputs start (IsFirst (record { params = c.args.params.now; plain = c.args.plain }) c.args.video.now.at) (most_turns c.args.plain)
+    c.run_laws.ensures.no_memory (first_state (record { params = c.args.params.now; plain = c.args.plain }) [] c.args.video.now.at) call_step may_read run inputs start (most_turns c.args.plain)
     (g.D.Desk.outside c.args.desk.now) u

@@ -2,12 +2,13 @@ use Rattle.std.proofs.Common.{refl}
 use Rattle.call_report.specs.declared.status.Status.TheVariants.{OutOfMemory}
 use Rattle.call_report.specs.Status.{phase}
 use Rattle.call_report.specs.Status.Phase.{starved}
+use Rattle.desk_program.specs.Laws.{IsFrom}
 use Rattle.desk_program.proofs.Running.{at_start, gives_up, started, stops}
 use Rattle.desk_program.proofs.laws.of_runs.Goals as goal
 
 pub returns : goal.returns
 returns g c = record {
-  begins = started;
+  begins = λ from first step reads most inputs old new w. started first step reads most inputs old new (IsFrom from) w;
   gives_up = λ first step most inputs old new status e. gives_up _ _ _ _ _ old new _ (at_start first step most inputs old) (phase status) status e;
-  no_memory = λ step reads run inputs start stands more now p. stops step reads run inputs start now now stands more p starved OutOfMemory refl;
+  no_memory = λ from step reads run inputs start more now p. stops step reads run inputs start now now (IsFrom from) more p starved OutOfMemory refl;
 }

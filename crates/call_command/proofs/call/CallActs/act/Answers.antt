@@ -1,7 +1,6 @@
 use Rattle.std.proofs.Common.{[]}
 use Rattle.desk_program.specs.Run.{behind, run_from}
-use Rattle.call_command.specs.Call.{call_begin, call_step, may_read, most_turns}
-use Rattle.call_command.specs.Converse.{IsFirst}
+use Rattle.call_command.specs.Call.{call_begin, call_step, first_state, may_read, most_turns}
 use Rattle.call_command.proofs.Acting.{later_stop, not_read_out}
 use Rattle.call_command.proofs.Counting.{cause_since, keeps_since}
 use Rattle.call_command.proofs.call.CallActs.act.Goals as goal
@@ -16,7 +15,7 @@ returns-in-Ok-clause-gives g c = λ inputs told.
     let old = outside c.args.desk.now in
     let mid = outside c.begin.new.desk in
     c.converse-status.ensures.alone (run_from first call_step most inputs) inputs old.written c.in-Ok.ensures.ready.receives
-    (c.run_laws.ensures.begins first call_step may_read most inputs old mid (IsFirst (record { params = begun.params; plain = t.plain }) begun.video.at) (c.in-Ok.ensures.gives inputs told))
+    (c.run_laws.ensures.begins (first_state (record { params = begun.params; plain = t.plain }) [] begun.video.at) first call_step may_read most inputs old mid (c.in-Ok.ensures.gives inputs told))
 
 pub returns-in-Err-clause-gives : goal.returns-in-Err-clause-gives
 returns-in-Err-clause-gives g c = λ inputs told.
