@@ -4,7 +4,7 @@ ghost use Rattle.h263_types.specs.Clocks.{period_of};
 ghost use Rattle.h263_types.specs.Params.{IsParams};
 ghost use Rattle.h263_types.specs.Sizes.{size_of_picture};
 ghost use Rattle.h263_planes.specs.Lent.{picture};
-ghost use Rattle.packet_cutter.specs.Cutting.{format_of, limit_of};
+ghost use Rattle.packet_cutter.specs.Cutting.{format_of, limit_of, packets_of};
 
 use crate::times::Stop;
 use h263_planes::{PictureMut, PictureRef};
@@ -63,8 +63,22 @@ impl Coder {
         }
     }
 
-    // Codes a picture by itself.
-    fn intra(&mut self, frame: PictureRef<'_>, number: u32)
+    /// How many packets the last picture has.
+    pub fn count(&self) -> u32
+        ensures { result ≡ length (packets_of self.now.cutter) }
+    {
+        self.cutter.count()
+    }
+
+    /// Packet `i` of the last picture.
+    pub fn packet(&self, i: u32) -> &[u8]
+        requires { i < length (packets_of self.now.cutter) }
+    {
+        self.cutter.packet(i)
+    }
+
+    /// Codes a picture by itself.
+    pub fn intra(&mut self, frame: PictureRef<'_>, number: u32)
         requires { (picture frame).format ≡ self.old.params.format }
         ensures { self.new.params ≡ self.old.params }
     {

@@ -1,14 +1,18 @@
-//! Times the parts of a call on the made video: `bench FRAMES [SLOTS]` codes, reads and plays so
-//! many frames in each format, with so many pictures kept at each end (16 if not told), and prints
-//! what a frame took in each part.
+//! Times the parts of a call on the made video: `bench FRAMES [SLOTS [RUNS [NOISE]]]` codes, reads
+//! and plays so many frames in each format, with so many pictures kept at each end (16 if not
+//! told), and prints what a frame took in each part: the least of so many runs (1 if not told).
+//! NOISE is the most that a made noise changes a sample by (0 if not told): without one hardly a
+//! block of a predicted picture is transformed.
 //!
 //! What is timed, in microseconds a frame: `code`, a picture coded whole ([`coding`]); `send`, the
 //! same by a sender; `read`, its packets read and reconstructed ([`reading`]); `receive`, the same
 //! by a receiver, with the play. So `send` over `code` and `receive` over `read` is what the ends
-//! add. Nothing is promised of these numbers. Of the code it is proved that it is safe.
+//! add. `call` is `send` and `receive` together; `code_intra` and `read_intra` are `code` and
+//! `read` where each picture is coded by itself. Nothing is promised of these numbers. Of the code
+//! it is proved that it is safe.
 #![tactic(auto)]
 
-ghost use Rattle.std.specs.Prelude.{◌≤◌, IfOk, IfSome};
+ghost use Rattle.std.specs.Prelude.{◌≤◌, IfSome};
 ghost use Rattle.h263_types.specs.Params.{IsParams};
 
 mod coding;
@@ -22,13 +26,18 @@ use h263_types::{Format, Params};
 use runs::run;
 use std::process::ExitCode;
 use std::{env, io};
-use times::Stop;
+use times::{Stop, Times};
+use video::Video;
 
-// What is asked for: so many frames, and so many pictures kept at each end.
+// What is asked for: so many frames, so many pictures kept at each end, so many runs, and a noise.
 #[derive(Clone, Copy, Debug, PartialEq, Eq)]
 struct Words {
     frames: u32,
     slots: u32,
+    runs: u32,
+    noise: u8,
+    ghost few: { frames ≤ 100000 },
+    ghost least: { noise ≤ 64 },
 }
 
 // A number of a word, where there is one; else a default.
@@ -45,16 +54,26 @@ fn number(word: Option<String>, default: Option<u32>, most: u32) -> Option<u32>
     }
 }
 
-fn asked(rt: &HostRuntime) -> io::Result<Option<Words>>
-    ensures { IfOk result (λ asked. IfSome asked (λ asked. asked.frames ≤ 100000)) }
-{
+fn asked(rt: &HostRuntime) -> io::Result<Option<Words>> {
     let mut words = env::args(rt)?.skip(1);
-    let frames = number(words.next(), None, 100_000);
-    let slots = number(words.next(), Some(16), 64);
-    match (frames, slots) {
-        (Some(frames), Some(slots)) => Ok(Some(Words { frames, slots })),
-        _ => Ok(None),
-    }
+    let Some(frames) = number(words.next(), None, 100_000) else {
+        return Ok(None);
+    };
+    let Some(slots) = number(words.next(), Some(16), 64) else {
+        return Ok(None);
+    };
+    let Some(runs) = number(words.next(), Some(1), 1000) else {
+        return Ok(None);
+    };
+    let Some(noise) = number(words.next(), Some(0), 64) else {
+        return Ok(None);
+    };
+    Ok(Some(Words {
+        frames,
+        slots,
+        runs,
+        noise: noise as u8,
+    }))
 }
 
 // The parameters of a format, where so many pictures are kept.
@@ -72,14 +91,31 @@ fn params_of(format: Format, slots: u32) -> Option<Params>
     }
 }
 
+// The least times of all runs.
+fn least(rt: &HostRuntime, params: &Params, asked: Words) -> Result<Times, Stop>
+    requires { IsParams params.now }
+{
+    let video = Video {
+        format: params.format,
+        noise: asked.noise,
+    };
+    let mut times = run(rt, params, video, asked.frames)?;
+    'runs: for _ in 1..asked.runs {
+        times = times.least(&run(rt, params, video, asked.frames)?);
+    }
+    Ok(times)
+}
+
 fn bench(rt: &HostRuntime) -> Result<(), Stop> {
     let Some(asked) = asked(rt)? else {
-        println!(rt; "usage: bench FRAMES [SLOTS] (100000 and 64 at most)")?;
+        println!(rt;
+            "usage: bench FRAMES [SLOTS [RUNS [NOISE]]] (100000, 64, 1000 and 64 at most)"
+        )?;
         return Ok(());
     };
     for format in [Format::SubQcif, Format::Qcif, Format::Cif] {
         if let Some(params) = params_of(format, asked.slots) {
-            let times = run(rt, &params, asked.frames)?;
+            let times = least(rt, &params, asked)?;
             println!(rt; "{times}")?;
         }
     }

@@ -1,16 +1,50 @@
 //! Packets read and reconstructed, with no receiver around it.
-ghost use Rattle.std.specs.Prelude.{◌≡◌, IfOk, length};
+ghost use Rattle.std.specs.Prelude.{◌≡◌, length};
 ghost use Rattle.h263_types.specs.declared.Kind.TheVariants.{I};
-ghost use Rattle.h263_types.specs.Sizes.{mbs_of, size_of_picture};
+ghost use Rattle.h263_types.specs.Sizes.{mbs_of};
 ghost use Rattle.packet_collector.specs.Filled.{IsPieceIn};
 
 use crate::times::Stop;
+use h263_outside::OutOfMemory;
 use h263_planes::{PictureMut, PictureRef};
 use h263_types::{Format, Kind, Mb};
 use packet_collector::{Piece, read_packet};
 use picture_recon::recon_slice;
 use std::alloc::Global;
 use std::mem;
+
+// Pictures that were read before, of which the oldest is taken for the next one.
+#[derive(Drop)]
+struct Ring {
+    pictures: Vec<Vec<u8>>,
+    oldest: usize,
+}
+
+impl Ring {
+    // So many empty pictures.
+    fn start(alloc: Global, size: usize, count: u32) -> Result<Ring, OutOfMemory> {
+        let mut pictures = Vec::new(alloc);
+        'pictures: for _ in 0..count {
+            pictures.push(vec![in alloc; 0; size]?)?;
+        }
+        Ok(Ring {
+            pictures,
+            oldest: 0,
+        })
+    }
+
+    // Puts a picture into the place of the oldest one, and takes that one.
+    fn turn(&mut self, picture: &mut Vec<u8>) {
+        let mut at = self.oldest;
+        if at >= self.pictures.len() {
+            at = 0;
+        }
+        if at < self.pictures.len() {
+            mem::swap(&mut self.pictures[at], picture);
+            self.oldest = at + 1;
+        }
+    }
+}
 
 /// Reads pictures one after the other, each from the one before.
 #[derive(Drop)]
@@ -20,26 +54,28 @@ pub struct Reader {
     /// The samples of the last two pictures.
     last: Vec<u8>,
     work: Vec<u8>,
+    /// Those of the others.
+    ring: Ring,
     ghost room: { length mbs.items ≡ mbs_of format },
-    ghost whole_last: { length last.items ≡ size_of_picture format },
-    ghost whole_work: { length work.items ≡ size_of_picture format },
 }
 
 impl Reader {
-    /// A reader before its first picture.
-    pub fn start(alloc: Global, format: Format) -> Result<Reader, Stop> {
+    /// A reader before its first picture, which goes through so many pictures, 2 at least.
+    pub fn start(alloc: Global, format: Format, pictures: u32) -> Result<Reader, Stop> {
         let size = format.size() as usize;
         Ok(Reader {
             format,
             mbs: vec![in alloc; Mb::Skip; format.mbs() as usize]?,
             last: vec![in alloc; 0; size]?,
             work: vec![in alloc; 0; size]?,
+            ring: Ring::start(alloc, size, pictures.saturating_sub(2))?,
         })
     }
 
     /// The packets of the next picture follow.
     pub fn begin(&mut self) {
         mem::swap(&mut self.last, &mut self.work);
+        self.ring.turn(&mut self.work);
     }
 
     /// Reads a packet and reconstructs its slice. A packet with a fault changes no picture.
@@ -59,13 +95,18 @@ impl Reader {
     }
 }
 
+// Both pictures have the format's size.
 fn set_predicted(format: Format, mbs: &[Mb], piece: &Piece, reference: &[u8], bytes: &mut [u8])
     requires mbs { length mbs.now ≡ mbs_of format }
     requires piece { IsPieceIn format mbs.now piece.now }
-    requires reference { length reference.now ≡ size_of_picture format }
-    requires bytes { length bytes.old ≡ size_of_picture format }
-    ensures { length bytes.new ≡ size_of_picture format }
 {
+    let size = format.size() as usize;
+    if reference.len() != size {
+        return;
+    }
+    if bytes.len() != size {
+        return;
+    }
     let reference = PictureRef::new(format, reference);
     let mut picture = PictureMut::new(format, bytes);
     recon_slice(
@@ -77,13 +118,15 @@ fn set_predicted(format: Format, mbs: &[Mb], piece: &Piece, reference: &[u8], by
     );
 }
 
+// The picture has the format's size.
 fn set_intra(format: Format, mbs: &[Mb], piece: &Piece, bytes: &mut [u8])
     requires mbs { length mbs.now ≡ mbs_of format }
     requires piece { IsPieceIn format mbs.now piece.now }
     requires intra { piece.now.header.kind ≡ I }
-    requires bytes { length bytes.old ≡ size_of_picture format }
-    ensures { length bytes.new ≡ size_of_picture format }
 {
+    if bytes.len() != format.size() as usize {
+        return;
+    }
     let mut picture = PictureMut::new(format, bytes);
     recon_slice(mbs, piece.head, &piece.header, None, &mut picture);
 }

@@ -1,4 +1,5 @@
-//! A call of the made video in which nothing is lost: its packets and messages.
+//! A call of the made video in which nothing is lost: its packets and messages; and the packets of
+//! its frames where each is coded by itself.
 ghost use Rattle.std.specs.Prelude.{◌≡◌, ◌+◌, ◌^◌, ◌<◌, ◌≤◌, IfOk, length};
 ghost use Rattle.h263_types.specs.Params.{IsParams};
 ghost use Rattle.h263_types.specs.Sizes.{size_of_picture};
@@ -6,8 +7,9 @@ ghost use Rattle.h263_planes.specs.Lent.{picture};
 ghost use Rattle.packet_cutter.specs.Cutting.{packets_of};
 ghost use Rattle.sender_end.specs.Stands.{IsReady};
 
+use crate::coding::Coder;
 use crate::times::Stop;
-use crate::video::make;
+use crate::video::{Video, make};
 use back_messages::Said;
 use h263_outside::OutOfMemory;
 use h263_planes::PictureRef;
@@ -148,22 +150,22 @@ fn deliver(
 fn pass_all(
     alloc: Global,
     ends: &mut Ends,
-    params: &Params,
+    video: Video,
     frames: u32,
     samples: &mut [u8],
 ) -> Result<Vec<Passed>, OutOfMemory>
     requires ready { IsReady ends.old.sender.state }
-    requires params { ends.old.sender.state.params ≡ params.now }
+    requires format { video.format ≡ ends.old.sender.state.params.format }
     requires frames { frames ≤ 100000 }
     requires sent { ends.old.sender.state.sent ≡ 0 }
     requires played { ends.old.receiver.played ≡ 0 }
-    requires size { length samples.old ≡ size_of_picture params.now.format }
+    requires size { length samples.old ≡ size_of_picture video.format }
     ensures { length samples.new ≡ length samples.old }
 {
     let mut pictures = Vec::new(alloc);
     'frames: for number in 0..frames {
-        make(params.format, number, samples);
-        let frame = PictureRef::new(params.format, samples);
+        make(video, number, samples);
+        let frame = PictureRef::new(video.format, samples);
         let passed = ends.pass(alloc, frame)?;
         pictures.push(passed)?;
     }
@@ -174,20 +176,64 @@ fn pass_all(
 pub fn record(
     alloc: Global,
     params: &Params,
+    video: Video,
     frames: u32,
     samples: &mut [u8],
 ) -> Result<Recorded, Stop>
     requires params { IsParams params.now }
+    requires format { video.format ≡ params.now.format }
     requires frames { frames ≤ 100000 }
     requires size { length samples.old ≡ size_of_picture params.now.format }
     ensures size { length samples.new ≡ length samples.old }
     ensures frames { IfOk result (λ recorded. recorded.frames ≡ frames) }
 {
     let mut ends = Ends::start(alloc, params)?;
-    let pictures = pass_all(alloc, &mut ends, params, frames, samples);
+    let pictures = pass_all(alloc, &mut ends, video, frames, samples);
     ends.finish();
     Ok(Recorded {
         frames,
         pictures: pictures?,
     })
+}
+
+// The packets of the last picture.
+fn packets_of_last(alloc: Global, coder: &Coder) -> Result<Vec<Vec<u8>>, OutOfMemory> {
+    let mut packets = Vec::new(alloc);
+    'packets: for i in 0..coder.count() {
+        packets.push(Vec::from_slice(alloc, coder.packet(i))?)?;
+    }
+    Ok(packets)
+}
+
+// Adds the packets of a picture that no message is about.
+fn add(pictures: &mut Vec<Passed>, packets: Vec<Vec<u8>>) -> Result<(), OutOfMemory> {
+    pictures.push(Passed {
+        packets,
+        said: None,
+    })?;
+    Ok(())
+}
+
+/// Records the packets of so many frames, each coded by itself.
+pub fn record_stills(
+    alloc: Global,
+    params: &Params,
+    video: Video,
+    frames: u32,
+    samples: &mut [u8],
+) -> Result<Recorded, Stop>
+    requires params { IsParams params.now }
+    requires format { video.format ≡ params.now.format }
+    requires size { length samples.old ≡ size_of_picture params.now.format }
+    ensures { length samples.new ≡ length samples.old }
+{
+    let mut coder = Coder::start(alloc, params)?;
+    let mut pictures = Vec::new(alloc);
+    'frames: for number in 0..frames {
+        make(video, number, samples);
+        coder.intra(PictureRef::new(video.format, samples), number);
+        let packets = packets_of_last(alloc, &coder)?;
+        add(&mut pictures, packets)?;
+    }
+    Ok(Recorded { frames, pictures })
 }

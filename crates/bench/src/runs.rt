@@ -7,12 +7,12 @@ ghost use Rattle.sender_end.specs.Stands.{IsReady};
 
 use crate::coding::Coder;
 use crate::reading::Reader;
-use crate::recording::{Recorded, record};
+use crate::recording::{Recorded, record, record_stills};
 use crate::times::{Stop, Times, add_since};
-use crate::video::make;
+use crate::video::{Video, make};
 use back_messages::Said;
 use h263_planes::PictureRef;
-use h263_types::{FixedPace, Format, Params};
+use h263_types::{FixedPace, Params};
 use receiver_end::Receiver;
 use sender_end::Sender;
 use std::io;
@@ -46,20 +46,20 @@ fn send_frame(
 fn send_frames(
     rt: &HostRuntime,
     sender: &mut Sender<FixedPace>,
-    format: Format,
+    video: Video,
     recorded: &Recorded,
     samples: &mut [u8],
     sum: &mut u64,
 ) -> io::Result<()>
     requires ready { IsReady sender.old.state }
     requires sent { sender.old.state.sent ≡ 0 }
-    requires format { format ≡ sender.old.state.params.format }
+    requires format { video.format ≡ sender.old.state.params.format }
     requires frames { recorded.now.frames ≤ 100000 }
-    requires size { length samples.old ≡ size_of_picture format }
+    requires size { length samples.old ≡ size_of_picture video.format }
 {
     'frames: for number in 0..recorded.frames {
-        make(format, number, samples);
-        let frame = PictureRef::new(format, samples);
+        make(video, number, samples);
+        let frame = PictureRef::new(video.format, samples);
         send_frame(rt, sender, frame, recorded.said(number), sum)?;
     }
     Ok(())
@@ -69,10 +69,12 @@ fn send_frames(
 fn send(
     rt: &HostRuntime,
     params: &Params,
+    video: Video,
     recorded: &Recorded,
     samples: &mut [u8],
 ) -> Result<u64, Stop>
     requires params { IsParams params.now }
+    requires format { video.format ≡ params.now.format }
     requires frames { recorded.now.frames ≤ 100000 }
     requires size { length samples.old ≡ size_of_picture params.now.format }
     ensures { length samples.new ≡ length samples.old }
@@ -82,25 +84,57 @@ fn send(
     };
     let mut sender = Sender::start(rt.alloc(), params, pace)?;
     let mut sum = 0;
-    let done = send_frames(rt, &mut sender, params.format, recorded, samples, &mut sum);
+    let done = send_frames(rt, &mut sender, video, recorded, samples, &mut sum);
     sender.finish();
     done?;
     Ok(sum)
 }
 
 // The time of the same pictures with no sender around it.
-fn code(rt: &HostRuntime, params: &Params, frames: u32, samples: &mut [u8]) -> Result<u64, Stop>
+fn code(
+    rt: &HostRuntime,
+    params: &Params,
+    video: Video,
+    frames: u32,
+    samples: &mut [u8],
+) -> Result<u64, Stop>
     requires params { IsParams params.now }
+    requires format { video.format ≡ params.now.format }
     requires size { length samples.old ≡ size_of_picture params.now.format }
     ensures { length samples.new ≡ length samples.old }
 {
     let mut coder = Coder::start(rt.alloc(), params)?;
     let mut sum = 0;
     'frames: for number in 0..frames {
-        make(params.format, number, samples);
-        let frame = PictureRef::new(params.format, samples);
+        make(video, number, samples);
+        let frame = PictureRef::new(video.format, samples);
         let begin = Instant::now(rt)?;
         coder.code(frame, number);
+        add_since(rt, &begin, &mut sum)?;
+    }
+    Ok(sum)
+}
+
+// The time of the same pictures where each is coded by itself.
+fn code_intra(
+    rt: &HostRuntime,
+    params: &Params,
+    video: Video,
+    frames: u32,
+    samples: &mut [u8],
+) -> Result<u64, Stop>
+    requires params { IsParams params.now }
+    requires format { video.format ≡ params.now.format }
+    requires size { length samples.old ≡ size_of_picture params.now.format }
+    ensures { length samples.new ≡ length samples.old }
+{
+    let mut coder = Coder::start(rt.alloc(), params)?;
+    let mut sum = 0;
+    'frames: for number in 0..frames {
+        make(video, number, samples);
+        let frame = PictureRef::new(video.format, samples);
+        let begin = Instant::now(rt)?;
+        coder.intra(frame, number);
         add_since(rt, &begin, &mut sum)?;
     }
     Ok(sum)
@@ -156,9 +190,11 @@ fn read_all(reader: &mut Reader, packets: &[Vec<u8>]) {
     }
 }
 
-// The time of the same packets with no receiver around it.
-fn read(rt: &HostRuntime, format: Format, recorded: &Recorded) -> Result<u64, Stop> {
-    let mut reader = Reader::start(rt.alloc(), format)?;
+// The time of the same packets with no receiver around it. As many pictures are gone through as a
+// receiver has, so that both write to memory as far away.
+fn read(rt: &HostRuntime, params: &Params, recorded: &Recorded) -> Result<u64, Stop> {
+    let pictures = params.slots.saturating_add(params.lead).saturating_add(2);
+    let mut reader = Reader::start(rt.alloc(), params.format, pictures)?;
     let mut sum = 0;
     'frames: for number in 0..recorded.frames {
         let packets = recorded.packets(number);
@@ -170,20 +206,23 @@ fn read(rt: &HostRuntime, format: Format, recorded: &Recorded) -> Result<u64, St
 }
 
 /// What so many frames of the made video take, each picture known before the next one is coded.
-pub fn run(rt: &HostRuntime, params: &Params, frames: u32) -> Result<Times, Stop>
+pub fn run(rt: &HostRuntime, params: &Params, video: Video, frames: u32) -> Result<Times, Stop>
     requires params { IsParams params.now }
+    requires format { video.format ≡ params.now.format }
     requires frames { frames ≤ 100000 }
 {
-    let format = params.format;
-    let mut samples = vec![in rt.alloc(); 0; format.size() as usize]?;
-    let recorded = record(rt.alloc(), params, frames, &mut samples)?;
+    let mut samples = vec![in rt.alloc(); 0; params.format.size() as usize]?;
+    let recorded = record(rt.alloc(), params, video, frames, &mut samples)?;
+    let stills = record_stills(rt.alloc(), params, video, frames, &mut samples)?;
     Ok(Times {
-        format,
+        format: params.format,
         frames,
         bytes: recorded.bytes(),
-        code: code(rt, params, frames, &mut samples)?,
-        send: send(rt, params, &recorded, &mut samples)?,
-        read: read(rt, format, &recorded)?,
+        code: code(rt, params, video, frames, &mut samples)?,
+        send: send(rt, params, video, &recorded, &mut samples)?,
+        read: read(rt, params, &recorded)?,
         receive: receive(rt, params, &recorded)?,
+        code_intra: code_intra(rt, params, video, frames, &mut samples)?,
+        read_intra: read(rt, params, &stills)?,
     })
 }

@@ -47,6 +47,26 @@ pub struct Times {
     pub send: u64,
     pub read: u64,
     pub receive: u64,
+    /// The same as `code` and `read` where each picture is coded by itself.
+    pub code_intra: u64,
+    pub read_intra: u64,
+}
+
+impl Times {
+    /// The least time of each part in two runs over the same frames.
+    pub fn least(&self, other: &Times) -> Times {
+        Times {
+            format: self.format,
+            frames: self.frames,
+            bytes: self.bytes,
+            code: self.code.min(other.code),
+            send: self.send.min(other.send),
+            read: self.read.min(other.read),
+            receive: self.receive.min(other.receive),
+            code_intra: self.code_intra.min(other.code_intra),
+            read_intra: self.read_intra.min(other.read_intra),
+        }
+    }
 }
 
 /// The time since `begin`, in nanoseconds, is added to a sum.
@@ -72,12 +92,15 @@ impl Display for Times {
         let frames = self.frames;
         write!(
             f,
-            " bytes {} code {} send {} read {} receive {}",
+            " bytes {} code {} send {} read {} receive {} call {} code_intra {} read_intra {}",
             self.bytes / frames as u64,
             micros(self.code, frames),
             micros(self.send, frames),
             micros(self.read, frames),
             micros(self.receive, frames),
+            micros(self.send.saturating_add(self.receive), frames),
+            micros(self.code_intra, frames),
+            micros(self.read_intra, frames),
         )
     }
 }

@@ -7,8 +7,8 @@ use Rattle.bench.proofs.recording.pass_all.Given as goal
 abbrev pub invariant-frames : goal.invariant-frames
 invariant-frames l = record {
   ready : IsReady l.ends.sender.state;
-  params : l.ends.sender.state.params ≡ l.fn.params;
+  format : l.video.format ≡ l.ends.sender.state.params.format;
   sent : l.ends.sender.state.sent ≡ l.number;
   played : l.ends.receiver.played ≡ l.number;
-  size : length l.samples ≡ size_of_picture l.fn.params.format;
+  size : length l.samples ≡ size_of_picture l.video.format;
 }

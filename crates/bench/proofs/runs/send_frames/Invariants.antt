@@ -8,6 +8,6 @@ abbrev pub invariant-frames : goal.invariant-frames
 invariant-frames l = record {
   ready : IsReady l.sender.state;
   sent : l.sender.state.sent ≡ l.number;
-  format : l.format ≡ l.sender.state.params.format;
-  size : length l.samples ≡ size_of_picture l.format;
+  format : l.video.format ≡ l.sender.state.params.format;
+  size : length l.samples ≡ size_of_picture l.video.format;
 }
