@@ -92,21 +92,21 @@ class Sweep:
         return Point(quant, joined.bytes_of_packets(call), self._psnr(_samples_of(call.file("shown.y4m"))), exact)
 
     def _run_plain(self, every: int, lines: list[str], quant: int) -> Point:
-        stream = self._plain_stream(quant, every)
+        stream = _plain_stream(self.call.video, self.size, quant, every, self.call.room)
         arrived = [f"D {number}.*" in lines for number in range(self.pictures)]
         shown = list(plain.shown_of(stream, arrived, self.size, self.call.room))
         # Exact: it came, and is what a decoder shows that missed nothing.
         exact = sum(came and one == other for came, one, other in zip(arrived, shown, stream.shown))
         return Point(quant, stream.bytes, self._psnr(shown), exact / self.pictures)
 
-    @cache
-    def _plain_stream(self, quant: int, every: int) -> plain.PlainStream:
-        return plain.coded(self.call.video, self.size, quant, every, self.call.room)
-
     def _psnr(self, shown: Iterable[bytes]) -> float:
         """PSNR of Y over all pictures."""
         pairs = zip(_samples_of(self.call.video), shown)
         return sum((quality.errors_between(self.size, a, b) for a, b in pairs), quality.NO_ERRORS).psnr()[0]
+
+
+# Losses change nothing of what a plain coder sends.
+_plain_stream = cache(plain.coded)
 
 
 def _samples_of(path: Path) -> Iterator[bytes]:
