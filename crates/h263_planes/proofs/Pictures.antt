@@ -90,7 +90,7 @@ sets_in_plane f plane (v ∷ vs) bytes i h =
 pub run_inside : (w h x y n : ℕ) → x + n ≤ w → y < h → w * y + x + n ≤ w * h
 run_inside w h x y n hx hy = let more : w * suc y ≤ w * h = mul-le-mul_left w hy in omega (arith, more)
 
-plane_fits : (f : Format) (plane : Plane) → offset_of f plane + width_in f plane * height_in f plane ≤ size_of_picture f
+pub plane_fits : (f : Format) (plane : Plane) → offset_of f plane + width_in f plane * height_in f plane ≤ size_of_picture f
 plane_fits SubQcif Y = lit≤ tt
 plane_fits SubQcif Cb = lit≤ tt
 plane_fits SubQcif Cr = lit≤ tt
@@ -108,19 +108,19 @@ put_mid_sets at vs bytes h =
     ∙ sym (sets-eq vs bytes at h)
 
 -- what a copy into a part of the bytes leaves
-pub put_row : (f : Format) (plane : Plane) (vs bytes : List ℕ) (x y : ℕ) → length bytes ≡ size_of_picture f → x + length vs ≤ width_in f plane → y < height_in f plane →
-    let at : ℕ = offset_of f plane + width_in f plane * y + x in
-    picture_of f (put_mid at (at + length vs - at) bytes vs) ≡ with_samples (picture_of f bytes) plane x y vs
-put_row f plane vs bytes x y whole hx hy =
-    let i : ℕ = width_in f plane * y + x in
-    let at : ℕ = offset_of f plane + width_in f plane * y + x in
-    let inside : i + length vs ≤ width_in f plane * height_in f plane = run_inside (width_in f plane) (height_in f plane) x y (length vs) hx hy in
-    let e : at ≡ offset_of f plane + i = add_assoc (offset_of f plane) (width_in f plane * y) x in
-    let room : at + length vs ≤ length bytes = omega (arith, plane_fits f plane) in
+pub put_part : (at : ℕ) (vs bytes new : List ℕ) → at + length vs ≤ length bytes → new ≡ vs → put_mid at (at + length vs - at) bytes new ≡ sets bytes at vs
+put_part at vs bytes new h e =
     let n : at + length vs - at ≡ length vs = omega arith in
-    let left : put_mid at (at + length vs - at) bytes vs ≡ sets bytes at vs =
-    ap (λ k. put_mid at k bytes vs) n ∙ put_mid_sets at vs bytes room in
-    ap (picture_of f) left ∙ ap (λ k. picture_of f (sets bytes k vs)) e ∙ sets_in_plane f plane vs bytes i inside
+    ap (λ (l : List ℕ). put_mid at (at + length vs - at) bytes l) e ∙ ap (λ (k : ℕ). put_mid at k bytes vs) n ∙ put_mid_sets at vs bytes h
+
+-- what a run of samples leaves
+pub put_row : (f : Format) (plane : Plane) (vs bytes : List ℕ) (at x y : ℕ) → at ≡ offset_of f plane + width_in f plane * y + x → x + length vs ≤ width_in f plane → y < height_in f plane →
+    picture_of f (sets bytes at vs) ≡ with_samples (picture_of f bytes) plane x y vs
+put_row f plane vs bytes at x y e hx hy =
+    let i : ℕ = width_in f plane * y + x in
+    let inside : i + length vs ≤ width_in f plane * height_in f plane = run_inside (width_in f plane) (height_in f plane) x y (length vs) hx hy in
+    let place : at ≡ offset_of f plane + i = e ∙ add_assoc (offset_of f plane) (width_in f plane * y) x in
+    ap (λ k. picture_of f (sets bytes k vs)) place ∙ sets_in_plane f plane vs bytes i inside
 
 -- each sample of a picture in which a run was written
 run_sample : (p : Picture) (plane other : Plane) (run : List ℕ) (x y i j : ℕ) → x + length run ≤ width_in p.format plane → i < width_in p.format other →

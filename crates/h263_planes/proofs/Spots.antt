@@ -1,5 +1,5 @@
 -- The numbers of the samples.
-use Rattle.std.proofs.Common.{◌≡◌, ℕ, ◌+◌, ◌*◌, ◌-◌, ◌/◌, ◌%◌, ◌<◌, ◌≤◌, ltb, refl, ap, sym, ◌∙◌, subst, arith, inl, inr, ◌⊎◌, mul_comm, lit<}
+use Rattle.std.proofs.Common.{◌≡◌, ℕ, ◌+◌, ◌*◌, ◌-◌, ◌/◌, ◌%◌, ◌<◌, ◌≤◌, refl, ap, sym, ◌∙◌, subst, arith, inl, inr, mul_comm, lit<}
 use Rattle.std.proofs.Math.Nat.{div-lt_iff_lt-mul, mod-lt}
 use Rattle.std.proofs.lemmas.Nat.{div-mul-add, mod-mul-add}
 use Rattle.std.proofs.lemmas.Bool.{lt-ltb, le-ltb, cases_lt}
@@ -11,7 +11,7 @@ use Rattle.h263_planes.specs.declared.Plane.TheVariants.{Y, Cb, Cr}
 use Rattle.h263_planes.specs.Blocks.{mb_of}
 use Rattle.h263_planes.specs.Layout.{width_in, height_in, offset_of}
 use Rattle.h263_planes.specs.Picture.{Picture}
-use Rattle.h263_planes.specs.Samples.{Inside, IsPicture, sample_at}
+use Rattle.h263_planes.specs.Samples.{Inside, IsWhole, sample_at}
 use Rattle.h263_planes.specs.Given.{picture_with}
 use Rattle.h263_planes.proofs.Pictures.{run_inside, chroma_fits}
 use Rattle.h263_planes.proofs.Givens.{format_with, whole_with, sample_with, only_with}
@@ -117,7 +117,7 @@ owner_is : (f : Format) (plane : Plane) (x y : ℕ) → Inside f plane x y 1 →
 owner_is f plane x y i = ap (λ (p : Spot). mb_of f p.plane p.x p.y) (spot_is f plane x y i)
 
 -- a whole picture is made of given samples where it has them
-is_made : (f : Format) (p : Picture) (g : ℕ → ℕ) → p.format ≡ f → IsPicture p → ((s : ℕ) → owner_of f s < mbs_of f → sample_of p (spot f s) ≡ g s) → p ≡ picture_by f g
+is_made : (f : Format) (p : Picture) (g : ℕ → ℕ) → p.format ≡ f → IsWhole p → ((s : ℕ) → owner_of f s < mbs_of f → sample_of p (spot f s) ≡ g s) → p ≡ picture_by f g
 is_made f p g format whole same =
     subst (λ (k : Format). ((plane : Plane) (x y : ℕ) → Inside k plane x y 1 → sample_at p plane x y ≡ g (number_at f plane x y)) → p ≡ picture_with k (λ plane x y. g (number_at f plane x y))) format
     (only_with p (λ plane x y. g (number_at f plane x y)) whole)

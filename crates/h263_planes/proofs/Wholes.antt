@@ -1,5 +1,5 @@
 -- A picture, its samples and its bytes.
-use Rattle.std.proofs.Common.{◌≡◌, ℕ, ◌+◌, ◌*◌, ◌-◌, ◌/◌, ◌%◌, ◌<◌, ◌≤◌, List, [], ◌++◌, length, get_or, take, drop, ap, ◌∙◌, arith, subst, sym, append_assoc, length-append, length-drop, lit<, slice_range}
+use Rattle.std.proofs.Common.{◌≡◌, ℕ, zero, suc, ◌+◌, ◌*◌, ◌-◌, ◌/◌, ◌%◌, ◌<◌, ◌≤◌, List, [], ◌∷◌, ◌++◌, length, get_or, take, drop, ap, ◌∙◌, arith, subst, sym, append_assoc, length-append, length-drop, lit<, slice_range}
 use Rattle.std.proofs.Math.Seq.{take-add, drop-append_seam, take-append_seam}
 use Rattle.std.proofs.Math.Nat.{div-lt_iff_lt-mul}
 use Rattle.std.proofs.lemmas.List.{take-append-drop, take_all, append-nil}
@@ -11,7 +11,7 @@ use Rattle.h263_planes.specs.declared.Plane.{Plane}
 use Rattle.h263_planes.specs.declared.Plane.TheVariants.{Y, Cb, Cr}
 use Rattle.h263_planes.specs.Picture.{Picture}
 use Rattle.h263_planes.specs.Layout.{picture_of, offset_of, width_in, height_in}
-use Rattle.h263_planes.specs.Samples.{IsPicture, HasSameSamples, plane_of, sample_at, bytes_of}
+use Rattle.h263_planes.specs.Samples.{IsWhole, IsPicture, AreSamples, HasSameSamples, plane_of, sample_at, bytes_of}
 use Rattle.h263_planes.proofs.Pictures.{plane_long, same_planes, chroma_fits}
 
 -- ---- samples
@@ -38,7 +38,7 @@ same_rows w h a b some ea eb same =
     let here : get_or a (w * (k / w) + k % w) 0 ≡ get_or b (w * (k / w) + k % w) 0 = same (k % w) (k / w) (omega arith) row in
     subst (λ (i : ℕ). get_or a i 0 ≡ get_or b i 0) e here)
 
-same_plane_lists : (p q : Picture) (plane : Plane) → IsPicture p → IsPicture q → p.format ≡ q.format → HasSameSamples p q → plane_of p plane ≡ plane_of q plane
+same_plane_lists : (p q : Picture) (plane : Plane) → IsWhole p → IsWhole q → p.format ≡ q.format → HasSameSamples p q → plane_of p plane ≡ plane_of q plane
 same_plane_lists p q plane hp hq e same =
     let w : ℕ = width_in p.format plane in
     let h : ℕ = height_in p.format plane in
@@ -54,14 +54,38 @@ same_parts : (f f' : Format) (y y' b b' r r' : List ℕ) → f ≡ f' → y ≡ 
 same_parts f f' y y' b b' r r' hf hy hb hr = cc
 
 -- whole pictures of one format with the same samples are the same
-pub same_pictures : (p q : Picture) → IsPicture p → IsPicture q → p.format ≡ q.format → HasSameSamples p q → p ≡ q
+pub same_pictures : (p q : Picture) → IsWhole p → IsWhole q → p.format ≡ q.format → HasSameSamples p q → p ≡ q
 same_pictures p q hp hq e same =
     same_parts p.format q.format p.y q.y p.cb q.cb p.cr q.cr e (same_plane_lists p q Y hp hq e same) (same_plane_lists p q Cb hp hq e same) (same_plane_lists p q Cr hp hq e same)
 
 -- ---- bytes
 
-pub whole_picture : (f : Format) (bytes : List ℕ) → length bytes ≡ size_of_picture f → IsPicture (picture_of f bytes)
+pub whole_picture : (f : Format) (bytes : List ℕ) → length bytes ≡ size_of_picture f → IsWhole (picture_of f bytes)
 whole_picture f bytes h = record { lengths = λ plane. plane_long f bytes plane h }
+
+-- ---- samples from 0 to 255
+
+first_samples : (n : ℕ) (samples : List ℕ) → AreSamples samples → AreSamples (take n samples)
+first_samples zero samples fit k = lit< tt
+first_samples (suc n) [] fit k = lit< tt
+first_samples (suc n) (s ∷ samples) fit zero = fit zero
+first_samples (suc n) (s ∷ samples) fit (suc k) = first_samples n samples (λ j. fit (suc j)) k
+
+last_samples : (n : ℕ) (samples : List ℕ) → AreSamples samples → AreSamples (drop n samples)
+last_samples zero samples fit k = fit k
+last_samples (suc n) [] fit k = lit< tt
+last_samples (suc n) (s ∷ samples) fit k = last_samples n samples (λ j. fit (suc j)) k
+
+range_of_samples : (i j : ℕ) (samples : List ℕ) → AreSamples samples → AreSamples (slice_range samples i j)
+range_of_samples i j samples fit = first_samples (j - i) (drop i samples) (last_samples i samples fit)
+
+samples_of_planes : (f : Format) (bytes : List ℕ) (plane : Plane) → AreSamples bytes → AreSamples (plane_of (picture_of f bytes) plane)
+samples_of_planes f bytes Y = range_of_samples (offset_of f Y) (offset_of f Cb) bytes
+samples_of_planes f bytes Cb = range_of_samples (offset_of f Cb) (offset_of f Cr) bytes
+samples_of_planes f bytes Cr = range_of_samples (offset_of f Cr) (offset_of f Cr + width_of f * height_of f / 4) bytes
+
+pub is_picture : (f : Format) (bytes : List ℕ) → length bytes ≡ size_of_picture f → AreSamples bytes → IsPicture (picture_of f bytes)
+is_picture f bytes long fit = record { whole = whole_picture f bytes long; samples = λ plane. samples_of_planes f bytes plane fit }
 
 -- a front in two parts
 front_of : (xs : List ℕ) (m n : ℕ) → m ≤ n → take m xs ++ take (n - m) (drop m xs) ≡ take n xs
@@ -89,7 +113,7 @@ part_is a b c i j ei ej =
     let rest : drop i (a ++ b ++ c) ≡ b ++ c = ap (λ (k : ℕ). drop k (a ++ b ++ c)) ei ∙ ap (drop (length a)) (append_assoc a b c) ∙ drop-append_seam a (b ++ c) in
     ap (λ (k : ℕ). take k (drop i (a ++ b ++ c))) n ∙ ap (take (length b)) rest ∙ take-append_seam b c
 
-pub size_of_bytes : (p : Picture) → IsPicture p → length (bytes_of p) ≡ size_of_picture p.format
+pub size_of_bytes : (p : Picture) → IsWhole p → length (bytes_of p) ≡ size_of_picture p.format
 size_of_bytes p h =
     let e = chroma_fits p.format in
     let ly : length p.y ≡ width_of p.format * height_of p.format = h.lengths Y in
@@ -97,7 +121,7 @@ size_of_bytes p h =
     let lr : length p.cr ≡ width_of p.format / 2 * (height_of p.format / 2) = h.lengths Cr in
     omega (arith, length-append (p.y ++ p.cb) p.cr, length-append p.y p.cb)
 
-pub picture_of_bytes : (p : Picture) → IsPicture p → picture_of p.format (bytes_of p) ≡ p
+pub picture_of_bytes : (p : Picture) → IsWhole p → picture_of p.format (bytes_of p) ≡ p
 picture_of_bytes p h =
     let e = chroma_fits p.format in
     let ly : length p.y ≡ width_of p.format * height_of p.format = h.lengths Y in

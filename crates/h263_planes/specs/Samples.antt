@@ -22,9 +22,18 @@ pub record Inside (f : Format) (plane : Plane) (x y n : ℕ) : Type 0 where
   pub in_row : x + n ≤ width_in f plane
   pub in_plane : y < height_in f plane
 
--- a whole picture: each plane has as many samples as the format says
-pub record IsPicture (p : Picture) : Type 0 where
+-- each plane has as many samples as the format says
+pub record IsWhole (p : Picture) : Type 0 where
   pub lengths : (plane : Plane) → length (plane_of p plane) ≡ width_in p.format plane * height_in p.format plane
+
+-- samples from 0 to 255
+abbrev pub AreSamples : List ℕ → Type 0
+AreSamples samples = (k : ℕ) → slice_index samples k < 256
+
+-- a picture: whole planes of samples
+pub record IsPicture (p : Picture) : Type 0 where
+  pub whole : IsWhole p
+  pub samples : (plane : Plane) → AreSamples (plane_of p plane)
 
 -- the sample at each place of a picture of p's format is the same in both
 pub record HasSameSamples (p q : Picture) : Type 0 where

@@ -6,7 +6,7 @@ use Rattle.h263_planes.specs.declared.Plane.{Plane}
 use Rattle.h263_planes.specs.declared.Plane.TheVariants.{Y, Cb, Cr}
 use Rattle.h263_planes.specs.Picture.{Picture}
 use Rattle.h263_planes.specs.Layout.{width_in, offset_of}
-use Rattle.h263_planes.specs.Samples.{Inside, IsPicture, sample_at}
+use Rattle.h263_planes.specs.Samples.{Inside, IsWhole, sample_at}
 use Rattle.h263_planes.specs.Given.{picture_with}
 use Rattle.h263_planes.specs.Blocks.{mb_of}
 
@@ -52,7 +52,7 @@ pub record AreSpots : Type 0 where
 
 -- a picture is its samples by their numbers
 pub record ArePicturesBySamples : Type 0 where
-  pub only : (f : Format) (p : Picture) (g : ℕ → ℕ) → p.format ≡ f → IsPicture p
+  pub only : (f : Format) (p : Picture) (g : ℕ → ℕ) → p.format ≡ f → IsWhole p
       → ((s : ℕ) → owner_of f s < mbs_of f → sample_of p (spot f s) ≡ g s) → p ≡ picture_by f g
   pub sample : (f : Format) (g : ℕ → ℕ) (s : ℕ) → owner_of f s < mbs_of f → sample_of (picture_by f g) (spot f s) ≡ g s
   pub same : (f : Format) (g h : ℕ → ℕ)

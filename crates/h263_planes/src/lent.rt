@@ -3,6 +3,7 @@ ghost use Rattle.std.specs.Prelude.{◌≡◌, length};
 ghost use Rattle.h263_types.specs.Sizes.{size_of_picture};
 
 use crate::Plane;
+use crate::laws::are_samples;
 use crate::layout::Layout;
 use h263_types::Format;
 
@@ -27,6 +28,7 @@ impl<'a> PictureRef<'a> {
         ensures picture { picture result ≡ picture_of format bytes.now }
         ensures whole { IsPicture (picture result) }
     {
+        are_samples(bytes);
         PictureRef {
             layout: Layout::new(format),
             bytes,
@@ -38,6 +40,7 @@ impl<'a> PictureRef<'a> {
         ensures format { result ≡ (picture self.now).format }
         ensures whole { IsPicture (picture self.now) }
     {
+        are_samples(self.bytes);
         self.layout.format
     }
 

@@ -1,8 +1,11 @@
 //! A picture that is lent for writing.
-ghost use Rattle.std.specs.Prelude.{◌≡◌, length};
+ghost use Rattle.std.specs.Prelude.{◌≡◌, ◌+◌, ◌<◌, ◌≤◌, length, slice_set};
+ghost use lib.Seq.{sets};
 ghost use Rattle.h263_types.specs.Sizes.{size_of_picture};
+ghost use Rattle.h263_planes.specs.Samples.{AreSamples};
 
 use crate::Plane;
+use crate::laws::are_samples;
 use crate::layout::Layout;
 use crate::lent::PictureRef;
 use h263_types::Format;
@@ -31,6 +34,7 @@ impl<'a> PictureMut<'a> {
         ensures picture { work result ≡ picture_of format bytes.old }
         ensures whole { IsPicture (work result) }
     {
+        are_samples(bytes);
         PictureMut {
             layout: Layout::new(format),
             bytes,
@@ -42,6 +46,7 @@ impl<'a> PictureMut<'a> {
         ensures format { result ≡ (work self.now).format }
         ensures whole { IsPicture (work self.now) }
     {
+        are_samples(self.bytes);
         self.layout.format
     }
 
@@ -57,7 +62,7 @@ impl<'a> PictureMut<'a> {
             (if in_run plane x y 1 other i j then value else sample_at (work self.old) other i j) }
     {
         let at = self.layout.place(plane, x, y);
-        self.bytes[at] = value;
+        put_sample(self.bytes, at, value);
     }
 
     /// Writes `samples` into row `y` from column `x` on.
@@ -72,7 +77,7 @@ impl<'a> PictureMut<'a> {
             i j then slice_index samples.now (i - x) else sample_at (work self.old) other i j) }
     {
         let from = self.layout.place(plane, x, y);
-        self.bytes[from..from + samples.len()].copy_from_slice(samples);
+        put_samples(self.bytes, from, samples);
     }
 
     /// The picture as it is now, for reading.
@@ -82,4 +87,24 @@ impl<'a> PictureMut<'a> {
     {
         PictureRef::new(self.layout.format, &*self.bytes)
     }
+}
+
+// Writes one sample, and leaves samples.
+#[inline(always)]
+fn put_sample(bytes: &mut [u8], at: usize, sample: u8)
+    requires { at < length bytes.old }
+    ensures after { bytes.new ≡ slice_set bytes.old at sample }
+    ensures samples { AreSamples bytes.new }
+{
+    bytes[at] = sample;
+}
+
+// Writes samples one after the other, and leaves samples.
+#[inline(always)]
+fn put_samples(bytes: &mut [u8], from: usize, samples: &[u8])
+    requires { from + length samples.now ≤ length bytes.old }
+    ensures after { bytes.new ≡ sets bytes.old from samples.now }
+    ensures samples { AreSamples bytes.new }
+{
+    bytes[from..from + samples.len()].copy_from_slice(samples);
 }

@@ -1,4 +1,4 @@
-use Rattle.h263_planes.proofs.Givens.{format_with, whole_with, sample_with, only_with}
+use Rattle.h263_planes.proofs.Givens.{format_with, whole_with, picture_is_with, sample_with, only_with}
 use Rattle.h263_planes.proofs.laws.samples_are_picture.Goals as goal
 
 pub returns-clause-whole : goal.returns-clause-whole
@@ -12,3 +12,6 @@ returns-clause-samples c = sample_with
 
 pub returns-clause-only : goal.returns-clause-only
 returns-clause-only c = only_with
+
+pub returns-clause-picture : goal.returns-clause-picture
+returns-clause-picture c = picture_is_with
