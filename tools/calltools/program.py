@@ -1,0 +1,23 @@
+"""The program that a tool runs."""
+
+import argparse
+import subprocess
+import sys
+from pathlib import Path
+
+from .errors import BadInput
+
+LAUNCHER = Path(__file__).resolve().parent.parent.parent / "h263rps"
+
+
+def add_option(parser: argparse.ArgumentParser) -> None:
+    parser.add_argument("--program", type=Path, help="./h263rps where none is named, proved and built first")
+
+
+def named_or_built(asked: argparse.Namespace) -> Path:
+    """The program that `--program` names, or the repository's own: unbuilt it would be compiled at each of many runs."""
+    if asked.program is not None:
+        return asked.program
+    if subprocess.run([LAUNCHER, "--build"], stdout=sys.stderr).returncode:
+        raise BadInput(str(LAUNCHER), "--build", "the program could not be built")
+    return LAUNCHER
