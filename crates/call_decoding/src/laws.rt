@@ -6,7 +6,7 @@ ghost use Rattle.h263_types.specs.declared.blocks.Mb.{Mb};
 ghost use Rattle.h263_types.specs.declared.params.Params.{Params};
 ghost use Rattle.h263_types.specs.Params.{IsParams};
 ghost use Rattle.h263_planes.specs.Picture.{Picture};
-ghost use Rattle.h263_planes.specs.Samples.{IsPicture};
+ghost use Rattle.h263_planes.specs.Samples.{IsWhole};
 ghost use Rattle.picture_header.specs.declared.header.Header.{Header};
 ghost use Rattle.picture_recon.specs.Samples as recon;
 ghost use Rattle.call_model.specs.Coding.{reconstruction};
@@ -32,7 +32,7 @@ pub fn whole_header()
 /// of macroblocks is their reconstruction (`reconstructed`).
 pub fn are_pictures()
     ensures pictures { (p : Params) → IsPictures (pictures p.format) (rules_of p) }
-    ensures made { (f : Format) (p : Picture) → p.format ≡ f → IsPicture p
+    ensures made { (f : Format) (p : Picture) → p.format ≡ f → IsWhole p
         → IsMade (pictures f) p }
     ensures reconstructed { (f : Format) (style : Style) (reference : Option Picture)
         (mbs : List Mb) → reconstruction (pictures f) style reference mbs

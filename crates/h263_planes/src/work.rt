@@ -50,6 +50,13 @@ impl<'a> PictureMut<'a> {
         self.layout.format
     }
 
+    /// That it is a picture, as many samples as its format has. Does nothing.
+    pub fn is_picture(&self)
+        ensures { IsPicture (work self.now) }
+    {
+        are_samples(self.bytes);
+    }
+
     /// Writes the sample in column `x` of row `y`.
     pub fn set(&mut self, plane: Plane, x: u32, y: u32, value: u8)
         requires { Inside (work self.old).format plane x y 1 }

@@ -2,6 +2,7 @@
 ghost use Rattle.std.specs.Prelude.{◌≡◌, ℕ, ◌%◌, ◌/◌, ◌<◌, pos, ◌-ℤ◌, All, length, slice_index, slice_index_or, nat_eq, if◌then◌else◌};
 ghost use Rattle.h263_types.specs.Sizes.{mbs_of};
 ghost use Rattle.h263_planes.specs.Lent.{picture};
+ghost use Rattle.h263_planes.specs.Samples.{IsPicture};
 ghost use Rattle.idct8.specs.Ranges.{IsSample};
 ghost use Rattle.mode_choice.specs.Choice.{sample_in_block, samples_of};
 
@@ -15,7 +16,7 @@ pub(crate) fn block_samples(frame: PictureRef<'_>, mb: u32, block: u32) -> [i16;
     requires block { block < 6 }
     ensures samples { result ≡ samples_of (picture frame.entry) mb block }
     ensures range { All IsSample result }
-    ensures bytes { (k : ℕ) → k < 64 → sample_in_block (picture frame.entry) mb block k < 256 }
+    ensures whole { IsPicture (picture frame.entry) }
 {
     let corner = block_corner(frame.format(), mb, block);
     let mut samples = [0; 64];

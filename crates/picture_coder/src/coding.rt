@@ -71,6 +71,7 @@ pub fn code_picture(
     // One choice for each place, and a picture that shows them all is their reconstruction.
     one_for_each_place();
     shown_one_by_one();
+    work.is_picture();
     cutter.begin(number, header);
     let mut mb = Mb::Skip;
     let mut guess = Vector::ZERO;

@@ -1,5 +1,5 @@
 -- The predicted samples of a macroblock in one plane.
-use Rattle.std.proofs.Common.{◌≡◌, ℕ, ◌+◌, ◌-◌, ◌*◌, ◌/◌, ◌%◌, ◌<◌, ◌≤◌, List, get_or, Bool, true, false, cond, ◌&&◌, nat_eq, nat_le, nat_lt, arith, ap, refl, subst, sym, ◌∙◌}
+use Rattle.std.proofs.Common.{◌≡◌, ℕ, ◌+◌, ◌-◌, ◌*◌, ◌/◌, ◌%◌, ◌<◌, ◌≤◌, List, get_or, Bool, true, false, cond, ◌&&◌, nat_eq, nat_le, nat_lt, arith, ap, refl, sym, ◌∙◌}
 use Rattle.std.proofs.lemmas.Bool.Decides.{nat_tests}
 use Rattle.h263_types.specs.declared.format.Format.{Format}
 use Rattle.h263_types.specs.declared.vector.Vector.{Vector}
@@ -8,7 +8,7 @@ use Rattle.h263_planes.specs.declared.Plane.{Plane}
 use Rattle.h263_planes.specs.declared.Plane.TheVariants.{Y, Cb, Cr}
 use Rattle.h263_planes.specs.Blocks.{mb_of}
 use Rattle.h263_planes.specs.Picture.{Picture}
-use Rattle.h263_planes.specs.Samples.{Inside, in_block, same_plane}
+use Rattle.h263_planes.specs.Samples.{in_block, same_plane}
 use Rattle.half_sample.specs.Prediction.{ArePredicted, predicted_sample}
 
 in_square : (p : Picture) (plane : Plane) (at n : ℕ) (v : Vector) (r : ℕ) (samples : List ℕ) (left top x y : ℕ) → ArePredicted n p plane at v r samples →
@@ -69,17 +69,6 @@ at_itself Y m at e = grind (arith, nat_tests)
 at_itself Cb m at e = grind (arith, nat_tests)
 at_itself Cr m at e = grind (arith, nat_tests)
 
--- and they are samples
-pub predicted_small : (f : Format) (p : Picture) (plane : Plane) (at n : ℕ) (v : Vector) (r : ℕ) (samples : List ℕ) (left top x y : ℕ) → p.format ≡ f →
-    ArePredicted n p plane at v r samples → left ≡ n * (at % columns_of f) → top ≡ n * (at / columns_of f) →
-    in_block plane left top n n plane x y ≡ (same_plane plane plane && nat_eq (mb_of f plane x y) at) → mb_of f plane x y ≡ at →
-    ((k : ℕ) → get_or samples k 0 < 256) → predicted_sample p plane x y v r < 256
-predicted_small f p plane at n v r samples left top x y e h column row same here small =
-    let place = is_in (same_plane plane plane) left top n x y (same ∙ at_itself plane (mb_of f plane x y) at here) in
-    subst (λ (k : ℕ). k < 256)
-    (in_square p plane at n v r samples left top x y h (column ∙ ap (λ (g : Format). n * (at % columns_of g)) (sym e)) (row ∙ ap (λ (g : Format). n * (at / columns_of g)) (sym e)) place.from place.to place.below place.above)
-    (small (n * (y - top) + (x - left)))
-
 -- what is put into one plane after the other
 pub each_plane : (plane : Plane) (t : Bool) (now with_cb with_y old v : ℕ) →
     now ≡ cond (same_plane Cr plane && t) v with_cb → with_cb ≡ cond (same_plane Cb plane && t) v with_y →
@@ -87,13 +76,3 @@ pub each_plane : (plane : Plane) (t : Bool) (now with_cb with_y old v : ℕ) →
 each_plane Y t now with_cb with_y old v cr cb y = cr ∙ cb ∙ y
 each_plane Cb t now with_cb with_y old v cr cb y = cr ∙ cb ∙ ap (λ (n : ℕ). cond t v n) y
 each_plane Cr t now with_cb with_y old v cr cb y = cr ∙ ap (λ (n : ℕ). cond t v n) (cb ∙ y)
-
--- the predicted samples of macroblock `at` in a plane are below 256
-abbrev AreSmall : Format → Picture → ℕ → Vector → ℕ → Plane → Type 0
-AreSmall f p at v r plane = (x y : ℕ) → Inside f plane x y 1 → mb_of f plane x y ≡ at → predicted_sample p plane x y v r < 256
-
-pub small_in_each : (f : Format) (p : Picture) (at : ℕ) (v : Vector) (r : ℕ) → AreSmall f p at v r Y → AreSmall f p at v r Cb → AreSmall f p at v r Cr →
-    (plane : Plane) → AreSmall f p at v r plane
-small_in_each f p at v r y cb cr Y = y
-small_in_each f p at v r y cb cr Cb = cb
-small_in_each f p at v r y cb cr Cr = cr

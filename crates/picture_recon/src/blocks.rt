@@ -22,6 +22,7 @@ pub(crate) fn put_block(
     requires format { (work out.old).format ≡ format }
     requires at { at < mbs_of format }
     requires block { block < 6 }
+    requires whole { IsPicture (work out.old) }
     ensures same_loan { loan_of out.new ≡ loan_of out.old }
     ensures format { (work out.new).format ≡ format }
     ensures whole { IsPicture (work out.new) }
@@ -36,7 +37,8 @@ pub(crate) fn put_block(
 // Writes 8 x 8 samples from a corner on.
 #[inline(always)]
 pub(crate) fn put_samples(out: &mut PictureMut<'_>, corner: Corner, samples: &[u8; 64])
-    requires { IsCorner (work out.old).format corner }
+    requires corner { IsCorner (work out.old).format corner }
+    requires whole { IsPicture (work out.old) }
     ensures same_loan { loan_of out.new ≡ loan_of out.old }
     ensures format { (work out.new).format ≡ (work out.old).format }
     ensures whole { IsPicture (work out.new) }

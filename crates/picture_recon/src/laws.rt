@@ -6,7 +6,7 @@ ghost use Rattle.h263_planes.specs.declared.Plane.{Plane};
 ghost use Rattle.h263_types.specs.declared.format.Format.{Format};
 ghost use Rattle.h263_planes.specs.Picture.{Picture};
 ghost use Rattle.h263_planes.specs.Blocks.{mb_of};
-ghost use Rattle.h263_planes.specs.Samples.{Inside, IsPicture, sample_at};
+ghost use Rattle.h263_planes.specs.Samples.{Inside, IsWhole, sample_at};
 ghost use Rattle.h263_types.specs.Blocks.{mb_in};
 ghost use Rattle.h263_types.specs.Sizes.{mbs_of};
 ghost use Rattle.picture_recon.specs.Samples.{reconstruction, sample_in};
@@ -18,11 +18,11 @@ use h263_planes::laws::{numbered_samples, samples_are_picture};
 /// macroblocks, and the reconstruction is such a picture.
 pub fn samples_are_reconstruction()
     ensures only { (p : Picture) (rounding : ℕ) (reference : Option Picture) (mbs : List Mb)
-        → IsPicture p → ((plane : Plane) (x y : ℕ) → Inside p.format plane x y 1 → sample_at
+        → IsWhole p → ((plane : Plane) (x y : ℕ) → Inside p.format plane x y 1 → sample_at
         p plane x y ≡ sample_in rounding reference (mb_in mbs (mb_of p.format plane x y)) plane x y)
         → p ≡ reconstruction p.format rounding reference mbs }
     ensures whole { (f : Format) (rounding : ℕ) (reference : Option Picture) (mbs : List Mb)
-        → IsPicture (reconstruction f rounding reference mbs) }
+        → IsWhole (reconstruction f rounding reference mbs) }
     ensures format { (f : Format) (rounding : ℕ) (reference : Option Picture) (mbs : List Mb)
         → (reconstruction f rounding reference mbs).format ≡ f }
     ensures samples { (f : Format)
@@ -47,7 +47,7 @@ pub fn shown_one_by_one()
         mbs first old → IsPartFrom mbs first run → SetsSlice f rounding reference first run old new
         → ShowsFirst f rounding reference mbs (first + length run) new }
     ensures all { (p : Picture) (rounding : ℕ) (reference : Option Picture) (mbs : List Mb)
-        → IsPicture p → ShowsFirst p.format rounding reference mbs (mbs_of p.format) p
+        → IsWhole p → ShowsFirst p.format rounding reference mbs (mbs_of p.format) p
         → p ≡ reconstruction p.format rounding reference mbs }
 {
     numbered_samples();

@@ -47,6 +47,7 @@ pub fn recon_mb(
     ensures samples { SetsMb header.now.format header.now.rounding
         (option_map picture reference.entry) at mb.now (work out.old) (work out.new) }
 {
+    out.is_picture();
     match mb {
         Mb::Skip => {
             if let Some(picture) = reference {
@@ -80,6 +81,7 @@ fn put_intra(quant: u8, blocks: &[Block; 6], at: u32, format: Format, out: &mut 
     requires format { (work out.old).format ≡ format }
     requires at { at < mbs_of format }
     requires in_range { IsIntraMb quant blocks.now }
+    requires whole { IsPicture (work out.old) }
     ensures same_loan { loan_of out.new ≡ loan_of out.old }
     ensures format { (work out.new).format ≡ format }
     ensures whole { IsPicture (work out.new) }
@@ -123,6 +125,7 @@ pub fn recon_slice(
         then sample_in header.now.rounding (option_map picture reference.entry) (mb_in mbs.now
         (mb_of header.now.format plane x y)) plane x y else sample_at (work out.old) plane x y) }
 {
+    out.is_picture();
     for at in head.first..head.first + head.count {
         recon_mb(&mbs[at as usize], at, header, reference, out);
     }

@@ -44,6 +44,7 @@ pub(crate) fn put_inter(
     requires at { at < mbs_of format }
     requires in_range { IsInterMb quant vector blocks.now }
     requires reach { InReach format at vector.x vector.y }
+    requires whole { IsPicture (work out.old) }
     ensures same_loan { loan_of out.new ≡ loan_of out.old }
     ensures format { (work out.new).format ≡ format }
     ensures whole { IsPicture (work out.new) }
@@ -75,8 +76,6 @@ fn add_block(
     requires quant { IsQuant quant }
     requires levels { IsInterBlock levels.now }
     requires whole { IsPicture (work out.old) }
-    requires samples { (plane : Plane) (x y : ℕ) → Inside format plane x y 1
-        → mb_of format plane x y ≡ at → sample_at (work out.old) plane x y < 256 }
     ensures same_loan { loan_of out.new ≡ loan_of out.old }
     ensures format { (work out.new).format ≡ format }
     ensures whole { IsPicture (work out.new) }
@@ -112,6 +111,7 @@ fn put_predicted(
     requires at { at < mbs_of format }
     requires reach { InReach format at vector.x vector.y }
     requires rounding { rounding ≤ 1 }
+    requires whole { IsPicture (work out.old) }
     ensures same_loan { loan_of out.new ≡ loan_of out.old }
     ensures format { (work out.new).format ≡ format }
     ensures whole { IsPicture (work out.new) }
@@ -119,8 +119,6 @@ fn put_predicted(
         → sample_at (work out.new) plane x y ≡ (if nat_eq (mb_of format plane x y) at
         then predicted_sample (picture reference.entry) plane x y vector rounding
         else sample_at (work out.old) plane x y) }
-    ensures small { (plane : Plane) (x y : ℕ) → Inside format plane x y 1 → mb_of format plane x y
-        ≡ at → predicted_sample (picture reference.entry) plane x y vector rounding < 256 }
 {
     let samples = predict(reference, at, vector, rounding);
     put_plane(Plane::Y, &samples.y, at, format, out);
@@ -134,6 +132,7 @@ fn put_plane(plane: Plane, samples: &[u8], at: u32, format: Format, out: &mut Pi
     requires format { (work out.old).format ≡ format }
     requires at { at < mbs_of format }
     requires samples { length samples.now ≡ columns_in plane * columns_in plane }
+    requires whole { IsPicture (work out.old) }
     ensures same_loan { loan_of out.new ≡ loan_of out.old }
     ensures format { (work out.new).format ≡ format }
     ensures whole { IsPicture (work out.new) }
@@ -142,9 +141,6 @@ fn put_plane(plane: Plane, samples: &[u8], at: u32, format: Format, out: &mut Pi
         → (other : Plane) (x y : ℕ) → Inside format other x y 1 → sample_at (work out.new) other x y
         ≡ (if same_plane plane other && nat_eq (mb_of format other x y) at
         then predicted_sample p other x y v r else sample_at (work out.old) other x y) }
-    ensures small { (p : Picture) (v : Vector) (r : ℕ) → p.format ≡ format → ArePredicted
-        (columns_in plane) p plane at v r samples.now → (x y : ℕ) → Inside format plane x y 1
-        → mb_of format plane x y ≡ at → predicted_sample p plane x y v r < 256 }
 {
     put_square(plane, square_of(format, plane, at), samples, format, out);
 }

@@ -22,6 +22,7 @@ pub(crate) fn put_skipped(
     requires reference { (picture reference).format ≡ format }
     requires format { (work out.old).format ≡ format }
     requires at { at < mbs_of format }
+    requires whole { IsPicture (work out.old) }
     ensures same_loan { loan_of out.new ≡ loan_of out.old }
     ensures format { (work out.new).format ≡ format }
     ensures whole { IsPicture (work out.new) }
@@ -45,6 +46,7 @@ fn copy_in_plane(
     requires reference { (picture reference).format ≡ format }
     requires format { (work out.old).format ≡ format }
     requires at { at < mbs_of format }
+    requires whole { IsPicture (work out.old) }
     ensures same_loan { loan_of out.new ≡ loan_of out.old }
     ensures format { (work out.new).format ≡ format }
     ensures whole { IsPicture (work out.new) }
@@ -67,6 +69,7 @@ fn copy_square(
     requires reference { (picture reference).format ≡ format }
     requires format { (work out.old).format ≡ format }
     requires inside { IsInside format plane square }
+    requires whole { IsPicture (work out.old) }
     ensures same_loan { loan_of out.new ≡ loan_of out.old }
     ensures format { (work out.new).format ≡ format }
     ensures whole { IsPicture (work out.new) }

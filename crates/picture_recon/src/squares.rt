@@ -55,6 +55,7 @@ pub(crate) fn put_square(
     requires inside { IsInside format plane square }
     requires size { square.size ≤ 16 }
     requires samples { length samples.now ≡ square.size * square.size }
+    requires whole { IsPicture (work out.old) }
     ensures same_loan { loan_of out.new ≡ loan_of out.old }
     ensures format { (work out.new).format ≡ format }
     ensures whole { IsPicture (work out.new) }
@@ -62,7 +63,6 @@ pub(crate) fn put_square(
         → Inside format other x y 1 → sample_at (work out.new) other x y ≡ (if in_block
         plane square.x square.y square.size square.size other x y then slice_index samples.now
         (square.size * (y - square.y) + (x - square.x)) else sample_at (work out.old) other x y) }
-    ensures bytes { (k : ℕ) → slice_index samples.now k < 256 }
 {
     let size = square.size as usize;
     for k in 0..square.size {

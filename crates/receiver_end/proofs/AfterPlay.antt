@@ -116,7 +116,7 @@ module _ (far : OneRestIsFar) (spots : AreSpots) (by : ArePicturesBySamples) (r 
       ap (λ (k : ℕ). picture_in s (k % r.params.slots)) back ∙ ap (λ (t : Pictures). picture_in t (r.played % r.params.slots)) is ∙ picture_is true held
   screen_is false held is =
       ap (work_in s) last_is
-      ∙ by.only r.params.format (work_in s (work_of r.params r.played)) over is.whole.0 is.whole.1
+      ∙ by.only r.params.format (work_in s (work_of r.params r.played)) over is.whole.0 is.whole.1.whole
       (λ i inside. is.patches (spot r.params.format i).plane (spot r.params.format i).x (spot r.params.format i).y (spots.inside r.params.format i inside)
       ∙ ap (λ (q : Picture). if has_in r.collector r.played (owner_of r.params.format i) then sample_of q (spot r.params.format i) else sample_of (screen_in r.params r.store r.exact r.played) (spot r.params.format i)) (sym (at_work held)))
       ∙ picture_is false held

@@ -263,5 +263,5 @@ module _ (far : OneRestIsFar) (spots : AreSpots) (by : ArePicturesBySamples) (r 
         made : picture_in u (n % r.params.slots) ≡ picture_by r.params.format (λ i. sample_of (picture_at r.params u n) (spot r.params.format i))
         made =
             own_picture
-            ∙ by.only r.params.format (work_in s (work_of r.params n)) (λ i. sample_of (picture_at r.params u n) (spot r.params.format i)) d.whole.0 d.whole.1
+            ∙ by.only r.params.format (work_in s (work_of r.params n)) (λ i. sample_of (picture_at r.params u n) (spot r.params.format i)) d.whole.0 d.whole.1.whole
             (λ i inside. ap (λ (q : Picture). sample_of q (spot r.params.format i)) (sym is_at))

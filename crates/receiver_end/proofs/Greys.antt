@@ -8,7 +8,7 @@ use Rattle.h263_planes.specs.declared.Plane.{Plane}
 use Rattle.h263_planes.specs.Picture.{Picture}
 use Rattle.h263_planes.specs.Given.{picture_with}
 use Rattle.h263_planes.specs.Layout.{picture_of}
-use Rattle.h263_planes.specs.Samples.{IsPicture, bytes_of}
+use Rattle.h263_planes.specs.Samples.{IsWhole, bytes_of}
 use Rattle.h263_planes.specs.Spots.{picture_by}
 
 constant : (v : ℕ) (xs : List ℕ) → map (λ k. v) xs ≡ replicate (length xs) v
@@ -30,12 +30,12 @@ flat : (v : ℕ) (f : Format) → bytes_of (picture_by f (λ s. v)) ≡ replicat
 unfolding picture_with
 flat v f = of_three v _ _ _
 
-pub grey_is : ((p : Picture) → IsPicture p → picture_of p.format (bytes_of p) ≡ p) → ((p : Picture) → IsPicture p → length (bytes_of p) ≡ size_of_picture p.format)
-    → ((f : Format) (sample : Plane → ℕ → ℕ → ℕ) → IsPicture (picture_with f sample)) → ((f : Format) (sample : Plane → ℕ → ℕ → ℕ) → (picture_with f sample).format ≡ f)
+pub grey_is : ((p : Picture) → IsWhole p → picture_of p.format (bytes_of p) ≡ p) → ((p : Picture) → IsWhole p → length (bytes_of p) ≡ size_of_picture p.format)
+    → ((f : Format) (sample : Plane → ℕ → ℕ → ℕ) → IsWhole (picture_with f sample)) → ((f : Format) (sample : Plane → ℕ → ℕ → ℕ) → (picture_with f sample).format ≡ f)
     → (f : Format) (bytes : List ℕ) → bytes ≡ replicate (size_of_picture f) 128 → picture_of f bytes ≡ picture_by f (λ s. 128)
 grey_is picture size whole format f bytes is =
     let p : Picture = picture_by f (λ s. 128) in
-    let ok : IsPicture p = whole f (λ plane x y. 128) in
+    let ok : IsWhole p = whole f (λ plane x y. 128) in
     let same : p.format ≡ f = format f (λ plane x y. 128) in
     let many : length (bytes_of p) ≡ size_of_picture f = size p ok ∙ ap size_of_picture same in
     let e : bytes_of p ≡ bytes = flat 128 f ∙ ap (λ (k : ℕ). replicate k 128) many ∙ sym is in

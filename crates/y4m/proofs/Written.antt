@@ -8,7 +8,7 @@ use Rattle.h263_types.specs.declared.Mark.{Mark}
 use Rattle.h263_types.specs.declared.Mark.TheVariants.{Exact, Patched, Held}
 use Rattle.h263_types.specs.Sizes.{size_of_picture}
 use Rattle.h263_planes.specs.Picture.{Picture}
-use Rattle.h263_planes.specs.Samples.{IsPicture, bytes_of}
+use Rattle.h263_planes.specs.Samples.{IsWhole, bytes_of}
 use Rattle.y4m.specs.Line.{tags_of}
 use Rattle.y4m.specs.Text.{head_text, mark_text, frame_text}
 use Rattle.y4m.specs.Spelled.{IsLine, IsHead, Frame, IsFrame, IsVideo}
@@ -32,9 +32,9 @@ mark_spelled Held = let tail = codes " XHELD" in record { tail = tail; text = re
 abbrev frame_with : Mark × Picture → Frame
 frame_with s = record { line = mark_text s.0; planes = bytes_of s.1 }
 
-module _ (f : Format) (size : (p : Picture) → IsPicture p → length (bytes_of p) ≡ size_of_picture p.format) where
+module _ (f : Format) (size : (p : Picture) → IsWhole p → length (bytes_of p) ≡ size_of_picture p.format) where
   abbrev OfFormat : Mark × Picture → Type 0
-  OfFormat s = IsPicture s.1 × (s.1.format ≡ f)
+  OfFormat s = IsWhole s.1 × (s.1.format ≡ f)
 
   frame_written : (s : Mark × Picture) → OfFormat s → IsFrame f (frame_with s)
   frame_written s is = record { spelled = mark_spelled s.0; size = size s.1 is.0 ∙ ap size_of_picture is.1 }

@@ -5,7 +5,7 @@ ghost use Rattle.std.specs.List.{flat_map};
 ghost use Rattle.h263_types.specs.declared.format.Format.{Format};
 ghost use Rattle.h263_types.specs.declared.Mark.{Mark};
 ghost use Rattle.h263_planes.specs.Picture.{Picture};
-ghost use Rattle.h263_planes.specs.Samples.{IsPicture, bytes_of};
+ghost use Rattle.h263_planes.specs.Samples.{IsWhole, bytes_of};
 ghost use Rattle.y4m.specs.Head.{head_of, head_size};
 ghost use Rattle.y4m.specs.Video.{most_frames, video_fault, video_frames};
 ghost use Rattle.y4m.specs.Frame.{frame_of, frame_size};
@@ -38,7 +38,7 @@ pub fn a_video_is_accepted()
 /// those pictures.
 pub fn written_is_a_video()
     ensures { (f : Format) (shown : List (Mark × Picture))
-        → All (λ s. IsPicture s.1 × (s.1.format ≡ f)) shown → length shown ≤ most_frames
+        → All (λ s. IsWhole s.1 × (s.1.format ≡ f)) shown → length shown ≤ most_frames
         → IsVideo (head_text f ++ flat_map (λ s. frame_text s.0 s.1) shown) f
         (map (λ s. bytes_of s.1) shown) }
 {

@@ -28,7 +28,7 @@ loop-k-preserved c =
     let sample : ℕ → ℕ = sample_in_block (picture c.args.frame) c.args.mb c.args.block in
     let room : k < length c.loop-k.residuals = omega (arith, c.loop-k.invariant.0) in
     let is : now ≡ (pos (sample k) -ℤ pos (get_or c.args.predicted.now k 0)) =
-    difference_kept _ _ (sample k) (get_or c.args.predicted.now k 0) (c.loop-k.invariant.2 k (omega arith) c.loop-k-test.true) c.from.ensures (c.block_samples-residuals.ensures.bytes k c.loop-k-test.true) (c.fits-predicted k) in (
+    difference_kept _ _ (sample k) (get_or c.args.predicted.now k 0) (c.loop-k.invariant.2 k (omega arith) c.loop-k-test.true) c.from.ensures (c.block_samples-residuals.ensures.whole.samples _ _) (c.fits-predicted k) in (
       length-set c.loop-k.residuals k _ ∙ c.loop-k.invariant.0,
       c.one_more.ensures (λ (j : ℕ). pos (sample j) -ℤ pos (get_or c.args.predicted.now j 0)) c.loop-k.residuals k now (pos 0) room is c.loop-k.invariant.1,
       λ j after h. let other : j ≢ k = omega arith in get_or-set_other c.loop-k.residuals k j now (pos 0) other ∙ c.loop-k.invariant.2 j (omega arith) h,
@@ -42,4 +42,4 @@ pub returns-clause-range : goal.returns-clause-range
 returns-clause-range c =
     All-from_get_or IsSample c.loop-k.residuals (pos 0) (λ k h.
     let below : k < 64 = omega (arith, c.loop-k.invariant.0) in
-    is_difference _ _ _ (c.loop-k.invariant.1 k (omega arith)) (c.block_samples-residuals.ensures.bytes k below) (c.fits-predicted k))
+    is_difference _ _ _ (c.loop-k.invariant.1 k (omega arith)) (c.block_samples-residuals.ensures.whole.samples _ _) (c.fits-predicted k))

@@ -86,4 +86,4 @@ returns-clause-reconstruction c =
     let shows : ShowsFirst p.format h.rounding reference mbs (mbs_of p.format) p =
     subst (λ (f : Format). ShowsFirst f h.rounding reference mbs (mbs_of p.format) p) (sym shown.format)
     (subst (λ (n : ℕ). ShowsFirst h.format h.rounding reference mbs n p) all shown.shows) in
-    subst (λ (f : Format). p ≡ reconstruction f h.rounding reference mbs) format (c.shown_one_by_one.ensures.all p h.rounding reference mbs shown.whole shows)
+    subst (λ (f : Format). p ≡ reconstruction f h.rounding reference mbs) format (c.shown_one_by_one.ensures.all p h.rounding reference mbs shown.whole.whole shows)

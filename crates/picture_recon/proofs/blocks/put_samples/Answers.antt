@@ -16,6 +16,6 @@ loop-k-preserved c = (
       let now = c.set_row.ensures.samples plane x y here in
       let now8 = subst (λ (n : ℕ). sample_at (work c.set_row.new.self) plane x y ≡ cond (in_run corner.plane corner.x (corner.y + c.loop-k.k) n plane x y) (get_or (slice_range c.args.samples.now (8 * c.loop-k.k) (8 * c.loop-k.k + 8)) (x - corner.x) 0) (sample_at (work c.loop-k.out) plane x y)) long now in
       more_rows (same_plane corner.plane plane) corner.x corner.y 8 c.loop-k.k x y _ _ _ _ _ now8 (c.loop-k.invariant.2 plane x y h)
-      (λ same e hx hi. in_row c.args.samples.now corner.x corner.y c.loop-k.k x y c.requires.column c.requires.row c.loop-k-test.true e hx hi),
+      (λ same e hx hi. in_row c.args.samples.now corner.x corner.y c.loop-k.k x y c.requires.corner.column c.requires.corner.row c.loop-k-test.true e hx hi),
   c.set_row.ensures.whole,
 )

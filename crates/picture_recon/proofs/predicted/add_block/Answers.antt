@@ -18,7 +18,7 @@ returns-then-marks-eq0-clause-samples c = λ plane x y h.
     let zeros = no_levels c.one_order.ensures c.args.quant c.args.levels.now
     (none_at_all c.args.levels.now c.marks_of-marks.result c.marks_of-marks.ensures c.if-marks-eq0.true) in
     nothing_added (mb_of c.args.format plane x y) c.args.at (block_of plane x y) c.args.block (sample_at (work c.args.out.now) plane x y) _
-    (λ here. sample_kept (sample_at (work c.args.out.now) plane x y) (inverse_at values (y % 8) (x % 8)) (c.requires.samples plane x y h here) (c.zeros_give_zeros.ensures values zeros (y % 8) (x % 8)))
+    (λ here. sample_kept (sample_at (work c.args.out.now) plane x y) (inverse_at values (y % 8) (x % 8)) (c.requires.whole.samples plane _) (c.zeros_give_zeros.ensures values zeros (y % 8) (x % 8)))
 
 pub returns-clause-samples : goal.returns-clause-samples
 returns-clause-samples c = λ plane x y h.

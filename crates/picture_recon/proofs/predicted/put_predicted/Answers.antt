@@ -1,7 +1,7 @@
 use Rattle.h263_planes.specs.Lent.{picture}
 use Rattle.h263_planes.specs.Blocks.{mb_of}
 use Rattle.std.proofs.Common.{nat_eq}
-use Rattle.picture_recon.proofs.InSquare.{each_plane, small_in_each}
+use Rattle.picture_recon.proofs.InSquare.{each_plane}
 use Rattle.picture_recon.proofs.predicted.put_predicted.Goals as goal
 
 pub returns-clause-samples : goal.returns-clause-samples
@@ -14,14 +14,3 @@ returns-clause-samples c = λ plane x y h.
     (c.put_plane-3.ensures.samples p v r c.requires.reference is.cr plane x y h)
     (c.put_plane-2.ensures.samples p v r c.requires.reference is.cb plane x y h)
     (c.put_plane.ensures.samples p v r c.requires.reference is.y plane x y h)
-
-pub returns-clause-small : goal.returns-clause-small
-returns-clause-small c =
-    let p = picture c.args.reference in
-    let v = c.args.vector in
-    let r = c.args.rounding in
-    let is = c.predict-samples.ensures in
-    small_in_each c.args.format p c.args.at v r
-    (c.put_plane.ensures.small p v r c.requires.reference is.y)
-    (c.put_plane-2.ensures.small p v r c.requires.reference is.cb)
-    (c.put_plane-3.ensures.small p v r c.requires.reference is.cr)
