@@ -11,11 +11,11 @@ LAUNCHER = Path(__file__).resolve().parent.parent.parent / "h263rps"
 
 
 def add_option(parser: argparse.ArgumentParser) -> None:
-    parser.add_argument("--program", type=Path, help="./h263rps where none is named, proved and built first")
+    parser.add_argument("--program", type=Path, help="else ./h263rps, proved and built first")
 
 
 def named_or_built(asked: argparse.Namespace) -> Path:
-    """The program that `--program` names, or the repository's own: unbuilt it would be compiled at each of many runs."""
+    """The program that is named, or the repository's own, which unbuilt is compiled at each run."""
     if asked.program is not None:
         return asked.program
     if subprocess.run([LAUNCHER, "--build"], stdout=sys.stderr).returncode:
