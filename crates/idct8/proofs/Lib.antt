@@ -5,6 +5,7 @@ pub mod Steps
 pub mod Results
 pub mod Zeros
 pub mod Vectors
+pub mod Eights
 pub mod Rotations
 pub mod Shifts
 pub mod Weaving

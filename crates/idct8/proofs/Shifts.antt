@@ -124,3 +124,10 @@ pub nearest_words : (h l : List ℤ) → EightWithin (2 ^ 30) h → EightWithin 
 nearest_words h l hh hl =
     down_words 12 270000 (lit≤ tt) result_small
     (sum_words (lit≤ tt) (own_words w32 (2 ^ 30) h hh) (down_words 13 140000 (lit≤ tt) carried_small (sum_words (lit≤ tt) (own_words w32 (2 ^ 30) l hl) (splat_words w32 16777216 (pos 16777216) half_small))))
+
+-- the two parts of a vector of sums
+pub record AreParts (sums high low : List ℤ) : Type 0 where
+  pub whole : (i : ℕ) → i < 8 → lane sums i ≡ pos 8192 *ℤ lane high i +ℤ lane low i
+  pub zeros : (i : ℕ) → i < 8 → lane sums i ≡ pos 0 → (lane high i ≡ pos 0) × (lane low i ≡ pos 0)
+  pub high_size : EightWithin 8191 high
+  pub low_size : EightWithin 8191 low

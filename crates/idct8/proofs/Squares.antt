@@ -1,5 +1,5 @@
 -- Sums of squares, as the lanes add them up.
-use Rattle.std.proofs.Common.{◌≡◌, ℕ, ◌+◌, ◌*◌, ◌<◌, ◌≤◌, ◌∙◌, ap, sym, subst, map, arith, refl, lit≤, ℤ, pos, negsuc, ◌+ℤ◌, ◌*ℤ◌, unsigned_abs, length, List, [], ◌∷◌, to_z, of_z, w32}
+use Rattle.std.proofs.Common.{◌≡◌, ℕ, ◌+◌, ◌-◌, ◌*◌, ◌<◌, ◌≤◌, ◌∙◌, ap, sym, subst, map, arith, refl, lit≤, ℤ, pos, negsuc, ◌+ℤ◌, ◌-ℤ◌, ◌*ℤ◌, unsigned_abs, length, List, to_z, of_z, w32}
 use Rattle.std.proofs.lemmas.Int.{ints, to_z-of_z}
 use Rattle.idct8.specs.Ranges.{IsSample}
 use Rattle.idct8.specs.Transform.{entry}
@@ -7,7 +7,6 @@ use Rattle.idct8.specs.Vectors.{lane, square, EightWithin}
 use Rattle.std.specs.Prelude.{All}
 use Rattle.idct8.proofs.Factors.{within_same}
 use Rattle.idct8.proofs.Results.{sample_within}
-use Rattle.idct8.proofs.Parity.{below_four}
 use Rattle.idct8.proofs.Vectors.{passed_lane, within_fits}
 use Rattle.idct8.proofs.Wraps.{abs_from_within}
 
@@ -43,14 +42,12 @@ sample_row block v k long hk samples eight numbers = record {
   within = λ i hi. within_same 255 255 (lit≤ tt) (numbers i hi) (sample_within (samples (8 * k + i) (pos 0) (omega (arith, long))));
 }
 
--- the first four and the last four of eight numbers
-pub first_four : {c0 c1 c2 c3 : ℤ} (c4 c5 c6 c7 : ℤ) (f : ℕ → ℤ) (k : ℕ) → k < 4 → c0 ≡ f 0 → c1 ≡ f 1 → c2 ≡ f 2 → c3 ≡ f 3 → lane (c0 ∷ c1 ∷ c2 ∷ c3 ∷ c4 ∷ c5 ∷ c6 ∷ c7 ∷ []) k ≡ f k
-first_four {c0} {c1} {c2} {c3} c4 c5 c6 c7 f k hk e0 e1 e2 e3 =
-    below_four (λ k. lane (c0 ∷ c1 ∷ c2 ∷ c3 ∷ c4 ∷ c5 ∷ c6 ∷ c7 ∷ []) k ≡ f k) e0 e1 e2 e3 k hk
-
-pub last_four : (c0 c1 c2 c3 : ℤ) {c4 c5 c6 c7 : ℤ} (f : ℕ → ℤ) (k : ℕ) → k < 4 → c4 ≡ f 0 → c5 ≡ f 1 → c6 ≡ f 2 → c7 ≡ f 3 → lane (c0 ∷ c1 ∷ c2 ∷ c3 ∷ c4 ∷ c5 ∷ c6 ∷ c7 ∷ []) (4 + k) ≡ f k
-last_four c0 c1 c2 c3 {c4} {c5} {c6} {c7} f k hk e4 e5 e6 e7 =
-    below_four (λ k. lane (c0 ∷ c1 ∷ c2 ∷ c3 ∷ c4 ∷ c5 ∷ c6 ∷ c7 ∷ []) (4 + k) ≡ f k) e4 e5 e6 e7 k hk
+-- row k of a block with the row that mirrors it, and less that row
+pub record IsFolded (block : List ℤ) (k : ℕ) (sums differences : List ℤ) : Type 0 where
+  pub sum : (i : ℕ) → i < 8 → lane sums i ≡ entry block k i +ℤ entry block (7 - k) i
+  pub difference : (i : ℕ) → i < 8 → lane differences i ≡ entry block k i -ℤ entry block (7 - k) i
+  pub sum_size : EightWithin 8191 sums
+  pub difference_size : EightWithin 8191 differences
 
 -- the size of a lane that was read
 pub size_read : (v : List ℤ) (k n : ℕ) → EightWithin 1073479696 v → k < 8 → n ≡ unsigned_abs (to_z w32 (of_z w32 (lane (map (to_z w32) (map (of_z w32) v)) k))) →

@@ -5,7 +5,7 @@ ghost use Rattle.std.specs.Prelude.{◌≡◌, ℕ, ◌^◌, ◌<◌, pos, ◌+�
 ghost use Rattle.idct8.specs.Transform.{rounded};
 ghost use Rattle.idct8.specs.Vectors.{lane, EightWithin, RowsWithin, SumsWithin, row_at, sum_at};
 
-use crate::passes::{Rows, Sums};
+use crate::passes::{Row, Rows, Sums};
 use std::simd::prelude::*;
 
 // The low part has this many bits: so few that sums of four numbers, of either part, fit 16 bits.
@@ -56,33 +56,14 @@ pub(crate) fn split(s: Sums) -> (Rows, Rows)
     ensures high_size { RowsWithin 8191 result.0 }
     ensures low_size { RowsWithin 8191 result.1 }
 {
-    let (h0, l0) = parts(s.s0);
-    let (h1, l1) = parts(s.s1);
-    let (h2, l2) = parts(s.s2);
-    let (h3, l3) = parts(s.s3);
-    let (h4, l4) = parts(s.s4);
-    let (h5, l5) = parts(s.s5);
-    let (h6, l6) = parts(s.s6);
-    let (h7, l7) = parts(s.s7);
-    let high = Rows {
-        r0: h0,
-        r1: h1,
-        r2: h2,
-        r3: h3,
-        r4: h4,
-        r5: h5,
-        r6: h6,
-        r7: h7,
-    };
-    let low = Rows {
-        r0: l0,
-        r1: l1,
-        r2: l2,
-        r3: l3,
-        r4: l4,
-        r5: l5,
-        r6: l6,
-        r7: l7,
-    };
+    let mut high = [Row {
+        lanes: i16x8::splat(0),
+    }; 8];
+    let mut low = high;
+    for k in 0..8 {
+        let (h, l) = parts(s[k].lanes);
+        high[k] = Row { lanes: h };
+        low[k] = Row { lanes: l };
+    }
     (high, low)
 }

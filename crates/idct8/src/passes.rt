@@ -16,31 +16,21 @@ pub(crate) enum Direction {
     Forward,
 }
 
-// Eight vectors of small numbers.
+// Eight small numbers. The borrow checker takes an array of such structs, but none of vectors.
 #[derive(Clone, Copy)]
-pub(crate) struct Rows {
-    pub(crate) r0: i16x8,
-    pub(crate) r1: i16x8,
-    pub(crate) r2: i16x8,
-    pub(crate) r3: i16x8,
-    pub(crate) r4: i16x8,
-    pub(crate) r5: i16x8,
-    pub(crate) r6: i16x8,
-    pub(crate) r7: i16x8,
+pub(crate) struct Row {
+    pub(crate) lanes: i16x8,
 }
 
-// Eight vectors of sums.
+// Eight sums.
 #[derive(Clone, Copy)]
-pub(crate) struct Sums {
-    pub(crate) s0: i32x8,
-    pub(crate) s1: i32x8,
-    pub(crate) s2: i32x8,
-    pub(crate) s3: i32x8,
-    pub(crate) s4: i32x8,
-    pub(crate) s5: i32x8,
-    pub(crate) s6: i32x8,
-    pub(crate) s7: i32x8,
+pub(crate) struct Sum {
+    pub(crate) lanes: i32x8,
 }
+
+pub(crate) type Rows = [Row; 8];
+
+pub(crate) type Sums = [Sum; 8];
 
 // For each x the sum over u of M[u][x] * r[u]. The even rows of M are symmetric and the odd ones
 // antisymmetric, so x and 7 - x share their two halves; the even halves are mirrored once more.
@@ -51,28 +41,28 @@ fn inverse_pass(r: Rows) -> Sums
         → x < 8 → i < 8 → lane (sum_at result x) i ≡ pass_at Inverse (list_at r i) x }
     ensures size { SumsWithin (2 ^ 30) result }
 {
-    let (outer_sum, outer_difference) = rotated(2048, r.r0, 2048, r.r4);
-    let (inner_sum, inner_difference) = rotated(2676, r.r2, 1108, r.r6);
+    let (outer_sum, outer_difference) = rotated(2048, r[0].lanes, 2048, r[4].lanes);
+    let (inner_sum, inner_difference) = rotated(2676, r[2].lanes, 1108, r[6].lanes);
     let (even0, even3) = halves(outer_sum, inner_sum);
     let (even1, even2) = halves(outer_difference, inner_difference);
-    let (odd0a, odd3a) = rotated(2841, r.r1, 565, r.r7);
-    let (odd0b, odd3b) = rotated(1609, r.r5, 2408, r.r3);
-    let (odd2a, odd1a) = rotated(1609, r.r1, 2408, r.r7);
-    let (odd1b, odd2b) = rotated(565, r.r3, 2841, r.r5);
+    let (odd0a, odd3a) = rotated(2841, r[1].lanes, 565, r[7].lanes);
+    let (odd0b, odd3b) = rotated(1609, r[5].lanes, 2408, r[3].lanes);
+    let (odd2a, odd1a) = rotated(1609, r[1].lanes, 2408, r[7].lanes);
+    let (odd1b, odd2b) = rotated(565, r[3].lanes, 2841, r[5].lanes);
     let (s0, s7) = mirrored(even0, odd0a, odd0b);
     let (s1, s6) = mirrored_less(even1, odd1a, odd1b);
     let (s2, s5) = mirrored_less(even2, odd2a, odd2b);
     let (s3, s4) = mirrored(even3, odd3a, odd3b);
-    Sums {
-        s0,
-        s1,
-        s2,
-        s3,
-        s4,
-        s5,
-        s6,
-        s7,
-    }
+    [
+        Sum { lanes: s0 },
+        Sum { lanes: s1 },
+        Sum { lanes: s2 },
+        Sum { lanes: s3 },
+        Sum { lanes: s4 },
+        Sum { lanes: s5 },
+        Sum { lanes: s6 },
+        Sum { lanes: s7 },
+    ]
 }
 
 // For each u the sum over x of M[u][x] * r[x]: the even sums need only r[x] + r[7 - x], which are
@@ -84,10 +74,10 @@ fn forward_pass(r: Rows) -> Sums
         → u < 8 → i < 8 → lane (sum_at result u) i ≡ pass_at Forward (list_at r i) u }
     ensures size { SumsWithin (2 ^ 30) result }
 {
-    let (p0, m0) = pair(r.r0, r.r7);
-    let (p1, m1) = pair(r.r1, r.r6);
-    let (p2, m2) = pair(r.r2, r.r5);
-    let (p3, m3) = pair(r.r3, r.r4);
+    let (p0, m0) = pair(r[0].lanes, r[7].lanes);
+    let (p1, m1) = pair(r[1].lanes, r[6].lanes);
+    let (p2, m2) = pair(r[2].lanes, r[5].lanes);
+    let (p3, m3) = pair(r[3].lanes, r[4].lanes);
     let (q0, r0) = pair_of_sums(p0, p3);
     let (q1, r1) = pair_of_sums(p1, p2);
     let (s0, s4) = rotated(2048, q0, 2048, q1);
@@ -96,16 +86,24 @@ fn forward_pass(r: Rows) -> Sums
     let (s1b, s7b) = rotated(1609, m2, 2408, m1);
     let (s5a, s3a) = rotated(1609, m0, 2408, m3);
     let (s3b, s5b) = rotated(565, m1, 2841, m2);
-    Sums {
-        s0,
-        s1: halves(s1a, s1b).0,
-        s2,
-        s3: halves(s3a, s3b).1,
-        s4,
-        s5: halves(s5a, s5b).1,
-        s6,
-        s7: halves(s7a, s7b).0,
-    }
+    [
+        Sum { lanes: s0 },
+        Sum {
+            lanes: halves(s1a, s1b).0,
+        },
+        Sum { lanes: s2 },
+        Sum {
+            lanes: halves(s3a, s3b).1,
+        },
+        Sum { lanes: s4 },
+        Sum {
+            lanes: halves(s5a, s5b).1,
+        },
+        Sum { lanes: s6 },
+        Sum {
+            lanes: halves(s7a, s7b).0,
+        },
+    ]
 }
 
 // The eight sums of a pass over each of the eight lists.

@@ -8,7 +8,7 @@ ghost use Rattle.idct8.specs.Ranges.{IsSample};
 ghost use Rattle.idct8.specs.Transform.{entry, forward_at};
 ghost use Rattle.idct8.specs.Vectors.{lane, EightWithin, RowsWithin, row_at, square};
 
-use crate::passes::Rows;
+use crate::passes::{Row, Rows};
 use crate::terms::pair;
 use crate::turns::transposed;
 use crate::two_passes::row;
@@ -66,20 +66,15 @@ fn folded(block: &[i16; 64]) -> Rows
         → lane (row_at result j) (4 + k) ≡ entry block.now k j -ℤ entry block.now (7 - k) j }
     ensures size { RowsWithin 8191 result }
 {
-    let (r0, r4) = folded_row(block, 0);
-    let (r1, r5) = folded_row(block, 1);
-    let (r2, r6) = folded_row(block, 2);
-    let (r3, r7) = folded_row(block, 3);
-    transposed(Rows {
-        r0,
-        r1,
-        r2,
-        r3,
-        r4,
-        r5,
-        r6,
-        r7,
-    })
+    let mut rows = [Row {
+        lanes: i16x8::splat(0),
+    }; 8];
+    for k in 0..4 {
+        let (sum, difference) = folded_row(block, k);
+        rows[k] = Row { lanes: sum };
+        rows[4 + k] = Row { lanes: difference };
+    }
+    transposed(rows)
 }
 
 // The squares of two vectors, added up.
@@ -115,18 +110,22 @@ fn squares_of_four(a: i16x8, b: i16x8, c: i16x8, d: i16x8) -> i32x8
 fn squares_across(r: Rows) -> (i32x8, i32x8)
     requires { RowsWithin 8191 r }
     ensures sums { (i : ℕ) → i < 8 → lane result.0 i
-        ≡ pos (square (lane r.r0 i +ℤ lane r.r7 i) + square (lane r.r1 i +ℤ lane r.r6 i)
-        + square (lane r.r2 i +ℤ lane r.r5 i) + square (lane r.r3 i +ℤ lane r.r4 i)) }
+        ≡ pos (square (lane (row_at r 0) i +ℤ lane (row_at r 7) i)
+        + square (lane (row_at r 1) i +ℤ lane (row_at r 6) i)
+        + square (lane (row_at r 2) i +ℤ lane (row_at r 5) i)
+        + square (lane (row_at r 3) i +ℤ lane (row_at r 4) i)) }
     ensures differences { (i : ℕ) → i < 8 → lane result.1 i
-        ≡ pos (square (lane r.r0 i -ℤ lane r.r7 i) + square (lane r.r1 i -ℤ lane r.r6 i)
-        + square (lane r.r2 i -ℤ lane r.r5 i) + square (lane r.r3 i -ℤ lane r.r4 i)) }
+        ≡ pos (square (lane (row_at r 0) i -ℤ lane (row_at r 7) i)
+        + square (lane (row_at r 1) i -ℤ lane (row_at r 6) i)
+        + square (lane (row_at r 2) i -ℤ lane (row_at r 5) i)
+        + square (lane (row_at r 3) i -ℤ lane (row_at r 4) i)) }
     ensures sums_size { EightWithin 1073479696 result.0 }
     ensures differences_size { EightWithin 1073479696 result.1 }
 {
-    let (p0, m0) = pair(r.r0, r.r7);
-    let (p1, m1) = pair(r.r1, r.r6);
-    let (p2, m2) = pair(r.r2, r.r5);
-    let (p3, m3) = pair(r.r3, r.r4);
+    let (p0, m0) = pair(r[0].lanes, r[7].lanes);
+    let (p1, m1) = pair(r[1].lanes, r[6].lanes);
+    let (p2, m2) = pair(r[2].lanes, r[5].lanes);
+    let (p3, m3) = pair(r[3].lanes, r[4].lanes);
     (
         squares_of_four(p0, p1, p2, p3),
         squares_of_four(m0, m1, m2, m3),

@@ -1,8 +1,8 @@
 //! The transposition of eight rows of eight numbers, by weaving rows three times.
-ghost use Rattle.std.specs.Prelude.{◌≡◌, ℕ, ◌<◌};
+ghost use Rattle.std.specs.Prelude.{◌≡◌, ℕ, ◌+◌, ◌*◌, ◌<◌};
 ghost use Rattle.idct8.specs.Vectors.{EightWithin, RowsWithin, list_at, row_at, woven_first, woven_last};
 
-use crate::passes::Rows;
+use crate::passes::{Row, Rows};
 use std::simd::prelude::*;
 
 // The lanes of two rows in turn.
@@ -23,30 +23,19 @@ fn woven(a: i16x8, b: i16x8) -> (i16x8, i16x8)
 #[inline(always)]
 fn turned(r: Rows) -> Rows
     requires { RowsWithin 8191 r }
-    ensures r0 { result.r0 ≡ woven_first r.r0 r.r4 }
-    ensures r1 { result.r1 ≡ woven_last r.r0 r.r4 }
-    ensures r2 { result.r2 ≡ woven_first r.r1 r.r5 }
-    ensures r3 { result.r3 ≡ woven_last r.r1 r.r5 }
-    ensures r4 { result.r4 ≡ woven_first r.r2 r.r6 }
-    ensures r5 { result.r5 ≡ woven_last r.r2 r.r6 }
-    ensures r6 { result.r6 ≡ woven_first r.r3 r.r7 }
-    ensures r7 { result.r7 ≡ woven_last r.r3 r.r7 }
+    ensures first { (k : ℕ) → k < 4
+        → row_at result (2 * k) ≡ woven_first (row_at r k) (row_at r (k + 4)) }
+    ensures last { (k : ℕ) → k < 4
+        → row_at result (2 * k + 1) ≡ woven_last (row_at r k) (row_at r (k + 4)) }
     ensures size { RowsWithin 8191 result }
 {
-    let (r0, r1) = woven(r.r0, r.r4);
-    let (r2, r3) = woven(r.r1, r.r5);
-    let (r4, r5) = woven(r.r2, r.r6);
-    let (r6, r7) = woven(r.r3, r.r7);
-    Rows {
-        r0,
-        r1,
-        r2,
-        r3,
-        r4,
-        r5,
-        r6,
-        r7,
+    let mut turned = r;
+    for k in 0..4 {
+        let (first, last) = woven(r[k].lanes, r[k + 4].lanes);
+        turned[2 * k] = Row { lanes: first };
+        turned[2 * k + 1] = Row { lanes: last };
     }
+    turned
 }
 
 // The rows as columns.

@@ -10,7 +10,7 @@ ghost use Rattle.idct8.specs.Vectors.{lane, EightWithin, RowsWithin, SumsWithin,
 ghost use Rattle.idct8.specs.declared.passes.Direction.TheVariants.{Inverse, Forward};
 
 use crate::parts::{nearest, split};
-use crate::passes::{Direction, Rows, Sums, pass};
+use crate::passes::{Direction, Row, Rows, Sums, pass};
 use crate::turns::transposed;
 use std::simd::prelude::*;
 
@@ -112,17 +112,10 @@ fn upper(r: Rows) -> Rows
     ensures numbers { (j i : ℕ) → j < 8 → i < 8 → lane (row_at result j) i ≡ lane (row_at r j) i }
     ensures size { RowsWithin 8191 result }
 {
-    let zero = i16x8::splat(0);
-    Rows {
-        r0: r.r0,
-        r1: r.r1,
-        r2: r.r2,
-        r3: r.r3,
-        r4: zero,
-        r5: zero,
-        r6: zero,
-        r7: zero,
-    }
+    let zero = Row {
+        lanes: i16x8::splat(0),
+    };
+    [r[0], r[1], r[2], r[3], zero, zero, zero, zero]
 }
 
 #[inline(always)]
@@ -164,16 +157,15 @@ fn rows(block: &[i16; 64]) -> Rows
     ensures numbers { (j i : ℕ) → j < 8 → i < 8 → lane (row_at result j) i ≡ entry block.now j i }
     ensures size { RowsWithin 8191 result }
 {
-    Rows {
-        r0: row(block, 0),
-        r1: row(block, 1),
-        r2: row(block, 2),
-        r3: row(block, 3),
-        r4: row(block, 4),
-        r5: row(block, 5),
-        r6: row(block, 6),
-        r7: row(block, 7),
+    let mut rows = [Row {
+        lanes: i16x8::splat(0),
+    }; 8];
+    for j in 0..8 {
+        rows[j] = Row {
+            lanes: row(block, j),
+        };
     }
+    rows
 }
 
 #[inline(always)]
@@ -194,7 +186,7 @@ fn round(high: Sums, low: Sums, out: &mut [i32; 64])
         entry out.new r k ≡ rounded (pos 8192 *ℤ lane (sum_at high r) k +ℤ lane (sum_at low r) k) }
 {
     for r in 0..8 {
-        store(nearest(sum(high, r), sum(low, r)), r, out);
+        store(nearest(high[r].lanes, low[r].lanes), r, out);
     }
 }
 
@@ -205,23 +197,4 @@ fn store(v: i32x8, r: usize, out: &mut [i32; 64])
     ensures { out.new ≡ put_chunk (8 * r) out.old v }
 {
     v.copy_to_slice(&mut out[8 * r..]);
-}
-
-#[inline(always)]
-fn sum(s: Sums, k: usize) -> i32x8
-    requires k { k < 8 }
-    requires s { SumsWithin (2 ^ 30) s }
-    ensures value { result ≡ sum_at s k }
-    ensures size { EightWithin (2 ^ 30) result }
-{
-    match k {
-        0 => s.s0,
-        1 => s.s1,
-        2 => s.s2,
-        3 => s.s3,
-        4 => s.s4,
-        5 => s.s5,
-        6 => s.s6,
-        _ => s.s7,
-    }
 }

@@ -1,35 +1,35 @@
-use Rattle.std.proofs.Common.{◌≡◌, ◌^◌, ◌∙◌, lit≤, pos, [], ◌∷◌, slice_index_or, map, w32, to_z, of_z}
+use Rattle.std.proofs.Common.{◌≡◌, ◌^◌, ◌∙◌, lit≤, lit<, pos}
 use Rattle.idct8.specs.declared.passes.Direction.TheVariants.{Forward}
-use Rattle.idct8.specs.Vectors.{lane, list_at}
+use Rattle.idct8.specs.Vectors.{lane, EightWithin, list_at, row_at}
 use Rattle.idct8.specs.Passes.{pass_at}
-use Rattle.idct8.proofs.Sums.{below_eight}
+use Rattle.idct8.proofs.Eights.{each_sum}
 use Rattle.idct8.proofs.Vectors.{passed_within, passed_within16, passed_lane, passed_lane16}
 use Rattle.idct8.proofs.Rotations.{plain_sum, plain_difference, sum_of, difference_of, forward_sum_0, forward_sum_1, forward_sum_2, forward_sum_3, forward_sum_4, forward_sum_5, forward_sum_6, forward_sum_7}
 use Rattle.idct8.proofs.passes.forward_pass.Goals as goal
 
 pub pair-requires-clause-a : goal.pair-requires-clause-a
-pair-requires-clause-a c = passed_within16 8191 8191 (lit≤ tt) (lit≤ tt) c.requires.r0
+pair-requires-clause-a c = passed_within16 8191 8191 (lit≤ tt) (lit≤ tt) (c.requires 0 (lit< tt))
 
 pub pair-requires-clause-b : goal.pair-requires-clause-b
-pair-requires-clause-b c = passed_within16 8191 8191 (lit≤ tt) (lit≤ tt) c.requires.r7
+pair-requires-clause-b c = passed_within16 8191 8191 (lit≤ tt) (lit≤ tt) (c.requires 7 (lit< tt))
 
 pub pair-requires-2-clause-a : goal.pair-requires-2-clause-a
-pair-requires-2-clause-a c = passed_within16 8191 8191 (lit≤ tt) (lit≤ tt) c.requires.r1
+pair-requires-2-clause-a c = passed_within16 8191 8191 (lit≤ tt) (lit≤ tt) (c.requires 1 (lit< tt))
 
 pub pair-requires-2-clause-b : goal.pair-requires-2-clause-b
-pair-requires-2-clause-b c = passed_within16 8191 8191 (lit≤ tt) (lit≤ tt) c.requires.r6
+pair-requires-2-clause-b c = passed_within16 8191 8191 (lit≤ tt) (lit≤ tt) (c.requires 6 (lit< tt))
 
 pub pair-requires-3-clause-a : goal.pair-requires-3-clause-a
-pair-requires-3-clause-a c = passed_within16 8191 8191 (lit≤ tt) (lit≤ tt) c.requires.r2
+pair-requires-3-clause-a c = passed_within16 8191 8191 (lit≤ tt) (lit≤ tt) (c.requires 2 (lit< tt))
 
 pub pair-requires-3-clause-b : goal.pair-requires-3-clause-b
-pair-requires-3-clause-b c = passed_within16 8191 8191 (lit≤ tt) (lit≤ tt) c.requires.r5
+pair-requires-3-clause-b c = passed_within16 8191 8191 (lit≤ tt) (lit≤ tt) (c.requires 5 (lit< tt))
 
 pub pair-requires-4-clause-a : goal.pair-requires-4-clause-a
-pair-requires-4-clause-a c = passed_within16 8191 8191 (lit≤ tt) (lit≤ tt) c.requires.r3
+pair-requires-4-clause-a c = passed_within16 8191 8191 (lit≤ tt) (lit≤ tt) (c.requires 3 (lit< tt))
 
 pub pair-requires-4-clause-b : goal.pair-requires-4-clause-b
-pair-requires-4-clause-b c = passed_within16 8191 8191 (lit≤ tt) (lit≤ tt) c.requires.r4
+pair-requires-4-clause-b c = passed_within16 8191 8191 (lit≤ tt) (lit≤ tt) (c.requires 4 (lit< tt))
 
 pub pair_of_sums-requires-clause-a : goal.pair_of_sums-requires-clause-a
 pair_of_sums-requires-clause-a c = passed_within16 16382 16382 (lit≤ tt) (lit≤ tt) c.pair.ensures.sum_size
@@ -105,14 +105,14 @@ halves-requires-4-clause-b c = passed_within (2 ^ 28) (2 ^ 28) (lit≤ tt) (lit�
 
 pub returns-clause-sums : goal.returns-clause-sums
 returns-clause-sums c u i hu hi =
-    let r0 = passed_lane16 8191 i (lit≤ tt) c.requires.r0 in
-    let r1 = passed_lane16 8191 i (lit≤ tt) c.requires.r1 in
-    let r2 = passed_lane16 8191 i (lit≤ tt) c.requires.r2 in
-    let r3 = passed_lane16 8191 i (lit≤ tt) c.requires.r3 in
-    let r4 = passed_lane16 8191 i (lit≤ tt) c.requires.r4 in
-    let r5 = passed_lane16 8191 i (lit≤ tt) c.requires.r5 in
-    let r6 = passed_lane16 8191 i (lit≤ tt) c.requires.r6 in
-    let r7 = passed_lane16 8191 i (lit≤ tt) c.requires.r7 in
+    let r0 = passed_lane16 8191 i (lit≤ tt) (c.requires 0 (lit< tt)) in
+    let r1 = passed_lane16 8191 i (lit≤ tt) (c.requires 1 (lit< tt)) in
+    let r2 = passed_lane16 8191 i (lit≤ tt) (c.requires 2 (lit< tt)) in
+    let r3 = passed_lane16 8191 i (lit≤ tt) (c.requires 3 (lit< tt)) in
+    let r4 = passed_lane16 8191 i (lit≤ tt) (c.requires 4 (lit< tt)) in
+    let r5 = passed_lane16 8191 i (lit≤ tt) (c.requires 5 (lit< tt)) in
+    let r6 = passed_lane16 8191 i (lit≤ tt) (c.requires 6 (lit< tt)) in
+    let r7 = passed_lane16 8191 i (lit≤ tt) (c.requires 7 (lit< tt)) in
     let p0 = sum_of (c.pair.ensures.sum i hi) r0 r7 in
     let m0 = difference_of (c.pair.ensures.difference i hi) r0 r7 in
     let p1 = sum_of (c.pair-2.ensures.sum i hi) r1 r6 in
@@ -137,25 +137,25 @@ returns-clause-sums c u i hu hi =
     let u5 = plain_difference (pos 2408) (pos 1609) (c.rotated-5.ensures.second i hi) (passed_lane16 16382 i (lit≤ tt) c.pair.ensures.difference_size) (passed_lane16 16382 i (lit≤ tt) c.pair-4.ensures.difference_size) in
     let t6 = plain_sum (pos 565) (pos 2841) (c.rotated-6.ensures.first i hi) (passed_lane16 16382 i (lit≤ tt) c.pair-2.ensures.difference_size) (passed_lane16 16382 i (lit≤ tt) c.pair-3.ensures.difference_size) in
     let u6 = plain_difference (pos 2841) (pos 565) (c.rotated-6.ensures.second i hi) (passed_lane16 16382 i (lit≤ tt) c.pair-2.ensures.difference_size) (passed_lane16 16382 i (lit≤ tt) c.pair-3.ensures.difference_size) in
-    below_eight (λ k. lane (slice_index_or (map (to_z w32) (map (of_z w32) c.rotated.result.0) ∷ map (to_z w32) (map (of_z w32) c.halves.result.0) ∷ map (to_z w32) (map (of_z w32) c.rotated-2.result.0) ∷ map (to_z w32) (map (of_z w32) c.halves-2.result.1) ∷ map (to_z w32) (map (of_z w32) c.rotated.result.1) ∷ map (to_z w32) (map (of_z w32) c.halves-3.result.1) ∷ map (to_z w32) (map (of_z w32) c.rotated-2.result.1) ∷ map (to_z w32) (map (of_z w32) c.halves-4.result.0) ∷ []) k []) i ≡ pass_at Forward (list_at c.args.r i) k)
-    (passed_lane (2 ^ 28) i (lit≤ tt) c.rotated.ensures.first_size ∙ forward_sum_0 (lane c.args.r.r0 i) (lane c.args.r.r1 i) (lane c.args.r.r2 i) (lane c.args.r.r3 i) (lane c.args.r.r4 i) (lane c.args.r.r5 i) (lane c.args.r.r6 i) (lane c.args.r.r7 i) t1 q0 q1 p0 p1 p2 p3)
-    (passed_lane (2 ^ 29) i (lit≤ tt) c.halves.ensures.sum_size ∙ forward_sum_1 (lane c.args.r.r0 i) (lane c.args.r.r1 i) (lane c.args.r.r2 i) (lane c.args.r.r3 i) (lane c.args.r.r4 i) (lane c.args.r.r5 i) (lane c.args.r.r6 i) (lane c.args.r.r7 i) (sum_of (c.halves.ensures.sum i hi) (passed_lane (2 ^ 28) i (lit≤ tt) c.rotated-3.ensures.first_size) (passed_lane (2 ^ 28) i (lit≤ tt) c.rotated-4.ensures.first_size)) t3 t4 m0 m1 m2 m3)
-    (passed_lane (2 ^ 28) i (lit≤ tt) c.rotated-2.ensures.first_size ∙ forward_sum_2 (lane c.args.r.r0 i) (lane c.args.r.r1 i) (lane c.args.r.r2 i) (lane c.args.r.r3 i) (lane c.args.r.r4 i) (lane c.args.r.r5 i) (lane c.args.r.r6 i) (lane c.args.r.r7 i) t2 r_0 r_1 p0 p1 p2 p3)
-    (passed_lane (2 ^ 29) i (lit≤ tt) c.halves-2.ensures.difference_size ∙ forward_sum_3 (lane c.args.r.r0 i) (lane c.args.r.r1 i) (lane c.args.r.r2 i) (lane c.args.r.r3 i) (lane c.args.r.r4 i) (lane c.args.r.r5 i) (lane c.args.r.r6 i) (lane c.args.r.r7 i) (difference_of (c.halves-2.ensures.difference i hi) (passed_lane (2 ^ 28) i (lit≤ tt) c.rotated-5.ensures.second_size) (passed_lane (2 ^ 28) i (lit≤ tt) c.rotated-6.ensures.first_size)) u5 t6 m0 m1 m2 m3)
-    (passed_lane (2 ^ 28) i (lit≤ tt) c.rotated.ensures.second_size ∙ forward_sum_4 (lane c.args.r.r0 i) (lane c.args.r.r1 i) (lane c.args.r.r2 i) (lane c.args.r.r3 i) (lane c.args.r.r4 i) (lane c.args.r.r5 i) (lane c.args.r.r6 i) (lane c.args.r.r7 i) u1 q0 q1 p0 p1 p2 p3)
-    (passed_lane (2 ^ 29) i (lit≤ tt) c.halves-3.ensures.difference_size ∙ forward_sum_5 (lane c.args.r.r0 i) (lane c.args.r.r1 i) (lane c.args.r.r2 i) (lane c.args.r.r3 i) (lane c.args.r.r4 i) (lane c.args.r.r5 i) (lane c.args.r.r6 i) (lane c.args.r.r7 i) (difference_of (c.halves-3.ensures.difference i hi) (passed_lane (2 ^ 28) i (lit≤ tt) c.rotated-5.ensures.first_size) (passed_lane (2 ^ 28) i (lit≤ tt) c.rotated-6.ensures.second_size)) t5 u6 m0 m1 m2 m3)
-    (passed_lane (2 ^ 28) i (lit≤ tt) c.rotated-2.ensures.second_size ∙ forward_sum_6 (lane c.args.r.r0 i) (lane c.args.r.r1 i) (lane c.args.r.r2 i) (lane c.args.r.r3 i) (lane c.args.r.r4 i) (lane c.args.r.r5 i) (lane c.args.r.r6 i) (lane c.args.r.r7 i) u2 r_0 r_1 p0 p1 p2 p3)
-    (passed_lane (2 ^ 29) i (lit≤ tt) c.halves-4.ensures.sum_size ∙ forward_sum_7 (lane c.args.r.r0 i) (lane c.args.r.r1 i) (lane c.args.r.r2 i) (lane c.args.r.r3 i) (lane c.args.r.r4 i) (lane c.args.r.r5 i) (lane c.args.r.r6 i) (lane c.args.r.r7 i) (sum_of (c.halves-4.ensures.sum i hi) (passed_lane (2 ^ 28) i (lit≤ tt) c.rotated-3.ensures.second_size) (passed_lane (2 ^ 28) i (lit≤ tt) c.rotated-4.ensures.second_size)) u3 u4 m0 m1 m2 m3)
+    each_sum (λ k v. lane v i ≡ pass_at Forward (list_at c.args.r i) k)
+    (passed_lane (2 ^ 28) i (lit≤ tt) c.rotated.ensures.first_size ∙ forward_sum_0 (lane (row_at c.args.r 0) i) (lane (row_at c.args.r 1) i) (lane (row_at c.args.r 2) i) (lane (row_at c.args.r 3) i) (lane (row_at c.args.r 4) i) (lane (row_at c.args.r 5) i) (lane (row_at c.args.r 6) i) (lane (row_at c.args.r 7) i) t1 q0 q1 p0 p1 p2 p3)
+    (passed_lane (2 ^ 29) i (lit≤ tt) c.halves.ensures.sum_size ∙ forward_sum_1 (lane (row_at c.args.r 0) i) (lane (row_at c.args.r 1) i) (lane (row_at c.args.r 2) i) (lane (row_at c.args.r 3) i) (lane (row_at c.args.r 4) i) (lane (row_at c.args.r 5) i) (lane (row_at c.args.r 6) i) (lane (row_at c.args.r 7) i) (sum_of (c.halves.ensures.sum i hi) (passed_lane (2 ^ 28) i (lit≤ tt) c.rotated-3.ensures.first_size) (passed_lane (2 ^ 28) i (lit≤ tt) c.rotated-4.ensures.first_size)) t3 t4 m0 m1 m2 m3)
+    (passed_lane (2 ^ 28) i (lit≤ tt) c.rotated-2.ensures.first_size ∙ forward_sum_2 (lane (row_at c.args.r 0) i) (lane (row_at c.args.r 1) i) (lane (row_at c.args.r 2) i) (lane (row_at c.args.r 3) i) (lane (row_at c.args.r 4) i) (lane (row_at c.args.r 5) i) (lane (row_at c.args.r 6) i) (lane (row_at c.args.r 7) i) t2 r_0 r_1 p0 p1 p2 p3)
+    (passed_lane (2 ^ 29) i (lit≤ tt) c.halves-2.ensures.difference_size ∙ forward_sum_3 (lane (row_at c.args.r 0) i) (lane (row_at c.args.r 1) i) (lane (row_at c.args.r 2) i) (lane (row_at c.args.r 3) i) (lane (row_at c.args.r 4) i) (lane (row_at c.args.r 5) i) (lane (row_at c.args.r 6) i) (lane (row_at c.args.r 7) i) (difference_of (c.halves-2.ensures.difference i hi) (passed_lane (2 ^ 28) i (lit≤ tt) c.rotated-5.ensures.second_size) (passed_lane (2 ^ 28) i (lit≤ tt) c.rotated-6.ensures.first_size)) u5 t6 m0 m1 m2 m3)
+    (passed_lane (2 ^ 28) i (lit≤ tt) c.rotated.ensures.second_size ∙ forward_sum_4 (lane (row_at c.args.r 0) i) (lane (row_at c.args.r 1) i) (lane (row_at c.args.r 2) i) (lane (row_at c.args.r 3) i) (lane (row_at c.args.r 4) i) (lane (row_at c.args.r 5) i) (lane (row_at c.args.r 6) i) (lane (row_at c.args.r 7) i) u1 q0 q1 p0 p1 p2 p3)
+    (passed_lane (2 ^ 29) i (lit≤ tt) c.halves-3.ensures.difference_size ∙ forward_sum_5 (lane (row_at c.args.r 0) i) (lane (row_at c.args.r 1) i) (lane (row_at c.args.r 2) i) (lane (row_at c.args.r 3) i) (lane (row_at c.args.r 4) i) (lane (row_at c.args.r 5) i) (lane (row_at c.args.r 6) i) (lane (row_at c.args.r 7) i) (difference_of (c.halves-3.ensures.difference i hi) (passed_lane (2 ^ 28) i (lit≤ tt) c.rotated-5.ensures.first_size) (passed_lane (2 ^ 28) i (lit≤ tt) c.rotated-6.ensures.second_size)) t5 u6 m0 m1 m2 m3)
+    (passed_lane (2 ^ 28) i (lit≤ tt) c.rotated-2.ensures.second_size ∙ forward_sum_6 (lane (row_at c.args.r 0) i) (lane (row_at c.args.r 1) i) (lane (row_at c.args.r 2) i) (lane (row_at c.args.r 3) i) (lane (row_at c.args.r 4) i) (lane (row_at c.args.r 5) i) (lane (row_at c.args.r 6) i) (lane (row_at c.args.r 7) i) u2 r_0 r_1 p0 p1 p2 p3)
+    (passed_lane (2 ^ 29) i (lit≤ tt) c.halves-4.ensures.sum_size ∙ forward_sum_7 (lane (row_at c.args.r 0) i) (lane (row_at c.args.r 1) i) (lane (row_at c.args.r 2) i) (lane (row_at c.args.r 3) i) (lane (row_at c.args.r 4) i) (lane (row_at c.args.r 5) i) (lane (row_at c.args.r 6) i) (lane (row_at c.args.r 7) i) (sum_of (c.halves-4.ensures.sum i hi) (passed_lane (2 ^ 28) i (lit≤ tt) c.rotated-3.ensures.second_size) (passed_lane (2 ^ 28) i (lit≤ tt) c.rotated-4.ensures.second_size)) u3 u4 m0 m1 m2 m3)
     u hu
 
 pub returns-clause-size : goal.returns-clause-size
-returns-clause-size c = record {
-  s0 = passed_within (2 ^ 28) (2 ^ 30) (lit≤ tt) (lit≤ tt) c.rotated.ensures.first_size;
-  s1 = passed_within (2 ^ 29) (2 ^ 30) (lit≤ tt) (lit≤ tt) c.halves.ensures.sum_size;
-  s2 = passed_within (2 ^ 28) (2 ^ 30) (lit≤ tt) (lit≤ tt) c.rotated-2.ensures.first_size;
-  s3 = passed_within (2 ^ 29) (2 ^ 30) (lit≤ tt) (lit≤ tt) c.halves-2.ensures.difference_size;
-  s4 = passed_within (2 ^ 28) (2 ^ 30) (lit≤ tt) (lit≤ tt) c.rotated.ensures.second_size;
-  s5 = passed_within (2 ^ 29) (2 ^ 30) (lit≤ tt) (lit≤ tt) c.halves-3.ensures.difference_size;
-  s6 = passed_within (2 ^ 28) (2 ^ 30) (lit≤ tt) (lit≤ tt) c.rotated-2.ensures.second_size;
-  s7 = passed_within (2 ^ 29) (2 ^ 30) (lit≤ tt) (lit≤ tt) c.halves-4.ensures.sum_size;
-}
+returns-clause-size c =
+    each_sum (λ _ v. EightWithin (2 ^ 30) v)
+    (passed_within (2 ^ 28) (2 ^ 30) (lit≤ tt) (lit≤ tt) c.rotated.ensures.first_size)
+    (passed_within (2 ^ 29) (2 ^ 30) (lit≤ tt) (lit≤ tt) c.halves.ensures.sum_size)
+    (passed_within (2 ^ 28) (2 ^ 30) (lit≤ tt) (lit≤ tt) c.rotated-2.ensures.first_size)
+    (passed_within (2 ^ 29) (2 ^ 30) (lit≤ tt) (lit≤ tt) c.halves-2.ensures.difference_size)
+    (passed_within (2 ^ 28) (2 ^ 30) (lit≤ tt) (lit≤ tt) c.rotated.ensures.second_size)
+    (passed_within (2 ^ 29) (2 ^ 30) (lit≤ tt) (lit≤ tt) c.halves-3.ensures.difference_size)
+    (passed_within (2 ^ 28) (2 ^ 30) (lit≤ tt) (lit≤ tt) c.rotated-2.ensures.second_size)
+    (passed_within (2 ^ 29) (2 ^ 30) (lit≤ tt) (lit≤ tt) c.halves-4.ensures.sum_size)

@@ -1,71 +1,50 @@
-use Rattle.std.proofs.Common.{lit≤, ◌∙◌}
+use Rattle.std.proofs.Common.{◌≡◌, ◌∙◌, ℕ, ◌+◌, ◌*◌, ◌<◌, ℤ, List, map, arith, lit≤, lit<, sym, subst, length, length-set, slice_set, w16, to_z, of_z}
+use Rattle.idct8.specs.Vectors.{row_at, EightWithin, woven_first, woven_last}
+use Rattle.idct8.proofs.Eights.{row_with, two_rows}
+use Rattle.idct8.proofs.Sums.{below_eight}
 use Rattle.idct8.proofs.Vectors.{passed16, passed_within16}
+use Rattle.idct8.proofs.Weaving.{first_within, last_within}
 use Rattle.idct8.proofs.turns.turned.Goals as goal
 
 pub woven-requires-clause-a : goal.woven-requires-clause-a
-woven-requires-clause-a c = passed_within16 8191 8191 (lit≤ tt) (lit≤ tt) c.requires.r0
+woven-requires-clause-a c = passed_within16 8191 8191 (lit≤ tt) (lit≤ tt) (c.requires c.loop-k.k (omega (arith, c.loop-k-test.true)))
 
 pub woven-requires-clause-b : goal.woven-requires-clause-b
-woven-requires-clause-b c = passed_within16 8191 8191 (lit≤ tt) (lit≤ tt) c.requires.r4
+woven-requires-clause-b c = passed_within16 8191 8191 (lit≤ tt) (lit≤ tt) (c.requires (c.loop-k.k + 4) (omega (arith, c.loop-k-test.true)))
 
-pub woven-requires-2-clause-a : goal.woven-requires-2-clause-a
-woven-requires-2-clause-a c = passed_within16 8191 8191 (lit≤ tt) (lit≤ tt) c.requires.r1
+pub loop-k-preserved : goal.loop-k-preserved
+loop-k-preserved c =
+    let k : ℕ = c.loop-k.k in
+    let rows = c.loop-k.turned in
+    let below : k < 4 = c.loop-k-test.true in
+    let long : length rows ≡ 8 = c.loop-k.invariant.0 in
+    let first : List ℤ = map (to_z w16) (map (of_z w16) c.woven.result.0) in
+    let last : List ℤ = map (to_z w16) (map (of_z w16) c.woven.result.1) in
+    let once = slice_set rows (2 * k) (row_with first) in
+    let upper : map (to_z w16) (map (of_z w16) (row_at c.args.r k)) ≡ row_at c.args.r k = passed16 8191 (lit≤ tt) (c.requires k (omega (arith, below))) in
+    let lower : map (to_z w16) (map (of_z w16) (row_at c.args.r (k + 4))) ≡ row_at c.args.r (k + 4) = passed16 8191 (lit≤ tt) (c.requires (k + 4) (omega (arith, below))) in (
+      length-set once (2 * k + 1) (row_with last) ∙ length-set rows (2 * k) (row_with first) ∙ long,
+      two_rows (λ j v w. (v ≡ woven_first (row_at c.args.r j) (row_at c.args.r (j + 4))) × (w ≡ woven_last (row_at c.args.r j) (row_at c.args.r (j + 4)))) (λ j. 2 * j) (λ j. 2 * j + 1) rows k first last
+          (omega (arith, below, long)) (omega (arith, below, long, length-set rows (2 * k) (row_with first))) (omega arith)
+          (λ j hj. (omega (arith, hj), omega (arith, hj), omega (arith, hj), omega (arith, hj)))
+          c.loop-k.invariant.1
+          (passed16 8191 (lit≤ tt) c.woven.ensures.first_size ∙ c.woven.ensures.first ∙ cc (upper, lower), passed16 8191 (lit≤ tt) c.woven.ensures.last_size ∙ c.woven.ensures.last ∙ cc (upper, lower)),
+    )
 
-pub woven-requires-2-clause-b : goal.woven-requires-2-clause-b
-woven-requires-2-clause-b c = passed_within16 8191 8191 (lit≤ tt) (lit≤ tt) c.requires.r5
+pub returns-clause-first : goal.returns-clause-first
+returns-clause-first c k hk = (c.loop-k.invariant.1 k (omega (arith, hk, c.loop-k-test.false))).0
 
-pub woven-requires-3-clause-a : goal.woven-requires-3-clause-a
-woven-requires-3-clause-a c = passed_within16 8191 8191 (lit≤ tt) (lit≤ tt) c.requires.r2
-
-pub woven-requires-3-clause-b : goal.woven-requires-3-clause-b
-woven-requires-3-clause-b c = passed_within16 8191 8191 (lit≤ tt) (lit≤ tt) c.requires.r6
-
-pub woven-requires-4-clause-a : goal.woven-requires-4-clause-a
-woven-requires-4-clause-a c = passed_within16 8191 8191 (lit≤ tt) (lit≤ tt) c.requires.r3
-
-pub woven-requires-4-clause-b : goal.woven-requires-4-clause-b
-woven-requires-4-clause-b c = passed_within16 8191 8191 (lit≤ tt) (lit≤ tt) c.requires.r7
-
-pub returns-clause-r0 : goal.returns-clause-r0
-returns-clause-r0 c =
-    passed16 8191 (lit≤ tt) c.woven.ensures.first_size ∙ c.woven.ensures.first ∙ cc (passed16 8191 (lit≤ tt) c.requires.r0, passed16 8191 (lit≤ tt) c.requires.r4)
-
-pub returns-clause-r1 : goal.returns-clause-r1
-returns-clause-r1 c =
-    passed16 8191 (lit≤ tt) c.woven.ensures.last_size ∙ c.woven.ensures.last ∙ cc (passed16 8191 (lit≤ tt) c.requires.r0, passed16 8191 (lit≤ tt) c.requires.r4)
-
-pub returns-clause-r2 : goal.returns-clause-r2
-returns-clause-r2 c =
-    passed16 8191 (lit≤ tt) c.woven-2.ensures.first_size ∙ c.woven-2.ensures.first ∙ cc (passed16 8191 (lit≤ tt) c.requires.r1, passed16 8191 (lit≤ tt) c.requires.r5)
-
-pub returns-clause-r3 : goal.returns-clause-r3
-returns-clause-r3 c =
-    passed16 8191 (lit≤ tt) c.woven-2.ensures.last_size ∙ c.woven-2.ensures.last ∙ cc (passed16 8191 (lit≤ tt) c.requires.r1, passed16 8191 (lit≤ tt) c.requires.r5)
-
-pub returns-clause-r4 : goal.returns-clause-r4
-returns-clause-r4 c =
-    passed16 8191 (lit≤ tt) c.woven-3.ensures.first_size ∙ c.woven-3.ensures.first ∙ cc (passed16 8191 (lit≤ tt) c.requires.r2, passed16 8191 (lit≤ tt) c.requires.r6)
-
-pub returns-clause-r5 : goal.returns-clause-r5
-returns-clause-r5 c =
-    passed16 8191 (lit≤ tt) c.woven-3.ensures.last_size ∙ c.woven-3.ensures.last ∙ cc (passed16 8191 (lit≤ tt) c.requires.r2, passed16 8191 (lit≤ tt) c.requires.r6)
-
-pub returns-clause-r6 : goal.returns-clause-r6
-returns-clause-r6 c =
-    passed16 8191 (lit≤ tt) c.woven-4.ensures.first_size ∙ c.woven-4.ensures.first ∙ cc (passed16 8191 (lit≤ tt) c.requires.r3, passed16 8191 (lit≤ tt) c.requires.r7)
-
-pub returns-clause-r7 : goal.returns-clause-r7
-returns-clause-r7 c =
-    passed16 8191 (lit≤ tt) c.woven-4.ensures.last_size ∙ c.woven-4.ensures.last ∙ cc (passed16 8191 (lit≤ tt) c.requires.r3, passed16 8191 (lit≤ tt) c.requires.r7)
+pub returns-clause-last : goal.returns-clause-last
+returns-clause-last c k hk = (c.loop-k.invariant.1 k (omega (arith, hk, c.loop-k-test.false))).1
 
 pub returns-clause-size : goal.returns-clause-size
-returns-clause-size c = record {
-  r0 = passed_within16 8191 8191 (lit≤ tt) (lit≤ tt) c.woven.ensures.first_size;
-  r1 = passed_within16 8191 8191 (lit≤ tt) (lit≤ tt) c.woven.ensures.last_size;
-  r2 = passed_within16 8191 8191 (lit≤ tt) (lit≤ tt) c.woven-2.ensures.first_size;
-  r3 = passed_within16 8191 8191 (lit≤ tt) (lit≤ tt) c.woven-2.ensures.last_size;
-  r4 = passed_within16 8191 8191 (lit≤ tt) (lit≤ tt) c.woven-3.ensures.first_size;
-  r5 = passed_within16 8191 8191 (lit≤ tt) (lit≤ tt) c.woven-3.ensures.last_size;
-  r6 = passed_within16 8191 8191 (lit≤ tt) (lit≤ tt) c.woven-4.ensures.first_size;
-  r7 = passed_within16 8191 8191 (lit≤ tt) (lit≤ tt) c.woven-4.ensures.last_size;
-}
+returns-clause-size c =
+    below_eight (λ j. EightWithin 8191 (row_at c.loop-k.turned j))
+    (subst (λ (v : List ℤ). EightWithin 8191 v) (sym (returns-clause-first c 0 (lit< tt))) (first_within 8191 (c.requires 0 (lit< tt)) (c.requires 4 (lit< tt))))
+    (subst (λ (v : List ℤ). EightWithin 8191 v) (sym (returns-clause-last c 0 (lit< tt))) (last_within 8191 (c.requires 0 (lit< tt)) (c.requires 4 (lit< tt))))
+    (subst (λ (v : List ℤ). EightWithin 8191 v) (sym (returns-clause-first c 1 (lit< tt))) (first_within 8191 (c.requires 1 (lit< tt)) (c.requires 5 (lit< tt))))
+    (subst (λ (v : List ℤ). EightWithin 8191 v) (sym (returns-clause-last c 1 (lit< tt))) (last_within 8191 (c.requires 1 (lit< tt)) (c.requires 5 (lit< tt))))
+    (subst (λ (v : List ℤ). EightWithin 8191 v) (sym (returns-clause-first c 2 (lit< tt))) (first_within 8191 (c.requires 2 (lit< tt)) (c.requires 6 (lit< tt))))
+    (subst (λ (v : List ℤ). EightWithin 8191 v) (sym (returns-clause-last c 2 (lit< tt))) (last_within 8191 (c.requires 2 (lit< tt)) (c.requires 6 (lit< tt))))
+    (subst (λ (v : List ℤ). EightWithin 8191 v) (sym (returns-clause-first c 3 (lit< tt))) (first_within 8191 (c.requires 3 (lit< tt)) (c.requires 7 (lit< tt))))
+    (subst (λ (v : List ℤ). EightWithin 8191 v) (sym (returns-clause-last c 3 (lit< tt))) (last_within 8191 (c.requires 3 (lit< tt)) (c.requires 7 (lit< tt))))

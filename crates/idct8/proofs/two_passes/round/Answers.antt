@@ -16,10 +16,10 @@ row_step f out v r lo lv hr own above j k hj hk =
     (get_or-put_chunk_at (8 * r) out v k (pos 0) (omega (arith, lv)) (omega (arith, lv, lo)) ∙ own k hk) j hj
 
 pub nearest-requires-clause-high : goal.nearest-requires-clause-high
-nearest-requires-clause-high c = passed_within (2 ^ 30) (2 ^ 30) (lit≤ tt) (lit≤ tt) c.sum.ensures.size
+nearest-requires-clause-high c = passed_within (2 ^ 30) (2 ^ 30) (lit≤ tt) (lit≤ tt) (c.requires.high c.loop-r.r c.loop-r-test.true)
 
 pub nearest-requires-clause-low : goal.nearest-requires-clause-low
-nearest-requires-clause-low c = passed_within (2 ^ 30) (2 ^ 30) (lit≤ tt) (lit≤ tt) c.sum-in-loop-r.ensures.size
+nearest-requires-clause-low c = passed_within (2 ^ 30) (2 ^ 30) (lit≤ tt) (lit≤ tt) (c.requires.low c.loop-r.r c.loop-r-test.true)
 
 pub store-requires-clause-v : goal.store-requires-clause-v
 store-requires-clause-v c = passed_within 270000 270000 (lit≤ tt) (lit≤ tt) c.nearest.ensures.size
@@ -32,8 +32,8 @@ loop-r-preserved c =
     let is = c.store.ensures ∙ ap (λ (u : List ℤ). put_chunk (8 * r) out u) (passed 270000 (lit≤ tt) c.nearest.ensures.size) in
     let own : (k : ℕ) → k < 8 → lane v k ≡ rounded (pos 8192 *ℤ lane (sum_at c.args.high r) k +ℤ lane (sum_at c.args.low r) k) = λ k hk.
     c.nearest.ensures.value k hk
-    ∙ same_rounded (passed_lane (2 ^ 30) k (lit≤ tt) c.sum.ensures.size ∙ ap (λ (u : List ℤ). lane u k) c.sum.ensures.value)
-    (passed_lane (2 ^ 30) k (lit≤ tt) c.sum-in-loop-r.ensures.size ∙ ap (λ (u : List ℤ). lane u k) c.sum-in-loop-r.ensures.value) in (
+    ∙ same_rounded (passed_lane (2 ^ 30) k (lit≤ tt) (c.requires.high r c.loop-r-test.true))
+    (passed_lane (2 ^ 30) k (lit≤ tt) (c.requires.low r c.loop-r-test.true)) in (
       ap length is ∙ length-put_chunk (8 * r) out v ∙ c.loop-r.invariant.0,
       λ j k hj hk. ap (λ (u : List ℤ). entry u j k) is ∙ row_step (λ r k. rounded (pos 8192 *ℤ lane (sum_at c.args.high r) k +ℤ lane (sum_at c.args.low r) k)) out v r c.loop-r.invariant.0 c.nearest.ensures.size.long c.loop-r-test.true own c.loop-r.invariant.1 j k hj hk,
     )

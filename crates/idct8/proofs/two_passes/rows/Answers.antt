@@ -1,31 +1,23 @@
-use Rattle.std.proofs.Common.{◌≡◌, ◌∙◌, lit≤, [], ◌∷◌, slice_index_or, map, w16, to_z, of_z}
+use Rattle.std.proofs.Common.{◌≡◌, ◌∙◌, ℕ, ◌<◌, ℤ, List, map, arith, lit≤, length, length-set, w16, to_z, of_z}
 use Rattle.idct8.specs.Transform.{entry}
-use Rattle.idct8.specs.Vectors.{lane}
-use Rattle.idct8.proofs.Sums.{below_eight}
+use Rattle.idct8.specs.Vectors.{lane, EightWithin}
+use Rattle.idct8.proofs.Eights.{one_row, row_with}
 use Rattle.idct8.proofs.Vectors.{passed_lane16, passed_within16}
 use Rattle.idct8.proofs.two_passes.rows.Goals as goal
 
+pub loop-j-preserved : goal.loop-j-preserved
+loop-j-preserved c =
+    let j : ℕ = c.loop-j.j in
+    let below : j < 8 = c.loop-j-test.true in
+    let long : length c.loop-j.rows ≡ 8 = c.loop-j.invariant.0 in
+    let read : List ℤ = map (to_z w16) (map (of_z w16) c.row.result) in (
+      length-set c.loop-j.rows j (row_with read) ∙ long,
+      one_row (λ j v. EightWithin 8191 v × ((i : ℕ) → i < 8 → lane v i ≡ entry c.args.block.now j i)) c.loop-j.rows j read (omega (arith, below, long)) c.loop-j.invariant.1
+          (passed_within16 8191 8191 (lit≤ tt) (lit≤ tt) c.row.ensures.size, λ i hi. passed_lane16 8191 i (lit≤ tt) c.row.ensures.size ∙ c.row.ensures.numbers i hi),
+    )
+
 pub returns-clause-numbers : goal.returns-clause-numbers
-returns-clause-numbers c j i hj hi =
-    below_eight (λ j. lane (slice_index_or (map (to_z w16) (map (of_z w16) c.row.result) ∷ map (to_z w16) (map (of_z w16) c.row-2.result) ∷ map (to_z w16) (map (of_z w16) c.row-3.result) ∷ map (to_z w16) (map (of_z w16) c.row-4.result) ∷ map (to_z w16) (map (of_z w16) c.row-5.result) ∷ map (to_z w16) (map (of_z w16) c.row-6.result) ∷ map (to_z w16) (map (of_z w16) c.row-7.result) ∷ map (to_z w16) (map (of_z w16) c.row-8.result) ∷ []) j []) i ≡ entry c.args.block.now j i)
-    (passed_lane16 8191 i (lit≤ tt) c.row.ensures.size ∙ c.row.ensures.numbers i hi)
-    (passed_lane16 8191 i (lit≤ tt) c.row-2.ensures.size ∙ c.row-2.ensures.numbers i hi)
-    (passed_lane16 8191 i (lit≤ tt) c.row-3.ensures.size ∙ c.row-3.ensures.numbers i hi)
-    (passed_lane16 8191 i (lit≤ tt) c.row-4.ensures.size ∙ c.row-4.ensures.numbers i hi)
-    (passed_lane16 8191 i (lit≤ tt) c.row-5.ensures.size ∙ c.row-5.ensures.numbers i hi)
-    (passed_lane16 8191 i (lit≤ tt) c.row-6.ensures.size ∙ c.row-6.ensures.numbers i hi)
-    (passed_lane16 8191 i (lit≤ tt) c.row-7.ensures.size ∙ c.row-7.ensures.numbers i hi)
-    (passed_lane16 8191 i (lit≤ tt) c.row-8.ensures.size ∙ c.row-8.ensures.numbers i hi)
-    j hj
+returns-clause-numbers c j i hj hi = (c.loop-j.invariant.1 j (omega (arith, hj, c.loop-j-test.false))).1 i hi
 
 pub returns-clause-size : goal.returns-clause-size
-returns-clause-size c = record {
-  r0 = passed_within16 8191 8191 (lit≤ tt) (lit≤ tt) c.row.ensures.size;
-  r1 = passed_within16 8191 8191 (lit≤ tt) (lit≤ tt) c.row-2.ensures.size;
-  r2 = passed_within16 8191 8191 (lit≤ tt) (lit≤ tt) c.row-3.ensures.size;
-  r3 = passed_within16 8191 8191 (lit≤ tt) (lit≤ tt) c.row-4.ensures.size;
-  r4 = passed_within16 8191 8191 (lit≤ tt) (lit≤ tt) c.row-5.ensures.size;
-  r5 = passed_within16 8191 8191 (lit≤ tt) (lit≤ tt) c.row-6.ensures.size;
-  r6 = passed_within16 8191 8191 (lit≤ tt) (lit≤ tt) c.row-7.ensures.size;
-  r7 = passed_within16 8191 8191 (lit≤ tt) (lit≤ tt) c.row-8.ensures.size;
-}
+returns-clause-size c j hj = (c.loop-j.invariant.1 j (omega (arith, hj, c.loop-j-test.false))).0
