@@ -1,13 +1,21 @@
 -- Where the levels of a block stand.
-use Rattle.std.proofs.Common.{◌≡◌, ℕ, zero, suc, ◌<◌, ◌≤◌, ℤ, pos, min, List, [], ◌∷◌, get_or, slice_index, Bool, true, false, cond, nat_lt, refl, arith, lit<, ltb-true}
+use Rattle.std.proofs.Common.{◌≡◌, ◌≢◌, ℕ, zero, suc, ◌*◌, ◌^◌, ◌%◌, Fits, w64, bit_and, ◌<◌, ◌≤◌, ℤ, pos, List, [], ◌∷◌, get_or, slice_index, slice_set, replicate, Bool, true, false, cond, nat_eq, nat_lt, refl, ap, sym, ◌∙◌, arith, lit<, ltb-true, length-set, get_or-set_same, get_or-set_other}
 use Rattle.std.specs.List.{list_all}
+use Rattle.std.specs.Int.{bit_at, bit_not, trailing_zeros}
 use Rattle.std.proofs.lemmas.Int.{ints}
 use Rattle.std.proofs.lemmas.Bool.{and_parts}
-use Rattle.std.proofs.lemmas.Bool.Decides.{nat_tests}
+use Rattle.std.proofs.lemmas.Bool.Decides.{Decides-int_eq, nat_tests}
+use Rattle.std.proofs.lemmas.List.{get_or-replicate}
+use Rattle.std.proofs.lemmas.List.Elements.{All-set, All-replicate}
+use Rattle.std.proofs.lemmas.Nat.{and_le_l}
+use Rattle.std.proofs.lemmas.Nat.Bits.{bit_at-zero, bit_at-trailing_zeros, bit_at_clear_same}
 use Rattle.h263_types.specs.Blocks.{IsLevel}
-use Rattle.quantiser.specs.Zigzag.{order, block_place_of}
+use Rattle.h263_types.specs.Marks.{EachIsMarked, is_zero, marks_of}
+use Rattle.quantiser.specs.Zigzag.{IsOneOrder, order, block_place_of, zigzag_place_of}
 use Rattle.idct8.specs.Transform.{entry, forward_at}
 use Rattle.mode_choice.specs.Choice.{coefficient_at}
+use Rattle.mode_choice.specs.Walk.{AreSet, level_by, level_in}
+use Rattle.mode_choice.specs.declared.coefficients.Coding.{Coding}
 use Rattle.mode_choice.proofs.Levels.{is_forward}
 
 -- ---- places
@@ -25,21 +33,88 @@ pub block_place_below : (k : ℕ) → block_place_of k < 64
 unfolding block_place_of is_place
 block_place_below k = places_below order refl k
 
-not_less : (m n : ℕ) → nat_lt m n ≡ false → n ≤ m
-not_less m n e = grind (arith, nat_tests)
-
 -- ---- levels
 
 pub zero_level : IsLevel (pos 0)
 zero_level = record { low = omega (arith, ints); high = omega (arith, ints) }
 
--- the levels before the end stand, and the others are 0
-pub kept_or_none : (k keep end : ℕ) (now v : ℤ) → end ≡ min keep 64 → k < 64 → (k < end → now ≡ v) → (end ≤ k → now ≡ pos 0) → now ≡ cond (nat_lt k keep) v (pos 0)
-kept_or_none k keep end now v e below kept none = by (nat_lt k keep) refl
-  where
-    by : (b : Bool) → nat_lt k keep ≡ b → now ≡ cond b v (pos 0)
-    by true h = let less : k < keep = ltb-true _ _ h in kept (omega (arith, e, less, below))
-    by false h = let past : keep ≤ k = not_less k keep h in none (omega (arith, e, past))
+-- ---- the walk over the marks
+
+zero_either : (t b : Bool) (v : ℤ) → v ≡ pos 0 → pos 0 ≡ cond t (cond b v (pos 0)) (pos 0)
+zero_either true true v e = sym e
+zero_either true false v e = refl
+zero_either false b v e = refl
+
+-- a level without a mark is 0
+none_unmarked : (z v : ℤ) (t b : Bool) (bit : ℕ) → is_zero z ≡ t → bit ≡ cond t 0 1 → z ≡ v → pos 0 ≡ cond (nat_eq bit 0) (cond b v (pos 0)) (pos 0)
+none_unmarked z v true b bit e mark same = zero_either (nat_eq bit 0) b v (sym same ∙ (Decides-int_eq z (pos 0)).0 e)
+none_unmarked z v false b bit e mark same = ap (λ (n : ℕ). cond (nat_eq n 0) (cond b v (pos 0)) (pos 0)) (sym mark)
+
+-- with all marks there are zeros
+pub starts : EachIsMarked → (coding : Coding) (quant keep : ℕ) (coefficients rows : List ℤ) (rest : ℕ) → rest ≡ marks_of rows →
+    ((at : ℕ) → at < 64 → get_or rows at (pos 0) ≡ level_by coding quant (get_or coefficients at (pos 0))) →
+    AreSet coding quant keep coefficients rest (replicate 64 (pos 0))
+starts marked coding quant keep coefficients rows rest marks levels = record {
+  long = refl;
+  stand = λ k less.
+      let at = block_place_of k in
+      get_or-replicate 64 k (pos 0) (pos 0) less
+      ∙ none_unmarked (get_or rows at (pos 0)) (level_by coding quant (get_or coefficients at (pos 0))) (is_zero (get_or rows at (pos 0))) (nat_lt k keep) (bit_at rest at) refl
+      (ap (λ (n : ℕ). bit_at n at) marks ∙ marked rows at) (levels at (block_place_below k));
+  range = All-replicate IsLevel 64 (pos 0) zero_level;
+}
+
+-- one mark less, by whether it is the one that is looked at
+one_less : (j k bit left : ℕ) (now before v : ℤ) → before ≡ cond (nat_eq bit 0) v (pos 0) →
+    (j ≡ k → (now ≡ v) × (left ≡ 0)) → (j ≢ k → (now ≡ before) × (left ≡ bit)) → now ≡ cond (nat_eq left 0) v (pos 0)
+one_less j k bit left now before v h same other = grind (arith, nat_tests)
+
+-- a level is set, and its mark is taken away
+pub set_one : IsOneOrder → (coding : Coding) (quant keep : ℕ) (coefficients : List ℤ) (at k rest left : ℕ) (levels : List ℤ) (v : ℤ) → at < 64 → k ≡ zigzag_place_of at → k < 64 →
+    v ≡ cond (nat_lt k keep) (level_by coding quant (get_or coefficients at (pos 0))) (pos 0) → IsLevel v →
+    bit_at left at ≡ 0 → ((i : ℕ) → i < 64 → i ≢ at → bit_at left i ≡ bit_at rest i) →
+    AreSet coding quant keep coefficients rest levels → AreSet coding quant keep coefficients left (slice_set levels k v)
+set_one one coding quant keep coefficients at k rest left levels v below place room level range gone others before =
+    let back : block_place_of k ≡ at = ap block_place_of place ∙ one.from_block at below in
+    record {
+      long = length-set levels k v ∙ before.long;
+      stand = λ j less.
+          one_less j k (bit_at rest (block_place_of j)) (bit_at left (block_place_of j)) _ _ _ (before.stand j less)
+          (λ same. let here : block_place_of j ≡ at = ap block_place_of same ∙ back in (
+            ap (λ (n : ℕ). get_or (slice_set levels k v) n (pos 0)) same
+                ∙ get_or-set_same levels k v (pos 0) (omega (arith, before.long)) ∙ level
+                ∙ ap (λ (n : ℕ). cond (nat_lt k keep) (level_by coding quant (get_or coefficients n (pos 0))) (pos 0)) (sym back)
+                ∙ ap (level_in coding quant keep coefficients) (sym same),
+            ap (bit_at left) here ∙ gone,
+          ))
+          (λ differs. let other : block_place_of j ≢ at = λ here. differs (sym (one.from_order j less) ∙ ap zigzag_place_of here ∙ sym place) in
+          (get_or-set_other levels k j v (pos 0) differs, others (block_place_of j) (block_place_below j) other));
+      range = All-set IsLevel levels k v range before.range;
+    }
+
+all_gone : (bit : ℕ) (now v : ℤ) → bit ≡ 0 → now ≡ cond (nat_eq bit 0) v (pos 0) → now ≡ v
+all_gone bit now v none h = grind (arith, nat_tests)
+
+-- with no mark all levels stand
+pub ends : (coding : Coding) (quant keep : ℕ) (coefficients : List ℤ) (rest : ℕ) (levels : List ℤ) → rest ≡ 0 → AreSet coding quant keep coefficients rest levels →
+    (k : ℕ) → k < 64 → get_or levels k (pos 0) ≡ level_in coding quant keep coefficients k
+ends coding quant keep coefficients rest levels none before k less =
+    all_gone (bit_at rest (block_place_of k)) _ _ (ap (λ (n : ℕ). bit_at n (block_place_of k)) none ∙ bit_at-zero (block_place_of k)) (before.stand k less)
+
+-- the lowest mark, where there is one
+pub lowest : (rest : ℕ) → Fits w64 rest → rest ≢ 0 → (trailing_zeros w64 rest < 64) × (bit_at rest (trailing_zeros w64 rest) ≡ 1)
+lowest rest fits some = let mark = bit_at-trailing_zeros w64 rest (omega arith) fits.fits in (mark.0, mark.1)
+
+one_is_not_zero : (bit : ℕ) → bit ≡ 1 → bit ≡ 0 → ⊥
+one_is_not_zero bit set none = absurd (omega arith)
+
+-- taking a mark away leaves a smaller number
+pub fewer : (rest k : ℕ) → k < 64 → bit_at rest k ≡ 1 → bit_and rest (bit_not w64 (1 * 2 ^ k % 2 ^ 64)) < rest
+fewer rest k less mark =
+    let left = bit_and rest (bit_not w64 (1 * 2 ^ k % 2 ^ 64)) in
+    let most : left ≤ rest = and_le_l rest (bit_not w64 (1 * 2 ^ k % 2 ^ 64)) in
+    let other : left ≢ rest = λ e. one_is_not_zero _ mark (ap (λ (n : ℕ). bit_at n k) (sym e) ∙ bit_at_clear_same w64 rest k less) in
+    omega arith
 
 -- what a transform gives at a place of the zigzag order
 pub is_forward_at : (coefficients block : List ℤ) (k : ℕ) → ((v u : ℕ) → v < 8 → u < 8 → entry coefficients v u ≡ forward_at block v u) →

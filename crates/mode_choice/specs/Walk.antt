@@ -1,5 +1,7 @@
 -- The levels of a block's coefficients, which stand by rows.
-use Rattle.std.specs.Prelude.{ℕ, ◌+◌, ◌*◌, ◌/◌, pos, ℤ, List, nat_lt, slice_index_or, if◌then◌else◌}
+use Rattle.std.specs.Prelude.{◌≡◌, ℕ, ◌+◌, ◌*◌, ◌/◌, ◌<◌, pos, ℤ, List, All, length, nat_eq, nat_lt, slice_index_or, if◌then◌else◌}
+use Rattle.std.specs.Int.{bit_at}
+use Rattle.h263_types.specs.Blocks.{IsLevel}
 use Rattle.quantiser.specs.Levels.{inter_level, intra_level}
 use Rattle.quantiser.specs.Zigzag.{block_place_of}
 use Rattle.mode_choice.specs.declared.coefficients.Coding.{Coding}
@@ -19,3 +21,11 @@ least_of Inter quant = 2 * quant + quant / 2
 abbrev pub level_in : Coding → ℕ → ℕ → List ℤ → ℕ → ℤ
 level_in coding quant keep coefficients k =
     if nat_lt k keep then level_by coding quant (slice_index_or coefficients (block_place_of k) (pos 0)) else pos 0
+
+-- the levels whose marks aren't in the rest stand at their places of the zigzag order, and zeros at the places of the
+-- others; a mark is the bit of a level's place in the block
+pub record AreSet (coding : Coding) (quant keep : ℕ) (coefficients : List ℤ) (rest : ℕ) (levels : List ℤ) : Type 0 where
+  pub long : length levels ≡ 64
+  pub stand : (k : ℕ) → k < 64 → slice_index_or levels k (pos 0)
+      ≡ (if nat_eq (bit_at rest (block_place_of k)) 0 then level_in coding quant keep coefficients k else pos 0)
+  pub range : All IsLevel levels

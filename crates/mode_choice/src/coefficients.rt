@@ -1,11 +1,13 @@
 //! The levels of a block's coefficients, by rows and then in the zigzag order.
-ghost use Rattle.std.specs.Prelude.{◌≡◌, ℕ, ◌≤◌, ◌<◌, pos, All, length, slice_index_or};
+ghost use Rattle.std.specs.Prelude.{◌≡◌, ℕ, ◌≤◌, ◌<◌, pos, All, length, nat_lt, slice_index_or, if◌then◌else◌};
 ghost use Rattle.h263_types.specs.Blocks.{IsCoefficient, IsLevel, IsQuant};
 ghost use Rattle.quantiser.specs.Levels.{factor_of};
 ghost use Rattle.mode_choice.specs.Walk.{least_of, level_by, level_in};
 
-use h263_types::laws::one_more;
-use quantiser::{block_place, factor, level_inter_by, level_intra_by};
+use h263_types::Block;
+use h263_types::laws::{marks, one_more};
+use quantiser::laws::one_order;
+use quantiser::{factor, level_inter_by, level_intra_by, zigzag_place};
 
 // How a block is coded: by itself, or as what a prediction leaves.
 #[derive(Clone, Copy, Debug)]
@@ -29,7 +31,7 @@ pub(crate) fn least_size(coding: Coding, quant: u8) -> u32
 }
 
 // The levels of coefficients that stand by rows, in the zigzag order: 0 from place `keep` on. The
-// first one is a level as the others are.
+// first one is a level as the others are. Goes from mark to mark, since most levels are 0.
 #[inline(always)]
 pub(crate) fn levels_in(coding: Coding, quant: u8, keep: u8, coefficients: &[i32; 64]) -> [i16; 64]
     requires quant { IsQuant quant }
@@ -40,14 +42,28 @@ pub(crate) fn levels_in(coding: Coding, quant: u8, keep: u8, coefficients: &[i32
         → k < 64 → slice_index_or result k (pos 0) ≡ level_in coding quant keep coefficients.now k }
     ensures range { All IsLevel result }
 {
-    one_more::<i16>();
+    marks();
+    one_order();
     let by_rows = levels_by_rows(coding, quant, coefficients);
     let mut levels = [0; 64];
-    let end = usize::from(keep.min(64));
-    for k in 0..end {
-        levels[k] = by_rows[block_place(k)];
+    let mut rest = Block { levels: by_rows }.marks();
+    'marks: while rest != 0 {
+        let at = rest.trailing_zeros() as usize;
+        let k = zigzag_place(at);
+        levels[k] = kept(by_rows[at], k, keep);
+        rest &= !(1 << at);
     }
     levels
+}
+
+// The level at place `k`, which is 0 from place `keep` on.
+#[inline(always)]
+fn kept(level: i16, k: usize, keep: u8) -> i16
+    requires { IsLevel level }
+    ensures level { result ≡ (if nat_lt k keep then level else pos 0) }
+    ensures range { IsLevel result }
+{
+    if k < usize::from(keep) { level } else { 0 }
 }
 
 // The levels of all coefficients, by rows. There is no branch on any of them, so that they are
