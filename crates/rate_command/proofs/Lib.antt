@@ -1,5 +1,1 @@
-mod Entries
-mod Answering
-mod Measuring
-mod Refusing
 mod Telling

@@ -6,8 +6,8 @@ use Rattle.rate_control.specs.declared.meter.Totals.{Totals}
 use Rattle.rate_control.specs.Text.{totals_line}
 use Rattle.desk_program.specs.Ends.{Gains, GainsFronts}
 use Rattle.desk_program.specs.Laws.{TurnLaws}
-use Rattle.desk_program.specs.Texts.{on, then_also}
-use Rattle.rate_command.specs.Rate.{RateState, closing_text, last_text}
+use Rattle.desk_program.specs.Texts.{on}
+use Rattle.rate_command.specs.Rate.{closing_text, last_text}
 
 -- what holds holds where a call failed
 pub on_err : {T E : Type 0} {P : Type 0} (r : Result T E) → P → OnErr r P
@@ -23,7 +23,7 @@ pub once_passed : {T E : Type 0} {P Q : Type 0} (r : Result T E) → (P → Q) �
 once_passed (Ok x) f p = f p
 once_passed (Err e) f p = tt
 
-module _ (laws : TurnLaws RateState) (t : Totals) where
+module _ {Any : Type 0} (laws : TurnLaws Any) (t : Totals) where
   pub cut_last : (old a : Role → Option (List ℕ)) → GainsFronts (last_text t.last) old a → GainsFronts (closing_text t) old a
   cut_last old a p = laws.front_of_first (last_text t.last) (on Report (totals_line t)) old a p
 

@@ -8,9 +8,14 @@ ghost use Rattle.desk_program.specs.Run.{run_from};
 ghost use Rattle.rate_command.specs.declared.rate.Bucket.{Bucket};
 ghost use Rattle.rate_command.specs.Rate.{rate_begin, rate_step};
 
+use crate::Metering;
+use log_command::laws::no_video_refused as none_over_a_log;
+
 /// There is no video that could be refused.
 pub fn no_video_refused()
     ensures { (b : Bucket) (inputs : Role → List ℕ) (fault : Y4mFault)
         → (run_from (rate_begin b inputs) rate_step 16777216 inputs).last.status
         ≡ VideoRefused fault → ⊥ }
-{}
+{
+    none_over_a_log::<Metering>()
+}

@@ -9,10 +9,9 @@
 #![tactic(auto)]
 
 pub mod laws;
-mod mind;
 mod parts;
 mod rate;
 #[cfg(test)]
 mod tests;
 
-pub use rate::{Bucket, Rate};
+pub use rate::{Bucket, Metering, Rate};

@@ -1,0 +1,5 @@
+mod Beginning
+mod Entries
+mod Handling
+mod Answering
+mod Refusing

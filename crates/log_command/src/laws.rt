@@ -1,0 +1,15 @@
+//! What a run over a log comes to. The law is the contract of a function that does nothing else.
+ghost use Rattle.std.specs.Prelude.{◌≡◌, ℕ, List};
+ghost use Rattle.h263_outside.specs.declared.desk.Role.{Role};
+ghost use Rattle.y4m.specs.declared.fault.Y4mFault.{Y4mFault};
+ghost use Rattle.call_report.specs.declared.status.Status.TheVariants.{VideoRefused};
+ghost use Rattle.log_command.specs.Log.{log_run};
+
+use crate::LogCommand;
+
+/// There is no video that could be refused.
+pub fn no_video_refused<C: LogCommand>()
+    ensures { (setup : C.Setup) (inputs : Role → List ℕ) (fault : Y4mFault)
+        → (log_run C.rules (C.first setup) (C.head setup) inputs).last.status
+        ≡ VideoRefused fault → ⊥ }
+{}

@@ -1,0 +1,130 @@
+//! The machine.
+use crate::LogCommand;
+use call_report::Status;
+use desk_program::laws::of_turns;
+use desk_program::{Acts, Turns, act_by_turns};
+use event_logs::laws::cut_behind;
+use event_logs::{Entry, LogFault, LogReader, Side};
+use h263_outside::Desk;
+use h263_outside::laws::calls;
+use std::alloc::Global;
+
+// The most bytes of an entry of the log.
+const MAX_BYTES: usize = 65_535;
+
+// The most plays of a log.
+const MAX_PLAYS: u32 = 1_048_576;
+
+/// A command, the reader of its log, and room for an entry's bytes.
+pub struct LogMachine<C> {
+    command: C,
+    reader: LogReader,
+    buffer: Vec<u8>,
+}
+
+impl<C: LogCommand> Turns for LogMachine<C> {
+    ghost use Rattle.std.specs.Prelude.{◌-◌, true, Some};
+    ghost use Rattle.h263_outside.specs.declared.desk.Role.TheVariants.{Events};
+    ghost use Rattle.log_command.specs.Log.{LogState, LogOpens, LogReady, LogStands, log_begin, log_step};
+
+    type Setup = C::Setup;
+
+    ghost State = { LogState C.State };
+
+    ghost begin = { λ setup _. log_begin (C.first setup) (C.head setup) };
+
+    ghost step = { log_step C.rules };
+
+    ghost reads = { λ _. true };
+
+    ghost stands = { LogStands C.stands };
+
+    ghost keeps = { λ _ _. Unit {0} };
+
+    ghost Loan = { Unit {0} };
+
+    ghost loan = { λ _. tt };
+
+    ghost most = { λ _. 16777216 };
+
+    ghost more = { λ m. 16777216 - m.reader.entries };
+
+    ghost opens = { λ setup. LogOpens (C.opens setup) };
+
+    ghost ready = { LogReady C.ready };
+
+    ghost source = { λ _. Some Events };
+
+    ghost reading = { λ _. Some Events };
+
+    fn start<D: Desk>(
+        alloc: Global,
+        setup: &C::Setup,
+        desk: &mut D,
+    ) -> Result<LogMachine<C>, Status> {
+        of_turns::<()>();
+        let buffer = vec![in alloc; 0; MAX_BYTES]?;
+        Ok(LogMachine {
+            command: C::start(alloc, setup, desk)?,
+            reader: LogReader::new(Side::Recv),
+            buffer,
+        })
+    }
+
+    fn turn<D: Desk>(&mut self, desk: &mut D) -> Result<bool, Status> {
+        of_turns::<()>();
+        cut_behind();
+        calls();
+        let Some((at, entry)) = self.reader.next(desk, &mut self.buffer)? else {
+            self.command.close(desk)?;
+            return Ok(false);
+        };
+        match entry {
+            Entry::Packet { len } => {
+                let len = (len as usize).min(self.buffer.len());
+                let bytes = &self.buffer[..len];
+                self.command.packet(desk, bytes)?;
+                Ok(true)
+            }
+            Entry::Play => {
+                if self.command.plays() >= MAX_PLAYS {
+                    let fault = LogFault::TooMany { at };
+                    return Err(Status::LogRefused { fault });
+                }
+                self.command.play(desk)?;
+                Ok(true)
+            }
+            _ => {
+                let fault = LogFault::BadRecord { at };
+                Err(Status::LogRefused { fault })
+            }
+        }
+    }
+
+    fn finish(self) {
+        let LogMachine {
+            command,
+            reader: _,
+            buffer: _,
+        } = self;
+        command.finish();
+    }
+}
+
+impl<C: LogCommand> Acts for LogMachine<C> {
+    ghost use Rattle.std.specs.Prelude.{Some};
+    ghost use Rattle.h263_outside.specs.declared.desk.Role.TheVariants.{Events};
+    ghost use Rattle.log_command.specs.Log.{LogOpens, log_run};
+
+    type Setup = C::Setup;
+
+    ghost run = { λ setup. log_run C.rules (C.first setup) (C.head setup) };
+
+    ghost opens = { λ setup. LogOpens (C.opens setup) };
+
+    ghost source = { λ _. Some Events };
+
+    fn act<D: Desk>(alloc: Global, setup: &C::Setup, desk: &mut D) -> Status {
+        act_by_turns::<D, LogMachine<C>>(alloc, setup, desk)
+    }
+}
