@@ -10,7 +10,6 @@ use Rattle.desk_program.specs.Ends.{Gains, GainsFronts}
 use Rattle.desk_program.specs.Laws.{TurnLaws}
 use Rattle.desk_program.specs.Texts.{on, then_also}
 use Rattle.call_model.specs.Coding.{Message}
-use Rattle.recv_command.specs.Recv.{RecvState}
 use Rattle.recv_command.specs.Said.{back_text, shown_text}
 
 -- what holds holds where a call failed
@@ -23,7 +22,7 @@ pub once_failed : {T E : Type 0} {P Q : Type 0} (r : Result T E) → (P → Q) �
 once_failed (Ok x) f p = tt
 once_failed (Err e) f p = f p
 
-module _ (laws : TurnLaws RecvState) (number : ℕ) (mark : Mark) (picture : Picture) (message : Option Message) where
+module _ {Any : Type 0} (laws : TurnLaws Any) (number : ℕ) (mark : Mark) (picture : Picture) (message : Option Message) where
   pub cut_picture : (old a : Role → Option (List ℕ)) → GainsFronts (on Pictures (frame_text mark picture)) old a → GainsFronts (shown_text number mark picture message) old a
   cut_picture old a p =
       laws.front_of_first (on Pictures (frame_text mark picture)) (then_also (on Report (picture_text number (Some mark) None None)) (back_text message)) old a p

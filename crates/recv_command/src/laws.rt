@@ -8,9 +8,14 @@ ghost use Rattle.call_report.specs.declared.status.Status.TheVariants.{VideoRefu
 ghost use Rattle.desk_program.specs.Run.{run_from};
 ghost use Rattle.recv_command.specs.Recv.{recv_begin, recv_step};
 
+use crate::Receiving;
+use log_command::laws::no_video_refused as none_over_a_log;
+
 /// There is no video that could be refused.
 pub fn no_video_refused()
     ensures { (p : Params) (inputs : Role → List ℕ) (fault : Y4mFault)
         → (run_from (recv_begin p inputs) recv_step 16777216 inputs).last.status
         ≡ VideoRefused fault → ⊥ }
-{}
+{
+    none_over_a_log::<Receiving>()
+}

@@ -1,6 +1,6 @@
 //! The receiver alone, as a command: packets and plays come from a log, and what it shows, says and
 //! counts goes to the pictures, the wire and the report. The command is [`Recv`], a machine of
-//! `desk_program`.
+//! `log_command` for [`Receiving`].
 //!
 //! ```rust
 //! let order = &[(Role::Events, "log"), (Role::Pictures, "out"), (Role::Wire, "wire")];
@@ -9,12 +9,11 @@
 #![tactic(auto)]
 
 pub mod laws;
-mod mind;
 mod parts;
 mod recv;
 mod tally;
 #[cfg(test)]
 mod tests;
 
-pub use recv::Recv;
+pub use recv::{Receiving, Recv};
 pub use tally::Tally;

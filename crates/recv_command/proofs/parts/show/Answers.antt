@@ -1,7 +1,5 @@
-use Rattle.std.proofs.Common.{Result, Err, OnErr}
 use Rattle.h263_planes.specs.Lent.{picture as lent}
 use Rattle.call_report.specs.View.{text_of}
-use Rattle.desk_program.specs.Ends.{GainsFronts}
 use Rattle.recv_command.proofs.Showing.{cut_line, cut_message, cut_picture, on_err, once_failed}
 use Rattle.recv_command.proofs.parts.show.Goals as goal
 
