@@ -1,23 +1,20 @@
 """The program that a tool runs."""
 
 import argparse
-import subprocess
-import sys
+import os
 from pathlib import Path
 
 from .errors import BadInput
 
-LAUNCHER = Path(__file__).resolve().parent.parent.parent / "h263rps"
+OWN = Path(__file__).resolve().parent.parent.parent / "crates" / "h263rps" / "out" / "h263rps"
 
 
 def add_option(parser: argparse.ArgumentParser) -> None:
-    parser.add_argument("--program", type=Path, help="else ./h263rps, proved and built first")
+    parser.add_argument("--program", type=Path, default=OWN, help="else the one that rt ci left")
 
 
-def named_or_built(asked: argparse.Namespace) -> Path:
-    """The program that is named, or the repository's own, which unbuilt is compiled at each run."""
-    if asked.program is not None:
-        return asked.program
-    if subprocess.run([LAUNCHER, "--build"], stdout=sys.stderr).returncode:
-        raise BadInput(str(LAUNCHER), "--build", "the program could not be built")
-    return LAUNCHER
+def named(asked: argparse.Namespace) -> Path:
+    """The program that is named, or the gate's. The launcher may compile at each run."""
+    if not os.access(asked.program, os.X_OK):
+        raise BadInput(str(asked.program), "no program", "rt ci proves and builds it")
+    return asked.program
