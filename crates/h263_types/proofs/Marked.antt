@@ -1,16 +1,19 @@
 -- The levels of a block as bits.
-use Rattle.std.proofs.Common.{◌≡◌, ℕ, zero, suc, ◌+◌, ◌-◌, ◌*◌, ◌^◌, ◌<◌, Bool, true, false, cond, List, [], ◌∷◌, get_or, refl, sym, ap, ◌∙◌, arith, eqb, not, w16, of_z}
+use Rattle.std.proofs.Common.{◌≡◌, ◌≢◌, ◌≤◌, ℕ, zero, suc, ◌+◌, ◌-◌, ◌*◌, ◌^◌, ◌%◌, ◌<◌, Bool, true, false, cond, List, [], ◌∷◌, get_or, refl, sym, ap, ◌∙◌, arith, eqb, not, w16, w64, of_z}
 use Rattle.std.specs.Prelude.{ℤ, pos, negsuc, map}
 use Rattle.std.specs.Simd.Lanes.{mask_l}
 use Rattle.std.proofs.lemmas.Bool.{ne_eqb}
 use Rattle.std.proofs.lemmas.Simd.{bit_mask_l}
 use Rattle.std.proofs.lemmas.Bool.Decides.{Decides-int_eq}
+use Rattle.std.proofs.lemmas.Nat.{and_le_l}
+use Rattle.std.proofs.lemmas.Nat.Bits.{bit_at-trailing_zeros, bit_at_clear_same, bit_at_clear_other}
+use Rattle.std.specs.Int.{bit_at, bit_not, trailing_zeros}
 use lib.Signed.{mag}
 use mir.Val.{Val}
 use denote.Signed.{SInt}
 use denote.Array.{each}
 use denote.Shadow.{shadow}
-use Rattle.h263_types.specs.Marks.{is_zero, marks_of, EachIsMarked}
+use Rattle.h263_types.specs.Marks.{is_zero, marks_of, EachIsMarked, without, IsMark, HasLowest}
 
 zero_is : (z : ℤ) → is_zero z ≡ true → z ≡ pos 0
 zero_is z e = (Decides-int_eq z (pos 0)).0 e
@@ -51,3 +54,19 @@ each_is_marked levels k =
     bit_mask_l (map (λ z. not (is_zero z)) levels) k
     ∙ ap (λ (b : Bool). cond b 1 0) (mark_at levels k)
     ∙ turned (is_zero (get_or levels k (pos 0)))
+
+-- a number with a mark isn't one without it
+one_less : (bit : ℕ) → bit ≡ 1 → bit ≡ 0 → ⊥
+one_less bit set none = absurd (omega arith)
+
+is_mark : (marks k : ℕ) → k < 64 → bit_at marks k ≡ 1 → IsMark marks k
+is_mark marks k less set =
+    let gone = bit_at_clear_same w64 marks k less in
+    let most : without marks k ≤ marks = and_le_l marks (bit_not w64 (1 * 2 ^ k % 2 ^ 64)) in
+    let other : without marks k ≢ marks = λ e. one_less (bit_at marks k) set (ap (λ (n : ℕ). bit_at n k) (sym e) ∙ gone) in
+    record { below = less; set = set; gone = gone; others = bit_at_clear_other w64 marks k less; fewer = omega arith }
+
+pub has_lowest : HasLowest
+has_lowest marks fits some =
+    let mark = bit_at-trailing_zeros w64 marks (omega arith) fits in
+    is_mark marks (trailing_zeros w64 marks) mark.0 mark.1

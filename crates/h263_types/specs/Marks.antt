@@ -1,7 +1,7 @@
 -- Which of a block's levels aren't 0.
-use Rattle.std.specs.Prelude.{◌≡◌, ℕ, List, Bool, ℤ, pos, not, map, slice_index_or, if◌then◌else◌}
+use Rattle.std.specs.Prelude.{◌≡◌, ◌≢◌, ◌<◌, ◌*◌, ◌^◌, ◌%◌, ℕ, List, Bool, ℤ, pos, not, map, slice_index_or, if◌then◌else◌, bit_and}
 use Rattle.std.specs.Ordering.{int_eq}
-use Rattle.std.specs.Int.{bit_at}
+use Rattle.std.specs.Int.{bit_at, bit_not, trailing_zeros, w64}
 use Rattle.std.specs.Simd.Lanes.{mask_l}
 
 abbrev pub is_zero : ℤ → Bool
@@ -15,3 +15,19 @@ marks_of levels = mask_l (map (λ z. not (is_zero z)) levels)
 abbrev pub EachIsMarked : Type 0
 EachIsMarked = (levels : List ℤ) (k : ℕ)
     → bit_at (marks_of levels) k ≡ (if is_zero (slice_index_or levels k (pos 0)) then 0 else 1)
+
+-- the marks but for the one at place k
+abbrev pub without : ℕ → ℕ → ℕ
+without marks k = bit_and marks (bit_not w64 (1 * 2 ^ k % 2 ^ 64))
+
+-- place k has a mark, and that one is taken away alone, which leaves a smaller number
+pub record IsMark (marks k : ℕ) : Type 0 where
+  pub below : k < 64
+  pub set : bit_at marks k ≡ 1
+  pub gone : bit_at (without marks k) k ≡ 0
+  pub others : (i : ℕ) → i < 64 → i ≢ k → bit_at (without marks k) i ≡ bit_at marks i
+  pub fewer : without marks k < marks
+
+-- where there are marks, as many places have none as there are zeros at the end, and the next one has one
+abbrev pub HasLowest : Type 0
+HasLowest = (marks : ℕ) → marks < 2 ^ 64 → marks ≢ 0 → IsMark marks (trailing_zeros w64 marks)

@@ -1,16 +1,15 @@
 -- Where the levels of a block stand.
-use Rattle.std.proofs.Common.{◌≡◌, ◌≢◌, ℕ, zero, suc, ◌*◌, ◌^◌, ◌%◌, Fits, w64, bit_and, ◌<◌, ◌≤◌, ℤ, pos, List, [], ◌∷◌, get_or, slice_index, slice_set, replicate, Bool, true, false, cond, nat_eq, nat_lt, refl, ap, sym, ◌∙◌, arith, lit<, ltb-true, length-set, get_or-set_same, get_or-set_other}
+use Rattle.std.proofs.Common.{◌≡◌, ◌≢◌, ℕ, zero, suc, ◌<◌, ◌≤◌, ℤ, pos, List, [], ◌∷◌, get_or, slice_index, slice_set, replicate, Bool, true, false, cond, nat_eq, nat_lt, refl, ap, sym, ◌∙◌, arith, lit<, ltb-true, length-set, get_or-set_same, get_or-set_other}
 use Rattle.std.specs.List.{list_all}
-use Rattle.std.specs.Int.{bit_at, bit_not, trailing_zeros}
+use Rattle.std.specs.Int.{bit_at}
 use Rattle.std.proofs.lemmas.Int.{ints}
 use Rattle.std.proofs.lemmas.Bool.{and_parts}
 use Rattle.std.proofs.lemmas.Bool.Decides.{Decides-int_eq, nat_tests}
 use Rattle.std.proofs.lemmas.List.{get_or-replicate}
 use Rattle.std.proofs.lemmas.List.Elements.{All-set, All-replicate}
-use Rattle.std.proofs.lemmas.Nat.{and_le_l}
-use Rattle.std.proofs.lemmas.Nat.Bits.{bit_at-zero, bit_at-trailing_zeros, bit_at_clear_same}
+use Rattle.std.proofs.lemmas.Nat.Bits.{bit_at-zero}
 use Rattle.h263_types.specs.Blocks.{IsLevel}
-use Rattle.h263_types.specs.Marks.{EachIsMarked, is_zero, marks_of}
+use Rattle.h263_types.specs.Marks.{EachIsMarked, IsMark, is_zero, marks_of, without}
 use Rattle.quantiser.specs.Zigzag.{IsOneOrder, order, block_place_of, zigzag_place_of}
 use Rattle.idct8.specs.Transform.{entry, forward_at}
 use Rattle.mode_choice.specs.Choice.{coefficient_at}
@@ -70,12 +69,12 @@ one_less : (j k bit left : ℕ) (now before v : ℤ) → before ≡ cond (nat_eq
 one_less j k bit left now before v h same other = grind (arith, nat_tests)
 
 -- a level is set, and its mark is taken away
-pub set_one : IsOneOrder → (coding : Coding) (quant keep : ℕ) (coefficients : List ℤ) (at k rest left : ℕ) (levels : List ℤ) (v : ℤ) → at < 64 → k ≡ zigzag_place_of at → k < 64 →
+pub set_one : IsOneOrder → (coding : Coding) (quant keep : ℕ) (coefficients : List ℤ) (at k rest : ℕ) (levels : List ℤ) (v : ℤ) → IsMark rest at → k ≡ zigzag_place_of at → k < 64 →
     v ≡ cond (nat_lt k keep) (level_by coding quant (get_or coefficients at (pos 0))) (pos 0) → IsLevel v →
-    bit_at left at ≡ 0 → ((i : ℕ) → i < 64 → i ≢ at → bit_at left i ≡ bit_at rest i) →
-    AreSet coding quant keep coefficients rest levels → AreSet coding quant keep coefficients left (slice_set levels k v)
-set_one one coding quant keep coefficients at k rest left levels v below place room level range gone others before =
-    let back : block_place_of k ≡ at = ap block_place_of place ∙ one.from_block at below in
+    AreSet coding quant keep coefficients rest levels → AreSet coding quant keep coefficients (without rest at) (slice_set levels k v)
+set_one one coding quant keep coefficients at k rest levels v mark place room level range before =
+    let left = without rest at in
+    let back : block_place_of k ≡ at = ap block_place_of place ∙ one.from_block at mark.below in
     record {
       long = length-set levels k v ∙ before.long;
       stand = λ j less.
@@ -85,10 +84,10 @@ set_one one coding quant keep coefficients at k rest left levels v below place r
                 ∙ get_or-set_same levels k v (pos 0) (omega (arith, before.long)) ∙ level
                 ∙ ap (λ (n : ℕ). cond (nat_lt k keep) (level_by coding quant (get_or coefficients n (pos 0))) (pos 0)) (sym back)
                 ∙ ap (level_in coding quant keep coefficients) (sym same),
-            ap (bit_at left) here ∙ gone,
+            ap (bit_at left) here ∙ mark.gone,
           ))
           (λ differs. let other : block_place_of j ≢ at = λ here. differs (sym (one.from_order j less) ∙ ap zigzag_place_of here ∙ sym place) in
-          (get_or-set_other levels k j v (pos 0) differs, others (block_place_of j) (block_place_below j) other));
+          (get_or-set_other levels k j v (pos 0) differs, mark.others (block_place_of j) (block_place_below j) other));
       range = All-set IsLevel levels k v range before.range;
     }
 
@@ -100,21 +99,6 @@ pub ends : (coding : Coding) (quant keep : ℕ) (coefficients : List ℤ) (rest 
     (k : ℕ) → k < 64 → get_or levels k (pos 0) ≡ level_in coding quant keep coefficients k
 ends coding quant keep coefficients rest levels none before k less =
     all_gone (bit_at rest (block_place_of k)) _ _ (ap (λ (n : ℕ). bit_at n (block_place_of k)) none ∙ bit_at-zero (block_place_of k)) (before.stand k less)
-
--- the lowest mark, where there is one
-pub lowest : (rest : ℕ) → Fits w64 rest → rest ≢ 0 → (trailing_zeros w64 rest < 64) × (bit_at rest (trailing_zeros w64 rest) ≡ 1)
-lowest rest fits some = let mark = bit_at-trailing_zeros w64 rest (omega arith) fits.fits in (mark.0, mark.1)
-
-one_is_not_zero : (bit : ℕ) → bit ≡ 1 → bit ≡ 0 → ⊥
-one_is_not_zero bit set none = absurd (omega arith)
-
--- taking a mark away leaves a smaller number
-pub fewer : (rest k : ℕ) → k < 64 → bit_at rest k ≡ 1 → bit_and rest (bit_not w64 (1 * 2 ^ k % 2 ^ 64)) < rest
-fewer rest k less mark =
-    let left = bit_and rest (bit_not w64 (1 * 2 ^ k % 2 ^ 64)) in
-    let most : left ≤ rest = and_le_l rest (bit_not w64 (1 * 2 ^ k % 2 ^ 64)) in
-    let other : left ≢ rest = λ e. one_is_not_zero _ mark (ap (λ (n : ℕ). bit_at n k) (sym e) ∙ bit_at_clear_same w64 rest k less) in
-    omega arith
 
 -- what a transform gives at a place of the zigzag order
 pub is_forward_at : (coefficients block : List ℤ) (k : ℕ) → ((v u : ℕ) → v < 8 → u < 8 → entry coefficients v u ≡ forward_at block v u) →

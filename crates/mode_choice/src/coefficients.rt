@@ -5,7 +5,7 @@ ghost use Rattle.quantiser.specs.Levels.{factor_of};
 ghost use Rattle.mode_choice.specs.Walk.{least_of, level_by, level_in};
 
 use h263_types::Block;
-use h263_types::laws::{marks, one_more};
+use h263_types::laws::{lowest, marks, one_more};
 use quantiser::laws::one_order;
 use quantiser::{factor, level_inter_by, level_intra_by, zigzag_place};
 
@@ -42,6 +42,7 @@ pub(crate) fn levels_in(coding: Coding, quant: u8, keep: u8, coefficients: &[i32
         → k < 64 → slice_index_or result k (pos 0) ≡ level_in coding quant keep coefficients.now k }
     ensures range { All IsLevel result }
 {
+    lowest();
     marks();
     one_order();
     let by_rows = levels_by_rows(coding, quant, coefficients);

@@ -1,14 +1,14 @@
 -- The walk over a block's marked levels, each of which puts its value at its place in the block.
-use Rattle.std.proofs.Common.{◌≡◌, ◌≢◌, ℕ, zero, suc, ◌*◌, ◌^◌, ◌%◌, Fits, w64, bit_and, ◌<◌, ◌≤◌, ℤ, pos, List, get_or, slice_set, replicate, Bool, true, false, cond, nat_eq, nat_lt, refl, ap, subst, sym, ◌∙◌, arith, length-set, get_or-set_same, get_or-set_other}
+use Rattle.std.proofs.Common.{◌≡◌, ◌≢◌, ℕ, zero, suc, ◌<◌, ◌≤◌, ℤ, pos, List, get_or, slice_set, replicate, Bool, true, false, cond, nat_eq, nat_lt, refl, ap, subst, sym, ◌∙◌, arith, length-set, get_or-set_same, get_or-set_other}
 use Rattle.std.proofs.lemmas.Int.{ints}
 use Rattle.std.proofs.lemmas.Bool.Decides.{nat_tests}
-use Rattle.std.proofs.lemmas.Nat.Bits.{bit_at-zero, bit_at-pow_other, bit_at-trailing_zeros, bit_at_clear_same}
-use Rattle.std.proofs.lemmas.Nat.{and_le_l}
-use Rattle.std.specs.Int.{bit_at, bit_not, trailing_zeros}
+use Rattle.std.proofs.lemmas.Nat.Bits.{bit_at-zero, bit_at-pow_other}
+use Rattle.std.specs.Int.{bit_at}
 use Rattle.std.proofs.lemmas.List.{get_or_past, get_or-replicate}
 use Rattle.std.proofs.lemmas.List.Elements.{All-set, All-replicate}
 use Rattle.h263_types.specs.declared.blocks.Block.{Block}
 use Rattle.h263_types.specs.Blocks.{IsValue, level_at}
+use Rattle.h263_types.specs.Marks.{IsMark, without}
 use Rattle.quantiser.specs.Levels.{value_of}
 use Rattle.quantiser.specs.Zigzag.{IsOneOrder, order, block_place_of, zigzag_place_of}
 use Rattle.picture_recon.specs.Samples.{inter_value}
@@ -64,22 +64,22 @@ starts one quant b marks rest marked others = record {
 }
 
 -- a marked level puts its value, and its mark is taken away
-pub put : (one : IsOneOrder) (quant : ℕ) (b : Block) (k : ℕ) (rest left : ℕ) (values : List ℤ) (v : ℤ) → k < 64 → block_place_of k < 64 →
-    v ≡ value_of quant (level_at b k) → IsValue v → bit_at left k ≡ 0 → ((i : ℕ) → i < 64 → i ≢ k → bit_at left i ≡ bit_at rest i) →
-    ArePut quant b rest values → ArePut quant b left (slice_set values (block_place_of k) v)
-put one quant b k rest left values v below room value range gone others before = record {
+pub put : (one : IsOneOrder) (quant : ℕ) (b : Block) (k rest : ℕ) (values : List ℤ) (v : ℤ) → IsMark rest k → block_place_of k < 64 →
+    v ≡ value_of quant (level_at b k) → IsValue v →
+    ArePut quant b rest values → ArePut quant b (without rest k) (slice_set values (block_place_of k) v)
+put one quant b k rest values v mark room value range before = record {
   long = length-set values (block_place_of k) v ∙ before.long;
   stand = λ at less some.
       let z = zigzag_place_of at in
       let e = one.from_block at less in
-      one_put z k (bit_at rest z) (bit_at left z) _ _ _ (before.stand at less some)
+      one_put z k (bit_at rest z) (bit_at (without rest k) z) _ _ _ (before.stand at less some)
       (λ same. let here : block_place_of k ≡ at = ap block_place_of (sym same) ∙ e in (
         subst (λ (j : ℕ). get_or (slice_set values (block_place_of k) v) j (pos 0) ≡ inter_value quant b at) here
             (get_or-set_same values (block_place_of k) v (pos 0) (omega (arith, before.long)) ∙ value ∙ ap (λ (j : ℕ). value_of quant (level_at b j)) (sym same)),
-        ap (bit_at left) same ∙ gone,
+        ap (bit_at (without rest k)) same ∙ mark.gone,
       ))
       (λ differs. let other : at ≢ block_place_of k = λ here. differs (ap zigzag_place_of here ∙ one.from_order k below) in
-      (get_or-set_other values (block_place_of k) at v (pos 0) other, others z (within z at e some) differs));
+      (get_or-set_other values (block_place_of k) at v (pos 0) other, mark.others z (within z at e some) differs));
   range = All-set IsValue values (block_place_of k) v range before.range;
 }
 
@@ -101,18 +101,8 @@ none_later b marks marked first k some less =
 one_is_not_zero : (bit : ℕ) → bit ≡ 1 → bit ≡ 0 → ⊥
 one_is_not_zero bit set none = absurd (omega arith)
 
--- the lowest mark, where there is one and the first place has none
-pub lowest : (rest : ℕ) → Fits w64 rest → rest ≢ 0 → bit_at rest 0 ≡ 0 →
-    (1 ≤ trailing_zeros w64 rest) × (trailing_zeros w64 rest < 64) × (bit_at rest (trailing_zeros w64 rest) ≡ 1)
-lowest rest fits some first =
-    let mark = bit_at-trailing_zeros w64 rest (omega arith) fits.fits in
-    let other : trailing_zeros w64 rest ≢ 0 = λ e. one_is_not_zero _ mark.1 (ap (bit_at rest) e ∙ first) in
-    (omega arith, mark.0, mark.1)
-
--- taking a mark away leaves a smaller number
-pub fewer : (rest k : ℕ) → k < 64 → bit_at rest k ≡ 1 → bit_and rest (bit_not w64 (1 * 2 ^ k % 2 ^ 64)) < rest
-fewer rest k less mark =
-    let left = bit_and rest (bit_not w64 (1 * 2 ^ k % 2 ^ 64)) in
-    let most : left ≤ rest = and_le_l rest (bit_not w64 (1 * 2 ^ k % 2 ^ 64)) in
-    let other : left ≢ rest = λ e. one_is_not_zero _ mark (ap (λ (n : ℕ). bit_at n k) (sym e) ∙ bit_at_clear_same w64 rest k less) in
+-- a mark isn't the first place's where that one has none
+pub not_first : (rest k : ℕ) → IsMark rest k → bit_at rest 0 ≡ 0 → 1 ≤ k
+not_first rest k mark first =
+    let other : k ≢ 0 = λ e. one_is_not_zero (bit_at rest k) mark.set (ap (bit_at rest) e ∙ first) in
     omega arith

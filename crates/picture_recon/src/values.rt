@@ -7,7 +7,7 @@ ghost use Rattle.picture_recon.specs.Samples.{inter_value, inter_values, intra_v
 ghost use Rattle.picture_recon.specs.Marks.{AreMarked};
 
 use h263_types::Block;
-use h263_types::laws::marks;
+use h263_types::laws::{lowest, marks};
 use idct8::inverse;
 use quantiser::laws::one_order;
 use quantiser::{block_place, value};
@@ -118,6 +118,7 @@ fn values_but_first(quant: u8, block: &Block, marks: u64) -> [i16; 64]
         → 1 ≤ at → at < 64 → slice_index_or result at (pos 0) ≡ inter_value quant block.now at }
     ensures range { All IsValue result }
 {
+    lowest();
     one_order();
     let mut values = [0; 64];
     let mut rest = marks & !1;
