@@ -1,12 +1,12 @@
 -- How large a coefficient is whose part of the block has a small sum of squares. A coefficient sees the block folded across
 -- and down, each time with a change of sign or without one, as its frequencies are odd or even.
-use Rattle.std.proofs.Common.{◌≡◌, refl, sym, ap, subst, ◌∙◌, arith, lit≤, ℕ, zero, suc, ◌+◌, ◌-◌, ◌*◌, ◌<◌, ◌≤◌, ◌^◌, ℤ, pos, ◌+ℤ◌, ◌*ℤ◌, ◌-ℤ◌, ◌<ℤ◌, neg_ℤ, negsuc, unsigned_abs, List, Bool, true, false, nat_lt, ltb-true, mul_comm}
+use Rattle.std.proofs.Common.{◌≡◌, refl, sym, ap, subst, ◌∙◌, arith, lit≤, ℕ, zero, suc, ◌+◌, ◌-◌, ◌*◌, ◌<◌, ◌≤◌, ◌^◌, ℤ, pos, ◌+ℤ◌, ◌*ℤ◌, ◌-ℤ◌, ◌<ℤ◌, neg_ℤ, negsuc, unsigned_abs, List, get_or, Bool, true, false, nat_lt, ltb-true, mul_comm}
 use borrow.Author.Differences.{up, down}
 use Rattle.std.proofs.lemmas.Bool.Decides.{nat_tests}
 use Rattle.std.specs.Int.{int_shr}
 use Rattle.std.proofs.Math.Nat.{mul-le-mul, mul-le-mul_left}
 use Rattle.std.proofs.lemmas.Int.{ints, unsigned_abs-mul}
-use Rattle.idct8.specs.Sums.{sum_below}
+use Rattle.idct8.specs.Sums.{sum_below, total}
 use Rattle.idct8.specs.Basis.{basis}
 use Rattle.idct8.specs.Transform.{entry, forward_at, rounded}
 use Rattle.idct8.specs.Vectors.{square}
@@ -158,11 +158,6 @@ module _ (s : List ℤ) (v u : ℕ) (o q : Bool) (across : (x : ℕ) → x < 4 �
       ∙ same_sum 4 _ (λ x. sum_below 4 (λ y. basis u x *ℤ basis v y *ℤ part o q s y x)) columns_folded
 
 -- ---- sums of sizes
-
--- f 0 + f 1 + .. + f (n - 1)
-unfoldable pub total : ℕ → (ℕ → ℕ) → ℕ
-total zero f = 0
-total (suc n) f = total n f + f n
 
 total_scaled : (a n : ℕ) (f : ℕ → ℕ) → total n (λ k. a * f k) ≡ a * total n f
 unfolding total
@@ -354,3 +349,52 @@ coefficient_below s v u t most hv hu energies few top =
     rounded_size (sum_below 8 (λ x. sum_below 8 (λ y. basis u x *ℤ basis v y *ℤ entry s y x))) t
     (subst (λ (z : ℤ). unsigned_abs z + 2 ^ 24 < 2 ^ 25 * t) (sym (all_folded s v u a.0 b.0 a.1 b.1))
     (part_small s v u t most a.0 b.0 hv hu (energies a.0 b.0) few top))
+
+-- ---- a part of the block by the whole block
+
+total_most : (n : ℕ) (f g : ℕ → ℕ) → ((k : ℕ) → f k ≤ g k) → total n f ≤ total n g
+unfolding total
+total_most zero f g h = omega arith
+total_most (suc n) f g h = omega (arith, total_most n f g h, h n)
+
+mirrored_size : (o : Bool) (a b : ℤ) → unsigned_abs (mirrored o a b) ≤ unsigned_abs a + unsigned_abs b
+mirrored_size false a b = omega (arith, ints)
+mirrored_size true a b = omega (arith, ints)
+
+square_of_sum : (m n : ℕ) → (m + n) * (m + n) ≤ 2 * (m * m + n * n)
+square_of_sum m n = let products = two_squares m n in omega (arith, products)
+
+mirrored_square : (o : Bool) (a b : ℤ) → square (mirrored o a b) ≤ 2 * (square a + square b)
+mirrored_square o a b =
+    let size = mirrored_size o a b in
+    let most : square (mirrored o a b) ≤ (unsigned_abs a + unsigned_abs b) * (unsigned_abs a + unsigned_abs b) = mul-le-mul size size in
+    omega (arith, most, square_of_sum (unsigned_abs a) (unsigned_abs b))
+
+-- a number of a part by the four that it comes from
+abbrev four_squares : (ℕ → ℕ) → ℕ → ℕ → ℕ
+four_squares g y x = 4 * (g (8 * y + x) + g (8 * (7 - y) + x) + g (8 * y + (7 - x)) + g (8 * (7 - y) + (7 - x)))
+
+part_square : (o q : Bool) (s : List ℤ) (y x : ℕ) → square (part o q s y x) ≤ four_squares (λ k. square (get_or s k (pos 0))) y x
+part_square o q s y x =
+    let across = mirrored_square o (down_at q s y x) (down_at q s y (7 - x)) in
+    let here = mirrored_square q (entry s y x) (entry s (7 - y) x) in
+    let there = mirrored_square q (entry s y (7 - x)) (entry s (7 - y) (7 - x)) in
+    omega (arith, across, here, there)
+
+-- each number of the block is one of the four of a number of a part
+all_squares : (g : ℕ → ℕ) → total 4 (λ x. total 4 (λ y. four_squares g y x)) ≡ 4 * total 64 g
+unfolding total
+all_squares g = omega arith
+
+energy_most : (o q : Bool) (s : List ℤ) → energy o q s ≤ 4 * total 64 (λ k. square (get_or s k (pos 0)))
+energy_most o q s =
+    let g : ℕ → ℕ = λ k. square (get_or s k (pos 0)) in
+    subst (λ (n : ℕ). energy o q s ≤ n) (all_squares g)
+    (total_most 4 (λ x. total 4 (λ y. square (part o q s y x))) (λ x. total 4 (λ y. four_squares g y x))
+    (λ x. total_most 4 (λ y. square (part o q s y x)) (λ y. four_squares g y x) (λ y. part_square o q s y x)))
+
+-- a coefficient is smaller than t where the whole block has so small a sum of squares
+pub coefficient_small : (s : List ℤ) (v u t : ℕ) → v < 8 → u < 8 → t ≤ 77 → total 64 (λ k. square (get_or s k (pos 0))) + t + 1 < t * t →
+    unsigned_abs (forward_at s v u) < t
+coefficient_small s v u t hv hu top few =
+    coefficient_below s v u t (4 * total 64 (λ k. square (get_or s k (pos 0)))) hv hu (λ o q. energy_most o q s) (omega (arith, few)) top

@@ -1,9 +1,20 @@
-//! What a block without values gives. The law is the contract of a function that does nothing.
-ghost use Rattle.std.specs.Prelude.{◌≡◌, ℕ, ◌<◌, ℤ, pos, List, slice_index_or};
-ghost use Rattle.idct8.specs.Transform.{inverse_at};
+//! What a block without values gives, and how large coefficients are. Each law is the contract of a
+//! function that does nothing.
+ghost use Rattle.std.specs.Prelude.{◌≡◌, ℕ, ◌+◌, ◌*◌, ◌<◌, ◌≤◌, ℤ, pos, List, slice_index_or, unsigned_abs};
+ghost use Rattle.idct8.specs.Sums.{total};
+ghost use Rattle.idct8.specs.Transform.{forward_at, inverse_at};
+ghost use Rattle.idct8.specs.Vectors.{square};
 
 /// The inverse transform of a block whose values are all 0 is 0 everywhere.
 pub fn zeros_give_zeros()
     ensures { (values : List ℤ) → ((at : ℕ) → at < 64 → slice_index_or values at (pos 0) ≡ pos 0)
         → (y x : ℕ) → inverse_at values y x ≡ pos 0 }
+{}
+
+/// But for its rounding, the square of a coefficient is at most the sum of the squares of the
+/// samples. So where that sum is small each coefficient is smaller than `least`.
+pub fn small_squares()
+    ensures { (samples : List ℤ) (v u least : ℕ) → v < 8 → u < 8 → least ≤ 77
+        → total 64 (λ k. square (slice_index_or samples k (pos 0))) + least + 1 < least * least
+        → unsigned_abs (forward_at samples v u) < least }
 {}

@@ -2,7 +2,6 @@ pub mod Levels
 pub mod Blocks
 pub mod Differences
 pub mod Choices
-pub mod Small
 pub mod Walk
 pub mod Whole
 pub mod Empties

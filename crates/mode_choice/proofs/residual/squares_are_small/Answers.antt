@@ -1,12 +1,21 @@
-use Rattle.std.proofs.Common.{◌≡◌, ◌∙◌, ap, sym, subst, arith, lit≤, ltb-true, ℕ, ℤ, ◌+◌, ◌*◌, ◌/◌, ◌%◌, ◌<◌, pos, get_or, length, to_z, of_z, unsigned_abs, w16}
+use Rattle.std.proofs.Common.{◌≡◌, ◌∙◌, refl, ap, sym, subst, arith, lit≤, ltb-true, ℕ, suc, ℤ, ◌+◌, ◌*◌, ◌/◌, ◌%◌, ◌<◌, pos, get_or, length, to_z, of_z, unsigned_abs, w16}
 use Rattle.std.proofs.lemmas.Int.{ints}
 use Rattle.idct8.specs.Ranges.{IsSample}
+use Rattle.idct8.specs.Sums.{total}
+use Rattle.idct8.specs.Vectors.{square}
 use Rattle.quantiser.specs.Zigzag.{block_place_of}
 use Rattle.mode_choice.specs.Choice.{coefficient_at}
 use Rattle.mode_choice.proofs.Levels.{no_level}
-use Rattle.mode_choice.proofs.Small.{coefficient_small, total, total_more, total_none}
 use Rattle.mode_choice.proofs.Walk.{block_place_below}
 use Rattle.mode_choice.proofs.residual.squares_are_small.Goals as goal
+
+total_none : (f : ℕ → ℕ) → 0 ≡ total 0 f
+unfolding total
+total_none f = refl
+
+total_more : (n : ℕ) (f : ℕ → ℕ) → total (n + 1) f ≡ total n f + f n
+unfolding total
+total_more n f = let e : n + 1 ≡ suc n = omega arith in ap (λ (m : ℕ). total m f) e
 
 pub loop-k-init : goal.loop-k-init
 loop-k-init c = (total_none _, lit≤ tt)
@@ -23,11 +32,11 @@ pub loop-k-preserved : goal.loop-k-preserved
 loop-k-preserved c =
     let residuals = c.args.residuals.now in
     let k : ℕ = c.loop-k.k in
-    let f : ℕ → ℕ = λ j. unsigned_abs (get_or residuals j (pos 0)) * unsigned_abs (get_or residuals j (pos 0)) in
+    let f : ℕ → ℕ = λ j. square (get_or residuals j (pos 0)) in
     let room : k < length residuals = omega (arith, c.told-residuals, c.loop-k-test.true) in
     let sample : IsSample (get_or residuals k (pos 0)) = c.requires.residuals k (pos 0) room in
-    let square : c.square-squares.result ≡ f k = c.square-squares.ensures.square ∙ ap (λ (z : ℤ). unsigned_abs z * unsigned_abs z) (sample_kept (get_or residuals k (pos 0)) sample) in
-    (ap (λ (n : ℕ). n + c.square-squares.result) c.loop-k.invariant.0 ∙ ap (λ (n : ℕ). total k f + n) square ∙ sym (total_more k f), omega (arith, c.loop-k.invariant.1, c.square-squares.ensures.most))
+    let squared : c.square-squares.result ≡ f k = c.square-squares.ensures.square ∙ ap square (sample_kept (get_or residuals k (pos 0)) sample) in
+    (ap (λ (n : ℕ). n + c.square-squares.result) c.loop-k.invariant.0 ∙ ap (λ (n : ℕ). total k f + n) squared ∙ sym (total_more k f), omega (arith, c.loop-k.invariant.1, c.square-squares.ensures.most))
 
 pub returns : goal.returns
 returns c = λ small k.
@@ -36,6 +45,5 @@ returns c = λ small k.
     let less : c.loop-k.squares + c.least_size-least.result + 1 < c.least_size-least.result * c.least_size-least.result = ltb-true _ _ small in
     no_level c.args.quant (coefficient_at c.args.residuals.now k) c.requires.quant
     (subst (λ (n : ℕ). unsigned_abs (coefficient_at c.args.residuals.now k) < n) c.least_size-least.ensures.value
-    (coefficient_small c.args.residuals.now (at / 8) (at % 8) c.least_size-least.result (omega arith) (omega arith)
-    (subst (λ (n : ℕ). n + c.least_size-least.result + 1 < c.least_size-least.result * c.least_size-least.result) (c.loop-k.invariant.0 ∙ ap (λ (n : ℕ). total n (λ j. unsigned_abs (get_or c.args.residuals.now j (pos 0)) * unsigned_abs (get_or c.args.residuals.now j (pos 0)))) (let all : c.loop-k.k ≡ 64 = omega (arith, c.loop-k.auto, c.loop-k-test.false) in all)) less)
-    c.least_size-least.ensures.most))
+    (c.small_squares.ensures c.args.residuals.now (at / 8) (at % 8) c.least_size-least.result (omega arith) (omega arith) c.least_size-least.ensures.most
+    (subst (λ (n : ℕ). n + c.least_size-least.result + 1 < c.least_size-least.result * c.least_size-least.result) (c.loop-k.invariant.0 ∙ ap (λ (n : ℕ). total n (λ j. square (get_or c.args.residuals.now j (pos 0)))) (let all : c.loop-k.k ≡ 64 = omega (arith, c.loop-k.auto, c.loop-k-test.false) in all)) less)))
