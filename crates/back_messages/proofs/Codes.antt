@@ -86,10 +86,6 @@ same true false e = absurd cc
 same false true e = absurd cc
 same false false e = refl
 
-same_itself : (a : Bool) → same_bit a a ≡ true
-same_itself true = refl
-same_itself false = refl
-
 -- fields without a fault
 pub record IsFaultless (clock : Clock) (long : Bool) (type urf tr marker rtr : ℕ) : Type 0 where
   pub type_low : 2 ≤ type
@@ -173,10 +169,6 @@ value_marks n marks = at_type (n / 2 ^ 22 == 2)
 abbrev pub is_marked_by : Option ℕ → Bool
 is_marked_by None = false
 is_marked_by (Some marks) = true
-
-pub agrees : (marks : Option ℕ) → Agrees (is_marked_by marks) marks
-agrees None = tt
-agrees (Some marks) = tt
 
 urf_is : (marks : Option ℕ) → same_bit (is_marked_by marks) (urf_of marks == 1) ≡ true
 urf_is None = refl

@@ -4,9 +4,6 @@ use Rattle.std.specs.Prelude.{map, slice_get, slice_index_or}
 use Rattle.std.proofs.lemmas.Bool.{cases_lt}
 use Rattle.h263_types.specs.declared.params.Params.{Params}
 use Rattle.h263_types.specs.declared.blocks.Mb.{Mb}
-use Rattle.h263_types.specs.declared.format.Format.{Format}
-use Rattle.h263_types.specs.declared.format.Format.TheVariants.{SubQcif, Qcif, Cif}
-use Rattle.h263_types.specs.Sizes.{mbs_of}
 use Rattle.h263_planes.specs.Picture.{Picture}
 use Rattle.packet_cutter.specs.Cutting.{packets_of}
 use Rattle.back_messages.specs.declared.writing.Said.{Said}
@@ -134,12 +131,6 @@ module _ (t : Terms) (near_laws : NearLaws t.params) (recorded : t.plain ≡ fal
           references_are = subst (λ (run : SenderRun Style Mb Picture). HasReferences carrier.references run.coded) (sym same) kept.references_are;
         };
       }
-
--- a picture has 396 macroblocks at most
-pub mbs_few : (f : Format) → mbs_of f ≤ 396
-mbs_few SubQcif = omega arith
-mbs_few Qcif = omega arith
-mbs_few Cif = omega arith
 
 -- ---- a message, with the pace of the parameters
 

@@ -1,5 +1,5 @@
 -- What the rings have is what was sent and said.
-use Rattle.std.proofs.Common.{◌≡◌, ℕ, zero, suc, ◌+◌, Bool, List, [], ◌∷◌, length, take, Option, Some, None, refl, sym, ap, ◌∙◌, arith}
+use Rattle.std.proofs.Common.{◌≡◌, ℕ, zero, suc, ◌+◌, Bool, List, [], ◌∷◌, length, take, Option, Some, None, refl, ap, ◌∙◌, arith}
 use Rattle.std.specs.Prelude.{map, nat_le, nat_lt, slice_get, slice_index_or, if◌then◌else◌}
 use Rattle.std.specs.Option.{option_map, option_map_or}
 use Rattle.std.proofs.lemmas.Bool.{and_from, le-leb, lt-ltb}
@@ -27,10 +27,6 @@ kept_is p packets coded n has among =
     (and_from (nat_lt n (length has.pictures)) (nat_le (length has.pictures) (n + period_of packets)) (lt-ltb n (length has.pictures) (omega (arith, among.0, has.count)))
     (le-leb (length has.pictures) (n + period_of packets) (omega (arith, among.1, has.count))))
     ∙ has.each n
-
--- a packet that is there
-pub some_packet : (o : Option (List ℕ)) (got : Option (List ℕ)) (bytes : List ℕ) → o ≡ got → o ≡ Some bytes → got ≡ Some bytes
-some_packet o got bytes same is = sym same ∙ is
 
 -- a picture has as many packets as slices
 pub count_is : (p : Params) (coded : List (Coded Style Mb Picture)) (n : ℕ)

@@ -1,15 +1,14 @@
 -- Before the first event.
-use Rattle.std.proofs.Common.{◌≡◌, ℕ, Bool, List, [], sym, ◌∙◌, arith}
+use Rattle.std.proofs.Common.{◌≡◌, ℕ, List, [], sym}
 use Rattle.h263_outside.specs.declared.desk.Role.{Role}
 use Rattle.h263_types.specs.declared.format.Format.{Format}
 use Rattle.h263_types.specs.declared.params.Params.{Params}
 use Rattle.h263_types.specs.Params.{IsParams}
 use Rattle.call_model.specs.Receiving.{ReceiverEntry}
 use Rattle.sender_end.specs.Stands as sender_end
-use Rattle.sender_end.specs.Stands.{IsReady}
 use Rattle.receiver_end.specs.State as receiver_end
 use Rattle.call_command.specs.Call.{first_state, steady}
-use Rattle.call_command.specs.Standing.{CallOpens, IsFresh, Parts, PartsReady, PartsStand}
+use Rattle.call_command.specs.Standing.{IsFresh, Parts, PartsStand}
 
 -- parameters stay in their ranges in another format
 pub in_format : (p : Params) (f : Format) → IsParams p → IsParams (record p { format = f })
@@ -51,26 +50,5 @@ module _ (x : Parts) (fresh : IsFresh x.terms x.carrier) (sender_params : x.send
       near = tt;
       tally = fresh.counted;
       network = λ recorded. record { packets_are = fresh.packets; messages_are = fresh.messages; references_are = fresh.references };
-    };
-  }
-
-  pub ready_first : (quant : ℕ) (attached : Role → Bool) → CallOpens x.terms attached → x.video.format ≡ x.terms.params.format → IsReady x.sender
-      → quant ≡ x.terms.params.quant → x.receiver.played ≡ 0 → PartsReady x quant attached
-  ready_first quant attached opens format ready quant_is played = record {
-    opens = opens;
-    format = format;
-    frame = fresh.frame;
-    sender = ready;
-    sender_params = sender_params;
-    standing = record { entries = []; stands = sends };
-    quant_is = quant_is;
-    sent = omega (arith, sent, more);
-    played = omega (arith, played);
-    level = λ plain. played ∙ sym sent;
-    unread = λ plain. fresh.ended;
-    counted = fresh.tally ∙ sym played;
-    network = λ recorded. record {
-      packets = record { sizes = fresh.sizes recorded; keeping = fresh.keeping; begun = fresh.begun ∙ sym sent };
-      said = omega (arith, fresh.said);
     };
   }

@@ -74,14 +74,6 @@ unfolding magnitude_words magnitude_texts
 first_or w size (inl same) = inl (sym (ap (λ (p : List Bool × ℕ). p.0) same), sym (ap (λ (p : List Bool × ℕ). p.1) same))
 first_or w size (inr h) = inr h
 
-first_of_all : (w : List Bool) (size : ℕ) → IsIn (w, size) (from_number 1 (drop 1 magnitude_texts)) → IsIn (w, size) magnitude_words
-unfolding magnitude_words magnitude_texts
-first_of_all w size h = inr h
-
-none_first : IsIn (word "1", 0) magnitude_words
-unfolding magnitude_words magnitude_texts
-none_first = inl refl
-
 many : length (drop 1 magnitude_texts) ≡ 32
 unfolding magnitude_texts
 many = refl

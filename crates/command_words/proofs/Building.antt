@@ -1,13 +1,9 @@
 -- The rules of a command that is built up argument by argument.
 use Rattle.std.proofs.Common.{◌≡◌, ◌∙◌, ◌<◌, ◌+◌, ℕ, suc, List, [], ◌∷◌, map, ap, append_assoc, length, get_or, drop, add-one, drop-cons}
 use Rattle.std.specs.Borrow.{Bor}
-use Rattle.std.proofs.lemmas.List.{append-nil}
 use Rattle.clap.specs.Words.{App, Rule, with_rule}
 use Rattle.command_words.specs.Simple.{Text}
 use Rattle.command_words.specs.Clap.{texts, with_rules}
-
-pub no_rules : (a : App) → with_rules a [] ≡ a
-no_rules a = ap (λ (rules : List Rule). let b : App = record a { top = record a.top { rules = rules } } in b) (append-nil a.top.rules)
 
 pub more_rules : (a : App) (r : Rule) (rs : List Rule) → with_rules (with_rule a r) rs ≡ with_rules a (r ∷ rs)
 more_rules a r rs = ap (λ (rules : List Rule). let b : App = record a { top = record a.top { rules = rules } } in b) (append_assoc a.top.rules (r ∷ []) rs)

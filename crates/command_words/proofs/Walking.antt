@@ -301,10 +301,6 @@ one_word options left (Some n) x xs k e = ap (λ (kind : Kind). after_word optio
 option_of : (name : Text) (places options : List Text) (c : List Rule) → Setting places options c → (n : Text) (t : Bool) → is_among options n ≡ t → arg_by_long c n ≡ (if t then Some (option_at n) else None)
 option_of name places options c s n t e = s.by_long n ∙ ap (λ (b : Bool). if b then Some (option_at n) else None) e
 
--- an option with its value in the same word
-value_fault : (c : List Rule) (n v : Text) (h : Held) → react_fault c false (option_at n) (v ∷ []) h ≡ or_else (settle_fault c false h) (or_else (repeat_fault false n (settled c h).rows) [])
-value_fault c n v h = refl
-
 dashes_idle : (name : Text) (c : List Rule) (done : List Given) (last : Option Given) (i : ℕ) (x : Text) → bytes_eq x two_hyphens ≡ true
     → (turn_fault (shape name c) [] (walk_at done (ready last) i false) x ≡ []) × (walked c [] (walk_at done (ready last) i false) x ≡ walk_at done (ready last) i true)
 unfolding walked

@@ -45,11 +45,6 @@ pub done_with : {T : Type 0} (r : Result T TraceFault) (line : ℕ) (e : Event) 
 done_with (Ok x) line e o P none done = done.1
 done_with (Err fault) line e o P none done = absurd (cc (none, done.1))
 
--- what is done may be said otherwise
-pub done_so : {T : Type 0} (r : Result T TraceFault) (P Q : Type 0) → (P → Q) → IsDoneWith r P → IsDoneWith r Q
-done_so (Ok x) P Q so done = so done
-done_so (Err fault) P Q so done = absurd done
-
 -- what is so behind a line, by what the line says
 pub as_line : (t : DemoTerms) (past : List Event) (line event : Line) (P : List Event → Type 0) → event ≡ line
     → (AllNear (coding t.params) (rules_of t.params) (steady t.params) (made_video t) (with_line t past line) → P (with_line t past line))

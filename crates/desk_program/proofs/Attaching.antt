@@ -6,7 +6,7 @@ use Rattle.std.specs.List.{list_any, AllByRecursion}
 use Rattle.std.proofs.Math.Seq.{take-suc, drop-cons}
 use Rattle.std.proofs.lemmas.List.Folds.{list_any-append}
 use Rattle.std.proofs.lemmas.List.{take-append-drop, map-append}
-use Rattle.h263_outside.specs.Desk.{Outside, NoneAttached, is_role, with_role}
+use Rattle.h263_outside.specs.Desk.{Outside, is_role, with_role}
 use Rattle.h263_outside.specs.declared.desk.Role.{Role}
 use Rattle.h263_outside.specs.declared.desk.Role.TheVariants.{Video, Events, Pictures, Wire, Report, Video2, Pictures2}
 use Rattle.call_report.specs.declared.status.Status.{Status}
@@ -14,9 +14,8 @@ use Rattle.call_report.specs.declared.status.Status.TheVariants.{OutOfMemory, Op
 use Rattle.call_report.specs.Status.{Phase, phase}
 use Rattle.call_report.specs.Status.Phase.{finished, refused, unread, unwritten, starved, unasked, unopened}
 use Rattle.desk_program.specs.Attached.{names, are_free, AreAttached, SomeAttached, AttachedAt, AttachedIn}
-use Rattle.desk_program.specs.Ends.{start_status, ComesAtOpening, ComesAtStop, ComesLater}
+use Rattle.desk_program.specs.Ends.{start_status, ComesAtOpening, ComesLater}
 use Rattle.desk_program.specs.Promises.{AskedIn}
-use Rattle.desk_program.proofs.Running.{later_stop}
 
 same_role : (r : Role) → is_role r r ≡ true
 same_role Video = refl
@@ -198,10 +197,6 @@ attached_still starved order old new roles names a = still_some order old new ro
 attached_still unasked order old new roles names a = still_attached order old new roles names a
 attached_still (unopened role) order old new roles names a = record { first = a.first; name = a.name; rest = a.rest; whole = a.whole; attached = still_attached a.first old new roles names a.attached }
 
--- after a start that gave up
-pub attached_stop : (phase : Phase) (order : List (Role × List ℕ)) (old new : Outside) → ComesAtStop phase → new.attached ≡ old.attached → new.name ≡ old.name → AreAttached order old → AttachedIn phase order new
-attached_stop phase order old new stop roles names a = attached_later phase order new (later_stop phase stop) (still_attached order old new roles names a)
-
 -- no status of a command is `Usage`
 pub words_opening : (phase : Phase) → ComesAtOpening phase → AskedIn phase
 words_opening finished is = tt
@@ -220,23 +215,3 @@ words_later unwritten is = tt
 words_later starved is = tt
 words_later unasked is = absurd is
 words_later (unopened role) is = tt
-
--- at a desk with nothing attached
-pub none_attached : (new : Outside) → NoneAttached new.attached → AreAttached [] new
-none_attached new none = record { roles = λ r. ap (λ (f : Role → Bool). f r) none; names = tt }
-
--- where a role of a front of the order is not attached
-pub longer_order : (phase : Phase) (order tail : List (Role × List ℕ)) (new : Outside) → ComesAtOpening phase → AttachedIn phase order new → AttachedIn phase (order ++ tail) new
-longer_order finished order tail new is a = absurd is
-longer_order refused order tail new is a = absurd is
-longer_order unread order tail new is a = absurd is
-longer_order unwritten order tail new is a = absurd is
-longer_order starved order tail new is a = record { first = a.first; rest = a.rest ++ tail; whole = sym (append_assoc a.first a.rest tail) ∙ ap (λ (l : List (Role × List ℕ)). l ++ tail) a.whole; attached = a.attached }
-longer_order unasked order tail new is a = absurd is
-longer_order (unopened role) order tail new is a = record {
-  first = a.first;
-  name = a.name;
-  rest = a.rest ++ tail;
-  whole = sym (append_assoc a.first ((role, a.name) ∷ a.rest) tail) ∙ ap (λ (l : List (Role × List ℕ)). l ++ tail) a.whole;
-  attached = a.attached;
-}

@@ -1,5 +1,5 @@
 -- Texts and counts, role by role: one write after another, one read after another.
-use Rattle.std.proofs.Common.{if◌then◌else◌, ◌≡◌, ◌≢◌, ℕ, Bool, true, false, List, [], ◌++◌, drop, Option, Some, refl, sym, ap, ◌∙◌, subst, append_assoc}
+use Rattle.std.proofs.Common.{if◌then◌else◌, ◌≡◌, ◌≢◌, ℕ, Bool, true, false, List, [], ◌++◌, drop, Option, Some, refl, sym, ap, ◌∙◌, append_assoc}
 use Rattle.std.proofs.lemmas.List.{drop-drop}
 use Rattle.h263_outside.specs.Desk.{Outside, IsInput, is_role, appended, GainsFront}
 use Rattle.h263_outside.specs.Gains.{gained}
@@ -59,13 +59,6 @@ fronts_second first second old mid new p q = λ r. record {
     gains = (q r).so_far.gains ∙ ap (λ (o : Option (List ℕ)). gained o (q r).so_far.front) (p r) ∙ gained-gained (old r) (first r) (q r).so_far.front;
   };
 }
-
--- the same from an earlier desk, where nothing was written since
-pub gains_since : (texts : Role → List ℕ) (old mid new : Role → Option (List ℕ)) → mid ≡ old → Gains texts mid new → Gains texts old new
-gains_since texts old mid new same p = subst (λ (w : Role → Option (List ℕ)). Gains texts w new) same p
-
-pub fronts_since : (texts : Role → List ℕ) (old mid new : Role → Option (List ℕ)) → mid ≡ old → GainsFronts texts mid new → GainsFronts texts old new
-fronts_since texts old mid new same p = subst (λ (w : Role → Option (List ℕ)). GainsFronts texts w new) same p
 
 -- ---- reads
 

@@ -186,21 +186,6 @@ started {State} first step reads most inputs old new stands w =
 
 -- ---- a run in its middle
 
-pub begun : {State : Type 0} (step : State → (Role → List ℕ) → Step State) (reads : State → Bool) (stands : State → (Role → List ℕ) → Type 0) (more : ℕ) (s : State) (inputs : Role → List ℕ) (now : Outside)
-    → stands s inputs → Tells now inputs → IsUnderWay step reads (run_of step more s inputs) inputs now.written stands more now
-begun step reads stands more s inputs now kept told = record {
-  done = [];
-  state = s;
-  rest = inputs;
-  kept = kept;
-  turns = refl;
-  last = refl;
-  place = refl;
-  told = told;
-  whole = λ _. All-nil IsWhole;
-  written = λ r. sym (gained-nil (now.written r));
-}
-
 module _ {State : Type 0} (step : State → (Role → List ℕ) → Step State) (reads : State → Bool) (run : Run) (inputs : Role → List ℕ) (start : Role → Option (List ℕ)) (old new : Outside) (stands : State → (Role → List ℕ) → Type 0) (more : ℕ) (p : IsUnderWay step reads run inputs start stands more old) where
   -- the same run, before its next step
   abbrev pub before_step : IsBefore (step p.state p.rest) (behind_step step more p.rest) run inputs start (reads p.state) old

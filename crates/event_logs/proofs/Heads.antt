@@ -10,11 +10,6 @@ use Rattle.event_logs.specs.Entry.{entry_with, begun, reach_of, reach, entry_in}
 use Rattle.byteorder.specs.Endian.{big_number}
 use Rattle.byteorder.specs.Numbers.{big_from-take}
 
--- a list with no element
-nil_of : (xs : List ℕ) → length xs ≡ 0 → xs ≡ []
-nil_of [] none = refl
-nil_of (x ∷ xs) none = absurd (omega arith)
-
 pub past : (n : ℕ) (xs : List ℕ) → length xs ≤ n → drop n xs ≡ []
 past n xs le = drop_of_length-le xs {i = n} le
 
@@ -83,9 +78,6 @@ none_begun side bytes is = none_cond (nat_lt (length bytes) (reach side bytes)) 
 module _ (rest head : List ℕ) (came : ℕ) (size : length head ≡ 3) (within : came ≤ 3) (fills : FillsFront rest head came) where
   pub some_came : (came ≡ 0 → ⊥) → 0 < length rest
   some_came some = omega (arith, fills.within, some)
-
-  pub none_came : came ≡ 0 → rest ≡ []
-  none_came none = nil_of rest (omega (arith, fills.ends (omega (arith, none, size)), none))
 
   short_rest : came < 3 → came ≡ length rest
   short_rest short = fills.ends (omega (arith, short, size))

@@ -19,16 +19,9 @@ pub gained-gained : (o : Option (List ℕ)) (a b : List ℕ) → gained (gained 
 gained-gained None a b = refl
 gained-gained (Some xs) a b = ap (λ (l : List ℕ). Some l) (append_assoc xs a b)
 
-nil_if : (b : Bool) (o : Option (List ℕ)) → cond b (option_map (λ old. old ++ []) o) o ≡ o
-nil_if true o = gained-nil o
-nil_if false o = refl
-
 twice_if : (t : Bool) (o : Option (List ℕ)) (a b : List ℕ) → cond t (option_map (λ old. old ++ b) (cond t (option_map (λ old. old ++ a) o) o)) (cond t (option_map (λ old. old ++ a) o) o) ≡ cond t (option_map (λ old. old ++ (a ++ b)) o) o
 twice_if true o a b = gained-gained o a b
 twice_if false o a b = refl
-
-pub appended-nil : (w : Role → Option (List ℕ)) (role : Role) → appended w role [] ≡ w
-appended-nil w role = same_roles _ _ (λ r. nil_if (is_role role r) (w r))
 
 pub appended-appended : (w : Role → Option (List ℕ)) (role : Role) (a b : List ℕ) → appended (appended w role a) role b ≡ appended w role (a ++ b)
 appended-appended w role a b = same_roles _ _ (λ r. twice_if (is_role role r) (w r) a b)

@@ -1,5 +1,5 @@
 -- What a write of one byte does to the picture that the bytes hold.
-use Rattle.std.proofs.Common.{◌≡◌, ℕ, ◌+◌, ◌*◌, ◌-◌, ◌/◌, ◌<◌, ◌≤◌, List, length, refl, ap, ◌∙◌, arith, slice_set, subst, suc, [], ◌∷◌, ◌++◌, lit≤, add_assoc, append_assoc, sym, take, drop, cond, get_or, length-drop, length-take, Bool, true, false, ◌&&◌, nat_eq, nat_le, nat_lt}
+use Rattle.std.proofs.Common.{◌≡◌, ℕ, ◌+◌, ◌*◌, ◌-◌, ◌/◌, ◌<◌, ◌≤◌, List, length, refl, ap, ◌∙◌, arith, slice_set, subst, suc, [], ◌∷◌, ◌++◌, add_assoc, append_assoc, sym, take, drop, cond, get_or, length-drop, length-take, Bool, true, false, ◌&&◌, nat_eq, nat_le, nat_lt}
 use Rattle.h263_planes.proofs.Runs.{run_at}
 use Rattle.std.proofs.Math.Seq.{drop-drop}
 use Rattle.std.proofs.lemmas.Bool.Decides.{nat_tests}
@@ -22,10 +22,6 @@ use Rattle.h263_planes.proofs.Ranges.{range_set_before, range_set_within, range_
 pub same_planes : (f : Format) (y y' b b' r r' : List ℕ) → y ≡ y' → b ≡ b' → r ≡ r' →
     let p : Picture = record { format = f; y = y; cb = b; cr = r } in let q : Picture = record { format = f; y = y'; cb = b'; cr = r' } in p ≡ q
 same_planes f y y' b b' r r' hy hb hr = cc
-
--- the planes of f have as many samples as its numbers say
-luma_size : Format → ℕ
-luma_size f = width_of f * height_of f
 
 -- a plane of colour has a quarter of the samples
 pub chroma_fits : (f : Format) → width_of f / 2 * (height_of f / 2) ≡ width_of f * height_of f / 4
@@ -89,17 +85,6 @@ sets_in_plane f plane (v ∷ vs) bytes i h =
 -- the place of the run's last sample
 pub run_inside : (w h x y n : ℕ) → x + n ≤ w → y < h → w * y + x + n ≤ w * h
 run_inside w h x y n hx hy = let more : w * suc y ≤ w * h = mul-le-mul_left w hy in omega (arith, more)
-
-pub plane_fits : (f : Format) (plane : Plane) → offset_of f plane + width_in f plane * height_in f plane ≤ size_of_picture f
-plane_fits SubQcif Y = lit≤ tt
-plane_fits SubQcif Cb = lit≤ tt
-plane_fits SubQcif Cr = lit≤ tt
-plane_fits Qcif Y = lit≤ tt
-plane_fits Qcif Cb = lit≤ tt
-plane_fits Qcif Cr = lit≤ tt
-plane_fits Cif Y = lit≤ tt
-plane_fits Cif Cb = lit≤ tt
-plane_fits Cif Cr = lit≤ tt
 
 put_mid_sets : (at : ℕ) (vs bytes : List ℕ) → at + length vs ≤ length bytes → put_mid at (length vs) bytes vs ≡ sets bytes at vs
 put_mid_sets at vs bytes h =

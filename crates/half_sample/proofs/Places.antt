@@ -1,5 +1,5 @@
 -- From a moved block to its moved samples, and that they lie inside the plane.
-use Rattle.std.proofs.Common.{◌≡◌, ℕ, suc, min, negsuc, refl, ◌+◌, ◌*◌, ◌/◌, ◌%◌, ◌≤◌, ◌<◌, ℤ, pos, ◌+ℤ◌, ◌≤ℤ◌, Bool, cond, not, nat_eq, arith, ap, ◌∙◌, sym, subst, unsigned_abs}
+use Rattle.std.proofs.Common.{◌≡◌, ℕ, suc, min, negsuc, refl, ◌+◌, ◌*◌, ◌/◌, ◌%◌, ◌≤◌, ◌<◌, ℤ, pos, ◌+ℤ◌, Bool, cond, not, nat_eq, arith, ap, ◌∙◌, sym, subst, unsigned_abs}
 use Rattle.std.proofs.lemmas.Int.{ints}
 use Rattle.std.proofs.lemmas.Bool.Decides.{nat_tests}
 use Rattle.std.specs.Int.{int_shr}
@@ -60,11 +60,6 @@ luma_inside f mb v {x} {y} {hx} {hy} r ex ey ehx ehy =
 -- four of its rows read no further down
 pub quarter_inside : (f : Format) (first y half : ℕ) → first < 4 → {x n : ℕ} → Inside f Y x (y + 15 + half) n → Inside f Y x (y + first + 12 + half) n
 quarter_inside f first y half h {x} {n} i = record { in_row = i.in_row; in_plane = omega (arith, h, i.in_plane) }
-
--- a luma component in reach keeps the samples of a colour inside their plane, at its beginning
-pub colour_begins : (k size : ℕ) (v : ℤ) → InSide (16 * k) size v → pos 0 ≤ℤ (pos (8 * k) +ℤ int_shr v 2)
-colour_begins k size (pos n) h = omega (arith, ints)
-colour_begins k size (negsuc n) h = omega (arith, ints, h)
 
 -- and at its end
 colour_ends_at : (k half x : ℕ) (v : ℤ) → InSide (16 * k) (2 * half) v → pos x ≡ pos (8 * k) +ℤ int_shr v 2 → x + (8 + cond (is_half Cb v) 1 0) ≤ half

@@ -15,9 +15,6 @@ module _ {v0 v1 v2 v3 v4 v5 v6 v7 : List ℤ} (P : ℕ → List ℤ → Type 0) 
   pub each_sum : (k : ℕ) → k < 8 → P k (sum_at (sum_with v0 ∷ sum_with v1 ∷ sum_with v2 ∷ sum_with v3 ∷ sum_with v4 ∷ sum_with v5 ∷ sum_with v6 ∷ sum_with v7 ∷ []) k)
   each_sum = below_eight (λ k. P k (sum_at (sum_with v0 ∷ sum_with v1 ∷ sum_with v2 ∷ sum_with v3 ∷ sum_with v4 ∷ sum_with v5 ∷ sum_with v6 ∷ sum_with v7 ∷ []) k)) p0 p1 p2 p3 p4 p5 p6 p7
 
-  pub each_row : (k : ℕ) → k < 8 → P k (row_at (row_with v0 ∷ row_with v1 ∷ row_with v2 ∷ row_with v3 ∷ row_with v4 ∷ row_with v5 ∷ row_with v6 ∷ row_with v7 ∷ []) k)
-  each_row = below_eight (λ k. P k (row_at (row_with v0 ∷ row_with v1 ∷ row_with v2 ∷ row_with v3 ∷ row_with v4 ∷ row_with v5 ∷ row_with v6 ∷ row_with v7 ∷ []) k)) p0 p1 p2 p3 p4 p5 p6 p7
-
 -- ---- rows that are put into a list
 
 row_same : (rows : List Row) (k : ℕ) (v : List ℤ) → k < length rows → row_at (slice_set rows k (row_with v)) k ≡ v

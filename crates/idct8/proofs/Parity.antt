@@ -1,6 +1,6 @@
 -- How large a coefficient is whose part of the block has a small sum of squares. A coefficient sees the block folded across
 -- and down, each time with a change of sign or without one, as its frequencies are odd or even.
-use Rattle.std.proofs.Common.{◌≡◌, refl, sym, ap, subst, ◌∙◌, arith, lit≤, ℕ, zero, suc, ◌+◌, ◌-◌, ◌*◌, ◌<◌, ◌≤◌, ◌^◌, ℤ, pos, ◌+ℤ◌, ◌*ℤ◌, ◌-ℤ◌, ◌<ℤ◌, neg_ℤ, negsuc, unsigned_abs, List, get_or, Bool, true, false, nat_lt, ltb-true, mul_comm}
+use Rattle.std.proofs.Common.{◌≡◌, refl, sym, ap, subst, ◌∙◌, arith, lit<, lit≤, ℕ, zero, suc, ◌+◌, ◌-◌, ◌*◌, ◌<◌, ◌≤◌, ◌^◌, ℤ, pos, ◌+ℤ◌, ◌*ℤ◌, ◌-ℤ◌, ◌<ℤ◌, neg_ℤ, negsuc, unsigned_abs, List, get_or, Bool, true, false, nat_lt, ltb-true, mul_comm}
 use borrow.Author.Differences.{up, down}
 use Rattle.std.proofs.lemmas.Bool.Decides.{nat_tests}
 use Rattle.std.specs.Int.{int_shr}
@@ -9,7 +9,8 @@ use Rattle.std.proofs.lemmas.Int.{ints, unsigned_abs-mul}
 use Rattle.idct8.specs.Sums.{sum_below, total}
 use Rattle.idct8.specs.Basis.{basis}
 use Rattle.idct8.specs.Transform.{entry, forward_at, rounded}
-use Rattle.idct8.specs.Vectors.{square}
+use Rattle.idct8.specs.Vectors.{lane, row_at, square}
+use Rattle.idct8.specs.declared.passes.Row.{Row}
 use Rattle.idct8.proofs.Sums.{below_eight, same_sum, times_sum}
 use Rattle.idct8.proofs.Steps.{sums_added}
 
@@ -186,12 +187,6 @@ size_of_sum factor (suc n) f g h =
     let more : factor * unsigned_abs (sum_below n f +ℤ f n) ≤ factor * (unsigned_abs (sum_below n f) + unsigned_abs (f n)) = mul-le-mul_left factor (two_sizes (sum_below n f) (f n)) in
     omega (arith, size_of_sum factor n f g h, h n, more)
 
--- four sums of four numbers each, by rows or by columns
-pub four_sums : (g : ℕ → ℕ → ℕ) (n0 n1 n2 n3 most : ℕ) → n0 ≡ g 0 0 + g 0 1 + g 0 2 + g 0 3 → n1 ≡ g 1 0 + g 1 1 + g 1 2 + g 1 3 → n2 ≡ g 2 0 + g 2 1 + g 2 2 + g 2 3 → n3 ≡ g 3 0 + g 3 1 + g 3 2 + g 3 3 →
-    n0 + n1 + n2 + n3 ≤ most → total 4 (λ x. total 4 (λ y. g y x)) ≤ most
-unfolding total
-four_sums g n0 n1 n2 n3 most e0 e1 e2 e3 h = omega (arith, e0, e1, e2, e3, h)
-
 -- ---- the numbers of the basis
 
 -- the sum of the squares of half a row
@@ -314,12 +309,33 @@ below size squares t h few most = below_by (nat_lt (size + 2 ^ 24) (2 ^ 25 * t))
 abbrev pub energy : Bool → Bool → List ℤ → ℕ
 energy o q s = total 4 (λ x. total 4 (λ y. square (part o q s y x)))
 
--- a fact of each part
-pub each_part : (s : List ℤ) (most : ℕ) → energy false false s ≤ most → energy false true s ≤ most → energy true false s ≤ most → energy true true s ≤ most → (o q : Bool) → energy o q s ≤ most
-each_part s most a b c d false false = a
-each_part s most a b c d false true = b
-each_part s most a b c d true false = c
-each_part s most a b c d true true = d
+-- The squares as they are added up: the columns are folded down into one half of some vectors' lanes each, and lane k of a
+-- vector has the squares of row k of a part.
+module _ (s : List ℤ) (rows : List Row) (o q : Bool) (at : ℕ → ℕ) (room : (k : ℕ) → k < 4 → at k < 8) (downs : (x k : ℕ) → x < 8 → k < 4 → lane (row_at rows x) (at k) ≡ down_at q s k x) (squares : List ℤ) (across : (i : ℕ) → i < 8 → lane squares i ≡
+    pos (square (mirrored o (lane (row_at rows 0) i) (lane (row_at rows 7) i)) + square (mirrored o (lane (row_at rows 1) i) (lane (row_at rows 6) i))
+    + square (mirrored o (lane (row_at rows 2) i) (lane (row_at rows 5) i)) + square (mirrored o (lane (row_at rows 3) i) (lane (row_at rows 4) i)))) where
+  row_of_part : (k : ℕ) → k < 4 → unsigned_abs (lane squares (at k)) ≡ square (part o q s k 0) + square (part o q s k 1) + square (part o q s k 2) + square (part o q s k 3)
+  row_of_part k h =
+      let down_0 = downs 0 k (lit< tt) h in
+      let down_1 = downs 1 k (lit< tt) h in
+      let down_2 = downs 2 k (lit< tt) h in
+      let down_3 = downs 3 k (lit< tt) h in
+      let down_4 = downs 4 k (lit< tt) h in
+      let down_5 = downs 5 k (lit< tt) h in
+      let down_6 = downs 6 k (lit< tt) h in
+      let down_7 = downs 7 k (lit< tt) h in
+      ap unsigned_abs (across (at k) (room k h)
+      ∙ (λ i. pos (square (mirrored o (down_0 i) (down_7 i)) + square (mirrored o (down_1 i) (down_6 i)) + square (mirrored o (down_2 i) (down_5 i)) + square (mirrored o (down_3 i) (down_4 i)))))
+
+  four_rows : (g : ℕ → ℕ → ℕ) (most : ℕ) → (g 0 0 + g 0 1 + g 0 2 + g 0 3) + (g 1 0 + g 1 1 + g 1 2 + g 1 3) + (g 2 0 + g 2 1 + g 2 2 + g 2 3) + (g 3 0 + g 3 1 + g 3 2 + g 3 3) ≤ most → total 4 (λ x. total 4 (λ y. g y x)) ≤ most
+  unfolding total
+  four_rows g most h = omega (arith, h)
+
+  pub energy_of : (passed : List ℤ) → ((i : ℕ) → lane passed i ≡ lane squares i) → (most : ℕ) →
+      unsigned_abs (lane passed (at 0)) + unsigned_abs (lane passed (at 1)) + unsigned_abs (lane passed (at 2)) + unsigned_abs (lane passed (at 3)) ≤ most → energy o q s ≤ most
+  energy_of passed same most few =
+      let row : (k : ℕ) → k < 4 → unsigned_abs (lane passed (at k)) ≡ square (part o q s k 0) + square (part o q s k 1) + square (part o q s k 2) + square (part o q s k 3) = λ k h. ap unsigned_abs (same (at k)) ∙ row_of_part k h in
+      four_rows (λ y x. square (part o q s y x)) most (omega (arith, few, row 0 (lit< tt), row 1 (lit< tt), row 2 (lit< tt), row 3 (lit< tt)))
 
 -- how large a sum over a part is
 part_small : (s : List ℤ) (v u t most : ℕ) (o q : Bool) → v < 8 → u < 8 → energy o q s ≤ most → most + 4 * t + 4 < 4 * (t * t) → t ≤ 77 →
@@ -341,7 +357,7 @@ part_small s v u t most o q hv hu energies few top =
     below (unsigned_abs all) (total 4 (λ x. total 4 (squares x))) t (omega (arith, whole, products)) (omega (arith, small, few)) top
 
 -- a coefficient is smaller than t where each part of the block has so small a sum of squares
-pub coefficient_below : (s : List ℤ) (v u t most : ℕ) → v < 8 → u < 8 → ((o q : Bool) → energy o q s ≤ most) → most + 4 * t + 4 < 4 * (t * t) → t ≤ 77 →
+coefficient_below : (s : List ℤ) (v u t most : ℕ) → v < 8 → u < 8 → ((o q : Bool) → energy o q s ≤ most) → most + 4 * t + 4 < 4 * (t * t) → t ≤ 77 →
     unsigned_abs (forward_at s v u) < t
 coefficient_below s v u t most hv hu energies few top =
     let a = row_mirrored u hu in
@@ -349,6 +365,17 @@ coefficient_below s v u t most hv hu energies few top =
     rounded_size (sum_below 8 (λ x. sum_below 8 (λ y. basis u x *ℤ basis v y *ℤ entry s y x))) t
     (subst (λ (z : ℤ). unsigned_abs z + 2 ^ 24 < 2 ^ 25 * t) (sym (all_folded s v u a.0 b.0 a.1 b.1))
     (part_small s v u t most a.0 b.0 hv hu (energies a.0 b.0) few top))
+
+-- the same, part by part
+pub each_part_below : (s : List ℤ) (v u t most : ℕ) → v < 8 → u < 8 → energy false false s ≤ most → energy false true s ≤ most → energy true false s ≤ most → energy true true s ≤ most →
+    most + 4 * t + 4 < 4 * (t * t) → t ≤ 77 → unsigned_abs (forward_at s v u) < t
+each_part_below s v u t most hv hu ee eo oe oo few top = coefficient_below s v u t most hv hu each few top
+  where
+    each : (o q : Bool) → energy o q s ≤ most
+    each false false = ee
+    each false true = eo
+    each true false = oe
+    each true true = oo
 
 -- ---- a part of the block by the whole block
 

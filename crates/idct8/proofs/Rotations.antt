@@ -14,10 +14,6 @@ plain_sum m n e ea eb = cc (e, ea, eb)
 pub plain_difference : {r a b x y : ℤ} (m n : ℤ) → r ≡ m *ℤ a -ℤ n *ℤ b → a ≡ x → b ≡ y → r ≡ m *ℤ x -ℤ n *ℤ y
 plain_difference m n e ea eb = cc (e, ea, eb)
 
--- a passed number in its two parts, which were passed
-pub whole_of : {z' z a b x y : ℤ} → z' ≡ pos 8192 *ℤ a +ℤ b → z' ≡ z → x ≡ a → y ≡ b → z ≡ pos 8192 *ℤ x +ℤ y
-whole_of e ez ea eb = cc (e, ez, ea, eb)
-
 -- sums and differences of passed numbers
 pub sum_of : {r a b x y : ℤ} → r ≡ a +ℤ b → a ≡ x → b ≡ y → r ≡ x +ℤ y
 sum_of e ea eb = cc (e, ea, eb)

@@ -30,11 +30,6 @@ four_squares {s} {t} {a} {b} {c} {d} {a'} {b'} {c'} {d'} es et ea eb ec ed =
 pub same_squares : {a b c d a' b' c' d' : ℤ} → a ≡ a' → b ≡ b' → c ≡ c' → d ≡ d' → pos (square a + square b + square c + square d) ≡ pos (square a' + square b' + square c' + square d')
 same_squares ea eb ec ed = cc (ea, eb, ec, ed)
 
--- the sizes of such sums
-pub size_of_sums : {a b c d a' b' c' d' z : ℤ} → z ≡ pos (square a + square b + square c + square d) → a ≡ a' → b ≡ b' → c ≡ c' → d ≡ d' →
-    unsigned_abs z ≡ square a' + square b' + square c' + square d'
-size_of_sums {a} {b} {c} {d} {a'} {b'} {c'} {d'} {z} e ea eb ec ed = ap unsigned_abs (e ∙ same_squares {a = a} {b = b} {c = c} {d = d} {a' = a'} {b' = b'} {c' = c'} {d' = d'} ea eb ec ed)
-
 -- a row of samples
 pub sample_row : (block v : List ℤ) (k : ℕ) → length block ≡ 64 → k < 8 → All IsSample block → length v ≡ 8 → ((i : ℕ) → i < 8 → lane v i ≡ entry block k i) → EightWithin 255 v
 sample_row block v k long hk samples eight numbers = record {

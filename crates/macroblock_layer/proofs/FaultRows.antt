@@ -30,10 +30,6 @@ use Rattle.macroblock_layer.proofs.Productive.{quantiser_productive, difference_
 
 -- ---- COD and MCBPC
 
-no_bit : spelled 1 0 ≡ false ∷ []
-unfolding spelled
-no_bit = refl
-
 intra_row : (text : List Bool) (kind : FaultKind) (place : ℕ) → HasFault (mcbpc kinds.I) text kind place → HasFault (lead kinds.I) text kind place
 unfolding lead lead_turn class_turn
 intra_row text kind place h = fault_in_turn tt (lead_turn kinds.I) text kind place (fault_in_part (mcbpc kinds.I) no_four _ text kind place h)
@@ -54,12 +50,6 @@ four_spelt n w h = (w, Word classes.Inter4 n, [], h, sym (append-nil w), (refl, 
 four_row : TableLaws → (n : ℕ) (w : List Bool) → IsIn (w, Word classes.Inter4 n) (mcbpc_words kinds.P) → HasFault (lead kinds.P) (false ∷ w) faults.FourVectors 1
 unfolding class_turn
 four_row tables n w h = coded_row w faults.FourVectors 0 (fault_of_whole_part (mcbpc kinds.P) no_four _ (Word classes.Inter4 n) w faults.FourVectors (tables.productive.mcbpc kinds.P) (four_spelt n w h) refl)
-
--- a turn of stuffing
-stuffing_text : (kind : Kind) → mcbpc_text kind Stuffing ≡ word "000000001"
-unfolding mcbpc_text
-stuffing_text kinds.I = refl
-stuffing_text kinds.P = refl
 
 stuffing_class : TableLaws → (kind : Kind) → Spells (class_turn kind) (again tt) (word "000000001")
 unfolding class_turn Spells mcbpc_text

@@ -1,13 +1,10 @@
 -- A plane that is made row by row.
-use Rattle.std.proofs.Common.{◌≡◌, ◌∙◌, ◌<◌, ◌≤◌, ◌+◌, ◌⊎◌, inl, inr, ℕ, Bool, true, false, ◌&&◌, refl, subst, arith}
-use Rattle.std.specs.Prelude.{nat_eq}
-use Rattle.std.proofs.lemmas.Bool.{cases_lt, ne_eqb}
+use Rattle.std.proofs.Common.{◌≡◌, ◌∙◌, ◌<◌, ℕ, Bool, true, false, ◌&&◌, refl, subst}
 use Rattle.h263_types.specs.declared.format.Format.{Format}
 use Rattle.h263_planes.specs.declared.Plane.{Plane}
 use Rattle.h263_planes.specs.declared.Plane.TheVariants.{Y, Cb, Cr}
-use Rattle.h263_planes.specs.Layout.{width_in}
 use Rattle.h263_planes.specs.Picture.{Picture}
-use Rattle.h263_planes.specs.Samples.{Inside, IsPicture, in_run, same_plane, sample_at}
+use Rattle.h263_planes.specs.Samples.{Inside, IsPicture, same_plane, sample_at}
 use Rattle.make_input.specs.Frames.{made_sample}
 
 -- the rows of a plane above y are made, and the other planes are as they were
@@ -17,41 +14,9 @@ pub record RowsMade (seed n : ℕ) (plane : Plane) (y : ℕ) (old new : Picture)
   pub made : (i j : ℕ) → j < y → Inside old.format plane i j 1 → sample_at new plane i j ≡ made_sample seed n plane i j
   pub others : (other : Plane) (i j : ℕ) → Inside old.format other i j 1 → same_plane plane other ≡ false → sample_at new other i j ≡ sample_at old other i j
 
-pub no_rows : (seed n : ℕ) (plane : Plane) (p : Picture) → IsPicture p → RowsMade seed n plane 0 p p
-no_rows seed n plane p whole = record {
-  format = refl;
-  whole = whole;
-  made = λ i j lt inside. absurd (omega arith);
-  others = λ other i j inside same. refl;
-}
-
 and_false : (b : Bool) → (b && false) ≡ false
 and_false true = refl
 and_false false = refl
-
--- one row more
-pub row_more : (seed n : ℕ) (plane : Plane) (y : ℕ) (old middle new : Picture) → RowsMade seed n plane y old middle → new.format ≡ middle.format → IsPicture new
-    → ((x : ℕ) → x < width_in old.format plane → Inside middle.format plane x y 1 → sample_at new plane x y ≡ made_sample seed n plane x y)
-    → ((other : Plane) (i j : ℕ) → Inside middle.format other i j 1 → in_run plane 0 y (width_in old.format plane) other i j ≡ false → sample_at new other i j ≡ sample_at middle other i j)
-    → RowsMade seed n plane (y + 1) old new
-row_more seed n plane y old middle new rows format whole made others = record {
-  format = format ∙ rows.format;
-  whole = whole;
-  made = λ i j lt inside. go i j inside (cases_lt j y) lt;
-  others = λ other i j inside same. others other i j (there other i j inside) (rw same refl) ∙ rows.others other i j inside same;
-}
-  where
-    there : (other : Plane) (i j : ℕ) → Inside old.format other i j 1 → Inside middle.format other i j 1
-    there other i j inside = rw rows.format inside
-
-    go : (i j : ℕ) → Inside old.format plane i j 1 → (j < y) ⊎ (y ≤ j) → j < y + 1 → sample_at new plane i j ≡ made_sample seed n plane i j
-    go i j inside (inl above) lt =
-        let apart : nat_eq j y ≡ false = ne_eqb j y (λ e. omega arith) in
-        others plane i j (there plane i j inside) (rw apart (and_false (same_plane plane plane))) ∙ rows.made i j above inside
-    go i j inside (inr below) lt =
-        let is : j ≡ y = omega arith in
-        let in_row = inside.in_row in
-        rw is (made i (omega arith) (there plane i y (rw is at inside)))
 
 -- plane by plane each sample is made
 pub three_planes : (made : Plane → ℕ → ℕ → ℕ) (p0 p1 p2 p3 : Picture) → p1.format ≡ p0.format → p2.format ≡ p1.format → p3.format ≡ p2.format

@@ -1,5 +1,5 @@
 -- Where the levels of a block stand.
-use Rattle.std.proofs.Common.{◌≡◌, ◌≢◌, ℕ, zero, suc, ◌<◌, ◌≤◌, ℤ, pos, List, [], ◌∷◌, get_or, slice_index, slice_set, replicate, Bool, true, false, cond, nat_eq, nat_lt, refl, ap, sym, ◌∙◌, arith, lit<, ltb-true, length-set, get_or-set_same, get_or-set_other}
+use Rattle.std.proofs.Common.{◌≡◌, ◌≢◌, ℕ, zero, suc, ◌<◌, ℤ, pos, List, [], ◌∷◌, get_or, slice_index, slice_set, replicate, Bool, true, false, cond, nat_eq, nat_lt, refl, ap, sym, ◌∙◌, arith, lit<, ltb-true, length-set, get_or-set_same, get_or-set_other}
 use Rattle.std.specs.List.{list_all}
 use Rattle.std.specs.Int.{bit_at}
 use Rattle.std.proofs.lemmas.Int.{ints}

@@ -1,5 +1,5 @@
 -- How many bytes stand in front of a packet's data.
-use Rattle.std.proofs.Common.{◌≡◌, ℕ, ◌+◌, ◌*◌, ◌/◌, ◌≤◌, Bool, true, false, Option, Some, None, arith}
+use Rattle.std.proofs.Common.{◌≡◌, ℕ, ◌+◌, ◌*◌, ◌/◌, ◌≤◌, Bool, true, false, arith}
 use Rattle.picture_header.specs.declared.header.Header.{Header}
 use Rattle.picture_header.specs.Ranges.{IsHeader}
 use Rattle.picture_header.specs.Laws.{IsShort}
@@ -15,10 +15,6 @@ front_short short h first is = at (begins_at first)
     at : (begins : Bool) → 12 + payload_bits (extra_of h begins) / 8 ≤ 46
     at true = omega arith
     at false = let s = short h is in omega (arith, s.before)
-
-pub payload_some : (h : Header) (begins : Bool) → 16 ≤ payload_bits (extra_of h begins)
-payload_some h true = omega arith
-payload_some h false = omega arith
 
 -- whole bytes
 pub payload_whole : (h : Header) (begins : Bool) → 8 * (payload_bits (extra_of h begins) / 8) ≡ payload_bits (extra_of h begins)

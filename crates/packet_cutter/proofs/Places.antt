@@ -1,5 +1,5 @@
 -- The packets that are kept: as many as there are places, each between its place and the next.
-use Rattle.std.proofs.Common.{◌≡◌, ◌≢◌, ℕ, zero, suc, ◌+◌, ◌-◌, ◌*◌, ◌<◌, ◌≤◌, List, [], ◌∷◌, ◌++◌, length, take, drop, get_or, set, length-set, refl, sym, ap, ◌∙◌, arith, add-one, get_or-set_other, get_or-set_same, inl, inr}
+use Rattle.std.proofs.Common.{◌≡◌, ◌≢◌, ℕ, zero, suc, ◌+◌, ◌-◌, ◌<◌, ◌≤◌, List, [], ◌∷◌, ◌++◌, length, take, drop, get_or, set, refl, sym, ap, ◌∙◌, arith, add-one, get_or-set_other, get_or-set_same, inl, inr}
 use Rattle.std.specs.Prelude.{slice_range}
 use Rattle.std.proofs.lemmas.Bool.{cases_lt}
 use Rattle.std.proofs.lemmas.List.{length-append, length-take, length-take-le, length-drop, drop-take, take_at, drop_at, take-append-le}
@@ -79,38 +79,6 @@ one_more old new places limit n size p room low high same =
     let one : packet_at new others n ≡ take size (drop at new) =
     ap (λ (k : ℕ). slice_range new k (get_or others (n + 1) 0)) from ∙ ap (λ (k : ℕ). slice_range new at k) to ∙ ap (λ (k : ℕ). take k (drop at new)) long in
     ap (packets_in new others) (add-one n) ∙ ap (λ (l : List (List ℕ)). l ++ packet_at new others n ∷ []) before ∙ ap (λ (t : List ℕ). packets_in old places n ++ t ∷ []) one
-
-pub placed_more : (places : List ℕ) (limit n size : ℕ) → ArePlaced limit places n → n < 396 → size ≤ limit → ArePlaced limit (set places (n + 1) (get_or places n 0 + size)) (n + 1)
-placed_more places limit n size p room few = record { whole = length-set places (n + 1) (get_or places n 0 + size) ∙ p.whole; order = order; within = within; end = end }
-  where
-    at : ℕ
-    at = get_or places n 0
-
-    last : get_or (set places (n + 1) (get_or places n 0 + size)) (n + 1) 0 ≡ get_or places n 0 + size
-    last = new_place places n (get_or places n 0 + size) (omega (arith, p.whole))
-
-    kept : (i : ℕ) → i ≤ n → get_or (set places (n + 1) (get_or places n 0 + size)) i 0 ≡ get_or places i 0
-    kept i le = other_place places n (get_or places n 0 + size) i le
-
-    order : (i : ℕ) → i < n + 1 → get_or (set places (n + 1) (get_or places n 0 + size)) i 0 ≤ get_or (set places (n + 1) (get_or places n 0 + size)) (i + 1) 0
-    order i lt =
-        elim (cases_lt i n) [
-          | inl below ↦ omega (arith, kept i (omega arith), kept (i + 1) (omega arith), p.order i below)
-          | inr same ↦ let e : i ≡ n = omega arith in rw e (omega (arith, kept n (omega arith), last))
-        ]
-
-    within : (i : ℕ) → i < n + 1 → get_or (set places (n + 1) (get_or places n 0 + size)) (i + 1) 0 ≤ get_or (set places (n + 1) (get_or places n 0 + size)) (n + 1) 0
-    within i lt =
-        elim (cases_lt i n) [
-          | inl below ↦ omega (arith, kept (i + 1) (omega arith), last, p.within i below)
-          | inr same ↦ let e : i ≡ n = omega arith in rw e (omega arith)
-        ]
-
-    end : get_or (set places (n + 1) (get_or places n 0 + size)) (n + 1) 0 ≤ limit * (n + 1)
-    end = omega (arith, last, p.end)
-
-pub none_placed : (limit : ℕ) (places : List ℕ) → length places ≡ 397 → get_or places 0 0 ≡ 0 → ArePlaced limit places 0
-none_placed limit places whole e = record { whole = whole; order = λ i lt. absurd (omega arith); within = λ i lt. absurd (omega arith); end = omega (arith, e) }
 
 pub window_length : (xs : List ℕ) (at k : ℕ) → at + k ≤ length xs → length (take (at + k - at) (drop at xs)) ≡ k
 window_length xs at k h = omega (arith, length-take (at + k - at) (drop at xs), length-drop at xs)

@@ -64,11 +64,6 @@ predicted_put f p plane other at n v r samples left top x y now old e h column r
     in_square p plane at n v r samples left top x y h (column ∙ ap (λ (g : Format). n * (at % columns_of g)) (sym e)) (row ∙ ap (λ (g : Format). n * (at / columns_of g)) (sym e)) here.from here.to here.below here.above
     ∙ same_predicted p plane other x y v r here.same)
 
-at_itself : (plane : Plane) (m at : ℕ) → m ≡ at → (same_plane plane plane && nat_eq m at) ≡ true
-at_itself Y m at e = grind (arith, nat_tests)
-at_itself Cb m at e = grind (arith, nat_tests)
-at_itself Cr m at e = grind (arith, nat_tests)
-
 -- what is put into one plane after the other
 pub each_plane : (plane : Plane) (t : Bool) (now with_cb with_y old v : ℕ) →
     now ≡ cond (same_plane Cr plane && t) v with_cb → with_cb ≡ cond (same_plane Cb plane && t) v with_y →

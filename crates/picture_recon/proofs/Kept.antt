@@ -1,9 +1,9 @@
 -- Numbers that are kept as they are, and a block's first value.
-use Rattle.std.proofs.Common.{◌≡◌, ℕ, zero, suc, ◌^◌, ◌≤◌, ◌<◌, min, ℤ, pos, ◌+ℤ◌, ◌*ℤ◌, cond, nat_eq, ap, sym, ◌∙◌, arith, to_z, of_z, w16, w32}
+use Rattle.std.proofs.Common.{◌≡◌, ℕ, ◌^◌, ◌≤◌, ◌<◌, min, ℤ, pos, ◌+ℤ◌, ◌*ℤ◌, cond, nat_eq, ap, ◌∙◌, arith, to_z, of_z, w16, w32}
 use Rattle.std.proofs.lemmas.Int.{ints}
 use Rattle.std.proofs.lemmas.Bool.Decides.{nat_tests}
 use Rattle.h263_types.specs.declared.blocks.Block.{Block}
-use Rattle.h263_types.specs.Blocks.{IsDc, IsIntraBlock, IsLevel, IsValue, level_at}
+use Rattle.h263_types.specs.Blocks.{IsDc, IsLevel, IsValue}
 use Rattle.idct8.specs.Ranges.{Within}
 use Rattle.picture_recon.specs.Samples.{inter_value, intra_value, limited}
 
@@ -17,18 +17,6 @@ kept_number z h = omega (arith, ints)
 -- so does a level
 pub kept_level : (z : ℤ) → IsLevel z → to_z w16 (of_z w16 z) ≡ z
 kept_level z h = omega (arith, ints)
-
--- a small number whose bits are all 0
-pub no_bits : (z : ℤ) → Within (2 ^ 8) z → of_z w16 z ≡ 0 → z ≡ pos 0
-no_bits z h e =
-    let same : to_z w16 (of_z w16 z) ≡ z = omega (arith, ints) in
-    sym same ∙ ap (to_z w16) e
-
-pub small_level : (z : ℤ) → IsLevel z → Within (2 ^ 8) z
-small_level z h = (omega (arith, ints), omega (arith, ints))
-
-pub small_dc : (z : ℤ) → IsDc z → Within (2 ^ 8) z
-small_dc z h = (omega (arith, ints), omega (arith, ints))
 
 -- so does INTRADC
 pub same_dc : (z : ℤ) → IsDc z → to_z w16 (of_z w16 z) ≡ z
@@ -54,8 +42,3 @@ sample_kept n z h e =
     let small : n ≡ min n 255 = omega arith in
     let sum : pos n ≡ pos n +ℤ z = omega (arith, ints) in
     small ∙ ap limited sum
-
--- the levels of a block of an intra macroblock are small
-pub small_levels : (b : Block) → IsIntraBlock b → (k : ℕ) → k < 64 → Within (2 ^ 8) (level_at b k)
-small_levels b h zero less = small_dc (level_at b 0) h.dc
-small_levels b h (suc k) less = small_level (level_at b (suc k)) (h.levels (suc k) (omega arith) less)

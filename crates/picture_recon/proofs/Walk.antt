@@ -78,7 +78,7 @@ put one quant b k rest values v mark room value range before = record {
             (get_or-set_same values (block_place_of k) v (pos 0) (omega (arith, before.long)) ∙ value ∙ ap (λ (j : ℕ). value_of quant (level_at b j)) (sym same)),
         ap (bit_at (without rest k)) same ∙ mark.gone,
       ))
-      (λ differs. let other : at ≢ block_place_of k = λ here. differs (ap zigzag_place_of here ∙ one.from_order k below) in
+      (λ differs. let other : at ≢ block_place_of k = λ here. differs (ap zigzag_place_of here ∙ one.from_order k mark.below) in
       (get_or-set_other values (block_place_of k) at v (pos 0) other, mark.others z (within z at e some) differs));
   range = All-set IsValue values (block_place_of k) v range before.range;
 }

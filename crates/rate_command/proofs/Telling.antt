@@ -1,5 +1,5 @@
 -- The last lines of a report, up to a write that failed.
-use Rattle.std.proofs.Common.{◌≡◌, ℕ, List, Option, Result, Ok, Err, OnErr, OnOk, subst}
+use Rattle.std.proofs.Common.{◌≡◌, ℕ, List, Option, Result, Ok, Err, OnErr, subst}
 use Rattle.h263_outside.specs.declared.desk.Role.{Role}
 use Rattle.h263_outside.specs.declared.desk.Role.TheVariants.{Report}
 use Rattle.rate_control.specs.declared.meter.Totals.{Totals}
@@ -13,15 +13,6 @@ use Rattle.rate_command.specs.Rate.{closing_text, last_text}
 pub on_err : {T E : Type 0} {P : Type 0} (r : Result T E) → P → OnErr r P
 on_err (Ok x) p = tt
 on_err (Err e) p = p
-
--- what follows where a call failed
-pub once_failed : {T E : Type 0} {P Q : Type 0} (r : Result T E) → (P → Q) → OnErr r P → OnErr r Q
-once_failed (Ok x) f p = tt
-once_failed (Err e) f p = f p
-
-pub once_passed : {T E : Type 0} {P Q : Type 0} (r : Result T E) → (P → Q) → OnOk r P → OnOk r Q
-once_passed (Ok x) f p = f p
-once_passed (Err e) f p = tt
 
 module _ {Any : Type 0} (laws : TurnLaws Any) (t : Totals) where
   pub cut_last : (old a : Role → Option (List ℕ)) → GainsFronts (last_text t.last) old a → GainsFronts (closing_text t) old a

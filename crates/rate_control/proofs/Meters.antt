@@ -1,21 +1,20 @@
 -- A meter, one packet after another, and at the end of its log.
-use Rattle.std.proofs.Common.{◌≡◌, ℕ, ◌+◌, ◌-◌, ◌*◌, ◌<◌, ◌≤◌, max, not, Bool, true, false, cond, eqb, ltb, List, [], ◌∷◌, ◌++◌, length, sum, Option, Some, None, Result, Ok, Err, arith, refl, sym, ap, subst, ◌∙◌}
+use Rattle.std.proofs.Common.{◌≡◌, ℕ, ◌+◌, ◌-◌, ◌<◌, ◌≤◌, max, not, Bool, true, false, cond, eqb, ltb, List, [], ◌∷◌, ◌++◌, length, sum, Option, Some, None, Result, Ok, Err, arith, refl, sym, ap, subst, ◌∙◌}
 use Rattle.std.proofs.lemmas.Bool.{cond_both, eqb-true}
-use Rattle.std.proofs.lemmas.List.{length_push, length-append, length-map, map_push}
+use Rattle.std.proofs.lemmas.List.{length_push, length-map, map_push}
 use Rattle.h263_bits.specs.declared.fault.Fault.{Fault}
 use Rattle.rtp_header.specs.declared.rtp.Rtp.{Rtp}
 use Rattle.rtp_header.specs.Faults.{rtp_in}
 use Rattle.rate_control.specs.declared.meter.Picture.{Picture}
 use Rattle.rate_control.specs.declared.meter.Meter.{Meter}
-use Rattle.rate_control.specs.declared.meter.Metered.{Metered}
-use Rattle.rate_control.specs.declared.meter.Metered.TheVariants.{Same, Ended, Refused}
+use Rattle.rate_control.specs.declared.meter.Metered.TheVariants.{Same, Ended}
 use Rattle.rate_control.specs.declared.meter.Totals.{Totals}
 use Rattle.rate_control.specs.Level.{level_of}
 use Rattle.rate_control.specs.Pictures.{accepted, alone, pictures_of, sizes_in, sizes_of, refused_in, greatest_level, over_in}
 use Rattle.rate_control.specs.Metering.{HasRoomAtEnd, HasRoomFor, IsGoing, Stands, answer_of, behind, behind_with, differs, ended, going_on, joined, last_of, last_time, metered, taking, telling, time_of, totals_of}
 use Rattle.rate_control.proofs.Levels.{level_none, level_push}
 use Rattle.rate_control.proofs.Ends.{going_push, greatest_level_none, greatest_level_push, last_push, level_short, over_few, over_none, over_push}
-use Rattle.rate_control.proofs.Runs.{ReadsShort, accepted_refused, bytes_past, bytes_short, pictures_few, pictures_first, pictures_next, pictures_refused, pictures_same, refused_few, refused_more, refused_same, time_push}
+use Rattle.rate_control.proofs.Runs.{ReadsShort, accepted_refused, bytes_past, bytes_short, pictures_few, pictures_first, pictures_next, pictures_refused, pictures_same, refused_more, refused_same, time_push}
 
 -- ---- the end of a picture
 
@@ -275,12 +274,6 @@ room_for law m packets s few x short =
       over = a.1;
       level = λ p is. room_with m p x (level_room law m packets s (omega (arith, few)) p is) short;
     }
-
-pub refused_room : (m : Meter) (packets : List (List ℕ)) → Stands m packets → length packets < 16777216 → m.refused < 16777216
-refused_room m packets s few =
-    let a = refused_few packets in
-    let b = s.refused in
-    omega (arith, a, b, few)
 
 -- ---- the end of a log
 

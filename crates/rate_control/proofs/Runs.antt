@@ -1,9 +1,8 @@
 -- The pictures of a log, one packet after another.
-use Rattle.std.proofs.Common.{◌≡◌, ℕ, suc, ◌+◌, ◌*◌, ◌<◌, ◌≤◌, ◌==◌, Bool, true, false, cond, eqb, List, [], ◌∷◌, ◌++◌, length, map, Some, Ok, Err, Result, sum, is_err, arith, refl, sym, ap, subst, ◌∙◌, ⊎_elim}
-use Rattle.std.specs.Prelude.{count_by, flat_map}
-use Rattle.std.proofs.lemmas.Bool.{cases_Bool, eqb-true, eqb-false, eq-eqb}
-use Rattle.std.proofs.lemmas.List.{append_assoc, flat_map_more, length_push, length-append, length-map, map-append}
-use Rattle.std.proofs.lemmas.List.Sums.{count_by-le-length, sum_by-append, sum_by-cons, sum_by_push}
+use Rattle.std.proofs.Common.{◌≡◌, ℕ, ◌+◌, ◌*◌, ◌≤◌, Bool, true, false, cond, eqb, List, [], ◌∷◌, ◌++◌, length, Some, Ok, Err, Result, sum, is_err, arith, refl, sym, ap, subst, ◌∙◌, ⊎_elim}
+use Rattle.std.proofs.lemmas.Bool.{cases_Bool, eqb-true, eq-eqb}
+use Rattle.std.proofs.lemmas.List.{append_assoc, flat_map_more, length-append, map-append}
+use Rattle.std.proofs.lemmas.List.Sums.{sum_by-append, sum_by-cons, sum_by_push}
 use Rattle.h263_bits.specs.declared.fault.Fault.{Fault}
 use Rattle.rtp_header.specs.declared.rtp.Rtp.{Rtp}
 use Rattle.rtp_header.specs.Faults.{rtp_in}
@@ -109,9 +108,6 @@ pushed_at (a ∷ b ∷ past) p x = ap (λ (l : List Picture). a ∷ l) (pushed_a
 accepted_push : (packets : List (List ℕ)) (bytes : List ℕ) → accepted (packets ++ bytes ∷ []) ≡ accepted packets ++ alone bytes
 accepted_push packets bytes = sym (flat_map_more alone [] packets bytes)
 
-alone_ok : (bytes : List ℕ) (r : Rtp) → rtp_in bytes ≡ Ok r → alone bytes ≡ record { timestamp = r.timestamp; size = length bytes } ∷ []
-alone_ok bytes r e = ap (λ (x : Result Rtp Fault). picture_in x (length bytes)) e
-
 alone_err : (bytes : List ℕ) (fault : Fault) → rtp_in bytes ≡ Err fault → alone bytes ≡ []
 alone_err bytes fault e = ap (λ (x : Result Rtp Fault). picture_in x (length bytes)) e
 
@@ -160,9 +156,6 @@ pub pictures_refused : (packets : List (List ℕ)) (bytes : List ℕ) (fault : F
     → pictures_of (packets ++ bytes ∷ []) ≡ pictures_of packets
 unfolding pictures_of
 pictures_refused packets bytes fault e = ap (λ (l : List Picture). runs l) (accepted_refused packets bytes fault e)
-
-pub alone_taken : (bytes : List ℕ) (r : Rtp) → rtp_in bytes ≡ Ok r → alone bytes ≡ record { timestamp = r.timestamp; size = length bytes } ∷ []
-alone_taken bytes r e = alone_ok bytes r e
 
 pub refused_more : (packets : List (List ℕ)) (bytes : List ℕ) (fault : Fault) → rtp_in bytes ≡ Err fault
     → refused_in (packets ++ bytes ∷ []) ≡ refused_in packets + 1
@@ -272,9 +265,6 @@ pictures_few law packets =
     let a = many_runs (accepted packets) in
     let b = (bytes_accepted law packets).1 in
     omega (arith, a, b)
-
-pub refused_few : (packets : List (List ℕ)) → refused_in packets ≤ length packets
-refused_few packets = count_by-le-length (λ (b : List ℕ). is_err (rtp_in b)) packets
 
 pub bytes_past : (past : List Picture) (p : Picture) → sum (sizes_in (past ++ p ∷ [])) ≡ sum (sizes_in past) + p.size
 bytes_past past p =

@@ -1,34 +1,14 @@
 -- What a slice leaves in the collector.
-use Rattle.std.proofs.Common.{◌≡◌, ℕ, ◌+◌, ◌-◌, ◌%◌, ◌<◌, Bool, ◌||◌, List, ◌∷◌, length, Option, Some, None, refl, ap, sym, ◌∙◌, subst, arith}
-use Rattle.std.proofs.Math.Nat.{mod-lt}
-use Rattle.h263_types.specs.declared.Kind.{Kind}
+use Rattle.std.proofs.Common.{◌≡◌, ℕ, ◌<◌, Bool, ◌||◌, List, ◌∷◌, Some, ap, sym, ◌∙◌, subst, arith}
 use Rattle.h263_types.specs.declared.Kind.TheVariants as kinds
-use Rattle.h263_types.specs.declared.clock.Clock.{Clock}
 use Rattle.h263_types.specs.declared.format.Format.{Format}
 use Rattle.h263_types.specs.Sizes.{mbs_of}
-use Rattle.picture_header.specs.declared.header.Header.{Header}
-use Rattle.picture_header.specs.Ranges.{IsHeader, IsReference}
 use Rattle.packet_collector.specs.declared.collector.Collector.{Collector}
 use Rattle.packet_collector.specs.Taken.{Taken}
 use Rattle.packet_collector.specs.Taken.{holds as has_piece}
 use Rattle.packet_collector.specs.Collected.{Collects, IsInRow, IsRowFrom, first_of, format_of, header_in, has_in}
-use Rattle.receiver_end.specs.declared.kept.Kept.{Kept}
-use Rattle.receiver_end.specs.State.{Fits}
-use Rattle.receiver_end.specs.Steps.{IsReferenceOf, HasItsReference}
 use Rattle.receiver_end.proofs.Headers.{one_kept, kept_before, kept_now}
 use Rattle.receiver_end.proofs.Marked.{taken_more, taken_other}
-
-intra_is : (clock : Clock) (kind : Kind) (trp : Option ℕ) → IsReference clock kind trp → trp ≡ None → kind ≡ kinds.I
-intra_is clock kinds.I trp is e = refl
-intra_is clock kinds.P None is e = absurd is
-intra_is clock kinds.P (Some m) is e = absurd cc
-
-pub has_reference : (r : Kept) (n : ℕ) (h : Header) (x : Option ℕ) → IsHeader h → IsReferenceOf r n h.trp x → HasItsReference r.store h.kind x
-has_reference r n h None ok is = intra_is h.clock h.kind h.trp ok.trp is
-has_reference r n h (Some m) ok is = is.1
-
-pub work_inside : (r : Kept) (n : ℕ) → Fits r → n % (r.params.lead + 2) < length r.store.pictures - length r.store.numbers
-work_inside r n ok = let lt : n % (r.params.lead + 2) < r.params.lead + 2 = mod-lt n (omega arith) in omega (arith, lt, ok.works, ok.slots)
 
 module _ (f : Format) (old new : Collector) (first : ℕ) (taken : List Taken) (t : Taken) (collects : Collects old first taken)
     (after : Collects new first (t ∷ taken)) (same : IsRowFrom (first_of old) old new) (format : format_of old ≡ f) where

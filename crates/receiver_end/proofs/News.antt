@@ -1,8 +1,7 @@
 -- A receiver to which nothing was done.
-use Rattle.std.proofs.Common.{◌≡◌, ℕ, zero, suc, ◌+◌, ◌<◌, ◌≤◌, false, List, [], length, replicate, get_or, Option, None, refl, ap, sym, ◌∙◌, subst, arith}
+use Rattle.std.proofs.Common.{◌≡◌, ℕ, zero, suc, ◌+◌, ◌<◌, ◌≤◌, false, List, [], replicate, get_or, Option, None, refl, ap, sym, ◌∙◌, subst, arith}
 use Rattle.std.specs.Option.{option_map}
 use Rattle.std.proofs.Math.Nat.{mod-eq_of_lt}
-use Rattle.std.proofs.lemmas.List.{length-replicate}
 use Rattle.h263_types.specs.declared.format.Format.{Format}
 use Rattle.h263_types.specs.declared.params.Params.{Params}
 use Rattle.h263_types.specs.Params.{IsParams}
@@ -17,7 +16,7 @@ use Rattle.call_decoding.specs.Rules.{rules_of}
 use Rattle.call_decoding.specs.Styles.{header_of}
 use Rattle.receiver_end.specs.declared.kept.Kept.{Kept}
 use Rattle.receiver_end.specs.Decoding.{decoding}
-use Rattle.receiver_end.specs.State.{Fits, seen, last_work}
+use Rattle.receiver_end.specs.State.{seen, last_work}
 use Rattle.receiver_end.specs.Steps.{IsSameBut}
 use Rattle.receiver_end.proofs.Headers.{kept_none, untaken}
 
@@ -37,20 +36,6 @@ module _ (p : Params) (is : IsParams p) (c : Collector) (s t : Pictures) (empty 
     (collects : Collects c 0 []) (many : row_of c ≡ p.lead + 1) (format : format_of c ≡ p.format) where
   abbrev new : Kept
   new = record { params = p; played = 0; exact = false; collector = c; store = t }
-
-  pub fits_new : Fits new
-  fits_new = record {
-    params = is;
-    format = same.format ∙ empty.format;
-    slots = ap length (same.numbers ∙ empty.numbers) ∙ length-replicate p.slots None;
-    works = same.many ∙ empty.pictures;
-    collected = format;
-    row = many;
-    few = omega arith;
-    exact = λ e. absurd cc;
-    taken = [];
-    collects = collects;
-  }
 
   row : (n : ℕ) → n ≤ p.lead → IsInRow c n
   row n low = record { low = omega (arith, collects.begins); high = omega (arith, low, collects.begins, many) }

@@ -1,12 +1,12 @@
 -- What a receiver answers and says, against its run.
-use Rattle.std.proofs.Common.{◌≡◌, ℕ, List, Option, Some, None, refl, ap, subst}
+use Rattle.std.proofs.Common.{◌≡◌, ℕ, List, Option, Some, None, ap, subst}
 use Rattle.h263_bits.specs.declared.fault.Fault.{Fault}
 use Rattle.h263_outside.specs.declared.desk.Role.TheVariants.{Wire}
 use Rattle.h263_types.specs.declared.clock.Clock.{Clock}
 use Rattle.back_messages.specs.Said.{text_of}
 use Rattle.back_messages.specs.declared.writing.Said.{Said}
 use Rattle.event_logs.specs.Text.{entry_text}
-use Rattle.desk_program.specs.Texts.{no_texts, on}
+use Rattle.desk_program.specs.Texts.{on}
 use Rattle.call_model.specs.Coding.{Message}
 use Rattle.call_model.specs.Receiving as runs
 use Rattle.call_encoding.specs.Messages.{write_message}
@@ -60,7 +60,3 @@ said_text law clock o said None is fit none = absurd (cc (none, is))
 said_text law clock o said (Some message) is fit m =
     let same : m.0 ≡ said = some_is m.0 said o m.1 is in
     ap (λ (bytes : List ℕ). on Wire (entry_text 66 bytes)) (law clock said message fit (subst (λ (x : Said). IsSaid clock x message) same m.2))
-
-pub none_said : (clock : Clock) (o : Option Said) (message : Option Message) → o ≡ None → IsMessage clock o message → no_texts ≡ back_text message
-none_said clock o None is none = refl
-none_said clock o (Some message) is m = absurd (cc (m.1, is))

@@ -17,11 +17,6 @@ pub on_err : {T E : Type 0} {P : Type 0} (r : Result T E) → P → OnErr r P
 on_err (Ok x) p = tt
 on_err (Err e) p = p
 
--- what follows where a call failed
-pub once_failed : {T E : Type 0} {P Q : Type 0} (r : Result T E) → (P → Q) → OnErr r P → OnErr r Q
-once_failed (Ok x) f p = tt
-once_failed (Err e) f p = f p
-
 module _ {Any : Type 0} (laws : TurnLaws Any) (number : ℕ) (mark : Mark) (picture : Picture) (message : Option Message) where
   pub cut_picture : (old a : Role → Option (List ℕ)) → GainsFronts (on Pictures (frame_text mark picture)) old a → GainsFronts (shown_text number mark picture message) old a
   cut_picture old a p =

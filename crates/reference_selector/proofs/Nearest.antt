@@ -1,22 +1,13 @@
 -- The nearest number below another one with a temporal reference, and what a message makes known.
-use Rattle.std.proofs.Common.{◌≡◌, ℕ, ◌+◌, ◌-◌, ◌*◌, ◌%◌, ◌<◌, ◌≤◌, Bool, sym, ap, ◌∙◌, refl, subst, arith, List, [], ◌∷◌, ◌++◌, Option, Some, None, ltb}
+use Rattle.std.proofs.Common.{◌≡◌, ℕ, ◌+◌, ◌-◌, ◌*◌, ◌%◌, ◌<◌, ◌≤◌, Bool, sym, ap, ◌∙◌, refl, subst, List, [], ◌∷◌, ◌++◌, Option, Some, None, ltb}
 use Rattle.std.specs.Prelude.{if◌then◌else◌, filter}
 use Rattle.std.specs.Option.{option_map_or}
 use Rattle.std.proofs.lemmas.Bool.{lt-ltb, le-ltb, ne_eqb, eq-eqb}
 use Rattle.h263_types.specs.declared.clock.Clock.{Clock}
-use Rattle.h263_types.specs.declared.clock.Clock.TheVariants.{Standard, Custom}
 use Rattle.h263_types.specs.Clocks.{half_of, period_of}
 use Rattle.call_model.specs.Coding.{Rules, period, Message, Ack, Nack}
 use Rattle.call_model.specs.Numbers.{first_from, flagged_after}
 use Rattle.call_model.specs.Sending.{nearest_below, nearest, made_known, called_complete, number_of, message_flags}
-
-pub some_period : (clock : Clock) → 0 < period_of clock
-some_period Standard = omega arith
-some_period Custom = omega arith
-
-pub small_period : (clock : Clock) → period_of clock ≤ 1024
-small_period Standard = omega arith
-small_period Custom = omega arith
 
 pub period_is : (rules : Rules) (clock : Clock) → rules.half ≡ half_of clock → period_of clock ≡ period rules
 period_is rules clock half = ap (λ (h : ℕ). 2 * h) (sym half)

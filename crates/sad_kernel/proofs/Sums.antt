@@ -1,8 +1,7 @@
 -- The differences of two vectors, as the lanes compute them.
-use Rattle.std.proofs.Common.{◌≡◌, ℕ, suc, take, length-drop, ◌+◌, ◌-◌, ◌*◌, ◌%◌, ◌<◌, ◌≤◌, List, [], ◌∷◌, ◌++◌, length, map, drop, refl, ap, ◌∙◌, sym, subst, arith, Bool, true, false, cond, ltb, ltb-true, ltb-false, ◌^◌, w8, Fits, get_or, drop-cons, add-one}
+use Rattle.std.proofs.Common.{◌≡◌, ℕ, suc, take, length-drop, ◌+◌, ◌-◌, ◌*◌, ◌%◌, ◌<◌, ◌≤◌, List, [], ◌∷◌, ◌++◌, length, map, drop, refl, ◌∙◌, sym, subst, arith, Bool, true, false, cond, ltb, ltb-true, ltb-false, ◌^◌, w8, Fits, get_or, drop-cons, add-one}
 use Rattle.std.specs.Int.{abs_diff}
 use Rattle.std.proofs.Math.Seq.{take-length}
-use Rattle.std.proofs.Math.ListN.{drop_of_length-le}
 use lib.Lanes.{zip2, sel_l, top, Each1, chunk, sum_l}
 use Rattle.std.proofs.lemmas.Simd.{sum_bound, sum-zip2, length-zip2, length-chunk, chunk-drop, Each1-from_get_or}
 use Rattle.sad_kernel.specs.Differences.{differences}
@@ -66,10 +65,6 @@ differences-one xs ys i hx hy =
 
 pub bytes : (xs : List ℕ) → ((i : ℕ) → Fits w8 (get_or xs i 0)) → Each1 (λ x. x < 256) xs
 bytes xs h = Each1-from_get_or (λ x. x < 256) xs 0 (λ i hi. (h i).fits)
-
--- nothing is left at the end
-pub differences-end : (xs ys : List ℕ) (i : ℕ) → length xs ≤ i → differences (drop i xs) (drop i ys) ≡ 0
-differences-end xs ys i h = ap (λ l. differences l (drop i ys)) (drop_of_length-le xs h)
 
 -- the whole sum, of at most 65536 bytes
 pub whole_small : (xs ys : List ℕ) → length xs ≡ length ys → length xs ≤ 65536 → ((i : ℕ) → Fits w8 (get_or xs i 0)) → ((i : ℕ) → Fits w8 (get_or ys i 0)) →

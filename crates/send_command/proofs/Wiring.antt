@@ -1,9 +1,9 @@
 -- Packets on the wire, one entry after another.
-use Rattle.std.proofs.Common.{if◌then◌else◌, ◌≡◌, ℕ, ◌+◌, ◌<◌, Bool, true, false, List, [], ◌∷◌, ◌++◌, length, take, drop, Option, refl, sym, ap, ◌∙◌, subst, arith, append_assoc, append-nil}
+use Rattle.std.proofs.Common.{if◌then◌else◌, ◌≡◌, ℕ, ◌+◌, ◌<◌, Bool, true, false, List, [], ◌∷◌, ◌++◌, length, take, drop, Option, refl, sym, ap, ◌∙◌, subst, append_assoc, append-nil}
 use Rattle.std.specs.Prelude.{slice_index_or}
-use Rattle.std.proofs.lemmas.List.{take_more, take_all, take-append-drop}
+use Rattle.std.proofs.lemmas.List.{take_more, take-append-drop}
 use Rattle.h263_outside.specs.Desk.{is_role}
-use Rattle.h263_outside.specs.Gains.{gained, Front}
+use Rattle.h263_outside.specs.Gains.{Front}
 use Rattle.h263_outside.specs.declared.desk.Role.{Role}
 use Rattle.h263_outside.specs.declared.desk.Role.TheVariants.{Wire}
 use Rattle.event_logs.specs.Text.{entry_text}
@@ -32,11 +32,6 @@ next_text packets i packet below is =
     ∙ ap packets_text (sym (take_more packets i [] below))
 
 module _ (laws : TurnLaws SendState) (packets : List (List ℕ)) (old mid new : Role → Option (List ℕ)) (i : ℕ) (packet : List ℕ) (below : i < length packets) (is : packet ≡ slice_index_or packets i []) (so_far : Gains (on Wire (packets_text (take i packets))) old mid) where
-  pub wire_next : Gains (on Wire (entry_text 75 packet)) mid new → Gains (on Wire (packets_text (take (i + 1) packets))) old new
-  wire_next g = λ r.
-      laws.both_texts (on Wire (packets_text (take i packets))) (on Wire (entry_text 75 packet)) old mid new so_far g r
-      ∙ ap (λ (l : List ℕ). gained (old r) l) (joined (is_role Wire r) _ _ _ (next_text packets i packet below is))
-
   pub wire_cut : GainsFronts (on Wire (entry_text 75 packet)) mid new → GainsFronts (on Wire (packets_text packets)) old new
   wire_cut g = λ r. subst (λ (t : List ℕ). Front t (old r) (new r)) (whole r) (fronts r)
     where
@@ -56,6 +51,3 @@ module _ (laws : TurnLaws SendState) (packets : List (List ℕ)) (old mid new : 
       whole r =
           ap (λ (l : List ℕ). l ++ rest r) (joined (is_role Wire r) _ _ _ (next_text packets i packet below is))
           ∙ joined (is_role Wire r) (packets_text (take (i + 1) packets)) (packets_text (drop (i + 1) packets)) (packets_text packets) all
-
-pub wire_whole : (packets : List (List ℕ)) (n : ℕ) → n ≡ length packets → packets_text (take n packets) ≡ packets_text packets
-wire_whole packets n is = ap packets_text (take_all n packets (omega (arith, is)))

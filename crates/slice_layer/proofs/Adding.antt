@@ -5,7 +5,6 @@ use Rattle.std.proofs.lemmas.Bool.{lt-ltb, le-ltb}
 use Rattle.h263_types.specs.declared.vector.Vector.{Vector}
 use Rattle.h263_types.specs.declared.blocks.Mb.{Mb}
 use Rattle.h263_types.specs.Blocks.{IsWhole}
-use Rattle.h263_bits.specs.Written.{to_byte}
 use Rattle.picture_header.specs.declared.header.Header.{Header}
 use Rattle.macroblock_layer.specs.Prediction.{no_vector}
 use Rattle.picture_header.specs.Laws.{HeaderLaws}
@@ -57,9 +56,6 @@ unfolding mbs_text
 no_text h begins first = append-nil (opening_text h begins first)
 
 -- ---- bytes
-
-to_byte_below : (n : ℕ) → to_byte n < 8
-to_byte_below n = omega arith
 
 -- a text takes no more bytes than there is room for, exactly where it has no more bits
 pub bytes_within : (room : ℕ) (text : List Bool) → length text ≤ 8 * room → bytes_of text ≤ room

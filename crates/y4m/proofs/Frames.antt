@@ -2,17 +2,11 @@
 use Rattle.std.proofs.Common.{◌≡◌, ◌≢◌, ℕ, zero, suc, ◌+◌, ◌<◌, ◌≤◌, ◌==◌, Bool, true, false, cond, nat_lt, List, [], ◌∷◌, length, take, drop, Option, Some, None, Ok, Err, refl, sym, ap, ◌∙◌, arith, length-take, length-drop}
 use Rattle.std.proofs.lemmas.Bool.Decides.{nat_tests}
 use Rattle.h263_types.specs.declared.format.Format.{Format}
-use Rattle.h263_types.specs.declared.format.Format.TheVariants.{SubQcif, Qcif, Cif}
 use Rattle.h263_types.specs.Sizes.{size_of_picture}
 use Rattle.y4m.specs.declared.fault.Y4mFault.TheVariants.{ShortFrame, TooMany}
 use Rattle.y4m.specs.Line.{through_newline, line_within}
 use Rattle.y4m.specs.Frame.{frame_line, frame_size, line_stop, stop_fault, frame_behind, frame_of, next_frame}
 use Rattle.y4m.proofs.Inputs.{nil_of}
-
-pub largest : (f : Format) → size_of_picture f ≤ 152064
-largest SubQcif = omega arith
-largest Qcif = omega arith
-largest Cif = omega arith
 
 length-through : (bytes : List ℕ) → length (through_newline bytes) ≤ length bytes
 length-through [] = omega arith

@@ -1,5 +1,5 @@
-use Rattle.std.proofs.Common.{◌≡◌, ◌≢◌, ℕ, ◌*◌, ◌^◌, ◌%◌, ◌<◌, arith, ap, ◌∙◌, subst, sym, to_z, of_z, w16, w64, lit<, slice_set}
-use Rattle.std.specs.Int.{bit_at, trailing_zeros, bit_not}
+use Rattle.std.proofs.Common.{◌≢◌, ℕ, ◌<◌, arith, ap, ◌∙◌, subst, sym, to_z, of_z, w16, w64, lit<, slice_set}
+use Rattle.std.specs.Int.{trailing_zeros}
 use Rattle.std.proofs.lemmas.Nat.Bits.{bit_at_clear_same, bit_at_clear_other}
 use Rattle.h263_types.specs.Blocks.{IsLevel, IsValue, level_at}
 use Rattle.h263_types.specs.Marks.{without}

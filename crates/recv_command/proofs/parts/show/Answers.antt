@@ -1,6 +1,7 @@
+use Rattle.std.proofs.lemmas.Result.{on_err_weaker}
 use Rattle.h263_planes.specs.Lent.{picture as lent}
 use Rattle.call_report.specs.View.{text_of}
-use Rattle.recv_command.proofs.Showing.{cut_line, cut_message, cut_picture, on_err, once_failed}
+use Rattle.recv_command.proofs.Showing.{cut_line, cut_message, cut_picture, on_err}
 use Rattle.recv_command.proofs.parts.show.Goals as goal
 
 pub returns-in_err-put_picture-clause-err : goal.returns-in_err-put_picture-clause-err
@@ -21,7 +22,7 @@ returns-in_err-put_line-clause-err g c = λ clock message is.
 pub returns-clause-err : goal.returns-clause-err
 returns-clause-err g c = λ clock message is.
     let outside = g.D.Desk.outside in
-    once_failed c.say.result
+    on_err_weaker c.say.result
     (cut_message c.of_turns.ensures c.args.number c.args.played.mark (lent c.args.picture) message
     (outside c.args.desk.now).written (outside c.put_picture.new.desk).written (outside c.put_line.new.desk).written c.in_ok-put_picture.ensures.ok
     (text_of c.picture_line.result) c.picture_line.ensures (outside c.say.new.desk).written c.in_ok-put_line.ensures.ok)

@@ -1,10 +1,11 @@
 use Rattle.std.proofs.Common.{◌≡◌, OnOk, OnErr, sym, ◌∙◌, subst, arith}
+use Rattle.std.proofs.lemmas.Result.{on_err_weaker, on_ok_weaker}
 use Rattle.rate_control.specs.declared.meter.Totals.{Totals}
 use Rattle.rate_control.specs.Metering.{totals_of}
 use Rattle.rate_control.specs.Text.{text_of}
 use Rattle.desk_program.specs.Ends.{Gains, GainsFronts}
 use Rattle.rate_command.specs.Rate.{closing_text}
-use Rattle.rate_command.proofs.Telling.{cut_last, cut_totals, on_err, once_failed, once_passed, whole_totals}
+use Rattle.rate_command.proofs.Telling.{cut_last, cut_totals, on_err, whole_totals}
 use Rattle.rate_command.proofs.rate.MeteringLogCommand.close.Goals as goal
 
 pub close-totals-requires : goal.close-totals-requires
@@ -32,7 +33,7 @@ returns-clause-ok g c = λ s stands.
     c.close-totals.ensures s.packets stands.meter ∙ (λ i. totals_of (sym stands.target i) (sym stands.bucket i) s.packets)
     in
     subst (λ (t : Totals). OnOk c.put_text.result (Gains (closing_text t) (outside c.args.desk.now).written (outside c.put_text.new.desk).written)) totals
-    (once_passed c.put_text.result
+    (on_ok_weaker c.put_text.result
     (whole_totals c.of_turns.ensures c.close-totals.result (outside c.args.desk.now).written (outside c.tell_last.new.desk).written (outside c.put_text.new.desk).written
     c.in_ok-tell_last.ensures.ok (text_of c.totals_text.result) c.totals_text.ensures)
     c.put_text.ensures.ok)
@@ -44,7 +45,7 @@ returns-clause-err g c = λ s stands.
     c.close-totals.ensures s.packets stands.meter ∙ (λ i. totals_of (sym stands.target i) (sym stands.bucket i) s.packets)
     in
     subst (λ (t : Totals). OnErr c.put_text.result (GainsFronts (closing_text t) (outside c.args.desk.now).written (outside c.put_text.new.desk).written)) totals
-    (once_failed c.put_text.result
+    (on_err_weaker c.put_text.result
     (cut_totals c.of_turns.ensures c.close-totals.result (outside c.args.desk.now).written (outside c.tell_last.new.desk).written (outside c.put_text.new.desk).written
     c.in_ok-tell_last.ensures.ok (text_of c.totals_text.result) c.totals_text.ensures)
     c.put_text.ensures.err)
