@@ -6,7 +6,7 @@ use Rattle.std.specs.List.{list_any, AllByRecursion}
 use Rattle.std.proofs.Math.Seq.{take-suc, drop-cons}
 use Rattle.std.proofs.lemmas.List.Folds.{list_any-append}
 use Rattle.std.proofs.lemmas.List.{take-append-drop, map-append}
-use Rattle.h263_outside.specs.Desk.{Outside, is_role, with_role}
+use Rattle.h263_outside.specs.Desk.{Outside, NoneAttached, is_role, with_role}
 use Rattle.h263_outside.specs.declared.desk.Role.{Role}
 use Rattle.h263_outside.specs.declared.desk.Role.TheVariants.{Video, Events, Pictures, Wire, Report, Video2, Pictures2}
 use Rattle.call_report.specs.declared.status.Status.{Status}
@@ -215,3 +215,7 @@ words_later unwritten is = tt
 words_later starved is = tt
 words_later unasked is = absurd is
 words_later (unopened role) is = tt
+
+-- at a desk with nothing attached
+pub none_attached : (new : Outside) → NoneAttached new.attached → AreAttached [] new
+none_attached new none = record { roles = λ r. ap (λ (f : Role → Bool). f r) none; names = tt }

@@ -1,6 +1,6 @@
 //! The roles of a command, one after the other.
 ghost use Rattle.std.specs.Prelude.{◌≡◌, ◌≢◌, ◌⊎◌, ◌++◌, ℕ, List, true, false, OnOk, OnErr, IfErr, IfSome, IsTrue};
-ghost use Rattle.h263_outside.specs.Desk.{OnlyAttaches, with_role};
+ghost use Rattle.h263_outside.specs.Desk.{NoneAttached, OnlyAttaches, with_role};
 ghost use Rattle.h263_outside.specs.declared.desk.Role.{Role};
 ghost use Rattle.desk_program.specs.Attached.{AreAttached, AttachedAt, are_free, names};
 ghost use Rattle.desk_program.specs.Ends.{HasCause, IsOpening, start_status};
@@ -36,6 +36,8 @@ pub fn attach_all<D: Desk>(desk: &mut D, order: &[(Role, &str)]) -> Result<(), S
     requires { IsTrue (are_free (D.outside desk.old).attached (names order.now)) }
     ensures attached { (first : List (Role × List ℕ)) → AreAttached first (D.outside desk.old) →
         AttachedAt (first ++ names order.now) (start_status result) (D.outside desk.new) }
+    ensures alone { NoneAttached (D.outside desk.old).attached
+        → AttachedAt (names order.now) (start_status result) (D.outside desk.new) }
     ensures kept { (r : Role)
         → (D.outside desk.old).attached r ≡ true → (D.outside desk.new).attached r ≡ true }
     ensures opening { IfErr result IsOpening }

@@ -1,13 +1,11 @@
-use Rattle.std.proofs.Common.{[]}
 use Rattle.h263_outside.specs.declared.desk.Role.TheVariants.{Video, Pictures, Report}
-use Rattle.call_command.proofs.Unattached.{none_attached}
 use Rattle.call_command.proofs.tests.attach_roles.Goals as goal
 
 pub returns-in-Ok-clause-video : goal.returns-in-Ok-clause-video
-returns-in-Ok-clause-video g c = (c.in-Ok.ensures.attached [] (none_attached (g.D.Desk.outside c.args.desk.now) c.requires)).roles Video
+returns-in-Ok-clause-video g c = (c.in-Ok.ensures.alone c.requires).roles Video
 
 pub returns-in-Ok-clause-pictures : goal.returns-in-Ok-clause-pictures
-returns-in-Ok-clause-pictures g c = (c.in-Ok.ensures.attached [] (none_attached (g.D.Desk.outside c.args.desk.now) c.requires)).roles Pictures
+returns-in-Ok-clause-pictures g c = (c.in-Ok.ensures.alone c.requires).roles Pictures
 
 pub returns-in-Ok-clause-report : goal.returns-in-Ok-clause-report
-returns-in-Ok-clause-report g c = (c.in-Ok.ensures.attached [] (none_attached (g.D.Desk.outside c.args.desk.now) c.requires)).roles Report
+returns-in-Ok-clause-report g c = (c.in-Ok.ensures.alone c.requires).roles Report

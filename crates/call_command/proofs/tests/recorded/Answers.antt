@@ -1,6 +1,4 @@
-use Rattle.std.proofs.Common.{[]}
-use Rattle.call_command.proofs.Unattached.{none_attached}
 use Rattle.call_command.proofs.tests.recorded.Goals as goal
 
 pub perform-requires-clause-report : goal.perform-requires-clause-report
-perform-requires-clause-report g c = c.in_default.ensures.attached [] (none_attached (g.D.Desk.outside c.args.desk.now) c.requires.desk)
+perform-requires-clause-report g c = c.in_default.ensures.alone c.requires.desk
