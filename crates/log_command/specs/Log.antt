@@ -79,7 +79,8 @@ play_step rules s size =
     else refused_log (TooMany s.at)
 
 -- a packet has its bytes behind its letter and their number; a play has none
-abbrev pub entry_step : {State : Type 0} → LogRules State → LogState State → List ℕ → Option Entry → Step (LogState State)
+abbrev pub entry_step : {State : Type 0} → LogRules State → LogState State → List ℕ → Option Entry
+    → Step (LogState State)
 entry_step rules s log (Some (entries.Packet len)) = packet_step rules s (3 + len) (take len (drop 3 log))
 entry_step rules s log (Some entries.Play) = play_step rules s 3
 entry_step rules s log _ = refused_log (BadRecord s.at)
