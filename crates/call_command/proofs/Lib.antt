@@ -28,5 +28,4 @@ mod EachFrame
 mod Talking
 mod Acting
 mod Conversing
-mod Unattached
 mod FaultOfVideo
