@@ -1,6 +1,5 @@
 pub mod Styles
 pub mod Works
-pub mod Nearest
 pub mod Headers
 pub mod Marked
 pub mod Judged

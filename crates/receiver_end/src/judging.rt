@@ -12,11 +12,12 @@ ghost use Rattle.receiver_end.specs.Decoding.{decoding};
 
 use crate::answers::{Heard, PacketFault};
 use crate::kept::Kept;
-use crate::numbers::{nearest, nearest_below};
+use crate::numbers::nearest;
 use call_decoding::laws::whole_header;
 use h263_types::Clock;
 use packet_collector::{Piece, Place};
 use picture_header::Header;
+use reference_selector::nearest_below;
 
 /// A slice that may be taken: the number of its picture, and its reference, which is kept.
 #[derive(Clone, Copy, Debug, PartialEq, Eq)]

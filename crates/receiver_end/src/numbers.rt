@@ -1,26 +1,11 @@
 //! Numbers of pictures by their temporal references.
-ghost use Rattle.std.specs.Prelude.{◌≡◌, ◌^◌, ◌<◌, ◌≤◌, IfSome};
+ghost use Rattle.std.specs.Prelude.{◌≡◌, ◌^◌, ◌≤◌, IfSome};
 ghost use Rattle.h263_types.specs.declared.params.Params.{Params};
-ghost use Rattle.call_model.specs.Sending.{nearest, nearest_below};
+ghost use Rattle.call_model.specs.Sending.{nearest};
 ghost use Rattle.call_decoding.specs.Rules.{rules_of};
 
 use h263_types::Clock;
-
-// The nearest number below `number` with this temporal reference, if there is one.
-pub(crate) fn nearest_below(number: u32, rest: u16, clock: Clock) -> Option<u32>
-    requires { number ≤ 2 ^ 22 }
-    ensures value { (p : Params) → p.clock ≡ clock → result
-        ≡ nearest_below (rules_of p) number rest }
-    ensures below { IfSome result (λ m. m < number) }
-{
-    let period = clock.period();
-    let first = number + (u32::from(rest) + (period - number % period)) % period;
-    if first < period {
-        None
-    } else {
-        Some(first - period)
-    }
-}
+use reference_selector::nearest_below;
 
 // The number of a packet's picture: the one nearest to the play, if there is one.
 pub(crate) fn nearest(played: u32, rest: u16, clock: Clock) -> Option<u32>

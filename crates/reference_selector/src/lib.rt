@@ -46,8 +46,8 @@ pub struct Selector {
     ghost few: { slots ≤ 64 },
 }
 
-// The nearest number below n with this temporal reference.
-fn number_below(n: u32, reference: u16, clock: Clock) -> Option<u32>
+/// The nearest number below `n` with this temporal reference, if there is one.
+pub fn nearest_below(n: u32, reference: u16, clock: Clock) -> Option<u32>
     requires { n < 2 ^ 31 }
     ensures below { IfSome result (λ m. m < n) }
     ensures value { (rules : Rules)
@@ -85,7 +85,7 @@ fn number_about(message: &Message, sent: u32, clock: Clock) -> Option<u32>
         (λ q. nat_lt q sent) (flagged_after t (message_flags (message_of message.now)))) result
         ≡ made_known rules sent (message_of message.now) }
 {
-    let t = number_below(sent, reference_in(message), clock)?;
+    let t = nearest_below(sent, reference_in(message), clock)?;
     if t + clock.half() <= sent {
         return None;
     }
@@ -106,7 +106,7 @@ fn number_called(message: &Message, t: u32, sent: u32, clock: Clock) -> Option<u
             if tr == rtr {
                 return None;
             }
-            let q = number_below(t + clock.half(), rtr, clock)?;
+            let q = nearest_below(t + clock.half(), rtr, clock)?;
             if q < sent { Some(q) } else { None }
         }
     }
