@@ -13,7 +13,7 @@ use Rattle.back_messages.specs.declared.message.Message.{Message}
 use Rattle.back_messages.specs.declared.message.Message.TheVariants.{Ack, Nack}
 use Rattle.back_messages.specs.declared.message.MessageFault.{MessageFault}
 use Rattle.back_messages.specs.declared.message.MessageFault.TheVariants.{Length}
-use Rattle.back_messages.specs.Text.{AreMarks, IsMessage, first_fields, first_text, flags_text, message_text, marks_of, bits_with, message_bits, is_long, message_fault, message_value, has_markers, marks_in, marked, unless, short_message, with_marks, long_message, message_in, is_fault, is_message, is_marked, flags, message}
+use Rattle.back_messages.specs.Text.{AreMarks, IsMessage, first_fields, first_text, flags_text, message_text, marks_of, bits_with, message_bits, is_long, message_fault, message_value, has_markers, marks_in, marked, unless, short_message, with_marks, long_message, message_in, is_fault, allowed_message, allowed_markers, flags, message}
 use Rattle.back_messages.proofs.Codes.{code_of, first_is, first_below, IsValue, faultless_value, fault_length, value_marks, is_marked_by, code_is, range_marks}
 use Rattle.back_messages.proofs.Flags.{turned, turned_low, flags_code, marks_text, marks_low, marked_text, flags_read}
 
@@ -32,7 +32,7 @@ three_bytes n h =
     )
     )
 
--- and with one of 16 bits behind it, five
+-- and with one of 16 bits after it, five
 pub five_bytes : (n m : ℕ) → n < 2 ^ 24 → m < 2 ^ 16 → bits_of (n / 65536 ∷ n / 256 % 256 ∷ n % 256 ∷ m / 256 ∷ m % 256 ∷ []) ≡ spelled 24 n ++ spelled 16 m
 unfolding bits_of
 five_bytes n m h k =
@@ -184,7 +184,7 @@ flags_spelt marks h =
     let k : ℕ = flags_code (turned marks) (turned (marks / 2 ^ 7)) in
     let r = flags_read marks h in
     let low : k < 2 ^ 16 = omega (arith, turned_low marks, turned_low (marks / 2 ^ 7)) in
-    spells_whole _ marks _ _ (append-nil (spelled 16 k) ∙ marks_text marks) (spells_field 16 is_marked _ marks k [] low (rw r.markers refl) (subst (λ (v : ℕ). Spells (done v) marks []) (sym r.marks_are) (spells_done marks)))
+    spells_whole _ marks _ _ (append-nil (spelled 16 k) ∙ marks_text marks) (spells_field 16 allowed_markers _ marks k [] low (rw r.markers refl) (subst (λ (v : ℕ). Spells (done v) marks []) (sym r.marks_are) (spells_done marks)))
 
 done_is : (v m : Message) → v ≡ m → Spells (done v) m []
 done_is v m is = subst (λ (x : Message). Spells (done x) m []) (sym is) (spells_done m)
@@ -196,11 +196,11 @@ field_spells clock m h =
     let c = code_is clock m h in
     let n : ℕ = code_of m in
     let long : is_marked_by (marks_of m) ≡ is_long n = fault_length clock (is_marked_by (marks_of m)) n c.free in
-    let free : is_message clock n ≡ None = ap (λ (b : Bool). is_fault (message_fault clock b n)) (sym long) ∙ ap is_fault c.free in
+    let free : allowed_message clock n ≡ None = ap (λ (b : Bool). is_fault (message_fault clock b n)) (sym long) ∙ ap is_fault c.free in
     let more : Spells (either (is_long n) (part flags any (λ marks. done (message_value n (Some marks)))) (done (message_value n None))) m (flags_text (marks_of m)) =
     subst (λ (b : Bool). Spells (either b (part flags any (λ marks. done (message_value n (Some marks)))) (done (message_value n None))) m (flags_text (marks_of m))) long (at_marks (marks_of m) refl c.value) in
     let text : spelled 24 n ++ flags_text (marks_of m) ≡ message_text m = ap (λ (t : List Bool). t ++ flags_text (marks_of m)) (first_is clock m h) in
-    spells_whole _ m _ _ text (spells_field 24 (is_message clock) _ m n (flags_text (marks_of m)) (first_below clock m h) free more)
+    spells_whole _ m _ _ text (spells_field 24 (allowed_message clock) _ m n (flags_text (marks_of m)) (first_below clock m h) free more)
   where
     at_marks : (o : Option ℕ) → marks_of m ≡ o → message_value (code_of m) (marks_of m) ≡ m → Spells (either (is_marked_by o) (part flags any (λ marks. done (message_value (code_of m) (Some marks)))) (done (message_value (code_of m) None))) m (flags_text o)
     at_marks None is value = done_is _ m (ap (message_value (code_of m)) (sym is) ∙ value)
@@ -211,7 +211,7 @@ free_is : (o : Option MessageFault) → is_fault o ≡ None → o ≡ None
 free_is None e = refl
 free_is (Some x) e = absurd cc
 
-marked_free : (k : ℕ) → is_marked k ≡ None → has_markers k ≡ true
+marked_free : (k : ℕ) → allowed_markers k ≡ None → has_markers k ≡ true
 marked_free k e = at_test (has_markers k) refl e
   where
     at_test : (t : Bool) → has_markers k ≡ t → cond t None (Some faults.Messages) ≡ None → has_markers k ≡ true

@@ -133,17 +133,17 @@ is_fault None = None
 is_fault (Some fault) = Some faults.Messages
 
 -- in a header URF gives the length, and a message with any fault is one fault
-abbrev pub is_message : Clock → Allowed ℕ
-is_message clock n = is_fault (message_fault clock (is_long n) n)
+abbrev pub allowed_message : Clock → Allowed ℕ
+allowed_message clock n = is_fault (message_fault clock (is_long n) n)
 
-abbrev pub is_marked : Allowed ℕ
-is_marked n = if has_markers n then None else Some faults.Messages
+abbrev pub allowed_markers : Allowed ℕ
+allowed_markers n = if has_markers n then None else Some faults.Messages
 
 -- the flags are a field of their own
 unfoldable pub flags : Syntax ℕ
-flags = field 16 is_marked λ n. done (marks_in n)
+flags = field 16 allowed_markers λ n. done (marks_in n)
 
 unfoldable pub message : Clock → Syntax Message
 message clock =
-    field 24 (is_message clock) λ n.
+    field 24 (allowed_message clock) λ n.
     either (is_long n) (part flags any λ marks. done (message_value n (Some marks))) (done (message_value n None))

@@ -4,7 +4,7 @@ ghost use Rattle.h263_bits.specs.Bits.{number, spelled};
 ghost use Rattle.h263_bits.specs.Reading.{Gives};
 ghost use Rattle.h263_bits.specs.Syntax.{field_at, reading};
 ghost use Rattle.back_messages.specs.declared.message.Message.{Message};
-ghost use Rattle.back_messages.specs.Text.{IsMessage, AreMarks, message_fault, message_value, short_message, long_message, marks_in, marked, message_in, is_message, is_long, flags, message};
+ghost use Rattle.back_messages.specs.Text.{IsMessage, AreMarks, message_fault, message_value, short_message, long_message, marks_in, marked, message_in, allowed_message, is_long, flags, message};
 
 use crate::message::{Message, MessageFault};
 use h263_bits::{BitReader, Fault, FaultKind};
@@ -134,7 +134,7 @@ pub fn read(bytes: &[u8], clock: Clock) -> Result<Message, MessageFault>
 // Reads the first 24 bits of a message.
 fn read_first(reader: &mut BitReader<'_>, clock: Clock) -> Result<u32, Fault>
     ensures reads { Gives
-        (λ (n : ℕ). n) result reader.new (field_at 24 (is_message clock) reader.old) }
+        (λ (n : ℕ). n) result reader.new (field_at 24 (allowed_message clock) reader.old) }
     ensures below { IfOk result (λ n. n < 2 ^ 24) }
 {
     let at = reader.at();

@@ -52,7 +52,7 @@ const MESSAGES: [(Message, [u8; 5], u8); 7] = [
 fn messages_and_their_bytes(rt: HostRuntime) -> Result<(), Fail> {
     for (message, bytes, len) in MESSAGES {
         let said = write(&message);
-        assert_eq!(rt; said, Said { bytes, len }, "of {message:?}");
+        assert_eq!(rt; said, MessageBytes { bytes, len }, "of {message:?}");
         assert_eq!(rt; read(said.text(), Clock::Custom)?, message, "in {bytes:?}");
     }
     Ok(())

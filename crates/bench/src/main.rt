@@ -1,6 +1,6 @@
 //! Times the parts of a call on the made video: `bench FRAMES [SLOTS [RUNS [NOISE]]]` codes, reads
-//! and plays so many frames in each format, with so many pictures kept at each end (16 if not
-//! told), and prints what a frame took in each part: the least of so many runs (1 if not told).
+//! and plays FRAMES frames in each format, with SLOTS pictures kept at each end (16 if not told),
+//! and prints what a frame took in each part: the least of RUNS runs (1 if not told).
 //! NOISE is the most that a made noise changes a sample by (0 if not told): without one hardly a
 //! block of a predicted picture is transformed.
 //!
@@ -29,7 +29,7 @@ use std::{env, io};
 use times::{Stop, Times};
 use video::Video;
 
-// What is asked for: so many frames, so many pictures kept at each end, so many runs, and a noise.
+// What is asked for: how many frames, pictures kept at each end and runs, and a noise.
 #[derive(Clone, Copy, Debug, PartialEq, Eq)]
 struct Words {
     frames: u32,
@@ -76,7 +76,7 @@ fn asked(rt: &HostRuntime) -> io::Result<Option<Words>> {
     }))
 }
 
-// The parameters of a format, where so many pictures are kept.
+// The parameters of a format, where this many pictures are kept.
 fn params_of(format: Format, slots: u32) -> Option<Params>
     ensures { IfSome result IsParams }
 {

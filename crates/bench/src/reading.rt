@@ -21,7 +21,7 @@ struct Ring {
 }
 
 impl Ring {
-    // So many empty pictures.
+    // This many empty pictures.
     fn start(alloc: Global, size: usize, count: u32) -> Result<Ring, OutOfMemory> {
         let mut pictures = Vec::new(alloc);
         'pictures: for _ in 0..count {
@@ -60,7 +60,7 @@ pub struct Reader {
 }
 
 impl Reader {
-    /// A reader before its first picture, which goes through so many pictures, 2 at least.
+    /// A reader before its first picture, which goes through this many pictures, 2 at least.
     pub fn start(alloc: Global, format: Format, pictures: u32) -> Result<Reader, Stop> {
         let size = format.size() as usize;
         Ok(Reader {

@@ -10,7 +10,7 @@ ghost use Rattle.sender_end.specs.Stands.{IsReady};
 use crate::coding::Coder;
 use crate::times::Stop;
 use crate::video::{Video, make};
-use back_messages::Said;
+use back_messages::MessageBytes;
 use h263_outside::OutOfMemory;
 use h263_planes::PictureRef;
 use h263_types::{FixedPace, Params};
@@ -22,7 +22,7 @@ use std::alloc::Global;
 #[derive(Drop)]
 struct Passed {
     packets: Vec<Vec<u8>>,
-    said: Option<Said>,
+    said: Option<MessageBytes>,
 }
 
 /// The packets and messages of a call, picture by picture.
@@ -42,7 +42,7 @@ impl Recorded {
     }
 
     /// The message about a picture.
-    pub fn said(&self, number: u32) -> Option<Said> {
+    pub fn said(&self, number: u32) -> Option<MessageBytes> {
         match self.pictures.get(number as usize) {
             Some(passed) => passed.said,
             None => None,
@@ -172,7 +172,7 @@ fn pass_all(
     Ok(pictures)
 }
 
-/// Records a call of so many frames.
+/// Records a call of this many frames.
 pub fn record(
     alloc: Global,
     params: &Params,
@@ -214,7 +214,7 @@ fn add(pictures: &mut Vec<Passed>, packets: Vec<Vec<u8>>) -> Result<(), OutOfMem
     Ok(())
 }
 
-/// Records the packets of so many frames, each coded by itself.
+/// Records the packets of this many frames, each coded by itself.
 pub fn record_stills(
     alloc: Global,
     params: &Params,

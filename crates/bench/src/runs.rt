@@ -10,7 +10,7 @@ use crate::reading::Reader;
 use crate::recording::{Recorded, record, record_stills};
 use crate::times::{Stop, Times, add_since};
 use crate::video::{Video, make};
-use back_messages::Said;
+use back_messages::MessageBytes;
 use h263_planes::PictureRef;
 use h263_types::{FixedPace, Params};
 use receiver_end::Receiver;
@@ -23,7 +23,7 @@ fn send_frame(
     rt: &HostRuntime,
     sender: &mut Sender<FixedPace>,
     frame: PictureRef<'_>,
-    said: Option<Said>,
+    said: Option<MessageBytes>,
     sum: &mut u64,
 ) -> io::Result<()>
     requires ready { IsReady sender.old.state }
@@ -205,7 +205,7 @@ fn read(rt: &HostRuntime, params: &Params, recorded: &Recorded) -> Result<u64, S
     Ok(sum)
 }
 
-/// What so many frames of the made video take, each picture known before the next one is coded.
+/// What this many frames of the made video take, each picture known before the next one is coded.
 pub fn run(rt: &HostRuntime, params: &Params, video: Video, frames: u32) -> Result<Times, Stop>
     requires params { IsParams params.now }
     requires format { video.format ≡ params.now.format }

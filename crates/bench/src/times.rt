@@ -37,7 +37,7 @@ impl From<AllocError> for Stop {
     }
 }
 
-/// What so many frames took, in nanoseconds, and how many bytes their packets have.
+/// What this many frames took, in nanoseconds, and how many bytes their packets have.
 #[derive(Clone, Copy, Debug, PartialEq, Eq)]
 pub struct Times {
     pub format: Format,
@@ -76,7 +76,7 @@ pub fn add_since(rt: &HostRuntime, begin: &Instant, sum: &mut u64) -> io::Result
     Ok(())
 }
 
-// A part of the time of so many frames, in microseconds a frame.
+// A part of the time of this many frames, in microseconds a frame.
 fn micros(nanos: u64, frames: u32) -> u64
     requires { 0 < frames }
 {

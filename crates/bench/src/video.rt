@@ -5,7 +5,7 @@ ghost use Rattle.h263_types.specs.Sizes.{size_of_picture};
 use h263_planes::PictureMut;
 use h263_types::Format;
 
-/// The made video in a format, with a made noise of up to so much, 64 at most.
+/// The made video in a format, with a made noise of up to this much, 64 at most.
 #[derive(Clone, Copy, Debug, PartialEq, Eq)]
 pub struct Video {
     pub format: Format,

@@ -11,23 +11,23 @@ use Rattle.h263_bits.specs.Elements.{HasFault}
 use Rattle.h263_bits.proofs.SyntaxLaws.{first_fault_is, fault_here, fault_in_part, fault_behind_part, fault_of_whole_part, fault_in_turn, fault_behind_turn, spells_field, spells_done}
 use Rattle.code_tables.specs.Laws.{TableLaws}
 use Rattle.code_tables.specs.Tables.{Coefficient, event}
-use Rattle.block_layer.specs.Text.{is_inside, placed, after_event, event_turn, events, is_dc, dc_of, no_levels, intra_dc, intra_block, inter_block}
+use Rattle.block_layer.specs.Text.{allowed_place, placed, after_event, event_turn, events, allowed_dc, dc_of, no_levels, intra_dc, intra_block, inter_block}
 use Rattle.block_layer.specs.Faults.{DcFaults, BlockFaults}
 use Rattle.block_layer.proofs.Turns.{at_place, next, turn_some}
 use Rattle.block_layer.proofs.Productive.{dc_productive, turn_productive, intra_productive, inter_productive}
 
 -- ---- INTRADC
 
-dc_row : (coded : Bool) (code : ℕ) → code < 256 → is_dc code ≡ Some faults.BadDc → HasFault (intra_block coded) (fields ((8, code) ∷ [])) faults.BadDc 0
+dc_row : (coded : Bool) (code : ℕ) → code < 256 → allowed_dc code ≡ Some faults.BadDc → HasFault (intra_block coded) (fields ((8, code) ∷ [])) faults.BadDc 0
 unfolding intra_block intra_dc
-dc_row coded code lt bad = fault_in_part intra_dc any _ (fields ((8, code) ∷ [])) faults.BadDc 0 (fault_here 8 is_dc _ code [] faults.BadDc lt bad)
+dc_row coded code lt bad = fault_in_part intra_dc any _ (fields ((8, code) ∷ [])) faults.BadDc 0 (fault_here 8 allowed_dc _ code [] faults.BadDc lt bad)
 
-good_dc : (code : ℕ) → (code ≡ 0 → ⊥) → (code ≡ 128 → ⊥) → is_dc code ≡ None
+good_dc : (code : ℕ) → (code ≡ 0 → ⊥) → (code ≡ 128 → ⊥) → allowed_dc code ≡ None
 good_dc code zero middle = rw (ne_eqb code 0 zero, ne_eqb code 128 middle) refl
 
-dc_spelt : (code : ℕ) → code < 256 → is_dc code ≡ None → Spells intra_dc (slice_set no_levels 0 (dc_of code)) (fields ((8, code) ∷ []))
+dc_spelt : (code : ℕ) → code < 256 → allowed_dc code ≡ None → Spells intra_dc (slice_set no_levels 0 (dc_of code)) (fields ((8, code) ∷ []))
 unfolding intra_dc
-dc_spelt code lt good = spells_field 8 is_dc _ (slice_set no_levels 0 (dc_of code)) code [] lt good (spells_done (slice_set no_levels 0 (dc_of code)))
+dc_spelt code lt good = spells_field 8 allowed_dc _ (slice_set no_levels 0 (dc_of code)) code [] lt good (spells_done (slice_set no_levels 0 (dc_of code)))
 
 behind_dc : (code : ℕ) (text : List Bool) (kind : FaultKind) (place : ℕ) → code < 256 → (code ≡ 0 → ⊥) → (code ≡ 128 → ⊥)
     → HasFault (events 1 (slice_set no_levels 0 (dc_of code))) text kind place → HasFault (intra_block true) (fields ((8, code) ∷ []) ++ text) kind (8 + place)
@@ -54,12 +54,12 @@ unfolding events event_turn placed
 event_row from levels text kind place h =
     fault_in_turn (at_place from levels) event_turn text kind place
     (fault_in_part (placed from) any _ text kind place
-    (fault_in_part event (is_inside from) _ text kind place h))
+    (fault_in_part event (allowed_place from) _ text kind place h))
 
-outside : (from : ℕ) (e : Coefficient) → 64 ≤ from + e.run → is_inside from e ≡ Some faults.PastEnd
+outside : (from : ℕ) (e : Coefficient) → 64 ≤ from + e.run → allowed_place from e ≡ Some faults.PastEnd
 outside from e le = rw (le-ltb (from + e.run) 64 le) refl
 
-inside : (from : ℕ) (e : Coefficient) → from + e.run < 64 → is_inside from e ≡ None
+inside : (from : ℕ) (e : Coefficient) → from + e.run < 64 → allowed_place from e ≡ None
 inside from e lt = rw (lt-ltb (from + e.run) 64 lt) refl
 
 past_row : TableLaws → (from : ℕ) (levels : List ℤ) (e : Coefficient) (text : List Bool) → Spells event e text → 64 ≤ from + e.run → HasFault (events from levels) text faults.PastEnd 0
@@ -67,7 +67,7 @@ unfolding events event_turn placed
 past_row tables from levels e text spelt le =
     fault_in_turn (at_place from levels) event_turn text faults.PastEnd 0
     (fault_in_part (placed from) any _ text faults.PastEnd 0
-    (fault_of_whole_part event (is_inside from) _ e text faults.PastEnd tables.productive.event spelt (outside from e le)))
+    (fault_of_whole_part event (allowed_place from) _ e text faults.PastEnd tables.productive.event spelt (outside from e le)))
 
 -- a turn with an event that isn't the last
 turn_spelt : (from : ℕ) (levels : List ℤ) (e : Coefficient) (front : List Bool) → Spells event e front → from + e.run < 64 → e.last ≡ false

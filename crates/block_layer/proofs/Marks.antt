@@ -14,7 +14,7 @@ use Rattle.block_layer.specs.Text.{none_left, events_of, events_text}
 use Rattle.block_layer.specs.Step.{level_at, one_event}
 use Rattle.block_layer.proofs.Steps.{left_text}
 
--- ---- behind the first ones
+-- ---- after the first ones
 
 one_behind : (b : Bool) (n : ℕ) → (cond b 1 0 + 2 * n) / 2 ≡ n
 one_behind true n = omega arith
@@ -24,7 +24,7 @@ pub behind_one : (z : ℤ) (levels : List ℤ) → marks_of (z ∷ levels) / 2 �
 unfolding marks_of
 behind_one z levels = one_behind (not (is_zero z)) (marks_of levels)
 
--- a shift leaves the marks of the levels behind
+-- a shift leaves the marks of the levels after the first k
 pub behind : (k : ℕ) (levels : List ℤ) → marks_of levels / 2 ^ k ≡ marks_of (drop k levels)
 unfolding marks_of
 behind zero levels = omega arith
@@ -55,7 +55,7 @@ none_marked (z ∷ levels) = at (is_zero z) (none_marked levels)
 abbrev is_passed : ℤ → Bool
 is_passed z = not (not (is_zero z))
 
--- behind k zeros the first event is that of the level there
+-- after k zeros the first event is that of the level there
 record First (run k : ℕ) (levels : List ℤ) : Type 0 where
   inside : k < length levels
   events : events_of run levels ≡ one_event (none_left (drop (suc k) levels)) (run + k) (level_at levels k) ∷ events_of 0 (drop (suc k) levels)
@@ -79,7 +79,7 @@ first_event run k (z ∷ levels) some e =
 
 -- ---- the next level
 
--- what stands behind `run` zeros from `place` on, where `left` has the marks of the levels from there on: a level that isn't 0,
+-- what stands after `run` zeros from `place` on, where `left` has the marks of the levels from there on: a level that isn't 0,
 -- with its event
 pub record Next (place run left : ℕ) (levels : List ℤ) : Type 0 where
   pub inside : place + run < 64

@@ -7,9 +7,9 @@ use Rattle.std.proofs.lemmas.Bool.{cases_lt, ltb-true, lt-ltb, le-ltb, eqb-false
 use Rattle.h263_types.specs.Blocks.{IsLevel, IsDc, IsIntraBlock, IsInterBlock}
 use Rattle.h263_bits.specs.Syntax.{Turn, again, finally, Turns, Spells, done, either}
 use Rattle.h263_bits.proofs.SyntaxLaws.{stands_within}
-use Rattle.code_tables.specs.Tables.{Event, Coefficient, event, event_parts, event_table, tcoef_words, last_0_texts, last_1_texts, signed, is_level, level_of, after_word, size_of}
+use Rattle.code_tables.specs.Tables.{Event, Coefficient, event, event_parts, event_table, tcoef_words, last_0_texts, last_1_texts, signed, allowed_level, level_of, after_word, size_of}
 use Rattle.block_layer.specs.Laws.{AreInRange}
-use Rattle.block_layer.specs.Text.{Events, Placed, placed, after_event, event_turn, events, is_dc, dc_of, intra_dc, intra_block, inter_block, no_levels}
+use Rattle.block_layer.specs.Text.{Events, Placed, placed, after_event, event_turn, events, allowed_dc, dc_of, intra_dc, intra_block, inter_block, no_levels}
 use Rattle.block_layer.specs.Step.{level_at}
 
 -- ---- an event
@@ -33,10 +33,10 @@ signed_size sign size = at (eqb sign 0)
     at true = refl
     at false = neg_size size
 
-not_level : (n : ℕ) → is_level n ≡ None → n ≡ 128 → ⊥
-not_level n e is = let h : is_level 128 ≡ None = subst (λ (k : ℕ). is_level k ≡ None) is e in cc
+not_level : (n : ℕ) → allowed_level n ≡ None → n ≡ 128 → ⊥
+not_level n e is = let h : allowed_level 128 ≡ None = subst (λ (k : ℕ). allowed_level k ≡ None) is e in cc
 
-level_size : (n : ℕ) → n < 256 → is_level n ≡ None → size_of (level_of n) < 128
+level_size : (n : ℕ) → n < 256 → allowed_level n ≡ None → size_of (level_of n) < 128
 level_size n lt e = at (cases_lt n 128)
   where
     at : (n < 128) ⊎ (128 ≤ n) → size_of (level_of n) < 128
@@ -158,11 +158,11 @@ IsPlaced : ℕ → ℤ → Type 0
 IsPlaced zero z = IsDc z
 IsPlaced (suc k) z = IsLevel z
 
-is_dc_of : (n : ℕ) → n < 256 → is_dc n ≡ None → IsDc (dc_of n)
+is_dc_of : (n : ℕ) → n < 256 → allowed_dc n ≡ None → IsDc (dc_of n)
 is_dc_of n lt e = at (eqb n 255) refl
   where
     not_zero : n ≡ 0 → ⊥
-    not_zero is = let h : is_dc 0 ≡ None = subst (λ (k : ℕ). is_dc k ≡ None) is e in cc
+    not_zero is = let h : allowed_dc 0 ≡ None = subst (λ (k : ℕ). allowed_dc k ≡ None) is e in cc
 
     at : (t : Bool) → eqb n 255 ≡ t → IsDc (cond t (pos 128) (pos n))
     at true is = record { low = omega (arith, ints); high = omega (arith, ints) }

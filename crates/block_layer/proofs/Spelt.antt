@@ -14,7 +14,7 @@ use Rattle.h263_bits.proofs.SyntaxLaws.{spells_field, spells_part, spells_done, 
 use Rattle.code_tables.specs.Laws.{TableLaws}
 use Rattle.code_tables.specs.Tables.{size_of}
 use Rattle.block_layer.specs.Laws.{AreSpelt, IsEmpty}
-use Rattle.block_layer.specs.Text.{events, event_turn, is_dc, dc_of, dc_code, intra_dc, intra_block, inter_block, no_levels, none_left, is_coded, levels_text, coded_text, intra_text, inter_text}
+use Rattle.block_layer.specs.Text.{events, event_turn, allowed_dc, dc_of, dc_code, intra_dc, intra_block, inter_block, no_levels, none_left, is_coded, levels_text, coded_text, intra_text, inter_text}
 use Rattle.block_layer.specs.Step.{level_at}
 use Rattle.block_layer.proofs.Written.{events_spelt, IsWritten, all_zeros}
 use Rattle.block_layer.proofs.Turns.{at_place}
@@ -44,11 +44,11 @@ all_written levels each k = at (cases_lt k (length levels))
 not_128 : (n : ℕ) → int_eq (pos n) (pos 128) ≡ false → n ≡ 128 → ⊥
 not_128 n e q = let h : int_eq (pos 128) (pos 128) ≡ false = subst (λ (k : ℕ). int_eq (pos k) (pos 128) ≡ false) q e in cc
 
-dc_back : (z : ℤ) → IsDc z → (dc_code z < 2 ^ 8) × (is_dc (dc_code z) ≡ None) × (dc_of (dc_code z) ≡ z)
+dc_back : (z : ℤ) → IsDc z → (dc_code z < 2 ^ 8) × (allowed_dc (dc_code z) ≡ None) × (dc_of (dc_code z) ≡ z)
 dc_back (negsuc n) is = absurd (omega (arith, ints, is.low))
 dc_back (pos n) is = at (int_eq (pos n) (pos 128)) refl
   where
-    at : (t : Bool) → int_eq (pos n) (pos 128) ≡ t → (cond t 255 n < 2 ^ 8) × (is_dc (cond t 255 n) ≡ None) × (dc_of (cond t 255 n) ≡ pos n)
+    at : (t : Bool) → int_eq (pos n) (pos 128) ≡ t → (cond t 255 n < 2 ^ 8) × (allowed_dc (cond t 255 n) ≡ None) × (dc_of (cond t 255 n) ≡ pos n)
     at true e = let same : pos n ≡ pos 128 = (Decides-int_eq (pos n) (pos 128)).0 e in (omega arith, refl, sym same)
     at false e =
         let other = not_128 n e in
@@ -67,7 +67,7 @@ dc_spelt z is =
     let back = dc_back z is in
     let done_at : Spells (done (slice_set no_levels 0 (dc_of (dc_code z)))) (alone z) [] = subst (λ (y : ℤ). Spells (done (y ∷ replicate 63 (pos 0))) (alone z) []) (sym back.2) (spells_done (alone z)) in
     spells_whole intra_dc (alone z) (spelled 8 (dc_code z) ++ []) (spelled 8 (dc_code z)) (append-nil (spelled 8 (dc_code z)))
-    (spells_field 8 is_dc (λ n. done (slice_set no_levels 0 (dc_of n))) (alone z) (dc_code z) [] back.0 back.1 done_at)
+    (spells_field 8 allowed_dc (λ n. done (slice_set no_levels 0 (dc_of n))) (alone z) (dc_code z) [] back.0 back.1 done_at)
 
 -- ---- whole blocks
 

@@ -8,7 +8,7 @@ use Rattle.h263_bits.proofs.SyntaxLaws.{length-spelled}
 use Rattle.block_layer.specs.Text.{none_left, events_of, events_text, levels_text, coded_text, dc_code, intra_text, inter_text}
 use Rattle.block_layer.specs.Step.{level_at}
 
--- the text of what is left, behind a run of zeros
+-- the text of what is left, after a run of zeros
 abbrev pub left_text : ℕ → ℕ → List ℤ → List Bool
 left_text run place levels = events_text (events_of run (drop place levels))
 
@@ -23,7 +23,7 @@ pub text_is : (from : ℕ) (levels : List ℤ) → left_text 0 from levels ≡ l
 unfolding levels_text
 text_is from levels = refl
 
--- the events behind INTRADC: none where the block is not coded
+-- the events after INTRADC: none where the block is not coded
 pub coded_is : (levels : List ℤ) → coded_text levels ≡ levels_text 1 levels
 unfolding levels_text
 coded_is levels = at (none_left (drop 1 levels)) refl
@@ -32,7 +32,7 @@ coded_is levels = at (none_left (drop 1 levels)) refl
     at true none = sym (none_text 0 1 levels none)
     at false some = refl
 
--- behind INTRADC
+-- after INTRADC
 pub intra_is : (levels : List ℤ) (dc : ℕ) → dc ≡ dc_code (level_at levels 0) → spelled 8 dc ++ levels_text 1 levels ≡ intra_text levels
 unfolding intra_text
 intra_is levels dc is = ap (λ (n : ℕ). spelled 8 n ++ levels_text 1 levels) is ∙ ap (λ (l : List Bool). spelled 8 (dc_code (level_at levels 0)) ++ l) (sym (coded_is levels))

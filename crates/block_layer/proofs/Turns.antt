@@ -7,7 +7,7 @@ use Rattle.h263_bits.specs.Reading.{Bits}
 use Rattle.h263_bits.specs.Syntax.{again, finally, any, done, reading, Spells}
 use Rattle.h263_bits.proofs.SyntaxLaws.{part_some, element_some, code_some}
 use Rattle.code_tables.specs.Tables.{Coefficient, event, event_parts, event_table, tcoef_words, after_word}
-use Rattle.block_layer.specs.Text.{Events, Placed, placed, is_inside, event_turn}
+use Rattle.block_layer.specs.Text.{Events, Placed, placed, allowed_place, event_turn}
 
 -- where a turn stands
 abbrev pub at_place : ℕ → List ℤ → Events
@@ -30,7 +30,7 @@ event_some x h = element_some event_parts any done x parts_some h
 
 placed_some : (place : ℕ) (x : Placed) → Spells (placed place) x [] → ⊥
 unfolding placed
-placed_some place x h = part_some event (is_inside place) _ x event_some h
+placed_some place x h = part_some event (allowed_place place) _ x event_some h
 
 -- no event has an empty text
 pub turn_some : (t u : Events) → Spells (event_turn t) (again u) [] → ⊥

@@ -9,7 +9,7 @@ use Rattle.h263_bits.specs.Syntax.{any, again, finally, repeat, Spells}
 use Rattle.h263_bits.proofs.SyntaxLaws.{and_both, spells_done, spells_part, spells_last, spells_turn, spells_whole}
 use Rattle.code_tables.specs.Tables.{Coefficient, event, event_text, size_of}
 use Rattle.code_tables.specs.Laws.{TableLaws}
-use Rattle.block_layer.specs.Text.{placed, is_inside, event_turn, after_event, none_left, events_of, events_text}
+use Rattle.block_layer.specs.Text.{placed, allowed_place, event_turn, after_event, none_left, events_of, events_text}
 use Rattle.block_layer.proofs.Turns.{at_place, next}
 
 pub true_not_false : true ≡ false → ⊥
@@ -37,8 +37,8 @@ event_at : TableLaws → (p r k : ℕ) (z : ℤ) (last : Bool) (levels : List �
 unfolding event_turn placed
 event_at tables p r k z last levels e lt some range =
     let one : Coefficient = record { last = last; run = r; level = z } in
-    let inside : is_inside p one ≡ None = rw (lt-ltb (p + r) 64 (omega arith)) refl in
-    let at : Spells (placed p) (next (p + r) z last) (event_text one ++ []) = spells_part event (is_inside p) _ _ one (event_text one) [] (event_spelt tables last r z (omega arith) some range) inside (spells_done _) in
+    let inside : allowed_place p one ≡ None = rw (lt-ltb (p + r) 64 (omega arith)) refl in
+    let at : Spells (placed p) (next (p + r) z last) (event_text one ++ []) = spells_part event (allowed_place p) _ _ one (event_text one) [] (event_spelt tables last r z (omega arith) some range) inside (spells_done _) in
     let turn : Spells (event_turn (at_place p levels)) (after_event levels (next (p + r) z last)) ((event_text one ++ []) ++ []) = spells_part (placed p) any _ _ (next (p + r) z last) (event_text one ++ []) [] at refl (spells_done _) in
     let whole : (event_text one ++ []) ++ [] ≡ event_text one = append-nil (event_text one ++ []) ∙ append-nil (event_text one) in
     subst (λ (n : ℕ). Spells (event_turn (at_place p levels)) (after_event levels (next n z last)) (event_text one)) e (spells_whole _ _ _ _ whole turn)

@@ -16,8 +16,8 @@ pub record Events : Type 0 where
   pub levels : List ℤ
 
 -- an event whose place is in the block
-abbrev pub is_inside : ℕ → Allowed Coefficient
-is_inside place e = if nat_lt (place + e.run) 64 then None else Some faults.PastEnd
+abbrev pub allowed_place : ℕ → Allowed Coefficient
+allowed_place place e = if nat_lt (place + e.run) 64 then None else Some faults.PastEnd
 
 -- a level at its place
 pub record Placed : Type 0 where
@@ -26,7 +26,7 @@ pub record Placed : Type 0 where
   pub last : Bool
 
 unfoldable pub placed : ℕ → Syntax Placed
-placed place = part event (is_inside place) λ e. done (record { place = place + e.run; level = e.level; last = e.last })
+placed place = part event (allowed_place place) λ e. done (record { place = place + e.run; level = e.level; last = e.last })
 
 abbrev pub after_event : List ℤ → Placed → Turn Events (List ℤ)
 after_event levels p =
@@ -41,8 +41,8 @@ unfoldable pub events : ℕ → List ℤ → Syntax (List ℤ)
 events place levels = repeat (record { place = place; levels = levels }) event_turn
 
 -- INTRADC
-abbrev pub is_dc : Allowed ℕ
-is_dc n = if (n == 0) || (n == 128) then Some faults.BadDc else None
+abbrev pub allowed_dc : Allowed ℕ
+allowed_dc n = if (n == 0) || (n == 128) then Some faults.BadDc else None
 
 abbrev pub dc_of : ℕ → ℤ
 dc_of n = if n == 255 then pos 128 else pos n
@@ -53,7 +53,7 @@ no_levels = replicate 64 (pos 0)
 
 -- INTRADC, in a block with no other level
 unfoldable pub intra_dc : Syntax (List ℤ)
-intra_dc = field 8 is_dc λ dc. done (slice_set no_levels 0 (dc_of dc))
+intra_dc = field 8 allowed_dc λ dc. done (slice_set no_levels 0 (dc_of dc))
 
 -- a block of an intra macroblock: INTRADC, and events from place 1 on where it is coded (H.263, 5.4)
 unfoldable pub intra_block : Bool → Syntax (List ℤ)
@@ -87,7 +87,7 @@ inter_block_fault b = first_fault (reading inter_block b)
 abbrev pub none_left : List ℤ → Bool
 none_left zs = list_all is_zero zs
 
--- the events of levels in scan order, behind a run of zeros: one for each level that is not 0, with
+-- the events of levels in scan order, after a run of zeros: one for each level that is not 0, with
 -- LAST 1 in the last alone
 unfoldable pub events_of : ℕ → List ℤ → List Coefficient
 events_of run [] = []
@@ -111,7 +111,7 @@ is_coded levels = not (none_left (drop 1 levels))
 unfoldable pub levels_text : ℕ → List ℤ → List Bool
 levels_text from levels = events_text (events_of 0 (drop from levels))
 
--- the events behind INTRADC, where there are any
+-- the events after INTRADC, where there are any
 abbrev pub coded_text : List ℤ → List Bool
 coded_text levels = if is_coded levels then levels_text 1 levels else []
 

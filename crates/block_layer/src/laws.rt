@@ -21,8 +21,8 @@ pub fn written_is_text()
     code_tables::laws::in_a_syntax();
 }
 
-/// The first faults of a block, element by element: INTRADC, and each event behind those in front
-/// of it.
+/// The first faults of a block, element by element: INTRADC, and each event after those before
+/// it.
 pub fn first_faults()
     ensures { BlockFaults }
 {

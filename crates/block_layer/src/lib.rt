@@ -6,7 +6,7 @@
 //!
 //! ```rust
 //! let mut block = Block { levels: [7; 64] };
-//! // INTRADC 128, then (0, 0, 1) and, behind 61 zeros, the last level as an escape
+//! // INTRADC 128, then (0, 0, 1) and, after 61 zeros, the last level as an escape
 //! read_intra(&mut reader_of("11111111 100 0000011 1 111101 00000001"), true, &mut block)?;
 //! assert_eq!(rt; (block.levels[0], block.levels[1], block.levels[63]), (128, 1, 1));
 //! ```

@@ -3,11 +3,10 @@ ghost use Rattle.std.specs.Prelude.{◌≡◌, ℕ, ◌+◌, ◌≤◌, ◌<◌,
 ghost use Rattle.h263_bits.specs.Reading.{Gives, Takes, first_fault};
 ghost use Rattle.h263_bits.specs.Syntax.{reading};
 ghost use Rattle.h263_types.specs.Blocks.{IsIntraBlock, IsInterBlock};
-ghost use Rattle.block_layer.specs.Text.{event_turn, events, is_inside, placed, dc_of, intra_dc, intra_block, inter_block, IsIntraText, IsInterText, intra_block_fault, inter_block_fault};
+ghost use Rattle.block_layer.specs.Text.{event_turn, events, allowed_place, placed, dc_of, intra_dc, intra_block, inter_block, IsIntraText, IsInterText, intra_block_fault, inter_block_fault};
 ghost use Rattle.block_layer.specs.Placed.{placed_of};
 
-use code_tables::laws::in_a_syntax;
-use code_tables::read_event;
+use code_tables::{laws as code_tables_laws, read_event};
 use h263_bits::{BitReader, Fault, FaultKind};
 use h263_types::Block;
 
@@ -117,7 +116,7 @@ pub fn read_intra(reader: &mut BitReader<'_>, coded: bool, out: &mut Block) -> R
         (λ _. out.new.levels) result reader.new (reading (intra_block coded) reader.old) }
     ensures range { IfOk result (λ _. IsIntraBlock out.new) }
 {
-    in_a_syntax();
+    code_tables_laws::in_a_syntax();
     intra_at(reader, coded, out)
 }
 
@@ -135,6 +134,6 @@ pub fn read_inter(reader: &mut BitReader<'_>, out: &mut Block) -> Result<(), Fau
     ensures exact { Gives (λ _. out.new.levels) result reader.new (reading inter_block reader.old) }
     ensures range { IfOk result (λ _. IsInterBlock out.new) }
 {
-    in_a_syntax();
+    code_tables_laws::in_a_syntax();
     inter_at(reader, out)
 }

@@ -50,7 +50,7 @@ fn written(intra: bool, block: &Block, out: &mut [u8; 256]) -> u32
     writer.len()
 }
 
-// Reads the block of a text of so many bits and writes it again. Answers how many bits were
+// Reads the block of a text of this many bits and writes it again. Answers how many bits were
 // written.
 fn rewritten(
     intra: bool,

@@ -8,8 +8,7 @@ ghost use Rattle.code_tables.specs.Tables.{size_of};
 ghost use Rattle.block_layer.specs.Text.{none_left, events_of, events_text, dc_code, is_coded, levels_text, coded_text, intra_text, inter_text, IsIntraText, IsInterText};
 ghost use Rattle.block_layer.specs.Step.{AreWritten, level_at, one_event};
 
-use code_tables::laws::in_a_syntax;
-use code_tables::{Coefficient, write_event};
+use code_tables::{Coefficient, laws as code_tables_laws, write_event};
 use h263_bits::BitWriter;
 use h263_types::Block;
 
@@ -88,7 +87,7 @@ pub fn write_intra(writer: &mut BitWriter<'_>, block: &Block)
         (is_coded block.now.levels) block.now.levels (intra_text block.now.levels) }
     ensures len { len_of writer.new ≡ len_of writer.old + length (intra_text block.now.levels) }
 {
-    in_a_syntax();
+    code_tables_laws::in_a_syntax();
     writer.put(dc_bits(block), 8);
     write_levels(writer, block, 1);
 }
@@ -105,6 +104,6 @@ pub fn write_inter(writer: &mut BitWriter<'_>, block: &Block)
     ensures spells { IsInterText block.now.levels (inter_text block.now.levels) }
     ensures len { len_of writer.new ≡ len_of writer.old + length (inter_text block.now.levels) }
 {
-    in_a_syntax();
+    code_tables_laws::in_a_syntax();
     write_levels(writer, block, 0);
 }

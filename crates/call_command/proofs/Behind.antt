@@ -1,4 +1,4 @@
--- The parts of a call behind the event of a line.
+-- The parts of a call after the event of a line.
 use Rattle.std.proofs.Common.{◌≡◌, ℕ, zero, suc, ◌+◌, ◌-◌, ◌<◌, Bool, true, false, not, List, [], ◌∷◌, ◌++◌, length, drop, Option, Some, None, Result, Ok, Err, refl, sym, ap, subst, ◌∙◌, arith}
 use Rattle.std.specs.Prelude.{slice_get}
 use Rattle.std.proofs.lemmas.List.{append-nil}
@@ -28,7 +28,7 @@ use Rattle.desk_program.specs.Laws.{TurnLaws}
 use Rattle.desk_program.specs.Texts.{and_of, no_texts, of, on, then_also}
 use Rattle.call_model.specs.Coding.{Coding, Rules}
 use Rattle.call_model.specs.IdealCall.{Event, Send, Deliver, Play, Back, slices_at}
-use Rattle.call_model.specs.JoinedRun.{AllNearBoth, EachEndRuns, Joined, after_both, joined, sender_with_frame}
+use Rattle.call_model.specs.JoinedRun.{AllMayHappenBoth, EachEndRuns, Joined, after_both, joined, sender_with_frame}
 use Rattle.call_model.specs.Receiving.{ReceiverRun, ReceiverEntry, played_mark}
 use Rattle.call_model.specs.Refusals.{Refusal}
 use Rattle.call_decoding.specs.Rules.{rules_of}
@@ -50,7 +50,7 @@ use Rattle.call_command.proofs.After.{longer, push_then}
 use Rattle.call_command.proofs.OneMore.{heard_in, played_is, screen_is}
 use Rattle.call_command.proofs.LineTurning.{double_not, event_done, line_refused, nothing_behind}
 
--- ---- frames that come behind
+-- ---- frames that come after
 
 module _ {Frame Style Mb Picture Fault MessageFault : Type 0} (coding : Coding Frame Style Mb Picture Fault MessageFault) (rules : Rules) (begun : ReceiverRun Style Mb Picture) (pace : List ℕ → ℕ) (frames later : List Frame) where
   get_front : (xs ys : List Frame) (n : ℕ) → n < length xs → slice_get (xs ++ ys) n ≡ slice_get xs n
@@ -58,8 +58,8 @@ module _ {Frame Style Mb Picture Fault MessageFault : Type 0} (coding : Coding F
   get_front (x ∷ xs) ys zero few = refl
   get_front (x ∷ xs) ys (suc n) few = get_front xs ys n (omega (arith, few))
 
-  -- both ends do the same of near events, whatever frames come behind those that were sent
-  pub same_before : (past : List Event) → AllNearBoth coding rules begun pace frames past → joined coding rules begun pace (frames ++ later) past ≡ joined coding rules begun pace frames past
+  -- both ends do the same of near events, whatever frames come after those that were sent
+  pub same_before : (past : List Event) → AllMayHappenBoth coding rules begun pace frames past → joined coding rules begun pace (frames ++ later) past ≡ joined coding rules begun pace frames past
   same_before [] near = refl
   same_before (Send ∷ past) near =
       let w = joined coding rules begun pace frames past in
@@ -131,7 +131,7 @@ module _ (x : Parts) (s : CallState) (inputs : Role → List ℕ) (k : StoodBefo
   pub refusal_here : (e : Event) → refusal_at by_ends s e ≡ refusal_after p s.before s.frames s.past e
   refusal_here e = ap (λ (q : Params). refusal_after q s.before s.frames s.past e) params_is
 
-  -- whatever frames come behind
+  -- whatever frames come after
   refusal_nil : (e : Event) → refusal_at by_ends s e ≡ refusal_after p s.before (s.frames ++ []) s.past e
   refusal_nil e = refusal_here e ∙ sym (ap (λ (l : List Frame). refusal_after p s.before l s.past e) (append-nil s.frames))
 
@@ -203,7 +203,7 @@ module _ (x : Parts) (s : CallState) (inputs : Role → List ℕ) (k : StoodBefo
   abbrev pub count_in : Params → List Frame → ℕ → ℕ
   count_in q frames n = length (slices_at (both_after q (steady q) frames s.before s.past).sender.coded n)
 
-  -- their number is the same whatever frames come behind, and by the state
+  -- their number is the same whatever frames come after, and by the state
   pub count_same : (n : ℕ) (later : List Frame) → count_in p (s.frames ++ later) n ≡ count_in s.params s.frames n
   count_same n later =
       ap (λ (both : Joined Style Mb Picture). length (slices_at both.sender.coded n)) (same_before (coding p) (rules_of p) (receiver_end.run_of p s.before) (steady p) s.frames later s.past holds_here.near)
@@ -265,7 +265,7 @@ module _ (x : Parts) (s : CallState) (inputs : Role → List ℕ) (k : StoodBefo
           let both : Joined Style Mb Picture = both_after q (steady q) s.frames s.before (Play ∷ s.past) in
           newest_texts n (reference_in both.sender.coded n) both.plays
 
-  -- that row was written, behind the read of the line
+  -- that row was written, after the read of the line
   module _ (before old new : Outside) (taken : HasTaken inputs before old) (still : new.left ≡ old.left) (none : refusal_after p s.before s.frames s.past Play ≡ None)
       (texts : Role → List ℕ) (texts_are : texts ≡ play_texts (by_ends (with_play s)) (by_ends s).played) where
     abbrev shown : Role → List ℕ

@@ -7,7 +7,7 @@ use Rattle.call_model.specs.CodedPictures.{Coded}
 use Rattle.call_model.specs.IdealCall.{Event, Send, Deliver, Play, Back}
 use Rattle.call_model.specs.Sending.{SenderRun, next_coded, packets_of}
 use Rattle.call_model.specs.Receiving.{ReceiverRun}
-use Rattle.call_model.specs.JoinedRun.{AllNearBoth, Joined, Told, after_bytes, joined, sender_with_frame, sender_with_message}
+use Rattle.call_model.specs.JoinedRun.{AllMayHappenBoth, Joined, SaidMessage, after_bytes, joined, sender_with_frame, sender_with_message}
 use Rattle.call_command.specs.Trace.{delivered}
 
 module _ {Frame Style Mb Picture Fault MessageFault : Type 0} (coding : Coding Frame Style Mb Picture Fault MessageFault) (rules : Rules) (begun : ReceiverRun Style Mb Picture) (pace : List ℕ → ℕ) (frames : List Frame) where
@@ -49,7 +49,7 @@ module _ {Frame Style Mb Picture Fault MessageFault : Type 0} (coding : Coding F
 
   -- and they are near where the first of them is
   pub near_delivered : (n count : ℕ) (past : List Event) → n < length (both past).sender.coded → (both past).receiver.played < n + rules.half
-      → AllNearBoth coding rules begun pace frames past → AllNearBoth coding rules begun pace frames (delivered n count ++ past)
+      → AllMayHappenBoth coding rules begun pace frames past → AllMayHappenBoth coding rules begun pace frames (delivered n count ++ past)
   near_delivered n zero past sent played near = near
   near_delivered n (suc j) past sent played near =
       let same : length (both (delivered n j ++ past)).sender.coded ≡ length (both past).sender.coded =
@@ -58,7 +58,7 @@ module _ {Frame Style Mb Picture Fault MessageFault : Type 0} (coding : Coding F
       ((omega (arith, sent, same), omega (arith, played, played_delivered n j past)), near_delivered n j past sent played near)
 
   -- a message leaves the pictures as they are
-  pub coded_brought : (w : Joined Style Mb Picture) (o : Option Told) → (sender_with_message coding rules w.sender o).coded ≡ w.sender.coded
+  pub coded_brought : (w : Joined Style Mb Picture) (o : Option SaidMessage) → (sender_with_message coding rules w.sender o).coded ≡ w.sender.coded
   coded_brought w None = refl
   coded_brought w (Some told) = refl
 
@@ -78,7 +78,7 @@ module _ {Frame Style Mb Picture Fault MessageFault : Type 0} (coding : Coding F
       (omega (arith, longer), omega (arith, longer))
 
   -- the sender is ahead of the play, by half a period at most
-  pub counts_near : begun.played ≡ 0 → (past : List Event) → AllNearBoth coding rules begun pace frames past
+  pub counts_near : begun.played ≡ 0 → (past : List Event) → AllMayHappenBoth coding rules begun pace frames past
       → ((both past).receiver.played ≤ length (both past).sender.coded) × (length (both past).sender.coded ≤ (both past).receiver.played + rules.half)
   counts_near none [] near = (omega (arith, none), omega (arith, none))
   counts_near none (Send ∷ past) near =

@@ -28,7 +28,7 @@ use Rattle.call_command.proofs.FrameTurning.{Gives, next_is, not_an_err, not_hel
 
 -- ---- a part of a frame holds no turn
 
--- the bytes of the line, and so many of its frame
+-- the bytes of the line, and this many of its frame
 abbrev some_of : List ℕ → ℕ → Role → ℕ
 some_of trace n = and_of (of Events (line_size trace)) (of Video n)
 
@@ -60,7 +60,7 @@ video_next : (s : CallState) (trace video : List ℕ) (r : Result (List ℕ) Y4m
 video_next s trace [] r some is = absurd (omega arith)
 video_next s trace (b ∷ rest) r some is = ap (captured_step s trace (frame_size s.params.format (b ∷ rest))) is
 
--- ---- the capture: `old` is the desk behind the line, `mid` behind the read of the frame
+-- ---- the capture: `old` is the desk after the line, `mid` after the read of the frame
 
 module _ (turns : TurnLaws CallState) (laws : VideoLaws) (s : CallState) (inputs : Role → List ℕ) (before old mid : Outside) (taken : HasTaken inputs before old) (others : (r : Role) → r ≢ Video → mid.left r ≡ old.left r) (same : mid.written ≡ old.written) (reader : Y4mReader) (out : List ℕ) where
   abbrev trace : List ℕ

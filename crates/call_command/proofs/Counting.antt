@@ -95,7 +95,7 @@ falls_so (Ok true) old new is = is
 falls_so (Ok false) old new is = tt
 falls_so (Err status) old new is = tt
 
--- a count that rose behind a read rose since before it
+-- a count that rose after a read rose since before it
 pub cause_since : (status : Status) (old mid new : Faults) → NoneFalls old mid → ((a b c : ℕ) → a ≤ b → Rose b c → Rose a c) → HasCause status mid new → HasCause status old new
 cause_since status old mid new still rose cause = by_phase (phase status) cause
   where
@@ -127,7 +127,7 @@ keeps_so r known Q P is same keeps = subst (λ (q : Result Bool Status). OnSettl
     by_answer (Ok x) same = tt
     by_answer (Err fault) same = keeps same
 
--- a write failed behind a read
+-- a write failed after a read
 pub cause_cut : (r : Result Bool Status) (status : Status) (old mid new : Faults) → IsErrAnd r (λ x. x ≡ status) → status ≡ WriteFault → NoneFalls old mid
     → ((a b c : ℕ) → a ≤ b → Rose b c → Rose a c) → Rose mid.write new.write → HasCause (turn_status r) old new
 cause_cut (Ok b) status old mid new is cut still rose cause = absurd is

@@ -6,7 +6,7 @@ use Rattle.h263_types.specs.declared.params.Params.{Params}
 use Rattle.h263_types.specs.declared.blocks.Mb.{Mb}
 use Rattle.h263_planes.specs.Picture.{Picture}
 use Rattle.packet_cutter.specs.Cutting.{packets_of}
-use Rattle.back_messages.specs.declared.writing.Said.{Said}
+use Rattle.back_messages.specs.declared.writing.MessageBytes.{MessageBytes}
 use Rattle.loss_trace.specs.declared.fault.TraceFault.{TraceFault}
 use Rattle.call_rings.specs.declared.messages.MessageRing.{MessageRing}
 use Rattle.call_rings.specs.declared.packets.PacketRing.{PacketRing}
@@ -15,7 +15,7 @@ use Rattle.call_rings.specs.Parts.{size_of}
 use Rattle.call_model.specs.Coding.{Shown, Rules}
 use Rattle.call_model.specs.CodedPictures.{Coded}
 use Rattle.call_model.specs.IdealCall.{Event, Send, Deliver, Play, Back}
-use Rattle.call_model.specs.JoinedRun.{EachEndRuns, Joined, Told}
+use Rattle.call_model.specs.JoinedRun.{EachEndRuns, Joined, SaidMessage}
 use Rattle.call_model.specs.Lawful.{IsPace}
 use Rattle.call_model.specs.Receiving.{ReceiverEntry}
 use Rattle.call_model.specs.Refusals.{Refusal, first_refusal}
@@ -88,8 +88,8 @@ module _ (t : Terms) (runs : EachEndRuns (coding t.params) (rules_of t.params)) 
   not_far sent played sent_same played_same near = sym (told_is sent played seen.abouts Send sent_same played_same refl) ∙ near seen.abouts
 
   -- the pictures of the messages that the ring has
-  pub abouts_in_all : (pairs : List (ℕ × Said)) → map told_in pairs ≡ both.said → map about_of pairs ≡ seen.abouts
-  abouts_in_all pairs same = sym (abouts_are pairs) ∙ ap (λ (l : List Told). map (λ (told : Told). told.about) l) same
+  pub abouts_in_all : (pairs : List (ℕ × MessageBytes)) → map told_in pairs ≡ both.said → map about_of pairs ≡ seen.abouts
+  abouts_in_all pairs same = sym (abouts_are pairs) ∙ ap (λ (l : List SaidMessage). map (λ (told : SaidMessage). told.about) l) same
 
   -- the reference of the picture that is played next is still noted
   pub reference_noted : (receiver_end.run_of t.params before).played ≡ 0 → t.plain ≡ false → (n : ℕ) → n ≡ receiver.played → receiver.played < sender.sent
@@ -134,7 +134,7 @@ module _ (t : Terms) (near_laws : NearLaws t.params) (recorded : t.plain ≡ fal
 
 -- ---- a message, with the pace of the parameters
 
-pub brought_so : (p : Params) (pace : List ℕ → ℕ) → pace ≡ steady p → (sender new : State) (receiver : Kept) (frames : List Frame) (before : List ReceiverEntry) (past : List Event) (k : ℕ) (told : Told)
+pub brought_so : (p : Params) (pace : List ℕ → ℕ) → pace ≡ steady p → (sender new : State) (receiver : Kept) (frames : List Frame) (before : List ReceiverEntry) (past : List Event) (k : ℕ) (told : SaidMessage)
     → (AreJoined p pace sender receiver frames before past → slice_get (both_after p pace frames before past).said k ≡ Some told → AreJoined p pace new receiver frames before (Back k ∷ past))
     → AreJoined p (steady p) sender receiver frames before past → slice_get (both_after p (steady p) frames before past).said k ≡ Some told
     → AreJoined p (steady p) new receiver frames before (Back k ∷ past)
@@ -172,14 +172,14 @@ sends_so p pace paced sender new receiver frames before past f sends =
 
 pub tells_so : (p : Params) (pace : List ℕ → ℕ) → pace ≡ steady p → (sender : State) (receiver : Kept) (frames : List Frame) (before : List ReceiverEntry) (past : List Event) (f : Frame) (answer : Answer)
     → (AreJoined p pace sender receiver frames before past
-    → sender_end.Tells (length (both_after p pace frames before past).sender.coded) (next_of p pace f (both_after p pace frames before past)) answer)
+    → sender_end.Describes (length (both_after p pace frames before past).sender.coded) (next_of p pace f (both_after p pace frames before past)) answer)
     → AreJoined p (steady p) sender receiver frames before past
-    → sender_end.Tells (length (both_after p (steady p) frames before past).sender.coded) (next_of p (steady p) f (both_after p (steady p) frames before past)) answer
+    → sender_end.Describes (length (both_after p (steady p) frames before past).sender.coded) (next_of p (steady p) f (both_after p (steady p) frames before past)) answer
 tells_so p pace paced sender receiver frames before past f answer tells =
     subst (λ (q : List ℕ → ℕ). AreJoined p q sender receiver frames before past
-    → sender_end.Tells (length (both_after p q frames before past).sender.coded) (next_of p q f (both_after p q frames before past)) answer) paced tells
+    → sender_end.Describes (length (both_after p q frames before past).sender.coded) (next_of p q f (both_after p q frames before past)) answer) paced tells
 
--- and its reference is noted behind the others
+-- and its reference is noted after the others
 pub notes_so : (old new : References) (answer : Answer) (number : ℕ) (reference : Option ℕ) → answer.number ≡ number → answer.reference ≡ reference
     → ((list : List (Option ℕ)) → AreNoted old list → answer.number ≡ length list → AreNoted new (list ++ answer.reference ∷ []))
     → (list : List (Option ℕ)) → AreNoted old list → length list ≡ number → AreNoted new (list ++ reference ∷ [])

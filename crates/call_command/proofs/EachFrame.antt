@@ -19,7 +19,7 @@ use Rattle.call_report.specs.Text.{picture_text}
 use Rattle.call_model.specs.Coding.{Exact, Shown}
 use Rattle.call_model.specs.CodedPictures.{capture}
 use Rattle.call_model.specs.Numbers.{AllBelowIs}
-use Rattle.call_model.specs.IdealCall.{Event, Send, AllNear, ideal}
+use Rattle.call_model.specs.IdealCall.{Event, Send, AllMayHappen, ideal}
 use Rattle.call_model.specs.Before.{sent_before, played_before, slices_before, reference_of}
 use Rattle.call_decoding.specs.Rules.{rules_of}
 use Rattle.call_decoding.specs.Samples.{pictures}
@@ -46,7 +46,7 @@ use Rattle.call_command.proofs.Trace.{near_passed, played_delivered, sent_delive
 record IsPlain (p : Params) (frames : List Frame) (past : List Event) : Type 0 where
   sent : sent_before past ≡ length frames
   played : played_before past ≡ length frames
-  near : (later : List Frame) → AllNear (coding p) (rules_of p) (steady p) (frames ++ later) past
+  near : (later : List Frame) → AllMayHappen (coding p) (rules_of p) (steady p) (frames ++ later) past
   known : (later : List Frame) → (ideal (coding p) (rules_of p) (steady p) (frames ++ later) past).known ≡ []
   exact : (later : List Frame) → count_of one_exact (ideal (coding p) (rules_of p) (steady p) (frames ++ later) past).plays ≡ length frames
   patched : (later : List Frame) → count_of one_patched (ideal (coding p) (rules_of p) (steady p) (frames ++ later) past).plays ≡ 0
@@ -96,7 +96,7 @@ module _ (p : Params) (laws : CallLaws p) (below : AllBelowIs) where
       sent = omega (arith, sent_delivered n (count_in []) (Send ∷ past), plain.sent, longer frames f);
       played = omega (arith, played_delivered n (count_in []) (Send ∷ past), plain.played, longer frames f);
       near = λ later.
-          subst (λ (l : List Frame). AllNear (coding p) (rules_of p) (steady p) l after) (sym (push_then frames later f))
+          subst (λ (l : List Frame). AllMayHappen (coding p) (rules_of p) (steady p) l after) (sym (push_then frames later f))
           (near_passed (coding p) (rules_of p) (steady p) (all later) (laws.counts (steady p) (all later)) n (count_in []) past (half_some p.clock) (plain.near (f ∷ later)) plain.sent plain.played (below_end frames later f));
       known = λ later.
           subst (λ (l : List Frame). (ideal (coding p) (rules_of p) (steady p) l after).known ≡ []) (sym (push_then frames later f)) (known_with later);
@@ -130,7 +130,7 @@ module _ (p : Params) (laws : CallLaws p) (below : AllBelowIs) where
   comes_end frames past at more rest plain =
       let c = ideal (coding p) (rules_of p) (steady p) frames past in
       let counts = laws.counts (steady p) frames past in
-      let near : AllNear (coding p) (rules_of p) (steady p) frames past = subst (λ (l : List Frame). AllNear (coding p) (rules_of p) (steady p) l past) (append-nil frames) (plain.near []) in
+      let near : AllMayHappen (coding p) (rules_of p) (steady p) frames past = subst (λ (l : List Frame). AllMayHappen (coding p) (rules_of p) (steady p) l past) (append-nil frames) (plain.near []) in
       let same : (g : List (Shown Picture) → ℕ) → g (ideal (coding p) (rules_of p) (steady p) (frames ++ []) past).plays ≡ g c.plays = λ g. ap (λ (l : List Frame). g (ideal (coding p) (rules_of p) (steady p) l past).plays) (append-nil frames) in
       let n = length frames in
       let total : n ≡ n + 0 = omega arith in

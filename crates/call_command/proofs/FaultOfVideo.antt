@@ -34,7 +34,7 @@ module _ (frame_laws : FrameLaws) (fault : Y4mFault) where
     abbrev Refuses : Step CallState → Type 0
     Refuses step = (follow step rest).last.status ≡ VideoRefused fault
 
-    -- the fault stands behind the first frame
+    -- the fault stands after the first frame
     behind_it : (b : ℕ) (v planes : List ℕ) → inputs Video ≡ b ∷ v → next_frame s.more s.params.format s.at (b ∷ v) ≡ Ok planes
         → let size = frame_size s.params.format (b ∷ v) in
         fault_of s.params.format (s.more - 1) (s.at + size) (drop size (inputs Video)) ≡ Some fault

@@ -54,11 +54,11 @@ drop_min (suc k) (x ∷ xs) = ap (λ (n : ℕ). drop n (x ∷ xs)) (one_more k (
     one_more : (a b : ℕ) → min (suc a) (suc b) ≡ suc (min a b)
     one_more a b = omega arith
 
--- behind the line
+-- after the line
 pub line_gone : (trace : List ℕ) → drop (line_size trace) trace ≡ behind_line trace
 line_gone trace = drop_min (length (first_line trace) + 1) trace
 
--- behind one that has no newline there is nothing
+-- after one that has no newline there is nothing
 pub nothing_behind : (trace : List ℕ) → is_closed trace ≡ false → drop (line_size trace) trace ≡ []
 nothing_behind trace open_end =
     line_gone trace ∙ drop_all trace (length (first_line trace) + 1) (omega (arith, ltb-false (length (first_line trace)) (length trace) open_end))
@@ -170,7 +170,7 @@ module _ (laws : TurnLaws CallState) (s : CallState) (inputs : Role → List ℕ
       (many_is s inputs (inputs Events) e.0 (at.lines_are ∙ moves.1)
       ∙ ap (λ (n : ℕ). step_of (refusal (TraceRefused (TooMany n)))) (omega (arith, at.lines_are, moves.1, moves.2))) same
 
-  -- behind a line
+  -- after a line
   module _ (found : ℕ × Line) (e : EventGives (Ok (Some found)) reader (inputs Events) after (mid.left Events)) (moves : Moves (Ok (Some found)) reader after) (few : after.lines ≤ 16777216) where
     pub found_is : trace_step by_ends s inputs (inputs Events) ≡ event_step by_ends s inputs (inputs Events) found.1
     found_is = line_is s inputs (inputs Events) (Some found.1) e.0.some (omega (arith, moves.2, few, at.lines_are)) e.1

@@ -16,7 +16,7 @@ use Rattle.receiver_end.specs.Answers.{mark_of}
 use Rattle.receiver_end.specs.Decoding.{decoding}
 use Rattle.call_model.specs.Coding.{Shown}
 use Rattle.call_model.specs.IdealCall.{Event, Send, Deliver, Play, Back}
-use Rattle.call_model.specs.JoinedRun.{AllNearBoth, EachEndRuns, Joined, after_bytes}
+use Rattle.call_model.specs.JoinedRun.{AllMayHappenBoth, EachEndRuns, Joined, after_bytes}
 use Rattle.call_model.specs.Receiving.{ReceiverEntry, played_mark, played_shown}
 use Rattle.call_model.specs.CodedPictures.{Coded}
 use Rattle.call_model.specs.Sending as call
@@ -71,7 +71,7 @@ module _ (t : Terms) (near_laws : NearLaws t.params) (recorded : t.plain ≡ fal
   seen = in_both (both past)
 
   abbrev Near : List Event → Type 0
-  Near events = AllNearBoth (coding p) (rules_of p) (receiver_end.run_of p before) (steady p) frames events
+  Near events = AllMayHappenBoth (coding p) (rules_of p) (receiver_end.run_of p before) (steady p) frames events
 
   -- ---- a packet
 
@@ -174,7 +174,7 @@ module _ (t : Terms) (near_laws : NearLaws t.params) (recorded : t.plain ≡ fal
   pub holds_send : EachEndRuns (coding p) (rules_of p) → (new : State) (f : Frame) (packets : PacketRing) (references : References)
       → refusal_after p before frames past Send ≡ None → slice_get frames sender.sent ≡ Some f
       → AreJoined p (steady p) new receiver frames before (Send ∷ past)
-      → ((pictures : ring.Pictures) → ring.Keeps carrier.packets pictures → ring.Keeps packets (pictures ++ packets_of new.cutter ∷ []))
+      → ((pictures : ring.Pictures) → ring.HoldsPackets carrier.packets pictures → ring.HoldsPackets packets (pictures ++ packets_of new.cutter ∷ []))
       → ((list : List (Option ℕ)) → AreNoted carrier.references list → length list ≡ sender.sent → AreNoted references (list ++ (next_of p (steady p) f (both past)).reference ∷ []))
       → new.sent ≡ sender.sent + 1
       → Holds t new receiver (with_packets_kept carrier packets references) before frames (Send ∷ past)

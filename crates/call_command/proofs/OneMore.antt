@@ -6,7 +6,7 @@ use Rattle.h263_types.specs.declared.params.Params.{Params}
 use Rattle.packet_cutter.specs.Cutting.{packets_of}
 use Rattle.std.specs.Option.{option_map_or}
 use Rattle.call_model.specs.IdealCall.{Event, Send, Deliver, Play, Back}
-use Rattle.call_model.specs.JoinedRun.{EachEndRuns, Joined, Told, sender_entries, receiver_entries}
+use Rattle.call_model.specs.JoinedRun.{EachEndRuns, Joined, SaidMessage, sender_entries, receiver_entries}
 use Rattle.call_model.specs.Receiving.{ReceiverRun, ReceiverEntry, Packet, PlayNext, heard, played_mark, played_message}
 use Rattle.call_model.specs.Sending as call
 use Rattle.call_model.specs.Sending.{SenderRun, SenderEntry, Capture, Feedback, next_coded}
@@ -97,11 +97,11 @@ module _ (p : Params) (runs : EachEndRuns (coding p) (rules_of p)) (pace : List 
   }
 
   pub send_tells : (f : Frame) (answer : Coded)
-      → sender_end.Tells (length (sender_end.run_of sender.params pace sent_so).coded) (sender_end.next_after sender.params pace f sent_so) answer
-      → sender_end.Tells (length both.sender.coded) (next_of p pace f both) answer
+      → sender_end.Describes (length (sender_end.run_of sender.params pace sent_so).coded) (sender_end.next_after sender.params pace f sent_so) answer
+      → sender_end.Describes (length both.sender.coded) (next_of p pace f both) answer
   send_tells f answer tells =
-      subst (λ (run : SenderRun Style Mb Picture). sender_end.Tells (length run.coded) (next_coded (pictures p.format) (encoding p) (rules_of p) pace f run.coded run.known) answer) (sym sender_is)
-      (subst (λ (q : Params). sender_end.Tells (length (sender_end.run_of q pace sent_so).coded) (sender_end.next_after q pace f sent_so) answer) j.sender_params tells)
+      subst (λ (run : SenderRun Style Mb Picture). sender_end.Describes (length run.coded) (next_coded (pictures p.format) (encoding p) (rules_of p) pace f run.coded run.known) answer) (sym sender_is)
+      (subst (λ (q : Params). sender_end.Describes (length (sender_end.run_of q pace sent_so).coded) (sender_end.next_after q pace f sent_so) answer) j.sender_params tells)
 
   -- ---- a packet is delivered
 
@@ -149,12 +149,12 @@ module _ (p : Params) (runs : EachEndRuns (coding p) (rules_of p)) (pace : List 
 
   -- ---- a message comes back
 
-  pub after_message : (new : State) (k : ℕ) (told : Told) → new.params ≡ sender.params → slice_get both.said k ≡ Some told
+  pub after_message : (new : State) (k : ℕ) (told : SaidMessage) → new.params ≡ sender.params → slice_get both.said k ≡ Some told
       → sender_end.Stands pace new (Feedback told.bytes ∷ sent_so) → AreJoined p pace new receiver frames before (Back k ∷ past)
   after_message new k told same at stands = record {
     sender_params = same ∙ j.sender_params;
     receiver_params = j.receiver_params;
-    sends = subst (λ (o : Option Told). let first : List (SenderEntry Frame) = option_map_or (λ (told : Told). Feedback told.bytes ∷ []) o [] in sender_end.Stands pace new (first ++ sent_so)) (sym at) stands;
+    sends = subst (λ (o : Option SaidMessage). let first : List (SenderEntry Frame) = option_map_or (λ (told : SaidMessage). Feedback told.bytes ∷ []) o [] in sender_end.Stands pace new (first ++ sent_so)) (sym at) stands;
     receives = j.receives;
   }
 

@@ -9,7 +9,7 @@ use Rattle.h263_types.specs.declared.blocks.Mb.TheVariants.{Skip}
 use Rattle.h263_types.specs.declared.clock.Clock.{Clock}
 use Rattle.h263_types.specs.declared.clock.Clock.TheVariants.{Standard, Custom}
 use Rattle.h263_types.specs.declared.params.Params.{Params}
-use Rattle.h263_types.specs.Blocks.{IsQuant, IsWhole}
+use Rattle.h263_types.specs.Blocks.{IsQuant, HasWholeBlocks}
 use Rattle.h263_types.specs.Clocks.{half_of}
 use Rattle.h263_types.specs.Sizes.{mbs_of}
 use Rattle.h263_planes.specs.Picture.{Picture}
@@ -44,14 +44,14 @@ pub record Below (p : Params) : Type 0 where
   pub chosen_count : (frame : Picture) (reference : Option Picture) (h : picture.Header) → length (choices_of frame reference h p) ≡ mbs_of frame.format
   pub chosen_each : (frame : Picture) (reference : Option Picture) (h : picture.Header) (k : ℕ) → k < mbs_of frame.format
       → slice_index_or (choices_of frame reference h p) k Skip ≡ choice_of frame reference h p k
-  pub chosen_whole : (frame : Picture) (reference : Option Picture) (h : picture.Header) (k : ℕ) → IsWhole (choice_of frame reference h p k)
+  pub chosen_whole : (frame : Picture) (reference : Option Picture) (h : picture.Header) (k : ℕ) → HasWholeBlocks (choice_of frame reference h p k)
   pub same_cut : (predicted : Bool) (h : Header Style) (mbs : List Mb) → FitsHeader (rules_of p) predicted h → h.style.kind ≡ kind_of predicted
       → cut_of (header_from h) p.limit mbs ≡ (encoding p).cut h.style mbs
-  pub are_packets : (number sequence : ℕ) (h : picture.Header) (mbs : List Mb) → IsHeader h → All IsWhole mbs
+  pub are_packets : (number sequence : ℕ) (h : picture.Header) (mbs : List Mb) → IsHeader h → All HasWholeBlocks mbs
       → ArePacketsOf number sequence h p.limit mbs (packets_of number sequence h (cut_of h p.limit mbs))
-  pub bytes : (number sequence : ℕ) (h : picture.Header) (mbs : List Mb) (packets : List (List ℕ)) → IsHeader h → All IsWhole mbs
+  pub bytes : (number sequence : ℕ) (h : picture.Header) (mbs : List Mb) (packets : List (List ℕ)) → IsHeader h → All HasWholeBlocks mbs
       → ArePacketsOf number sequence h p.limit mbs packets → size_of packets ≤ 1200 * length mbs
-  pub count : (number sequence : ℕ) (h : picture.Header) (mbs : List Mb) (packets : List (List ℕ)) → IsHeader h → All IsWhole mbs
+  pub count : (number sequence : ℕ) (h : picture.Header) (mbs : List Mb) (packets : List (List ℕ)) → IsHeader h → All HasWholeBlocks mbs
       → ArePacketsOf number sequence h p.limit mbs packets → length packets ≤ length mbs
 
 -- ---- headers
@@ -105,8 +105,8 @@ module _ (p : Params) (below : Below p) where
       let mbs = choices_of picture before g p in
       let kind : h.style.kind ≡ kind_of predicted = ap (λ (s : Style). s.kind) style in
       let many : length mbs ≡ mbs_of p.format = below.chosen_count picture before g in
-      let whole : All IsWhole mbs = All-from_get_or IsWhole mbs Skip (λ k few.
-      subst IsWhole (sym (below.chosen_each picture before g k (omega (arith, few, many)))) (below.chosen_whole picture before g k)) in
+      let whole : All HasWholeBlocks mbs = All-from_get_or HasWholeBlocks mbs Skip (λ k few.
+      subst HasWholeBlocks (sym (below.chosen_each picture before g k (omega (arith, few, many)))) (below.chosen_whole picture before g k)) in
       let header = below.ranged frame.messages predicted depth quant h ranged style fit in
       let packets = packets_of n sequence (header_from h) (cut_of (header_from h) p.limit mbs) in
       let are = below.are_packets n sequence (header_from h) mbs header whole in

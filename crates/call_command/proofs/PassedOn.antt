@@ -17,7 +17,7 @@ use Rattle.desk_program.specs.Texts.{on, then_also}
 use Rattle.call_model.specs.Coding.{Shown}
 use Rattle.call_model.specs.CodedPictures.{Coded as CodedPicture}
 use Rattle.call_model.specs.IdealCall.{Event, Send, slices_at}
-use Rattle.call_model.specs.JoinedRun.{AllNearBoth, Joined}
+use Rattle.call_model.specs.JoinedRun.{AllMayHappenBoth, Joined}
 use Rattle.call_model.specs.Receiving.{ReceiverEntry, played_mark, played_shown}
 use Rattle.call_model.specs.Sending.{SenderRun}
 use Rattle.call_decoding.specs.Rules.{rules_of}
@@ -47,12 +47,12 @@ use Rattle.call_command.proofs.Passing.{count_more, half_some}
 
 -- ---- a frame more over the plain trace, where all that was sent was played
 
-module _ (p : Params) (runs : EachEndRuns (coding p) (rules_of p)) (frames : List Frame) (before : List ReceiverEntry) (past : List Event) (f : Frame) (sender_was : State) (receiver_was : Kept) (j : AreJoined p (steady p) sender_was receiver_was frames before past) (level : receiver_was.played ≡ sender_was.sent) (at : slice_get frames sender_was.sent ≡ Some f) (left : sender_was.sent < length frames) (near : AllNearBoth (coding p) (rules_of p) (receiver_end.run_of p before) (steady p) frames past) where
+module _ (p : Params) (runs : EachEndRuns (coding p) (rules_of p)) (frames : List Frame) (before : List ReceiverEntry) (past : List Event) (f : Frame) (sender_was : State) (receiver_was : Kept) (j : AreJoined p (steady p) sender_was receiver_was frames before past) (level : receiver_was.played ≡ sender_was.sent) (at : slice_get frames sender_was.sent ≡ Some f) (left : sender_was.sent < length frames) (near : AllMayHappenBoth (coding p) (rules_of p) (receiver_end.run_of p before) (steady p) frames past) where
   abbrev both : List Event → Joined Style Mb Picture
   both events = both_after p (steady p) frames before events
 
   abbrev Near : List Event → Type 0
-  Near events = AllNearBoth (coding p) (rules_of p) (receiver_end.run_of p before) (steady p) frames events
+  Near events = AllMayHappenBoth (coding p) (rules_of p) (receiver_end.run_of p before) (steady p) frames events
 
   abbrev n : ℕ
   n = sender_was.sent
@@ -150,7 +150,7 @@ module _ (p : Params) (runs : EachEndRuns (coding p) (rules_of p)) (frames : Lis
         λ i. then_also (on Pictures (frame_text (mark_same i) (screen i)))
         (on Report (picture_text (number_is i) (Some (mark_same i)) (Some (reference_is i)) None))
 
--- ---- the parts behind a frame
+-- ---- the parts after a frame
 
 -- what was passed on with this pace and this picture, with the parameters' quantiser and the frame
 -- that was read

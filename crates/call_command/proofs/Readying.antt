@@ -25,7 +25,7 @@ use Rattle.call_command.specs.Standing.{ArePacketsReady, CallOpens, Parts, Parts
 pub opens_still : (t : Terms) (old new : Role → Bool) → CallOpens t old → new ≡ old → CallOpens t new
 opens_still t old new opens same = subst (CallOpens t) (sym same) opens
 
--- behind a frame of the plain trace
+-- after a frame of the plain trace
 pub ready_frame : (x : Parts) (quant now : ℕ) (old new : Role → Bool) → PartsReady x quant old → x.terms.plain ≡ true → new ≡ old → now ≡ quant
     → (video : Y4mReader) (sender : State) (receiver : Kept) (carrier : Carrier)
     → video.format ≡ x.video.format → video.more + 1 ≡ x.video.more
@@ -49,7 +49,7 @@ ready_frame x quant now old new r plain attached same video sender receiver carr
   network = λ recorded. absurd (cc (plain, recorded));
 }
 
--- behind a line that takes no frame
+-- after a line that takes no frame
 pub ready_line : (x : Parts) (quant now : ℕ) (attached : Role → Bool) → PartsReady x quant attached → x.terms.plain ≡ false → now ≡ quant
     → (sender : State) (receiver : Kept) (carrier : Carrier)
     → IsReady sender → sender.params ≡ x.sender.params → IsStanding (steady x.terms.params) sender → sender.sent ≡ x.sender.sent
@@ -82,7 +82,7 @@ ready_line x quant now attached r recorded same sender receiver carrier ready pa
       };
     }
 
--- behind a line whose frame was sent
+-- after a line whose frame was sent
 pub ready_sent : (x : Parts) (quant now : ℕ) (old new : Role → Bool) → PartsReady x quant old → x.terms.plain ≡ false → new ≡ old → now ≡ quant
     → (video : Y4mReader) (sender : State) (carrier : Carrier)
     → video.format ≡ x.video.format → video.more + 1 ≡ x.video.more
@@ -112,7 +112,7 @@ ready_sent x quant now old new r recorded attached same video sender carrier for
       };
     }
 
--- behind the read of a line
+-- after the read of a line
 pub ready_read : (x : Parts) (quant : ℕ) (old new : Role → Bool) → PartsReady x quant old → x.terms.plain ≡ false → new ≡ old
     → (trace : TraceReader) → trace.lines ≡ x.carrier.trace.lines + 1
     → PartsReady (record x { carrier = record x.carrier { trace = trace } }) quant new

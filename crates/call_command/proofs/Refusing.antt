@@ -15,7 +15,7 @@ module _ (rules : Rules) (sent played : ℕ) (abouts : List ℕ) where
   capture_far far =
       ap (λ (b : Bool). if b then Some (Far sent played) else if nat_le (sent + 1) sent then Some NoFrame else None) (le-leb (played + rules.half) sent far)
 
-  -- where so many pictures are there to be sent
+  -- where this many pictures are there to be sent
   pub capture_near : (pictures : ℕ) → sent < pictures → sent < played + rules.half → first_refusal rules pictures sent played abouts Send ≡ None
   unfolding first_refusal
   capture_near pictures some near =

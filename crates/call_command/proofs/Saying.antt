@@ -5,10 +5,10 @@ use Rattle.std.specs.Option.{option_map_or}
 use Rattle.std.proofs.lemmas.List.{append-nil}
 use Rattle.h263_bits.specs.declared.fault.Fault.{Fault}
 use Rattle.h263_types.specs.declared.clock.Clock.{Clock}
-use Rattle.back_messages.specs.Said.{text_of}
-use Rattle.back_messages.specs.declared.writing.Said.{Said}
+use Rattle.back_messages.specs.MessageBytes.{text_of}
+use Rattle.back_messages.specs.declared.writing.MessageBytes.{MessageBytes}
 use Rattle.call_model.specs.Coding.{Message}
-use Rattle.call_model.specs.JoinedRun.{Told, said_to}
+use Rattle.call_model.specs.JoinedRun.{SaidMessage, said_to}
 use Rattle.call_model.specs.Receiving as runs
 use Rattle.call_encoding.specs.Messages.{write_message}
 use Rattle.coded_call.specs.Bytes.{AreBytes}
@@ -25,12 +25,12 @@ message_in _ = None
 -- the bytes that are said of a message are those that are written of it
 abbrev pub SaysBytes : Type 0
 SaysBytes =
-    (clock : Clock) (said : Said) (message : Message) → AreBytes (text_of said) → IsSaid clock said message
+    (clock : Clock) (said : MessageBytes) (message : Message) → AreBytes (text_of said) → IsSaid clock said message
     → text_of said ≡ write_message message
 
 -- what is told of picture n
-abbrev pub told_of : ℕ → Option Message → List Told
-told_of n message = option_map_or (λ (m : Message). let told : Told = record { about = n; bytes = write_message m } in told ∷ []) message []
+abbrev pub told_of : ℕ → Option Message → List SaidMessage
+told_of n message = option_map_or (λ (m : Message). let told : SaidMessage = record { about = n; bytes = write_message m } in told ∷ []) message []
 
 -- ---- answers
 
@@ -61,12 +61,12 @@ heard_told n runs.Taken = refl
 -- ---- what is kept
 
 -- with what is said of picture n the messages are those that are told
-pub kept_told : SaysBytes → (clock : Clock) (pairs : List (ℕ × Said)) (n : ℕ) (o : Option Said) (message : Option Message)
+pub kept_told : SaysBytes → (clock : Clock) (pairs : List (ℕ × MessageBytes)) (n : ℕ) (o : Option MessageBytes) (message : Option Message)
     → IsMessage clock o message → IfSome o (λ said. AreBytes (text_of said)) → map told_in (with_said pairs n o) ≡ map told_in pairs ++ told_of n message
 kept_told law clock pairs n o None none fit =
-    ap (λ (o : Option Said). map told_in (with_said pairs n o)) none ∙ sym (append-nil (map told_in pairs))
+    ap (λ (o : Option MessageBytes). map told_in (with_said pairs n o)) none ∙ sym (append-nil (map told_in pairs))
 kept_told law clock pairs n o (Some message) m fit =
-    let bytes : AreBytes (text_of m.0) = subst (λ (o : Option Said). IfSome o (λ said. AreBytes (text_of said))) m.1 fit in
-    ap (λ (o : Option Said). map told_in (with_said pairs n o)) m.1
+    let bytes : AreBytes (text_of m.0) = subst (λ (o : Option MessageBytes). IfSome o (λ said. AreBytes (text_of said))) m.1 fit in
+    ap (λ (o : Option MessageBytes). map told_in (with_said pairs n o)) m.1
     ∙ map_more told_in pairs (n, m.0)
-    ∙ ap (λ (bytes : List ℕ). let told : Told = record { about = n; bytes = bytes } in map told_in pairs ++ told ∷ []) (law clock m.0 message bytes m.2)
+    ∙ ap (λ (bytes : List ℕ). let told : SaidMessage = record { about = n; bytes = bytes } in map told_in pairs ++ told ∷ []) (law clock m.0 message bytes m.2)

@@ -12,7 +12,7 @@ use Rattle.call_decoding.specs.Rules.{rules_of}
 use Rattle.call_decoding.specs.Styles.{Style}
 use Rattle.call_encoding.specs.Encoding.{encoding}
 use Rattle.call_rings.specs.declared.packets.PacketRing.{PacketRing}
-use Rattle.call_rings.specs.Keeping.{Keeps, Pictures}
+use Rattle.call_rings.specs.Keeping.{HoldsPackets, Pictures}
 use Rattle.call_command.specs.Network.{HasPackets}
 use Rattle.call_command.specs.Seen.{reference_in}
 
@@ -78,7 +78,7 @@ module _ (p : Params) where
 
   -- with those of one picture more
   pub has_one_more : (ring new : PacketRing) (coded : List (Coded Style Mb Picture)) (x : Coded Style Mb Picture) (packets : List (List ℕ))
-      → HasPackets p ring coded → ((pictures : Pictures) → Keeps ring pictures → Keeps new (pictures ++ packets ∷ []))
+      → HasPackets p ring coded → ((pictures : Pictures) → HoldsPackets ring pictures → HoldsPackets new (pictures ++ packets ∷ []))
       → packets ≡ packets_of (coded ++ x ∷ []) (length coded) → HasPackets p new (coded ++ x ∷ [])
   has_one_more ring new coded x packets has kept is = record {
     pictures = has.pictures ++ packets ∷ [];

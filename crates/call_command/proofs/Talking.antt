@@ -20,7 +20,7 @@ use Rattle.desk_program.specs.Run.Step.{Goes, Ends}
 use Rattle.call_model.specs.Coding.{Coding, Rules}
 use Rattle.call_model.specs.CodedPictures.{Coded}
 use Rattle.call_model.specs.IdealCall.{Event, Send, Deliver, Play, Back, slices_at}
-use Rattle.call_model.specs.JoinedRun.{AllNearBoth, IsNearBoth, Joined, joined}
+use Rattle.call_model.specs.JoinedRun.{AllMayHappenBoth, MayHappenBoth, Joined, joined}
 use Rattle.call_model.specs.Receiving.{ReceiverRun}
 use Rattle.call_model.specs.Refusals.{Refusal}
 use Rattle.call_model.specs.Sending.{SenderRun, packets_of}
@@ -43,19 +43,19 @@ use Rattle.call_command.proofs.Joining.{coded_sent}
 use Rattle.call_command.proofs.Passing.{half_some}
 use Rattle.call_command.proofs.Refusing.{any_back, any_packet, any_play, capture_not_far}
 
--- ---- events stay near where a frame comes behind
+-- ---- events stay near where a frame comes after
 
 module _ {Frame Style Mb Picture Fault MessageFault : Type 0} (coding : Coding Frame Style Mb Picture Fault MessageFault) (rules : Rules) (begun : ReceiverRun Style Mb Picture) (pace : List ℕ → ℕ) (frames : List Frame) (f : Frame) where
-  near_so : (w : Joined Style Mb Picture) (e : Event) → IsNearBoth coding rules frames w e → IsNearBoth coding rules (frames ++ f ∷ []) w e
+  near_so : (w : Joined Style Mb Picture) (e : Event) → MayHappenBoth coding rules frames w e → MayHappenBoth coding rules (frames ++ f ∷ []) w e
   near_so w Send near = (omega (arith, near.0, longer frames f), near.1)
   near_so w (Deliver n j) near = near
   near_so w Play near = near
   near_so w (Back k) near = near
 
-  near_with : (past : List Event) → AllNearBoth coding rules begun pace frames past → AllNearBoth coding rules begun pace (frames ++ f ∷ []) past
+  near_with : (past : List Event) → AllMayHappenBoth coding rules begun pace frames past → AllMayHappenBoth coding rules begun pace (frames ++ f ∷ []) past
   near_with [] near = near
   near_with (e ∷ past) near = (
-    subst (λ (w : Joined Style Mb Picture). IsNearBoth coding rules (frames ++ f ∷ []) w e) (sym (same_before coding rules begun pace frames (f ∷ []) past near.1))
+    subst (λ (w : Joined Style Mb Picture). MayHappenBoth coding rules (frames ++ f ∷ []) w e) (sym (same_before coding rules begun pace frames (f ∷ []) past near.1))
         (near_so (joined coding rules begun pace frames past) e near.0),
     near_with past near.1,
   )
@@ -70,7 +70,7 @@ module _ (p : Params) where
   both frames past = both_after p (steady p) frames [] past
 
   abbrev Near : List Frame → List Event → Type 0
-  Near frames past = AllNearBoth (coding p) (rules_of p) begin (steady p) frames past
+  Near frames past = AllMayHappenBoth (coding p) (rules_of p) begin (steady p) frames past
 
   abbrev state : Bool → List Frame → List Event → ℕ → ℕ → ℕ → Bool → CallState
   state plain frames past at more lines ended =
@@ -347,7 +347,7 @@ module _ (p : Params) where
 
 -- from the first state on
 pub talk_is_the_call : (t : Terms) → NearLaws t.params
-    → ((frames : List Frame) (past : List Event) → AllNearBoth (coding t.params) (rules_of t.params) (receiver_end.run_of t.params []) (steady t.params) frames past → ShowTheSame t.params frames past)
+    → ((frames : List Frame) (past : List Event) → AllMayHappenBoth (coding t.params) (rules_of t.params) (receiver_end.run_of t.params []) (steady t.params) frames past → ShowTheSame t.params frames past)
     → TalkIsTheCall t
 talk_is_the_call t near_laws agree at turns inputs =
     same_run t.params near_laws agree turns t.plain (first_state t [] at) inputs

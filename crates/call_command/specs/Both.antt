@@ -38,7 +38,7 @@ abbrev pub next_of : Params → (List ℕ → ℕ) → Frame → Joined Style Mb
 next_of p pace frame both =
     next_coded (pictures_of (coding p)) (coding p).encoding (rules_of p) pace frame both.sender.coded both.sender.known
 
--- The sender stands for what these events have done to it, and so does the receiver, behind what it
+-- The sender stands for what these events have done to it, and so does the receiver, after what it
 -- had taken before.
 pub record AreJoined (p : Params) (pace : List ℕ → ℕ) (sender : State) (receiver : Kept)
     (frames : List Frame) (before : List ReceiverEntry) (past : List Event) : Type 0 where

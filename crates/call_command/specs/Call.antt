@@ -116,7 +116,7 @@ all_played seen = record { status = Fine; taken = λ _. Some 0; texts = on Repor
 abbrev pub line_size : List ℕ → ℕ
 line_size trace = min (length (first_line trace) + 1) (length trace)
 
--- behind the line
+-- after the line
 abbrev pub after_line : CallState → List ℕ → CallState
 after_line s trace = record s { lines = s.lines + 1; ended = not (is_closed trace) }
 

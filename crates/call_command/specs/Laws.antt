@@ -16,12 +16,12 @@ use Rattle.h263_types.specs.declared.format.Format.{Format}
 use Rattle.h263_types.specs.declared.params.Params.{Params}
 use Rattle.y4m.specs.Head.{head_of, head_size}
 use Rattle.y4m.specs.Frame.{frame_of, frame_size}
-use Rattle.back_messages.specs.Said.{text_of}
-use Rattle.back_messages.specs.declared.writing.Said.{Said}
+use Rattle.back_messages.specs.MessageBytes.{text_of}
+use Rattle.back_messages.specs.declared.writing.MessageBytes.{MessageBytes}
 use Rattle.call_model.specs.Coding.{Header, Message, Slice}
-use Rattle.call_model.specs.IdealCall.{Event, AllNear, ideal}
+use Rattle.call_model.specs.IdealCall.{Event, AllMayHappen, ideal}
 use Rattle.call_model.specs.InTheCall.{AllNearIsAllNearBoth}
-use Rattle.call_model.specs.Refusals.{NoneWhereNearBoth}
+use Rattle.call_model.specs.Refusals.{NoneWhereItMayHappenBoth}
 use Rattle.call_model.specs.Rings.{MessagesAreInRing, PacketsAreInRing}
 use Rattle.call_model.specs.Before.{ArrivedWasDelivered, CountsAreThose}
 use Rattle.call_model.specs.JoinedRun.{EachEndRuns, joined, new_receiver}
@@ -45,7 +45,7 @@ pub record CallLaws (p : Params) : Type 0 where
   pub arrived : (pace : List ℕ → ℕ) (frames : List Frame) → ArrivedWasDelivered (coding p) (rules_of p) pace frames
   -- in a near call both ends do what the ideal call says
   pub follow : (pace : List ℕ → ℕ) (frames : List Frame) (past : List Event) → IsPace pace
-      → AllNear (coding p) (rules_of p) pace frames past
+      → AllMayHappen (coding p) (rules_of p) pace frames past
       → EndsFollow (coding p) (rules_of p) (ideal (coding p) (rules_of p) pace frames past)
       (joined (coding p) (rules_of p) (new_receiver (coding p) (rules_of p)) pace frames past)
 
@@ -63,7 +63,7 @@ TalkIsTheCall t =
 
 -- a message is said by the bytes that are written of it, and a picture has a packet for each slice
 pub record MessageLaws (p : Params) : Type 0 where
-  pub said : (clock : Clock) (said : Said) (message : Message) → AreBytes (text_of said) → IsSaid clock said message
+  pub said : (clock : Clock) (said : MessageBytes) (message : Message) → AreBytes (text_of said) → IsSaid clock said message
       → text_of said ≡ write_message message
   pub count : (number sequence : ℕ) (h : Header Style) (slices : List (Slice Mb))
       → length ((encoding p).packets number sequence h slices) ≡ length slices
@@ -76,12 +76,12 @@ pub record PacketLaws (p : Params) : Type 0 where
 
 -- an event that isn't refused is near, and what it asks for is there
 pub record NearLaws (p : Params) : Type 0 where
-  pub both : NoneWhereNearBoth (coding p) (rules_of p)
+  pub both : NoneWhereItMayHappenBoth (coding p) (rules_of p)
   pub near : AllNearIsAllNearBoth (coding p) (rules_of p)
   pub packets : PacketsAreInRing (coding p) (rules_of p)
   pub messages : MessagesAreInRing (coding p) (rules_of p)
 
--- a whole head or frame stays what it is where the text behind it is cut
+-- a whole head or frame stays what it is where the text after it is cut
 pub record VideoLaws : Type 0 where
   pub head : (video : List ℕ) (f : Format) (k : ℕ) → head_of video ≡ Ok f → head_size video ≤ k
       → (head_of (take k video) ≡ Ok f) × (head_size (take k video) ≡ head_size video)

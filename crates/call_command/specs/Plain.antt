@@ -29,7 +29,7 @@ reconstruction_of p planes =
 abbrev pub pictures_of_frames : Params → List (List ℕ) → Text
 pictures_of_frames p frames = flat_map (λ planes. frame_text Exact (reconstruction_of p planes)) frames
 
--- the lines of so many pictures from number n on
+-- the lines of this many pictures from number n on
 abbrev pub lines_of_frames : ℕ → List (List ℕ) → Text
 lines_of_frames n [] = []
 lines_of_frames n (planes ∷ frames) =

@@ -6,7 +6,7 @@ use Rattle.h263_planes.specs.Picture.{Picture}
 use Rattle.call_model.specs.Coding.{Shown}
 use Rattle.call_model.specs.CodedPictures.{Coded}
 use Rattle.call_model.specs.IdealCall.{Call, about}
-use Rattle.call_model.specs.JoinedRun.{Told, Joined}
+use Rattle.call_model.specs.JoinedRun.{SaidMessage, Joined}
 use Rattle.call_decoding.specs.Styles.{Style}
 
 pub record Seen : Type 0 where
@@ -29,7 +29,7 @@ in_both both =
       coded = both.sender.coded;
       played = both.receiver.played;
       plays = both.plays;
-      abouts = map (λ (told : Told). told.about) both.said;
+      abouts = map (λ (told : SaidMessage). told.about) both.said;
     }
 
 -- the reference of picture n, none where it is coded intra or was not sent

@@ -21,7 +21,7 @@ use Rattle.call_rings.specs.declared.packets.PacketRing.{PacketRing}
 use Rattle.call_rings.specs.Keeping.{begun_of}
 use Rattle.call_rings.specs.Messages.{said_of}
 use Rattle.call_model.specs.IdealCall.{Event}
-use Rattle.call_model.specs.JoinedRun.{AllNearBoth}
+use Rattle.call_model.specs.JoinedRun.{AllMayHappenBoth}
 use Rattle.call_model.specs.Receiving.{ReceiverEntry}
 use Rattle.call_model.specs.Refusals.{Refusal, first_refusal}
 use Rattle.call_decoding.specs.Rules.{rules_of}
@@ -54,7 +54,7 @@ row_texts n mark reference picture =
 pub record Holds (t : Terms) (sender : State) (receiver : Kept) (carrier : Carrier)
     (before : List ReceiverEntry) (frames : List Frame) (past : List Event) : Type 0 where
   pub joined : AreJoined t.params (steady t.params) sender receiver frames before past
-  pub near : AllNearBoth (coding t.params)
+  pub near : AllMayHappenBoth (coding t.params)
       (rules_of t.params) (receiver_end.run_of t.params before) (steady t.params) frames past
   pub tally : AreCounted carrier.tally (both_after t.params (steady t.params) frames before past).plays
   pub network : t.plain ≡ false
@@ -92,8 +92,8 @@ state_of x before frames past =
       ended = x.carrier.trace.ended;
     }
 
--- The parts stand at a state: each of its frames was sent, and so it is whatever frames come behind
--- them. The receiver had played nothing before. Behind a last line without a newline the trace is at
+-- The parts stand at a state: each of its frames was sent, and so it is whatever frames come after
+-- them. The receiver had played nothing before. After a last line without a newline the trace is at
 -- its end.
 pub record PartsStand (x : Parts) (s : CallState) (inputs : Role → List ℕ) : Type 0 where
   pub is : s ≡ state_of x s.before s.frames s.past

@@ -11,13 +11,11 @@ ghost use Rattle.call_command.specs.Call.{call_begin, may_read, steady};
 ghost use Rattle.call_command.specs.Converse.{IsFirst, MayConverse};
 ghost use Rattle.call_command.specs.Standing.{CallOpens};
 
-use crate::laws::of_the_video;
 use crate::mind::{run_laws, turn_laws};
-use crate::{Terms, converse};
+use crate::{Terms, converse, laws};
 use call_report::Status;
 use desk_program::{Acts, put_head};
-use h263_outside::laws::calls;
-use h263_outside::{Desk, OutOfMemory};
+use h263_outside::{Desk, OutOfMemory, laws as outside_laws};
 use h263_types::{FixedPace, Params};
 use receiver_end::Receiver;
 use sender_end::Sender;
@@ -66,7 +64,7 @@ impl Both {
 }
 
 // A call before its first event: its parameters, with the format of its video, the reader of the
-// video behind the head, and both ends. They must be finished.
+// video after the head, and both ends. They must be finished.
 struct Begun {
     params: Params,
     video: Y4mReader,
@@ -88,7 +86,7 @@ fn begin<D: Desk>(alloc: Global, setup: &Terms, desk: &mut D) -> Result<Begun, S
     ensures rest { KeepsRoles (D.outside desk.old) (D.outside desk.new) }
 {
     turn_laws();
-    of_the_video();
+    laws::of_the_video();
     let video = Y4mReader::head(desk)?;
     let params = Params {
         format: video.format(),
@@ -126,7 +124,7 @@ impl Acts for Call {
     ghost source = { λ t. Some (source_of t) };
 
     fn act<D: Desk>(alloc: Global, setup: &Terms, desk: &mut D) -> Status {
-        calls();
+        outside_laws::calls();
         run_laws();
         match begin(alloc, setup, desk) {
             Ok(mut begun) => {

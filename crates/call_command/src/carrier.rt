@@ -1,6 +1,6 @@
 //! What carries a call between its ends.
 ghost use Rattle.std.specs.Prelude.{◌≡◌, IfOk, [], false};
-ghost use Rattle.call_rings.specs.Keeping.{Keeps, begun_of};
+ghost use Rattle.call_rings.specs.Keeping.{HoldsPackets, begun_of};
 ghost use Rattle.call_command.specs.Network.{HasCallSizes};
 
 use crate::{References, Tally, Terms};
@@ -24,7 +24,7 @@ pub struct Carrier {
 // The ring of a call's packets: those of the last period of pictures. Over the plain trace each
 // packet is delivered at once, and nothing is kept.
 fn packet_ring(alloc: Global, terms: &Terms) -> Result<PacketRing, OutOfMemory>
-    ensures kept { IfOk result (λ ring. Keeps ring []) }
+    ensures kept { IfOk result (λ ring. HoldsPackets ring []) }
     ensures sizes { terms.now.plain ≡ false → IfOk result (HasCallSizes terms.now.params) }
     ensures begun { IfOk result (λ ring. begun_of ring ≡ 0) }
 {

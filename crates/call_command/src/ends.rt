@@ -13,14 +13,14 @@ ghost use Rattle.call_decoding.specs.Rules.{rules_of};
 ghost use Rattle.call_encoding.specs.Encoding.{encoding};
 ghost use Rattle.call_encoding.specs.Frames.{Frame};
 ghost use Rattle.sender_end.specs.declared.state.State.{State};
-ghost use Rattle.sender_end.specs.Stands.{IsReady, Tells};
+ghost use Rattle.sender_end.specs.Stands.{IsReady, Describes};
 ghost use Rattle.receiver_end.specs.declared.kept.Kept.{Kept};
 ghost use Rattle.receiver_end.specs.Answers.{IsHeard, IsPlayed};
 ghost use Rattle.receiver_end.specs.Decoding.{decoding};
 ghost use Rattle.call_command.specs.Trace.{delivered};
 ghost use Rattle.call_command.specs.Both.{AreJoined, IsStanding, bare, both_after, next_of};
 
-use crate::laws::ends_run;
+use crate::laws;
 use h263_planes::PictureRef;
 use h263_types::Pace;
 use receiver_end::{Heard, Played, Receiver};
@@ -47,12 +47,12 @@ pub fn send<P: Pace>(sender: &mut Sender<P>, frame: PictureRef<'_>) -> Coded
     ensures tells { (p : Params) (receiver : Kept) (frames : List Frame)
         (before : List ReceiverEntry) (past : List Event)
         → AreJoined p (P.quant_of sender.old.pace) sender.old.state receiver frames before past
-        → Tells
+        → Describes
         (length (both_after p (P.quant_of sender.old.pace) frames before past).sender.coded)
         (next_of p (P.quant_of sender.old.pace) (bare (picture frame.entry))
         (both_after p (P.quant_of sender.old.pace) frames before past)) result }
 {
-    ends_run();
+    laws::ends_run();
     sender.code(frame, &[])
 }
 
@@ -72,7 +72,7 @@ pub fn deliver(receiver: &mut Receiver, bytes: &[u8]) -> Heard
         → IsHeard p.clock result (heard (decoding p.format) (rules_of p)
         (both_after p pace frames before past).receiver ((decoding p.format).read bytes.now)) }
 {
-    ends_run();
+    laws::ends_run();
     receiver.packet(bytes)
 }
 
@@ -87,11 +87,11 @@ pub fn deliver_last<P: Pace>(sender: &Sender<P>, receiver: &mut Receiver, place:
         → AreJoined p (P.quant_of sender.now.pace) sender.now.state receiver.new frames before
         (Deliver (sender.now.state.sent - 1) place ∷ past) }
 {
-    ends_run();
+    laws::ends_run();
     deliver(receiver, sender.packet(place))
 }
 
-/// Delivers so many packets of the picture that was sent last, in their order.
+/// Delivers this many packets of the picture that was sent last, in their order.
 pub fn deliver_all<P: Pace>(sender: &Sender<P>, receiver: &mut Receiver, count: u32)
     requires { count ≡ length (packets_of sender.now.state.cutter) }
     ensures params { receiver.new.params ≡ receiver.old.params }
@@ -125,6 +125,6 @@ pub fn play(receiver: &mut Receiver) -> Played
         (played_message (decoding p.format) (rules_of p)
         (both_after p pace frames before past).receiver) }
 {
-    ends_run();
+    laws::ends_run();
     receiver.play()
 }

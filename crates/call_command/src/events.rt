@@ -23,10 +23,9 @@ ghost use Rattle.call_command.specs.Standing.{ArePacketsReady, Holds, IsDone, re
 ghost use Rattle.call_command.specs.Standing.{with_packets_kept};
 
 use crate::ends::send;
-use crate::laws::{ends_run, of_near_events, of_packets};
 use crate::refusals::{brought, check_packet, check_play};
 use crate::way::{bring_back, deliver_all_kept, deliver_kept, keep_packets, play_kept};
-use crate::{Carrier, References, Terms};
+use crate::{Carrier, References, Terms, laws};
 use call_rings::PacketRing;
 use h263_planes::PictureRef;
 use h263_types::{FixedPace, Mark};
@@ -67,9 +66,9 @@ pub fn send_kept(
         → Holds terms.now sender.new.state receiver
         (with_packets_kept carrier packets.new references.new) before frames (Send ∷ past) }
 {
-    ends_run();
-    of_packets();
-    of_near_events();
+    laws::ends_run();
+    laws::of_packets();
+    laws::of_near_events();
     let coded = send(sender, frame);
     references.note(coded.number, coded.reference);
     keep_packets(packets, sender, coded.packets);
@@ -105,8 +104,8 @@ pub fn packet_event(
         (Holds terms.now sender.now.state receiver.new carrier.new before frames
         (Deliver number place ∷ past)) }
 {
-    ends_run();
-    of_near_events();
+    laws::ends_run();
+    laws::of_near_events();
     let half = terms.params.clock.half();
     check_packet(line, half, number, sender.sent(), receiver.played())?;
     deliver_kept(
@@ -150,8 +149,8 @@ pub fn all_event(
         (both_after terms.now.params (steady terms.now.params) frames before past).sender.coded
         number)) ++ past)) }
 {
-    ends_run();
-    of_near_events();
+    laws::ends_run();
+    laws::of_near_events();
     let half = terms.params.clock.half();
     check_packet(line, half, number, sender.sent(), receiver.played())?;
     deliver_all_kept(&carrier.packets, &mut carrier.messages, receiver, number);
@@ -186,8 +185,8 @@ pub fn back_event(
         (Holds terms.now sender.new.state receiver carrier.now before frames
         (Back message ∷ past)) }
 {
-    ends_run();
-    of_near_events();
+    laws::ends_run();
+    laws::of_near_events();
     let half = terms.params.clock.half();
     let said = brought(line, half, message, sender.sent(), &carrier.messages)?;
     bring_back(sender, said);
@@ -231,8 +230,8 @@ pub fn play_event(
         ≡ mark_of (played_mark (decoding terms.now.params.format) (rules_of terms.now.params)
         (both_after terms.now.params (steady terms.now.params) frames before past).receiver)) }
 {
-    ends_run();
-    of_near_events();
+    laws::ends_run();
+    laws::of_near_events();
     check_play(line, sender.sent(), receiver.played())?;
     let mark = play_kept(&mut carrier.messages, receiver);
     carrier.tally.count(mark);
@@ -256,6 +255,6 @@ pub fn reference_of_next(
         (both_after terms.now.params (steady terms.now.params) frames before past).sender.coded
         receiver.now.played }
 {
-    ends_run();
+    laws::ends_run();
     carrier.references.get(receiver.played())
 }

@@ -15,7 +15,7 @@ ghost use Rattle.call_model.specs.JoinedRun.{EachEndRuns};
 ghost use Rattle.call_decoding.specs.Rules.{rules_of};
 ghost use Rattle.coded_call.specs.Coding.{coding};
 ghost use Rattle.call_model.specs.IdealCall.{Event};
-ghost use Rattle.call_model.specs.JoinedRun.{AllNearBoth};
+ghost use Rattle.call_model.specs.JoinedRun.{AllMayHappenBoth};
 ghost use Rattle.call_encoding.specs.Frames.{Frame};
 ghost use Rattle.receiver_end.specs.State.{run_of};
 ghost use Rattle.call_command.specs.declared.terms.Terms.{Terms};
@@ -93,7 +93,7 @@ pub fn of_messages()
 /// In a near call with a new receiver both ends show what the ideal call shows.
 pub fn ends_agree()
     ensures { (p : Params) (frames : List Frame) (past : List Event) → IsParams p
-        → AllNearBoth (coding p) (rules_of p) (run_of p []) (steady p) frames past
+        → AllMayHappenBoth (coding p) (rules_of p) (run_of p []) (steady p) frames past
         → ShowTheSame p frames past }
 {
     of_the_ends();
@@ -133,7 +133,7 @@ pub fn of_near_events()
     rings::<Framed, Styled, Mb, Pictured, Fault, MessageFault>();
 }
 
-/// A whole head or frame stays what it is where the text behind it is cut.
+/// A whole head or frame stays what it is where the text after it is cut.
 pub fn of_the_video()
     ensures { VideoLaws }
 {

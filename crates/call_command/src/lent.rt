@@ -13,10 +13,9 @@ ghost use Rattle.call_command.specs.Call.{call_step, may_read, most_turns, stead
 ghost use Rattle.call_command.specs.Converse.{IsFirst, talk_end, talk_of};
 ghost use Rattle.call_command.specs.Standing.{CallOpens, EndsStand, source_of};
 
-use crate::laws::talks_agree;
 use crate::mind::{run_laws, turn_laws};
 use crate::turning::take_turn;
-use crate::{Carrier, Terms};
+use crate::{Carrier, Terms, laws};
 use call_report::Status;
 use desk_program::{Turns, take_turns};
 use h263_outside::Desk;
@@ -96,7 +95,7 @@ impl<'a> Turns for World<'a> {
 /// that are shown and their lines, and at the end the counts. The sender was just started, and the
 /// receiver has played nothing, but may have heard anything. No frame and no line was read yet.
 ///
-/// It is the call by both ends, behind whatever the receiver had heard (`gives`). With a receiver
+/// It is the call by both ends, after whatever the receiver had heard (`gives`). With a receiver
 /// that had heard nothing it is the ideal call, which goes on with a run that is under way
 /// (`alone`).
 pub fn converse<D: Desk>(
@@ -144,7 +143,7 @@ pub fn converse<D: Desk>(
 {
     turn_laws();
     run_laws();
-    talks_agree();
+    laws::talks_agree();
     let terms = Terms {
         params: *params,
         plain,

@@ -3,7 +3,7 @@ ghost use Rattle.desk_program.specs.Laws.{RunLaws, TurnLaws};
 ghost use Rattle.call_command.specs.Call.{CallState};
 
 use crate::Terms;
-use desk_program::laws::{of_runs, of_turns};
+use desk_program::laws as desk_program_laws;
 use std::marker::Model;
 
 // A type of the program whose values are states. The laws of turns are called with it; nothing is
@@ -25,12 +25,12 @@ impl Model for Mind {
 pub fn turn_laws()
     ensures { TurnLaws CallState }
 {
-    of_turns::<Mind>();
+    desk_program_laws::of_turns::<Mind>();
 }
 
 /// How a run begins, and how it ends where its start gives up or memory is refused to it.
 pub fn run_laws()
     ensures { RunLaws CallState }
 {
-    of_runs::<Mind>();
+    desk_program_laws::of_runs::<Mind>();
 }

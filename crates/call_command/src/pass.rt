@@ -10,7 +10,7 @@ ghost use Rattle.sender_end.specs.Stands.{IsReady};
 ghost use Rattle.call_command.specs.Both.{AreJoined, IsPassed, IsStanding, bare};
 
 use crate::ends::{deliver_all, play, send};
-use crate::laws::ends_run;
+use crate::laws;
 use h263_planes::PictureRef;
 use h263_types::{Mark, Pace};
 use receiver_end::Receiver;
@@ -48,7 +48,7 @@ pub fn pass<P: Pace>(
         → IsPassed p (P.quant_of sender.old.pace) frames before past (bare (picture frame.entry))
         result.coded result.mark sender.new.state receiver.new }
 {
-    ends_run();
+    laws::ends_run();
     let coded = send(sender, frame);
     deliver_all(sender, receiver, coded.packets);
     let played = play(receiver);

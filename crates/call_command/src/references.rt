@@ -5,7 +5,7 @@ ghost use Rattle.std.specs.Prelude.{IfOk, Option, None, slice_index_or};
 use h263_outside::OutOfMemory;
 use std::alloc::Global;
 
-// So many pictures may be on their way at most.
+// At most this many pictures may be on their way.
 const KEPT: usize = 512;
 
 /// The references of the last 512 pictures.

@@ -1,14 +1,14 @@
 //! Which lines of a trace are refused, by the counts of the call.
 ghost use Rattle.std.specs.Prelude.{◌≡◌, ◌+◌, ◌≤◌, ℕ, List, None, length, map, nat_le};
-ghost use Rattle.back_messages.specs.declared.writing.Said.{Said};
+ghost use Rattle.back_messages.specs.declared.writing.MessageBytes.{MessageBytes};
 ghost use Rattle.call_model.specs.Coding.{Rules};
 ghost use Rattle.call_model.specs.IdealCall.{Send, Deliver, Play, Back};
 ghost use Rattle.call_model.specs.Refusals.{first_refusal};
-ghost use Rattle.call_rings.specs.Messages.{Holds};
+ghost use Rattle.call_rings.specs.Messages.{HoldsMessages};
 ghost use Rattle.call_command.specs.Refused.{IsAllowed};
 ghost use Rattle.call_command.specs.Network.{IsBrought, about_of};
 
-use back_messages::Said;
+use back_messages::MessageBytes;
 use call_rings::MessageRing;
 use loss_trace::TraceFault;
 
@@ -84,9 +84,9 @@ pub fn brought(
     message: u32,
     sent: u32,
     messages: &MessageRing,
-) -> Result<Said, TraceFault>
-    ensures { (rules : Rules) (played : ℕ) (pairs : List (ℕ × Said)) → half ≡ rules.half
-        → Holds messages.now pairs
+) -> Result<MessageBytes, TraceFault>
+    ensures { (rules : Rules) (played : ℕ) (pairs : List (ℕ × MessageBytes)) → half ≡ rules.half
+        → HoldsMessages messages.now pairs
         → (first_refusal rules (sent + 1) sent played (map about_of pairs) (Back message) ≡ None
         → length pairs ≤ message + 1024)
         → IsBrought result line message pairs

@@ -9,8 +9,7 @@ ghost use Rattle.call_command.specs.Standing.{row_texts};
 use crate::mind::turn_laws;
 use call_report::{Status, picture_line};
 use desk_program::{put_line, put_picture};
-use h263_outside::Desk;
-use h263_outside::laws::calls;
+use h263_outside::{Desk, laws as outside_laws};
 use h263_planes::PictureRef;
 use h263_types::Mark;
 
@@ -35,7 +34,7 @@ pub fn show<D: Desk>(
         (D.outside desk.new).faults.write) }
     ensures rest { OnlyWrites (D.outside desk.old) (D.outside desk.new) }
 {
-    calls();
+    outside_laws::calls();
     turn_laws();
     put_picture(desk, mark, picture)?;
     let line = picture_line(number, Some(mark), Some(reference), None);

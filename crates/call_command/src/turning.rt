@@ -18,16 +18,14 @@ ghost use Rattle.call_command.specs.Turning.{TurnReadsOut};
 use crate::events::{
     all_event, back_event, packet_event, play_event, reference_of_next, send_kept,
 };
-use crate::laws::{ends_run, of_the_video};
 use crate::mind::turn_laws;
 use crate::pass::pass;
 use crate::refusals::check_capture;
 use crate::show::show;
-use crate::{Carrier, Terms};
+use crate::{Carrier, Terms, laws};
 use call_report::Status;
 use desk_program::put_line;
-use h263_outside::Desk;
-use h263_outside::laws::calls;
+use h263_outside::{Desk, laws as outside_laws};
 use h263_planes::PictureRef;
 use h263_types::FixedPace;
 use loss_trace::{Event, TraceFault};
@@ -130,10 +128,10 @@ fn frame_turn<D: Desk>(
         (D.outside desk.old).faults (D.outside desk.new).faults }
     ensures rest { KeepsRoles (D.outside desk.old) (D.outside desk.new) }
 {
-    ends_run();
+    laws::ends_run();
     turn_laws();
-    of_the_video();
-    calls();
+    laws::of_the_video();
+    outside_laws::calls();
     if !video.frame(desk, &mut carrier.frame)? {
         tell_counts(desk, sender, receiver, carrier)?;
         return Ok(false);
@@ -186,8 +184,8 @@ fn line_turn<D: Desk>(
     ensures rest { KeepsRoles (D.outside desk.old) (D.outside desk.new) }
 {
     turn_laws();
-    ends_run();
-    calls();
+    laws::ends_run();
+    outside_laws::calls();
     let Some((line, event)) = carrier.trace.next(desk)? else {
         tell_counts(desk, sender, receiver, carrier)?;
         return Ok(false);
@@ -288,8 +286,8 @@ fn send_line<D: Desk>(
     ensures rest { KeepsRoles (D.outside desk.old) (D.outside desk.new) }
 {
     turn_laws();
-    ends_run();
-    of_the_video();
+    laws::ends_run();
+    laws::of_the_video();
     let half = terms.params.clock.half();
     if let Err(fault) = check_capture(line, half, sender.sent(), receiver.played()) {
         return Err(Status::TraceRefused { fault });
@@ -343,7 +341,7 @@ fn play_line<D: Desk>(
     ensures rest { KeepsRoles (D.outside desk.old) (D.outside desk.new) }
 {
     turn_laws();
-    ends_run();
+    laws::ends_run();
     let number = receiver.played();
     let reference = reference_of_next(terms, sender, receiver, carrier);
     match play_event(line, terms, sender, receiver, carrier) {

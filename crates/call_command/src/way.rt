@@ -2,14 +2,14 @@
 //! the trace says so.
 ghost use Rattle.std.specs.Prelude.{◌≡◌, ◌+◌, ◌^◌, ◌<◌, ◌≤◌, ℕ, Some, List, [], ◌∷◌, ◌++◌};
 ghost use Rattle.std.specs.Prelude.{IfSome, length, slice_get};
-ghost use Rattle.back_messages.specs.Said.{text_of};
+ghost use Rattle.back_messages.specs.MessageBytes.{text_of};
 ghost use Rattle.coded_call.specs.Bytes.{AreBytes};
 ghost use Rattle.h263_types.specs.declared.params.Params.{Params};
 ghost use Rattle.packet_cutter.specs.Cutting.{packets_of};
-ghost use Rattle.call_rings.specs.Keeping.{Keeps, HasSizes, Pictures, begun_of, most_of, period_of};
+ghost use Rattle.call_rings.specs.Keeping.{HoldsPackets, HasSizes, Pictures, begun_of, most_of, period_of};
 ghost use Rattle.call_rings.specs.Keeping.{room_of};
-ghost use Rattle.call_rings.specs.Messages.{Holds, said_of};
-ghost use Rattle.back_messages.specs.declared.writing.Said.{Said};
+ghost use Rattle.call_rings.specs.Messages.{HoldsMessages, said_of};
+ghost use Rattle.back_messages.specs.declared.writing.MessageBytes.{MessageBytes};
 ghost use Rattle.call_model.specs.IdealCall.{Back, Event, Deliver, Play, slices_at};
 ghost use Rattle.call_model.specs.Receiving.{ReceiverEntry, played_mark};
 ghost use Rattle.call_decoding.specs.Rules.{rules_of};
@@ -25,28 +25,27 @@ ghost use Rattle.call_command.specs.Network.{AreRoomy, HasMessages, HasPackets, 
 ghost use Rattle.call_command.specs.Network.{IsKeeping, said_in, told_in, with_said};
 
 use crate::ends::{deliver, play};
-use crate::laws::{ends_run, of_messages};
-use back_messages::Said;
-use call_rings::laws::{has_room, one_after_the_other};
-use call_rings::{MessageRing, PacketRing};
+use crate::laws;
+use back_messages::MessageBytes;
+use call_rings::{MessageRing, PacketRing, laws as call_rings_laws};
 use h263_types::{Mark, Pace};
 use receiver_end::{Heard, Receiver};
 use sender_end::Sender;
 
-/// Keeps all packets of the picture that was sent last.
+/// HoldsPackets all packets of the picture that was sent last.
 pub fn keep_packets<P: Pace>(packets: &mut PacketRing, sender: &Sender<P>, count: u32)
     requires count { count ≡ length (packets_of sender.now.state.cutter) }
     requires keeping { IsKeeping packets.old }
     requires room { AreRoomy packets.old (packets_of sender.now.state.cutter) }
     requires few { begun_of packets.old + 1 < 2 ^ 32 }
-    ensures kept { (pictures : Pictures) → Keeps packets.old pictures
-        → Keeps packets.new (pictures ++ packets_of sender.now.state.cutter ∷ []) }
+    ensures kept { (pictures : Pictures) → HoldsPackets packets.old pictures
+        → HoldsPackets packets.new (pictures ++ packets_of sender.now.state.cutter ∷ []) }
     ensures sizes { let ring = packets.old in
         HasSizes packets.new (period_of ring) (room_of ring) (most_of ring) }
     ensures begun { begun_of packets.new ≡ begun_of packets.old + 1 }
 {
-    has_room();
-    one_after_the_other();
+    call_rings_laws::has_room();
+    call_rings_laws::one_after_the_other();
     packets.begin();
     'packets: for place in 0..count {
         packets.push(sender.packet(place));
@@ -54,7 +53,7 @@ pub fn keep_packets<P: Pace>(packets: &mut PacketRing, sender: &Sender<P>, count
 }
 
 // The message of an answer.
-fn said_in(heard: &Heard) -> Option<Said>
+fn said_in(heard: &Heard) -> Option<MessageBytes>
     ensures { result ≡ said_in heard.now }
 {
     match heard {
@@ -63,11 +62,11 @@ fn said_in(heard: &Heard) -> Option<Said>
     }
 }
 
-// Keeps what was said of this picture, if anything was.
-fn keep_message(messages: &mut MessageRing, about: u32, said: Option<Said>)
+// HoldsPackets what was said of this picture, if anything was.
+fn keep_message(messages: &mut MessageRing, about: u32, said: Option<MessageBytes>)
     requires { said_of messages.old + 1 < 2 ^ 64 }
-    ensures kept { (pairs : List (ℕ × Said)) → Holds messages.old pairs
-        → Holds messages.new (with_said pairs about said) }
+    ensures kept { (pairs : List (ℕ × MessageBytes)) → HoldsMessages messages.old pairs
+        → HoldsMessages messages.new (with_said pairs about said) }
     ensures bytes { IfSome said (λ said. AreBytes (text_of said)) }
     ensures few { said_of messages.new ≤ said_of messages.old + 1 }
 {
@@ -111,8 +110,8 @@ pub fn deliver_kept(
         → HasMessages messages.new
         (both_after p pace frames before (Deliver number place ∷ past)).said }
 {
-    ends_run();
-    of_messages();
+    laws::ends_run();
+    laws::of_messages();
     let Some(bytes) = packets.packet(number, place) else {
         return;
     };
@@ -153,7 +152,7 @@ pub fn deliver_all_kept(
         (length (slices_at (both_after p pace frames before past).sender.coded number))
         ++ past)).said }
 {
-    of_messages();
+    laws::of_messages();
     let sent = packets.count(number);
     'packets: for place in 0..sent {
         deliver_kept(packets, messages, receiver, number, place);
@@ -182,8 +181,8 @@ pub fn play_kept(messages: &mut MessageRing, receiver: &mut Receiver) -> Mark
         → result ≡ mark_of (played_mark (decoding p.format) (rules_of p)
         (both_after p pace frames before past).receiver) }
 {
-    ends_run();
-    of_messages();
+    laws::ends_run();
+    laws::of_messages();
     let number = receiver.played();
     let played = play(receiver);
     keep_message(messages, number, played.message);
@@ -191,7 +190,7 @@ pub fn play_kept(messages: &mut MessageRing, receiver: &mut Receiver) -> Mark
 }
 
 /// Brings a message back to the sender.
-pub fn bring_back<P: Pace>(sender: &mut Sender<P>, said: Said)
+pub fn bring_back<P: Pace>(sender: &mut Sender<P>, said: MessageBytes)
     requires ready { IsReady sender.old.state }
     ensures ready { IsReady sender.new.state }
     ensures params { sender.new.state.params ≡ sender.old.state.params }
@@ -207,6 +206,6 @@ pub fn bring_back<P: Pace>(sender: &mut Sender<P>, said: Said)
         → AreJoined p (P.quant_of sender.old.pace) sender.new.state receiver frames before
         (Back k ∷ past) }
 {
-    ends_run();
+    laws::ends_run();
     sender.feedback(said.text());
 }

@@ -19,7 +19,7 @@ use Rattle.picture_header.specs.Ranges.{AreMessages, IsBack, IsHeader, IsReferen
 use Rattle.picture_header.specs.Text.{in_places}
 use Rattle.picture_header.specs.Written.{back_bits, clock_bits, reference_bits}
 use Rattle.mode_choice.specs.Choice.{choices_of}
-use Rattle.packet_cutter.specs.Styles.{HaveOneStyle}
+use Rattle.packet_cutter.specs.Forms.{HaveOneForm}
 use Rattle.call_model.specs.Coding as call
 use Rattle.call_model.specs.Lawful.{FitsHeader}
 use Rattle.call_decoding.specs.Rules.{rules_of}
@@ -162,7 +162,7 @@ reference_bits_same None (Some n) e = cc
 reference_bits_same (Some m) None e = cc
 
 pub one_style : (p : Params) (predicted : Bool) (h : call.Header Style) → FitsHeader (rules_of p) predicted h → h.style.kind ≡ kind_of predicted
-    → HaveOneStyle (header_from h) (header_in p.clock h.style)
+    → HaveOneForm (header_from h) (header_in p.clock h.style)
 one_style p predicted h fits kind =
     let named : is_some h.reference ≡ is_some (some_reference h.style.kind) = fits.kind ∙ sym (some_where_predicted predicted) ∙ sym (ap (λ (k : Kind). is_some (some_reference k)) kind) in
     record {

@@ -19,7 +19,7 @@ abbrev pub marked : call.Message → Message
 marked (call.Ack number flags) = Ack number (marks_of flags)
 marked (call.Nack number offered flags) = Nack number offered (marks_of flags)
 
--- so many bytes of bits
+-- this many bytes of bits
 unfoldable pub bytes_from : ℕ → List Bool → List ℕ
 bytes_from zero bits = []
 bytes_from (suc n) bits = number (take 8 bits) ∷ bytes_from n (drop 8 bits)

@@ -6,7 +6,7 @@ use Rattle.std.proofs.lemmas.List.{append-nil}
 use Rattle.std.proofs.lemmas.Option.{slice_get_cases}
 use Rattle.call_model.specs.Coding.{Rules, Message, Decoding}
 use Rattle.call_model.specs.CodedPictures.{Coded}
-use Rattle.call_model.specs.IdealCall.{has_arrived, is_full, with_arrival, Event, Send, Deliver, Play, Back, Note, Call, Source, slices_at, after, call_from, IsNear, AllNearFrom}
+use Rattle.call_model.specs.IdealCall.{has_arrived, is_full, with_arrival, Event, Send, Deliver, Play, Back, NumberedMessage, Call, Source, slices_at, after, call_from, MayHappen, AllMayHappenFrom}
 use Rattle.call_model.specs.Sending.{header_of}
 use Rattle.call_model.specs.Receiving.{TakenSlice, ReceiverRun, Late, Early, Repeat, Completed, Taken, heard, after_packet, after_play}
 use Rattle.call_model.specs.Sound.{IsSoundPicture, IsUnderstood, ReceiverIsAt, IsSoundEvent, AllSound, Packets, received, delivery_answer, AnySoundSender, NoneRefused, is_refused}
@@ -36,14 +36,14 @@ module _ {Style Mb Picture Fault : Type 0} (decoding : Decoding Style Mb Picture
   })
 
   module _ (source : Source Style Mb Picture) (packets : Packets Style Mb Picture) (count : ℕ) where
-    sends : (c : Call Style Mb Picture) (run : ReceiverRun Style Mb Picture) → IsSoundEvent decoding rules source packets c Send → IsNear rules count c Send → IsAt c run → IsAt (after decoding.pictures rules source c Send) run
+    sends : (c : Call Style Mb Picture) (run : ReceiverRun Style Mb Picture) → IsSoundEvent decoding rules source packets c Send → MayHappen rules count c Send → IsAt c run → IsAt (after decoding.pictures rules source c Send) run
     sends c run sound near at = go (source c) sound
       where
         go : (o : Option (Coded Style Mb Picture)) → ((x : Coded Style Mb Picture) → o ≡ Some x → IsSoundPicture decoding.pictures rules c x) → IsAt (record c { coded = c.coded ++ option_map_or (λ x. x ∷ []) o [] }) run
         go None sound = record { taken = at.taken; is = at.is; good = subst (λ (xs : List (Coded Style Mb Picture)). Good decoding rules (record c { coded = xs }) at.taken) (sym (append-nil c.coded)) at.good }
         go (Some x) sound = record { taken = at.taken; is = at.is; good = step_send decoding rules lawful ruled c at.taken x at.good near.1 (sound x refl) }
 
-    delivers : (c : Call Style Mb Picture) (run : ReceiverRun Style Mb Picture) (n j : ℕ) → IsSoundEvent decoding rules source packets c (Deliver n j) → IsNear rules count c (Deliver n j) → IsAt c run → IsAt (after decoding.pictures rules source c (Deliver n j)) (option_map_or (λ bytes. after_packet decoding rules bytes run) (slice_get (packets c.coded n) j) run)
+    delivers : (c : Call Style Mb Picture) (run : ReceiverRun Style Mb Picture) (n j : ℕ) → IsSoundEvent decoding rules source packets c (Deliver n j) → MayHappen rules count c (Deliver n j) → IsAt c run → IsAt (after decoding.pictures rules source c (Deliver n j)) (option_map_or (λ bytes. after_packet decoding rules bytes run) (slice_get (packets c.coded n) j) run)
     delivers c run n j sound near at =
         elim (slice_get_cases c.coded n).1 [ inl h ↦ of_picture h.0 h.2 | inr h ↦ absurd (omega (arith, h.0, near.0)) ]
       where
@@ -65,7 +65,7 @@ module _ {Style Mb Picture Fault : Type 0} (decoding : Decoding Style Mb Picture
                   rw (packet.no_other h.1) (record { taken = at.taken; is = at.is; good = step_no_slice decoding rules lawful ruled c at.taken n j at.good past })
             ]
 
-    plays : (c : Call Style Mb Picture) (run : ReceiverRun Style Mb Picture) → IsNear rules count c Play → IsAt c run → IsAt (after decoding.pictures rules source c Play) (after_play decoding rules run)
+    plays : (c : Call Style Mb Picture) (run : ReceiverRun Style Mb Picture) → MayHappen rules count c Play → IsAt c run → IsAt (after decoding.pictures rules source c Play) (after_play decoding rules run)
     plays c run near at =
         let p = step_play decoding rules lawful ruled c at.taken at.good near in
         record {
@@ -74,17 +74,17 @@ module _ {Style Mb Picture Fault : Type 0} (decoding : Decoding Style Mb Picture
           good = p.good;
         }
 
-    backs : (c : Call Style Mb Picture) (run : ReceiverRun Style Mb Picture) (k : ℕ) → IsNear rules count c (Back k) → IsAt c run → IsAt (after decoding.pictures rules source c (Back k)) run
+    backs : (c : Call Style Mb Picture) (run : ReceiverRun Style Mb Picture) (k : ℕ) → MayHappen rules count c (Back k) → IsAt c run → IsAt (after decoding.pictures rules source c (Back k)) run
     backs c run k near at = rw near.1 (record { taken = at.taken; is = at.is; good = step_back decoding rules lawful ruled c at.taken k near.0 at.good near.1 })
 
-    stays_at : (past : List Event) → AllNearFrom decoding.pictures rules source count past → AllSound decoding rules source packets past → IsAt (call_from decoding.pictures rules source past) (received decoding rules source packets past)
+    stays_at : (past : List Event) → AllMayHappenFrom decoding.pictures rules source count past → AllSound decoding rules source packets past → IsAt (call_from decoding.pictures rules source past) (received decoding rules source packets past)
     stays_at [] near sound = record { taken = []; is = refl; good = good_start decoding rules source }
     stays_at (Send ∷ past) near sound = sends _ _ sound.0 near.0 (stays_at past near.1 sound.1)
     stays_at (Deliver n j ∷ past) near sound = delivers _ _ n j sound.0 near.0 (stays_at past near.1 sound.1)
     stays_at (Play ∷ past) near sound = plays _ _ near.0 (stays_at past near.1 sound.1)
     stays_at (Back k ∷ past) near sound = backs _ _ k near.0 (stays_at past near.1 sound.1)
 
-    pub answers_at : (c : Call Style Mb Picture) (run : ReceiverRun Style Mb Picture) (n j : ℕ) (bytes : List ℕ) → IsAt c run → IsNear rules count c (Deliver n j) → IsSoundEvent decoding rules source packets c (Deliver n j) → slice_get (packets c.coded n) j ≡ Some bytes → heard decoding rules run (decoding.read bytes) ≡ delivery_answer rules c n j
+    pub answers_at : (c : Call Style Mb Picture) (run : ReceiverRun Style Mb Picture) (n j : ℕ) (bytes : List ℕ) → IsAt c run → MayHappen rules count c (Deliver n j) → IsSoundEvent decoding rules source packets c (Deliver n j) → slice_get (packets c.coded n) j ≡ Some bytes → heard decoding rules run (decoding.read bytes) ≡ delivery_answer rules c n j
     answers_at c run n j bytes at near sound packet =
         elim (slice_get_cases c.coded n).1 [ inl h ↦ of_picture h.0 h.2 | inr h ↦ absurd (omega (arith, h.0, near.0)) ]
       where
@@ -103,7 +103,7 @@ module _ {Style Mb Picture Fault : Type 0} (decoding : Decoding Style Mb Picture
             differ : None ≡ Some bytes → ⊥
             differ e = cc
 
-  understood : (c : Call Style Mb Picture) (ts : List (TakenSlice Style Mb)) (k : ℕ) (note : Note) → Good decoding rules c ts → slice_get c.said k ≡ Some note → IsUnderstood decoding rules c note
+  understood : (c : Call Style Mb Picture) (ts : List (TakenSlice Style Mb)) (k : ℕ) (note : NumberedMessage) → Good decoding rules c ts → slice_get c.said k ≡ Some note → IsUnderstood decoding rules c note
   understood c ts k note good there =
       let is_true = good.notes k note there in
       record {

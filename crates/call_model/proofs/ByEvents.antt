@@ -6,11 +6,11 @@ use Rattle.std.proofs.lemmas.Bool.{and_parts, and_from, or_cases, or_left, or_ri
 use Rattle.std.proofs.lemmas.Option.{slice_get_cases}
 use Rattle.call_model.specs.Coding.{Rules, Mark, Exact, Patched, Held, Coding, pictures_of, mixed, Shown}
 use Rattle.call_model.specs.CodedPictures.{Coded, picture_at}
-use Rattle.call_model.specs.IdealCall.{Event, Send, Deliver, Play, Back, Arrival, Call, has_arrived, any_arrived, with_arrival, is_open, slices_at, is_full, mb_arrived, shown_last, reconstruction_at, shown_at, delivery_counts, ideal, AllNear}
+use Rattle.call_model.specs.IdealCall.{Event, Send, Deliver, Play, Back, Arrival, Call, has_arrived, any_arrived, with_arrival, is_open, slices_at, is_full, mb_arrived, shown_last, reconstruction_at, shown_at, delivery_counts, ideal, AllMayHappen}
 use Rattle.call_model.specs.Before.{sent_before, played_before, IsOpen, play_at, arrived, slices_before, WasDelivered, CountsAreThose, ArrivedWasDelivered, ExactWhereFull, ShownStays}
 
 module _ {Frame Style Mb Picture Fault MessageFault : Type 0} (coding : Coding Frame Style Mb Picture Fault MessageFault) (rules : Rules) (pace : List ℕ → ℕ) (frames : List Frame) where
-  sent_is : (past : List Event) → AllNear coding rules pace frames past → length (ideal coding rules pace frames past).coded ≡ sent_before past
+  sent_is : (past : List Event) → AllMayHappen coding rules pace frames past → length (ideal coding rules pace frames past).coded ≡ sent_before past
   sent_is [] near = refl
   sent_is (Send ∷ past) near =
       elim (slice_get_cases frames (length (ideal coding rules pace frames past).coded)).1 [

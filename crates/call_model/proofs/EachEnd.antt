@@ -6,7 +6,7 @@ use Rattle.call_model.specs.Coding.{Rules, Coding, pictures_of}
 use Rattle.call_model.specs.IdealCall.{Event, Send, Deliver, Play, Back}
 use Rattle.call_model.specs.Sending.{SenderRun, SenderEntry, Capture, Feedback, after_capture, after_feedback, packets_of, sender_run}
 use Rattle.call_model.specs.Receiving.{ReceiverRun, ReceiverEntry, Packet, after_packet, after_play, receiver_run}
-use Rattle.call_model.specs.JoinedRun.{Told, Joined, after_bytes, joined, sender_entries, receiver_entries, EachEndRuns}
+use Rattle.call_model.specs.JoinedRun.{SaidMessage, Joined, after_bytes, joined, sender_entries, receiver_entries, EachEndRuns}
 
 module _ {Frame Style Mb Picture Fault MessageFault : Type 0} (coding : Coding Frame Style Mb Picture Fault MessageFault) (rules : Rules) where
   abbrev SenderIs : ReceiverRun Style Mb Picture → (List ℕ → ℕ) → List Frame → List Event → Type 0
@@ -22,7 +22,7 @@ module _ {Frame Style Mb Picture Fault MessageFault : Type 0} (coding : Coding F
   sender_back : (receiver : ReceiverRun Style Mb Picture) (pace : List ℕ → ℕ) (frames : List Frame) (past : List Event) (k : ℕ) → SenderIs receiver pace frames past → SenderIs receiver pace frames (Back k ∷ past)
   sender_back receiver pace frames past k is = go (slice_get (joined coding rules receiver pace frames past).said k)
     where
-      go : (o : Option Told) → option_map_or (λ told. after_feedback coding.encoding rules told.bytes (joined coding rules receiver pace frames past).sender) o (joined coding rules receiver pace frames past).sender ≡ sender_run (pictures_of coding) coding.encoding rules pace (option_map_or (λ told. let entry : SenderEntry Frame = Feedback told.bytes in entry ∷ []) o [] ++ sender_entries coding rules receiver pace frames past)
+      go : (o : Option SaidMessage) → option_map_or (λ told. after_feedback coding.encoding rules told.bytes (joined coding rules receiver pace frames past).sender) o (joined coding rules receiver pace frames past).sender ≡ sender_run (pictures_of coding) coding.encoding rules pace (option_map_or (λ told. let entry : SenderEntry Frame = Feedback told.bytes in entry ∷ []) o [] ++ sender_entries coding rules receiver pace frames past)
       go None = is
       go (Some told) = ap (λ (run : SenderRun Style Mb Picture). after_feedback coding.encoding rules told.bytes run) is
 

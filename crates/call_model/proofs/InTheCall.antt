@@ -4,12 +4,12 @@ use Rattle.std.specs.Prelude.{slice_get}
 use Rattle.std.specs.Option.{option_map}
 use Rattle.std.proofs.lemmas.Option.{slice_get-map}
 use Rattle.call_model.specs.Coding.{Rules, Coding}
-use Rattle.call_model.specs.IdealCall.{Event, Send, Deliver, Play, Back, Note, Call, IsNear, ideal, AllNear, encoded}
+use Rattle.call_model.specs.IdealCall.{Event, Send, Deliver, Play, Back, NumberedMessage, Call, MayHappen, ideal, AllMayHappen, encoded}
 use Rattle.call_model.specs.Sending.{packets_of}
 use Rattle.call_model.specs.Receiving.{TakenSlice}
-use Rattle.call_model.specs.JoinedRun.{Told, Joined, IsNearBoth, AllNearBoth, joined, new_receiver}
+use Rattle.call_model.specs.JoinedRun.{SaidMessage, Joined, MayHappenBoth, AllMayHappenBoth, joined, new_receiver}
 use Rattle.call_model.specs.TwoStores.{told_of}
-use Rattle.call_model.specs.InTheCall.{PacketsAreAnswered, NearIsNearBoth, AllNearIsAllNearBoth}
+use Rattle.call_model.specs.InTheCall.{PacketsAreAnswered, MayHappenInBoth, AllNearIsAllNearBoth}
 use Rattle.call_model.specs.Lawful.{IsCoding, IsRules, IsPace}
 use Rattle.call_model.proofs.Capturing.{all_sound}
 use Rattle.call_model.proofs.TwoStores.{ends_of, follows, near_both}
@@ -24,31 +24,31 @@ module _ {Frame Style Mb Picture Fault MessageFault : Type 0} (coding : Coding F
       let same : slice_get (packets_of coding.encoding rules c.coded n) j ≡ Some bytes = subst (λ (w : Joined Style Mb Picture). slice_get (packets_of coding.encoding rules w.sender.coded n) j ≡ Some bytes) f.ends packet in
       answers_at coding.decoding rules lawful.decodes ruled (encoded coding rules pace frames) (packets_of coding.encoding rules) (length frames) c _ n j bytes at now (all_sound coding rules lawful ruled pace frames range (Deliver n j ∷ past)).0 same
 
-  both_near : (frames : List Frame) (c : Call Style Mb Picture) (ts : List (TakenSlice Style Mb)) (e : Event) → IsNearBoth coding rules frames (ends_of coding rules c ts) e → IsNear rules (length frames) c e
+  both_near : (frames : List Frame) (c : Call Style Mb Picture) (ts : List (TakenSlice Style Mb)) (e : Event) → MayHappenBoth coding rules frames (ends_of coding rules c ts) e → MayHappen rules (length frames) c e
   both_near frames c ts Send near = near
   both_near frames c ts (Deliver n j) near = near
   both_near frames c ts Play near = near
   both_near frames c ts (Back k) near = go (slice_get c.said k) refl (sym (slice_get-map (told_of coding.encoding.write_message rules) c.said k) ∙ near.1)
     where
-      go : (o : Option Note) → slice_get c.said k ≡ o → option_map (told_of coding.encoding.write_message rules) o ≡ Some near.0 → IsNear rules (length frames) c (Back k)
+      go : (o : Option NumberedMessage) → slice_get c.said k ≡ o → option_map (told_of coding.encoding.write_message rules) o ≡ Some near.0 → MayHappen rules (length frames) c (Back k)
       go None at e = cc
       go (Some note) at e =
           let same : told_of coding.encoding.write_message rules note ≡ near.0 = cc in
-          (note, at, subst (λ (t : Told). length c.coded < t.about + rules.half) (sym same) near.2)
+          (note, at, subst (λ (t : SaidMessage). length c.coded < t.about + rules.half) (sym same) near.2)
 
-  pub near_is_near_both : NearIsNearBoth coding rules
+  pub near_is_near_both : MayHappenInBoth coding rules
   near_is_near_both pace frames past e range near =
       let f = follows coding rules lawful ruled pace frames range past near in
       let c = ideal coding rules pace frames past in (
-        λ now. subst (λ (w : Joined Style Mb Picture). IsNearBoth coding rules frames w e) (sym f.ends) (near_both coding rules lawful ruled pace frames c f.taken e now),
-        λ now. both_near frames c f.taken e (subst (λ (w : Joined Style Mb Picture). IsNearBoth coding rules frames w e) f.ends now),
+        λ now. subst (λ (w : Joined Style Mb Picture). MayHappenBoth coding rules frames w e) (sym f.ends) (near_both coding rules lawful ruled pace frames c f.taken e now),
+        λ now. both_near frames c f.taken e (subst (λ (w : Joined Style Mb Picture). MayHappenBoth coding rules frames w e) f.ends now),
       )
 
-  forth : (pace : List ℕ → ℕ) (frames : List Frame) (past : List Event) → IsPace pace → AllNear coding rules pace frames past → AllNearBoth coding rules (new_receiver coding rules) pace frames past
+  forth : (pace : List ℕ → ℕ) (frames : List Frame) (past : List Event) → IsPace pace → AllMayHappen coding rules pace frames past → AllMayHappenBoth coding rules (new_receiver coding rules) pace frames past
   forth pace frames [] range near = near
   forth pace frames (e ∷ past) range near = ((near_is_near_both pace frames past e range near.1).0 near.0, forth pace frames past range near.1)
 
-  back : (pace : List ℕ → ℕ) (frames : List Frame) (past : List Event) → IsPace pace → AllNearBoth coding rules (new_receiver coding rules) pace frames past → AllNear coding rules pace frames past
+  back : (pace : List ℕ → ℕ) (frames : List Frame) (past : List Event) → IsPace pace → AllMayHappenBoth coding rules (new_receiver coding rules) pace frames past → AllMayHappen coding rules pace frames past
   back pace frames [] range near = near
   back pace frames (e ∷ past) range near =
       let before = back pace frames past range near.1 in

@@ -4,7 +4,7 @@ use Rattle.std.specs.Prelude.{◌≡◌, ◌↔◌, ◌⊎◌, ℕ, ◌+◌, ◌
 use Rattle.std.specs.Option.{option_map}
 use Rattle.call_model.specs.Coding.{Rules, Mark, Exact, Coding, Shown}
 use Rattle.call_model.specs.CodedPictures.{Coded, depth_at, picture_at}
-use Rattle.call_model.specs.IdealCall.{Event, Send, Deliver, Play, Note, Call, has_arrived, slices_at, is_full, ideal, AllNear}
+use Rattle.call_model.specs.IdealCall.{Event, Send, Deliver, Play, NumberedMessage, Call, has_arrived, slices_at, is_full, ideal, AllMayHappen}
 
 -- how many pictures were sent
 abbrev pub sent_before : List Event → ℕ
@@ -43,7 +43,7 @@ module _ {Frame Style Mb Picture Fault MessageFault : Type 0}
   IsFull past n = is_full (call_after past).coded (call_after past).arrivals n ≡ true
 
   -- the messages, oldest first
-  abbrev pub said : List Event → List Note
+  abbrev pub said : List Event → List NumberedMessage
   said past = (call_after past).said
 
   -- the pictures that the sender knows to be full
@@ -85,7 +85,7 @@ module _ {Frame Style Mb Picture Fault MessageFault : Type 0}
   -- the pictures that the call has sent and played are the events that did so
   abbrev pub CountsAreThose : Type 0
   CountsAreThose = (past : List Event) →
-      (AllNear coding rules pace frames past → length (call_after past).coded ≡ sent_before past)
+      (AllMayHappen coding rules pace frames past → length (call_after past).coded ≡ sent_before past)
       × ((call_after past).played ≡ played_before past)
 
   -- what has arrived is what was delivered in time

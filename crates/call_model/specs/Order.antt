@@ -27,7 +27,7 @@ abbrev pub SameOrApart : {Mb : Type 0} → Slice Mb → Slice Mb → Type 0
 SameOrApart a b = (a ≡ b) ⊎ ((k : ℕ) → has_mb a k ≡ true → has_mb b k ≡ true → ⊥)
 
 module _ {Style Mb Picture Fault : Type 0} (decoding : Decoding Style Mb Picture Fault) (rules : Rules) where
-  -- the number of the picture that a packet is of, where it comes after so many plays, has no fault
+  -- the number of a packet's picture, where the packet comes after this many plays, has no fault
   -- and is of the call's picture clock
   unfoldable pub number_at : ℕ → List ℕ → Option ℕ
   number_at played bytes = option_map_or

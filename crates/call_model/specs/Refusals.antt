@@ -2,8 +2,8 @@
 use Rattle.std.specs.Prelude.{◌≡◌, ◌↔◌, ℕ, ◌+◌, Bool, true, ◌&&◌, not, nat_le, is_some, List, [], ◌∷◌, length, map, slice_get, Option, Some, None, if◌then◌else◌}
 use Rattle.std.specs.Option.{option_map_or}
 use Rattle.call_model.specs.Coding.{Rules, Pictures, Coding}
-use Rattle.call_model.specs.IdealCall.{Event, Send, Deliver, Play, Back, about, Call, Source, IsNear, start, after, AllNearFrom}
-use Rattle.call_model.specs.JoinedRun.{Told, Joined, IsNearBoth}
+use Rattle.call_model.specs.IdealCall.{Event, Send, Deliver, Play, Back, about, Call, Source, MayHappen, start, after, AllMayHappenFrom}
+use Rattle.call_model.specs.JoinedRun.{SaidMessage, Joined, MayHappenBoth}
 
 pub data Refusal : Type 0 where
   -- the picture was not sent, the message was not said
@@ -18,8 +18,8 @@ pub data Refusal : Type 0 where
   -- no picture is left to be sent
   NoFrame : Refusal
 
--- The first refusal of an event, where so many pictures are there to be sent, so many were sent and
--- played, and the messages were about these.
+-- The first refusal of an event, where there are this many pictures to be sent, this many were sent
+-- and this many played, and the messages were about these.
 unfoldable pub first_refusal : Rules → (pictures sent played : ℕ) → List ℕ → Event → Option Refusal
 first_refusal rules pictures sent played abouts Send =
     if nat_le (played + rules.half) sent then Some (Far sent played)
@@ -38,18 +38,18 @@ abbrev pub refusal_in : {Style Mb Picture : Type 0} → Rules → ℕ → Call S
 refusal_in rules pictures c e = first_refusal rules pictures (length c.coded) c.played (map about c.said) e
 
 -- an event is refused by no refusal exactly where it is in place and near
-abbrev pub NoneWhereNear : Rules → Type 0 → Type 0 → Type 0 → Type 0
-NoneWhereNear rules Style Mb Picture = (pictures : ℕ) (c : Call Style Mb Picture) (e : Event) →
-    (refusal_in rules pictures c e ≡ None) ↔ IsNear rules pictures c e
+abbrev pub NoneWhereItMayHappen : Rules → Type 0 → Type 0 → Type 0 → Type 0
+NoneWhereItMayHappen rules Style Mb Picture = (pictures : ℕ) (c : Call Style Mb Picture) (e : Event) →
+    (refusal_in rules pictures c e ≡ None) ↔ MayHappen rules pictures c e
 
 -- so it is by what both ends have done
-abbrev pub NoneWhereNearBoth : {Frame Style Mb Picture Fault MessageFault : Type 0}
+abbrev pub NoneWhereItMayHappenBoth : {Frame Style Mb Picture Fault MessageFault : Type 0}
     → Coding Frame Style Mb Picture Fault MessageFault → Rules → Type 0
-NoneWhereNearBoth {Frame} {Style} {Mb} {Picture} {Fault} {MessageFault} coding rules =
+NoneWhereItMayHappenBoth {Frame} {Style} {Mb} {Picture} {Fault} {MessageFault} coding rules =
     (frames : List Frame) (both : Joined Style Mb Picture) (e : Event) →
     (first_refusal rules (length frames) (length both.sender.coded) both.receiver.played
-    (map (λ (told : Told). told.about) both.said) e ≡ None)
-    ↔ IsNearBoth coding rules frames both e
+    (map (λ (told : SaidMessage). told.about) both.said) e ≡ None)
+    ↔ MayHappenBoth coding rules frames both e
 
 -- a call, and whether none of its events was refused
 pub record Checked (Style Mb Picture : Type 0) : Type 0 where
@@ -72,4 +72,4 @@ module _ {Style Mb Picture : Type 0} (pictures : Pictures Style Mb Picture)
   -- none of the events was refused exactly where each is near
   abbrev pub PassedWhereNear : Type 0
   PassedWhereNear = (past : List Event)
-      → ((checked_call past).passed ≡ true) ↔ AllNearFrom pictures rules source count past
+      → ((checked_call past).passed ≡ true) ↔ AllMayHappenFrom pictures rules source count past

@@ -3,7 +3,7 @@ use Rattle.std.specs.Prelude.{◌≡◌, ℕ, ◌+◌, ◌%◌, ◌<◌, ◌≤�
 use Rattle.std.specs.Option.{option_map_or}
 use Rattle.call_model.specs.Coding.{Rules, window, period, Slice, Ack, Message, Pictures, Decoding, Coding, reconstruction_of_slices}
 use Rattle.call_model.specs.CodedPictures.{Coded, picture_at, is_among}
-use Rattle.call_model.specs.IdealCall.{Event, Send, Deliver, Play, Back, Note, about, told_full, Call, Source, IsNear, AllNearFrom, encoded, shown_at, shown_last, has_arrived, is_full, newest_full, full_flags, with_arrival, call_from}
+use Rattle.call_model.specs.IdealCall.{Event, Send, Deliver, Play, Back, NumberedMessage, about, told_full, Call, Source, MayHappen, AllMayHappenFrom, encoded, shown_at, shown_last, has_arrived, is_full, newest_full, full_flags, with_arrival, call_from}
 use Rattle.call_model.specs.Sending.{header_of, packets_of, message_flags, made_known}
 use Rattle.call_model.specs.Receiving.{ReceiverRun, Heard, Refused, OtherClock, Late, Early, HeaderDiffers, MissingReference, Repeat, Overlap, Completed, Taken, nack, heard, played_shown, played_message, after_packet, after_play, receiver_run}
 use Rattle.call_model.specs.Lawful.{Covers, IsInPeriod, IsPace}
@@ -85,20 +85,20 @@ module _ {Style Mb Picture Fault : Type 0} (decoding : Decoding Style Mb Picture
     abbrev pub AnswersAsTheCall : ℕ → List Event → Type 0
     AnswersAsTheCall count past = (n j : ℕ) (bytes : List ℕ) →
         let c = call_from decoding.pictures rules source past in
-        IsNear rules count c (Deliver n j) → IsSoundEvent c (Deliver n j) → slice_get (packets c.coded n) j ≡ Some bytes
+        MayHappen rules count c (Deliver n j) → IsSoundEvent c (Deliver n j) → slice_get (packets c.coded n) j ≡ Some bytes
         → heard decoding rules (received past) (decoding.read bytes) ≡ delivery_answer rules c n j
 
     -- and each play shows what the call shows, and says what it says
     abbrev pub PlaysAsTheCall : ℕ → List Event → Type 0
     PlaysAsTheCall count past =
         let c = call_from decoding.pictures rules source past in
-        IsNear rules count c Play
+        MayHappen rules count c Play
         → (played_shown decoding rules (received past) ≡ shown_at decoding.pictures c.coded c.arrivals c.plays c.played)
         × (played_message decoding rules (received past) ≡ play_message rules c)
 
   -- A message that was said has temporal references and flags as it travels, and is read as it was
   -- meant: where it is brought back in time, it makes known what it tells to be full.
-  pub record IsUnderstood (c : Call Style Mb Picture) (note : Note) : Type 0 where
+  pub record IsUnderstood (c : Call Style Mb Picture) (note : NumberedMessage) : Type 0 where
     pub in_period : IsInPeriod rules (travelling rules note)
     pub flags : length (message_flags (travelling rules note)) ≡ rules.flags
     pub known : length c.coded < about note + rules.half
@@ -111,13 +111,13 @@ module _ {Style Mb Picture Fault : Type 0} (decoding : Decoding Style Mb Picture
     pub state : ReceiverIsAt (call_from decoding.pictures rules source past) (received source packets past)
     pub answers : AnswersAsTheCall source packets count past
     pub plays : PlaysAsTheCall source packets count past
-    pub messages : (k : ℕ) (note : Note) → slice_get (call_from decoding.pictures rules source past).said k ≡ Some note
+    pub messages : (k : ℕ) (note : NumberedMessage) → slice_get (call_from decoding.pictures rules source past).said k ≡ Some note
         → IsUnderstood (call_from decoding.pictures rules source past) note
 
   abbrev pub AnySoundSender : Type 0
   AnySoundSender = (source : Source Style Mb Picture)
       (packets : Packets Style Mb Picture) (count : ℕ) (past : List Event) →
-      AllNearFrom decoding.pictures rules source count past
+      AllMayHappenFrom decoding.pictures rules source count past
       → AllSound source packets past → FollowsTheCall source packets count past
 
 -- the answer refuses the packet

@@ -2,18 +2,18 @@
 use Rattle.std.specs.Prelude.{◌≡◌, ℕ, ◌+◌, ◌%◌, ◌<◌, ◌≤◌, ⊤, true, List, [], ◌∷◌, length, map, slice_get, Some}
 use Rattle.call_model.specs.Coding.{Rules, window, period, Message, Ack, Decoding, Coding}
 use Rattle.call_model.specs.CodedPictures.{Coded, is_among}
-use Rattle.call_model.specs.IdealCall.{Note, Got, Lost, about, Arrival, Call, is_full}
+use Rattle.call_model.specs.IdealCall.{NumberedMessage, Got, Lost, about, Arrival, Call, is_full}
 use Rattle.call_model.specs.Sending.{header_of}
 use Rattle.call_model.specs.Receiving.{TakenSlice, is_complete, decoded, nack}
-use Rattle.call_model.specs.JoinedRun.{Told, Joined}
+use Rattle.call_model.specs.JoinedRun.{SaidMessage, Joined}
 
 -- the message as it travels
-abbrev pub travelling : Rules → Note → Message
+abbrev pub travelling : Rules → NumberedMessage → Message
 travelling rules (Got n flags) = Ack (n % period rules) flags
 travelling rules (Lost n offered flags) = nack rules n offered flags
 
 -- the message with its bytes, where messages are so written
-abbrev pub told_of : (Message → List ℕ) → Rules → Note → Told
+abbrev pub told_of : (Message → List ℕ) → Rules → NumberedMessage → SaidMessage
 told_of write rules note = record { about = about note; bytes = write (travelling rules note) }
 
 -- The two ends have done what the ideal call says: the sender's pictures with their references, the

@@ -10,7 +10,7 @@ use Rattle.call_model.specs.Refusals.{checked_call}
 use Rattle.call_model.specs.Lawful.{IsRules, IsPace}
 use Rattle.call_model.specs.TwoStores.{Agree}
 use Rattle.call_model.specs.Receiving.{Heard, heard, ReceiverEntry, Packet, PlayNext, receiver_run}
-use Rattle.call_model.specs.JoinedRun.{Told, Joined, joined, new_receiver}
+use Rattle.call_model.specs.JoinedRun.{SaidMessage, Joined, joined, new_receiver}
 use Rattle.call_model.specs.SmallCoding.{Two, SmallStyle, SmallMb, Value, SmallFault, option_word, small_packet, small_read, small_message, small_read_message, small_pictures, small_decoding, small_encoding, small}
 
 -- the pace, the frames and the events of a call, the oldest first
@@ -83,8 +83,8 @@ abbrev pub pictures : List (Shown Two) → List Two
 pictures shown = map (λ (x : Shown Two). x.picture) (reverse shown)
 
 -- the bytes of messages
-abbrev pub bytes_of : List Told → List (List ℕ)
-bytes_of said = map (λ (told : Told). told.bytes) said
+abbrev pub bytes_of : List SaidMessage → List (List ℕ)
+bytes_of said = map (λ (told : SaidMessage). told.bytes) said
 
 -- the receiver's answers to the deliveries among these events, both with the newest first
 abbrev pub heard_in : Rules → (List ℕ → ℕ) → List Two → List Event → List (Heard SmallFault)
@@ -104,17 +104,17 @@ answers scene = reverse (heard_in scene.rules scene.pace scene.frames (reverse s
 abbrev pub whole : ℕ → List Event
 whole n = Deliver n 0 ∷ Deliver n 1 ∷ []
 
--- so many pictures are sent and played, and nothing of them arrives
+-- this many pictures are sent and played, and nothing of them arrives
 abbrev pub lost : ℕ → List Event
 lost zero = []
 lost (suc count) = Send ∷ Play ∷ lost count
 
--- so many pictures, from n on, are sent, arrive and are played
+-- this many pictures, from n on, are sent, arrive and are played
 abbrev pub seen : ℕ → ℕ → List Event
 seen n zero = []
 seen n (suc count) = Send ∷ whole n ++ Play ∷ seen (n + 1) count
 
--- so many pictures, from n on, are sent, arrive, are acknowledged by message n and its followers,
+-- this many pictures, from n on, are sent, arrive, are acknowledged by message n and its followers,
 -- and are played
 abbrev pub acknowledged : ℕ → ℕ → List Event
 acknowledged n zero = []
@@ -202,7 +202,7 @@ newer_offer_scene = record {
 }
 
 -- Three pictures are sent, 1 and 0 arrive, and the ACK of picture 0 comes back alone. Picture 3 is
--- sent, and arrives. Messages have so many flags.
+-- sent, and arrives. Messages have this many flags.
 abbrev pub flags_scene : ℕ → Scene
 flags_scene flags = record {
   rules = record { slots = 6; lead = 2; half = 128; chain = 131; mbs = 2; flags = flags };
@@ -211,7 +211,7 @@ flags_scene flags = record {
   events = Send ∷ Send ∷ Send ∷ whole 1 ++ whole 0 ++ Back 1 ∷ Send ∷ Play ∷ whole 3 ++ Play ∷ Play ∷ Play ∷ [];
 }
 
--- so many flags, none of them set, or the first alone
+-- this many flags, none of them set, or the first alone
 abbrev pub no_flags : ℕ → List Bool
 no_flags count = replicate count false
 
@@ -257,7 +257,7 @@ ScenesAreLawful =
     × IsScene (flags_scene 14) × IsScene (flags_scene 0)
     × IsScene wide_window_scene × IsScene wide_late_scene × IsScene paced_scene
 
--- a sender that captured so many pictures and then got these messages, the newest first
+-- a sender that captured this many pictures and then got these messages, the newest first
 abbrev pub sender_after : ℕ → List Message → SenderRun SmallStyle SmallMb Two
 sender_after count messages =
     sender_run small_pictures small_encoding (rules_of 4 1) steady

@@ -34,8 +34,8 @@ impl Line {
         self.text.as_str().as_bytes()
     }
 
-    /// Appends a word and its number, each behind a space; the line's first word stands at its
-    /// front.
+    /// Appends a word and its number, each after a space; the line's first word stands at its
+    /// start.
     pub fn pair(&mut self, word: &str, number: u64)
         requires { HasRoom (text_of self.old) word.now number }
         ensures value { text_of self.new ≡ with_pair (text_of self.old) word.now number }

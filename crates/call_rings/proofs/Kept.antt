@@ -21,7 +21,7 @@ abbrev pub Each : (period room most : ℕ) (bytes counts cuts : List ℕ) → Pi
 Each period room most bytes counts cuts pictures =
     (n : ℕ) → n < length pictures → length pictures ≤ n + period → IsPart room most bytes counts cuts (n % period) (get_or pictures n [])
 
--- what stands of the block, of whose parts so many were begun
+-- what stands of the block, of whose parts this many were begun
 pub record IsBlock (period room most begun : ℕ) (bytes counts cuts : List ℕ) : Type 0 where
   pub some : 0 < period
   pub grown : (s : ℕ) → s < period → s < begun → (s + 1) * room ≤ length bytes

@@ -61,7 +61,7 @@ part_elsewhere room most old new counts cuts slot other c j e packets ne low byt
   same = sym (take-take (size_of packets) room (drop (slot * room) new) p.small) ∙ ap (take (size_of packets)) bytes ∙ take-take (size_of packets) room (drop (slot * room) old) p.small ∙ p.same;
 }
 
--- the block has grown behind a part
+-- the block has grown after a part
 pub window_grown : (room : ℕ) (old more : List ℕ) (slot : ℕ) → slot * room + room ≤ length old → window room (old ++ more) slot ≡ window room old slot
 window_grown room old more slot within =
     let long : room ≤ length (drop (slot * room) old) = omega (arith, length-drop (slot * room) old) in

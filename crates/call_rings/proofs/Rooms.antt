@@ -5,7 +5,7 @@ use Rattle.std.specs.List.{concat}
 use Rattle.std.proofs.lemmas.List.{length-append, take_at, drop_at, take_more}
 use Rattle.std.proofs.lemmas.List.Elements.{All-head, All-tail, All-take, All-drop}
 use Rattle.h263_types.specs.declared.blocks.Mb.{Mb}
-use Rattle.h263_types.specs.Blocks.{IsWhole}
+use Rattle.h263_types.specs.Blocks.{HasWholeBlocks}
 use Rattle.picture_header.specs.declared.header.Header.{Header}
 use Rattle.picture_header.specs.Ranges.{IsHeader}
 use Rattle.picture_header.specs.Laws.{IsShort}
@@ -26,12 +26,12 @@ pub record Lengths : Type 0 where
   pub mbs : MbsAreShort
   pub packets : (number sequence : ℕ) (marker : Bool) (h : Header) (first : ℕ) (run : List Mb) → length (packet_of number sequence marker h first run) ≡ packet_bytes h first run
 
-mbs_short : MbsAreShort → (a : Around) (quant : ℕ) (before mbs : List Mb) → All IsWhole mbs → length (mbs_text a quant before mbs) ≤ 8492 * length mbs
+mbs_short : MbsAreShort → (a : Around) (quant : ℕ) (before mbs : List Mb) → All HasWholeBlocks mbs → length (mbs_text a quant before mbs) ≤ 8492 * length mbs
 unfolding mbs_text
 mbs_short short a quant before [] whole = omega arith
 mbs_short short a quant before (m ∷ mbs) whole =
-    let rest = mbs_short short a (quant_after quant m) (before ++ m ∷ []) mbs (All-tail IsWhole m mbs whole) in
-    let one = short a.kind quant (a.predictor before) m (All-head IsWhole m mbs whole) in
+    let rest = mbs_short short a (quant_after quant m) (before ++ m ∷ []) mbs (All-tail HasWholeBlocks m mbs whole) in
+    let one = short a.kind quant (a.predictor before) m (All-head HasWholeBlocks m mbs whole) in
     omega (arith, rest, one, length-append {A = Bool})
 
 front_short : ((h : Header) → IsHeader h → IsShort h) → (h : Header) (first : ℕ) → IsHeader h → front_bytes h first ≤ 46
@@ -44,7 +44,7 @@ front_short short h first is = at (begins_at first)
 bytes_short : (text : List Bool) (n : ℕ) → length text ≤ 262 + 8492 * n → 0 < n → 46 + bytes_of text ≤ 1200 * n
 bytes_short text n few some = omega arith
 
-packet_short : Lengths → (h : Header) (first : ℕ) (run : List Mb) → IsHeader h → All IsWhole run → 0 < length run → packet_bytes h first run ≤ 1200 * length run
+packet_short : Lengths → (h : Header) (first : ℕ) (run : List Mb) → IsHeader h → All HasWholeBlocks run → 0 < length run → packet_bytes h first run ≤ 1200 * length run
 packet_short lengths h first run is whole some =
     let opening = lengths.slices.opening h (begins_at first) first is in
     let mbs = mbs_short lengths.mbs (around h first) h.quant [] run whole in
@@ -57,14 +57,14 @@ pub record TakeRoom (mbs : List Mb) (packets : List (List ℕ)) : Type 0 where
   pub bytes : size_of packets ≤ 1200 * length mbs
   pub count : length packets ≤ length mbs
 
-pub cut_room : Lengths → (number sequence : ℕ) (h : Header) (limit first : ℕ) (mbs : List Mb) (runs : List (List Mb)) (packets : List (List ℕ)) → IsHeader h → All IsWhole mbs
+pub cut_room : Lengths → (number sequence : ℕ) (h : Header) (limit first : ℕ) (mbs : List Mb) (runs : List (List Mb)) (packets : List (List ℕ)) → IsHeader h → All HasWholeBlocks mbs
     → IsCut h limit first mbs runs → ArePackets number sequence h first runs packets → TakeRoom mbs packets
 unfolding IsCut ArePackets
 cut_room lengths number sequence h limit first mbs [] packets is whole cut are = record { bytes = omega (arith, ap size_of are); count = omega (arith, ap length are) }
 cut_room lengths number sequence h limit first mbs (run ∷ runs) packets is whole (rest, parts, longest, cut) (packet, others, packets_are, packet_is, are) =
-    let all : All IsWhole (run ++ rest) = subst (All IsWhole) parts whole in
-    let here : All IsWhole run = subst (All IsWhole) (take_at run rest (length run) refl) (All-take IsWhole (length run) (run ++ rest) all) in
-    let behind : All IsWhole rest = subst (All IsWhole) (drop_at run rest (length run) refl) (All-drop IsWhole (length run) (run ++ rest) all) in
+    let all : All HasWholeBlocks (run ++ rest) = subst (All HasWholeBlocks) parts whole in
+    let here : All HasWholeBlocks run = subst (All HasWholeBlocks) (take_at run rest (length run) refl) (All-take HasWholeBlocks (length run) (run ++ rest) all) in
+    let behind : All HasWholeBlocks rest = subst (All HasWholeBlocks) (drop_at run rest (length run) refl) (All-drop HasWholeBlocks (length run) (run ++ rest) all) in
     let next = cut_room lengths number (sequence + 1) h limit (first + length run) rest runs others is behind cut are in
     let one : length packet ≤ 1200 * length run =
     omega (arith, ap length packet_is, lengths.packets number sequence (is_last runs) h first run, packet_short lengths h first run is here longest.some) in

@@ -27,12 +27,12 @@ HasPackets ring n packets =
     IsPart ring.room ring.most ring.bytes.items ring.counts.items ring.cuts.items (n % ring.period) packets
 
 -- these are the pictures so far, and the ring has the packets of the last ones
-pub record Keeps (ring : PacketRing) (pictures : Pictures) : Type 0 where
+pub record HoldsPackets (ring : PacketRing) (pictures : Pictures) : Type 0 where
   pub begun : ring.begun ≡ length pictures
   pub each : (n : ℕ) → n < length pictures → length pictures ≤ n + ring.period
       → HasPackets ring n (slice_index_or pictures n [])
 
--- of so many pictures, number n is among the last ones
+-- of this many pictures, number n is among the last ones
 abbrev pub is_among_last : ℕ → ℕ → ℕ → Bool
 is_among_last period count n = nat_lt n count && nat_le count (n + period)
 
@@ -51,7 +51,7 @@ newest_count ring = slice_index ring.counts.items (newest_slot ring)
 abbrev pub newest_size : PacketRing → ℕ
 newest_size ring = slice_index ring.cuts.items (newest_slot ring * (ring.most + 1) + newest_count ring)
 
--- a picture was begun, and has room for one more packet, of so many bytes
+-- a picture was begun, and has room for one more packet, of this many bytes
 pub record HasRoom (ring : PacketRing) (size : ℕ) : Type 0 where
   pub begun : 0 < ring.begun
   pub few : newest_count ring < ring.most

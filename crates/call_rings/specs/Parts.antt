@@ -6,9 +6,9 @@ use Rattle.std.specs.List.{concat}
 abbrev pub size_of : List (List ℕ) → ℕ
 size_of packets = length (concat packets)
 
--- Part `slot` of the block holds these packets, one behind the other from its first byte on. A part
+-- Part `slot` of the block holds these packets, one after the other from its first byte on. A part
 -- has `room` bytes and at most `most` packets. `counts` tells how many packets each part has, and
--- `cuts` how many bytes of the part lie before each of them, and behind the last one how many they
+-- `cuts` how many bytes of the part lie before each of them, and after the last one how many they
 -- are together.
 pub record IsPart (room most : ℕ) (bytes counts cuts : List ℕ) (slot : ℕ) (packets : List (List ℕ)) : Type 0 where
   pub few : length packets ≤ most

@@ -3,13 +3,13 @@
 ghost use Rattle.std.specs.Prelude.{ℕ, ◌+◌, ◌*◌, ◌<◌, ◌≤◌, List, [], ◌∷◌, ◌++◌};
 ghost use Rattle.std.specs.Prelude.{length, take, slice_index_or, All};
 ghost use Rattle.h263_types.specs.declared.blocks.Mb.{Mb};
-ghost use Rattle.h263_types.specs.Blocks.{IsWhole};
+ghost use Rattle.h263_types.specs.Blocks.{HasWholeBlocks};
 ghost use Rattle.picture_header.specs.declared.header.Header.{Header};
 ghost use Rattle.picture_header.specs.Ranges.{IsHeader};
 ghost use Rattle.packet_cutter.specs.Packets.{ArePacketsOf};
 ghost use Rattle.call_rings.specs.declared.packets.PacketRing.{PacketRing};
 ghost use Rattle.call_rings.specs.Parts.{size_of};
-ghost use Rattle.call_rings.specs.Keeping.{Pictures, room_of, most_of, Keeps, HasRoom};
+ghost use Rattle.call_rings.specs.Keeping.{Pictures, room_of, most_of, HoldsPackets, HasRoom};
 
 use packet_cutter::laws::packet_is_text;
 
@@ -18,7 +18,7 @@ use packet_cutter::laws::packet_is_text;
 pub fn has_room()
     ensures { (ring : PacketRing) (before : Pictures) (packets : List (List ℕ))
         (size : ℕ)
-        → Keeps ring (before ++ packets ∷ []) → length packets < most_of ring
+        → HoldsPackets ring (before ++ packets ∷ []) → length packets < most_of ring
         → size_of packets + size ≤ room_of ring → HasRoom ring size }
 {}
 
@@ -27,11 +27,11 @@ pub fn has_room()
 pub fn room_of_a_picture()
     ensures bytes { (number sequence : ℕ) (h : Header) (limit : ℕ) (mbs : List Mb)
         (packets : List (List ℕ))
-        → IsHeader h → All IsWhole mbs → ArePacketsOf number sequence h limit mbs packets
+        → IsHeader h → All HasWholeBlocks mbs → ArePacketsOf number sequence h limit mbs packets
         → size_of packets ≤ 1200 * length mbs }
     ensures count { (number sequence : ℕ) (h : Header) (limit : ℕ) (mbs : List Mb)
         (packets : List (List ℕ))
-        → IsHeader h → All IsWhole mbs → ArePacketsOf number sequence h limit mbs packets
+        → IsHeader h → All HasWholeBlocks mbs → ArePacketsOf number sequence h limit mbs packets
         → length packets ≤ length mbs }
 {
     picture_header::laws::longest_text();

@@ -33,9 +33,9 @@ pub struct PacketRing {
 
 impl PacketRing {
     ghost use Rattle.call_rings.specs.Keeping.{Pictures, period_of, room_of, most_of, begun_of};
-    ghost use Rattle.call_rings.specs.Keeping.{Keeps, kept_of, is_among_last, HasRoom, HasSizes};
+    ghost use Rattle.call_rings.specs.Keeping.{HoldsPackets, kept_of, is_among_last, HasRoom, HasSizes};
 
-    /// A ring for so many `pictures`, none begun yet, with room for `most` packets of each, of
+    /// A ring for `pictures` pictures, none begun yet, with room for `most` packets of each, of
     /// `room` bytes together.
     pub fn start(
         alloc: Global,
@@ -46,7 +46,7 @@ impl PacketRing {
         requires some { 1 ≤ pictures }
         requires bytes { pictures * room < 2 ^ 63 }
         requires packets { pictures * (most + 1) < 2 ^ 60 }
-        ensures none { IfOk result (λ ring. Keeps ring []) }
+        ensures none { IfOk result (λ ring. HoldsPackets ring []) }
         ensures sizes { IfOk result (λ ring. HasSizes ring pictures room most) }
         ensures begun { IfOk result (λ ring. begun_of ring ≡ 0) }
     {
@@ -67,8 +67,8 @@ impl PacketRing {
     /// Begins the next picture, which has no packet yet.
     pub fn begin(&mut self)
         requires { begun_of self.old + 1 < 2 ^ 32 }
-        ensures begins { (pictures : Pictures) → Keeps self.old pictures
-            → Keeps self.new (pictures ++ [] ∷ []) }
+        ensures begins { (pictures : Pictures) → HoldsPackets self.old pictures
+            → HoldsPackets self.new (pictures ++ [] ∷ []) }
         ensures sizes { let ring = self.old in
             HasSizes self.new (period_of ring) (room_of ring) (most_of ring) }
         ensures begun { begun_of self.new ≡ begun_of self.old + 1 }
@@ -84,8 +84,8 @@ impl PacketRing {
     pub fn push(&mut self, packet: &[u8])
         requires { HasRoom self.old (length packet.now) }
         ensures pushes { (before : Pictures) (packets : List (List ℕ))
-            → Keeps self.old (before ++ packets ∷ [])
-            → Keeps self.new (before ++ (packets ++ packet.now ∷ []) ∷ []) }
+            → HoldsPackets self.old (before ++ packets ∷ [])
+            → HoldsPackets self.new (before ++ (packets ++ packet.now ∷ []) ∷ []) }
         ensures sizes { let ring = self.old in
             HasSizes self.new (period_of ring) (room_of ring) (most_of ring) }
         ensures begun { begun_of self.new ≡ begun_of self.old }
@@ -101,7 +101,7 @@ impl PacketRing {
 
     /// How many packets there are of picture `n`: none where it isn't among the last ones.
     pub fn count(&self, n: u32) -> u32
-        ensures packets { (pictures : Pictures) → Keeps self.now pictures
+        ensures packets { (pictures : Pictures) → HoldsPackets self.now pictures
             → result ≡ length (kept_of (period_of self.now) pictures n) }
         ensures few { result ≤ most_of self.now }
     {
@@ -114,7 +114,7 @@ impl PacketRing {
 
     /// Packet `i` of picture `n`.
     pub fn packet(&self, n: u32, i: u32) -> Option<&[u8]>
-        ensures { (pictures : Pictures) → Keeps self.now pictures
+        ensures { (pictures : Pictures) → HoldsPackets self.now pictures
             → option_map (λ packet. packet.now) result
             ≡ slice_get (kept_of (period_of self.now) pictures n) i }
     {
@@ -137,7 +137,7 @@ impl PacketRing {
     }
 }
 
-// At least so many bytes, the new ones zero.
+// At least this many bytes, the new ones zero.
 fn grow(bytes: &mut Vec<u8>, end: usize)
     requires { end ≤ vec_capacity bytes.old }
     ensures bytes { let before = bytes.old.items in

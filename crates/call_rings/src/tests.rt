@@ -1,6 +1,6 @@
 //! Rings that wrap.
 use super::*;
-use back_messages::Said;
+use back_messages::MessageBytes;
 use h263_outside::OutOfMemory;
 use std::alloc::Global;
 use std::test::Fail;
@@ -46,7 +46,7 @@ fn oldest_message_gives_way(rt: HostRuntime) -> Result<(), Fail> {
 
 // Two messages more than are kept.
 fn many_messages(alloc: Global) -> Result<[bool; 5], OutOfMemory> {
-    let said = Said {
+    let said = MessageBytes {
         bytes: [1, 2, 3, 0, 0],
         len: 3,
     };

@@ -12,7 +12,7 @@ use Rattle.h263_bits.specs.Syntax.{IsIn, Spells, reading, any, field, done, begi
 use Rattle.h263_bits.specs.Elements.{IsFieldFault, IsWordOf, IsCutWord, IsNoWord, IsWordFault, Faults}
 use Rattle.h263_bits.proofs.SyntaxLaws.{stands, err_not_ok, sound, complete, one_reading, spells_done, spells_field, spells_code, spells_element, spells_whole, begins_parts, begins_itself, both_begin, fault_found, number-append, number-lt, spelled-number}
 use Rattle.code_tables.specs.Words.{word}
-use Rattle.code_tables.specs.Tables.{Event, Coefficient, level_of, sized, events, from_runs, last_0_texts, last_1_texts, tcoef_words, event_table, event_parts, event, after_word, is_level, signed}
+use Rattle.code_tables.specs.Tables.{Event, Coefficient, level_of, sized, events, from_runs, last_0_texts, last_1_texts, tcoef_words, event_table, event_parts, event, after_word, allowed_level, signed}
 use Rattle.code_tables.specs.EventWords.{escape_text, IsBadEscape, IsEventWord, IsEventFault}
 use Rattle.code_tables.proofs.Productive.{event_productive}
 use Rattle.code_tables.proofs.FaultRows.{in_behind, level_row}
@@ -187,7 +187,7 @@ level_cut last run left lt small few =
         ∙ sym (append_assoc (w ++ (a ++ r)) l (m ++ [])) ∙ ap (λ (x : List Bool). ((w ++ (a ++ x)) ++ l) ++ (m ++ [])) (sym (append-nil r))
 
 -- LEVEL that is refused
-bad_level : (v : ℕ) (kind : FaultKind) → is_level v ≡ Some kind → ((v ≡ 0) ⊎ (v ≡ 128)) × (kind ≡ BadLevel)
+bad_level : (v : ℕ) (kind : FaultKind) → allowed_level v ≡ Some kind → ((v ≡ 0) ⊎ (v ≡ 128)) × (kind ≡ BadLevel)
 bad_level v kind e = at (eqb v 0) (eqb v 128) refl refl e
   where
     at : (a b : Bool) → eqb v 0 ≡ a → eqb v 128 ≡ b → cond a (Some BadLevel) (cond b (Some BadLevel) None) ≡ Some kind → ((v ≡ 0) ⊎ (v ≡ 128)) × (kind ≡ BadLevel)
@@ -218,7 +218,7 @@ fields_fault rest left kind (inl f) = subst (λ (t : List Bool). IsEventFault ((
     at (inr g) = absurd (none_refused kind g.4)
 fields_fault rest left kind (inr a) = subst (λ (t : List Bool). IsEventFault ((word "0000011" ++ t) ++ left) kind) (sym a.4) (behind_last a.0 a.1 a.2 a.5)
   where
-    behind_run : (last run : ℕ) (more : List Bool) → last < 2 → run < 64 → Faults (field 8 is_level λ level. done (escaped last run level)) more left kind → IsEventFault ((word "0000011" ++ (spelled 1 last ++ (spelled 6 run ++ more))) ++ left) kind
+    behind_run : (last run : ℕ) (more : List Bool) → last < 2 → run < 64 → Faults (field 8 allowed_level λ level. done (escaped last run level)) more left kind → IsEventFault ((word "0000011" ++ (spelled 1 last ++ (spelled 6 run ++ more))) ++ left) kind
     behind_run last run more lt small (inl f) = subst (λ (t : List Bool). IsEventFault ((word "0000011" ++ (spelled 1 last ++ (spelled 6 run ++ t))) ++ left) kind) (sym f.0) (at f.1)
       where
         regroup : (w a r v x : List Bool) → (w ++ (a ++ (r ++ []))) ++ (v ++ x) ≡ (w ++ (a ++ (r ++ (v ++ [])))) ++ x
@@ -226,7 +226,7 @@ fields_fault rest left kind (inr a) = subst (λ (t : List Bool). IsEventFault ((
             ap (λ (t : List Bool). (w ++ (a ++ t)) ++ (v ++ x)) (append-nil r) ∙ sym (append_assoc (w ++ (a ++ r)) v x) ∙ ap (λ (t : List Bool). t ++ x) (append_assoc w (a ++ r) v)
             ∙ ap (λ (t : List Bool). (w ++ t) ++ x) (append_assoc a r v) ∙ ap (λ (t : List Bool). (w ++ (a ++ (r ++ t))) ++ x) (sym (append-nil v))
 
-        at : IsFieldFault 8 is_level left kind → IsEventFault ((word "0000011" ++ (spelled 1 last ++ (spelled 6 run ++ []))) ++ left) kind
+        at : IsFieldFault 8 allowed_level left kind → IsEventFault ((word "0000011" ++ (spelled 1 last ++ (spelled 6 run ++ []))) ++ left) kind
         at (inl g) = inl (level_cut last run left lt small g.0, g.1)
         at (inr g) =
             let b = bad_level g.0 kind g.4 in
@@ -235,7 +235,7 @@ fields_fault rest left kind (inr a) = subst (λ (t : List Bool). IsEventFault ((
             inr (inl (record { last = last; run = run; level = g.0; rest = g.1; one = lt; six = small; bad = b.0; parts = whole }, b.1))
     behind_run last run more lt small (inr g) = absurd g.5
 
-    behind_last : (last : ℕ) (more : List Bool) → last < 2 → Faults (field 6 any λ run. field 8 is_level λ level. done (escaped last run level)) more left kind → IsEventFault ((word "0000011" ++ (spelled 1 last ++ more)) ++ left) kind
+    behind_last : (last : ℕ) (more : List Bool) → last < 2 → Faults (field 6 any λ run. field 8 allowed_level λ level. done (escaped last run level)) more left kind → IsEventFault ((word "0000011" ++ (spelled 1 last ++ more)) ++ left) kind
     behind_last last more lt (inl f) = subst (λ (t : List Bool). IsEventFault ((word "0000011" ++ (spelled 1 last ++ t)) ++ left) kind) (sym f.0) (at f.1)
       where
         at : IsFieldFault 6 any left kind → IsEventFault ((word "0000011" ++ (spelled 1 last ++ [])) ++ left) kind
@@ -281,13 +281,13 @@ event_fault b d e =
 -- ---- the way back: what is a fault is found
 
 -- LEVEL that is allowed
-allowed_level : (v : ℕ) → is_level v ≡ None → (v ≡ 0 → ⊥) × (v ≡ 128 → ⊥)
+allowed_level : (v : ℕ) → allowed_level v ≡ None → (v ≡ 0 → ⊥) × (v ≡ 128 → ⊥)
 allowed_level v is = (
-  λ e. let h : is_level 0 ≡ None = subst (λ (k : ℕ). is_level k ≡ None) e is in cc,
-  λ e. let h : is_level 128 ≡ None = subst (λ (k : ℕ). is_level k ≡ None) e is in cc,
+  λ e. let h : allowed_level 0 ≡ None = subst (λ (k : ℕ). allowed_level k ≡ None) e is in cc,
+  λ e. let h : allowed_level 128 ≡ None = subst (λ (k : ℕ). allowed_level k ≡ None) e is in cc,
 )
 
-good_level : (v : ℕ) → (v ≡ 0 → ⊥) → (v ≡ 128 → ⊥) → is_level v ≡ None
+good_level : (v : ℕ) → (v ≡ 0 → ⊥) → (v ≡ 128 → ⊥) → allowed_level v ≡ None
 good_level v zero middle = rw (ne_eqb v 0 zero, ne_eqb v 128 middle) refl
 
 one_bit : (v : ℕ) → spelled 1 v ≡ is_set v 0 ∷ []
@@ -335,7 +335,7 @@ word_spelt w (inr r) =
     (spells_code event_table after_word a (word "0000011") None tail (in_table (word "0000011") None escape_listed)
     (spells_field 1 any _ a r.last (fields ((6, r.run) ∷ (8, r.level) ∷ [])) r.one refl
     (spells_field 6 any _ a r.run (fields ((8, r.level) ∷ [])) r.six refl
-    (spells_field 8 is_level _ a r.level [] r.eight (good_level r.level r.some r.great) (spells_done a)))))
+    (spells_field 8 allowed_level _ a r.level [] r.eight (good_level r.level r.some r.great) (spells_done a)))))
     (sym r.parts)
 
 -- and what is spelled for an event is such a word
@@ -363,9 +363,9 @@ is_word x text h =
     subst (λ (t : List Bool). IsEventWord t) (sym whole) (parts_word h.0 h.1 h.4)
 
 -- a bad escape begins no word, and no word begins it
-refused_level : (v : ℕ) → (v ≡ 0) ⊎ (v ≡ 128) → (v < 256) × (is_level v ≡ Some BadLevel)
-refused_level v (inl e) = (omega (arith, e), subst (λ (k : ℕ). is_level k ≡ Some BadLevel) (sym e) refl)
-refused_level v (inr e) = (omega (arith, e), subst (λ (k : ℕ). is_level k ≡ Some BadLevel) (sym e) refl)
+refused_level : (v : ℕ) → (v ≡ 0) ⊎ (v ≡ 128) → (v < 256) × (allowed_level v ≡ Some BadLevel)
+refused_level v (inl e) = (omega (arith, e), subst (λ (k : ℕ). allowed_level k ≡ Some BadLevel) (sym e) refl)
+refused_level v (inr e) = (omega (arith, e), subst (λ (k : ℕ). allowed_level k ≡ Some BadLevel) (sym e) refl)
 
 no_bad : (w more bits : List Bool) → IsEventWord w → bits ≡ w ++ more → IsBadEscape bits → ⊥
 no_bad w more bits is e r =

@@ -11,7 +11,7 @@ use Rattle.h263_bits.specs.Elements.{IsWordOf, HasFault, EndsWithFault}
 use Rattle.h263_bits.proofs.SyntaxLaws.{word_only, fault_of_no_word, fault_in_element, fault_of_element, fault_behind_word, fault_behind_field, fault_here, fault_of_cut, ends_behind_word, ends_in_element, fault_of_text, spells_code, spells_field, spells_done}
 use Rattle.code_tables.specs.Words.{word}
 use Rattle.code_tables.specs.Mcbpc.{mcbpc, mcbpc_table, mcbpc_words, class_texts, dquant, dquant_table, dquant_words}
-use Rattle.code_tables.specs.Tables.{Event, cbpy, cbpy_table, cbpy_words, cbpy_texts, mvd, mvd_parts, magnitude_table, magnitude_words, magnitude_texts, signed, is_difference, event, event_parts, event_table, tcoef_words, from_runs, last_0_texts, last_1_texts, after_word, is_level}
+use Rattle.code_tables.specs.Tables.{Event, cbpy, cbpy_table, cbpy_words, cbpy_texts, mvd, mvd_parts, magnitude_table, magnitude_words, magnitude_texts, signed, allowed_difference, event, event_parts, event_table, tcoef_words, from_runs, last_0_texts, last_1_texts, after_word, allowed_level}
 use Rattle.code_tables.specs.Faults.{HasWordFaults, AreWords, HaveBadCodes, HasEventFaults, WordFaults}
 use Rattle.code_tables.proofs.Productive.{mvd_productive}
 use Rattle.code_tables.proofs.Written.{in_numbers}
@@ -63,7 +63,7 @@ spelt_32 = spells_code magnitude_table _ _ (word "000000000010") 32 (word "0") l
 
 mvd_bad : HasFault mvd (word "000000000010" ++ word "0") BadCode 0
 unfolding mvd
-mvd_bad = fault_of_text (element mvd_parts is_difference done) ((word "000000000010" ++ word "0") ++ []) (word "000000000010" ++ word "0") BadCode 0 refl (fault_of_element mvd_parts is_difference done (pos 32) (word "000000000010" ++ word "0") [] BadCode parts_productive spelt_32 refl)
+mvd_bad = fault_of_text (element mvd_parts allowed_difference done) ((word "000000000010" ++ word "0") ++ []) (word "000000000010" ++ word "0") BadCode 0 refl (fault_of_element mvd_parts allowed_difference done (pos 32) (word "000000000010" ++ word "0") [] BadCode parts_productive spelt_32 refl)
 
 event_bad : HasFault event (word "000000000") BadCode 0
 unfolding event event_parts event_table tcoef_words last_0_texts last_1_texts begins
@@ -89,14 +89,14 @@ unfolding event_table tcoef_words
 escape_in = in_behind (word "0000011", None) (from_runs false 0 last_0_texts) (from_runs true 0 last_1_texts ++ (word "0000011", None) ∷ []) (in_behind (word "0000011", None) (from_runs true 0 last_1_texts) ((word "0000011", None) ∷ []) (inl refl))
 
 -- the fields of an escape, up to a LEVEL that is refused
-pub level_row : (last run level : ℕ) → last < 2 → run < 64 → level < 256 → is_level level ≡ Some BadLevel → HasFault event (word "0000011" ++ fields ((1, last) ∷ (6, run) ∷ (8, level) ∷ [])) BadLevel 0
+pub level_row : (last run level : ℕ) → last < 2 → run < 64 → level < 256 → allowed_level level ≡ Some BadLevel → HasFault event (word "0000011" ++ fields ((1, last) ∷ (6, run) ∷ (8, level) ∷ [])) BadLevel 0
 unfolding event event_parts
 level_row last run level l r v refused =
     fault_in_element event_parts any done (word "0000011" ++ fields ((1, last) ∷ (6, run) ∷ (8, level) ∷ [])) BadLevel 14
     (fault_behind_word event_table after_word (word "0000011") None (fields ((1, last) ∷ (6, run) ∷ (8, level) ∷ [])) BadLevel 7 escape_in
     (fault_behind_field 1 any _ last (fields ((6, run) ∷ (8, level) ∷ [])) BadLevel 6 l refl
     (fault_behind_field 6 any _ run (fields ((8, level) ∷ [])) BadLevel 0 r refl
-    (fault_here 8 is_level _ level [] BadLevel v refused))))
+    (fault_here 8 allowed_level _ level [] BadLevel v refused))))
 
 have_event_faults : HasEventFaults
 have_event_faults = record {

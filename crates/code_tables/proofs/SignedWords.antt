@@ -13,7 +13,7 @@ use Rattle.h263_bits.specs.Syntax.{Syntax, IsIn, Spells, reading, any, field, do
 use Rattle.h263_bits.specs.Elements.{IsFieldFault, IsWordOf, IsWordFault, Faults}
 use Rattle.h263_bits.proofs.SyntaxLaws.{begins_parts, begins_itself, both_begin, fault_found, no_word_of_front, apart_words, exact_words}
 use Rattle.code_tables.specs.Words.{word, from_number, text_at}
-use Rattle.code_tables.specs.Tables.{magnitude_texts, magnitude_words, magnitude_table, mvd, mvd_parts, mvd_words, with_signs, signed, is_difference}
+use Rattle.code_tables.specs.Tables.{magnitude_texts, magnitude_words, magnitude_table, mvd, mvd_parts, mvd_words, with_signs, signed, allowed_difference}
 use Rattle.code_tables.proofs.Productive.{mvd_productive}
 
 abbrev Signed : List Bool → Type 0
@@ -34,7 +34,7 @@ text_of (t ∷ ts) n zero size w (inr h) e = let m = from_on ts (suc n) size w h
 text_of (t ∷ ts) n (suc k) size w (inl same) e = let s : n ≡ size = ap (λ (p : List Bool × ℕ). p.1) same in absurd (omega (arith, s, e))
 text_of (t ∷ ts) n (suc k) size w (inr h) e = text_of ts (suc n) k size w h (omega (arith, e))
 
--- with a sign, which is minus alone behind the last
+-- with a sign, which is minus alone after the last
 signed_in : (texts : List (List Bool)) (n size : ℕ) (w : List Bool) (sign : ℕ) → IsIn (w, size) (from_number n texts) → sign < 2 → (sign ≡ 0 → suc size < n + length texts)
     → IsIn (w ++ spelled 1 sign, signed sign size) (with_signs n texts)
 unfolding spelled
@@ -48,7 +48,7 @@ signed_in (t ∷ v ∷ ts) n size w (suc zero) (inl same) lt last = subst (λ (u
 signed_in (t ∷ v ∷ ts) n size w (suc (suc k)) (inl same) lt last = absurd (omega arith)
 signed_in (t ∷ v ∷ ts) n size w sign (inr h) lt last = inr (inr (signed_in (v ∷ ts) (suc n) size w sign h lt (λ z. omega (arith, last z))))
 
--- each word with a sign has its magnitude in front
+-- each word with a sign has its magnitude first
 pub record HasMagnitude (texts : List (List Bool)) (n : ℕ) (w : List Bool) : Type 0 where
   pub word : List Bool
   pub size : ℕ
@@ -118,21 +118,21 @@ listed_words w size h = h
 signs : ℕ → Syntax ℤ
 signs size = field 1 any λ sign. done (signed sign size)
 
-not_32 : (size : ℕ) → is_difference (pos size) ≡ None → size ≡ 32 → ⊥
-not_32 size e is = let h : is_difference (pos 32) ≡ None = subst (λ (k : ℕ). is_difference (pos k) ≡ None) is e in cc
+not_32 : (size : ℕ) → allowed_difference (pos size) ≡ None → size ≡ 32 → ⊥
+not_32 size e is = let h : allowed_difference (pos 32) ≡ None = subst (λ (k : ℕ). allowed_difference (pos k) ≡ None) is e in cc
 
-sign_in : (w : List Bool) (size : ℕ) (x : ℤ) (rest : List Bool) → IsIn (w, size) (from_number 1 (drop 1 magnitude_texts)) → Spells (signs size) x rest → is_difference x ≡ None → IsIn (w ++ rest, x) mvd_words
+sign_in : (w : List Bool) (size : ℕ) (x : ℤ) (rest : List Bool) → IsIn (w, size) (from_number 1 (drop 1 magnitude_texts)) → Spells (signs size) x rest → allowed_difference x ≡ None → IsIn (w ++ rest, x) mvd_words
 unfolding Spells signs
 sign_in w size x rest i h free =
     let sign = h.0 in
     let x-is : x ≡ signed sign size = h.5.0 in
     let rest-is : rest ≡ spelled 1 sign = h.4 ∙ ap (λ (t : List Bool). spelled 1 sign ++ t) h.5.1 ∙ append-nil (spelled 1 sign) in
-    let free-is : is_difference (signed sign size) ≡ None = ap is_difference (sym x-is) ∙ free in
-    let below : sign ≡ 0 → size ≡ 32 → ⊥ = λ z. not_32 size (ap (λ (k : ℕ). is_difference (signed k size)) (sym z) ∙ free-is) in
+    let free-is : allowed_difference (signed sign size) ≡ None = ap allowed_difference (sym x-is) ∙ free in
+    let below : sign ≡ 0 → size ≡ 32 → ⊥ = λ z. not_32 size (ap (λ (k : ℕ). allowed_difference (signed k size)) (sym z) ∙ free-is) in
     let got : IsIn (w ++ spelled 1 sign, signed sign size) mvd_words = with_sign_in w size sign i h.2 below in
     subst (λ (t : List Bool). IsIn (w ++ t, x) mvd_words) (sym rest-is) (subst (λ (z : ℤ). IsIn (w ++ spelled 1 sign, z) mvd_words) (sym x-is) got)
 
-parts_in : (x : ℤ) (text : List Bool) → Spells mvd_parts x text → is_difference x ≡ None → IsIn (text, x) mvd_words
+parts_in : (x : ℤ) (text : List Bool) → Spells mvd_parts x text → allowed_difference x ≡ None → IsIn (text, x) mvd_words
 unfolding Spells mvd_parts magnitude_table signs
 parts_in x text h free = subst (λ (t : List Bool). IsIn (t, x) mvd_words) (sym h.4) (at (first_or h.0 h.1 h.3))
   where
@@ -212,7 +212,7 @@ apart_32 : list_all (λ u. not (begins plus_32 u.0) && not (begins u.0 plus_32))
 unfolding mvd_words magnitude_texts begins plus_32
 apart_32 = refl
 
-only_32 : (x : ℤ) (kind : FaultKind) → is_difference x ≡ Some kind → (x ≡ pos 32) × (kind ≡ BadCode)
+only_32 : (x : ℤ) (kind : FaultKind) → allowed_difference x ≡ Some kind → (x ≡ pos 32) × (kind ≡ BadCode)
 only_32 (pos n) kind e = at (eqb n 32) refl e
   where
     at : (t : Bool) → eqb n 32 ≡ t → cond t (Some BadCode) None ≡ Some kind → (pos n ≡ pos 32) × (kind ≡ BadCode)

@@ -14,7 +14,7 @@ use Rattle.code_tables.specs.declared.macroblock.Mcbpc.{Mcbpc}
 use Rattle.code_tables.specs.declared.macroblock.Mcbpc.TheVariants.{Stuffing, Word}
 use Rattle.code_tables.specs.Words.{from_number, text_at}
 use Rattle.code_tables.specs.Mcbpc.{mcbpc, mcbpc_table, mcbpc_words, mcbpc_text, class_texts, dquant, dquant_table, dquant_words, dquant_text, IsInTable, IsStep}
-use Rattle.code_tables.specs.Tables.{cbpy, cbpy_table, cbpy_words, cbpy_texts, cbpy_text, mvd, mvd_parts, mvd_text, magnitude_table, magnitude_words, magnitude_texts, signed, is_difference, size_of, sign_text}
+use Rattle.code_tables.specs.Tables.{cbpy, cbpy_table, cbpy_words, cbpy_texts, cbpy_text, mvd, mvd_parts, mvd_text, magnitude_table, magnitude_words, magnitude_texts, signed, allowed_difference, size_of, sign_text}
 use Rattle.code_tables.proofs.Texts.{four, no_inter}
 
 inter_written : (m : Mcbpc) → IsInTable kinds.P m → Spells (mcbpc kinds.P) m (mcbpc_text kinds.P m)
@@ -110,7 +110,7 @@ in_size : (v : ℤ) → negsuc 31 ≤ℤ v → v ≤ℤ pos 31 → size_of v < 3
 in_size (pos n) low high = omega (arith, ints)
 in_size (negsuc n) low high = omega (arith, ints)
 
-allowed : (v : ℤ) → v ≤ℤ pos 31 → is_difference v ≡ None
+allowed : (v : ℤ) → v ≤ℤ pos 31 → allowed_difference v ≡ None
 allowed (pos n) high = rw (ne_eqb n 32 (λ (e : n ≡ 32). omega (arith, ints, e))) refl
 allowed (negsuc n) high = refl
 
@@ -118,4 +118,4 @@ pub mvd_written : (v : ℤ) → negsuc 31 ≤ℤ v → v ≤ℤ pos 31 → Spell
 unfolding mvd mvd_text
 mvd_written v low high =
     spells_whole mvd v ((text_at magnitude_texts (size_of v) ++ sign_text v) ++ []) _ (append-nil _)
-    (spells_element mvd_parts is_difference (λ z. done z) v v (text_at magnitude_texts (size_of v) ++ sign_text v) [] (parts_written v (in_size v low high)) (allowed v high) (spells_done v))
+    (spells_element mvd_parts allowed_difference (λ z. done z) v v (text_at magnitude_texts (size_of v) ++ sign_text v) [] (parts_written v (in_size v low high)) (allowed v high) (spells_done v))

@@ -9,7 +9,7 @@ use Rattle.h263_bits.proofs.SyntaxLaws.{spells_code, spells_done, spells_field, 
 use Rattle.code_tables.specs.Laws.{AreSpelt}
 use Rattle.code_tables.specs.Words.{word}
 use Rattle.code_tables.proofs.Written.{mcbpc_written, cbpy_written, dquant_written, mvd_written}
-use Rattle.code_tables.specs.Tables.{Event, Coefficient, sized, from_runs, last_0_texts, last_1_texts, tcoef_words, event_table, after_word, event_parts, event, signed, is_level, level_of, rows_of, triple_text, byte_of, bit_of, escape_fields, word_or_escape, event_text, IsEvent, size_of, sign_text}
+use Rattle.code_tables.specs.Tables.{Event, Coefficient, sized, from_runs, last_0_texts, last_1_texts, tcoef_words, event_table, after_word, event_parts, event, signed, allowed_level, level_of, rows_of, triple_text, byte_of, bit_of, escape_fields, word_or_escape, event_text, IsEvent, size_of, sign_text}
 
 in_left : {X : Type 0} (x : X) (xs ys : List X) → IsIn x xs → IsIn x (xs ++ ys)
 in_left x (z ∷ xs) ys (inl e) = inl e
@@ -91,7 +91,7 @@ signed_level last run (negsuc n) some = one_sign last run (suc n) 1 (negsuc n) (
 
 -- ---- an escape
 
-level_back : (z : ℤ) → 0 < size_of z → size_of z < 128 → (z ≡ level_of (byte_of z)) × (is_level (byte_of z) ≡ None) × (byte_of z < 256)
+level_back : (z : ℤ) → 0 < size_of z → size_of z < 128 → (z ≡ level_of (byte_of z)) × (allowed_level (byte_of z) ≡ None) × (byte_of z < 256)
 level_back (pos n) some lt =
     let a : eqb n 0 ≡ false = ne_eqb n 0 (λ (e : n ≡ 0). omega (arith, e)) in
     let b : eqb n 128 ≡ false = ne_eqb n 128 (λ (e : n ≡ 128). omega (arith, e)) in
@@ -118,7 +118,7 @@ escape_spelled e is =
     spells_code event_table after_word e (word "0000011") None _ escape_in
     (spells_field 1 any _ e (bit_of e.last) _ (bit_small e.last) refl
     (spells_field 6 any _ e e.run _ is.run refl
-    (spells_field 8 is_level _ e (byte_of e.level) [] back.2 back.1
+    (spells_field 8 allowed_level _ e (byte_of e.level) [] back.2 back.1
     (subst (λ (f : Coefficient). Spells (done f) e []) same (spells_done e)))))
 
 word_spelled : (e : Coefficient) → IsEvent e → (w : List Bool) → triple_text e.last e.run (size_of e.level) ≡ Some w → Spells event_parts e (w ++ sign_text e.level)

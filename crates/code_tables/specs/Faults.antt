@@ -1,5 +1,5 @@
 -- The faults of words (H.263, 5.3 and 5.4.2), each at its word's first bit: a word is cut exactly
--- where the bits that are left are a proper front of one, and there is none exactly where none
+-- where the bits that are left are a proper prefix of one, and there is none exactly where none
 -- begins them and none goes on from them.
 use Rattle.std.specs.Prelude.{◌≡◌, ◌↔◌, ℕ, ℤ, ◌<◌, List, [], ◌∷◌, ◌++◌, Bool, Some, Err}
 use Rattle.h263_types.specs.declared.Kind.{Kind}

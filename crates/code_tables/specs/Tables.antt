@@ -151,7 +151,7 @@ unfoldable pub event_table : Words (Option Event)
 unfolding tcoef_words last_0_texts last_1_texts begins is_prefix_free
 event_table = record { list = tcoef_words; apart = refl }
 
--- how many words of events have so many bits, the escape left out
+-- how many words of events have this many bits, the escape left out
 unfoldable pub words_of_length : ℕ → ℕ
 words_of_length n = count_by (λ w. is_some w.1 && (length w.0 == n)) tcoef_words
 
@@ -166,8 +166,8 @@ pub record Coefficient : Type 0 where
   pub level : ℤ
 
 -- LEVEL of an escape, in two's complement
-abbrev pub is_level : Allowed ℕ
-is_level n = if n == 0 then Some BadLevel else if n == 128 then Some BadLevel else None
+abbrev pub allowed_level : Allowed ℕ
+allowed_level n = if n == 0 then Some BadLevel else if n == 128 then Some BadLevel else None
 
 abbrev pub level_of : ℕ → ℤ
 level_of n = if nat_lt n 128 then pos n else neg_ℤ (pos (256 - n))
@@ -180,7 +180,7 @@ after_word (Some e) =
 after_word None =
     field 1 any λ last.
     field 6 any λ run.
-    field 8 is_level λ level.
+    field 8 allowed_level λ level.
     done (record { last = last == 1; run = run; level = level_of level })
 
 unfoldable pub event_parts : Syntax Coefficient
@@ -207,19 +207,19 @@ unfoldable pub mvd_words : List (List Bool × ℤ)
 mvd_words = (word "1", pos 0) ∷ with_signs 1 (drop 1 magnitude_texts)
 
 -- 32 is no vector difference
-abbrev pub is_difference : Allowed ℤ
-is_difference (pos n) = if n == 32 then Some BadCode else None
-is_difference (negsuc n) = None
+abbrev pub allowed_difference : Allowed ℤ
+allowed_difference (pos n) = if n == 32 then Some BadCode else None
+allowed_difference (negsuc n) = None
 
 unfoldable pub mvd : Syntax ℤ
-mvd = element mvd_parts is_difference done
+mvd = element mvd_parts allowed_difference done
 
 -- the size of a number
 abbrev pub size_of : ℤ → ℕ
 size_of (pos n) = n
 size_of (negsuc n) = suc n
 
--- the sign behind a size: none at 0, 1 for minus
+-- the sign after a size: none at 0, 1 for minus
 abbrev pub sign_text : ℤ → List Bool
 sign_text (pos n) = if n == 0 then [] else false ∷ []
 sign_text (negsuc n) = true ∷ []

@@ -1,4 +1,4 @@
-//! The codes of events and what they stand for, and for each front of eight bits the code that it
+//! The codes of events and what they stand for, and for each prefix of eight bits the code that it
 //! begins with, or 255.
 
 use crate::code::{Code, Level};

@@ -12,7 +12,7 @@ ghost use Rattle.code_tables.specs.Laws.{AreSpelt, TableLaws};
 ghost use Rattle.code_tables.specs.declared.macroblock.Mcbpc.{Mcbpc};
 
 /// Of two texts of which one begins the other both are the same, and spell the same value: in each
-/// table, with the signs and the escape behind its words.
+/// table, with the signs and the escape after its words.
 pub fn one_reading()
     ensures mcbpc { (kind : Kind) (a b : Mcbpc) (x y more : List Bool)
         → Spells (mcbpc kind) a x → Spells (mcbpc kind) b y → x ++ more ≡ y → (x ≡ y) × (a ≡ b) }
@@ -50,7 +50,7 @@ pub fn in_a_syntax()
     ensures { TableLaws }
 {}
 
-/// There are 102 words of events; of 2 bits to 12 bits so many.
+/// There are 102 words of events, and this many of each length from 2 to 12 bits.
 #[tactic(auto, unfolding(crate::specs::Tables::words_of_length, crate::specs::Tables::tcoef_words, crate::specs::Tables::last_0_texts, crate::specs::Tables::last_1_texts))]
 pub fn event_words()
     ensures lengths { map words_of_length (2 ∷ 3 ∷ 4 ∷ 5 ∷ 6 ∷ 7 ∷ 8 ∷ 9 ∷ 10 ∷ 11 ∷ 12 ∷ [])

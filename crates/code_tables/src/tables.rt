@@ -1,4 +1,4 @@
-//! The codes of each table, and for each front of eight bits the code that it begins with, or 255.
+//! The codes of each table, and for each prefix of eight bits the code that it begins with, or 255.
 
 use crate::code::Code;
 use crate::macroblock::{MbClass, Mcbpc};

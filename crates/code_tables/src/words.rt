@@ -236,7 +236,7 @@ fn size(value: i8) -> usize
     }
 }
 
-// The sign behind a size: none at 0, 1 for minus.
+// The sign after a size: none at 0, 1 for minus.
 fn write_sign(writer: &mut BitWriter<'_>, value: i8)
     requires room { len_of writer.old + length (sign_text value) ≤ room_of writer.old }
     ensures bits { Appends writer.old writer.new (sign_text value) }

@@ -4,10 +4,10 @@ ghost use Rattle.std.specs.Prelude.{◌≡◌, ℕ, List};
 ghost use Rattle.h263_types.specs.declared.clock.Clock.{Clock};
 ghost use Rattle.h263_types.specs.declared.params.Params.{Params};
 ghost use Rattle.h263_types.specs.Params.{IsParams};
-ghost use Rattle.back_messages.specs.Said.{text_of};
-ghost use Rattle.back_messages.specs.declared.writing.Said.{Said};
+ghost use Rattle.back_messages.specs.MessageBytes.{text_of};
+ghost use Rattle.back_messages.specs.declared.writing.MessageBytes.{MessageBytes};
 ghost use Rattle.call_model.specs.Coding.{Message};
-ghost use Rattle.call_model.specs.IdealCall.{AllNear, Event, ideal};
+ghost use Rattle.call_model.specs.IdealCall.{AllMayHappen, Event, ideal};
 ghost use Rattle.call_model.specs.JoinedRun.{joined, new_receiver};
 ghost use Rattle.call_model.specs.Lawful.{IsCoding, IsPace};
 ghost use Rattle.call_model.specs.TwoStores.{EndsFollow};
@@ -53,7 +53,7 @@ pub fn is_coding()
 /// with its mark.
 pub fn two_stores()
     ensures { (p : Params) (pace : List ℕ → ℕ) (frames : List Frame) (past : List Event)
-        → IsParams p → IsPace pace → AllNear (coding p) (rules_of p) pace frames past
+        → IsParams p → IsPace pace → AllMayHappen (coding p) (rules_of p) pace frames past
         → EndsFollow (coding p) (rules_of p) (ideal (coding p) (rules_of p) pace frames past)
         (joined (coding p) (rules_of p) (new_receiver (coding p) (rules_of p)) pace frames past) }
 {
@@ -64,7 +64,7 @@ pub fn two_stores()
 
 /// The bytes that a receiver says of a message are those that are written of it.
 pub fn said_bytes()
-    ensures { (clock : Clock) (said : Said) (message : Message) → AreBytes (text_of said)
+    ensures { (clock : Clock) (said : MessageBytes) (message : Message) → AreBytes (text_of said)
         → IsSaid clock said message → text_of said ≡ write_message message }
 {
     exact_text();

@@ -29,7 +29,7 @@ first_given name (g ∷ given) = go (bytes_eq g.0 name) refl (first_given name g
     go true e rest = rw e refl
     go false e rest = rw e rest
 
--- a value of a new name gives a row behind the others
+-- a value of a new name gives a row after the others
 stays : (name : Text) (given : List Given) → gives name given ≡ false → without name (rows_for given) ≡ rows_for given
 stays name [] h = refl
 stays name (g ∷ given) h = go (bytes_eq g.0 name) refl h (stays name given)
@@ -67,11 +67,11 @@ not_or_true : (b c : Bool) → (not (b || true) && c) ≡ false
 not_or_true true c = refl
 not_or_true false c = refl
 
--- the name of x stands behind it
+-- the name of x stands after it
 abbrev again : Given → List Given → Bool
 again x xs = list_any (λ (o : Given). bytes_eq x.0 o.0) xs
 
--- what is behind a list in which a name stands twice doesn't mend it
+-- what is after a list in which a name stands twice doesn't mend it
 pub front_twice : (xs ys : List Given) → is_once xs ≡ false → is_once (xs ++ ys) ≡ false
 unfolding is_once
 front_twice [] ys h = cc

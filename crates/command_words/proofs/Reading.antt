@@ -13,7 +13,7 @@ use Rattle.command_words.specs.Clap.{Finds}
 use Rattle.command_words.specs.Asked.{Row, asked, asked_by}
 use Rattle.command_words.specs.View.{asked_of}
 
--- what the matches of the words behind the first ask for
+-- what the matches of the words after the first ask for
 pub asks : (row : Row) (words : List Text) (m : ArgMatches) → Finds m (taken row.places row.options words) → asked_by row words ≡ row.asks (first_value (found_of m))
 asks row words m finds = go (taken row.places row.options words) refl finds
   where

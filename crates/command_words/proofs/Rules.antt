@@ -125,7 +125,7 @@ options_no_index : (options : List Text) (i : ℕ) → arg_by_index (map option_
 options_no_index [] i = refl
 options_no_index (o ∷ options) i = options_no_index options i
 
--- no argument of the front stands at place i or behind it
+-- no argument of `front` stands at place i or after it
 abbrev Passes : List Rule → ℕ → Type 0
 Passes front i = (j : ℕ) → i ≤ j → (rest : List Rule) → arg_by_index (front ++ rest) j ≡ arg_by_index rest j
 

@@ -140,7 +140,7 @@ place_held c i name x done (Some p) = go (bytes_eq p.0 name) refl
 abbrev two_hyphens : Text
 two_hyphens = 45 ∷ 45 ∷ []
 
--- no character stands behind a hyphen
+-- no character stands after a hyphen
 data IsBare (x : Text) : Type 0 where
   no_hyphen : short_of x ≡ None → IsBare x
   nothing_behind : (flags : Text) → short_of x ≡ Some flags → slice_get (chars flags) 0 ≡ None → IsBare x
@@ -190,7 +190,7 @@ short_fault_is c (f ∷ flags) first done pending k none = rw (k, none) refl
 
 -- ---- what holds from each place of the walk on
 
--- from a place behind `--`
+-- from a place after `--`
 abbrev TrailClaim : Text → List Text → List Rule → List Text → Type 0
 TrailClaim name places c xs = (done : List Given) (last : Option Given) (i : ℕ) (left : List Text) → is_once done ≡ true → KnownIn c (ready last) → Left c i left
     → Says (total name c (walk_at done (ready last) i true) xs) (ending c (walk_at done (ready last) i true) xs) (accepts places (all_in done last) (placed left xs))
@@ -279,7 +279,7 @@ trails name places options c s (x ∷ xs) done last i left once known l = go lef
         (sym (accepts_more places (all_in done last) n x (placed ns xs)))
         (rest (all_in done last) (Some (n, x)) (suc i) ns all_once l.1 l.3))
 
--- an option that waits never gets its value behind `--`
+-- an option that waits never gets its value after `--`
 still_waits : (name : Text) (c : List Rule) (n : Text) (done : List Given) (i : ℕ) (left xs : List Text) → Known c n → Left c i left
     → Says (total name c (walk_at done (waits n) i true) xs) (ending c (walk_at done (waits n) i true) xs) None
 unfolding total
@@ -288,7 +288,7 @@ still_waits name c n done i [] (x ∷ xs) k l = refuses name c (walk_at done (wa
 still_waits name c n done i (m ∷ ms) (x ∷ xs) k l =
     refuses name c (walk_at done (waits n) i true) x xs None InvalidValue [] (place_turn name c i m done (Some (n, [])) l.0 ∙ waiting_fault c done n k) refl
 
--- ---- a word behind none that waits
+-- ---- a word after none that waits
 
 -- the reading of one word
 one_word : (options left : List Text) (next : Option Text) (x : Text) (xs : List Text) (k : Kind) → kind_of x ≡ k
@@ -366,7 +366,7 @@ reacted_is c done last n v e to =
     ap (λ (h : Held). let after : Held = record (held done (pending_in last)) { rows = used (option_at n) (v ∷ []) h.rows; pending = None } in after) to
     ∙ ap (λ (rows : List Row). let after : Held = record { rows = rows; pending = None; skip = 0 } in after) (row_added n v (all_in done last) e)
 
--- what is said of a word and those behind it, and the reading of them
+-- what is said of a word and those after it, and the reading of them
 abbrev SaysAt : Text → List Text → List Rule → Walk → List Text → List Given → Option (List Given) → Type 0
 SaysAt name places c w words before reading = Says (total name c w words) (ending c w words) (accepts places before reading)
 
@@ -464,7 +464,7 @@ idle_word name places options c s x xs rest done last i left once known l (as_sh
 idle_word name places options c s x xs rest done last i left once known l (as_plain d e bare seen) =
     idle_plain name places options c s x xs rest done last i left l (settles c done last once known) d e bare seen
 
--- ---- a word behind an option that waits for its value
+-- ---- a word after an option that waits for its value
 
 dashes_waiting : (name : Text) (c : List Rule) (done : List Given) (n : Text) (i : ℕ) (x : Text) → bytes_eq x two_hyphens ≡ true
     → (turn_fault (shape name c) [] (walk_at done (waits n) i false) x ≡ []) × (walked c [] (walk_at done (waits n) i false) x ≡ walk_at done (waits n) i true)

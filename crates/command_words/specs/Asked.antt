@@ -226,7 +226,7 @@ rows = call ∷ send ∷ recv ∷ demo ∷ rate ∷ []
 abbrev pub row_named : Text → Option Row
 row_named first = find (λ row. bytes_eq row.word first) rows
 
--- what the words behind the first ask for
+-- what the words after the first ask for
 abbrev pub asked_by : Row → List Text → Option Asked
 asked_by row words = option_and_then (λ given. row.asks (value given)) (taken row.places row.options words)
 

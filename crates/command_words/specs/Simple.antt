@@ -14,7 +14,7 @@ Given = Text × Text
 
 -- what a word looks like
 pub data Kind : Type 0 where
-  -- `--`, behind which each word is positional
+  -- `--`, after which each word is positional
   dashes : Kind
   -- `--name`, whose value is the next word, or `--name=value`
   long : (name : Text) (value : Option Text) → Kind

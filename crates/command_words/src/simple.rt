@@ -74,7 +74,7 @@ fn with_options<'a>(
     Ok(command)
 }
 
-// What the words behind the first give to the simple command of a form.
+// What the words after the first give to the simple command of a form.
 pub(crate) fn parse<'a>(
     alloc: Global,
     form: Form,

@@ -3,7 +3,7 @@ use super::*;
 use h263_outside::Role;
 use h263_types::{Clock, Format, Params};
 
-// What the words behind the first may be and what they may not.
+// What the words after the first may be and what they may not.
 static USAGE: [&[&str]; 53] = [
     &[],
     &[""],
@@ -72,7 +72,7 @@ fn words_that_are_no_command(rt: HostRuntime) {
     }
 }
 
-// The same command, its options before, between and behind the positional words.
+// The same command, its options before, between and after the positional words.
 static SAME: [&[&str]; 7] = [
     &[
         "call",

@@ -11,8 +11,8 @@ use Rattle.loss_trace.specs.declared.event.Event.{Event as Line}
 use Rattle.loss_trace.specs.declared.fault.TraceFault.{TraceFault}
 use Rattle.make_input.specs.Expanded.{onto}
 use Rattle.call_model.specs.Coding.{Rules, pictures_of}
-use Rattle.call_model.specs.IdealCall.{AllNear, Event, Send, Deliver, Play, Back, encoded, slices_at}
-use Rattle.call_model.specs.JoinedRun.{EachEndRuns, IsNearBoth, Joined, receiver_entries, sender_entries}
+use Rattle.call_model.specs.IdealCall.{AllMayHappen, Event, Send, Deliver, Play, Back, encoded, slices_at}
+use Rattle.call_model.specs.JoinedRun.{EachEndRuns, MayHappenBoth, Joined, receiver_entries, sender_entries}
 use Rattle.call_model.specs.Lawful.{IsPace}
 use Rattle.call_model.specs.Receiving.{ReceiverRun}
 use Rattle.call_model.specs.Sending.{SenderRun}
@@ -45,12 +45,12 @@ pub done_with : {T : Type 0} (r : Result T TraceFault) (line : ℕ) (e : Event) 
 done_with (Ok x) line e o P none done = done.1
 done_with (Err fault) line e o P none done = absurd (cc (none, done.1))
 
--- what is so behind a line, by what the line says
+-- what is so after a line, by what the line says
 pub as_line : (t : DemoTerms) (past : List Event) (line event : Line) (P : List Event → Type 0) → event ≡ line
-    → (AllNear (coding t.params) (rules_of t.params) (steady t.params) (made_video t) (with_line t past line) → P (with_line t past line))
-    → AllNear (coding t.params) (rules_of t.params) (steady t.params) (made_video t) (with_line t past event) → P (with_line t past event)
+    → (AllMayHappen (coding t.params) (rules_of t.params) (steady t.params) (made_video t) (with_line t past line) → P (with_line t past line))
+    → AllMayHappen (coding t.params) (rules_of t.params) (steady t.params) (made_video t) (with_line t past event) → P (with_line t past event)
 as_line t past line event P is so =
-    subst (λ (l : Line). AllNear (coding t.params) (rules_of t.params) (steady t.params) (made_video t) (with_line t past l) → P (with_line t past l)) (sym is) so
+    subst (λ (l : Line). AllMayHappen (coding t.params) (rules_of t.params) (steady t.params) (made_video t) (with_line t past l) → P (with_line t past l)) (sym is) so
 
 -- an event of the terms of the call that has no refusal is done
 pub event_done : {T : Type 0} (t : DemoTerms) (x : Terms) (r : Result T TraceFault) (line : ℕ) (e : Event) (past : List Event) (after : Params → List Event) (s s2 : State) (v v2 : Kept) (k k2 : Carrier)
@@ -109,9 +109,9 @@ module _ (t : DemoTerms) (near_laws : NearLaws t.params) (paced : IsPace (steady
   both = both_after p (steady p) frames [] past
 
   abbrev IsNearNext : Event → Type 0
-  IsNearNext e = AllNear (coding p) (rules_of p) (steady p) frames (e ∷ past)
+  IsNearNext e = AllMayHappen (coding p) (rules_of p) (steady p) frames (e ∷ past)
 
-  pub near_both : (e : Event) → IsNearNext e → IsNearBoth (coding p) (rules_of p) frames both e
+  pub near_both : (e : Event) → IsNearNext e → MayHappenBoth (coding p) (rules_of p) frames both e
   near_both e near = ((near_laws.near (steady p) frames (e ∷ past) paced).0 near).0
 
   -- a near event has no refusal
@@ -169,12 +169,12 @@ module _ (t : DemoTerms) (near_laws : NearLaws t.params) (paced : IsPace (steady
     some = made.slices past n (subst (λ (seen : Seen). n < length seen.coded) same sent)
 
     -- the first of them is near
-    first_near : (k : ℕ) → 0 < k → AllNear (coding p) (rules_of p) (steady p) frames (onto (map (Deliver n) (range_with_len 0 k)) past) → IsNearNext (Deliver n 0)
+    first_near : (k : ℕ) → 0 < k → AllMayHappen (coding p) (rules_of p) (steady p) frames (onto (map (Deliver n) (range_with_len 0 k)) past) → IsNearNext (Deliver n 0)
     first_near zero none near = absurd (omega (arith, none))
     first_near (suc k) more near =
         near_onto (pictures_of (coding p)) (rules_of p) (encoded (coding p) (rules_of p) (steady p) frames) (length frames) (map (Deliver n) (range_with_len 1 k)) (Deliver n 0 ∷ past) near
 
-    pub none_all : AllNear (coding p) (rules_of p) (steady p) frames (onto (map (Deliver n) (range_with_len 0 count)) past) → refusal_after p [] frames past (Deliver n 0) ≡ None
+    pub none_all : AllMayHappen (coding p) (rules_of p) (steady p) frames (onto (map (Deliver n) (range_with_len 0 count)) past) → refusal_after p [] frames past (Deliver n 0) ≡ None
     none_all near = none_packet n 0 (first_near count some near)
 
     -- and they are those of the line

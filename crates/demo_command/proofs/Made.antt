@@ -14,7 +14,7 @@ use Rattle.loss_trace.specs.declared.event.Event.{Event as Line}
 use Rattle.make_input.specs.Expanded.{expanded, line_events, onto}
 use Rattle.call_model.specs.Coding.{Pictures, Rules, pictures_of}
 use Rattle.call_model.specs.CodedPictures.{Coded}
-use Rattle.call_model.specs.IdealCall.{AllNear, AllNearFrom, Event, Send, Deliver, Play, Back, Source, call_from, encoded, slices_at}
+use Rattle.call_model.specs.IdealCall.{AllMayHappen, AllMayHappenFrom, Event, Send, Deliver, Play, Back, Source, call_from, encoded, slices_at}
 use Rattle.call_model.specs.Lawful.{IsPace, IsRules}
 use Rattle.call_model.specs.Sound.{EncoderIsSound}
 use Rattle.call_decoding.specs.Rules.{rules_of}
@@ -59,7 +59,7 @@ frame_is t n lt =
 
 module _ {Style Mb Picture : Type 0} (pictures : Pictures Style Mb Picture) (rules : Rules) (source : Source Style Mb Picture) (left : ℕ) where
   abbrev Near : List Event → Type 0
-  Near past = AllNearFrom pictures rules source left past
+  Near past = AllMayHappenFrom pictures rules source left past
 
   pub near_onto : (events past : List Event) → Near (onto events past) → Near past
   near_onto [] past near = near
@@ -76,16 +76,16 @@ module _ (t : DemoTerms) where
   abbrev p : Params
   p = t.params
 
-  -- what the lines say behind a line
+  -- what the lines say after a line
   pub behind_line : (past : List Event) (line : Line) (lines : List Line) → made_events t past (line ∷ lines) ≡ made_events t (with_line t past line) lines
   unfolding expanded
   behind_line past line lines = refl
 
-  pub near_line : (past : List Event) (line : Line) (lines : List Line) → AllNear (coding p) (rules_of p) (steady p) (made_video t) (made_events t past (line ∷ lines))
-      → AllNear (coding p) (rules_of p) (steady p) (made_video t) (with_line t past line)
+  pub near_line : (past : List Event) (line : Line) (lines : List Line) → AllMayHappen (coding p) (rules_of p) (steady p) (made_video t) (made_events t past (line ∷ lines))
+      → AllMayHappen (coding p) (rules_of p) (steady p) (made_video t) (with_line t past line)
   near_line past line lines near =
       near_before (pictures_of (coding p)) (rules_of p) (encoded (coding p) (rules_of p) (steady p) (made_video t)) (length (made_video t)) lines (with_line t past line)
-      (subst (λ (l : List Event). AllNear (coding p) (rules_of p) (steady p) (made_video t) l) (behind_line past line lines) near)
+      (subst (λ (l : List Event). AllMayHappen (coding p) (rules_of p) (steady p) (made_video t) l) (behind_line past line lines) near)
 
 -- ---- slices
 

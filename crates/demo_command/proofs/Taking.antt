@@ -16,7 +16,7 @@ use Rattle.desk_program.specs.Texts.{on}
 use Rattle.std.specs.Result.{IsErrAnd}
 use Rattle.make_input.specs.declared.trace.TraceMaker.{TraceMaker}
 use Rattle.make_input.specs.Left.{lines_left}
-use Rattle.call_model.specs.IdealCall.{AllNear, Event}
+use Rattle.call_model.specs.IdealCall.{AllMayHappen, Event}
 use Rattle.call_decoding.specs.Rules.{rules_of}
 use Rattle.coded_call.specs.Coding.{coding}
 use Rattle.call_command.specs.declared.call.Both.{Both}
@@ -72,7 +72,7 @@ module _ (m : Demo) (s : DemoState) (inputs : Role → List ℕ) (k : DemoStands
   step_is : (lines : List Line) → lines_left m.lines ≡ lines → demo_step s inputs ≡ lines_step s lines
   step_is lines is = ap (lines_step s) (k.lines ∙ is)
 
-  -- behind the last line
+  -- after the last line
 
   module _ (text : List ℕ) (told : text ≡ call_text (in_call (made_call t s.past))) (over : lines_left m.lines ≡ []) (old new : Outside) where
     text_is : text ≡ call_text (in_call (made_call s.terms s.past))
@@ -104,11 +104,11 @@ module _ (m : Demo) (s : DemoState) (inputs : Role → List ℕ) (k : DemoStands
   -- a line
 
   module _ (event : Line) (lines : List Line) (is : lines_left m.lines ≡ event ∷ lines) where
-    pub near_now : MadeLaws t → AllNear (coding t.params) (rules_of t.params) (steady t.params) (made_video t) (with_line t s.past event)
+    pub near_now : MadeLaws t → AllMayHappen (coding t.params) (rules_of t.params) (steady t.params) (made_video t) (with_line t s.past event)
     near_now made =
         near_line t s.past event lines
-        (subst (λ (l : List Line). AllNear (coding t.params) (rules_of t.params) (steady t.params) (made_video t) (made_events t s.past l)) (k.lines ∙ is)
-        (subst (λ (l : List Event). AllNear (coding t.params) (rules_of t.params) (steady t.params) (made_video t) l) (sym k.ahead) made.near))
+        (subst (λ (l : List Line). AllMayHappen (coding t.params) (rules_of t.params) (steady t.params) (made_video t) (made_events t s.past l)) (k.lines ∙ is)
+        (subst (λ (l : List Event). AllMayHappen (coding t.params) (rules_of t.params) (steady t.params) (made_video t) l) (sym k.ahead) made.near))
 
     module _ (maker : TraceMaker) (both : Both) (carrier : Carrier) (left : lines_left maker ≡ lines) (done : HasDone t both.sender.state both.receiver carrier (with_line t s.past event)) where
       abbrev next : DemoState

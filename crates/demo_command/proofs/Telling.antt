@@ -14,7 +14,7 @@ use Rattle.demo_command.specs.Laws.{TellsCounts}
 abbrev state_at : DemoTerms → List Event → List Line → DemoState
 state_at t past lines = record { terms = t; past = past; lines = lines }
 
--- nothing is told before the end, which comes behind these events
+-- nothing is told before the end, which comes after these events
 record IsSilent (t : DemoTerms) (past : List Event) (run : Run) : Type 0 where
   last : run.last ≡ all_done (state_at t past [])
   texts : (r : Role) → texts_of run.turns r ≡ []

@@ -46,11 +46,11 @@ made_video t = map (made_frame t) (range_with_len 0 t.frames)
 abbrev pub made_call : DemoTerms → List Event → Call Style Mb Picture
 made_call t past = ideal (coding t.params) (rules_of t.params) (steady t.params) (made_video t) past
 
--- the events behind those of a line, the newest first
+-- the events after those of a line, the newest first
 abbrev pub with_line : DemoTerms → List Event → Line → List Event
 with_line t past line = onto (line_events (made_call t past) line) past
 
--- the events of all these lines behind others, the newest first
+-- the events of all these lines after others, the newest first
 abbrev pub made_events : DemoTerms → List Event → List Line → List Event
 made_events t past lines =
     expanded (pictures_of (coding t.params)) (rules_of t.params)
@@ -68,7 +68,7 @@ pub record DemoState : Type 0 where
 abbrev pub silent_turn : Turn
 silent_turn = record { taken = no_bytes; whole = true; texts = no_texts }
 
--- behind the last line the counts are told
+-- after the last line the counts are told
 abbrev pub all_done : DemoState → End
 all_done s =
     record { status = Fine; taken = λ _. Some 0; texts = on Report (call_text (in_call (made_call s.terms s.past))) }

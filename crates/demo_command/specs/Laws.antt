@@ -6,7 +6,7 @@ use Rattle.call_report.specs.declared.status.Status.TheVariants.{Ok as Fine}
 use Rattle.desk_program.specs.Run.{Run, text_of}
 use Rattle.desk_program.specs.Texts.{on}
 use Rattle.make_input.specs.Trace.{made_trace}
-use Rattle.call_model.specs.IdealCall.{AllNear, Event, slices_at}
+use Rattle.call_model.specs.IdealCall.{AllMayHappen, Event, slices_at}
 use Rattle.call_decoding.specs.Rules.{rules_of}
 use Rattle.coded_call.specs.Coding.{coding}
 use Rattle.call_command.specs.Call.{steady}
@@ -17,7 +17,7 @@ use Rattle.demo_command.specs.Demo.{made_call, made_events, made_video}
 
 pub record MadeLaws (t : DemoTerms) : Type 0 where
   -- each event of the made trace is in place and near
-  pub near : AllNear (coding t.params) (rules_of t.params)
+  pub near : AllMayHappen (coding t.params) (rules_of t.params)
       (steady t.params) (made_video t) (made_events t [] (made_trace t.seed t.frames))
   -- each picture that was sent has a slice
   pub slices : (past : List Event) (n : ℕ) → n < length (made_call t past).coded

@@ -25,8 +25,8 @@ use Rattle.demo_command.specs.Demo.{DemoState, call_terms, made_events, made_vid
 
 -- ---- lines
 
--- Where so many pictures were sent, each line that sends has one of so many frames, and each that
--- delivers all packets of a picture one that was sent.
+-- Where this many of the frames were sent, each line that sends has a frame, and each that
+-- delivers all packets of a picture has one that was sent.
 abbrev pub AreInPlace : ℕ → ℕ → List Line → Type 0
 AreInPlace frames sent [] = ⊤
 AreInPlace frames sent (says.Send ∷ lines) = (sent < frames) × AreInPlace frames (sent + 1) lines
@@ -39,7 +39,7 @@ AreInPlace frames sent (_ ∷ lines) = AreInPlace frames sent lines
 abbrev pub HasDone : DemoTerms → State → Kept → Carrier → List Event → Type 0
 HasDone t sender receiver carrier past = Holds (call_terms t) sender receiver carrier [] (made_video t) past
 
--- so many pictures were sent behind the line
+-- this many pictures were sent after the line
 abbrev pub sent_after : Line → ℕ → ℕ
 sent_after says.Send sent = sent + 1
 sent_after _ sent = sent

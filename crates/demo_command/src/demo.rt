@@ -1,10 +1,8 @@
 //! The machine of a call on made input.
-use crate::DemoTerms;
-use crate::laws::of_made_input;
 use crate::line::take_line;
 use crate::mind::turn_laws;
-use call_command::laws::{ends_agree, ends_run, of_near_events};
-use call_command::{Both, Carrier, tell_counts};
+use crate::{DemoTerms, laws};
+use call_command::{Both, Carrier, laws as call_command_laws, tell_counts};
 use call_report::Status;
 use desk_program::{Acts, Turns, act_by_turns};
 use h263_outside::Desk;
@@ -70,10 +68,10 @@ impl Turns for Demo {
 
     fn turn<D: Desk>(&mut self, desk: &mut D) -> Result<bool, Status> {
         turn_laws();
-        ends_run();
-        ends_agree();
-        of_near_events();
-        of_made_input();
+        call_command_laws::ends_run();
+        call_command_laws::ends_agree();
+        call_command_laws::of_near_events();
+        laws::of_made_input();
         let Some(event) = self.lines.next() else {
             tell_counts(desk, &self.both.sender, &self.both.receiver, &self.carrier)?;
             return Ok(false);

@@ -6,7 +6,7 @@ ghost use Rattle.h263_planes.specs.Given.{picture_with};
 ghost use Rattle.h263_planes.specs.Layout.{picture_of};
 ghost use Rattle.loss_trace.specs.declared.event.Event.TheVariants as says;
 ghost use Rattle.make_input.specs.Frames.{made_sample};
-ghost use Rattle.call_model.specs.IdealCall.{AllNear, Event as Happens, Send};
+ghost use Rattle.call_model.specs.IdealCall.{AllMayHappen, Event as Happens, Send};
 ghost use Rattle.call_decoding.specs.Rules.{rules_of};
 ghost use Rattle.call_rings.specs.Messages.{said_of};
 ghost use Rattle.coded_call.specs.Coding.{coding};
@@ -18,10 +18,10 @@ ghost use Rattle.call_command.specs.Standing.{ArePacketsReady};
 ghost use Rattle.demo_command.specs.Demo.{call_terms, made_video, with_line};
 ghost use Rattle.demo_command.specs.Machine.{AreInPlace, HasDone, IsDoneWith, LineReady, sent_after};
 
-use crate::DemoTerms;
-use crate::laws::of_made_input;
-use call_command::laws::{ends_agree, ends_run, of_near_events};
-use call_command::{Carrier, all_event, back_event, packet_event, play_event, send_kept};
+use crate::{DemoTerms, laws};
+use call_command::{
+    Carrier, all_event, back_event, laws as call_command_laws, packet_event, play_event, send_kept,
+};
 use h263_planes::{PictureMut, PictureRef};
 use h263_types::{FixedPace, Format};
 use loss_trace::{Event, TraceFault};
@@ -65,13 +65,13 @@ fn send_made(terms: &DemoTerms, sender: &mut Sender<FixedPace>, carrier: &mut Ca
     ensures messages { carrier.new.messages ≡ carrier.old.messages }
     ensures done { (receiver : Kept) (past : List Happens)
         → HasDone terms.now sender.old.state receiver carrier.old past
-        → AllNear (coding terms.now.params) (rules_of terms.now.params)
+        → AllMayHappen (coding terms.now.params) (rules_of terms.now.params)
         (steady terms.now.params) (made_video terms.now) (Send ∷ past)
         → HasDone terms.now sender.new.state receiver carrier.new (Send ∷ past) }
 {
-    ends_run();
-    ends_agree();
-    of_near_events();
+    call_command_laws::ends_run();
+    call_command_laws::ends_agree();
+    call_command_laws::of_near_events();
     let format = terms.params.format;
     make_frame(format, terms.seed, sender.sent(), &mut carrier.frame);
     let frame = PictureRef::new(format, &carrier.frame);
@@ -102,15 +102,15 @@ pub fn take_line(
     ensures few { said_of carrier.new.messages ≤ said_of carrier.old.messages + 400 }
     ensures done { (past : List Happens)
         → HasDone terms.now sender.old.state receiver.old carrier.old past
-        → AllNear (coding terms.now.params) (rules_of terms.now.params)
+        → AllMayHappen (coding terms.now.params) (rules_of terms.now.params)
         (steady terms.now.params) (made_video terms.now) (with_line terms.now past event)
         → IsDoneWith result (HasDone terms.now sender.new.state receiver.new carrier.new
         (with_line terms.now past event)) }
 {
-    ends_run();
-    ends_agree();
-    of_near_events();
-    of_made_input();
+    call_command_laws::ends_run();
+    call_command_laws::ends_agree();
+    call_command_laws::of_near_events();
+    laws::of_made_input();
     let call = terms.call();
     match event {
         Event::Nothing => Ok(()),

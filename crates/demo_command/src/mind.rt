@@ -3,7 +3,7 @@ ghost use Rattle.desk_program.specs.Laws.{TurnLaws};
 ghost use Rattle.demo_command.specs.Demo.{DemoState};
 
 use crate::DemoTerms;
-use desk_program::laws::of_turns;
+use desk_program::laws as desk_program_laws;
 use std::marker::Model;
 
 // A type of the program whose values are states. The laws of turns are called with it; nothing is
@@ -24,5 +24,5 @@ impl Model for Mind {
 pub fn turn_laws()
     ensures { TurnLaws DemoState }
 {
-    of_turns::<Mind>();
+    desk_program_laws::of_turns::<Mind>();
 }

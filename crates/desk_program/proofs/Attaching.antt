@@ -96,7 +96,7 @@ names_more order i d below =
 pub names_whole : (order : List Pair) (i : ℕ) → names (take i order) ++ names (drop i order) ≡ names order
 names_whole order i = sym (map-append named (take i order) (drop i order)) ∙ ap names (take-append-drop i order)
 
--- where the next roles are free, so is the first of them, and the others behind it
+-- where the next roles are free, so is the first of them, and the others after it
 and_first : (a b : Bool) → (not a && b) ≡ true → a ≡ false
 and_first true b is = absurd cc
 and_first false b is = refl
@@ -115,7 +115,7 @@ module _ (attached : Role → Bool) (order : List Pair) (i : ℕ) (d : Pair) (be
   pub rest_free : (new : Role → Bool) → new ≡ with_role attached (get_or order i d).0 true → are_free new (names (drop (i + 1) order)) ≡ true
   rest_free new is = ap (λ (f : Role → Bool). are_free f (names (drop (i + 1) order))) is ∙ and_rest (attached (get_or order i d).0) _ now_free
 
--- one role more of an order behind others
+-- one role more of an order after others
 pub next_attached : (first : List (Role × List ℕ)) (order : List Pair) (i : ℕ) (d : Pair) (old new : Outside) → i < length order → AreAttached (first ++ names (take i order)) old → old.attached (get_or order i d).0 ≡ false
     → new.attached ≡ with_role old.attached (get_or order i d).0 true → IfSome (new.name (get_or order i d).0) (λ told. told ≡ (get_or order i d).1.now) → ((r : Role) → r ≢ (get_or order i d).0 → new.name r ≡ old.name r)
     → AreAttached (first ++ names (take (i + 1) order)) new

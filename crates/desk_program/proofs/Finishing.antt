@@ -133,7 +133,7 @@ module _ (run : Run) (inputs : Role → List ℕ) (old : Role → Option (List �
     written = λ r. still_written status is g r ∙ c.written r;
   })
 
-  -- with a front of it
+  -- with a prefix of it
   cut_line : (status : Status) → IsExactly run silent status inputs old mid → Ending status mid.written new.written → GainsFronts (λ r. text_of run r ++ end_text run.last.status r) old new.written
   cut_line status e end = λ r. record {
     rest = end.cut r;
@@ -253,7 +253,7 @@ module _ (run : Run) (inputs : Role → List ℕ) (old : Role → Option (List �
   has_texts unwritten s e is = absurd is
   has_texts (unopened role) s e is = absurd is
 
-  -- the text of some first turns is a front of the text
+  -- the text of some first turns is a prefix of the text
   front_of_text : (done rest : List Turn) (r : Role) (tail : List ℕ) → done ++ rest ≡ run.turns → tail ≡ [] → new.written r ≡ gained (old r) (texts_of done r ++ tail) → Front (text_of run r) (old r) (new.written r)
   front_of_text done rest r tail front none gains = record {
     rest = texts_of rest r ++ run.last.texts r;
@@ -264,7 +264,7 @@ module _ (run : Run) (inputs : Role → List ℕ) (old : Role → Option (List �
     };
   }
 
-  -- each output but the report has a front of its text
+  -- each output but the report has a prefix of its text
   abbrev Fronts : Type 0
   Fronts = (r : Role) → is_role Report r ≡ false → Front (text_of run r) (old r) (new.written r)
 

@@ -25,7 +25,7 @@ joined : (b : Bool) (x y all : List ℕ) → x ++ y ≡ all → (if b then x els
 joined true x y all is = is
 joined false x y all is = refl
 
--- a front that one role gained, as fronts of all roles
+-- a prefix that one role gained, as prefixes of all roles
 pub fronts_on : (role : Role) (bytes : List ℕ) (old new : Role → Option (List ℕ)) → GainsFront role bytes old new → GainsFronts (on role bytes) old new
 fronts_on role bytes old new f = λ r. record {
   rest = on role f.rest r;

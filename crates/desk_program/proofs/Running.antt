@@ -9,7 +9,7 @@ use Rattle.call_report.specs.declared.status.Status.{Status}
 use Rattle.call_report.specs.declared.status.Status.TheVariants.{Ok as Fine}
 use Rattle.call_report.specs.Status.{Phase, phase}
 use Rattle.call_report.specs.Status.Phase.{finished, refused, unread, unwritten, starved, unasked, unopened}
-use Rattle.desk_program.specs.Run.{Turn, End, Step, Run, run_of, run_from, end_state, follow_state, follow, silence, behind, texts_of, text_of, taken_of, IsWhole}
+use Rattle.desk_program.specs.Run.{Turn, End, Step, Run, run_of, run_from, end_state, follow_state, follow, silence, behind, texts_of, text_of, taken_of, IsWholeTurn}
 use Rattle.desk_program.specs.Run.Step.{Goes, Ends}
 use Rattle.desk_program.specs.Ends.{Tells, Gains, GainsFronts, IsPart, KeepsRoles, Went, Ended, Lost, TurnGives, GivesUp, step_texts, step_turns, IsExactly, IsSoFar, IsWholeOnly, EndedIn, HasEnded, silent, Falls, OnGoing, OnEnd, OnceSettled, OnSettled, ComesAtOpening, ComesAtStop, ComesLater, ReadOutIn}
 use Rattle.desk_program.specs.UnderWay.{IsUnderWay, EndsIn}
@@ -25,12 +25,12 @@ taken-append : (a b : List Turn) (r : Role) → taken_of (a ++ b) r ≡ taken_of
 taken-append [] b r = sym (zero-add (taken_of b r))
 taken-append (t ∷ a) b r = omega (arith, taken-append a b r)
 
-whole-append : (a : List Turn) (t : Turn) → All IsWhole a → t.whole ≡ true → All IsWhole (a ++ t ∷ [])
-whole-append a t all is = All-append IsWhole a (t ∷ []) all (All-cons IsWhole t [] is (All-nil IsWhole))
+whole-append : (a : List Turn) (t : Turn) → All IsWholeTurn a → t.whole ≡ true → All IsWholeTurn (a ++ t ∷ [])
+whole-append a t all is = All-append IsWholeTurn a (t ∷ []) all (All-cons IsWholeTurn t [] is (All-nil IsWholeTurn))
 
 -- ---- the run, unfolded once
 
--- what comes behind a step
+-- what comes after a step
 pub behind_step : {State : Type 0} → (State → (Role → List ℕ) → Step State) → ℕ → (Role → List ℕ) → State → (Role → ℕ) → Run
 behind_step step zero inputs next taken = silence
 behind_step step (suc n) inputs next taken = run_of step n next (behind inputs taken)
@@ -50,7 +50,7 @@ part_follow : {State : Type 0} (x : Step State) (rest : State → (Role → ℕ)
 part_follow (Goes next t) rest k part = part
 part_follow (Ends last) rest k part = tt
 
--- what comes behind the text of a step
+-- what comes after the text of a step
 tail_of : {State : Type 0} → Step State → (State → (Role → ℕ) → Run) → Role → List ℕ
 tail_of (Goes next t) rest r = text_of (rest next t.taken) r
 tail_of (Ends last) rest r = []
@@ -62,25 +62,25 @@ text_follow (Ends last) rest r = sym (append-nil (last.texts r))
 
 -- ---- a run before a step
 
--- some turns are done, and the run goes on with a step and what comes behind it
+-- some turns are done, and the run goes on with a step and what comes after it
 pub record IsBefore {State : Type 0} (x : Step State) (cont : State → (Role → ℕ) → Run) (run : Run) (inputs : Role → List ℕ) (start : Role → Option (List ℕ)) (reads : Bool) (now : Outside) : Type 0 where
   pub done : List Turn
   pub rest : Role → List ℕ
   pub turns : done ++ (follow x cont).turns ≡ run.turns
   pub last : (follow x cont).last ≡ run.last
   pub place : rest ≡ behind inputs (taken_of done)
-  pub whole : reads ≡ true → All IsWhole done
+  pub whole : reads ≡ true → All IsWholeTurn done
   pub written : Gains (texts_of done) start now.written
 
 module _ {State : Type 0} (x : Step State) (cont : State → (Role → ℕ) → Run) (run : Run) (inputs : Role → List ℕ) (start : Role → Option (List ℕ)) (old new : Outside) (reads : Bool) (p : IsBefore x cont run inputs start reads old) where
-  -- what is left behind so many bytes more
+  -- what is left after this many bytes more
   place_at : (k : ℕ) (r : Role) → drop k (p.rest r) ≡ drop (taken_of p.done r + k) (inputs r)
   place_at k r = ap (λ (f : Role → List ℕ). drop k (f r)) p.place ∙ drop-drop k (taken_of p.done r) (inputs r)
 
   place_behind : (k : ℕ) (r : Role) → drop k (p.rest r) ≡ drop (taken_of (p.done) r + (k + 0)) (inputs r)
   place_behind k r = place_at k r ∙ ap (λ (n : ℕ). drop (taken_of p.done r + n) (inputs r)) (sym (add-zero k))
 
-  -- a text behind that of the turns so far
+  -- a text after that of the turns so far
   gains_more : (bytes : List ℕ) (r : Role) → new.written r ≡ gained (old.written r) bytes → new.written r ≡ gained (start r) (texts_of p.done r ++ bytes)
   gains_more bytes r is = is ∙ ap (λ (o : Option (List ℕ)). gained o bytes) (p.written r) ∙ gained-gained (start r) (texts_of p.done r) bytes
 
@@ -162,7 +162,7 @@ at_start first step most inputs now = record {
   turns = refl;
   last = refl;
   place = refl;
-  whole = λ _. All-nil IsWhole;
+  whole = λ _. All-nil IsWholeTurn;
   written = λ r. sym (gained-nil (now.written r));
 }
 
@@ -180,7 +180,7 @@ started {State} first step reads most inputs old new stands w =
       last = ap (λ (y : Step State). (follow y (λ next taken. run_of step most next (behind inputs taken))).last) (sym w.is);
       place = more_place _ _ _ _ _ _ old _ p w.turn;
       told = w.left;
-      whole = λ can. All-cons IsWhole w.turn [] (w.whole ∙ can) (All-nil IsWhole);
+      whole = λ can. All-cons IsWholeTurn w.turn [] (w.whole ∙ can) (All-nil IsWholeTurn);
       written = more_written _ _ _ _ _ _ new _ p w.turn w.written;
     }
 

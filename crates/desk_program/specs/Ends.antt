@@ -8,10 +8,10 @@ use Rattle.call_report.specs.declared.status.Status.{Status}
 use Rattle.call_report.specs.declared.status.Status.TheVariants.{Ok as Fine}
 use Rattle.call_report.specs.Status.{Phase, phase}
 use Rattle.call_report.specs.Status.Phase.{finished, refused, unread, unwritten, starved, unasked, unopened}
-use Rattle.desk_program.specs.Run.{Turn, End, Step, Run, behind, texts_of, text_of, taken_of, IsWhole}
+use Rattle.desk_program.specs.Run.{Turn, End, Step, Run, behind, texts_of, text_of, taken_of, IsWholeTurn}
 use Rattle.desk_program.specs.Run.Step.{Goes, Ends}
 
--- the desk tells that so much is left of each input
+-- the desk tells that this much is left of each input
 abbrev pub Tells : Outside → (Role → List ℕ) → Type 0
 Tells outside inputs = (r : Role) → IsInput r → outside.left r ≡ Some (inputs r)
 
@@ -19,11 +19,11 @@ Tells outside inputs = (r : Role) → IsInput r → outside.left r ≡ Some (inp
 abbrev pub Gains : (Role → List ℕ) → (Role → Option (List ℕ)) → (Role → Option (List ℕ)) → Type 0
 Gains texts old new = (r : Role) → new r ≡ gained (old r) (texts r)
 
--- each output has gained a front of its text
+-- each output has gained a prefix of its text
 abbrev pub GainsFronts : (Role → List ℕ) → (Role → Option (List ℕ)) → (Role → Option (List ℕ)) → Type 0
 GainsFronts texts old new = (r : Role) → Front (texts r) (old r) (new r)
 
--- so many bytes of an input are gone, where the number is said
+-- this many bytes of an input are gone, where the number is said
 abbrev pub IsTaken : Option ℕ → ℕ → Type 0
 IsTaken None n = Unit {0}
 IsTaken (Some k) n = k ≡ n
@@ -233,13 +233,13 @@ pub record IsWholeOnly (run : Run) (after : Role → List ℕ)
   pub done : List Turn
   pub rest : List Turn
   pub front : done ++ rest ≡ run.turns
-  pub whole : All IsWhole done
+  pub whole : All IsWholeTurn done
   pub part : Role → ℕ
   pub partly : IsPart rest part
   pub left : Tells new (behind inputs (λ r. taken_of done r + part r))
   pub written : Gains (λ r. texts_of done r ++ after r) old new.written
 
--- the texts of some first turns, and then a front of what another end writes
+-- the texts of some first turns, and then a prefix of what another end writes
 pub record IsCutBehind (run : Run) (after : Status → Role → List ℕ) (old new : Role → Option (List ℕ)) : Type 0 where
   pub done : List Turn
   pub rest : List Turn

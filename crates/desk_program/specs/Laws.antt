@@ -13,14 +13,14 @@ use Rattle.desk_program.specs.UnderWay.{IsUnderWay}
 use Rattle.desk_program.specs.Texts.{no_texts, on, then_also, no_bytes, of, and_of}
 
 pub record TurnLaws (State : Type 0) : Type 0 where
-  -- one write is a text on that output and none on the others, and so is a front of it
+  -- one write is a text on that output and none on the others, and so is a prefix of it
   pub one_text : (role : Role) (bytes : List ℕ) (old new : Role → Option (List ℕ)) →
       new ≡ appended old role bytes → Gains (on role bytes) old new
   pub one_front : (role : Role) (bytes : List ℕ) (old new : Role → Option (List ℕ)) →
       GainsFront role bytes old new → GainsFronts (on role bytes) old new
   -- nothing was written
   pub no_text : (old new : Role → Option (List ℕ)) → new ≡ old → Gains no_texts old new
-  -- one text after the other, and a front of both
+  -- one text after the other, and a prefix of both
   pub both_texts : (first second : Role → List ℕ) (old mid new : Role → Option (List ℕ)) →
       Gains first old mid → Gains second mid new → Gains (then_also first second) old new
   pub front_of_first : (first second : Role → List ℕ) (old new : Role → Option (List ℕ)) →
@@ -30,7 +30,7 @@ pub record TurnLaws (State : Type 0) : Type 0 where
   -- nothing was read
   pub no_byte : (old new : Outside) (inputs : Role → List ℕ) →
       new.left ≡ old.left → Tells old inputs → Tells new (behind inputs no_bytes)
-  -- so many bytes of one input were read, and none of the others
+  -- this many bytes of one input were read, and none of the others
   pub one_read : (role : Role) (n : ℕ) (old new : Outside) (inputs : Role → List ℕ) →
       Tells old inputs → new.left role ≡ Some (drop n (inputs role))
       → ((r : Role) → r ≢ role → new.left r ≡ old.left r) → Tells new (behind inputs (of role n))
@@ -46,7 +46,7 @@ abbrev pub IsFrom : {State : Type 0} → State → State → (Role → List ℕ)
 IsFrom from s rest = s ≡ from
 
 pub record RunLaws (State : Type 0) : Type 0 where
-  -- behind a start that goes on to some state the run is under way
+  -- after a start that goes on to some state the run is under way
   pub begins : (from : State) (first : Step State) (step : State → (Role → List ℕ) → Step State)
       (reads : State → Bool) (most : ℕ) (inputs : Role → List ℕ) (old new : Outside)
       → Went first (IsFrom from) reads true inputs old new

@@ -16,7 +16,7 @@ pub record IsTold (status result : Status) (old new : Outside) : Type 0 where
   pub same : result ≡ status
   pub written : new.written ≡ appended old.written Report (status_text status)
 
--- a front of it was written, and the run ends with that fault
+-- a prefix of it was written, and the run ends with that fault
 pub record IsUntold (status result : Status) (old new : Outside) : Type 0 where
   pub fault : result ≡ WriteFault
   pub written : GainsFront Report (status_text status) old.written new.written

@@ -64,7 +64,7 @@ pub record HasLines (run : Run) (line : List ℕ) (old new : Option (List ℕ)) 
   pub front : done ++ rest ≡ run.turns
   pub gains : new ≡ gained old (texts_of done Report ++ line)
 
--- the report has gained that of some first turns, and a front of the line of some end
+-- the report has gained that of some first turns, and a prefix of the line of some end
 pub record HasLinesCut (run : Run) (after : Status → Role → List ℕ) (old new : Option (List ℕ)) : Type 0 where
   pub other : Status
   pub piece : List ℕ
@@ -80,7 +80,7 @@ ReportIn unwritten status run after old new =
     Front (text_of run Report ++ after run.last.status Report) old new ⊎ HasLinesCut run after old new
 ReportIn _ status run after old new = Unit {0}
 
--- prefixes: each output but the report has gained a front of its text; the report has gained whole
+-- prefixes: each output but the report has gained a prefix of its text; the report has gained whole
 -- lines and that of the status, or was cut in a line
 pub record HasPrefixes (run : Run) (after : Status → Role → List ℕ)
     (status : Status) (old new : Role → Option (List ℕ)) : Type 0 where

@@ -28,7 +28,7 @@ pub record Run : Type 0 where
   pub turns : List Turn
   pub last : End
 
--- what is left of each input behind so many bytes
+-- what is left of each input after this many bytes
 abbrev pub behind : (Role → List ℕ) → (Role → ℕ) → Role → List ℕ
 behind inputs taken r = drop (taken r) (inputs r)
 
@@ -41,7 +41,7 @@ follow (Goes next turn) rest =
     record { turns = turn ∷ (rest next turn.taken).turns; last = (rest next turn.taken).last }
 follow (Ends last) rest = record { turns = []; last = last }
 
--- the run of a machine from a state, over what is left of each input, where so many turns may come before the end
+-- the run of a machine from a state, over what is left of each input, where this many turns may come before the end
 unfoldable pub run_of : {State : Type 0} → (State → (Role → List ℕ) → Step State) → ℕ → State → (Role → List ℕ) → Run
 run_of turn zero s inputs = follow (turn s inputs) (λ next taken. silence)
 run_of turn (suc n) s inputs = follow (turn s inputs) (λ next taken. run_of turn n next (behind inputs taken))
@@ -75,8 +75,8 @@ taken_of [] r = 0
 taken_of (t ∷ turns) r = t.taken r + taken_of turns r
 
 -- where the turn ends can be seen by its own bytes
-abbrev pub IsWhole : Turn → Type 0
-IsWhole t = t.whole ≡ true
+abbrev pub IsWholeTurn : Turn → Type 0
+IsWholeTurn t = t.whole ≡ true
 
 -- an end that refuses: it writes nothing, and of what it takes nothing is said
 abbrev pub refusal : Status → End

@@ -11,8 +11,7 @@ ghost use Rattle.desk_program.specs.Promises.{HasStatus, HasTexts, HasPrefixes, 
 
 use crate::{Acts, attach_all, finish};
 use call_report::Status;
-use h263_outside::laws::calls;
-use h263_outside::{Desk, Role};
+use h263_outside::{Desk, Role, laws as outside_laws};
 use std::alloc::Global;
 
 // The command up to its last line.
@@ -69,7 +68,7 @@ pub fn perform<D: Desk, A: Acts>(
         HasTexts (A.run setup.now inputs) (end_text) result (D.outside desk.old).written
         (D.outside desk.new).written }
 
-    // After `OutOfMemory`, `ReadFault` and `WriteFault` a front of each text was written, and the
+    // After `OutOfMemory`, `ReadFault` and `WriteFault` a prefix of each text was written, and the
     // report in whole lines.
     ensures prefixes { (inputs : Role → List ℕ) → Tells (D.outside desk.old) inputs
         → IsStopped result →
@@ -96,7 +95,7 @@ pub fn perform<D: Desk, A: Acts>(
         TakesInput result (A.run setup.now inputs) (end_text) inputs (D.outside desk.old).written
         (D.outside desk.new) }
 {
-    calls();
+    outside_laws::calls();
     let status = play::<D, A>(alloc, setup, order, desk);
     finish(desk, status)
 }

@@ -30,7 +30,7 @@ pub trait Turns {
     /// Whether it may still read.
     ghost reads: { Self.State → Bool };
 
-    /// The machine keeps this in mind, and so much is left of each input.
+    /// The machine keeps this in mind, and this much is left of each input.
     ghost stands: { Self → Self.State → (Role → List ℕ) → Type 0 };
 
     /// What it keeps of a state once its run has come to an end there.

@@ -16,7 +16,7 @@ use h263_planes::PictureRef;
 use h263_types::{Format, Mark};
 use y4m::{write_frame, write_head};
 
-/// Writes all the bytes. After `WriteFault` some front of them was written.
+/// Writes all the bytes. After `WriteFault` some prefix of them was written.
 pub fn put<D: Desk>(desk: &mut D, role: Role, bytes: &[u8]) -> Result<(), Status>
     requires output { IsOutput role }
     requires attached { (D.outside desk.old).attached role ≡ true }

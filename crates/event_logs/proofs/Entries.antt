@@ -97,7 +97,7 @@ module _ (side : Side) (entry : Entry) (parts : Parts) (more : List ℕ) (is : I
   pub bytes_found : take (bytes_of entry) (drop 3 (text_of parts ++ more)) ≡ parts.bytes
   bytes_found = ap (λ (l : List ℕ). take (bytes_of entry) (drop 3 l)) whole_is ∙ spelled_bytes side entry parts.letter size_of.0 size_of.1 parts.bytes more told_of is.says
 
-  -- and what lies behind it
+  -- and what lies after it
   pub behind_found : drop (3 + bytes_of entry) (text_of parts ++ more) ≡ more
   behind_found = ap (λ (l : List ℕ). drop (3 + bytes_of entry) l) whole_is ∙ spelled_behind side entry parts.letter size_of.0 size_of.1 parts.bytes more told_of is.says
 
@@ -144,7 +144,7 @@ module _ (side : Side) (entry : Entry) where
       let s = spells text h.0 h.1 in
       (parts_in (bytes_of entry) text, s.0, s.1, refl)
 
-  -- a whole entry stays one where the text is cut behind it
+  -- a whole entry stays one where the text is cut after it
   pub stays : (text : List ℕ) (k : ℕ) → entry_in side text ≡ Some entry → 3 + bytes_of entry ≤ k → entry_in side (take k text) ≡ Some entry
   stays text k e le =
       let h = read_whole side entry text e in

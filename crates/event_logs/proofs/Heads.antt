@@ -30,7 +30,7 @@ begins_cases side bytes entry is false long = ltb-false (length bytes) 3 long
 pub begins_long : (side : Side) (bytes : List ℕ) (entry : Entry) → begun side bytes ≡ Some entry → 3 ≤ length bytes
 begins_long side bytes entry is = begins_cases side bytes entry is (nat_lt (length bytes) 3) refl
 
--- nothing behind the third byte counts
+-- nothing after the third byte counts
 three_count : (side : Side) (n : ℕ) (bytes : List ℕ) → 3 ≤ n → entry_with side (get_or (take n bytes) 0 0) (big_number 2 (drop 1 (take n bytes))) ≡ entry_with side (get_or bytes 0 0) (big_number 2 (drop 1 bytes))
 three_count side zero bytes le = absurd (omega arith)
 three_count side (suc n) [] le = refl

@@ -39,12 +39,12 @@ module _ (side : Side) where
   abbrev text_all : List Parts → List ℕ
   text_all all = flat_map text_of all
 
-  -- entries that were read, and what is left behind them
+  -- entries that were read, and what is left after them
   record Passed (m at n : ℕ) (found : List Found) (all : List Parts) (rest : List ℕ) : Type 0 where
     pub fault : fault_of side n at (text_all all ++ rest) ≡ fault_of side m (at + length (text_all all)) rest
     pub read : found_of side n at (text_all all ++ rest) ≡ found ++ found_of side m (at + length (text_all all)) rest
 
-  -- one entry is read, with a text behind it
+  -- one entry is read, with a text after it
   module _ (n at : ℕ) (found : Found) (parts : Parts) (more : List ℕ) (place : found.at ≡ at) (bytes : found.bytes ≡ parts.bytes) (is : IsEntry side found.entry parts) where
     abbrev text : List ℕ
     text = text_of parts ++ more

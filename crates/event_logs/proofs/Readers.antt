@@ -11,11 +11,11 @@ use Rattle.event_logs.specs.Reader.{IsCut, EntryGives}
 use Rattle.event_logs.proofs.Heads.{past, begins_long, begins_front, cut_entry, cut_head, whole_entry}
 use Rattle.event_logs.proofs.Results.{err_is}
 
--- the front of a buffer that takes any entry
+-- the start of a buffer that takes any entry
 pub front_len : (buf new : List ℕ) (n len : ℕ) → length new ≡ length (take n buf) → n ≡ len → len ≤ 65535 → 65535 ≤ length buf → length new ≡ len
 front_len buf new n len same is within room = omega (arith, same, length-take n buf, is, within, room)
 
--- so many bytes were taken, or all that there were
+-- this many bytes were taken, or all that there were
 taken_len : (n : ℕ) (rest : List ℕ) → length (take (min n (length rest)) rest) ≤ n
 taken_len n rest = omega (arith, length-take (min n (length rest)) rest)
 
@@ -36,7 +36,7 @@ pub stopped : (r : Result (Option (ℕ × Entry)) LogStop) (stop : LogStop) (rea
 stopped r stop reader rest buf left is read cut =
     subst (λ (r : Result (Option (ℕ × Entry)) LogStop). EntryGives r reader rest buf left) (sym (err_is r stop is ∙ ap (λ (s : LogStop). Err s) read)) cut
 
--- an entry has begun, and its bytes come behind the head
+-- an entry has begun, and its bytes come after the head
 module _ (reader : LogReader) (rest : List ℕ) (entry : Entry) (begins : begun reader.side rest ≡ Some entry) where
   reach_is : reach reader.side rest ≡ 3 + bytes_of entry
   reach_is = ap reach_of begins
@@ -54,7 +54,7 @@ module _ (reader : LogReader) (rest : List ℕ) (entry : Entry) (begins : begun 
       let short : length (take n rest) < reach reader.side (take n rest) = omega (arith, taken_len (3 + k) rest, same_reach n (omega (arith, long)), few) in
       cut_at reader rest (3 + k) left (gone ∙ ap (λ (l : List ℕ). Some l) (drop-drop k 3 rest)) (cut_entry reader.side (take n rest) short)
 
-  -- they came to the front of a buffer
+  -- they came to the start of a buffer
   module _ (front : List ℕ) (k : ℕ) (fills : FillsFront (drop 3 rest) front k) (size : length front ≡ bytes_of entry) (left : Option (List ℕ)) (gone : left ≡ Some (drop k (drop 3 rest))) where
     behind : left ≡ Some (drop (3 + k) rest)
     behind = gone ∙ ap (λ (l : List ℕ). Some l) (drop-drop k 3 rest)

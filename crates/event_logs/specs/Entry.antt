@@ -24,11 +24,11 @@ entry_of letter len =
     else if letter == 80 then (if len == 0 then Some Play else None)
     else None
 
--- the entry of a side's log with this letter and so many bytes
+-- the entry of a side's log with this letter and this many bytes
 abbrev pub entry_with : Side → ℕ → ℕ → Option Entry
 entry_with side letter len = if has_letter side letter then entry_of letter len else None
 
--- how many bytes an entry has behind its letter and their number
+-- how many bytes an entry has after its letter and their number
 abbrev pub bytes_of : Entry → ℕ
 bytes_of Capture = 0
 bytes_of (Back len) = len

@@ -29,7 +29,7 @@ pub record Found : Type 0 where
   pub entry : Entry
   pub bytes : List ℕ
 
--- parts that are these entries, one behind the other from a byte on
+-- parts that are these entries, one after the other from a byte on
 abbrev pub Are : Side → ℕ → List Found → List Parts → Type 0
 Are side at [] [] = Unit {0}
 Are side at [] (parts ∷ more) = ⊥
@@ -50,7 +50,7 @@ abbrev pub BeginsNone : Side → List ℕ → Type 0
 BeginsNone side text = (entry : Entry) (parts : Parts) (more : List ℕ)
     → IsEntry side entry parts → text ≡ text_of parts ++ more → ⊥
 
--- an entry that is read at a byte, and those behind it
+-- an entry that is read at a byte, and those after it
 abbrev pub found_from : Option Entry → ℕ → List ℕ → List Found → List Found
 found_from None at text more = []
 found_from (Some entry) at text more =
@@ -60,7 +60,7 @@ abbrev pub fault_from : Option Entry → ℕ → Option LogFault → Option LogF
 fault_from None at more = Some (BadRecord at)
 fault_from (Some entry) at more = more
 
--- the entries of a text of which so many may still come, from a byte on, up to the first fault
+-- the entries of a text of which this many may still come, from a byte on, up to the first fault
 unfoldable pub found_of : Side → ℕ → ℕ → List ℕ → List Found
 found_of side zero at text = []
 found_of side (suc n) at [] = []

@@ -65,7 +65,7 @@ pub fn begun(side: Side, head: &[u8]) -> Option<Entry>
     entry_of(head[0], BigEndian::read_u16(&head[1..]))
 }
 
-/// How many bytes an entry has behind its head.
+/// How many bytes an entry has after its head.
 pub fn bytes_of(entry: Entry) -> u32
     ensures { result ≡ bytes_of entry }
 {

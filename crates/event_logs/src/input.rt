@@ -7,7 +7,7 @@ ghost use Rattle.h263_outside.specs.declared.desk.Role.TheVariants.{Events};
 use crate::LogStop;
 use h263_outside::{Desk, Role, read_full};
 
-/// Reads until the buffer is full or the log ends, and answers how many bytes came to its front.
+/// Reads until the buffer is full or the log ends, and answers how many bytes came to its start.
 pub fn read<D: Desk>(desk: &mut D, buf: &mut [u8]) -> Result<usize, LogStop>
     requires { (D.outside desk.old).attached Events ≡ true }
     ensures count { IfOk result (λ k. k ≤ length buf.old) }

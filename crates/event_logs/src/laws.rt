@@ -32,7 +32,7 @@ pub fn exact_entries()
         → IsEntry side entry parts → entry_in side (text_of parts ++ more) ≡ Some entry }
 {}
 
-/// A whole entry stays what it is where the text behind it is cut.
+/// A whole entry stays what it is where the text after it is cut.
 pub fn cut_behind()
     ensures { (side : Side) (entry : Entry) (text : List ℕ) (k : ℕ) → entry_in side text
         ≡ Some entry → 3 + bytes_of entry ≤ k → entry_in side (take k text) ≡ Some entry }

@@ -4,8 +4,7 @@ ghost use Rattle.std.specs.Prelude.{◌≤◌, ◌*◌};
 use crate::entry::{HEAD, begun, bytes_of};
 use crate::input::read;
 use crate::{Entry, LogStop, Side};
-use h263_outside::Desk;
-use h263_outside::laws::calls;
+use h263_outside::{Desk, laws as outside_laws};
 
 /// The most entries of a log.
 pub const MAX_ENTRIES: u32 = 16_777_216;
@@ -42,7 +41,7 @@ impl LogReader {
         }
     }
 
-    /// Reads the next entry, its bytes to the front of `buf`, and answers the byte where it begins.
+    /// Reads the next entry, its bytes to the start of `buf`, and answers the byte where it begins.
     /// None at the end of the log. After a stop the reader is as it was.
     pub fn next<D: Desk>(
         &mut self,
@@ -60,7 +59,7 @@ impl LogReader {
             → r ≢ Events → (D.outside desk.new).left r ≡ (D.outside desk.old).left r }
         ensures rest { OnlyReads (D.outside desk.old) (D.outside desk.new) }
     {
-        calls();
+        outside_laws::calls();
         let mut head = [0; HEAD];
         let came = read(desk, &mut head)?;
         if came == 0 {
@@ -81,7 +80,7 @@ impl LogReader {
         Ok(Some((at, entry)))
     }
 
-    // Goes on behind an entry.
+    // Goes on after an entry.
     fn pass(&mut self, entry: Entry)
         requires few { self.old.entries < 16777216 }
         requires size { bytes_of entry ≤ 65535 }

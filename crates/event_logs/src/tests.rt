@@ -75,7 +75,7 @@ const LOGS: [(Side, &[u8], &[Found], Answer); 24] = [
         &[],
         Err(LogStop::BadRecord { at: 0 }),
     ),
-    // A log that is cut: in a length, behind one, and inside the bytes.
+    // A log that is cut: in a length, after one, and inside the bytes.
     (Side::Recv, b"K\x01", &[], Err(LogStop::BadRecord { at: 0 })),
     (Side::Recv, b"K", &[], Err(LogStop::BadRecord { at: 0 })),
     (
@@ -151,7 +151,7 @@ const FAILED: [(&[u8], u64, &[Found], Answer); 6] = [
     (b"", 1, &[], Err(LogStop::Read)),
 ];
 
-// What stands at entry 16,777,216, and what comes there and behind it.
+// What stands at entry 16,777,216, and what comes there and after it.
 const LAST: [(&[u8], &[Found], Answer); 5] = [
     (b"", &[], Ok(None)),
     (b"S\0\0", &[CAPTURE_0], Ok(None)),
@@ -180,7 +180,7 @@ fn check_entries<D: Desk>(
     assert_eq!(rt; reader.next(desk, buf), end, "behind {found:?}");
 }
 
-// So many bytes, to be read to and written from.
+// This many bytes, to be read to and written from.
 fn zeros(alloc: Global, len: usize) -> Result<Vec<u8>, OutOfMemory>
     ensures { IfOk result (λ bytes. vec_len bytes ≡ len) }
 {

@@ -6,8 +6,7 @@ ghost use Rattle.event_logs.specs.Text.{head_text, entry_text};
 
 use crate::entry::HEAD;
 use byteorder::{BigEndian, ByteOrder};
-use h263_outside::laws::{calls, fronts_of_two};
-use h263_outside::{Desk, Failed, Role, write_all};
+use h263_outside::{Desk, Failed, Role, laws as outside_laws, write_all};
 
 // What stands before the bytes of an entry.
 fn head_of(letter: u8, len: u16) -> [u8; HEAD]
@@ -18,7 +17,7 @@ fn head_of(letter: u8, len: u16) -> [u8; HEAD]
     head
 }
 
-/// Writes an entry: its letter, the number of its bytes and the bytes. After `Failed` some front of
+/// Writes an entry: its letter, the number of its bytes and the bytes. After `Failed` a prefix of
 /// it was written.
 pub fn write_entry<D: Desk>(desk: &mut D, letter: u8, bytes: &[u8]) -> Result<(), Failed>
     requires attached { (D.outside desk.old).attached Wire ≡ true }
@@ -31,8 +30,8 @@ pub fn write_entry<D: Desk>(desk: &mut D, letter: u8, bytes: &[u8]) -> Result<()
         (Rose (D.outside desk.old).faults.write (D.outside desk.new).faults.write) }
     ensures rest { OnlyWrites (D.outside desk.old) (D.outside desk.new) }
 {
-    calls();
-    fronts_of_two();
+    outside_laws::calls();
+    outside_laws::fronts_of_two();
     write_all(desk, Role::Wire, &head_of(letter, bytes.len() as u16))?;
     write_all(desk, Role::Wire, bytes)
 }

@@ -1,6 +1,6 @@
 //! A call of one flat picture, over its plain trace and over a recorded one: where call k of the
 //! desk fails, for each k up to the first that isn't made, the run ends with the fault of that
-//! call, with exactly that report, and with a front of the pictures. Where memory ran out the steps
+//! call, with exactly that report and a prefix of the pictures. Where memory ran out the steps
 //! are taken again, and are then to reach their end.
 ghost use Rattle.h263_types.specs.Params.{IsParams};
 ghost use Rattle.h263_outside.specs.Desk.{NoneAttached};
@@ -101,7 +101,7 @@ fn run_failing(
     Ok((status, pictures, report))
 }
 
-// The first of some calls of the desk and the one behind them: how a run ends where one of these
+// The first of some calls of the desk and the one after them: how a run ends where one of these
 // fails, and its report.
 type Stretch<'a> = (u64, u64, Status, &'a [u8]);
 
@@ -177,7 +177,7 @@ const PLAIN: &[Stretch] = &[
 ];
 
 // The same with a fourth role, and with each line of the trace byte by byte: one before the frame
-// and two behind it.
+// and two after it.
 const TRACED: &[Stretch] = &[
     (0, 1, NO_REPORT, NOTHING),
     (1, 2, NO_VIDEO, b"cannot open video\n"),

@@ -1,4 +1,4 @@
--- The first fault of a reading, for every syntax at once: a reader's fault is the one that the element behind the longest
+-- The first fault of a reading, for every syntax at once: a reader's fault is the one that the element after the longest
 -- list of elements without a fault has. And how a row of a table of faults is shown, step by step.
 use Rattle.std.proofs.Common.{◌≡◌, ℕ, zero, suc, ◌+◌, ◌^◌, ◌<◌, Bool, true, false, cond, eqb, List, [], ◌∷◌, ◌++◌, length, take, drop, Option, Some, None, Result, Ok, Err, refl, sym, ap, subst, ◌∙◌, append_assoc, add_assoc, add-zero, arith, inl, inr}
 use Rattle.std.specs.List.{list_any, list_all}
@@ -42,7 +42,7 @@ standing_err : {A : Type 0} (at : ℕ) (r : Result A Fault) (d : Fault) → stan
 standing_err at (Ok x) d e = absurd (err_not_ok d x (sym e))
 standing_err {A} at (Err c) d e = let same : stands c.kind at ≡ d = err_is {A = A} (stands c.kind at) d e in (c, refl, ap (λ (f : Fault). f.kind) same, sym (ap (λ (f : Fault). f.at) same))
 
--- what stands behind a text stands behind what is in front of that text as well
+-- what stands after a text stands after what is before that text as well
 then_at : (b c : Bits) (text front left : List Bool) (place : ℕ) → Between b text c → c.bits ≡ front ++ left → place ≡ c.at + length front → (b.bits ≡ (text ++ front) ++ left) × (place ≡ b.at + length (text ++ front))
 then_at b c text front left place h parts at = (h.parts ∙ ap (λ (t : List Bool). text ++ t) parts ∙ sym (append_assoc text front left), omega (arith, at, h.at, length-append text front))
 
@@ -198,7 +198,7 @@ word_fault_again words at left kind apart h =
       | inr f ↦ rw (none_of_no words left f.0, uncut_of_no words left f.0, f.1) refl
     ]
 
--- A front that begins no word, and that no word begins, has no word, whatever follows.
+-- A prefix that begins no word, and that no word begins, has no word, whatever follows.
 pub no_word_of_front : {S : Type 0} (words : List (List Bool × S)) (x rest : List Bool) → list_all (λ u. not (begins x u.0) && not (begins u.0 x)) words ≡ true → IsNoWord (λ w. IsWordOf words w) (x ++ rest)
 no_word_of_front {S} words x rest e =
     λ w is. (
@@ -232,7 +232,7 @@ nil_of : {X : Type 0} (xs : List X) → length xs ≡ 0 → xs ≡ []
 nil_of [] e = refl
 nil_of (x ∷ xs) e = absurd (omega (arith, e))
 
--- no word of a table is the proper front of another
+-- no word of a table is the proper prefix of another
 pub apart_words : {S : Type 0} (words : List (List Bool × S)) (w v more : List Bool) → is_prefix_free words ≡ true → IsWordOf words w → IsWordOf words v → w ++ more ≡ v → more ≡ []
 apart_words {S} words w v more apart p q e =
     let first : found words (w ++ more) ≡ Some (w, p.0) = found_again words (w, p.0) more apart p.1 in
@@ -431,7 +431,7 @@ fault_again (repeat s body) at front left kind each h =
     (λ t x text rest k g. complete (body t) x text rest k (each.1 t) g) (λ t f l k g. fault_again (body t) k f l kind (each.1 t) g) each.0
     h.0 (suc (length (front ++ left))) s front left at h.1 (omega (arith, length-append front left))
 
--- A READER'S FAULT IS THE FIRST FAULT: the one of the element behind the longest list of elements that have none.
+-- A READER'S FAULT IS THE FIRST FAULT: the one of the element after the longest list of elements that have none.
 pub first_fault_is : {A : Type 0} (s : Syntax A) (b : Bits) (d : Fault) → IsProductive s → (reading s b ≡ Err d) ↔ IsFirstFault s b d
 first_fault_is {A} s b d each = (
   λ e. fault_found s b d each e,

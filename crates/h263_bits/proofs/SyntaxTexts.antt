@@ -371,7 +371,7 @@ pub spells_last : {S A : Type 0} (s : S) (body : S → Syntax (Turn S A)) (a : A
 unfolding Spells
 spells_last s body a bits h = (0, h)
 
--- a turn in front of the others
+-- a turn before the others
 pub spells_turn : {S A : Type 0} (s t : S) (body : S → Syntax (Turn S A)) (a : A) (front rest : List Bool) → Spells (body s) (again t) front → Spells (repeat t body) a rest → Spells (repeat s body) a (front ++ rest)
 unfolding Spells
 spells_turn s t body a front rest first more = (suc more.0, (t, front, rest, refl, first, more.1))
@@ -501,7 +501,7 @@ code_some words next a e h = absurd (omega (arith, word_some words.list (h.0, h.
 
 -- ---- where a reader stands, and what a writer has written
 
--- what is left behind a text, by its place
+-- what is left after a text, by its place
 pub record IsMoved (bytes : List ℕ) (to : ℕ) (c : Bits) : Type 0 where
   pub bits : c ≡ bits_between bytes c.at to
   pub order : c.at ≤ to
@@ -520,7 +520,7 @@ moved bytes from to text c order within h =
 pub appends_none : (w : BitWriter) (text : List Bool) → text ≡ [] → Appends w w text
 appends_none w text none = record { buffer = refl; room = refl; text = sym (ap (λ (t : List Bool). written w ++ t) none ∙ append-nil (written w)) }
 
--- one text behind the other
+-- one text after the other
 pub appends_both : (a b c : BitWriter) (x y : List Bool) → Appends a b x → Appends b c y → Appends a c (x ++ y)
 appends_both a b c x y p q = record {
   buffer = q.buffer ∙ p.buffer;

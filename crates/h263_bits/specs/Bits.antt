@@ -5,7 +5,7 @@ use Rattle.std.specs.Prelude.{ℕ, zero, suc, ◌+◌, ◌*◌, ◌/◌, ◌%◌
 abbrev pub is_set : ℕ → ℕ → Bool
 is_set n k = n / 2 ^ k % 2 == 1
 
--- a number as so many bits
+-- a number as this many bits
 unfoldable pub spelled : ℕ → ℕ → List Bool
 spelled zero n = []
 spelled (suc k) n = is_set n k ∷ spelled k n

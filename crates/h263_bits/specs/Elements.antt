@@ -1,7 +1,7 @@
 -- THE FIRST FAULT, said of elements and not of a reader. An element is a field, a word, or several
 -- pieces that a standard takes as one, as a word with its sign, or an escape with its fields. A
 -- reading is a list of elements, each where those before it end, of which none has a fault. The
--- first fault is the one that the next element has behind the longest reading: that element is cut
+-- first fault is the one that the next element has after the longest reading: that element is cut
 -- by the end of the bits, no word begins there, or its value is one that is refused.
 use Rattle.std.specs.Prelude.{◌≡◌, ℕ, zero, suc, ◌+◌, ◌<◌, ◌^◌, List, [], ◌∷◌, ◌++◌, length, Bool, Some, None, ◌⊎◌, Err}
 use Rattle.h263_bits.specs.declared.fault.Fault.{Fault}
@@ -23,7 +23,7 @@ IsFieldFault n allowed left kind =
 abbrev pub IsWordOf : {S : Type 0} → List (List Bool × S) → List Bool → Type 0
 IsWordOf {S} words w = (x : S) × IsIn (w, x) words
 
--- the bits end inside a word: they are the front of one, and not the whole
+-- the bits end inside a word: they are a prefix of one, and not the whole
 abbrev pub IsCutWord : (List Bool → Type 0) → List Bool → Type 0
 IsCutWord IsWord left = (w : List Bool) × (next : Bool) × (more : List Bool) × IsWord w × (w ≡ left ++ next ∷ more)
 
@@ -42,9 +42,9 @@ abbrev pub IsRefused : {S : Type 0} → (S → List Bool → Type 0) → Allowed
 IsRefused {S} spells allowed left kind =
     (x : S) × (text rest : List Bool) × spells x text × (left ≡ text ++ rest) × (allowed x ≡ Some kind)
 
--- ---- the fault behind a reading
+-- ---- the fault after a reading
 
--- so many whole turns, and a turn with a fault
+-- this many whole turns, and a turn with a fault
 abbrev pub FaultTurns : {S A : Type 0} → (S → Turn S A → List Bool → Type 0)
     → (S → List Bool → List Bool → Type 0) → ℕ → S → List Bool → List Bool → Type 0
 FaultTurns turn fails zero s front left = fails s front left
@@ -52,7 +52,7 @@ FaultTurns {S} turn fails (suc n) s front left =
     (t : S) × (text rest : List Bool)
     × turn s (again t) text × (front ≡ text ++ rest) × FaultTurns turn fails n t rest left
 
--- `front` are the bits of elements that have no fault, and with what is left behind them an element begins that has one
+-- `front` are the bits of elements that have no fault, and with what is left after them an element begins that has one
 unfoldable pub Faults : {A : Type 0} → Syntax A → List Bool → List Bool → FaultKind → Type 0
 Faults (done x) front left kind = ⊥
 Faults (field n allowed next) front left kind =
@@ -76,7 +76,7 @@ Faults (element {S} s allowed next) front left kind =
 Faults (repeat s body) front left kind =
     (n : ℕ) × FaultTurns (λ t x text. Spells (body t) x text) (λ t f l. Faults (body t) f l kind) n s front left
 
--- the first fault of a syntax in bits from a place on: it stands behind a reading
+-- the first fault of a syntax in bits from a place on: it stands after a reading
 abbrev pub IsFirstFault : {A : Type 0} → Syntax A → Bits → Fault → Type 0
 IsFirstFault s b fault =
     (front left : List Bool) × (b.bits ≡ front ++ left)
@@ -84,7 +84,7 @@ IsFirstFault s b fault =
 
 -- ---- a row of a table of faults
 
--- Bits that begin with this text have this fault first, whatever follows, so many bits behind the text's first.
+-- Bits that begin with this text have this fault first, whatever follows, this many bits after the text's first.
 abbrev pub HasFault : {A : Type 0} → Syntax A → List Bool → FaultKind → ℕ → Type 0
 HasFault s text kind place =
     (at : ℕ) (rest : List Bool) → reading s (record { at = at; bits = text ++ rest })

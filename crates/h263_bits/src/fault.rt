@@ -12,7 +12,7 @@ pub enum FaultKind {
     BadDc,
     /// An escape whose LEVEL is 0 or -128 (5.4.2).
     BadLevel,
-    /// An event behind the last coefficient of its block (5.4.2).
+    /// An event after the last coefficient of its block (5.4.2).
     PastEnd,
     /// A macroblock with four vectors (5.3.2).
     FourVectors,
@@ -30,7 +30,7 @@ pub enum FaultKind {
     Bci,
     /// A slice with no macroblock.
     Empty,
-    /// More than padding behind the picture's last macroblock.
+    /// More than padding after the picture's last macroblock.
     Trailing,
     /// Not the rest of a start code (5.1.1, Annex K).
     NoStart,
@@ -74,7 +74,7 @@ pub enum FaultKind {
     NoExtraHeader,
     /// A packet of more than 65,535 bytes.
     Long,
-    /// A packet that ends inside its RTP header, the sources or the extension behind it (RFC 3550,
+    /// A packet that ends inside its RTP header, the sources or the extension after it (RFC 3550,
     /// 5.1, 5.3.1).
     Short,
     /// Another version of RTP than 2.

@@ -16,7 +16,7 @@ pub fn spelling()
 
 /// A field or a word that is not read: it is cut by the end of the bits, its number is refused, or
 /// no word begins there. The fault stands at its first bit. A word is cut exactly where the bits
-/// that are left are a proper front of one, and there is none exactly where none begins them and
+/// that are left are a proper prefix of one, and there is none exactly where none begins them and
 /// none goes on from them.
 pub fn first_faults()
     ensures field { (n : ℕ) (allowed : Allowed ℕ) (b : Bits) (d : Fault)

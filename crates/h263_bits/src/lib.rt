@@ -1,6 +1,6 @@
 //! Bits of bytes, most significant first: reading and writing them, and syntax as data.
 //!
-//! [`BitReader`] reads numbers of so many bits and answers a [`Fault`] with its [`FaultKind`] and
+//! [`BitReader`] reads numbers of a given width and answers a [`Fault`] with its [`FaultKind`] and
 //! place; [`BitWriter`] appends them to bytes that it was lent. `specs/Syntax` says once, for every
 //! syntax, which bits spell a value and what a reader of any bits finds. `proofs/SyntaxLaws` has
 //! the general laws of syntax: of all proofs the one module that other crates may cite.

@@ -2,7 +2,7 @@
 ghost use Rattle.std.specs.Prelude.{◌≡◌, ℕ, ◌+◌, ◌-◌, ◌*◌, ◌/◌, ◌%◌, ◌<◌, ◌≤◌, ◌^◌, ◌++◌, length, take, []};
 ghost use Rattle.h263_bits.specs.Bits.{bits_of, spelled};
 
-/// Writes bits behind one another, most significant first.
+/// Writes bits one after another, most significant first.
 #[derive(Drop)]
 pub struct BitWriter<'a> {
     bytes: &'a mut [u8],
@@ -11,7 +11,7 @@ pub struct BitWriter<'a> {
     ghost within: { len ≤ 8 * length bytes.now },
 }
 
-// A byte with a few bits put behind its first `used`.
+// A byte with a few bits put after its first `used`.
 fn with_part(old: u8, used: u32, part: u32, count: u32) -> u8
     requires inside { used + count ≤ 8 }
     requires fits { part < 2 ^ count }
@@ -22,7 +22,7 @@ fn with_part(old: u8, used: u32, part: u32, count: u32) -> u8
     (kept + (part << (8 - used - count))) as u8
 }
 
-// Writes a few bits inside one byte, behind the first `at` bits.
+// Writes a few bits inside one byte, after the first `at` bits.
 fn put_part(bytes: &mut [u8], at: u32, part: u32, count: u32)
     requires inside { at % 8 + count ≤ 8 }
     requires fits { part < 2 ^ count }
@@ -35,7 +35,7 @@ fn put_part(bytes: &mut [u8], at: u32, part: u32, count: u32)
     bytes[k] = with_part(bytes[k], at % 8, part, count);
 }
 
-// Writes the n bits of a number behind the first `at` bits.
+// Writes the n bits of a number after the first `at` bits.
 fn put_bits(bytes: &mut [u8], at: u32, value: u32, n: u32)
     requires few { n ≤ 32 }
     requires fits { value < 2 ^ n }
@@ -67,7 +67,7 @@ impl<'a> BitWriter<'a> {
         BitWriter { bytes, len: 0 }
     }
 
-    /// Appends the n bits of a number. What stands behind them in the buffer is left open.
+    /// Appends the n bits of a number. What stands after them in the buffer is left open.
     pub fn put(&mut self, value: u32, n: u32)
         requires few { n ≤ 32 }
         requires fits { value < 2 ^ n }
@@ -88,7 +88,7 @@ impl<'a> BitWriter<'a> {
         self.put(0, (8 - self.len % 8) % 8);
     }
 
-    /// Drops the bits behind the first `len`.
+    /// Drops the bits after the first `len`.
     pub fn cut(&mut self, len: u32)
         requires { len ≤ len_of self.old }
         ensures bits { Cuts self.old self.new len }

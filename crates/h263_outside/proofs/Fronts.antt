@@ -1,4 +1,4 @@
--- The front of a list, and the next piece of it.
+-- A prefix of a list, and the next piece of it.
 use Rattle.std.proofs.Common.{◌≡◌, ℕ, ◌+◌, ◌-◌, ◌≤◌, List, ◌++◌, length, take, drop, sym, ap, ◌∙◌, subst, arith, length-take, length-drop, length-append, Option, Some, None, IfSome}
 use Rattle.std.specs.Option.{option_map}
 use Rattle.std.proofs.lemmas.List.{take_all, take-append-le}
@@ -18,7 +18,7 @@ rest_within xs done k le h =
 pub next_piece : (xs : List ℕ) (done k : ℕ) → take done xs ++ take k (take (length xs - done) (drop done xs)) ≡ take (done + k) xs
 next_piece xs done k = ap (λ (l : List ℕ). take done xs ++ take k l) (rest_all xs done) ∙ sym (take-add done k xs)
 
--- the front of a buffer after a read into what lay behind it
+-- the start of a buffer after a read into what lay after it
 take_grown : (done k n : ℕ) (xs ys : List ℕ) → done ≤ length xs → n ≤ length ys → take (done + n) (put_mid done k xs ys) ≡ take done xs ++ take n ys
 take_grown done k n xs ys le within =
     let rest = ys ++ drop k (drop done xs) in
@@ -36,7 +36,7 @@ front_grown : (done k n : ℕ) (xs ys left : List ℕ) → done ≤ length xs �
 front_grown done k n xs ys left le within same more =
     take_grown done k n xs ys le within ∙ (λ i. same i ++ more i) ∙ sym (take-add done n left)
 
--- where what is left is told, what was read so far is its front
+-- where what is left is told, what was read so far is its prefix
 pub front_on : (o left : Option (List ℕ)) (done k n : ℕ) (xs ys : List ℕ) → left ≡ option_map (λ l. drop done l) o → done ≤ length xs → n ≤ length ys → IfSome o (λ l. (done ≤ length l) × (take done xs ≡ take done l)) → IfSome left (λ l. IsFront l ys n) → IfSome o (λ l. (done + n ≤ length l) × (take (done + n) (put_mid done k xs ys) ≡ take (done + n) l))
 front_on None left done k n xs ys is le within was read = tt
 front_on (Some all) left done k n xs ys is le within was read =

@@ -1,4 +1,4 @@
--- Fronts of a text at one role, and what a write on one role says of each.
+-- Prefixes of a text at one role, and what a write on one role says of each.
 use Rattle.std.proofs.Common.{◌≡◌, ℕ, Bool, true, false, cond, List, [], ◌++◌, Option, refl, sym, ap, ◌∙◌, append_assoc}
 use Rattle.std.specs.Option.{option_map}
 use Rattle.std.proofs.lemmas.List.{append-nil}
@@ -20,7 +20,7 @@ part_after part rest all old middle new b gains = record {
   gains = gains ∙ ap (λ (o : Option (List ℕ)). gained o part) b.gains ∙ gained-gained old b.front part;
 }
 
--- a front of a part that comes after what was gained is a front of the whole
+-- a prefix of a part that comes after what was gained is a prefix of the whole
 pub front_after : (part rest all : List ℕ) (old middle new : Option (List ℕ)) → Before (part ++ rest) all old middle → Front part middle new → Front all old new
 front_after part rest all old middle new b f = record {
   rest = f.rest ++ rest;
@@ -35,7 +35,7 @@ front_after part rest all old middle new b f = record {
 pub all_gained : (all : List ℕ) (old new : Option (List ℕ)) → Before [] all old new → new ≡ gained old all
 all_gained all old new b = b.gains ∙ ap (λ (l : List ℕ). gained old l) (sym (append-nil b.front) ∙ b.whole)
 
--- what was gained so far is a front
+-- what was gained so far is a prefix
 pub front_so_far : (rest all : List ℕ) (old new : Option (List ℕ)) → Before rest all old new → Front all old new
 front_so_far rest all old new b = record { rest = rest; so_far = b }
 
@@ -61,7 +61,7 @@ other_if false o bytes e = refl
 pub stays_at : (role r : Role) (bytes : List ℕ) (old new : Role → Option (List ℕ)) → is_role role r ≡ false → new ≡ appended old role bytes → new r ≡ old r
 stays_at role r bytes old new other e = ap (λ (w : Role → Option (List ℕ)). w r) e ∙ other_if (is_role role r) (old r) bytes other
 
--- a write that stopped on a role has given it a front
+-- a write that stopped on a role has given it a prefix
 pub front_at : (role : Role) (all : List ℕ) (old new : Role → Option (List ℕ)) → GainsFront role all old new → Front all (old role) (new role)
 front_at role all old new f = record { rest = f.rest; so_far = record { front = f.front; whole = f.whole; gains = gained_at role f.front old new f.gained } }
 

@@ -4,7 +4,7 @@ use Rattle.h263_outside.specs.Desk.{appended, GainsFront}
 use Rattle.h263_outside.specs.declared.desk.Role.{Role}
 use Rattle.h263_outside.proofs.Gains.{gained_more}
 
--- a front of the first text is a front of both
+-- a prefix of the first text is a prefix of both
 pub front_first : (role : Role) (a b : List ℕ) (old new : Role → Option (List ℕ)) → GainsFront role a old new → GainsFront role (a ++ b) old new
 front_first role a b old new f = record {
   front = f.front;
@@ -13,7 +13,7 @@ front_first role a b old new f = record {
   gained = f.gained;
 }
 
--- and so is a front of the second behind the first
+-- and so is a prefix of the second after the first
 pub front_second : (role : Role) (a b : List ℕ) (old middle new : Role → Option (List ℕ)) → middle ≡ appended old role a → GainsFront role b middle new → GainsFront role (a ++ b) old new
 front_second role a b old middle new first f = record {
   front = a ++ f.front;

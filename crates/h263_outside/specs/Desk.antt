@@ -61,24 +61,24 @@ NoneAttached attached = attached ≡ (λ _. false)
 abbrev pub appended : (Role → Option (List ℕ)) → Role → List ℕ → Role → Option (List ℕ)
 appended written role bytes r = if is_role role r then option_map (λ old. old ++ bytes) (written r) else written r
 
--- the role has gained a front of these bytes, and the rest of them not
+-- the role has gained a prefix of these bytes, and the rest of them not
 pub record GainsFront (role : Role) (all : List ℕ) (old new : Role → Option (List ℕ)) : Type 0 where
   pub front : List ℕ
   pub rest : List ℕ
   pub whole : front ++ rest ≡ all
   pub gained : new ≡ appended old role front
 
--- the role has lost n bytes at the front, where what is left is told
+-- the role has lost n bytes at the start, where what is left is told
 abbrev pub consumed : (Role → Option (List ℕ)) → Role → ℕ → Role → Option (List ℕ)
 consumed left role n r = if is_role role r then option_map (λ old. drop n old) (left r) else left r
 
--- the role has lost some bytes at the front, fewer than the limit
+-- the role has lost some bytes at the start, fewer than the limit
 pub record LosesFront (role : Role) (limit : ℕ) (old new : Role → Option (List ℕ)) : Type 0 where
   pub count : ℕ
   pub fewer : count < limit
   pub lost : new ≡ consumed old role count
 
--- what was read, k bytes at the front of the buffer, is what was first left; it is nothing only at the end
+-- what was read, k bytes at the start of the buffer, is what was first left; it is nothing only at the end
 pub record IsFront (left buf : List ℕ) (k : ℕ) : Type 0 where
   pub within : k ≤ length left
   pub same : take k buf ≡ take k left

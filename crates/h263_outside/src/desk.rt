@@ -86,7 +86,7 @@ pub trait Desk {
             → Rose (outside self.old).faults.attach (outside self.new).faults.attach }
         ensures rest { OnlyAttaches (outside self.old) (outside self.new) };
 
-    /// Reads some bytes of an input to the front of the buffer, and answers how many; 0 is the end.
+    /// Reads some bytes of an input to the start of the buffer, and answers how many; 0 is the end.
     fn read(&mut self, role: Role, buf: &mut [u8]) -> Result<usize, Failed>
         requires input { IsInput role }
         requires attached { (outside self.old).attached role ≡ true }

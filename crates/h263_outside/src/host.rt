@@ -53,7 +53,7 @@ impl<R: Runtime> HostDesk<R> {
 
 fn read_file<F: Read>(file: &mut Option<F>, buf: &mut [u8]) -> Result<usize, Failed>
     ensures count { IfOk result (λ k. k ≤ length buf.old) }
-    // What is read is the front of what the file had, nothing only at its end; where the read fails
+    // What is read is a prefix of what the file had, nothing only at its end; where the read fails
     // nothing is lost.
     ensures bytes { ReadConsumes
         (told_of F.remaining file.old) (told_of F.remaining file.new) result buf.new }

@@ -35,8 +35,8 @@ pub fn fronts()
         → Before rest all old middle → new ≡ middle → Before rest all old new }
 {}
 
-/// A text that one role gains behind another: a front of the first is a front of both, and so is a
-/// front of the second behind the first.
+/// A text that one role gains after another: a prefix of the first is a prefix of both, and so is a
+/// prefix of the second after the first.
 pub fn fronts_of_two()
     ensures first { (role : Role) (a b : List ℕ) (old new : Role → Option (List ℕ))
         → GainsFront role a old new → GainsFront role (a ++ b) old new }

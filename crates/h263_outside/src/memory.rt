@@ -30,7 +30,7 @@ impl Calls {
         fails
     }
 
-    // The answer of a write that took so many bytes: a write that takes none fails.
+    // The answer of a write that took this many bytes: a write that takes none fails.
     fn told(&mut self, count: usize) -> Result<usize, Failed>
         ensures ok { IfOk result (λ k. (k ≡ count) × (0 < k)) }
         ensures err { IsErr result ↔ (count ≡ 0) }
@@ -99,7 +99,7 @@ pub struct MemoryDesk {
 impl Input {
     ghost use Rattle.h263_outside.specs.Memory.{moved_count, OnlyMoves};
 
-    // Copies bytes to the front of the buffer, a piece at most.
+    // Copies bytes to the start of the buffer, a piece at most.
     fn read(&mut self, piece: usize, buf: &mut [u8]) -> usize
         requires piece { 0 < piece }
         requires room { 0 < length buf.old }
@@ -121,7 +121,7 @@ impl Input {
 impl Output {
     ghost use Rattle.h263_outside.specs.Memory.{moved_count};
 
-    // Takes bytes from the front, a piece at most, and as far as there is room.
+    // Takes the first bytes, a piece at most, and as far as there is room.
     fn write(&mut self, piece: usize, bytes: &[u8]) -> usize
         ensures count { result
             ≡ moved_count (self.old.room - length self.old.bytes.items) piece (length bytes.now) }

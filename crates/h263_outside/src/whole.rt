@@ -4,7 +4,7 @@ ghost use Rattle.h263_outside.specs.Desk.{IsInput, IsOutput, appended, consumed,
 
 use crate::{Desk, Failed, Role};
 
-/// Writes all the bytes. After `Failed` some front of them was written.
+/// Writes all the bytes. After `Failed` some prefix of them was written.
 pub fn write_all<D: Desk>(desk: &mut D, role: Role, bytes: &[u8]) -> Result<(), Failed>
     requires output { IsOutput role }
     requires attached { (D.outside desk.old).attached role ≡ true }
@@ -23,7 +23,7 @@ pub fn write_all<D: Desk>(desk: &mut D, role: Role, bytes: &[u8]) -> Result<(), 
     Ok(())
 }
 
-/// Reads until the buffer is full or the input ends, and answers how many bytes came to its front.
+/// Reads until the buffer is full or the input ends, and answers how many bytes came to its start.
 /// After `Failed` fewer bytes than the buffer has are gone from the input.
 pub fn read_full<D: Desk>(desk: &mut D, role: Role, buf: &mut [u8]) -> Result<usize, Failed>
     requires input { IsInput role }

@@ -112,7 +112,7 @@ few_at : (extra : Option Header) (at : ℕ) (bits : List Bool) → length bits <
 unfolding begun_at number_at
 few_at extra at bits lt = rw (lt-ltb (length bits) 2 lt) refl
 
--- behind the extra header the data's fault is the payload's
+-- after the extra header the data's fault is the payload's
 in_data : HeaderLaws → (format : Format) (o : Opening) (front middle : List Bool) (extra : Option Header) (at : ℕ) (rest : List Bool) (kind : FaultKind) → Spells leading o front → IsExtra format o.plen o.pebit extra middle
     → ((place : ℕ) → begun_at extra (from place rest) ≡ Err (stands kind place)) → IsRefusedAt format at (front ++ (middle ++ rest)) kind (at + length front + length middle)
 in_data laws format o front middle extra at rest kind spelt is fault =

@@ -19,7 +19,7 @@ fault_at kind at = Err (record { kind = kind; at = at })
 abbrev pub first_bits : ℕ → Bits → Bits
 first_bits n b = record { at = b.at; bits = take n b.bits }
 
--- a header that fills its bits: otherwise the fault stands at the first bit behind it
+-- a header that fills its bits: otherwise the fault stands at the first bit after it
 abbrev pub filled : Result (Header × Bits) Fault → Result (Option Header) Fault
 filled (Ok x) = if length x.1.bits == 0 then Ok (Some x.0) else fault_at faults.ExtraHeader x.1.at
 filled (Err e) = Err e
@@ -43,7 +43,7 @@ begun_as extra at start =
 unfoldable pub begun_at : Option Header → Bits → Result Payload Fault
 begun_at extra b = number_at 2 b >>= λ x. begun_as extra b.at x.0
 
--- the payload header and the first two bits of the data behind it
+-- the payload header and the first two bits of the data after it
 unfoldable pub payload_at : Format → Bits → Result Payload Fault
 payload_at format b = reading leading b >>= λ x.
     (extra_at format x.0.plen x.0.pebit x.1 >>= λ extra. begun_at extra (skip (8 * x.0.plen) x.1))

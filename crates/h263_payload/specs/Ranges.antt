@@ -16,7 +16,7 @@ abbrev pub IsExtraHeader : Option Header → Type 0
 IsExtraHeader None = Unit {0}
 IsExtraHeader (Some h) = IsHeader h
 
--- the data has two bits at least, and stands behind the payload header's 16
+-- the data has two bits at least, and stands after the payload header's 16
 pub record IsBehind (p : Payload) (rtp : Rtp) : Type 0 where
   pub extra : IsExtraHeader p.extra
   pub from : 8 * rtp.from + 16 ≤ p.from

@@ -37,7 +37,7 @@ pub record ExtraFaults (format : Format) (o : Opening) (front : List Bool) : Typ
       → Spells leading o front → 0 < o.plen → 8 * o.plen ≤ length rest
       → reading (header format) (first_bits (8 * o.plen - o.pebit) (from (at + length front) rest))
       ≡ Err fault → payload_at format (from at (front ++ rest)) ≡ Err fault
-  -- bits are left behind the last PEI
+  -- bits are left after the last PEI
   pub left_over : (at : ℕ) (h : Header) (text more rest : List Bool)
       → Spells leading o front → 0 < o.plen → IsHeaderText format h text → 0 < length more
       → length text + length more + o.pebit ≡ 8 * o.plen

@@ -43,7 +43,7 @@ IsExtra format plen pebit (Some h) bits =
 abbrev pub IsBegun : Bool → List Bool → Type 0
 IsBegun begins coded = (rest : List Bool) × (coded ≡ true ∷ not begins ∷ rest)
 
--- the bits from a place on are a payload: its header, and data behind it
+-- the bits from a place on are a payload: its header, and data after it
 pub record IsPayload (format : Format) (p : Payload) (b : Bits) : Type 0 where
   pub opening : Opening
   pub front : List Bool

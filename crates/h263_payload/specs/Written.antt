@@ -9,7 +9,7 @@ use Rattle.picture_header.specs.Written.{written_header, written_bits}
 abbrev pub opening_fields : ℕ → ℕ → List (ℕ × ℕ)
 opening_fields plen pebit = (5, 0) ∷ (1, 1) ∷ (1, 0) ∷ (6, plen) ∷ (3, pebit) ∷ []
 
--- the zero bits behind a header, up to a whole byte
+-- the zero bits after a header, up to a whole byte
 abbrev pub padding_of : Header → ℕ
 padding_of h = to_byte (written_bits h)
 

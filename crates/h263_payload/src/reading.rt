@@ -12,10 +12,8 @@ ghost use Rattle.h263_payload.specs.declared.payload.Payload.{Payload};
 use crate::payload::{Opening, Payload};
 use h263_bits::{BitReader, Fault, FaultKind};
 use h263_types::Format;
-use picture_header::laws::in_a_syntax;
-use picture_header::{Header, read_header};
-use rtp_header::Rtp;
-use rtp_header::laws::payload_within;
+use picture_header::{Header, laws as picture_header_laws, read_header};
+use rtp_header::{Rtp, laws as rtp_header_laws};
 
 // Reads P, which is 0 only where a packet may follow on another.
 fn read_p(reader: &mut BitReader<'_>, follow_on: bool) -> Result<u32, Fault>
@@ -49,7 +47,7 @@ pub fn read_opening(reader: &mut BitReader<'_>, follow_on: bool) -> Result<Openi
     })
 }
 
-// Reads these, and the byte behind a V of 1.
+// Reads these, and the byte after a V of 1.
 #[tactic(auto, unfolding(crate::specs::Text::leading, h263_bits::specs::Syntax::reading))]
 fn read_leading(reader: &mut BitReader<'_>) -> Result<Opening, Fault>
     ensures reads { Gives (λ (o : Opening). o) result reader.new (reading leading reader.old) }
@@ -151,7 +149,7 @@ pub fn read_payload(bytes: &[u8], rtp: &Rtp, format: Format) -> Result<Payload, 
     ensures exact { result ≡ payload_at format (payload_bits_of bytes.now rtp.now) }
     ensures range { IfOk result (λ p. IsBehind p rtp.now) }
 {
-    payload_within();
-    in_a_syntax();
+    rtp_header_laws::payload_within();
+    picture_header_laws::in_a_syntax();
     first_found(bytes, 8 * rtp.from, 8 * rtp.to, format)
 }

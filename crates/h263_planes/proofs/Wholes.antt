@@ -87,7 +87,7 @@ samples_of_planes f bytes Cr = range_of_samples (offset_of f Cr) (offset_of f Cr
 pub is_picture : (f : Format) (bytes : List ℕ) → length bytes ≡ size_of_picture f → AreSamples bytes → IsPicture (picture_of f bytes)
 is_picture f bytes long fit = record { whole = whole_picture f bytes long; samples = λ plane. samples_of_planes f bytes plane fit }
 
--- a front in two parts
+-- a prefix in two parts
 front_of : (xs : List ℕ) (m n : ℕ) → m ≤ n → take m xs ++ take (n - m) (drop m xs) ≡ take n xs
 front_of xs m n h = sym (take-add m (n - m) xs) ∙ ap (λ (k : ℕ). take k xs) (omega arith)
 

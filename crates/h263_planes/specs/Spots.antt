@@ -32,7 +32,7 @@ number_at f plane x y = offset_of f plane + (width_in f plane * y + x)
 abbrev pub sample_of : Picture → Spot → ℕ
 sample_of p at = sample_at p at.plane at.x at.y
 
--- the macroblock that holds sample s. A number behind the last sample has a macroblock behind the last one
+-- the macroblock that holds sample s. A number after the last sample has a macroblock after the last one
 abbrev pub owner_of : Format → ℕ → ℕ
 owner_of f s = mb_of f (spot f s).plane (spot f s).x (spot f s).y
 

@@ -2,9 +2,8 @@
 ghost use Rattle.std.specs.Prelude.{◌≡◌, length};
 ghost use Rattle.h263_types.specs.Sizes.{size_of_picture};
 
-use crate::Plane;
-use crate::laws::are_samples;
 use crate::layout::Layout;
+use crate::{Plane, laws};
 use h263_types::Format;
 
 /// A picture over bytes that hold its planes Y, Cb and Cr, each by rows from the top.
@@ -28,7 +27,7 @@ impl<'a> PictureRef<'a> {
         ensures picture { picture result ≡ picture_of format bytes.now }
         ensures whole { IsPicture (picture result) }
     {
-        are_samples(bytes);
+        laws::are_samples(bytes);
         PictureRef {
             layout: Layout::new(format),
             bytes,
@@ -40,7 +39,7 @@ impl<'a> PictureRef<'a> {
         ensures format { result ≡ (picture self.now).format }
         ensures whole { IsPicture (picture self.now) }
     {
-        are_samples(self.bytes);
+        laws::are_samples(self.bytes);
         self.layout.format
     }
 

@@ -4,10 +4,9 @@ ghost use lib.Seq.{sets};
 ghost use Rattle.h263_types.specs.Sizes.{size_of_picture};
 ghost use Rattle.h263_planes.specs.Samples.{AreSamples};
 
-use crate::Plane;
-use crate::laws::are_samples;
 use crate::layout::Layout;
 use crate::lent::PictureRef;
+use crate::{Plane, laws};
 use h263_types::Format;
 
 /// A picture over bytes that may be written: its planes Y, Cb and Cr, each by rows from the top.
@@ -34,7 +33,7 @@ impl<'a> PictureMut<'a> {
         ensures picture { work result ≡ picture_of format bytes.old }
         ensures whole { IsPicture (work result) }
     {
-        are_samples(bytes);
+        laws::are_samples(bytes);
         PictureMut {
             layout: Layout::new(format),
             bytes,
@@ -46,7 +45,7 @@ impl<'a> PictureMut<'a> {
         ensures format { result ≡ (work self.now).format }
         ensures whole { IsPicture (work self.now) }
     {
-        are_samples(self.bytes);
+        laws::are_samples(self.bytes);
         self.layout.format
     }
 
@@ -54,7 +53,7 @@ impl<'a> PictureMut<'a> {
     pub fn is_picture(&self)
         ensures { IsPicture (work self.now) }
     {
-        are_samples(self.bytes);
+        laws::are_samples(self.bytes);
     }
 
     /// Writes the sample in column `x` of row `y`.

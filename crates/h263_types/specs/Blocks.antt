@@ -84,10 +84,10 @@ pub record AreWhole (blocks : List Block) : Type 0 where
   pub count : length blocks ≡ 6
   pub each : All (λ b. length b.levels ≡ 64) blocks
 
-abbrev pub IsWhole : Mb → Type 0
-IsWhole Skip = Unit {0}
-IsWhole (Intra quant blocks) = AreWhole blocks
-IsWhole (Inter quant vector blocks) = AreWhole blocks
+abbrev pub HasWholeBlocks : Mb → Type 0
+HasWholeBlocks Skip = Unit {0}
+HasWholeBlocks (Intra quant blocks) = AreWhole blocks
+HasWholeBlocks (Inter quant vector blocks) = AreWhole blocks
 
 -- macroblock k of a picture's
 abbrev pub mb_in : List Mb → ℕ → Mb

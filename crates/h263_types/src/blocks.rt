@@ -1,6 +1,6 @@
 //! Macroblocks and the slices that hold them, as the codec has them between text and samples.
 ghost use Rattle.std.specs.Prelude.{◌≡◌, length};
-ghost use Rattle.h263_types.specs.Blocks.{AreWhole, IsWhole};
+ghost use Rattle.h263_types.specs.Blocks.{AreWhole, HasWholeBlocks};
 ghost use Rattle.h263_types.specs.Marks.{marks_of};
 
 use crate::vector::Vector;
@@ -56,7 +56,7 @@ pub enum Mb {
 impl Mb {
     /// Does nothing; its clause says of a borrowed macroblock what its type says of one by value.
     pub fn is_whole(&self)
-        ensures whole { IsWhole self.now }
+        ensures whole { HasWholeBlocks self.now }
     {
         match self {
             Mb::Skip => {}

@@ -17,7 +17,7 @@ use Rattle.desk_program.specs.Lines.{end_text}
 use Rattle.h263rps.specs.Output.{output_from, order_from, source_from}
 use Rattle.desk_program.specs.Promises.{IsSettled, IsStopped, HasStatus, HasTexts, ReportIn, TakesInput}
 
--- a front of each text was written; where the report is attached, it has whole lines and that of the
+-- a prefix of each text was written; where the report is attached, it has whole lines and that of the
 -- status, or was cut in a line
 pub record IsCutOff (run : Run) (status : Status) (old new : Outside) : Type 0 where
   pub outputs : (r : Role) → is_role Report r ≡ false → Front (text_of run r) (old.written r) (new.written r)
@@ -33,7 +33,7 @@ pub record IsRunOf (output : (Role → List ℕ) → Run) (order : List (Role ×
   -- at the end of the input and after a refusal exactly the texts of the output were written
   pub texts : (inputs : Role → List ℕ) → Tells old inputs → IsSettled result
       → HasTexts (output inputs) end_text result old.written new.written
-  -- after want of memory and a fault of a read or a write a front of each was written
+  -- after want of memory and a fault of a read or a write a prefix of each was written
   pub prefixes : (inputs : Role → List ℕ)
       → Tells old inputs → IsStopped result → IsCutOff (output inputs) result old new
   -- where the words are no command, or a role could not be attached, that line alone was written

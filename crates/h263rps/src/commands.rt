@@ -12,20 +12,15 @@ ghost use Rattle.h263rps.specs.Output.{the_word};
 ghost use Rattle.h263rps.specs.Promises.{IsRun, IsRunOf};
 
 use crate::Status;
-use call_command::laws::refused_videos as refused_by_call;
-use call_command::{Call, Terms};
+use call_command::{Call, Terms, laws as call_command_laws};
 use command_words::{Command, Words};
-use demo_command::laws::ends_well;
-use demo_command::{Demo, DemoTerms};
+use demo_command::{Demo, DemoTerms, laws as demo_command_laws};
 use desk_program::{Acts, perform};
 use h263_outside::{Desk, Role};
 use h263_types::Params;
-use rate_command::laws::no_video_refused as no_video_measured;
-use rate_command::{Bucket, Rate};
-use recv_command::Recv;
-use recv_command::laws::no_video_refused;
-use send_command::laws::refused_videos as refused_by_send;
-use send_command::{Send, Sending};
+use rate_command::{Bucket, Rate, laws as rate_command_laws};
+use recv_command::{Recv, laws as recv_command_laws};
+use send_command::{Send, Sending, laws as send_command_laws};
 use std::alloc::Global;
 
 // Carries a command out.
@@ -63,7 +58,7 @@ fn call<D: Desk>(alloc: Global, words: &Words<'_>, params: Params, desk: &mut D)
     requires is { words.now.command ≡ commands.Call params false }
     ensures { IsRun (Some (asked_of words.now)) result (D.outside desk.old) (D.outside desk.new) }
 {
-    refused_by_call();
+    call_command_laws::refused_videos();
     let order = [
         (Role::Video, word_of(words, Role::Video)),
         (Role::Pictures, word_of(words, Role::Pictures)),
@@ -83,7 +78,7 @@ fn traced_call<D: Desk>(alloc: Global, words: &Words<'_>, params: Params, desk: 
     requires is { words.now.command ≡ commands.Call params true }
     ensures { IsRun (Some (asked_of words.now)) result (D.outside desk.old) (D.outside desk.new) }
 {
-    refused_by_call();
+    call_command_laws::refused_videos();
     let order = [
         (Role::Video, word_of(words, Role::Video)),
         (Role::Events, word_of(words, Role::Events)),
@@ -110,7 +105,7 @@ fn send<D: Desk>(
     requires is { words.now.command ≡ commands.Send params target }
     ensures { IsRun (Some (asked_of words.now)) result (D.outside desk.old) (D.outside desk.new) }
 {
-    refused_by_send();
+    send_command_laws::refused_videos();
     let order = [
         (Role::Video, word_of(words, Role::Video)),
         (Role::Events, word_of(words, Role::Events)),
@@ -127,7 +122,7 @@ fn recv<D: Desk>(alloc: Global, words: &Words<'_>, params: Params, desk: &mut D)
     requires is { words.now.command ≡ commands.Recv params }
     ensures { IsRun (Some (asked_of words.now)) result (D.outside desk.old) (D.outside desk.new) }
 {
-    no_video_refused();
+    recv_command_laws::no_video_refused();
     let order = [
         (Role::Events, word_of(words, Role::Events)),
         (Role::Pictures, word_of(words, Role::Pictures)),
@@ -151,7 +146,7 @@ fn demo<D: Desk>(
     requires is { words.now.command ≡ commands.Demo params seed frames }
     ensures { IsRun (Some (asked_of words.now)) result (D.outside desk.old) (D.outside desk.new) }
 {
-    ends_well();
+    demo_command_laws::ends_well();
     let terms = DemoTerms {
         params,
         seed,
@@ -168,7 +163,7 @@ fn rate<D: Desk>(alloc: Global, words: &Words<'_>, target: u32, bucket: u32, des
     requires is { words.now.command ≡ commands.Rate target bucket }
     ensures { IsRun (Some (asked_of words.now)) result (D.outside desk.old) (D.outside desk.new) }
 {
-    no_video_measured();
+    rate_command_laws::no_video_refused();
     let order = [(Role::Events, word_of(words, Role::Events))];
     carry_out::<D, Rate>(alloc, &Bucket { target, bucket }, &order, desk)
 }

@@ -33,7 +33,7 @@ fn texts_of(alloc: Global, words: &[String]) -> Result<Vec<&str>, AllocError>
     Ok(texts)
 }
 
-// Runs the words behind the program's name.
+// Runs the words after the program's name.
 fn run_words<D: Desk>(alloc: Global, words: &[String], desk: &mut D) -> Status
     requires { NoneAttached (D.outside desk.old).attached }
     ensures { IsRun
@@ -45,7 +45,7 @@ fn run_words<D: Desk>(alloc: Global, words: &[String], desk: &mut D) -> Status
     }
 }
 
-// The words behind the program's name.
+// The words after the program's name.
 fn read_words(rt: &HostRuntime) -> io::Result<Vec<String>> {
     Ok(env::args(rt)?.skip(1).collect(rt.alloc())?)
 }

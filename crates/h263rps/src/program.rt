@@ -8,8 +8,7 @@ ghost use Rattle.h263rps.specs.Promises.{IsRun};
 
 use crate::Status;
 use crate::commands::command;
-use command_words::laws::names_are_given;
-use command_words::{WordStop, Words};
+use command_words::{WordStop, Words, laws as command_words_laws};
 use desk_program::{attach_role, finish};
 use h263_outside::{Desk, Role};
 use std::alloc::Global;
@@ -30,7 +29,7 @@ pub fn run<D: Desk>(alloc: Global, words: &[&str], desk: &mut D) -> Status
     ensures { IsRun
         (command_of (texts words.now)) result (D.outside desk.old) (D.outside desk.new) }
 {
-    names_are_given();
+    command_words_laws::names_are_given();
     if let Err(status) = attach_role(desk, Role::Report, "") {
         return status;
     }

@@ -289,7 +289,7 @@ const NO_FRAME: Status = Status::TraceRefused {
     fault: TraceFault::NoFrame { line: 4 },
 };
 
-// The trace is attached behind the video, and before the pictures.
+// The trace is attached after the video, and before the pictures.
 const TRACES: &[(&[u8], u64, Status, Parts<'static>, Parts<'static>)] = &[
     (
         b"S\nD 0.*\nP\n",

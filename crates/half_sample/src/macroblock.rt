@@ -63,7 +63,7 @@ pub fn luma(reference: PictureRef<'_>, mb: u32, vector: Vector, rounding: u8, ou
 }
 
 /// A quarter of the luma samples that a vector predicts for macroblock `mb`: rows `first`, 0 to 3,
-/// and those 4, 8 and 12 further down, one behind the other. `rounding` is the picture's rounding
+/// and those 4, 8 and 12 further down, one after the other. `rounding` is the picture's rounding
 /// bit, 0 or 1 (H.263, 6.1.2).
 pub fn luma_quarter(
     reference: PictureRef<'_>,

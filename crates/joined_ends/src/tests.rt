@@ -4,7 +4,7 @@ ghost use Rattle.h263_types.specs.Params.{IsParams};
 ghost use Rattle.packet_cutter.specs.Cutting.{packets_of};
 ghost use Rattle.sender_end.specs.Stands.{IsReady};
 
-use back_messages::Said;
+use back_messages::MessageBytes;
 use h263_outside::OutOfMemory;
 use h263_planes::PictureRef;
 use h263_types::{Clock, FixedPace, Format, Mark, Params};
@@ -33,9 +33,9 @@ enum Step {
     Lacks(Mark, &'static [u8]),
     // The first and the last sample of the picture on the screen.
     Screen(u8, u8),
-    // So many pictures are coded and played, and their packets are lost.
+    // This many pictures are coded and played, and their packets are lost.
     Lose(u32),
-    // So many pictures arrive, and each is known before the next one is coded.
+    // This many pictures arrive, and each is known before the next one is coded.
     Follow(u32),
 }
 
@@ -45,7 +45,7 @@ struct Ends {
     receiver: Receiver,
     format: Format,
     packets: Vec<Vec<u8>>,
-    messages: Vec<Said>,
+    messages: Vec<MessageBytes>,
 }
 
 impl Ends {
@@ -163,7 +163,7 @@ impl Ends {
     }
 
     // The message of the next picture, if it has this mark.
-    fn asks(&mut self, mark: Mark) -> Option<Said>
+    fn asks(&mut self, mark: Mark) -> Option<MessageBytes>
         ensures sender { self.new.sender ≡ self.old.sender }
         ensures format { self.new.format ≡ self.old.format }
     {

@@ -66,7 +66,7 @@ entered s reader after at found entry rest buf left o place count side some is g
       next_count = ap (λ (n : ℕ). n + 1) count ∙ sym v.2;
     }
 
--- the front of a buffer that was lent whole: so many bytes, or all that it has
+-- the start of a buffer that was lent whole: this many bytes, or all that it has
 pub front_is : (v : Vec ℕ Global) (got buf bytes : List ℕ) (len n : ℕ) → got ≡ (with_items v buf).items → length buf ≡ v.len → n ≡ min len v.len → take len buf ≡ bytes → take n got ≡ bytes
 front_is v got buf bytes len n is long few read =
     let same : got ≡ buf = is ∙ with_items_is v buf (omega (arith, long, v.ok.0)) in

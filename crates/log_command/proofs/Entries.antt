@@ -20,7 +20,7 @@ some_bytes : (log : List ℕ) (e : Entry) → entry_in OfReceiver log ≡ Some e
 some_bytes [] e is = absurd (cc is)
 some_bytes (b ∷ log) e is = omega arith
 
--- a whole entry stays where the log is cut behind it
+-- a whole entry stays where the log is cut after it
 abbrev pub StaysWhole : Type 0
 StaysWhole =
     (side : Side) (entry : Entry) (text : List ℕ) (k : ℕ) → entry_in side text ≡ Some entry → 3 + bytes_of entry ≤ k

@@ -35,7 +35,7 @@ StopsAtHead starved head old new = new ≡ old
 StopsAtHead unwritten head old new = GainsFronts head old new
 StopsAtHead _ head old new = ⊥
 
--- it is ready behind some number of entries, this many at most
+-- it is ready after some number of entries, this many at most
 pub record ReadyBehind (most : ℕ) (ready : ℕ → Type 0) : Type 0 where
   pub count : ℕ
   pub few : count ≤ most
@@ -56,7 +56,7 @@ log_begin first head =
     Goes (record { mind = first; at = 0; entries = 0 })
     (record { taken = no_bytes; whole = true; texts = head })
 
--- the state behind an entry of so many bytes
+-- the state after an entry of this many bytes
 abbrev pub behind_entry : {State : Type 0} → LogState State → State → ℕ → LogState State
 behind_entry s mind size = record { mind = mind; at = s.at + size; entries = s.entries + 1 }
 
@@ -78,7 +78,7 @@ play_step rules s size =
     then Goes (behind_entry s (rules.play s.mind) size) (entry_turn size (rules.play_text s.mind))
     else refused_log (TooMany s.at)
 
--- a packet has its bytes behind its letter and their number; a play has none
+-- a packet has its bytes after its letter and their number; a play has none
 abbrev pub entry_step : {State : Type 0} → LogRules State → LogState State → List ℕ → Option Entry
     → Step (LogState State)
 entry_step rules s log (Some (entries.Packet len)) = packet_step rules s (3 + len) (take len (drop 3 log))

@@ -14,7 +14,7 @@ use std::alloc::Global;
 /// and reads nothing itself.
 ///
 /// Its meaning is `first`, `head` and `rules`; the methods do that over any desk. Where one fails,
-/// a write has failed, and a front of the text was written.
+/// a write has failed, and a prefix of the text was written.
 pub trait LogCommand {
     /// What the words ask for.
     type Setup;
@@ -36,7 +36,7 @@ pub trait LogCommand {
     /// How many plays there were.
     ghost played: { Self → ℕ };
 
-    /// It can begin, and go on behind so many entries, with these roles attached.
+    /// It can begin, and go on after this many entries, with these roles attached.
     ghost opens: { Self.Setup → (Role → Bool) → Type 0 };
 
     ghost ready: { Self → ℕ → (Role → Bool) → Type 0 };

@@ -1,12 +1,9 @@
 //! The machine.
 use crate::LogCommand;
 use call_report::Status;
-use desk_program::laws::of_turns;
-use desk_program::{Acts, Turns, act_by_turns};
-use event_logs::laws::cut_behind;
-use event_logs::{Entry, LogFault, LogReader, Side};
-use h263_outside::Desk;
-use h263_outside::laws::calls;
+use desk_program::{Acts, Turns, act_by_turns, laws as desk_program_laws};
+use event_logs::{Entry, LogFault, LogReader, Side, laws as event_logs_laws};
+use h263_outside::{Desk, laws as outside_laws};
 use std::alloc::Global;
 
 // The most bytes of an entry of the log.
@@ -62,7 +59,7 @@ impl<C: LogCommand> Turns for LogMachine<C> {
         setup: &C::Setup,
         desk: &mut D,
     ) -> Result<LogMachine<C>, Status> {
-        of_turns::<()>();
+        desk_program_laws::of_turns::<()>();
         let buffer = vec![in alloc; 0; MAX_BYTES]?;
         Ok(LogMachine {
             command: C::start(alloc, setup, desk)?,
@@ -72,9 +69,9 @@ impl<C: LogCommand> Turns for LogMachine<C> {
     }
 
     fn turn<D: Desk>(&mut self, desk: &mut D) -> Result<bool, Status> {
-        of_turns::<()>();
-        cut_behind();
-        calls();
+        desk_program_laws::of_turns::<()>();
+        event_logs_laws::cut_behind();
+        outside_laws::calls();
         let Some((at, entry)) = self.reader.next(desk, &mut self.buffer)? else {
             self.command.close(desk)?;
             return Ok(false);

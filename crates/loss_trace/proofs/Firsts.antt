@@ -28,7 +28,7 @@ pub first_all : (line : List ℕ) → NoNewline line → first_line line ≡ lin
 first_all [] free = refl
 first_all (x ∷ line) free = first_other x line (All-head Other x line free) ∙ ap (λ (l : List ℕ). x ∷ l) (first_all line (All-tail Other x line free))
 
--- the front of a line
+-- a prefix of a line
 pub first_past : (front more : List ℕ) → NoNewline front → first_line (front ++ more) ≡ front ++ first_line more
 first_past [] more free = refl
 first_past (x ∷ front) more free =

@@ -73,7 +73,7 @@ stop_found digits more all =
     (λ i. cond (nat_lt (len i) (length (digits ++ 46 ∷ more))) (Some (len i)) None)
     ∙ ap (λ (t : Bool). cond t (Some (length digits)) None) (lt-ltb (length digits) (length (digits ++ 46 ∷ more)) lt)
 
--- what stands behind `D `
+-- what stands after `D `
 abbrev IsPlace : Event → List ℕ → Type 0
 IsPlace Nothing bytes = ⊥
 IsPlace Send bytes = ⊥
@@ -139,7 +139,7 @@ with_place_at n i place number =
     ap (λ (t : Bool). cond t (Some (All n)) (option_map (λ k. Packet n k) (number_in place))) star
     ∙ ap (λ (o : Option ℕ). option_map (λ k. Packet n k) o) (number_found i place number)
 
--- parts of which the last is behind the first
+-- parts of which the last is after the first
 word_behind : (word rest front more : List ℕ) → rest ≡ front ++ more → front ≡ word → more ≡ [] → rest ≡ word
 word_behind word rest front more parts is none = parts ∙ (λ i. is i ++ none i) ∙ append-nil word
 

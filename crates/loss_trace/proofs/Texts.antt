@@ -1,4 +1,4 @@
--- A text by its first line and what stands behind it.
+-- A text by its first line and what stands after it.
 use Rattle.std.proofs.Common.{◌≡◌, ◌≢◌, ℕ, zero, suc, ◌+◌, ◌<◌, ◌≤◌, ◌==◌, ◌++◌, Bool, true, false, cond, List, [], ◌∷◌, length, drop, All, refl, sym, ap, subst, ◌∙◌, arith, append_assoc, length-append, length-drop}
 use Rattle.std.specs.List.{flat_map}
 use Rattle.std.proofs.Math.Seq.{drop-append-add}
@@ -14,7 +14,7 @@ closed_text closed = flat_map (λ line. line ++ 10 ∷ []) closed
 abbrev Free : List ℕ → Type 0
 Free line = NoNewline line
 
--- a text with a first line, and the lines behind it
+-- a text with a first line, and the lines after it
 pub record Begins (text : List ℕ) (lines : List (List ℕ)) : Type 0 where
   pub more : List (List ℕ)
   pub first : lines ≡ first_line text ∷ more
@@ -95,7 +95,7 @@ first_free : (text : List ℕ) → NoNewline (first_line text)
 first_free [] = All-nil (λ b. b ≢ 10)
 first_free (b ∷ text) = free_step b text (first_free text) (b == 10) refl
 
--- a text is its first line, a newline and what is behind it
+-- a text is its first line, a newline and what is after it
 abbrev Splits : List ℕ → List ℕ → Type 0
 Splits text line = text ≡ line ++ 10 ∷ drop (length line + 1) text
 

@@ -35,7 +35,7 @@ unfolding events_of
 events_end zero = refl
 events_end (suc n) = refl
 
--- lines that were read, and what is left behind them
+-- lines that were read, and what is left after them
 record Passed (m at n : ℕ) (text : List ℕ) (events : List Event) (lines tail : List (List ℕ)) : Type 0 where
   pub rest : List ℕ
   pub is : IsText rest tail

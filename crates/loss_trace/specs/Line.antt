@@ -1,4 +1,4 @@
--- The lines of a trace: a line is a letter, numbers and marks, one behind the other.
+-- The lines of a trace: a line is a letter, numbers and marks, one after the other.
 use Rattle.std.specs.Prelude.{◌≡◌, ◌≤◌, ◌<◌, ℕ, true, List, [], ◌∷◌, ◌++◌, length, codes}
 use Rattle.std.specs.Str.{all_ascii_digits}
 use Rattle.std.specs.Str.Parse.{digits_value}
@@ -24,7 +24,7 @@ abbrev pub IsPart : Part → List ℕ → Type 0
 IsPart (Word word) bytes = bytes ≡ word
 IsPart (Number n) bytes = IsNumber n bytes
 
--- bytes that spell parts, one behind the other
+-- bytes that spell parts, one after the other
 abbrev pub Spell : List Part → List ℕ → Type 0
 Spell [] bytes = bytes ≡ []
 Spell (part ∷ parts) bytes = (front : List ℕ)

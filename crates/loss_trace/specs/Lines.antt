@@ -10,24 +10,24 @@ abbrev pub first_line : List ℕ → List ℕ
 first_line [] = []
 first_line (b ∷ text) = if b == 10 then [] else b ∷ first_line text
 
--- whether a newline stands behind them
+-- whether a newline stands after them
 abbrev pub is_closed : List ℕ → Bool
 is_closed text = nat_lt (length (first_line text)) (length text)
 
--- what stands behind the first line and its newline
+-- what stands after the first line and its newline
 abbrev pub behind_line : List ℕ → List ℕ
 behind_line text = drop (length (first_line text) + 1) text
 
--- what stands behind a line of which no byte past the 65th is looked at
+-- what stands after a line of which no byte past the 65th is looked at
 abbrev pub behind_long : List ℕ → List ℕ
 behind_long text = drop (min (length (first_line text) + 1) 65) text
 
--- what ends a text behind its last newline, as a line, if there is something
+-- what ends a text after its last newline, as a line, if there is something
 abbrev pub last_line : List ℕ → List (List ℕ)
 last_line [] = []
 last_line (b ∷ bytes) = (b ∷ bytes) ∷ []
 
--- a text whose lines are these: some that end with a newline, and what stands behind the last newline
+-- a text whose lines are these: some that end with a newline, and what stands after the last newline
 pub record IsText (text : List ℕ) (lines : List (List ℕ)) : Type 0 where
   pub closed : List (List ℕ)
   pub end : List ℕ

@@ -17,13 +17,13 @@ Moves (Err Read) old new = (old.ended ≡ false) × (new ≡ old)
 Moves (Err (Bad line)) old new = (old.ended ≡ false) × (old.lines < 16777216) × (line ≡ old.lines + 1) × (new ≡ old)
 Moves (Err (TooMany line)) old new = (old.ended ≡ false) × (old.lines ≡ 16777216) × (line ≡ 16777217) × (new ≡ old)
 
--- the first line of the rest was read, and nothing behind its newline
+-- the first line of the rest was read, and nothing after its newline
 pub record Passes (rest : List ℕ) (new : TraceReader) (left : Option (List ℕ)) : Type 0 where
   pub some : 0 < length rest
   pub ends : new.ended ≡ not (is_closed rest)
   pub gone : left ≡ Some (behind_line rest)
 
--- no line is there; behind a last line without a newline nothing is read
+-- no line is there; after a last line without a newline nothing is read
 abbrev pub IsOver : TraceReader → List ℕ → Option (List ℕ) → Type 0
 IsOver old rest left = (left ≡ Some rest) × (old.ended ≡ false → rest ≡ [])
 

@@ -25,7 +25,7 @@ pub record IsTrace (text : List ℕ) (events : List Event) : Type 0 where
 abbrev pub IsBad : List ℕ → Type 0
 IsBad line = (event : Event) → IsLine event line → ⊥
 
--- an event, and those behind it
+-- an event, and those after it
 abbrev pub events_from : Option Event → List Event → List Event
 events_from None more = []
 events_from (Some event) more = event ∷ more
@@ -34,7 +34,7 @@ abbrev pub fault_from : Option Event → ℕ → Option TraceFault → Option Tr
 fault_from None line more = Some (BadLine line)
 fault_from (Some event) line more = more
 
--- the events of a text of which so many lines may still come, up to the first fault
+-- the events of a text of which this many lines may still come, up to the first fault
 unfoldable pub events_of : ℕ → List ℕ → List Event
 events_of zero text = []
 events_of (suc n) [] = []

@@ -6,13 +6,12 @@ ghost use Rattle.h263_outside.specs.declared.desk.Role.TheVariants.{Events};
 ghost use Rattle.loss_trace.specs.Input.{CameOf, IsWithin};
 ghost use Rattle.loss_trace.specs.Lines.{IsCut};
 
-use h263_outside::laws::calls;
-use h263_outside::{Desk, Failed, Role};
+use h263_outside::{Desk, Failed, Role, laws as outside_laws};
 
 /// The most bytes of a line, without its newline.
 pub const LONGEST_LINE: usize = 64;
 
-/// A line that came to the front of a buffer, by its length, and how it ends.
+/// A line that came to the start of a buffer, by its length, and how it ends.
 #[derive(Clone, Copy)]
 pub enum Came {
     /// Nothing: the trace is over.
@@ -45,7 +44,7 @@ pub fn read_byte<D: Desk>(desk: &mut D) -> Result<Option<u8>, Failed>
     Ok(Some(byte[0]))
 }
 
-/// Reads a line to the front of a buffer, and its newline.
+/// Reads a line to the start of a buffer, and its newline.
 pub fn read_line<D: Desk>(desk: &mut D, line: &mut [u8]) -> Result<Came, Failed>
     requires attached { (D.outside desk.old).attached Events ≡ true }
     requires size { length line.old ≡ 64 }
@@ -60,7 +59,7 @@ pub fn read_line<D: Desk>(desk: &mut D, line: &mut [u8]) -> Result<Came, Failed>
         (Rose (D.outside desk.old).faults.read (D.outside desk.new).faults.read) }
     ensures rest { OnlyReads (D.outside desk.old) (D.outside desk.new) }
 {
-    calls();
+    outside_laws::calls();
     for i in 0..line.len() {
         match read_byte(desk)? {
             None if i == 0 => return Ok(Came::End),

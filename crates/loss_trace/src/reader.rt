@@ -17,7 +17,7 @@ pub struct TraceReader {
     ghost few: { lines ≤ 16777216 },
 }
 
-// A line that came to the front of a buffer: its length, and whether it had a newline.
+// A line that came to the start of a buffer: its length, and whether it had a newline.
 #[derive(Clone, Copy)]
 struct Fetched {
     len: usize,
@@ -69,7 +69,7 @@ impl TraceReader {
         Ok(Some((self.pass(fetched), event)))
     }
 
-    /// Reads the next line's bytes, without its newline, to the front of `buf`, and answers its
+    /// Reads the next line's bytes, without its newline, to the start of `buf`, and answers its
     /// number, from 1 on, and its length. None at the end of the trace. A line of more than 64
     /// bytes is bad.
     pub fn raw<D: Desk>(
@@ -95,7 +95,7 @@ impl TraceReader {
         Ok(Some((self.pass(fetched), fetched.len as u32)))
     }
 
-    // Reads the next line to the front of a buffer, if one more may come. The reader stays where it
+    // Reads the next line to the start of a buffer, if one more may come. The reader stays where it
     // is.
     fn fetch<D: Desk>(&self, desk: &mut D, buf: &mut [u8]) -> Result<Option<Fetched>, TraceStop>
         requires attached { (D.outside desk.old).attached Events ≡ true }
@@ -133,7 +133,7 @@ impl TraceReader {
         }
     }
 
-    // Goes on behind a line, and answers its number.
+    // Goes on after a line, and answers its number.
     fn pass(&mut self, line: Fetched) -> u32
         requires { self.old.lines < 16777216 }
         ensures number { result ≡ self.old.lines + 1 }

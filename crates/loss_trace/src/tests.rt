@@ -240,14 +240,14 @@ const FAILED: [(&[u8], u64, &[Event], Answer); 8] = [
     (b"S\nP", 3, &[Event::Send], Err(TraceStop::Read)),
     // A line without a newline isn't whole before the end was read.
     (b"S\nP", 4, &[Event::Send], Err(TraceStop::Read)),
-    // Behind it nothing is read.
+    // After it nothing is read.
     (b"S\nP", 5, &[Event::Send, Event::Play], Ok(None)),
     (b"S\n", 3, &[Event::Send], Err(TraceStop::Read)),
     (b"", 1, &[], Err(TraceStop::Read)),
     (b"X\n", 2, &[], Err(TraceStop::Read)),
 ];
 
-// What stands at line 16,777,216, and what comes there and behind it.
+// What stands at line 16,777,216, and what comes there and after it.
 const LAST: [(&[u8], &[Event], Answer); 7] = [
     (b"", &[], Ok(None)),
     (b"S\n", &[Event::Send], Ok(None)),
@@ -283,7 +283,7 @@ fn check_ends(rt: &impl Abort, alloc: Global) -> Result<(), OutOfMemory> {
             check_events(rt, &mut desk, reader, 16_777_216, events, end);
         }
     }
-    // No byte of line 16,777,217 behind the first is asked for.
+    // No byte of line 16,777,217 after the first is asked for.
     let mut desk = opened(alloc, 1, b"S\nX", 4)?;
     let reader = TraceReader::new().before_the_last();
     let many = Err(TraceStop::TooMany { line: 16_777_217 });
@@ -301,7 +301,7 @@ fn failed_reads_and_the_last_line(rt: HostRuntime) -> Result<(), Fail> {
 
 const LINE_64: &[u8] = b"0123456789012345678901234567890123456789012345678901234567890123";
 
-// A line's bytes are given whatever they say, and the reader goes on behind them.
+// A line's bytes are given whatever they say, and the reader goes on after them.
 fn check_bytes(rt: &impl Abort, alloc: Global, piece: usize) -> Result<(), OutOfMemory>
     requires { 0 < piece }
 {
@@ -329,7 +329,7 @@ fn check_bytes(rt: &impl Abort, alloc: Global, piece: usize) -> Result<(), OutOf
     assert_eq!(rt; reader.raw(&mut desk, &mut buf), Ok(Some((4, 64))));
     assert_eq!(rt; buf.as_slice(), LINE_64);
     assert_eq!(rt; reader.raw(&mut desk, &mut buf), Ok(Some((5, 1))));
-    // Behind a line without a newline nothing is read.
+    // After a line without a newline nothing is read.
     desk.put(Role::Events, b"S\n")?;
     assert_eq!(rt; reader.raw(&mut desk, &mut buf), Ok(None));
     assert_eq!(rt; reader.next(&mut desk), Ok(None));

@@ -33,7 +33,7 @@ goes text blocks k old new all inside wrote before =
     ∙ ap (λ (l : List Bool). old ++ l) (sym (next text blocks k inside))
     ∙ before
 
--- behind the last block nothing is left
+-- after the last block nothing is left
 pub none_left_text : (text : List ℤ → List Bool) (blocks : List Block) (k : ℕ) → length blocks ≤ k → left text blocks k ≡ []
 unfolding blocks_text
 none_left_text text blocks k past = rw (drop_all k blocks past) refl

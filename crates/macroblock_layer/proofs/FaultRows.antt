@@ -34,7 +34,7 @@ intra_row : (text : List Bool) (kind : FaultKind) (place : ℕ) → HasFault (mc
 unfolding lead lead_turn class_turn
 intra_row text kind place h = fault_in_turn tt (lead_turn kinds.I) text kind place (fault_in_part (mcbpc kinds.I) no_four _ text kind place h)
 
--- behind COD
+-- after COD
 coded_row : (text : List Bool) (kind : FaultKind) (place : ℕ) → HasFault (class_turn kinds.P) text kind place → HasFault (lead kinds.P) (false ∷ text) kind (1 + place)
 unfolding lead lead_turn spelled
 coded_row text kind place h = fault_in_turn tt (lead_turn kinds.P) (false ∷ text) kind (1 + place) (fault_behind_field 1 any _ 0 text kind place (omega arith) refl h)
@@ -100,7 +100,7 @@ unfolding vector
 reach_row tables reach predictor x y a b p q out =
     fault_of_whole_part difference (in_reach reach predictor) _ (record { x = x; y = y }) (a ++ b) faults.BadVector (difference_productive tables) (difference_spelt x y a b p q) (out_of_reach reach predictor (record { x = x; y = y }) out)
 
--- ---- what stands behind MCBPC
+-- ---- what stands after MCBPC
 
 cbpy_row : (quant : ℕ) (reach : Reach) (predictor : Vector) (class : MbClass) (cbpc : ℕ) (text : List Bool) (kind : FaultKind) (place : ℕ) → HasFault (cbpy (is_intra class)) text kind place → HasFault (coded_mb quant reach predictor class cbpc) text kind place
 unfolding coded_mb

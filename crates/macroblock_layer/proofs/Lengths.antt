@@ -22,7 +22,7 @@ use Rattle.macroblock_layer.specs.Text.{wrapped}
 use Rattle.macroblock_layer.specs.Written.{has_levels, cbpy_of, cbpc_of, class_of, cod_text, class_text, step_text, head_text, vector_text, blocks_text, intra_mb_text, inter_mb_text}
 use Rattle.macroblock_layer.specs.Laws.{AreShort}
 
--- words of a table of at most so many bits
+-- words of a table of at most this many bits
 are_within : ℕ → List (List Bool) → Bool
 are_within most words = list_all (λ w. nat_le (length w) most) words
 

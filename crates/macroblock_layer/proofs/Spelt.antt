@@ -111,7 +111,7 @@ quantiser_spelt tables test quant new is near = at (new == quant) refl test
 
 -- ---- vector
 
--- z modulo 64, and so many times 64 more or less
+-- z modulo 64, and how many times 64 more or less that is
 record Wraps (z : ℤ) : Type 0 where
   less : ℕ
   more : ℕ

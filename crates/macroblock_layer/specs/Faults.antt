@@ -23,14 +23,14 @@ use Rattle.block_layer.specs.Text.{intra_block, inter_block}
 use Rattle.macroblock_layer.specs.declared.reading.Lead.{Lead}
 use Rattle.macroblock_layer.specs.Text.{lead, is_intra, quantiser, moved, is_within, vector, blocks, intra, inter, intra_mb, inter_mb, coded_mb, behind, mb}
 
--- COD and MCBPC, behind stuffing
+-- COD and MCBPC, after stuffing
 pub record LeadFaults : Type 0 where
   pub intra : (text : List Bool) (kind : FaultKind) (place : ℕ)
       → HasFault (mcbpc kinds.I) text kind place → HasFault (lead kinds.I) text kind place
   pub inter : (text : List Bool) (kind : FaultKind) (place : ℕ)
       → HasFault (mcbpc kinds.P) text kind place
       → HasFault (lead kinds.P) (false ∷ text) kind (1 + place)
-  -- four vectors: the fault stands at MCBPC, behind COD
+  -- four vectors: the fault stands at MCBPC, after COD
   pub four : (n : ℕ) (w : List Bool) → IsIn (w, Word classes.Inter4 n) (mcbpc_words kinds.P)
       → HasFault (lead kinds.P) (false ∷ w) faults.FourVectors 1
   pub intra_stuffing : (text : List Bool) (kind : FaultKind) (place : ℕ)
@@ -53,7 +53,7 @@ pub record VectorFaults : Type 0 where
       → Spells mvd y b → is_within reach (moved predictor (record { x = x; y = y })) ≡ false
       → HasFault (vector reach predictor) (a ++ b) faults.BadVector 0
 
--- what stands behind MCBPC
+-- what stands after MCBPC
 pub record CodedFaults (quant : ℕ) (reach : Reach) (predictor : Vector) (class : MbClass) (cbpc : ℕ) : Type 0 where
   pub of_cbpy : (text : List Bool) (kind : FaultKind) (place : ℕ)
       → HasFault (cbpy (is_intra class)) text kind place
@@ -79,7 +79,7 @@ abbrev pub block_in : Bool → Bool → Syntax Block
 block_in true coded = intra coded
 block_in false coded = inter coded
 
--- the six blocks: the four of luma, left to right and top to bottom, Cb and Cr, each behind the
+-- the six blocks: the four of luma, left to right and top to bottom, Cb and Cr, each after the
 -- texts of those before it
 pub record BlockFaults (is : Bool) (cbpy cbpc : ℕ) : Type 0 where
   pub of_first : (text : List Bool) (kind : FaultKind) (place : ℕ)
@@ -115,7 +115,7 @@ pub record BlockFaults (is : Bool) (cbpy cbpc : ℕ) : Type 0 where
       (length a + (length b + (length c + (length d + (length e + place)))))
 
 pub record MbFaults : Type 0 where
-  -- the first fault is the one that the element behind the longest list of elements without a fault has
+  -- the first fault is the one that the element after the longest list of elements without a fault has
   pub first : (kind : Kind) (quant : ℕ) (reach : Reach) (predictor : Vector)
       (b : Bits) (fault : Fault) → (reading (mb kind quant reach predictor) b ≡ Err fault)
       ↔ IsFirstFault (mb kind quant reach predictor) b fault

@@ -4,7 +4,7 @@ use Rattle.h263_types.specs.declared.Kind.{Kind}
 use Rattle.h263_types.specs.declared.vector.Vector.{Vector}
 use Rattle.h263_types.specs.declared.vector.Reach.{Reach}
 use Rattle.h263_types.specs.declared.blocks.Mb.{Mb}
-use Rattle.h263_types.specs.Blocks.{IsMb, IsOfKind, IsWhole}
+use Rattle.h263_types.specs.Blocks.{IsMb, IsOfKind, HasWholeBlocks}
 use Rattle.h263_bits.specs.Syntax.{IsProductive}
 use Rattle.macroblock_layer.specs.Text.{mb, IsMbText}
 use Rattle.macroblock_layer.specs.Written.{mb_text, IsStepped, IsReached}
@@ -19,14 +19,14 @@ AreProductive =
 abbrev pub AreSpelt : Type 0
 AreSpelt =
     (kind : Kind) (quant : ℕ) (reach : Reach) (predictor : Vector) (m : Mb)
-    → IsMb m → IsOfKind kind m → IsStepped quant m → IsWhole m → IsReached reach m
+    → IsMb m → IsOfKind kind m → IsStepped quant m → HasWholeBlocks m → IsReached reach m
     → IsMbText kind quant reach predictor m (mb_text kind quant predictor m)
 
 -- no text that is written is longer
 abbrev pub AreShort : Type 0
 AreShort =
     (kind : Kind) (quant : ℕ) (predictor : Vector) (m : Mb)
-    → IsWhole m → length (mb_text kind quant predictor m) ≤ 8492
+    → HasWholeBlocks m → length (mb_text kind quant predictor m) ≤ 8492
 
 pub record MbLaws : Type 0 where
   pub productive : AreProductive

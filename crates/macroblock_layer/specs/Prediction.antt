@@ -19,7 +19,7 @@ abbrev pub left_of : List Vector → ℕ → ℕ → ℕ → Vector
 left_of vectors first mb columns =
     if (mb % columns == 0) || (mb == first) then no_vector else vector_at vectors (mb - 1)
 
--- whether the macroblock so many places before this one lies above the picture, or before the slice's first one
+-- whether the macroblock this many places before this one lies above the picture, or before the slice's first one
 abbrev pub is_outside : ℕ → ℕ → ℕ → Bool
 is_outside first mb back = nat_lt mb back || nat_lt (mb - back) first
 

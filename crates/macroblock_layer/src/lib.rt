@@ -7,7 +7,7 @@
 //! is the vector that its own is coded against.
 //!
 //! ```rust
-//! // not coded where the first bit is 1; behind it the reader stands at bit 1
+//! // not coded where the first bit is 1; after it the reader stands at bit 1
 //! let mut mb = Mb::Intra { quant: 8, blocks };
 //! read_mb(&mut BitReader::new(&[0x80], 0, 8), Kind::P, 8, predictor, reach, &mut mb)?;
 //! assert!(rt; mb == Mb::Skip);

@@ -7,8 +7,8 @@ use h263_types::Vector;
 const NO_VECTOR: Vector = Vector { x: 0, y: 0 };
 
 /// The prediction of macroblock `mb`'s vector, in half samples: component by component the median
-/// of the vectors on the left, above and above on the right (H.263, 6.1.1), in a picture of so many
-/// columns of macroblocks and a slice that begins with macroblock `first`. `vectors` has the
+/// of the vectors on the left, above and above on the right (H.263, 6.1.1), in a picture of this
+/// many columns of macroblocks and a slice that begins with macroblock `first`. `vectors` has the
 /// vectors of the slice's earlier macroblocks at their places, and (0, 0) where a macroblock has
 /// none.
 pub fn predictor(vectors: &[Vector], first: u32, mb: u32, columns: u32) -> Vector

@@ -191,7 +191,7 @@ fn read_inter_blocks(
     Ok(())
 }
 
-// Stuffing, and what stands first behind it.
+// Stuffing, and what stands first after it.
 fn read_lead(reader: &mut BitReader<'_>, kind: Kind) -> Result<Lead, Fault>
     ensures { Gives (λ (l : Lead). l) result reader.new (reading (lead kind) reader.old) }
 {
@@ -203,7 +203,7 @@ fn read_lead(reader: &mut BitReader<'_>, kind: Kind) -> Result<Lead, Fault>
     }
 }
 
-// The macroblock behind a class: its quantiser is in force from here on. Its blocks are read into
+// The macroblock after a class: its quantiser is in force from here on. Its blocks are read into
 // one array, which is moved once.
 #[tactic(auto, unfolding(crate::specs::Text::intra_mb, h263_bits::specs::Syntax::reading))]
 fn read_intra_mb(

@@ -71,7 +71,7 @@ fn is_stepped(mb: &Mb) -> bool
     }
 }
 
-// Reads the macroblock of a text of so many bits, and writes it again. Answers it, and how many
+// Reads the macroblock of a text of this many bits, and writes it again. Answers it, and how many
 // bits were written.
 fn rewritten(
     kind: Kind,
@@ -91,7 +91,7 @@ fn rewritten(
     Ok((mb, writer.len()))
 }
 
-// One text of each class with the quantiser and the vector that it spells, behind the predictor
+// One text of each class with the quantiser and the vector that it spells, after the predictor
 // (31, -3). The difference from 31 to -32, which is -63, is spelled `010`.
 #[test]
 fn one_text_of_each_class(rt: HostRuntime) -> Result<(), Fail> {

@@ -215,7 +215,7 @@ fn write_inter_blocks(writer: &mut BitWriter<'_>, blocks: &[Block; 6])
     }
 }
 
-// The longest text of a macroblock has at most so many bits: 18 before the vector, 26 of the
+// The longest text of a macroblock has at most this many bits: 18 before the vector, 26 of the
 // vector, and 1,408 of each block.
 #[tactic(auto, unfolding(crate::specs::Written::intra_mb_text))]
 fn write_intra_mb(writer: &mut BitWriter<'_>, kind: Kind, quant: u8, new: u8, blocks: &[Block; 6])

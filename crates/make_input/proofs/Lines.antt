@@ -13,7 +13,7 @@ pub state_after_play : (n state : ℕ) → 0 < n → after_plays n state ≡ nex
 state_after_play zero state lt = absurd (omega arith)
 state_after_play (suc m) state lt = refl
 
--- what is left of a frame, and then so many frames and the last line
+-- what is left of a frame, and then this many frames and the last line
 abbrev pub left : Option Event → Option Event → Option Event → Option Event → ℕ → ℕ → ℕ → Option Event → List Event
 left first second play back frames n state last =
     one_or_none first ++ (one_or_none second ++ (one_or_none play ++ (one_or_none back ++ (frames_from frames n state ++ one_or_none last))))
@@ -33,7 +33,7 @@ begins first second play back last (suc frames) n state some arrive plays_is =
     rw (less, ← arrive, ← plays_is)
     (ap (λ (l : List Event). Send ∷ l) (regroup (one_or_none first) (one_or_none second) (one_or_none play) (one_or_none back) rest (one_or_none last)))
 
--- behind the frames stands the last line, and then none
+-- after the frames stands the last line, and then none
 pub no_frames : (frames n state : ℕ) → frames ≤ 0 → frames_from frames n state ≡ []
 unfolding frames_from
 no_frames zero n state none = refl

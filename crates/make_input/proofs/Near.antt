@@ -10,7 +10,7 @@ use Rattle.call_model.specs.Lawful.{IsPace, IsRules}
 use Rattle.call_model.specs.Sending.{next_coded}
 use Rattle.call_model.specs.Sound.{EncoderIsSound}
 use Rattle.call_model.specs.CodedPictures.{Coded}
-use Rattle.call_model.specs.IdealCall.{AllNear, AllNearFrom, Arrival, Call, Event, Note, Source, Send, Deliver, Play, Back, Got, Lost, about, after, call_from, delivery_counts, encoded, full_flags, has_arrived, is_full, is_open, newest_full, shown_at, slices_at, with_arrival}
+use Rattle.call_model.specs.IdealCall.{AllMayHappen, AllMayHappenFrom, Arrival, Call, Event, NumberedMessage, Source, Send, Deliver, Play, Back, Got, Lost, about, after, call_from, delivery_counts, encoded, full_flags, has_arrived, is_full, is_open, newest_full, shown_at, slices_at, with_arrival}
 use Rattle.call_model.specs.Numbers.{AllBelowIs, all_below}
 use Rattle.loss_trace.specs.declared.event.Event.{Event as Line}
 use Rattle.loss_trace.specs.declared.event.Event.TheVariants as line
@@ -173,10 +173,10 @@ deliveries_deliver n u = deliveries_by n (u == 0) (u == 1) (u == 2) (u == 3)
 -- ---- what holds between two lines
 
 -- messages are about pictures that lie no more than one before their own place
-abbrev AboutNear : List Note → Type 0
-AboutNear said = (i : ℕ) (note : Note) → slice_get said i ≡ Some note → i ≤ about note + 1
+abbrev AboutNear : List NumberedMessage → Type 0
+AboutNear said = (i : ℕ) (note : NumberedMessage) → slice_get said i ≡ Some note → i ≤ about note + 1
 
-near_more : (said : List Note) (note : Note) → AboutNear said → length said ≤ about note + 1 → AboutNear (said ++ note ∷ [])
+near_more : (said : List NumberedMessage) (note : NumberedMessage) → AboutNear said → length said ≤ about note + 1 → AboutNear (said ++ note ∷ [])
 near_more said note near small i other at = go (cases_lt i (length said))
   where
     go : (i < length said) ⊎ (length said ≤ i) → i ≤ about other + 1
@@ -187,7 +187,7 @@ near_more said note near small i other at = go (cases_lt i (length said))
           let is : i ≡ length said = omega arith in
           let found : Some note ≡ Some other = sym (at_last said note) ∙ (rw is at at) in
           let one : note ≡ other = cc in
-          subst (λ (n : Note). i ≤ about n + 1) one (omega arith)
+          subst (λ (n : NumberedMessage). i ≤ about n + 1) one (omega arith)
     ]
 
 module _ {Style Mb Picture : Type 0} where
@@ -255,14 +255,14 @@ module _ {Style Mb Picture : Type 0} (pictures : Pictures Style Mb Picture) (rul
       go : (t : Bool) → delivery_counts rules c n j ≡ t → (b : Bool) → is_full c.coded (with_arrival c.arrivals n j) n ≡ b → Standing (after pictures rules source c (Deliver n j)) p (suc k)
       go false d b f =
           subst (λ (x : Call Style Mb Picture). Standing x p (suc k))
-          (sym (same false b d f ∙ ap (λ (l : List Note). let x : Call Style Mb Picture = record c { said = l } in x) (append-nil c.said))) s
+          (sym (same false b d f ∙ ap (λ (l : List NumberedMessage). let x : Call Style Mb Picture = record c { said = l } in x) (append-nil c.said))) s
       go true d false f =
           let next : Call Style Mb Picture = record c { arrivals = more } in
           let here : is_full c.coded more (p + k) ≡ false = subst (λ (m : ℕ). is_full c.coded more m ≡ false) at f in
           let was : full c (p + k) ≡ false = subst (λ (m : ℕ). full c m ≡ false) at (not_full d) in
           let count : tally (is_full c.coded more) p (suc k) ≡ tally (full c) p (suc k) = tally_last (is_full c.coded more) p k ∙ rw (here, before) (sym (tally_last (full c) p k ∙ rw was refl)) in
           subst (λ (x : Call Style Mb Picture). Standing x p (suc k))
-          (sym (same true false d f ∙ ap (λ (l : List Note). let x : Call Style Mb Picture = record next { said = l } in x) (append-nil c.said)))
+          (sym (same true false d f ∙ ap (λ (l : List NumberedMessage). let x : Call Style Mb Picture = record next { said = l } in x) (append-nil c.said)))
           (record { coded = s.coded; played = s.played; said = rw count s.said; near = s.near; fresh = fresh })
       go true d true f =
           let note = Got n (full_flags rules c.coded more n) in
@@ -283,7 +283,7 @@ module _ {Style Mb Picture : Type 0} (pictures : Pictures Style Mb Picture) (rul
   played_on : (c : Call Style Mb Picture) (p k : ℕ) → k ≤ 1 → Standing c p (suc k) → Standing (after pictures rules source c Play) (suc p) k
   played_on c p k small s = go (full c p) refl
     where
-      note : Note
+      note : NumberedMessage
       note = Lost c.played (newest_full rules c.coded c.arrivals c.played) (full_flags rules c.coded c.arrivals c.played)
 
       call_by : Bool → Call Style Mb Picture
@@ -333,7 +333,7 @@ module _ {Style Mb Picture : Type 0} (pictures : Pictures Style Mb Picture) (rul
   call_at past = call_from pictures rules source past
 
   record Good (frames : ℕ) (past : List Event) (p k : ℕ) : Type 0 where
-    near : AllNearFrom pictures rules source frames past
+    near : AllMayHappenFrom pictures rules source frames past
     stands : Standing (call_at past) p k
 
   send_good : AllBelowIs → (frames : ℕ) → SendsSlices pictures rules source frames → 4 ≤ rules.half → (past : List Event) (p k : ℕ) → k ≤ 1 → p + k < frames → Good frames past p k → Good frames (Send ∷ past) p (suc k)
@@ -388,13 +388,13 @@ module _ {Style Mb Picture : Type 0} (pictures : Pictures Style Mb Picture) (rul
 
   -- the events of all lines are near, whatever stands before the rest
   abbrev Ends : ℕ → List Event → List Line → Type 0
-  Ends frames past lines = AllNearFrom pictures rules source frames (expanded pictures rules source past lines)
+  Ends frames past lines = AllMayHappenFrom pictures rules source frames (expanded pictures rules source past lines)
 
   line_ends : (frames : ℕ) (past : List Event) (l : Line) (rest : List Line) → Ends frames (onto (line_events (call_at past) l) past) rest → Ends frames past (l ∷ rest)
   unfolding expanded
   line_ends frames past l rest h = h
 
-  no_lines : (frames : ℕ) (past : List Event) → AllNearFrom pictures rules source frames past → Ends frames past []
+  no_lines : (frames : ℕ) (past : List Event) → AllMayHappenFrom pictures rules source frames past → Ends frames past []
   unfolding expanded
   no_lines frames past h = h
 
@@ -422,7 +422,7 @@ module _ {Style Mb Picture : Type 0} (pictures : Pictures Style Mb Picture) (rul
       go false played =
           rw less (line_ends frames (Play ∷ past) (line.Back p) rest (onward (Back p ∷ Play ∷ past) (back_good frames half (Play ∷ past) p played)))
 
-  -- the lines of frame n, and what is behind them
+  -- the lines of frame n, and what is after them
   frame_ends : AllBelowIs → (frames : ℕ) → SendsSlices pictures rules source frames → 4 ≤ rules.half → (n state : ℕ) (rest : List Line) → n < frames
       → ((past : List Event) → Before frames past (suc n) → Ends frames past rest)
       → (past : List Event) → Before frames past n → Ends frames past (frame_lines n state ++ rest)
@@ -440,7 +440,7 @@ module _ {Style Mb Picture : Type 0} (pictures : Pictures Style Mb Picture) (rul
       (play_lines frames half m v rest onward)
       (Send ∷ past) (send_good below frames sends half past m 1 (omega arith) (omega arith) g)))
 
-  -- so many frames from frame n on, and the last line
+  -- this many frames from frame n on, and the last line
   frames_end : AllBelowIs → (frames : ℕ) → SendsSlices pictures rules source frames → 4 ≤ rules.half → (some n state : ℕ) → n + some ≡ frames → (past : List Event) → Before frames past n
       → Ends frames past (frames_from some n state ++ last_line frames)
   unfolding frames_from
@@ -461,7 +461,7 @@ module _ {Style Mb Picture : Type 0} (pictures : Pictures Style Mb Picture) (rul
       (λ later behind. frames_end below frames sends half some (suc n) (after_plays n (next_state state)) (omega arith) later behind) past g)
 
   -- every event of a made trace is near
-  pub made_near : AllBelowIs → (seed frames : ℕ) → 4 ≤ rules.half → SendsSlices pictures rules source frames → AllNearFrom pictures rules source frames (expanded pictures rules source [] (made_trace seed frames))
+  pub made_near : AllBelowIs → (seed frames : ℕ) → 4 ≤ rules.half → SendsSlices pictures rules source frames → AllMayHappenFrom pictures rules source frames (expanded pictures rules source [] (made_trace seed frames))
   made_near below seed frames half sends =
       frames_end below frames sends half frames 0 seed (omega arith) [] (record {
         near = tt;
@@ -483,6 +483,6 @@ encoder_sends {Frame} {Style} {Mb} {Picture} coding rules pace frames sound lawf
 
 pub made_taken : {Frame Style Mb Picture Fault MessageFault : Type 0} (coding : Coding Frame Style Mb Picture Fault MessageFault) (rules : Rules) (pace : List ℕ → ℕ) (frames : List Frame) (seed : ℕ)
     → AllBelowIs → EncoderIsSound coding rules → IsRules rules → IsPace pace → 4 ≤ rules.half
-    → AllNear coding rules pace frames (expanded (pictures_of coding) rules (encoded coding rules pace frames) [] (made_trace seed (length frames)))
+    → AllMayHappen coding rules pace frames (expanded (pictures_of coding) rules (encoded coding rules pace frames) [] (made_trace seed (length frames)))
 made_taken coding rules pace frames seed below sound lawful paced half =
     made_near (pictures_of coding) rules (encoded coding rules pace frames) below seed (length frames) half (encoder_sends coding rules pace frames sound lawful paced)

@@ -12,7 +12,7 @@ abbrev pub onto : List Event → List Event → List Event
 onto [] past = past
 onto (e ∷ events) past = onto events (e ∷ past)
 
--- the events of a line behind a call; a line that delivers all packets of a picture delivers them in their order
+-- the events of a line after a call; a line that delivers all packets of a picture delivers them in their order
 abbrev pub line_events : {Style Mb Picture : Type 0} → Call Style Mb Picture → Line → List Event
 line_events c line.Nothing = []
 line_events c line.Send = Send ∷ []
@@ -23,12 +23,12 @@ line_events c line.Play = Play ∷ []
 
 module _ {Style Mb Picture : Type 0}
     (pictures : Pictures Style Mb Picture) (rules : Rules) (source : Source Style Mb Picture) where
-  -- the events of these lines behind others, the newest first
+  -- the events of these lines after others, the newest first
   unfoldable pub expanded : List Event → List Line → List Event
   expanded past [] = past
   expanded past (l ∷ lines) = expanded (onto (line_events (call_from pictures rules source past) l) past) lines
 
-  -- after any events a picture with a slice can be sent, until there were so many
+  -- after any events a picture with a slice can be sent, until there were this many
   abbrev pub SendsSlices : ℕ → Type 0
   SendsSlices frames = (past : List Event) → length (call_from pictures rules source past).coded < frames
       → (x : Coded Style Mb Picture) × (source (call_from pictures rules source past) ≡ Some x) × (0 < length x.slices)

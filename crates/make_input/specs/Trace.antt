@@ -28,12 +28,12 @@ deliveries n u =
 abbrev pub messages : ℕ → ℕ → List Event
 messages n v = if v == 0 then [] else Back (n - 1) ∷ []
 
--- behind a capture but the first the picture before is played, and its message may arrive
+-- after a capture but the first the picture before is played, and its message may arrive
 abbrev pub plays : ℕ → ℕ → List Event
 plays zero state = []
 plays (suc m) state = Play ∷ messages (suc m) (draw (next_state state) 8)
 
--- the state behind that, in which nothing is drawn at the first
+-- the state after that, in which nothing is drawn at the first
 abbrev pub after_plays : ℕ → ℕ → ℕ
 after_plays zero state = state
 after_plays (suc m) state = next_state state
@@ -42,12 +42,12 @@ after_plays (suc m) state = next_state state
 abbrev pub frame_lines : ℕ → ℕ → List Event
 frame_lines n state = Send ∷ (deliveries n (draw (next_state state) 16) ++ plays n (next_state state))
 
--- the lines of so many frames from frame n on
+-- the lines of this many frames from frame n on
 unfoldable pub frames_from : ℕ → ℕ → ℕ → List Event
 frames_from zero n state = []
 frames_from (suc frames) n state = frame_lines n state ++ frames_from frames (n + 1) (after_plays n (next_state state))
 
--- behind the last frame its picture is played
+-- after the last frame its picture is played
 abbrev pub last_line : ℕ → List Event
 last_line frames = if nat_lt 0 frames then Play ∷ [] else []
 

@@ -7,8 +7,7 @@ ghost use Rattle.h263_planes.specs.Samples.{Inside, IsPicture, in_run, same_plan
 ghost use Rattle.h263_planes.specs.Work.{loan_of, work};
 ghost use Rattle.make_input.specs.Frames.{made_sample, triangle};
 
-use h263_planes::laws::samples_are_picture;
-use h263_planes::{PictureMut, Plane};
+use h263_planes::{PictureMut, Plane, laws as planes_laws};
 use h263_types::Format;
 
 // The most samples in a row.
@@ -103,7 +102,7 @@ pub fn frame(format: Format, seed: u32, number: u32, out: &mut PictureMut<'_>)
     ensures format { (work out.new).format ≡ format }
     ensures whole { IsPicture (work out.new) }
 {
-    samples_are_picture();
+    planes_laws::samples_are_picture();
     put_plane(seed, number, Plane::Y, out);
     put_plane(seed, number, Plane::Cb, out);
     put_plane(seed, number, Plane::Cr, out);

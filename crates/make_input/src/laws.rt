@@ -1,7 +1,7 @@
 //! Laws over the definitions alone.
 ghost use Rattle.std.specs.Prelude.{◌≡◌, ℕ, ◌≤◌, ◌<◌, List, [], length, Some};
 ghost use Rattle.call_model.specs.Coding.{Coding, Pictures, Rules, pictures_of};
-ghost use Rattle.call_model.specs.IdealCall.{AllNear, AllNearFrom, Source, encoded};
+ghost use Rattle.call_model.specs.IdealCall.{AllMayHappen, AllMayHappenFrom, Source, encoded};
 ghost use Rattle.call_model.specs.IdealCall.{Send, Deliver, Play, Back};
 ghost use Rattle.call_model.specs.Refusals.{NoFrame, NotSaid, NotSent, PlayBeforeSend, first_refusal};
 ghost use Rattle.call_model.specs.Lawful.{IsCoding, IsPace, IsRules};
@@ -15,7 +15,7 @@ use call_model::laws::{encoder_is_sound, searches};
 pub fn made_traces_are_near<Style, Mb, Picture>()
     ensures { (pictures : Pictures Style Mb Picture)
         (rules : Rules) (source : Source Style Mb Picture) (seed frames : ℕ) → 4 ≤ rules.half
-        → SendsSlices pictures rules source frames → AllNearFrom pictures rules source frames
+        → SendsSlices pictures rules source frames → AllMayHappenFrom pictures rules source frames
         (expanded pictures rules source [] (made_trace seed frames)) }
 {
     searches();
@@ -25,7 +25,7 @@ pub fn made_traces_are_near<Style, Mb, Picture>()
 pub fn made_calls_are_near<Frame, Style, Mb, Picture, Fault, MessageFault>()
     ensures { (coding : Coding Frame Style Mb Picture Fault MessageFault) (rules : Rules)
         (pace : List ℕ → ℕ) (frames : List Frame) (seed : ℕ) → IsCoding coding rules → IsRules rules
-        → IsPace pace → 4 ≤ rules.half → AllNear coding rules pace frames
+        → IsPace pace → 4 ≤ rules.half → AllMayHappen coding rules pace frames
         (expanded (pictures_of coding) rules
         (encoded coding rules pace frames) [] (made_trace seed (length frames))) }
 {

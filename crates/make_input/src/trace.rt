@@ -4,7 +4,7 @@ ghost use Rattle.make_input.specs.Trace.{deliveries, one_or_none};
 
 use loss_trace::Event;
 
-/// Gives the lines of the trace of a seed, over so many frames.
+/// Gives the lines of the trace of a seed, over this many frames.
 #[derive(Clone, Copy, Debug)]
 pub struct TraceMaker {
     // What the draws stand at.
@@ -17,7 +17,7 @@ pub struct TraceMaker {
     second: Option<Event>,
     play: Option<Event>,
     back: Option<Event>,
-    // The play behind the last frame.
+    // The play after the last frame.
     last: Option<Event>,
     ghost few: { number + frames < 2 ^ 32 },
 }
@@ -61,7 +61,7 @@ impl TraceMaker {
         }
     }
 
-    /// The next line, None behind the last.
+    /// The next line, None after the last.
     pub fn next(&mut self) -> Option<Event>
         ensures { MatchOption result
             ((lines_left self.old ≡ []) × (lines_left self.new ≡ []))

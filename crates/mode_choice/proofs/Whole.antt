@@ -6,7 +6,7 @@ use Rattle.std.proofs.lemmas.List.FromFn.{length-map-range_with_len}
 use Rattle.h263_types.specs.declared.blocks.Block.{Block}
 use Rattle.h263_types.specs.declared.params.Params.{Params}
 use Rattle.h263_types.specs.declared.vector.Vector.{Vector}
-use Rattle.h263_types.specs.Blocks.{AreWhole, IsWhole}
+use Rattle.h263_types.specs.Blocks.{AreWhole, HasWholeBlocks}
 use Rattle.h263_planes.specs.Picture.{Picture}
 use Rattle.picture_header.specs.declared.header.Header.{Header}
 use Rattle.mode_choice.specs.Choice.{blocks_of, choice_of, coefficient_at, level_of, levels_of, residual_blocks_of, residual_level_of, residual_levels_of, residuals_of, samples_of}
@@ -35,8 +35,8 @@ unfolding residual_blocks_of
 whole_residuals p reference quant keep r mb v =
     six_blocks (λ b. residual_levels_of quant keep (residuals_of p reference r mb v b)) (λ b. long_residual quant keep (residuals_of p reference r mb v b))
 
-pub chosen_whole : (frame : Picture) (reference : Option Picture) (h : Header) (params : Params) (mb : ℕ) → IsWhole (choice_of frame reference h params mb)
+pub chosen_whole : (frame : Picture) (reference : Option Picture) (h : Header) (params : Params) (mb : ℕ) → HasWholeBlocks (choice_of frame reference h params mb)
 chosen_whole frame None h params mb = whole_blocks frame h.quant params.keep mb
 chosen_whole frame (Some reference) h params mb =
-    chosen_in_p IsWhole frame reference h params mb (whole_blocks frame h.quant params.keep mb) tt
+    chosen_in_p HasWholeBlocks frame reference h params mb (whole_blocks frame h.quant params.keep mb) tt
     (whole_residuals frame reference h.quant params.keep h.rounding mb _)

@@ -4,10 +4,8 @@ ghost use Rattle.h263_types.specs.Blocks.{IsCoefficient, IsLevel, IsQuant};
 ghost use Rattle.quantiser.specs.Levels.{factor_of};
 ghost use Rattle.mode_choice.specs.Walk.{least_of, level_by, level_in};
 
-use h263_types::Block;
-use h263_types::laws::{lowest, marks, one_more};
-use quantiser::laws::one_order;
-use quantiser::{factor, level_inter_by, level_intra_by, zigzag_place};
+use h263_types::{Block, laws as types_laws};
+use quantiser::{factor, laws as quantiser_laws, level_inter_by, level_intra_by, zigzag_place};
 
 // How a block is coded: by itself, or as what a prediction leaves.
 #[derive(Clone, Copy, Debug)]
@@ -42,9 +40,9 @@ pub(crate) fn levels_in(coding: Coding, quant: u8, keep: u8, coefficients: &[i32
         → k < 64 → slice_index_or result k (pos 0) ≡ level_in coding quant keep coefficients.now k }
     ensures range { All IsLevel result }
 {
-    lowest();
-    marks();
-    one_order();
+    types_laws::lowest();
+    types_laws::marks();
+    quantiser_laws::one_order();
     let by_rows = levels_by_rows(coding, quant, coefficients);
     let mut levels = [0; 64];
     let mut rest = Block { levels: by_rows }.marks();
@@ -79,7 +77,7 @@ fn levels_by_rows(coding: Coding, quant: u8, coefficients: &[i32; 64]) -> [i16; 
         ≡ level_by coding quant (slice_index_or coefficients.now at (pos 0)) }
     ensures range { All IsLevel result }
 {
-    one_more::<i16>();
+    types_laws::one_more::<i16>();
     let factor = factor(quant);
     let mut levels = [0; 64];
     for at in 0..64 {

@@ -3,7 +3,7 @@
 ghost use Rattle.std.specs.Prelude.{◌≡◌, ℕ, ◌+◌, ◌<◌, ◌≤◌, [], ◌∷◌, ◌++◌, length, slice_index_or, take, Option};
 ghost use Rattle.h263_types.specs.declared.blocks.Mb.TheVariants.{Skip};
 ghost use Rattle.h263_types.specs.declared.params.Params.{Params};
-ghost use Rattle.h263_types.specs.Blocks.{HasQuant, IsMb, IsOfKind, IsQuant, IsWhole};
+ghost use Rattle.h263_types.specs.Blocks.{HasQuant, IsMb, IsOfKind, IsQuant, HasWholeBlocks};
 ghost use Rattle.h263_types.specs.References.{ReachesInside};
 ghost use Rattle.h263_types.specs.Sizes.{mbs_of};
 ghost use Rattle.h263_planes.specs.Picture.{Picture};
@@ -25,7 +25,7 @@ pub fn chosen_is_in_range()
     ensures plain { (frame : Picture) (reference : Option Picture) (h : Header)
         (params : Params) (mb : ℕ) → HasQuant h.quant (choice_of frame reference h params mb) }
     ensures whole { (frame : Picture) (reference : Option Picture)
-        (h : Header) (params : Params) (mb : ℕ) → IsWhole (choice_of frame reference h params mb) }
+        (h : Header) (params : Params) (mb : ℕ) → HasWholeBlocks (choice_of frame reference h params mb) }
     ensures reach { (frame : Picture) (reference : Option Picture) (h : Header) (params : Params)
         (mb : ℕ) → HasReferenceOnlyInP h.kind frame.format reference → mb < mbs_of frame.format
         → ReachesInside frame.format mb (choice_of frame reference h params mb) }

@@ -12,13 +12,12 @@ ghost use Rattle.mode_choice.specs.Choice as choice;
 
 use crate::deviation::deviation;
 use crate::intra::intra_block;
-use crate::laws::chosen_is_in_range;
+use crate::laws;
 use crate::predicted::predicted_blocks;
 use crate::residual::{are_empty, residual_block};
 use crate::samples::{block_residuals, block_samples};
 use h263_planes::PictureRef;
-use h263_types::laws::one_more;
-use h263_types::{Block, Mb, Params, Vector};
+use h263_types::{Block, Mb, Params, Vector, laws as types_laws};
 use motion_search::search_from;
 use picture_header::Header;
 
@@ -83,7 +82,7 @@ pub fn choose_into(
     ensures reach { ReachesInside (picture frame.entry).format mb out.new }
     ensures plain { HasQuant header.now.quant out.new }
 {
-    chosen_is_in_range();
+    laws::chosen_is_in_range();
     match reference {
         None => intra_macroblock(frame, mb, header.quant, params.keep, out),
         Some(reference) => macroblock_in_p(frame, reference, mb, header, params, guess, out),
@@ -117,7 +116,7 @@ fn macroblock_in_p(
     inter_macroblock(frame, reference, mb, vector, header, params.keep, out);
 }
 
-// Whether a macroblock is coded by itself, where the best vector costs so much: at 500 or less it
+// Whether a macroblock is coded by itself, where the best vector costs this much: at 500 or less it
 // isn't, and its mean isn't asked for.
 fn is_nearer_to_mean(frame: PictureRef<'_>, mb: u32, cost: i32) -> bool
     requires mb { mb < mbs_of (picture frame).format }
@@ -190,7 +189,7 @@ fn inter_blocks(
     ensures { out.new ≡ choice.residual_blocks_of (picture frame.entry)
         (picture reference.entry) header.now.quant keep header.now.rounding mb vector }
 {
-    one_more::<Block>();
+    types_laws::one_more::<Block>();
     let predicted = predicted_blocks(reference, mb, vector, header.rounding);
     for block in 0..6u32 {
         let number = block as usize;

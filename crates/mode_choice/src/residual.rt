@@ -7,8 +7,7 @@ ghost use Rattle.mode_choice.specs.Choice as choice;
 
 use crate::coefficients::{Coding, least_size, levels_in};
 use h263_types::Block;
-use idct8::laws::small_squares;
-use idct8::{are_below, forward};
+use idct8::{are_below, forward, laws as idct8_laws};
 
 // The levels of a block of residuals.
 pub(crate) fn residual_block(quant: u8, keep: u8, residuals: &[i16; 64]) -> Block
@@ -47,7 +46,7 @@ fn squares_are_small(quant: u8, residuals: &[i16; 64]) -> bool
     ensures { IsTrue result
         → (k : ℕ) → inter_level quant (choice.coefficient_at residuals.now k) ≡ pos 0 }
 {
-    small_squares();
+    idct8_laws::small_squares();
     let mut squares = 0;
     for k in 0..64 {
         squares += square(residuals[k]);

@@ -7,7 +7,7 @@ ghost use Rattle.idct8.specs.Ranges.{IsSample};
 ghost use Rattle.mode_choice.specs.Choice.{sample_in_block, samples_of};
 
 use h263_planes::{PictureRef, block_corner};
-use h263_types::laws::one_more;
+use h263_types::laws as types_laws;
 use std::simd::prelude::*;
 
 // The samples of block `block` of macroblock `mb`, by rows.
@@ -42,7 +42,7 @@ pub(crate) fn block_residuals(
         -ℤ pos (slice_index predicted.now k)) }
     ensures range { All IsSample result }
 {
-    one_more::<i16>();
+    types_laws::one_more::<i16>();
     let mut residuals = block_samples(frame, mb, block);
     for k in 0..64 {
         residuals[k] -= i16::from(predicted[k]);

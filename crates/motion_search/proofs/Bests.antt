@@ -10,7 +10,7 @@ use Rattle.h263_planes.specs.Picture.{Picture}
 use Rattle.motion_search.specs.declared.candidate.Candidate.{Candidate}
 use Rattle.motion_search.specs.Order.{before, least, first_of}
 use Rattle.motion_search.specs.Cost.{difference_of, lead_of, cost_of, candidate_of}
-use Rattle.motion_search.specs.Vectors.{in_reach, zero_vector, whole_vectors, neighbours, IsWhole, IsNear}
+use Rattle.motion_search.specs.Vectors.{in_reach, zero_vector, whole_vectors, neighbours, IsWholeSample, IsNear}
 use Rattle.motion_search.specs.Best.{candidates_of, best_whole, best_near, IsCandidate, IsWholeCandidate}
 use Rattle.motion_search.proofs.Orders.{first_has, other_not_before, still_not_before, least_has, first_not_before, none_before, is_least, not_itself, dearer_not_before}
 use Rattle.motion_search.proofs.Leads.{zero_or_behind}
@@ -57,7 +57,7 @@ module _ (block : List ℕ) (reference : Picture) (mb rounding : ℕ) where
       (all_whole (λ v. in_reach reference.format mb v ≡ true → is (candidate_of block reference mb rounding v)) radius
       (λ v whole reaches. record { whole = whole; candidate = is_candidate v ((reach_is reference.format mb v).0 reaches) })))
 
-  pub none_before_whole : (radius : ℕ) (v : Vector) → IsWhole radius v → InReach reference.format mb v.x v.y →
+  pub none_before_whole : (radius : ℕ) (v : Vector) → IsWholeSample radius v → InReach reference.format mb v.x v.y →
       before (candidate_of block reference mb rounding v) (best_whole block reference mb radius rounding) ≡ false
   unfolding best_whole
   none_before_whole radius v whole reaches =
@@ -69,7 +69,7 @@ module _ (block : List ℕ) (reference : Picture) (mb rounding : ℕ) where
 
   -- one of the candidates before which none comes is the best
   pub is_best_whole : (radius : ℕ) (c : Candidate) → mb < mbs_of reference.format → IsWholeCandidate block reference mb radius rounding c →
-      ((v : Vector) → IsWhole radius v → InReach reference.format mb v.x v.y → before (candidate_of block reference mb rounding v) c ≡ false) →
+      ((v : Vector) → IsWholeSample radius v → InReach reference.format mb v.x v.y → before (candidate_of block reference mb rounding v) c ≡ false) →
       c ≡ best_whole block reference mb radius rounding
   unfolding best_whole
   is_best_whole radius c h is none =
@@ -178,6 +178,6 @@ module _ (block : List ℕ) (reference : Picture) (mb rounding : ℕ) where
       by true k = absurd (h (k refl))
       by false k = refl
 
-  pub step_is_whole : (radius : ℕ) (v : Vector) (now : Candidate) → IsWhole radius v → IsWholeCandidate block reference mb radius rounding now → IsWholeCandidate block reference mb radius rounding (step_of v now)
+  pub step_is_whole : (radius : ℕ) (v : Vector) (now : Candidate) → IsWholeSample radius v → IsWholeCandidate block reference mb radius rounding now → IsWholeCandidate block reference mb radius rounding (step_of v now)
   step_is_whole radius v now whole h =
       step_has (IsWholeCandidate block reference mb radius rounding) v now h (λ reaches. record { whole = whole; candidate = is_candidate v reaches })

@@ -14,7 +14,7 @@ use Rattle.h263_types.specs.declared.vector.Vector.{Vector}
 use Rattle.h263_types.specs.declared.format.Format.TheVariants.{SubQcif, Qcif, Cif}
 use Rattle.h263_types.specs.Sizes.{width_of, height_of, columns_of, mbs_of}
 use Rattle.h263_types.specs.Vectors.{whole_place, InSide, InReach}
-use Rattle.motion_search.specs.Vectors.{in_side, in_reach, whole_component, whole_at, whole_vector, whole_vectors, moved_by, around, neighbours, zero_vector, IsEven, IsWhole, IsNear}
+use Rattle.motion_search.specs.Vectors.{in_side, in_reach, whole_component, whole_at, whole_vector, whole_vectors, moved_by, around, neighbours, zero_vector, IsEven, IsWholeSample, IsNear}
 
 -- ---- lists
 
@@ -60,7 +60,7 @@ place_leads : (radius : ℕ) (z : ℤ) → unsigned_abs z % 2 ≡ 0 → unsigned
 place_leads radius (pos n) e h = omega (arith, ints)
 place_leads radius (negsuc n) e h = omega (arith, ints)
 
-pub whole_is_whole : (radius k : ℕ) → k < (2 * radius + 1) * (2 * radius + 1) → IsWhole radius (whole_vector radius k)
+pub whole_is_whole : (radius k : ℕ) → k < (2 * radius + 1) * (2 * radius + 1) → IsWholeSample radius (whole_vector radius k)
 whole_is_whole radius k h =
     let some : 0 < 2 * radius + 1 = omega arith in
     let column : k % (2 * radius + 1) < 2 * radius + 1 = mod-lt k some in
@@ -78,12 +78,12 @@ same_vectors x x' y y' hx hy = cc
 abbrev index_of : ℕ → Vector → ℕ
 index_of radius v = place_of radius v.y * (2 * radius + 1) + place_of radius v.x
 
-index_small : (radius : ℕ) (v : Vector) → IsWhole radius v → index_of radius v < (2 * radius + 1) * (2 * radius + 1)
+index_small : (radius : ℕ) (v : Vector) → IsWholeSample radius v → index_of radius v < (2 * radius + 1) * (2 * radius + 1)
 index_small radius v h =
     mul-add-lt (place_of radius v.y) (2 * radius + 1) (place_of radius v.x) (2 * radius + 1)
     (place_small radius v.y h.y) (place_small radius v.x h.x)
 
-index_leads : (radius : ℕ) (v : Vector) → IsWhole radius v → whole_vector radius (index_of radius v) ≡ v
+index_leads : (radius : ℕ) (v : Vector) → IsWholeSample radius v → whole_vector radius (index_of radius v) ≡ v
 index_leads radius v h =
     let small = place_small radius v.x h.x in
     same_vectors _ v.x _ v.y
@@ -91,7 +91,7 @@ index_leads radius v h =
     (ap (whole_component radius) (div-mul-add (place_of radius v.y) (2 * radius + 1) (place_of radius v.x) small) ∙ place_leads radius v.y h.even.y h.y)
 
 -- what is true of each vector of whole samples within the radius is true of those of the list
-pub all_whole : (P : Vector → Type 0) (radius : ℕ) → ((v : Vector) → IsWhole radius v → P v) → All P (whole_vectors radius)
+pub all_whole : (P : Vector → Type 0) (radius : ℕ) → ((v : Vector) → IsWholeSample radius v → P v) → All P (whole_vectors radius)
 unfolding whole_vectors
 all_whole P radius h =
     let n : ℕ = (2 * radius + 1) * (2 * radius + 1) in
@@ -100,7 +100,7 @@ all_whole P radius h =
     (λ k hk. let small : k < n = omega arith in
     subst P (sym (get_or-map-range_with_len (whole_vector radius) 0 n k k zero_vector small (omega arith))) (h (whole_vector radius k) (whole_is_whole radius k small)))
 
-pub whole_one : (P : Vector → Type 0) (radius : ℕ) (v : Vector) → IsWhole radius v → All P (whole_vectors radius) → P v
+pub whole_one : (P : Vector → Type 0) (radius : ℕ) (v : Vector) → IsWholeSample radius v → All P (whole_vectors radius) → P v
 unfolding whole_vectors
 whole_one P radius v h all =
     let n : ℕ = (2 * radius + 1) * (2 * radius + 1) in
@@ -138,7 +138,7 @@ pub zero_reaches : (f : Format) (mb : ℕ) → mb < mbs_of f → InReach f mb (p
 zero_reaches f mb h = let fit = columns_fit f mb h in (zero_in _ _ fit.0, zero_in _ _ fit.1)
 
 -- the zero vector is in each square
-pub zero_is_whole : (radius : ℕ) → IsWhole radius zero_vector
+pub zero_is_whole : (radius : ℕ) → IsWholeSample radius zero_vector
 zero_is_whole radius = record { even = record { x = refl; y = refl }; x = omega arith; y = omega arith }
 
 -- ---- the neighbours
@@ -219,7 +219,7 @@ around_is_near v k h = record { x = omega (arith, ints); y = omega (arith, ints)
 
 -- ---- the square of whole samples by its columns and rows
 
-pub at_is_whole : (radius i j : ℕ) → i < 2 * radius + 1 → j < 2 * radius + 1 → IsWhole radius (whole_at radius i j)
+pub at_is_whole : (radius i j : ℕ) → i < 2 * radius + 1 → j < 2 * radius + 1 → IsWholeSample radius (whole_at radius i j)
 at_is_whole radius i j hi hj =
     record {
       even = record { x = component_even radius i; y = component_even radius j };
@@ -231,7 +231,7 @@ pub at_is_even : (radius i j : ℕ) → IsEven (whole_at radius i j)
 at_is_even radius i j = record { x = component_even radius i; y = component_even radius j }
 
 -- what is true of each place of the square is true of the vectors of whole samples
-pub whole_from_places : (P : Vector → Type 0) (radius : ℕ) (v : Vector) → IsWhole radius v → ((i j : ℕ) → i < 2 * radius + 1 → j < 2 * radius + 1 → P (whole_at radius i j)) → P v
+pub whole_from_places : (P : Vector → Type 0) (radius : ℕ) (v : Vector) → IsWholeSample radius v → ((i j : ℕ) → i < 2 * radius + 1 → j < 2 * radius + 1 → P (whole_at radius i j)) → P v
 whole_from_places P radius v h all =
     subst P
     (same_vectors (whole_component radius (place_of radius v.x)) v.x (whole_component radius (place_of radius v.y)) v.y (place_leads radius v.x h.even.x h.x) (place_leads radius v.y h.even.y h.y))

@@ -7,7 +7,7 @@ use Rattle.h263_planes.specs.Picture.{Picture}
 use Rattle.motion_search.specs.declared.candidate.Candidate.{Candidate}
 use Rattle.motion_search.specs.Order.{least}
 use Rattle.motion_search.specs.Cost.{samples_of, cost_of, candidate_of}
-use Rattle.motion_search.specs.Vectors.{in_reach, zero_vector, whole_vectors, neighbours, IsWhole}
+use Rattle.motion_search.specs.Vectors.{in_reach, zero_vector, whole_vectors, neighbours, IsWholeSample}
 
 -- those of some vectors that are in reach, with their costs
 abbrev pub candidates_of : List ℕ → Picture → ℕ → ℕ → List Vector → List Candidate
@@ -39,5 +39,5 @@ pub record IsCandidate (block : List ℕ) (reference : Picture) (mb rounding : �
 -- one of whole samples within the radius
 pub record IsWholeCandidate
     (block : List ℕ) (reference : Picture) (mb radius rounding : ℕ) (c : Candidate) : Type 0 where
-  pub whole : IsWhole radius c.vector
+  pub whole : IsWholeSample radius c.vector
   pub candidate : IsCandidate block reference mb rounding c

@@ -56,7 +56,7 @@ pub record IsEven (v : Vector) : Type 0 where
   pub y : unsigned_abs v.y % 2 ≡ 0
 
 -- one that leads at most `radius` samples across and down
-pub record IsWhole (radius : ℕ) (v : Vector) : Type 0 where
+pub record IsWholeSample (radius : ℕ) (v : Vector) : Type 0 where
   pub even : IsEven v
   pub x : unsigned_abs v.x ≤ 2 * radius
   pub y : unsigned_abs v.y ≤ 2 * radius

@@ -11,7 +11,7 @@ ghost use Rattle.h263_planes.specs.Picture.{Picture};
 ghost use Rattle.motion_search.specs.declared.candidate.Candidate.{Candidate};
 ghost use Rattle.motion_search.specs.Order.{before, compared, least};
 ghost use Rattle.motion_search.specs.Cost.{candidate_of, samples_of};
-ghost use Rattle.motion_search.specs.Vectors.{in_reach, IsNear, IsWhole};
+ghost use Rattle.motion_search.specs.Vectors.{in_reach, IsNear, IsWholeSample};
 ghost use Rattle.motion_search.specs.Best.{best_near, best_vector, best_whole, IsCandidate, IsWholeCandidate};
 
 /// The order of candidates is total, and tells any two apart.
@@ -40,7 +40,7 @@ pub fn whole_step_is_best()
         → mb < mbs_of reference.format → IsWholeCandidate block reference mb radius rounding
         (best_whole block reference mb radius rounding) }
     ensures none_before { (block : List ℕ) (reference : Picture) (mb radius rounding : ℕ)
-        (v : Vector) → IsWhole radius v → InReach reference.format mb v.x v.y
+        (v : Vector) → IsWholeSample radius v → InReach reference.format mb v.x v.y
         → IsFalse (before (candidate_of block reference mb rounding v)
         (best_whole block reference mb radius rounding)) }
 {}

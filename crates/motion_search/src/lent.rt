@@ -14,8 +14,7 @@ use crate::candidate::{Candidate, better};
 use crate::window::Window;
 use h263_planes::{PictureRef, Plane};
 use h263_types::Vector;
-use sad_kernel::laws::parts_add;
-use sad_kernel::sad_of_four;
+use sad_kernel::{laws as sad_kernel_laws, sad_of_four};
 
 // Row `j` of a block.
 #[inline(always)]
@@ -75,7 +74,7 @@ fn four_rows(block: &[u8; 256], reference: PictureRef<'_>, x: u32, y: u16, j: u3
         x y (j + 8) + differences_from block.now (picture reference.entry) x y (j + 12) }
     ensures most { result ≤ 16320 }
 {
-    parts_add();
+    sad_kernel_laws::parts_add();
     let y = u32::from(y);
     let first = reference.row(Plane::Y, x, y + j, 16);
     let second = reference.row(Plane::Y, x, y + (j + 4), 16);
@@ -118,7 +117,7 @@ fn differences_within(
         sum ≡ differences_from block.now (picture reference.entry) x y 0) }
     ensures most { IfSome result (λ sum. sum ≤ 65280) }
 {
-    parts_add();
+    sad_kernel_laws::parts_add();
     let quarter = four_rows(block, reference, x, y, 0);
     if quarter as i32 > best.cost {
         return None;

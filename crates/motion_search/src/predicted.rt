@@ -12,7 +12,7 @@ use crate::lent::differences_of_four;
 use h263_planes::PictureRef;
 use h263_types::Vector;
 use half_sample::luma_quarter;
-use sad_kernel::laws::parts_add;
+use sad_kernel::laws as sad_kernel_laws;
 
 // Row `k` of four.
 #[inline(always)]
@@ -51,7 +51,7 @@ fn quarter(
         + rows_from block.now (predicted_of (picture reference.entry) mb rounding vector) (j + 12) }
     ensures most { result ≤ 16320 }
 {
-    parts_add();
+    sad_kernel_laws::parts_add();
     let mut rows = [0; 64];
     luma_quarter(reference, mb, vector, rounding, j, &mut rows);
     let top = row_of_four(&rows, 0);
@@ -80,7 +80,7 @@ pub(crate) fn better_predicted(
         ≡ first_of best (candidate_of block.now (picture reference.entry) mb rounding vector) }
     ensures cost { IsCost result.cost }
 {
-    parts_add();
+    sad_kernel_laws::parts_add();
     let most = best.cost + lead(vector) as i32;
     let one = quarter(block, reference, mb, rounding, vector, 0);
     if one as i32 > most {

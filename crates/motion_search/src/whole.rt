@@ -14,8 +14,7 @@ use crate::lent::better_whole;
 use crate::start::zero;
 use crate::window::Window;
 use crate::within::{is_down, is_within};
-use h263_planes::PictureRef;
-use h263_planes::laws::planes_are_bytes;
+use h263_planes::{PictureRef, laws as planes_laws};
 use h263_types::{Format, Reach, Vector, reach};
 
 // The vector in column `column` of row `row` of the square around zero.
@@ -284,6 +283,6 @@ fn known(reference: PictureRef<'_>, format: Format) -> PictureRef<'_>
     requires { (picture reference).format ≡ format }
     ensures { picture result ≡ picture reference.entry }
 {
-    planes_are_bytes();
+    planes_laws::planes_are_bytes();
     PictureRef::new(format, reference.bytes())
 }

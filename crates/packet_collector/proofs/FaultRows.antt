@@ -22,7 +22,7 @@ in_payload : (format : Format) (bytes : List ℕ) (fault : Fault) (rtp : Rtp) �
 unfolding packet_at
 in_payload format bytes fault rtp one e = rw (one, e) refl
 
--- behind the payload header
+-- after the payload header
 behind_payload : (format : Format) (bytes : List ℕ) (fault : Fault) (rtp : Rtp) (payload : Payload) → rtp_in bytes ≡ Ok rtp → payload_at format (payload_bits_of bytes rtp) ≡ Ok payload
     → slice_behind format payload (data_of bytes rtp payload) ≡ Err fault → packet_at format bytes ≡ Err fault
 unfolding packet_at

@@ -1,4 +1,4 @@
--- A packet of a picture: RTP's header, the payload's header, and a slice, which stands behind the
+-- A packet of a picture: RTP's header, the payload's header, and a slice, which stands after the
 -- picture header or has it as the extra one (RFC 4629, 5.1).
 use Rattle.std.specs.Prelude.{◌≡◌, ℕ, ◌*◌, List, [], ◌++◌, Bool, Option, Some, None, Result, Ok, Err}
 use Rattle.h263_bits.specs.declared.fault.Fault.{Fault}
@@ -25,7 +25,7 @@ pub record Slice : Type 0 where
 
 -- ---- the text
 
--- the data behind the payload's header, up to the padding
+-- the data after the payload's header, up to the padding
 abbrev pub data_of : List ℕ → Rtp → Payload → Bits
 data_of bytes rtp payload = bits_between bytes payload.from (8 * rtp.to)
 

@@ -1,4 +1,4 @@
--- THE FAULTS OF A PACKET: those of its parts, each behind the parts in front of it, at the same places.
+-- THE FAULTS OF A PACKET: those of its parts, each after the parts before it, at the same places.
 use Rattle.std.specs.Prelude.{◌≡◌, ℕ, List, None, Ok, Err}
 use Rattle.h263_bits.specs.declared.fault.Fault.{Fault}
 use Rattle.h263_bits.specs.Reading.{Bits}

@@ -10,7 +10,7 @@ use picture_header::Header;
 use std::alloc::Global;
 
 /// Which macroblocks were taken of the pictures in a row, and the header of each: the picture that
-/// is played next, and as many behind it as packets may come early.
+/// is played next, and as many after it as packets may come early.
 #[derive(Drop)]
 pub struct Collector {
     format: Format,

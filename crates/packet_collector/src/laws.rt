@@ -35,7 +35,7 @@ pub fn exact_text()
     of_the_parts();
 }
 
-/// The first faults of a packet are those of its parts, each behind the parts in front of it.
+/// The first faults of a packet are those of its parts, each after the parts before it.
 pub fn first_faults()
     ensures { (format : Format) (bytes : List ℕ) (fault : Fault) → PacketFaults format bytes fault }
 {}

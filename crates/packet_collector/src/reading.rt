@@ -8,7 +8,7 @@ ghost use Rattle.slice_layer.specs.Filled.{AreOthersSame};
 ghost use Rattle.packet_collector.specs.Packet.{Slice, IsPacket, headed_at, slice_behind, packet_at, packet_fault};
 ghost use Rattle.packet_collector.specs.Filled.{IsExtraOf, FillsPacket, IsPieceIn, slice_in};
 
-use crate::laws::of_the_parts;
+use crate::laws;
 use crate::piece::Piece;
 use h263_bits::{BitReader, Fault};
 use h263_payload::{Payload, read_payload};
@@ -36,7 +36,7 @@ fn read_front(
     }
 }
 
-// The slice behind the payload's header.
+// The slice after the payload's header.
 #[tactic(auto, unfolding(crate::specs::Packet::slice_behind))]
 fn read_behind(
     bytes: &[u8],
@@ -95,6 +95,6 @@ pub fn read_packet(bytes: &[u8], format: Format, out: &mut [Mb]) -> Result<Piece
     ensures others { IfOk result (λ piece. AreOthersSame out.old out.new piece.head) }
     ensures size { length out.new ≡ length out.old }
 {
-    of_the_parts();
+    laws::of_the_parts();
     first_found(bytes, format, out)
 }

@@ -6,7 +6,7 @@ use Rattle.std.proofs.lemmas.Bool.{cases_lt}
 use Rattle.std.proofs.lemmas.List.{append-nil, length-append}
 use Rattle.std.proofs.lemmas.List.Elements.{All-drop}
 use Rattle.h263_types.specs.declared.blocks.Mb.{Mb}
-use Rattle.h263_types.specs.Blocks.{IsWhole}
+use Rattle.h263_types.specs.Blocks.{HasWholeBlocks}
 use Rattle.h263_bits.specs.Written.{to_byte}
 use Rattle.picture_header.specs.declared.header.Header.{Header}
 use Rattle.picture_header.specs.Ranges.{IsHeader}
@@ -59,7 +59,7 @@ longest_by_next h limit first run rest some fits next = record {
 
 -- ---- one cut
 
--- of two divisions of one list one is the same or has more in front
+-- of two divisions of one list one is the same or has a longer first part
 pub record IsFurther (a b c d : List Mb) : Type 0 where
   pub more : List Mb
   pub front : c ≡ a ++ more
@@ -156,11 +156,11 @@ grown h limit first run (m ∷ rest) some fits =
       longest = subst (λ (l : List Mb). IsLongest h limit first l g.others) (append_assoc run (m ∷ []) g.more) g.longest;
     }
 
-one_fits : AreShort → AllShort → (h : Header) (limit first : ℕ) (m : Mb) → IsHeader h → 1200 ≤ limit → IsWhole m → packet_bytes h first (m ∷ []) ≤ limit
+one_fits : AreShort → AllShort → (h : Header) (limit first : ℕ) (m : Mb) → IsHeader h → 1200 ≤ limit → HasWholeBlocks m → packet_bytes h first (m ∷ []) ≤ limit
 one_fits slices short h limit first m is room whole = omega (arith, front_short short h first is, slices.one h (begins_at first) first m is whole)
 
 -- a picture whose macroblocks are short can be cut
-pub cut_exists : AreShort → AllShort → (h : Header) (limit : ℕ) → IsHeader h → 1200 ≤ limit → (n first : ℕ) (mbs : List Mb) → length mbs ≤ n → All IsWhole mbs → (runs : List (List Mb)) × IsCut h limit first mbs runs
+pub cut_exists : AreShort → AllShort → (h : Header) (limit : ℕ) → IsHeader h → 1200 ≤ limit → (n first : ℕ) (mbs : List Mb) → length mbs ≤ n → All HasWholeBlocks mbs → (runs : List (List Mb)) × IsCut h limit first mbs runs
 unfolding IsCut
 cut_exists slices short h limit is room n first [] few whole = ([], refl)
 cut_exists slices short h limit is room zero first (m ∷ mbs) few whole = absurd (omega arith)
@@ -168,7 +168,7 @@ cut_exists slices short h limit is room (suc n) first (m ∷ mbs) few whole =
     let g = grown h limit first (m ∷ []) mbs (omega arith) (one_fits slices short h limit first m is room (whole 0 m (omega arith))) in
     let run = m ∷ g.more in
     let parts : m ∷ mbs ≡ run ++ g.others = ap (λ (l : List Mb). m ∷ l) g.parts in
-    let behind : All IsWhole g.others = subst (All IsWhole) (drop-append_seam run g.others) (All-drop IsWhole (length run) (run ++ g.others) (subst (All IsWhole) parts whole)) in
+    let behind : All HasWholeBlocks g.others = subst (All HasWholeBlocks) (drop-append_seam run g.others) (All-drop HasWholeBlocks (length run) (run ++ g.others) (subst (All HasWholeBlocks) parts whole)) in
     let fewer : length g.others ≤ n = omega (arith, ap length g.parts, length-append g.more g.others) in
     let next = cut_exists slices short h limit is room n (first + length run) g.others fewer behind in
     (run ∷ next.0, (g.others, parts, g.longest, next.1))

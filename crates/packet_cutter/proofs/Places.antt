@@ -83,7 +83,7 @@ one_more old new places limit n size p room low high same =
 pub window_length : (xs : List ℕ) (at k : ℕ) → at + k ≤ length xs → length (take (at + k - at) (drop at xs)) ≡ k
 window_length xs at k h = omega (arith, length-take (at + k - at) (drop at xs), length-drop at xs)
 
--- the next packet was written behind the others, in a part of the bytes
+-- the next packet was written after the others, in a part of the bytes
 pub appended : (old d ys post places : List ℕ) (limit n size : ℕ) → d ≡ old → ArePlaced limit places n → n < 396 → get_or places n 0 ≤ length old → size ≤ length ys
     → packets_in (take (get_or places n 0) d ++ (ys ++ post)) (set places (n + 1) (get_or places n 0 + size)) (n + 1) ≡ packets_in old places n ++ take size ys ∷ []
 appended old d ys post places limit n size same p few within fits =

@@ -47,7 +47,7 @@ pub record AreReadAgain : Type 0 where
 
 -- ---- windows of bytes whose bits are known
 
--- the bits behind a text
+-- the bits after a text
 behind_text : (bytes : List ℕ) (front rest : List Bool) (at : ℕ) → bits_of bytes ≡ front ++ rest → length front ≡ at → bits_between bytes at (8 * length bytes) ≡ record { at = at; bits = rest }
 behind_text bytes front rest at e len =
     let room : length rest ≤ 8 * length bytes - at = omega (arith, length-bits_of bytes, ap length e, length-append front rest) in

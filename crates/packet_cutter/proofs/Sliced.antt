@@ -133,7 +133,7 @@ not_behind : (slice : Slice Mb) (k : ℕ) → slice.first ≤ k → slice.first 
 unfolding has_mb
 not_behind slice k low high = rw (from slice.first k low, not_below k (slice.first + length slice.mbs) high) refl
 
--- a slice that has macroblock k begins before it and ends behind it
+-- a slice that has macroblock k begins before it and ends after it
 has_parts : (slice : Slice Mb) (k : ℕ) → has_mb slice k ≡ true → (slice.first ≤ k) × (k < slice.first + length slice.mbs)
 unfolding has_mb
 has_parts slice k e = parts (nat_le slice.first k) refl (nat_lt k (slice.first + length slice.mbs)) refl e

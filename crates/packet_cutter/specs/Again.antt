@@ -14,7 +14,7 @@ use Rattle.slice_layer.specs.Text.{IsSliceText}
 use Rattle.packet_cutter.specs.Cut.{begins_at, extra_of, front_bytes}
 use Rattle.packet_cutter.specs.Packets.{timestamp_of}
 
--- the RTP header of a packet of picture `number` that has so many bytes
+-- the RTP header of a packet of picture `number` that has this many bytes
 abbrev pub rtp_of : ℕ → ℕ → Bool → ℕ → Rtp
 rtp_of number sequence marker bytes = record {
   marker = marker;

@@ -5,7 +5,7 @@ use Rattle.picture_header.specs.declared.header.Header.{Header}
 use Rattle.h263_payload.specs.Written.{payload_bits}
 use Rattle.slice_layer.specs.Written.{slice_text, bytes_of}
 
--- a slice with the picture's first macroblock stands behind the picture header; any other has it as the extra one
+-- a slice with the picture's first macroblock stands after the picture header; any other has it as the extra one
 abbrev pub begins_at : ℕ → Bool
 begins_at first = first == 0
 

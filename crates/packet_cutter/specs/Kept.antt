@@ -21,7 +21,7 @@ count_of p = p.count
 abbrev pub kept_packets : Packets → List (List ℕ)
 kept_packets p = packets_in p.bytes.items p.places p.count
 
--- the packet of the first `count` of the macroblocks that are left, in the longest slice, was put behind the others
+-- the packet of the first `count` of the macroblocks that are left, in the longest slice, was put after the others
 pub record Appends (old new : Packets)
     (number sequence : ℕ) (h : Header) (first : ℕ) (mbs : List Mb) (count : ℕ) : Type 0 where
   pub packet : List ℕ

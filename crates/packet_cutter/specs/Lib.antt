@@ -1,7 +1,7 @@
 pub mod Cut
 pub mod Slices
 pub mod Packets
-pub mod Styles
+pub mod Forms
 pub mod Again
 pub mod Taken
 pub mod Kept

@@ -19,7 +19,7 @@ packet_text number sequence marker h first run =
     fields (rtp_fields marker (sequence % 65536) (timestamp_of number))
     ++ (written_payload (extra_of h (begins_at first)) ++ padded (slice_text h (begins_at first) first run))
 
--- the first so many bytes that bits fill
+-- the first `count` bytes that bits fill
 unfoldable pub bytes_in : ℕ → List Bool → List ℕ
 bytes_in zero bits = []
 bytes_in (suc count) bits = number (take 8 bits) ∷ bytes_in count (drop 8 bits)
@@ -54,7 +54,7 @@ pub record ArePacketsOf (number sequence : ℕ)
   pub cut : IsCut h limit 0 mbs runs
   pub each : ArePackets number sequence h 0 runs packets
 
--- bytes begin with the packet of the first so many of the macroblocks that are left, in the longest slice
+-- bytes begin with the packet of the first `count` of the macroblocks that are left, in the longest slice
 pub record BeginsWith (number sequence : ℕ)
     (h : Header) (limit first : ℕ) (mbs : List Mb) (count size : ℕ) (bytes : List ℕ) : Type 0 where
   pub few : count ≤ length mbs

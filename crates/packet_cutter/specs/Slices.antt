@@ -14,7 +14,7 @@ abbrev pub longest_of : (ℕ → List Mb → ℕ) → ℕ → ℕ → List Mb �
 longest_of size limit first mbs =
     option_map_or (λ n. n + 1) (greatest (λ n. nat_le (size first (take (n + 1) mbs)) limit) (length mbs)) 1
 
--- the slices of these macroblocks, one after the other, and so many at most
+-- the slices of these macroblocks, one after the other, and this many at most
 unfoldable pub slices_from : ℕ → (ℕ → List Mb → ℕ) → ℕ → ℕ → List Mb → List (Slice Mb)
 slices_from zero size limit first mbs = []
 slices_from (suc most) size limit first [] = []

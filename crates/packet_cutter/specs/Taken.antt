@@ -14,12 +14,12 @@ pub record IsTaken (kind : Kind) (quant : ℕ) (m : Mb) : Type 0 where
 abbrev pub packet_at : List ℕ → List ℕ → ℕ → List ℕ
 packet_at bytes places i = slice_range bytes (slice_index places i) (slice_index places (i + 1))
 
--- the first so many packets
+-- the first packets, this many
 unfoldable pub packets_in : List ℕ → List ℕ → ℕ → List (List ℕ)
 packets_in bytes places zero = []
 packets_in bytes places (suc n) = packets_in bytes places n ++ packet_at bytes places n ∷ []
 
--- the places stand in order, and so many packets end within as many times the limit
+-- the places stand in order, and this many packets end within as many times the limit
 pub record ArePlaced (limit : ℕ) (places : List ℕ) (count : ℕ) : Type 0 where
   pub whole : length places ≡ 397
   pub order : (i : ℕ) → i < count → slice_index places i ≤ slice_index places (i + 1)

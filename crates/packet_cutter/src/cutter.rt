@@ -12,7 +12,7 @@ ghost use Rattle.packet_cutter.specs.Packets.{ArePacketsOf};
 ghost use Rattle.packet_cutter.specs.Slices.{cut_of};
 ghost use Rattle.packet_cutter.specs.Taken.{IsTaken};
 
-use crate::laws::by_functions;
+use crate::laws;
 use crate::packets::Packets;
 use h263_outside::OutOfMemory;
 use h263_types::{Mb, Params};
@@ -147,7 +147,7 @@ impl Cutter {
         ensures format { format_of self.new ≡ format_of self.old }
         ensures limit { limit_of self.new ≡ limit_of self.old }
     {
-        by_functions();
+        laws::by_functions();
         cut(
             &mut self.packets,
             &self.header,

@@ -8,7 +8,7 @@ ghost use Rattle.picture_header.specs.Ranges.{IsHeader};
 ghost use Rattle.rtp_header.specs.Written.{rtp_fields};
 ghost use Rattle.h263_payload.specs.Written.{written_payload, payload_bits};
 ghost use Rattle.slice_layer.specs.Written.{slice_text, padded, bytes_of};
-ghost use Rattle.slice_layer.specs.Writer.{kind_of, format_of, first_of, next_of, quant_of, bytes_in, loan_of, Holds};
+ghost use Rattle.slice_layer.specs.Writer.{kind_of, format_of, first_of, next_of, quant_of, bytes_in, loan_of, HoldsSlice};
 ghost use Rattle.packet_cutter.specs.Cut.{begins_at, extra_of, front_bytes};
 ghost use Rattle.packet_cutter.specs.Packets.{timestamp_of, BeginsWith};
 ghost use Rattle.packet_cutter.specs.Taken.{IsTaken};
@@ -16,8 +16,7 @@ ghost use Rattle.packet_cutter.specs.Taken.{IsTaken};
 use h263_bits::BitWriter;
 use h263_payload::write_payload;
 use h263_types::Mb;
-use picture_header::laws::longest_text;
-use picture_header::{Header, header_bits};
+use picture_header::{Header, header_bits, laws as picture_header_laws};
 use slice_layer::{Added, SliceWriter};
 
 /// How many macroblocks were written, and in how many bytes.
@@ -33,14 +32,14 @@ fn fill(writer: &mut SliceWriter<'_>, mbs: &[Mb]) -> u32
     requires each { All (IsTaken (kind_of writer.old) (quant_of writer.old)) mbs.now }
     requires left { next_of writer.old + length mbs.now ≤ mbs_of (format_of writer.old) }
     ensures count { result ≤ length mbs.now }
-    ensures holds { (h : Header) (begins : Bool) (first : ℕ) → Holds writer.old h begins first []
-        → Holds writer.new h begins first (take result mbs.now) }
-    ensures full { (h : Header) (begins : Bool) (first : ℕ) → Holds writer.old h begins first []
+    ensures holds { (h : Header) (begins : Bool) (first : ℕ) → HoldsSlice writer.old h begins first []
+        → HoldsSlice writer.new h begins first (take result mbs.now) }
+    ensures full { (h : Header) (begins : Bool) (first : ℕ) → HoldsSlice writer.old h begins first []
         → result < length mbs.now → length (bytes_in writer.old)
         < bytes_of (slice_text h begins first (take (result + 1) mbs.now)) }
     ensures some { (h : Header) (begins : Bool) (first : ℕ)
         → IsHeader h → 1150 ≤ length (bytes_in writer.old)
-        → Holds writer.old h begins first [] → 0 < length mbs.now → 0 < result }
+        → HoldsSlice writer.old h begins first [] → 0 < length mbs.now → 0 < result }
     ensures from { first_of writer.new ≡ first_of writer.old }
     ensures next { next_of writer.new ≡ next_of writer.old + result }
     ensures loan { loan_of writer.new ≡ loan_of writer.old }
@@ -86,7 +85,7 @@ fn front_bytes(header: &Header, first: u32) -> u32
     ensures bytes { result ≡ front_bytes header.now first }
     ensures few { result ≤ 46 }
 {
-    longest_text();
+    picture_header_laws::longest_text();
     if first == 0 {
         return 14;
     }

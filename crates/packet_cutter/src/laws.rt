@@ -5,7 +5,7 @@ ghost use Rattle.call_model.specs.Coding.{Slice};
 ghost use Rattle.call_model.specs.Lawful.{Divides};
 ghost use Rattle.h263_types.specs.declared.blocks.Mb.{Mb};
 ghost use Rattle.h263_types.specs.declared.blocks.Mb.TheVariants.{Skip};
-ghost use Rattle.h263_types.specs.Blocks.{IsWhole};
+ghost use Rattle.h263_types.specs.Blocks.{HasWholeBlocks};
 ghost use Rattle.h263_types.specs.Sizes.{mbs_of};
 ghost use Rattle.h263_bits.specs.Bits.{bits_of};
 ghost use Rattle.picture_header.specs.declared.header.Header.{Header};
@@ -16,7 +16,7 @@ ghost use Rattle.packet_cutter.specs.Cut.{packet_bytes, IsCut, joined, Fit};
 ghost use Rattle.packet_cutter.specs.Slices.{cut_of, slices_at};
 ghost use Rattle.packet_cutter.specs.Packets.{packet_text, packet_of, packets_of};
 ghost use Rattle.packet_cutter.specs.Packets.{ArePackets, ArePacketsOf};
-ghost use Rattle.packet_cutter.specs.Styles.{HaveOneStyle};
+ghost use Rattle.packet_cutter.specs.Forms.{HaveOneForm};
 ghost use Rattle.packet_cutter.specs.Again.{IsReadAs};
 
 use call_model::laws::searches;
@@ -46,7 +46,7 @@ pub fn one_cut()
 /// Where a packet may have 1,200 bytes there is a cut.
 pub fn cut_exists()
     ensures { (h : Header) (limit first : ℕ) (mbs : List Mb) → IsHeader h
-        → 1200 ≤ limit → All IsWhole mbs → (runs : List (List Mb)) × IsCut h limit first mbs runs }
+        → 1200 ≤ limit → All HasWholeBlocks mbs → (runs : List (List Mb)) × IsCut h limit first mbs runs }
 {
     longest_text();
     slice_layer::laws::longest_text();
@@ -55,7 +55,7 @@ pub fn cut_exists()
 /// The cut is the same for headers of one style: it depends on no temporal reference.
 pub fn by_style()
     ensures { (h g : Header) (limit first : ℕ) (mbs : List Mb) (runs : List (List Mb))
-        → HaveOneStyle h g → IsCut h limit first mbs runs → IsCut g limit first mbs runs }
+        → HaveOneForm h g → IsCut h limit first mbs runs → IsCut g limit first mbs runs }
 {
     slice_layer::laws::longest_text();
 }
@@ -68,7 +68,7 @@ pub fn by_functions()
         (packets : List (List ℕ)) → ArePacketsOf number sequence h limit mbs packets
         → packets ≡ packets_of number sequence h (cut_of h limit mbs) }
     ensures whole { (number sequence : ℕ) (h : Header) (limit : ℕ) (mbs : List Mb)
-        → IsHeader h → 1200 ≤ limit → All IsWhole mbs
+        → IsHeader h → 1200 ≤ limit → All HasWholeBlocks mbs
         → ArePacketsOf number sequence h limit mbs
         (packets_of number sequence h (cut_of h limit mbs)) }
 {
@@ -83,10 +83,10 @@ pub fn by_functions()
 pub fn cut_divides()
     ensures divides { (h : Header) (limit : ℕ) (mbs : List Mb)
         → Divides Skip (length mbs) (cut_of h limit mbs) mbs }
-    ensures style { (h g : Header) (limit : ℕ) (mbs : List Mb) → HaveOneStyle h g
+    ensures style { (h g : Header) (limit : ℕ) (mbs : List Mb) → HaveOneForm h g
         → cut_of h limit mbs ≡ cut_of g limit mbs }
     ensures fits { (h : Header) (limit : ℕ) (mbs : List Mb) (j : ℕ) (slice : Slice Mb)
-        → IsHeader h → 1200 ≤ limit → All IsWhole mbs
+        → IsHeader h → 1200 ≤ limit → All HasWholeBlocks mbs
         → slice_get (cut_of h limit mbs) j ≡ Some slice
         → packet_bytes h slice.first slice.mbs ≤ limit }
 {

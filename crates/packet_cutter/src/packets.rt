@@ -14,7 +14,7 @@ use std::alloc::{AllocError, Global};
 pub struct Packets {
     limit: u32,
     bytes: Vec<u8>,
-    // Where each packet begins, and behind the last one its end.
+    // Where each packet begins, and after the last one its end.
     places: [u32; 397],
     count: u32,
     ghost low: { 1200 ≤ limit },
@@ -36,7 +36,7 @@ fn part(bytes: &[u8], from: usize, to: usize) -> &[u8]
 impl Packets {
     ghost use Rattle.packet_cutter.specs.Kept.{most_bytes, room_of, count_of, kept_packets, Appends};
 
-    /// Room for so many packets, and none in it.
+    /// Room for this many packets, and none in it.
     pub fn start(alloc: Global, limit: u32, most: u32) -> Result<Packets, AllocError>
         requires low { 1200 ≤ limit }
         requires high { limit ≤ 9000 }
@@ -84,7 +84,7 @@ impl Packets {
         self.places[0] = 0;
     }
 
-    /// Writes the next packet behind the others, with the longest slice from macroblock `first` on:
+    /// Writes the next packet after the others, with the longest slice from macroblock `first` on:
     /// `mbs` are those that are left of the picture. Answers how many it has.
     pub fn append(
         &mut self,

@@ -105,12 +105,12 @@ const SKIPPED_PACKET: [u8; 31] = [
     0x1C, 0x90, 0x31, 0x04, 0x91, 0xE0, 0x02, 0x84, 0x0F, 0xFF, 0xFF, 0xFF, 0xFF, 0xFF, 0xF8,
 ];
 
-// The front of the first packet of a flat CIF picture.
+// The first bytes of the first packet of a flat CIF picture.
 const FIRST_FRONT: [u8; 14] = [
     0x80, 0x60, 0x00, 0x00, 0x00, 0x00, 0x00, 0x00, 0x48, 0x32, 0x36, 0x33, 0x04, 0x00,
 ];
 
-// The front of the second one: with the extra header, and the first bytes of its slice.
+// Those of the second one: with the extra header, and the first bytes of its slice.
 const SECOND_FRONT: [u8; 27] = [
     0x80, 0xE0, 0x00, 0x01, 0x00, 0x00, 0x00, 0x00, 0x48, 0x32, 0x36, 0x33, 0x04, 0x4D, 0x80, 0x02,
     0x1C, 0xB0, 0x31, 0x00, 0x11, 0xCA, 0x00, 0xD9, 0xE8, 0x83, 0x36,
@@ -149,7 +149,7 @@ fn is_steady(mb: &Mb) -> bool
     }
 }
 
-// Adds a macroblock so many times.
+// Adds a macroblock this many times.
 fn add_times(cutter: &mut Cutter, mb: &Mb, times: u32)
     requires begun { IsBegun cutter.old }
     requires mb { IsMb mb.now }
@@ -179,7 +179,7 @@ fn cut_even(cutter: &mut Cutter, number: u32, header: &Header, mb: &Mb)
     cutter.finish();
 }
 
-// Macroblocks 0 to 206 take 1,396 bytes with their fronts, and 207 to 395 take 1,278.
+// Macroblocks 0 to 206 take 1,396 bytes with their headers, and 207 to 395 take 1,278.
 #[test]
 fn flat_cif_picture(rt: HostRuntime) -> Result<(), Fail> {
     let mb = flat_mb()?;

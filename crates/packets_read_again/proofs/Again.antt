@@ -9,7 +9,7 @@ use Rattle.call_model.specs.Lawful.{Divides}
 use Rattle.h263_types.specs.declared.format.Format.{Format}
 use Rattle.h263_types.specs.declared.blocks.Mb.{Mb}
 use Rattle.h263_types.specs.declared.blocks.Mb.TheVariants.{Skip, Intra, Inter}
-use Rattle.h263_types.specs.Blocks.{HasQuant, IsWhole}
+use Rattle.h263_types.specs.Blocks.{HasQuant, HasWholeBlocks}
 use Rattle.h263_types.specs.References.{ReachesInside}
 use Rattle.h263_types.specs.Sizes.{mbs_of}
 use Rattle.h263_bits.specs.Bits.{bits_of}
@@ -90,7 +90,7 @@ reached reach h k Skip below is = tt
 reached reach h k (Intra quant blocks) below is = tt
 reached reach h k (Inter quant v blocks) below is = (reach h.format k v.x v.y below).0 is
 
--- the macroblocks of a slice, behind earlier ones of it
+-- the macroblocks of a slice, after earlier ones of it
 abbrev AreSentFrom : Header → ℕ → List Mb → Type 0
 AreSentFrom h first run = (j : ℕ) → j < length run → IsSentAt h (first + j) (get_or run j Skip)
 
@@ -119,14 +119,14 @@ pub record CutLaws : Type 0 where
       → packet_bytes h first run ≤ 65535
       → packet_at h.format (packet_of number sequence marker h first run) ≡ Ok (record { header = h; first = first; mbs = run })
   pub divides : (h : Header) (limit : ℕ) (mbs : List Mb) → Divides Skip (length mbs) (cut_of h limit mbs) mbs
-  pub fits : (h : Header) (limit : ℕ) (mbs : List Mb) (j : ℕ) (slice : Slice Mb) → IsHeader h → 1200 ≤ limit → All IsWhole mbs
+  pub fits : (h : Header) (limit : ℕ) (mbs : List Mb) (j : ℕ) (slice : Slice Mb) → IsHeader h → 1200 ≤ limit → All HasWholeBlocks mbs
       → slice_get (cut_of h limit mbs) j ≡ Some slice → packet_bytes h slice.first slice.mbs ≤ limit
   pub each : (number sequence : ℕ) (h : Header) (slices : List (Slice Mb)) (j : ℕ) (slice : Slice Mb) → slice_get slices j ≡ Some slice
       → slice_get (packets_of number sequence h slices) j ≡ Some (packet_of number (sequence + j) (j + 1 == length slices) h slice.first slice.mbs)
   pub reach : AreReached
 
-all_whole : (h : Header) (mbs : List Mb) → AreSent h mbs → All IsWhole mbs
-all_whole h mbs s = All-from_get_or IsWhole mbs Skip (λ k below. (s.each k (omega (arith, below, s.count))).whole)
+all_whole : (h : Header) (mbs : List Mb) → AreSent h mbs → All HasWholeBlocks mbs
+all_whole h mbs s = All-from_get_or HasWholeBlocks mbs Skip (λ k below. (s.each k (omega (arith, below, s.count))).whole)
 
 has_it : (slice : Slice Mb) (i : ℕ) → i < length slice.mbs → has_mb slice (slice.first + i) ≡ true
 unfolding has_mb

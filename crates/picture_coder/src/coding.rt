@@ -16,12 +16,10 @@ ghost use Rattle.packet_cutter.specs.Packets.{ArePacketsOf};
 
 use h263_planes::{PictureMut, PictureRef};
 use h263_types::{Mb, Params, Vector};
-use mode_choice::choose_into;
-use mode_choice::laws::one_for_each_place;
+use mode_choice::{choose_into, laws as mode_choice_laws};
 use packet_cutter::Cutter;
 use picture_header::Header;
-use picture_recon::laws::shown_one_by_one;
-use picture_recon::recon_mb;
+use picture_recon::{laws as picture_recon_laws, recon_mb};
 
 /// Codes `frame` as picture `number` with this header. `cutter`, which was started with these
 /// parameters, then holds the picture's packets of at most `params.limit` bytes, one slice each,
@@ -69,8 +67,8 @@ pub fn code_picture(
     ensures whole { IsPicture (lent.work work.new) }
 {
     // One choice for each place, and a picture that shows them all is their reconstruction.
-    one_for_each_place();
-    shown_one_by_one();
+    mode_choice_laws::one_for_each_place();
+    picture_recon_laws::shown_one_by_one();
     work.is_picture();
     cutter.begin(number, header);
     let mut mb = Mb::Skip;

@@ -1,4 +1,4 @@
--- The rows of the table of faults, each by the fields in front of it.
+-- The rows of the table of faults, each by the fields before it.
 use Rattle.std.proofs.Common.{◌≡◌, ℕ, ◌+◌, ◌^◌, ◌<◌, ◌≤◌, Bool, true, false, eqb, ltb, refl, sym, subst, arith, List, [], ◌∷◌, ◌++◌, length, Option, Some, None}
 use Rattle.std.proofs.lemmas.Bool.{lt-ltb, le-ltb, le-leb, ne_eqb}
 use Rattle.std.proofs.lemmas.List.{append-nil}
@@ -17,9 +17,9 @@ use Rattle.h263_bits.specs.Elements.{HasFault}
 use Rattle.h263_bits.proofs.SyntaxLaws.{first_fault_is, only_other, fault_here, fault_behind_field, fault_in_part, fault_behind_part, fault_in_element, fault_of_element, fault_behind_element, fault_in_turn, fault_behind_turn, spells_field, spells_done}
 use Rattle.back_messages.specs.declared.message.Message.{Message}
 use Rattle.back_messages.specs.declared.message.MessageFault.{MessageFault}
-use Rattle.back_messages.specs.Text.{message_fault, message_value, is_long, has_markers, is_message, is_marked, flags, message}
+use Rattle.back_messages.specs.Text.{message_fault, message_value, is_long, has_markers, allowed_message, allowed_markers, flags, message}
 use Rattle.back_messages.specs.Laws.{MessageLaws}
-use Rattle.picture_header.specs.Text.{format_code, is_format, is_kind, is_divisor, is_channel, is_low, is_quant, opening, plus_type, multipoint, extended, channel, reference, has_room, bci, next_message, back_turn, back, header}
+use Rattle.picture_header.specs.Text.{format_code, allowed_format, allowed_kind, allowed_divisor, allowed_channel, allowed_low, allowed_quant, opening, plus_type, multipoint, extended, channel, reference, has_room, bci, next_message, back_turn, back, header}
 use Rattle.picture_header.specs.Faults.{OpeningFaults, PlusTypeFaults, MiddleFaults, MessageFaults, PartFaults, HeaderFaults}
 use Rattle.picture_header.proofs.Loops.{simple_productive, extended_productive, reference_productive, bci_productive, next_productive, back_some, back_productive, header_productive}
 
@@ -51,7 +51,7 @@ opening_faults = record { start = opening_start; type = opening_type; extended =
 -- ---- PLUSPTYPE
 
 -- the number of the expected source format is read
-same_format : (format : Format) → is_format format (format_code format) ≡ None
+same_format : (format : Format) → allowed_format format (format_code format) ≡ None
 same_format SubQcif = refl
 same_format Qcif = refl
 same_format Cif = refl
@@ -61,7 +61,7 @@ format_small SubQcif = omega arith
 format_small Qcif = omega arith
 format_small Cif = omega arith
 
-other_format : (format other : Format) → (other ≡ format → ⊥) → is_format format (format_code other) ≡ Some faults.OtherFormat
+other_format : (format other : Format) → (other ≡ format → ⊥) → allowed_format format (format_code other) ≡ Some faults.OtherFormat
 other_format SubQcif SubQcif other = absurd (other refl)
 other_format SubQcif Qcif other = refl
 other_format SubQcif Cif other = refl
@@ -72,7 +72,7 @@ other_format Cif SubQcif other = refl
 other_format Cif Qcif other = refl
 other_format Cif Cif other = absurd (other refl)
 
-no_format : (format : Format) → is_format format 0 ≡ Some faults.SourceFormat
+no_format : (format : Format) → allowed_format format 0 ≡ Some faults.SourceFormat
 no_format SubQcif = refl
 no_format Qcif = refl
 no_format Cif = refl
@@ -82,17 +82,17 @@ code_small SubQcif = omega arith
 code_small Qcif = omega arith
 code_small Cif = omega arith
 
-high_format : (format : Format) (n : ℕ) → 4 ≤ n → is_format format n ≡ Some faults.SourceFormat
+high_format : (format : Format) (n : ℕ) → 4 ≤ n → allowed_format format n ≡ Some faults.SourceFormat
 high_format format n le =
     let small = code_small format in
     let other : eqb n (format_code format) ≡ false = ne_eqb n (format_code format) (λ e. omega (arith, e, small, le)) in
     let some : ltb 0 n ≡ true = lt-ltb 0 n (omega arith) in
     rw (other, some, le-ltb n 4 le) refl
 
-low_kind : (n : ℕ) → n < 2 → is_kind n ≡ None
+low_kind : (n : ℕ) → n < 2 → allowed_kind n ≡ None
 low_kind n lt = rw (lt-ltb n 2 lt) refl
 
-high_kind : (n : ℕ) → 2 ≤ n → is_kind n ≡ Some faults.PictureKind
+high_kind : (n : ℕ) → 2 ≤ n → allowed_kind n ≡ Some faults.PictureKind
 high_kind n le = rw (le-ltb n 2 le) refl
 
 type_ufep : (format : Format) (n : ℕ) → n < 8 → (n ≡ 1 → ⊥) → HasFault (plus_type format) (fields ((3, n) ∷ [])) faults.Ufep 0
@@ -104,25 +104,25 @@ type_no_source : (format : Format) → HasFault (plus_type format) (fields ((3, 
 unfolding plus_type
 type_no_source format =
     fault_behind_field 3 (only 1 faults.Ufep) _ 1 (fields ((3, 0) ∷ [])) faults.SourceFormat 0 (omega arith) refl
-    (fault_here 3 (is_format format) _ 0 [] faults.SourceFormat (omega arith) (no_format format))
+    (fault_here 3 (allowed_format format) _ 0 [] faults.SourceFormat (omega arith) (no_format format))
 
 type_high_source : (format : Format) (n : ℕ) → 4 ≤ n → n < 8 → HasFault (plus_type format) (fields ((3, 1) ∷ (3, n) ∷ [])) faults.SourceFormat 3
 unfolding plus_type
 type_high_source format n le lt =
     fault_behind_field 3 (only 1 faults.Ufep) _ 1 (fields ((3, n) ∷ [])) faults.SourceFormat 0 (omega arith) refl
-    (fault_here 3 (is_format format) _ n [] faults.SourceFormat lt (high_format format n le))
+    (fault_here 3 (allowed_format format) _ n [] faults.SourceFormat lt (high_format format n le))
 
 type_other_source : (format other : Format) → (other ≡ format → ⊥) → HasFault (plus_type format) (fields ((3, 1) ∷ (3, (format_code other)) ∷ [])) faults.OtherFormat 3
 unfolding plus_type
 type_other_source format other unlike =
     fault_behind_field 3 (only 1 faults.Ufep) _ 1 (fields ((3, (format_code other)) ∷ [])) faults.OtherFormat 0 (omega arith) refl
-    (fault_here 3 (is_format format) _ (format_code other) [] faults.OtherFormat (format_small other) (other_format format other unlike))
+    (fault_here 3 (allowed_format format) _ (format_code other) [] faults.OtherFormat (format_small other) (other_format format other unlike))
 
 type_modes : (format : Format) (clock n : ℕ) → clock < 2 → n < 1024 → (n ≡ 24 → ⊥) → HasFault (plus_type format) (fields ((3, 1) ∷ (3, (format_code format)) ∷ (1, clock) ∷ (10, n) ∷ [])) faults.Modes 7
 unfolding plus_type
 type_modes format clock n c lt other =
     fault_behind_field 3 (only 1 faults.Ufep) _ 1 (fields ((3, (format_code format)) ∷ (1, clock) ∷ (10, n) ∷ [])) faults.Modes 4 (omega arith) refl
-    (fault_behind_field 3 (is_format format) _ (format_code format) (fields ((1, clock) ∷ (10, n) ∷ [])) faults.Modes 1 (format_small format) (same_format format)
+    (fault_behind_field 3 (allowed_format format) _ (format_code format) (fields ((1, clock) ∷ (10, n) ∷ [])) faults.Modes 1 (format_small format) (same_format format)
     (fault_behind_field 1 any _ clock (fields ((10, n) ∷ [])) faults.Modes 0 c refl
     (fault_here 10 (only 24 faults.Modes) _ n [] faults.Modes lt (only_other 24 n faults.Modes other))))
 
@@ -130,7 +130,7 @@ type_tail : (format : Format) (clock n : ℕ) → clock < 2 → n < 16 → (n �
 unfolding plus_type
 type_tail format clock n c lt other =
     fault_behind_field 3 (only 1 faults.Ufep) _ 1 (fields ((3, (format_code format)) ∷ (1, clock) ∷ (10, 24) ∷ (4, n) ∷ [])) faults.Marker 14 (omega arith) refl
-    (fault_behind_field 3 (is_format format) _ (format_code format) (fields ((1, clock) ∷ (10, 24) ∷ (4, n) ∷ [])) faults.Marker 11 (format_small format) (same_format format)
+    (fault_behind_field 3 (allowed_format format) _ (format_code format) (fields ((1, clock) ∷ (10, 24) ∷ (4, n) ∷ [])) faults.Marker 11 (format_small format) (same_format format)
     (fault_behind_field 1 any _ clock (fields ((10, 24) ∷ (4, n) ∷ [])) faults.Marker 10 c refl
     (fault_behind_field 10 (only 24 faults.Modes) _ 24 (fields ((4, n) ∷ [])) faults.Marker 0 (omega arith) refl
     (fault_here 4 (only 8 faults.Marker) _ n [] faults.Marker lt (only_other 8 n faults.Marker other)))))
@@ -139,32 +139,32 @@ type_kind : (format : Format) (clock n : ℕ) → clock < 2 → 2 ≤ n → n < 
 unfolding plus_type
 type_kind format clock n c le lt =
     fault_behind_field 3 (only 1 faults.Ufep) _ 1 (fields ((3, (format_code format)) ∷ (1, clock) ∷ (10, 24) ∷ (4, 8) ∷ (3, n) ∷ [])) faults.PictureKind 18 (omega arith) refl
-    (fault_behind_field 3 (is_format format) _ (format_code format) (fields ((1, clock) ∷ (10, 24) ∷ (4, 8) ∷ (3, n) ∷ [])) faults.PictureKind 15 (format_small format) (same_format format)
+    (fault_behind_field 3 (allowed_format format) _ (format_code format) (fields ((1, clock) ∷ (10, 24) ∷ (4, 8) ∷ (3, n) ∷ [])) faults.PictureKind 15 (format_small format) (same_format format)
     (fault_behind_field 1 any _ clock (fields ((10, 24) ∷ (4, 8) ∷ (3, n) ∷ [])) faults.PictureKind 14 c refl
     (fault_behind_field 10 (only 24 faults.Modes) _ 24 (fields ((4, 8) ∷ (3, n) ∷ [])) faults.PictureKind 4 (omega arith) refl
     (fault_behind_field 4 (only 8 faults.Marker) _ 8 (fields ((3, n) ∷ [])) faults.PictureKind 0 (omega arith) refl
-    (fault_here 3 is_kind _ n [] faults.PictureKind lt (high_kind n le))))))
+    (fault_here 3 allowed_kind _ n [] faults.PictureKind lt (high_kind n le))))))
 
 type_resampling : (format : Format) (clock kind n : ℕ) → clock < 2 → kind < 2 → n < 4 → (n ≡ 0 → ⊥) → HasFault (plus_type format) (fields ((3, 1) ∷ (3, (format_code format)) ∷ (1, clock) ∷ (10, 24) ∷ (4, 8) ∷ (3, kind) ∷ (2, n) ∷ [])) faults.Resampling 24
 unfolding plus_type
 type_resampling format clock kind n c k lt other =
     fault_behind_field 3 (only 1 faults.Ufep) _ 1 (fields ((3, (format_code format)) ∷ (1, clock) ∷ (10, 24) ∷ (4, 8) ∷ (3, kind) ∷ (2, n) ∷ [])) faults.Resampling 21 (omega arith) refl
-    (fault_behind_field 3 (is_format format) _ (format_code format) (fields ((1, clock) ∷ (10, 24) ∷ (4, 8) ∷ (3, kind) ∷ (2, n) ∷ [])) faults.Resampling 18 (format_small format) (same_format format)
+    (fault_behind_field 3 (allowed_format format) _ (format_code format) (fields ((1, clock) ∷ (10, 24) ∷ (4, 8) ∷ (3, kind) ∷ (2, n) ∷ [])) faults.Resampling 18 (format_small format) (same_format format)
     (fault_behind_field 1 any _ clock (fields ((10, 24) ∷ (4, 8) ∷ (3, kind) ∷ (2, n) ∷ [])) faults.Resampling 17 c refl
     (fault_behind_field 10 (only 24 faults.Modes) _ 24 (fields ((4, 8) ∷ (3, kind) ∷ (2, n) ∷ [])) faults.Resampling 7 (omega arith) refl
     (fault_behind_field 4 (only 8 faults.Marker) _ 8 (fields ((3, kind) ∷ (2, n) ∷ [])) faults.Resampling 3 (omega arith) refl
-    (fault_behind_field 3 is_kind _ kind (fields ((2, n) ∷ [])) faults.Resampling 0 (omega (arith, k)) (low_kind kind k)
+    (fault_behind_field 3 allowed_kind _ kind (fields ((2, n) ∷ [])) faults.Resampling 0 (omega (arith, k)) (low_kind kind k)
     (fault_here 2 (only 0 faults.Resampling) _ n [] faults.Resampling lt (only_other 0 n faults.Resampling other)))))))
 
 type_end : (format : Format) (clock kind rounding n : ℕ) → clock < 2 → kind < 2 → rounding < 2 → n < 8 → (n ≡ 1 → ⊥) → HasFault (plus_type format) (fields ((3, 1) ∷ (3, (format_code format)) ∷ (1, clock) ∷ (10, 24) ∷ (4, 8) ∷ (3, kind) ∷ (2, 0) ∷ (1, rounding) ∷ (3, n) ∷ [])) faults.Marker 27
 unfolding plus_type
 type_end format clock kind rounding n c k r lt other =
     fault_behind_field 3 (only 1 faults.Ufep) _ 1 (fields ((3, (format_code format)) ∷ (1, clock) ∷ (10, 24) ∷ (4, 8) ∷ (3, kind) ∷ (2, 0) ∷ (1, rounding) ∷ (3, n) ∷ [])) faults.Marker 24 (omega arith) refl
-    (fault_behind_field 3 (is_format format) _ (format_code format) (fields ((1, clock) ∷ (10, 24) ∷ (4, 8) ∷ (3, kind) ∷ (2, 0) ∷ (1, rounding) ∷ (3, n) ∷ [])) faults.Marker 21 (format_small format) (same_format format)
+    (fault_behind_field 3 (allowed_format format) _ (format_code format) (fields ((1, clock) ∷ (10, 24) ∷ (4, 8) ∷ (3, kind) ∷ (2, 0) ∷ (1, rounding) ∷ (3, n) ∷ [])) faults.Marker 21 (format_small format) (same_format format)
     (fault_behind_field 1 any _ clock (fields ((10, 24) ∷ (4, 8) ∷ (3, kind) ∷ (2, 0) ∷ (1, rounding) ∷ (3, n) ∷ [])) faults.Marker 20 c refl
     (fault_behind_field 10 (only 24 faults.Modes) _ 24 (fields ((4, 8) ∷ (3, kind) ∷ (2, 0) ∷ (1, rounding) ∷ (3, n) ∷ [])) faults.Marker 10 (omega arith) refl
     (fault_behind_field 4 (only 8 faults.Marker) _ 8 (fields ((3, kind) ∷ (2, 0) ∷ (1, rounding) ∷ (3, n) ∷ [])) faults.Marker 6 (omega arith) refl
-    (fault_behind_field 3 is_kind _ kind (fields ((2, 0) ∷ (1, rounding) ∷ (3, n) ∷ [])) faults.Marker 3 (omega (arith, k)) (low_kind kind k)
+    (fault_behind_field 3 allowed_kind _ kind (fields ((2, 0) ∷ (1, rounding) ∷ (3, n) ∷ [])) faults.Marker 3 (omega (arith, k)) (low_kind kind k)
     (fault_behind_field 2 (only 0 faults.Resampling) _ 0 (fields ((1, rounding) ∷ (3, n) ∷ [])) faults.Marker 1 (omega arith) refl
     (fault_behind_field 1 any _ rounding (fields ((3, n) ∷ [])) faults.Marker 0 r refl
     (fault_here 3 (only 1 faults.Marker) _ n [] faults.Marker lt (only_other 1 n faults.Marker other)))))))))
@@ -190,22 +190,22 @@ multipoint_row = fault_here 1 (only 0 faults.Cpm) _ 1 [] faults.Cpm (omega arith
 
 divisor_row : (tr : ℕ) → HasFault (extended Custom tr) (fields ((8, 0) ∷ [])) faults.Divisor 0
 unfolding extended
-divisor_row tr = fault_here 8 is_divisor _ 0 [] faults.Divisor (omega arith) refl
+divisor_row tr = fault_here 8 allowed_divisor _ 0 [] faults.Divisor (omega arith) refl
 
 high_divisor_row : (tr : ℕ) → HasFault (extended Custom tr) (fields ((8, 128) ∷ [])) faults.Divisor 0
 unfolding extended
-high_divisor_row tr = fault_here 8 is_divisor _ 128 [] faults.Divisor (omega arith) refl
+high_divisor_row tr = fault_here 8 allowed_divisor _ 128 [] faults.Divisor (omega arith) refl
 
 slices_row : (n : ℕ) → n < 4 → (n ≡ 0 → ⊥) → HasFault channel (fields ((2, n) ∷ [])) faults.SliceMode 0
 unfolding channel
 slices_row n lt other = fault_here 2 (only 0 faults.SliceMode) _ n [] faults.SliceMode lt (only_other 0 n faults.SliceMode other)
 
-low_channel : (n : ℕ) → n < 4 → is_channel n ≡ Some faults.Rpsmf
+low_channel : (n : ℕ) → n < 4 → allowed_channel n ≡ Some faults.Rpsmf
 low_channel n lt = rw (lt-ltb n 4 lt) refl
 
 channel_row : (n : ℕ) → n < 4 → HasFault channel (fields ((2, 0) ∷ (3, n) ∷ [])) faults.Rpsmf 2
 unfolding channel
-channel_row n lt = fault_behind_field 2 (only 0 faults.SliceMode) _ 0 (fields ((3, n) ∷ [])) faults.Rpsmf 0 (omega arith) refl (fault_here 3 is_channel _ n [] faults.Rpsmf (omega arith) (low_channel n lt))
+channel_row n lt = fault_behind_field 2 (only 0 faults.SliceMode) _ 0 (fields ((3, n) ∷ [])) faults.Rpsmf 0 (omega arith) refl (fault_here 3 allowed_channel _ n [] faults.Rpsmf (omega arith) (low_channel n lt))
 
 intra_row : (clock : Clock) → HasFault (reference clock kinds.I) (fields ((1, 1) ∷ [])) faults.IntraReference 0
 unfolding reference
@@ -215,12 +215,12 @@ inter_row : (clock : Clock) → HasFault (reference clock kinds.P) (fields ((1, 
 unfolding reference
 inter_row clock = fault_here 1 (only 1 faults.NoReference) _ 0 [] faults.NoReference (omega arith) refl
 
-not_low : (clock : Clock) (n : ℕ) → period_of clock ≤ n → is_low clock n ≡ Some faults.HighBits
+not_low : (clock : Clock) (n : ℕ) → period_of clock ≤ n → allowed_low clock n ≡ Some faults.HighBits
 not_low clock n le = rw (le-leb (period_of clock) n le) refl
 
 high_row : (clock : Clock) (n : ℕ) → period_of clock ≤ n → n < 1024 → HasFault (reference clock kinds.P) (fields ((1, 1) ∷ (10, n) ∷ [])) faults.HighBits 1
 unfolding reference
-high_row clock n le lt = fault_behind_field 1 (only 1 faults.NoReference) _ 1 (fields ((10, n) ∷ [])) faults.HighBits 0 (omega arith) refl (fault_here 10 (is_low clock) _ n [] faults.HighBits lt (not_low clock n le))
+high_row clock n le lt = fault_behind_field 1 (only 1 faults.NoReference) _ 1 (fields ((10, n) ∷ [])) faults.HighBits 0 (omega arith) refl (fault_here 10 (allowed_low clock) _ n [] faults.HighBits lt (not_low clock n le))
 
 middle_faults : MiddleFaults
 middle_faults = record {
@@ -258,17 +258,17 @@ many_row : (clock : Clock) (used : ℕ) → 4 ≤ used → HasFault (next_messag
 unfolding next_message spelled
 many_row clock used le = fault_of_element bci (has_room used) _ 1 (fields ((1, 1) ∷ [])) [] faults.ManyMessages bci_productive bci_more (no_room used le)
 
-bad_message : (clock : Clock) (n : ℕ) (fault : MessageFault) → message_fault clock (is_long n) n ≡ Some fault → is_message clock n ≡ Some faults.Messages
+bad_message : (clock : Clock) (n : ℕ) (fault : MessageFault) → message_fault clock (is_long n) n ≡ Some fault → allowed_message clock n ≡ Some faults.Messages
 bad_message clock n fault e = rw e refl
 
-good_message : (clock : Clock) (n : ℕ) → message_fault clock (is_long n) n ≡ None → is_message clock n ≡ None
+good_message : (clock : Clock) (n : ℕ) → message_fault clock (is_long n) n ≡ None → allowed_message clock n ≡ None
 good_message clock n e = rw e refl
 
 in_message : (clock : Clock) (n : ℕ) (fault : MessageFault) → n < 2 ^ 24 → message_fault clock (is_long n) n ≡ Some fault → HasFault (message clock) (fields ((24, n) ∷ [])) faults.Messages 0
 unfolding message
-in_message clock n fault lt e = fault_here 24 (is_message clock) _ n [] faults.Messages lt (bad_message clock n fault e)
+in_message clock n fault lt e = fault_here 24 (allowed_message clock) _ n [] faults.Messages lt (bad_message clock n fault e)
 
--- the message behind a BCI of 1
+-- the message after a BCI of 1
 behind_bci : (clock : Clock) (used : ℕ) (text : List Bool) (kind : FaultKind) (place : ℕ) → used < 4 → HasFault (message clock) text kind place → HasFault (next_message clock used) (fields ((1, 1) ∷ []) ++ text) kind (1 + place)
 unfolding next_message spelled
 behind_bci clock used text kind place lt h =
@@ -279,14 +279,14 @@ message_row : (clock : Clock) (used n : ℕ) (fault : MessageFault) → used < 4
 unfolding spelled
 message_row clock used n fault room lt e = behind_bci clock used (fields ((24, n) ∷ [])) faults.Messages 0 room (in_message clock n fault lt e)
 
-unmarked : (marks : ℕ) → has_markers marks ≡ false → is_marked marks ≡ Some faults.Messages
+unmarked : (marks : ℕ) → has_markers marks ≡ false → allowed_markers marks ≡ Some faults.Messages
 unmarked marks e = rw e refl
 
 in_flags : (marks : ℕ) → marks < 2 ^ 16 → has_markers marks ≡ false → HasFault flags (fields ((16, marks) ∷ [])) faults.Messages 0
 unfolding flags
-in_flags marks lt e = fault_here 16 is_marked _ marks [] faults.Messages lt (unmarked marks e)
+in_flags marks lt e = fault_here 16 allowed_markers _ marks [] faults.Messages lt (unmarked marks e)
 
--- the flags behind the first 24 bits of a long message
+-- the flags after the first 24 bits of a long message
 abbrev behind_24 : ℕ → Bool → Syntax Message
 behind_24 n long = either long (part flags any λ marks. done (message_value n (Some marks))) (done (message_value n None))
 
@@ -299,7 +299,7 @@ unfolding message
 long_message_row clock n marks lt small e long bad =
     let inner : HasFault (behind_24 n (is_long n)) (fields ((16, marks) ∷ [])) faults.Messages 0 =
     subst (λ (t : Bool). HasFault (behind_24 n t) (fields ((16, marks) ∷ [])) faults.Messages 0) (sym long) (flags_part n marks small bad) in
-    fault_behind_field 24 (is_message clock) (λ m. behind_24 m (is_long m)) n (fields ((16, marks) ∷ [])) faults.Messages 0 lt (good_message clock n e) inner
+    fault_behind_field 24 (allowed_message clock) (λ m. behind_24 m (is_long m)) n (fields ((16, marks) ∷ [])) faults.Messages 0 lt (good_message clock n e) inner
 
 flags_row : (clock : Clock) (used n marks : ℕ) → used < 4 → n < 2 ^ 24 → marks < 2 ^ 16 → message_fault clock (is_long n) n ≡ None → is_long n ≡ true → has_markers marks ≡ false
     → HasFault (next_message clock used) (fields ((1, 1) ∷ (24, n) ∷ (16, marks) ∷ [])) faults.Messages 25
@@ -333,7 +333,7 @@ message_faults laws clock = record {
   behind = turn_behind laws clock;
 }
 
--- ---- the parts of a header, one behind the other
+-- ---- the parts of a header, one after the other
 
 part_opening : MessageLaws → (format : Format) (text : List Bool) (kind : FaultKind) (place : ℕ) → HasFault opening text kind place → HasFault (header format) text kind place
 unfolding header
@@ -414,7 +414,7 @@ part_quant laws format low tr n type trp messages a b c d e f g sa sb sc sd se s
     (fault_behind_part channel any _ n e (f ++ (g ++ fields ((5, 0) ∷ []))) faults.Quant (length f + (length g + 0)) simple.3 se refl
     (fault_behind_part (reference type.0 type.1) any _ trp f (g ++ fields ((5, 0) ∷ [])) faults.Quant (length g + 0) (reference_productive type.0 type.1) sf refl
     (fault_behind_part (back type.0) any _ messages g (fields ((5, 0) ∷ [])) faults.Quant 0 (back_productive laws type.0) sg refl
-    (fault_here 5 is_quant _ 0 [] faults.Quant (omega arith) refl)))))))
+    (fault_here 5 allowed_quant _ 0 [] faults.Quant (omega arith) refl)))))))
 
 part_faults : MessageLaws → (format : Format) → PartFaults format
 part_faults laws format = record {

@@ -18,7 +18,7 @@ use Rattle.h263_types.specs.Clocks.{period_of}
 use Rattle.back_messages.specs.Text.{IsMessage, message, message_text, bits_with, marks_of}
 use Rattle.back_messages.specs.Laws.{MessageLaws}
 use Rattle.picture_header.specs.declared.header.Header.{Header}
-use Rattle.picture_header.specs.Text.{opening, plus_type, multipoint, extended, channel, reference, bci, has_room, next_message, after_message, back_turn, back, in_places, extra, extra_turn, header, is_format, format_code, is_low, is_quant}
+use Rattle.picture_header.specs.Text.{opening, plus_type, multipoint, extended, channel, reference, bci, has_room, next_message, after_message, back_turn, back, in_places, extra, extra_turn, header, allowed_format, format_code, allowed_low, allowed_quant}
 use Rattle.picture_header.specs.Ranges.{IsReference, HasTenBits, AreMessages, IsBack, IsHeader, messages_in}
 use Rattle.picture_header.specs.Written.{opening_fields, plus_fields, multipoint_fields, extended_fields, channel_fields, reference_fields, reference_bits, clock_bits, back_bits, back_text, written_front, written_rest, written_header, written_bits}
 use Rattle.picture_header.specs.Laws.{IsShort}
@@ -27,7 +27,7 @@ opening_spelt : (tr : ℕ) → Spells opening (tr % 256) (fields (opening_fields
 unfolding opening
 opening_spelt tr = spells_field 6 _ _ _ 32 _ (omega arith) refl (spells_field 8 _ _ _ (tr % 256) _ (omega arith) refl (spells_field 2 _ _ _ 2 _ (omega arith) refl (spells_field 3 _ _ _ 0 _ (omega arith) refl (spells_field 3 _ _ _ 7 _ (omega arith) refl (spells_done _)))))
 
-format_allowed : (format : Format) → is_format format (format_code format) ≡ None
+format_allowed : (format : Format) → allowed_format format (format_code format) ≡ None
 format_allowed formats.SubQcif = refl
 format_allowed formats.Qcif = refl
 format_allowed formats.Cif = refl
@@ -65,7 +65,7 @@ period_low : (clock : Clock) (n : ℕ) → n < period_of clock → n < 2 ^ 10
 period_low Standard n h = omega arith
 period_low Custom n h = omega arith
 
-low_free : (clock : Clock) (n : ℕ) → n < period_of clock → is_low clock n ≡ None
+low_free : (clock : Clock) (n : ℕ) → n < period_of clock → allowed_low clock n ≡ None
 low_free clock n h = rw (lt-leb (period_of clock) n h) refl
 
 reference_spelt : (clock : Clock) (kind : Kind) (trp : Option ℕ) → IsReference clock kind trp → Spells (reference clock kind) trp (fields (reference_fields trp))
@@ -82,7 +82,7 @@ ten_bits clock kinds.I (Some t) h = absurd h
 ten_bits clock kinds.P None h = absurd h
 ten_bits clock kinds.P (Some t) h = period_low clock t h
 
-quant_allowed : (value : ℕ) → 1 ≤ value → is_quant value ≡ None
+quant_allowed : (value : ℕ) → 1 ≤ value → allowed_quant value ≡ None
 quant_allowed value some = at_test (value == 0) refl
   where
     at_test : (t : Bool) → (value == 0) ≡ t → cond t (Some faults.Quant) None ≡ None
@@ -165,7 +165,7 @@ header_spelt laws h ok =
     (spells_part (reference h.clock h.kind) any _ h h.trp _ _ (reference_spelt h.clock h.kind h.trp ok.trp) refl
     (spells_part (back h.clock) any _ h (messages_in h.back) _ _ (back_spelt laws h.clock (messages_in h.back) ok.back.few ok.back.each) refl
     (spells_whole _ h _ _ (ap (λ (t : List Bool). spelled 5 h.quant ++ t) (append-nil (spelled 1 0)) ∙ end_text h.quant)
-    (spells_field 5 is_quant _ h h.quant (spelled 1 0 ++ []) (omega (arith, ok.quant_low)) (quant_allowed h.quant ok.quant_some)
+    (spells_field 5 allowed_quant _ h h.quant (spelled 1 0 ++ []) (omega (arith, ok.quant_low)) (quant_allowed h.quant ok.quant_some)
     (spells_part extra any _ h tt (spelled 1 0) [] extra_spelt refl
     (done_header h (in_places (messages_in h.back)) ok.back.first)))))))))))
 

@@ -1,5 +1,5 @@
 -- THE FAULTS OF A PICTURE HEADER, field by field (H.263, 5.1, with Annexes K and N on): the fields
--- in front, each with a value that has no fault, the field itself with one that is refused, its
+-- before it, each with a value that has no fault, the field itself with one that is refused, its
 -- fault, and the place of its first bit.
 use Rattle.std.specs.Prelude.{◌≡◌, ◌↔◌, ℕ, ◌+◌, ◌<◌, ◌≤◌, ◌^◌, List, [], ◌∷◌, ◌++◌, length, Bool, true, false, Option, Some, None, Err}
 use Rattle.h263_types.specs.declared.format.Format.{Format}
@@ -65,7 +65,7 @@ pub record MiddleFaults : Type 0 where
   pub high : (clock : Clock) (n : ℕ) → period_of clock ≤ n → n < 1024
       → HasFault (reference clock kinds.P) (fields ((1, 1) ∷ (10, n) ∷ [])) faults.HighBits 1
 
--- BCI, one element of one or two bits, and the message behind a 1: 24 bits and the flags
+-- BCI, one element of one or two bits, and the message after a 1: 24 bits and the flags
 pub record MessageFaults (clock : Clock) : Type 0 where
   pub bci : (used : ℕ) → HasFault (next_message clock used) (fields ((1, 0) ∷ (1, 0) ∷ [])) faults.Bci 0
   pub many : (used : ℕ) → 4 ≤ used → HasFault (next_message clock used) (fields ((1, 1) ∷ [])) faults.ManyMessages 0
@@ -75,7 +75,7 @@ pub record MessageFaults (clock : Clock) : Type 0 where
   pub flags : (used n marks : ℕ) → used < 4 → n < 2 ^ 24 → marks < 2 ^ 16
       → message_fault clock (is_long n) n ≡ None → is_long n ≡ true → has_markers marks ≡ false
       → HasFault (next_message clock used) (fields ((1, 1) ∷ (24, n) ∷ (16, marks) ∷ [])) faults.Messages 25
-  -- behind messages
+  -- after messages
   pub here : (messages : List Message) (text : List Bool) (kind : FaultKind) (place : ℕ)
       → HasFault (next_message clock (length messages)) text kind place
       → HasFault (repeat messages (back_turn clock)) text kind place
@@ -84,7 +84,7 @@ pub record MessageFaults (clock : Clock) : Type 0 where
       → HasFault (repeat (messages ++ m ∷ []) (back_turn clock)) text kind place
       → HasFault (repeat messages (back_turn clock)) (front ++ text) kind (length front + place)
 
--- each part's faults are the header's, behind the texts of the parts in front
+-- each part's faults are the header's, after the texts of the parts before it
 pub record PartFaults (format : Format) : Type 0 where
   pub of_opening : (text : List Bool) (kind : FaultKind) (place : ℕ)
       → HasFault opening text kind place → HasFault (header format) text kind place
@@ -117,7 +117,7 @@ pub record PartFaults (format : Format) : Type 0 where
       → HasFault (back type.0) text kind place
       → HasFault (header format) (a ++ (b ++ (c ++ (d ++ (e ++ (f ++ text)))))) kind
       (length a + (length b + (length c + (length d + (length e + (length f + place))))))
-  -- PQUANT behind them all
+  -- PQUANT after them all
   pub of_quant : (low tr n : ℕ) (type : Clock × Kind × ℕ) (trp : Option ℕ) (messages : List Message)
       (a b c d e f g : List Bool) → Spells opening low a → Spells (plus_type format) type b
       → Spells multipoint tt c → Spells (extended type.0 low) tr d → Spells channel n e
@@ -127,7 +127,7 @@ pub record PartFaults (format : Format) : Type 0 where
       a + (length b + (length c + (length d + (length e + (length f + (length g + 0)))))))
 
 pub record HeaderFaults : Type 0 where
-  -- the first fault is the one that the field behind the longest list of fields without a fault
+  -- the first fault is the one that the field after the longest list of fields without a fault
   -- has, and Ended where that is cut
   pub first : (format : Format) (b : Bits) (fault : Fault)
       → (reading (header format) b ≡ Err fault) ↔ IsFirstFault (header format) b fault

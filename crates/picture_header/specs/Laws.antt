@@ -19,7 +19,7 @@ pub record IsShort (h : Header) : Type 0 where
   pub bits : written_bits h ≤ 251
   -- with the 11 bits of a slice that begins a picture: two markers and the number of its macroblock
   pub beginning : written_bits h + 11 ≤ 262
-  -- in bytes, behind the RTP header and the payload header before the data of a later slice
+  -- in bytes, after the RTP header and the payload header before the data of a later slice
   pub before : 12 + 2 + (written_bits h + 7) / 8 ≤ 46
   -- so that the least limit of a packet leaves room for one macroblock
   pub room : 1150 + (12 + 2 + (written_bits h + 7) / 8) < 1200

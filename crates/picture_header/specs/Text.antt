@@ -25,16 +25,16 @@ format_code Qcif = 2
 format_code Cif = 3
 
 -- a number of a source format, and the one that is expected
-abbrev pub is_format : Format → Allowed ℕ
-is_format format n =
+abbrev pub allowed_format : Format → Allowed ℕ
+allowed_format format n =
     if n == format_code format then None
     else if (nat_lt 0 n)
     then (if nat_lt n 4 then Some faults.OtherFormat else Some faults.SourceFormat)
     else Some faults.SourceFormat
 
 -- I and P of the picture types (MPPTYPE, 5.1.4.3)
-abbrev pub is_kind : Allowed ℕ
-is_kind n = if nat_lt n 2 then None else Some faults.PictureKind
+abbrev pub allowed_kind : Allowed ℕ
+allowed_kind n = if nat_lt n 2 then None else Some faults.PictureKind
 
 abbrev pub kind_of : ℕ → Kind
 kind_of n = if n == 0 then kinds.I else kinds.P
@@ -43,21 +43,21 @@ kind_of n = if n == 0 then kinds.I else kinds.P
 abbrev pub clock_of : ℕ → Clock
 clock_of n = if n == 0 then Standard else Custom
 
--- a divisor that isn't 0, behind one bit (CPCFC, 5.1.7)
-abbrev pub is_divisor : Allowed ℕ
-is_divisor n = if n % 2 ^ 7 == 0 then Some faults.Divisor else None
+-- a divisor that isn't 0, after one bit (CPCFC, 5.1.7)
+abbrev pub allowed_divisor : Allowed ℕ
+allowed_divisor n = if n % 2 ^ 7 == 0 then Some faults.Divisor else None
 
 -- the four modes of the back channel (RPSMF)
-abbrev pub is_channel : Allowed ℕ
-is_channel n = if nat_lt n 4 then Some faults.Rpsmf else None
+abbrev pub allowed_channel : Allowed ℕ
+allowed_channel n = if nat_lt n 4 then Some faults.Rpsmf else None
 
 -- a temporal reference of the clock, in a field of ten bits (TRP)
-abbrev pub is_low : Clock → Allowed ℕ
-is_low clock n = if nat_le (period_of clock) n then Some faults.HighBits else None
+abbrev pub allowed_low : Clock → Allowed ℕ
+allowed_low clock n = if nat_le (period_of clock) n then Some faults.HighBits else None
 
 -- a quantiser (PQUANT)
-abbrev pub is_quant : Allowed ℕ
-is_quant n = if n == 0 then Some faults.Quant else None
+abbrev pub allowed_quant : Allowed ℕ
+allowed_quant n = if n == 0 then Some faults.Quant else None
 
 -- ---- the header, part by part
 
@@ -75,11 +75,11 @@ opening =
 unfoldable pub plus_type : Format → Syntax (Clock × Kind × ℕ)
 plus_type format =
     field 3 (only 1 faults.Ufep) λ ufep.
-    field 3 (is_format format) λ source.
+    field 3 (allowed_format format) λ source.
     field 1 any λ custom.
     field 10 (only 24 faults.Modes) λ modes.
     field 4 (only 8 faults.Marker) λ tail.
-    field 3 is_kind λ kind.
+    field 3 allowed_kind λ kind.
     field 2 (only 0 faults.Resampling) λ resampling.
     field 1 any λ rounding.
     field 3 (only 1 faults.Marker) λ end.
@@ -94,7 +94,7 @@ multipoint = field 1 (only 0 faults.Cpm) λ cpm. done tt
 unfoldable pub extended : Clock → ℕ → Syntax ℕ
 extended Standard tr = done tr
 extended Custom tr =
-    field 8 is_divisor λ cpcfc.
+    field 8 allowed_divisor λ cpcfc.
     field 2 any λ etr.
     done (256 * etr + tr)
 
@@ -103,10 +103,10 @@ unfoldable pub reference : Clock → Kind → Syntax (Option ℕ)
 reference clock kinds.I = field 1 (only 0 faults.IntraReference) λ refers. done None
 reference clock kinds.P =
     field 1 (only 1 faults.NoReference) λ refers.
-    field 10 (is_low clock) λ trp.
+    field 10 (allowed_low clock) λ trp.
     done (Some trp)
 
--- PEI, and the byte behind a 1, which is passed over (5.1.24, 5.1.25)
+-- PEI, and the byte after a 1, which is passed over (5.1.24, 5.1.25)
 unfoldable pub extra_turn : Unit {0} → Syntax (Turn (Unit {0}) (Unit {0}))
 extra_turn u =
     field 1 any λ pei.
@@ -153,7 +153,7 @@ in_places messages = take 4 (map Some messages ++ None ∷ None ∷ None ∷ Non
 unfoldable pub channel : Syntax ℕ
 channel =
     field 2 (only 0 faults.SliceMode) λ sss.
-    field 3 is_channel λ rpsmf.
+    field 3 allowed_channel λ rpsmf.
     done (rpsmf - 4)
 
 unfoldable pub header : Format → Syntax Header
@@ -165,7 +165,7 @@ header format =
     part channel any λ channel.
     part (reference type.0 type.1) any λ trp.
     part (back type.0) any λ messages.
-    field 5 is_quant λ quant.
+    field 5 allowed_quant λ quant.
     part extra any λ end.
     done (record {
       tr = tr;

@@ -18,7 +18,7 @@ pub fn in_a_syntax()
 
 /// How much room a header takes at most: 251 bits of its own, 262 of what begins a picture, 46
 /// bytes in front of the data of a later slice, and even in the smallest packet more than 1,150
-/// bytes are left behind these.
+/// bytes are left after these.
 pub fn longest_text()
     ensures { (h : Header) → IsHeader h → IsShort h }
 {}
@@ -31,7 +31,7 @@ pub fn one_reading()
     back_messages::laws::in_a_syntax();
 }
 
-/// What is written of a header is read again, whatever follows, and reading stops behind it.
+/// What is written of a header is read again, whatever follows, and reading stops after it.
 pub fn read_again()
     ensures { (h : Header) (at : ℕ) (rest : List Bool) → IsHeader h
         → reading (header h.format) (record { at = at; bits = written_header h ++ rest })
@@ -40,7 +40,7 @@ pub fn read_again()
     back_messages::laws::in_a_syntax();
 }
 
-/// The first faults of a header, field by field: which values of a field have which fault, behind
+/// The first faults of a header, field by field: which values of a field have which fault, after
 /// fields that have none, and that it stands at the field's first bit.
 pub fn first_faults()
     ensures { HeaderFaults }

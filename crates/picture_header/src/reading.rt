@@ -6,14 +6,13 @@ ghost use Rattle.h263_types.specs.Blocks.{IsQuant};
 ghost use Rattle.h263_types.specs.Clocks.{period_of};
 ghost use Rattle.back_messages.specs.Text.{IsMessage};
 ghost use Rattle.back_messages.specs.declared.message.Message.{Message};
-ghost use Rattle.picture_header.specs.Text.{clock_of, kind_of, is_divisor, opening, plus_type, multipoint, extended, reference, extra, extra_turn, bci, next_message, back, channel, is_quant, header, header_fault, IsHeaderText};
+ghost use Rattle.picture_header.specs.Text.{clock_of, kind_of, allowed_divisor, opening, plus_type, multipoint, extended, reference, extra, extra_turn, bci, next_message, back, channel, allowed_quant, header, header_fault, IsHeaderText};
 ghost use Rattle.picture_header.specs.Back.{ReadsBack};
 ghost use Rattle.picture_header.specs.Ranges.{IsReference, IsBack, IsHeader};
 ghost use Rattle.picture_header.specs.declared.header.Header.{Header};
 
 use crate::header::Header;
-use back_messages::laws::in_a_syntax;
-use back_messages::{Message, read_message};
+use back_messages::{Message, laws as back_messages_laws, read_message};
 use h263_bits::{BitReader, Fault, FaultKind};
 use h263_types::{Clock, Format, Kind};
 
@@ -92,7 +91,7 @@ fn read_multipoint(reader: &mut BitReader<'_>) -> Result<(), Fault>
 
 // Reads CPCFC, of which nothing is kept.
 fn read_divisor(reader: &mut BitReader<'_>) -> Result<u32, Fault>
-    ensures { Gives (λ (v : ℕ). v) result reader.new (field_at 8 is_divisor reader.old) }
+    ensures { Gives (λ (v : ℕ). v) result reader.new (field_at 8 allowed_divisor reader.old) }
 {
     let at = reader.at();
     let cpcfc = reader.bits(8)?;
@@ -148,7 +147,7 @@ fn read_reference(
     }
 }
 
-// Reads PEI, and a byte behind a 1. Answers whether PEI stands there again.
+// Reads PEI, and a byte after a 1. Answers whether PEI stands there again.
 #[tactic(auto, unfolding(crate::specs::Text::extra_turn, h263_bits::specs::Syntax::reading))]
 fn read_extra_turn(reader: &mut BitReader<'_>) -> Result<bool, Fault>
     ensures { Gives (goes_on tt tt) result reader.new (reading (extra_turn tt) reader.old) }
@@ -179,7 +178,7 @@ fn read_bci(reader: &mut BitReader<'_>) -> Result<u32, Fault>
     Ok(1)
 }
 
-// Reads BCI and a message, or the BCI of the end, where so many messages were read.
+// Reads BCI and a message, or the BCI of the end, where this many messages were read.
 #[tactic(auto, unfolding(crate::specs::Text::next_message, h263_bits::specs::Syntax::reading))]
 fn read_next_message(
     reader: &mut BitReader<'_>,
@@ -209,7 +208,7 @@ fn read_back(reader: &mut BitReader<'_>, clock: Clock) -> Result<[Option<Message
     ensures reads { ReadsBack result reader.new (reading (back clock) reader.old) }
     ensures range { IfOk result (IsBack clock) }
 {
-    in_a_syntax();
+    back_messages_laws::in_a_syntax();
     let mut back = [None; 4];
     let mut used = 0;
     'messages: while let Some(message) = read_next_message(reader, clock, used)? {
@@ -235,7 +234,7 @@ fn read_channel(reader: &mut BitReader<'_>) -> Result<u8, Fault>
 
 /// Reads a quantiser (PQUANT, 5.1.19, and SQUANT, Annex K), which isn't 0.
 pub fn read_quant(reader: &mut BitReader<'_>) -> Result<u8, Fault>
-    ensures reads { Gives (λ (v : ℕ). v) result reader.new (field_at 5 is_quant reader.old) }
+    ensures reads { Gives (λ (v : ℕ). v) result reader.new (field_at 5 allowed_quant reader.old) }
     ensures range { IfOk result IsQuant }
 {
     let at = reader.at();
@@ -289,6 +288,6 @@ pub fn read_header(reader: &mut BitReader<'_>, format: Format) -> Result<Header,
         (λ (h : Header). h) result reader.new (reading (header format) reader.old) }
     ensures range { IfOk result IsHeader }
 {
-    in_a_syntax();
+    back_messages_laws::in_a_syntax();
     header_at(reader, format)
 }

@@ -22,7 +22,7 @@ fn put_text(bytes: &mut [u8; 32], from: u32, to: u32, text: &str) -> u32 {
     place
 }
 
-// The header in the first `keep` bits of the P picture's header and in the text behind them, or its
+// The header in the first `keep` bits of the P picture's header and in the text after them, or its
 // fault.
 fn read_changed(format: Format, keep: u32, text: &str) -> Result<Header, Fault> {
     let mut bytes = [0; 32];
@@ -263,7 +263,7 @@ const FAULTS: [(u32, &str, FaultKind, u32); 35] = [
     (76, "1 11111111", FaultKind::Ended, 85),
 ];
 
-// Four messages, each behind its BCI `1`, and a fifth `1`.
+// Four messages, each after its BCI `1`, and a fifth `1`.
 const MESSAGES: &str =
     "1 11 0 0000000000 1 0000000000 1 11 0 0000000001 1 0000000001 1 11 0 0000000010 1 0000000010 1 11 0 0000000011 1 0000000011 1";
 

@@ -11,8 +11,7 @@ ghost use Rattle.picture_header.specs.Ranges.{HasTenBits, AreMessages, IsHeader,
 ghost use Rattle.picture_header.specs.Written.{kind_code, clock_code, opening_fields, optional_fields, mandatory_fields, plus_fields, multipoint_fields, extended_fields, channel_fields, reference_fields, back_text, written_front, written_rest, written_header, written_bits, clock_bits, reference_bits, back_bits};
 
 use crate::header::Header;
-use back_messages::laws::in_a_syntax;
-use back_messages::{Message, message_bits, write_message};
+use back_messages::{Message, laws as back_messages_laws, message_bits, write_message};
 use h263_bits::BitWriter;
 use h263_types::{Clock, Format, Kind};
 
@@ -158,7 +157,7 @@ fn write_next_message(writer: &mut BitWriter<'_>, message: &Message)
     write_message(writer, message);
 }
 
-// Writes the messages, each behind a BCI 1, and BCI 01.
+// Writes the messages, each after a BCI 1, and BCI 01.
 fn write_back(writer: &mut BitWriter<'_>, places: &[Option<Message>; 4])
     requires each { AreMessages Custom (messages_in places.now) }
     requires room { len_of writer.old + (2 + back_bits (messages_in places.now))
@@ -215,7 +214,7 @@ fn write_rest(writer: &mut BitWriter<'_>, header: &Header)
     ensures len { len_of writer.new ≡ len_of writer.old
         + (14 + reference_bits header.now.trp + back_bits (messages_in header.now.back)) }
 {
-    in_a_syntax();
+    back_messages_laws::in_a_syntax();
     write_channel(writer, header.channel);
     write_reference(writer, header.trp);
     write_back(writer, &header.back);
@@ -231,7 +230,7 @@ pub fn write_header(writer: &mut BitWriter<'_>, header: &Header)
     ensures len { len_of writer.new ≡ len_of writer.old + written_bits header.now }
     ensures spells { IsHeaderText header.now.format header.now (written_header header.now) }
 {
-    in_a_syntax();
+    back_messages_laws::in_a_syntax();
     write_front(writer, header);
     write_rest(writer, header);
 }
@@ -278,6 +277,6 @@ pub fn header_bits(header: &Header) -> u32
     ensures parts { result ≡ written_bits header.now }
     ensures few { result ≤ 251 }
 {
-    in_a_syntax();
+    back_messages_laws::in_a_syntax();
     67 + extended_bits(header.clock) + trp_bits(header.trp) + messages_bits(&header.back)
 }

@@ -23,8 +23,8 @@ use crate::values::{inter_samples, marks_of};
 use h263_planes::{PictureMut, PictureRef, Plane, block_corner};
 use h263_types::{Block, Format, Vector};
 use half_sample::predict;
-use idct8::laws::zeros_give_zeros;
-use quantiser::laws::one_order;
+use idct8::laws as idct8_laws;
+use quantiser::laws as quantiser_laws;
 
 // Sets the samples of an inter macroblock: the predicted ones, and then those of the blocks that
 // have levels. Luma stands apart from the colours, so that each is compiled for its plane.
@@ -87,8 +87,8 @@ fn add_block(
 {
     let marks = marks_of(*levels);
     if marks == 0 {
-        one_order();
-        zeros_give_zeros();
+        quantiser_laws::one_order();
+        idct8_laws::zeros_give_zeros();
         return;
     }
     let corner = block_corner(format, at, block);

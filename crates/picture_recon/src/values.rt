@@ -6,11 +6,9 @@ ghost use Rattle.idct8.specs.Transform.{inverse_at, rounded};
 ghost use Rattle.picture_recon.specs.Samples.{inter_value, inter_values, intra_values, limited};
 ghost use Rattle.picture_recon.specs.Marks.{AreMarked};
 
-use h263_types::Block;
-use h263_types::laws::{lowest, marks};
+use h263_types::{Block, laws as types_laws};
 use idct8::inverse;
-use quantiser::laws::one_order;
-use quantiser::{block_place, value};
+use quantiser::{block_place, laws as quantiser_laws, value};
 use std::simd::prelude::*;
 
 // The samples of a block of an intra macroblock, by rows: INTRADC itself where the block has no
@@ -21,7 +19,7 @@ pub(crate) fn intra_samples(quant: u8, block: &Block) -> [u8; 64]
     ensures { (y x : ℕ) → y < 8 → x < 8
         → slice_index result (8 * y + x) ≡ limited (inverse_at (intra_values quant block.now) y x) }
 {
-    one_order();
+    quantiser_laws::one_order();
     let marks = marks_of(*block);
     if marks == FIRST_ALONE {
         return flat(block.levels[0]);
@@ -50,7 +48,7 @@ pub(crate) fn inter_samples(quant: u8, block: &Block, marks: u64, predicted: &[u
         +ℤ inverse_at (inter_values quant block.now) y x) }
 {
     if marks == FIRST_ALONE {
-        one_order();
+        quantiser_laws::one_order();
         let number = number_of_first(value(quant, block.levels[0]));
         return limited_sums_with_one(predicted, number);
     }
@@ -75,7 +73,7 @@ const FIRST_ALONE: u64 = 1;
 pub(crate) fn marks_of(block: Block) -> u64
     ensures { AreMarked block.levels result }
 {
-    marks();
+    types_laws::marks();
     block.marks()
 }
 
@@ -118,8 +116,8 @@ fn values_but_first(quant: u8, block: &Block, marks: u64) -> [i16; 64]
         → 1 ≤ at → at < 64 → slice_index_or result at (pos 0) ≡ inter_value quant block.now at }
     ensures range { All IsValue result }
 {
-    lowest();
-    one_order();
+    types_laws::lowest();
+    quantiser_laws::one_order();
     let mut values = [0; 64];
     let mut rest = marks & !1;
     'marks: while rest != 0 {

@@ -9,7 +9,7 @@ use Rattle.rate_control.specs.declared.meter.Meter.{Meter}
 use Rattle.rate_control.specs.declared.meter.Metered.{Metered}
 use Rattle.rate_control.specs.declared.meter.Metered.TheVariants.{Same, Ended, Refused}
 use Rattle.rate_control.specs.declared.meter.Totals.{Totals}
-use Rattle.rate_control.specs.Metering.{Stands, metered, totals_of}
+use Rattle.rate_control.specs.Metering.{MeterStands, metered, totals_of}
 use Rattle.rate_control.specs.Text.{picture_line, totals_line}
 use Rattle.rate_command.specs.declared.rate.Bucket.{Bucket}
 use Rattle.rate_command.specs.declared.rate.Metering.{Metering}
@@ -67,7 +67,7 @@ pub record RateStands (c : Metering) (s : RateState) : Type 0 where
   pub target : s.bucket.target ≡ c.meter.target
   pub bucket : s.bucket.bucket ≡ c.meter.bucket
   pub plays : s.plays ≡ c.plays
-  pub meter : Stands c.meter s.packets
+  pub meter : MeterStands c.meter s.packets
 
 pub record RateOpens (b : Bucket) (attached : Role → Bool) : Type 0 where
   pub some : 1 ≤ b.target
@@ -78,7 +78,7 @@ pub record RateOpens (b : Bucket) (attached : Role → Bool) : Type 0 where
 -- the meter was given packets, and no more than there were entries
 pub record IsCounted (meter : Meter) (entries : ℕ) : Type 0 where
   pub packets : List (List ℕ)
-  pub stands : Stands meter packets
+  pub stands : MeterStands meter packets
   pub few : length packets ≤ entries
 
 pub record RateReady (c : Metering) (entries : ℕ) (attached : Role → Bool) : Type 0 where

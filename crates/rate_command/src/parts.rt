@@ -8,8 +8,7 @@ ghost use Rattle.rate_command.specs.Rate.{answer_text, last_text};
 ghost use Rattle.desk_program.specs.Texts.{on};
 
 use call_report::Status;
-use desk_program::laws::of_turns;
-use desk_program::put;
+use desk_program::{laws as desk_program_laws, put};
 use h263_outside::{Desk, Role};
 use rate_control::{Metered, Text, picture_text};
 
@@ -40,7 +39,7 @@ pub fn tell<D: Desk>(desk: &mut D, metered: Metered) -> Result<(), Status>
         (D.outside desk.new).faults.write) }
     ensures rest { OnlyWrites (D.outside desk.old) (D.outside desk.new) }
 {
-    of_turns::<()>();
+    desk_program_laws::of_turns::<()>();
     match metered {
         Metered::Ended {
             number,
@@ -64,7 +63,7 @@ pub fn tell_last<D: Desk>(desk: &mut D, last: Option<(u32, u64, u64)>) -> Result
         (D.outside desk.new).faults.write) }
     ensures rest { OnlyWrites (D.outside desk.old) (D.outside desk.new) }
 {
-    of_turns::<()>();
+    desk_program_laws::of_turns::<()>();
     match last {
         Some((number, size, level)) => put_text(desk, &picture_text(number, size, level)),
         None => Ok(()),

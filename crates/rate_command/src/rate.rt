@@ -1,9 +1,8 @@
 //! The meter of a log.
 use crate::parts::{put_text, tell, tell_last};
 use call_report::Status;
-use desk_program::laws::of_turns;
-use h263_outside::Desk;
-use h263_outside::laws::calls;
+use desk_program::laws as desk_program_laws;
+use h263_outside::{Desk, laws as outside_laws};
 use log_command::{LogCommand, LogMachine};
 use rate_control::{Meter, totals_text};
 use std::alloc::Global;
@@ -50,7 +49,7 @@ impl LogCommand for Metering {
     ghost ready = { RateReady };
 
     fn start<D: Desk>(_alloc: Global, setup: &Bucket, _desk: &mut D) -> Result<Metering, Status> {
-        of_turns::<()>();
+        desk_program_laws::of_turns::<()>();
         Ok(Metering {
             meter: Meter::new(setup.target, setup.bucket),
             plays: 0,
@@ -68,15 +67,15 @@ impl LogCommand for Metering {
     }
 
     fn play<D: Desk>(&mut self, _desk: &mut D) -> Result<(), Status> {
-        of_turns::<()>();
+        desk_program_laws::of_turns::<()>();
         self.plays += 1;
         Ok(())
     }
 
     // The line of the last picture, if there is one, and that of the whole log.
     fn close<D: Desk>(&self, desk: &mut D) -> Result<(), Status> {
-        calls();
-        of_turns::<()>();
+        outside_laws::calls();
+        desk_program_laws::of_turns::<()>();
         let totals = self.meter.close();
         tell_last(desk, totals.last)?;
         put_text(desk, &totals_text(&totals))

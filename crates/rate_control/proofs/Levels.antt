@@ -60,7 +60,7 @@ pub bounds : (t : ℕ) (sizes : List ℕ) → BoundsSuffixes t sizes
 bounds t sizes front back e =
     subst (λ (l : List ℕ). sum back ≤ level_of t l + length back * t) e (bound t front back)
 
--- the whole list lies furthest above its target, or a suffix behind its first picture does
+-- the whole list lies furthest above its target, or a suffix after its first picture does
 at_front : (t y : ℕ) (sizes : List ℕ) → level_of t sizes < (sum (y ∷ sizes) - length (y ∷ sizes) * t) → IsReached t (y ∷ sizes)
 at_front t y sizes h =
     let e = level_cons t y sizes in

@@ -11,7 +11,7 @@ use Rattle.rate_control.specs.declared.meter.Metered.TheVariants.{Same, Ended}
 use Rattle.rate_control.specs.declared.meter.Totals.{Totals}
 use Rattle.rate_control.specs.Level.{level_of}
 use Rattle.rate_control.specs.Pictures.{accepted, alone, pictures_of, sizes_in, sizes_of, refused_in, greatest_level, over_in}
-use Rattle.rate_control.specs.Metering.{HasRoomAtEnd, HasRoomFor, IsGoing, Stands, answer_of, behind, behind_with, differs, ended, going_on, joined, last_of, last_time, metered, taking, telling, time_of, totals_of}
+use Rattle.rate_control.specs.Metering.{HasRoomAtEnd, HasRoomFor, IsGoing, MeterStands, answer_of, behind, behind_with, differs, ended, going_on, joined, last_of, last_time, metered, taking, telling, time_of, totals_of}
 use Rattle.rate_control.proofs.Levels.{level_none, level_push}
 use Rattle.rate_control.proofs.Ends.{going_push, greatest_level_none, greatest_level_push, last_push, level_short, over_few, over_none, over_push}
 use Rattle.rate_control.proofs.Runs.{ReadsShort, accepted_refused, bytes_past, bytes_short, pictures_few, pictures_first, pictures_next, pictures_refused, pictures_same, refused_more, refused_same, time_push}
@@ -53,7 +53,7 @@ counts_behind m sizes size s =
           ∙ sym (over_push m.target m.bucket sizes size);
     }
 
-counts_of : (m : Meter) (packets : List (List ℕ)) → (s : Stands m packets) → Counts m (sizes_in s.past)
+counts_of : (m : Meter) (packets : List (List ℕ)) → (s : MeterStands m packets) → Counts m (sizes_in s.past)
 counts_of m packets s =
     record {
       count = s.count ∙ sym (length-map s.past (λ (p : Picture). p.size));
@@ -67,7 +67,7 @@ sizes_push past p = map_push (λ (q : Picture). q.size) past p
 
 -- ---- an accepted packet
 
-pub new_stands : (target bucket : ℕ) → Stands (record { target = target; bucket = bucket; picture = None; pictures = 0; level = 0; greatest = 0; over = 0; refused = 0 }) []
+pub new_stands : (target bucket : ℕ) → MeterStands (record { target = target; bucket = bucket; picture = None; pictures = 0; level = 0; greatest = 0; over = 0; refused = 0 }) []
 unfolding pictures_of
 new_stands target bucket =
     record {
@@ -82,15 +82,15 @@ new_stands target bucket =
     }
 
 -- the picture that is going on, as the pictures have it
-going_none : (m : Meter) (packets : List (List ℕ)) → m.picture ≡ None → (s : Stands m packets) → IsGoing None s.past (pictures_of packets)
+going_none : (m : Meter) (packets : List (List ℕ)) → m.picture ≡ None → (s : MeterStands m packets) → IsGoing None s.past (pictures_of packets)
 going_none m packets e s = subst (λ (o : Option Picture). IsGoing o s.past (pictures_of packets)) e s.going
 
-going_at : (m : Meter) (packets : List (List ℕ)) (p : Picture) → m.picture ≡ Some p → (s : Stands m packets) → pictures_of packets ≡ s.past ++ p ∷ []
+going_at : (m : Meter) (packets : List (List ℕ)) (p : Picture) → m.picture ≡ Some p → (s : MeterStands m packets) → pictures_of packets ≡ s.past ++ p ∷ []
 going_at m packets p e s = subst (λ (o : Option Picture). IsGoing o s.past (pictures_of packets)) e s.going
 
 first_stands : (m : Meter) (packets : List (List ℕ)) (bytes : List ℕ) (x : Picture) (r : Rtp)
-    → rtp_in bytes ≡ Ok r → alone bytes ≡ x ∷ [] → m.picture ≡ None → Stands m packets
-    → Stands (record m { picture = Some x }) (packets ++ bytes ∷ [])
+    → rtp_in bytes ≡ Ok r → alone bytes ≡ x ∷ [] → m.picture ≡ None → MeterStands m packets
+    → MeterStands (record m { picture = Some x }) (packets ++ bytes ∷ [])
 first_stands m packets bytes x r ok e none s =
     let g = going_none m packets none s in
     record {
@@ -105,9 +105,9 @@ first_stands m packets bytes x r ok e none s =
     }
 
 same_stands : (m : Meter) (packets : List (List ℕ)) (bytes : List ℕ) (x : Picture) (r : Rtp)
-    → rtp_in bytes ≡ Ok r → alone bytes ≡ x ∷ [] → (p : Picture) → m.picture ≡ Some p → Stands m packets
+    → rtp_in bytes ≡ Ok r → alone bytes ≡ x ∷ [] → (p : Picture) → m.picture ≡ Some p → MeterStands m packets
     → eqb p.timestamp x.timestamp ≡ true
-    → Stands (record m { picture = Some (joined p x) }) (packets ++ bytes ∷ [])
+    → MeterStands (record m { picture = Some (joined p x) }) (packets ++ bytes ∷ [])
 same_stands m packets bytes x r ok e p is s same =
     record {
       past = s.past;
@@ -121,9 +121,9 @@ same_stands m packets bytes x r ok e p is s same =
     }
 
 next_stands : (m : Meter) (packets : List (List ℕ)) (bytes : List ℕ) (x : Picture) (r : Rtp)
-    → rtp_in bytes ≡ Ok r → alone bytes ≡ x ∷ [] → (p : Picture) → m.picture ≡ Some p → Stands m packets
+    → rtp_in bytes ≡ Ok r → alone bytes ≡ x ∷ [] → (p : Picture) → m.picture ≡ Some p → MeterStands m packets
     → eqb p.timestamp x.timestamp ≡ false
-    → Stands (behind_with m p.size x) (packets ++ bytes ∷ [])
+    → MeterStands (behind_with m p.size x) (packets ++ bytes ∷ [])
 next_stands m packets bytes x r ok e p is s other =
     let k = subst (λ (l : List ℕ). Counts (behind m p.size) l) (sym (sizes_push s.past p))
     (counts_behind m (sizes_in s.past) p.size (counts_of m packets s))
@@ -140,12 +140,12 @@ next_stands m packets bytes x r ok e p is s other =
     }
 
 taken_by : (m : Meter) (packets : List (List ℕ)) (bytes : List ℕ) (x : Picture) (r : Rtp)
-    → rtp_in bytes ≡ Ok r → alone bytes ≡ x ∷ [] → (o : Option Picture) → m.picture ≡ o → Stands m packets
-    → Stands (taking m o x) (packets ++ bytes ∷ [])
+    → rtp_in bytes ≡ Ok r → alone bytes ≡ x ∷ [] → (o : Option Picture) → m.picture ≡ o → MeterStands m packets
+    → MeterStands (taking m o x) (packets ++ bytes ∷ [])
 taken_by m packets bytes x r ok e None is s = first_stands m packets bytes x r ok e is s
 taken_by m packets bytes x r ok e (Some p) is s =
     cond_both (eqb p.timestamp x.timestamp) (record m { picture = Some (joined p x) }) (behind_with m p.size x)
-    (λ (n : Meter). Stands n (packets ++ bytes ∷ []))
+    (λ (n : Meter). MeterStands n (packets ++ bytes ∷ []))
     (same_stands m packets bytes x r ok e p is s)
     (next_stands m packets bytes x r ok e p is s)
 
@@ -157,8 +157,8 @@ alone_is : (bytes : List ℕ) (r : Rtp) → rtp_in bytes ≡ Ok r → alone byte
 alone_is bytes r e = rw e
 
 pub taken_stands : (m : Meter) (packets : List (List ℕ)) (bytes : List ℕ) (r : Rtp)
-    → rtp_in bytes ≡ Ok r → Stands m packets
-    → Stands (taking m m.picture (read_as r bytes)) (packets ++ bytes ∷ [])
+    → rtp_in bytes ≡ Ok r → MeterStands m packets
+    → MeterStands (taking m m.picture (read_as r bytes)) (packets ++ bytes ∷ [])
 taken_stands m packets bytes r ok s =
     taken_by m packets bytes (read_as r bytes) r ok (alone_is bytes r ok) m.picture refl s
 
@@ -170,7 +170,7 @@ unfolding sizes_of
 sizes_at packets past p e = ap (λ (l : List Picture). sizes_in l) e ∙ sizes_push past p
 
 -- the last picture, as the meter has it
-last_at : (m : Meter) (packets : List (List ℕ)) (p : Picture) → m.picture ≡ Some p → Stands m packets
+last_at : (m : Meter) (packets : List (List ℕ)) (p : Picture) → m.picture ≡ Some p → MeterStands m packets
     → last_of m.target (sizes_of packets) ≡ (m.pictures, p.size, m.level + p.size - m.target)
 last_at m packets p is s =
     let k = counts_of m packets s in
@@ -192,7 +192,7 @@ answer_at m packets r o e =
     ap (λ (t : Option ℕ). cond (differs t r.timestamp) (ended (last_of m.target (sizes_of packets))) Same) (sym e)
 
 told_by : (m : Meter) (packets : List (List ℕ)) (bytes : List ℕ) (r : Rtp) (o : Option Picture) → m.picture ≡ o
-    → Stands m packets → telling m o (read_as r bytes) ≡ answer_of m.target packets (Ok r)
+    → MeterStands m packets → telling m o (read_as r bytes) ≡ answer_of m.target packets (Ok r)
 told_by m packets bytes r None is s =
     answer_at m packets r None (s.time ∙ ap (λ (o : Option Picture). time_of o) is)
 told_by m packets bytes r (Some p) is s =
@@ -200,7 +200,7 @@ told_by m packets bytes r (Some p) is s =
     ∙ answer_at m packets r (Some p.timestamp) (s.time ∙ ap (λ (o : Option Picture). time_of o) is)
 
 pub told : (m : Meter) (packets : List (List ℕ)) (bytes : List ℕ) (r : Rtp) → rtp_in bytes ≡ Ok r
-    → Stands m packets → telling m m.picture (read_as r bytes) ≡ metered m.target packets bytes
+    → MeterStands m packets → telling m m.picture (read_as r bytes) ≡ metered m.target packets bytes
 told m packets bytes r ok s =
     told_by m packets bytes r m.picture refl s
     ∙ ap (λ (y : Result Rtp Fault). answer_of m.target packets y) (sym ok)
@@ -208,8 +208,8 @@ told m packets bytes r ok s =
 -- ---- a refused packet
 
 pub refused_stands : (m : Meter) (packets : List (List ℕ)) (bytes : List ℕ) (fault : Fault)
-    → rtp_in bytes ≡ Err fault → Stands m packets
-    → Stands (record m { refused = m.refused + 1 }) (packets ++ bytes ∷ [])
+    → rtp_in bytes ≡ Err fault → MeterStands m packets
+    → MeterStands (record m { refused = m.refused + 1 }) (packets ++ bytes ∷ [])
 refused_stands m packets bytes fault e s =
     record {
       past = s.past;
@@ -233,7 +233,7 @@ past_few (Some p) past pictures g =
     let b = length_push past p in
     omega (arith, a, b)
 
-pub past_room : (law : ReadsShort) (m : Meter) (packets : List (List ℕ)) → Stands m packets → length packets ≤ 16777216
+pub past_room : (law : ReadsShort) (m : Meter) (packets : List (List ℕ)) → MeterStands m packets → length packets ≤ 16777216
     → (m.pictures < 4294967295) × (m.over < 4294967295)
 past_room law m packets s few =
     let a = past_few m.picture s.past (pictures_of packets) s.going in
@@ -244,7 +244,7 @@ past_room law m packets s few =
     let f = s.over in
     (omega (arith, a, b, c, few), omega (arith, a, b, d, e, f, few))
 
-pub level_room : (law : ReadsShort) (m : Meter) (packets : List (List ℕ)) → Stands m packets → length packets ≤ 16777216
+pub level_room : (law : ReadsShort) (m : Meter) (packets : List (List ℕ)) → MeterStands m packets → length packets ≤ 16777216
     → (p : Picture) → m.picture ≡ Some p → m.level + p.size ≤ 1099511627776
 level_room law m packets s few p is =
     let a = bytes_short law packets in
@@ -254,7 +254,7 @@ level_room law m packets s few p is =
     let e = s.level in
     omega (arith, a, b, c, d, e, few)
 
-pub room_at_end : (law : ReadsShort) (m : Meter) (packets : List (List ℕ)) → Stands m packets → length packets ≤ 16777216
+pub room_at_end : (law : ReadsShort) (m : Meter) (packets : List (List ℕ)) → MeterStands m packets → length packets ≤ 16777216
     → (p : Picture) → m.picture ≡ Some p → HasRoomAtEnd m p.size
 room_at_end law m packets s few p is =
     let a = past_room law m packets s few in
@@ -265,7 +265,7 @@ room_with : (m : Meter) (p x : Picture) → m.level + p.size ≤ 1099511627776 �
     → m.level + p.size + x.size < 18446744073709551616
 room_with m p x h k = omega (arith, h, k)
 
-pub room_for : (law : ReadsShort) (m : Meter) (packets : List (List ℕ)) → Stands m packets → length packets < 16777216
+pub room_for : (law : ReadsShort) (m : Meter) (packets : List (List ℕ)) → MeterStands m packets → length packets < 16777216
     → (x : Picture) → x.size ≤ 65535 → HasRoomFor m x
 room_for law m packets s few x short =
     let a = past_room law m packets s (omega (arith, few)) in
@@ -308,7 +308,7 @@ no_sizes : (packets : List (List ℕ)) → pictures_of packets ≡ [] → sizes_
 unfolding sizes_of
 no_sizes packets e = ap (λ (l : List Picture). sizes_in l) e
 
-pub closed_empty : (m : Meter) (packets : List (List ℕ)) → m.picture ≡ None → Stands m packets
+pub closed_empty : (m : Meter) (packets : List (List ℕ)) → m.picture ≡ None → MeterStands m packets
     → record { last = None; pictures = m.pictures; greatest = m.greatest; over = m.over; refused = m.refused }
     ≡ totals_of m.target m.bucket packets
 closed_empty m packets none s =
@@ -321,7 +321,7 @@ closed_empty m packets none s =
     refl k.count k.greatest k.over s.refused
     ∙ sym (totals_by m.target m.bucket packets [] (no_sizes packets g.1))
 
-pub closed_with : (m : Meter) (packets : List (List ℕ)) (p : Picture) → m.picture ≡ Some p → Stands m packets
+pub closed_with : (m : Meter) (packets : List (List ℕ)) (p : Picture) → m.picture ≡ Some p → MeterStands m packets
     → (n : Meter) → n ≡ behind m p.size
     → record { last = Some (m.pictures, p.size, n.level); pictures = n.pictures; greatest = n.greatest; over = n.over; refused = n.refused }
     ≡ totals_of m.target m.bucket packets

@@ -11,7 +11,7 @@ use Rattle.rate_control.specs.declared.meter.Picture.{Picture}
 use Rattle.rate_control.specs.Pictures.{accepted, alone, before, picture_in, pictures_of, refused_in, runs, sizes_in}
 use Rattle.rate_control.specs.Metering.{joined, last_time}
 
--- ---- a packet behind pictures
+-- ---- a packet after pictures
 
 abbrev pushed : List Picture → Picture → List Picture
 pushed [] x = x ∷ []
@@ -97,13 +97,13 @@ runs_push [] x = refl
 runs_push (p ∷ ps) x =
     ap (λ (l : List Picture). before p l) (runs_push ps x) ∙ before_pushed p (runs ps) x
 
--- behind those that have ended and one that is going on
+-- after those that have ended and one that is going on
 pushed_at : (past : List Picture) (p x : Picture) → pushed (past ++ p ∷ []) x ≡ past ++ before p (x ∷ [])
 pushed_at [] p x = refl
 pushed_at (a ∷ []) p x = refl
 pushed_at (a ∷ b ∷ past) p x = ap (λ (l : List Picture). a ∷ l) (pushed_at (b ∷ past) p x)
 
--- ---- a packet behind a log
+-- ---- a packet after a log
 
 accepted_push : (packets : List (List ℕ)) (bytes : List ℕ) → accepted (packets ++ bytes ∷ []) ≡ accepted packets ++ alone bytes
 accepted_push packets bytes = sym (flat_map_more alone [] packets bytes)

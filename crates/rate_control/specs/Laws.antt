@@ -8,7 +8,7 @@ BoundsSuffixes target sizes =
     (front back : List ℕ) → front ++ back ≡ sizes
     → sum back ≤ level_of target sizes + length back * target
 
--- some suffix has just so many
+-- some suffix has exactly this many
 pub record IsReached (target : ℕ) (sizes : List ℕ) : Type 0 where
   pub front : List ℕ
   pub back : List ℕ

@@ -16,12 +16,12 @@ abbrev pub greatest : List ℕ → ℕ
 greatest [] = 0
 greatest (n ∷ ns) = max n (greatest ns)
 
--- The bucket level behind pictures of these sizes, oldest first: the greatest of 0 and, for each
+-- The bucket level after pictures of these sizes, oldest first: the greatest of 0 and, for each
 -- suffix of the list that isn't empty, the sum over it of size less target.
 unfoldable pub level_of : ℕ → List ℕ → ℕ
 level_of target sizes = greatest (map (excess target) (suffixes sizes))
 
--- the quantiser behind pictures of these sizes: four steps coarser for each target of bytes in the
+-- the quantiser after pictures of these sizes: four steps coarser for each target of bytes in the
 -- bucket
 abbrev pub quant_after : ℕ → ℕ → List ℕ → ℕ
 quant_after target first sizes = min (first + 4 * level_of target sizes / target) 31

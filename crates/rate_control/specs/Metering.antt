@@ -30,7 +30,7 @@ last_of target sizes =
 abbrev pub ended : ℕ × ℕ × ℕ → Metered
 ended x = Ended x.0 x.1 x.2
 
--- The answer to a packet behind these: the first fault of its header; or the picture that ends,
+-- The answer to a packet after these: the first fault of its header; or the picture that ends,
 -- where the accepted packet before has another timestamp.
 abbrev pub answer_of : ℕ → List (List ℕ) → Result Rtp Fault → Metered
 answer_of target packets (Err fault) = Refused fault
@@ -73,7 +73,7 @@ time_of (Some p) = Some p.timestamp
 
 -- The meter was given these packets: it has one number of the pictures that have ended, the level
 -- at the end of the last of them, and counts.
-pub record Stands (m : Meter) (packets : List (List ℕ)) : Type 0 where
+pub record MeterStands (m : Meter) (packets : List (List ℕ)) : Type 0 where
   pub past : List Picture
   pub going : IsGoing m.picture past (pictures_of packets)
   pub time : last_time (accepted packets) ≡ time_of m.picture
@@ -86,16 +86,16 @@ pub record Stands (m : Meter) (packets : List (List ℕ)) : Type 0 where
 -- it was given fewer packets than a log may have
 pub record HasRoom (m : Meter) : Type 0 where
   pub packets : List (List ℕ)
-  pub stands : Stands m packets
+  pub stands : MeterStands m packets
   pub few : length packets < 16777216
 
 -- it was given no more packets than a log may have
 pub record IsMeter (m : Meter) : Type 0 where
   pub packets : List (List ℕ)
-  pub stands : Stands m packets
+  pub stands : MeterStands m packets
   pub few : length packets ≤ 16777216
 
--- the meter behind the end of a picture of this size
+-- the meter after the end of a picture of this size
 abbrev pub behind : Meter → ℕ → Meter
 behind m size =
     let level = m.level + size - m.target in
@@ -116,7 +116,7 @@ behind_with m size next =
 abbrev pub joined : Picture → Picture → Picture
 joined p x = record { timestamp = p.timestamp; size = p.size + x.size }
 
--- the meter and its answer behind an accepted packet, by the picture that was going on
+-- the meter and its answer after an accepted packet, by the picture that was going on
 abbrev pub taking : Meter → Option Picture → Picture → Meter
 taking m None x = record m { picture = Some x }
 taking m (Some p) x =

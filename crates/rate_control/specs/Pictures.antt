@@ -47,7 +47,7 @@ sizes_in pictures = map (λ p. p.size) pictures
 unfoldable pub sizes_of : List (List ℕ) → List ℕ
 sizes_of packets = sizes_in (pictures_of packets)
 
--- the parts of a list that begin at its front, but for the empty one, the shortest first
+-- the prefixes of a list but for the empty one, the shortest first
 abbrev pub prefixes : List ℕ → List (List ℕ)
 prefixes [] = []
 prefixes (size ∷ sizes) = (size ∷ []) ∷ map (λ more. size ∷ more) (prefixes sizes)

@@ -1,12 +1,12 @@
 //! The meter.
 ghost use Rattle.std.specs.Prelude.{◌≡◌, ◌+◌, ◌-◌, ◌<◌, ◌≤◌, ◌^◌, ◌∷◌, [], ◌++◌, List, ℕ};
 ghost use Rattle.h263_bits.specs.declared.fault.Fault.{Fault};
-ghost use Rattle.rate_control.specs.Metering.{HasRoom, HasRoomAtEnd, HasRoomFor, IsMeter, Stands};
+ghost use Rattle.rate_control.specs.Metering.{HasRoom, HasRoomAtEnd, HasRoomFor, IsMeter, MeterStands};
 ghost use Rattle.rate_control.specs.Metering.{behind, metered, taking, telling, totals_of};
 
 use crate::level::filled;
 use h263_bits::Fault;
-use rtp_header::laws::payload_within;
+use rtp_header::laws as rtp_header_laws;
 
 /// A picture, or an accepted packet: its time, and its bytes so far.
 #[derive(Clone, Copy, Debug, PartialEq, Eq)]
@@ -69,7 +69,7 @@ impl Meter {
         requires bucket { bucket ≤ 999999 }
         ensures target { result.target ≡ target }
         ensures bucket { result.bucket ≡ bucket }
-        ensures stands { Stands result [] }
+        ensures stands { MeterStands result [] }
     {
         Meter {
             target,
@@ -88,15 +88,15 @@ impl Meter {
         requires { HasRoom self.old }
         ensures target { self.new.target ≡ self.old.target }
         ensures bucket { self.new.bucket ≡ self.old.bucket }
-        ensures stands { (packets : List (List ℕ)) → Stands self.old packets
-            → Stands self.new (packets ++ bytes.now ∷ []) }
-        ensures answer { (packets : List (List ℕ)) → Stands self.old packets
+        ensures stands { (packets : List (List ℕ)) → MeterStands self.old packets
+            → MeterStands self.new (packets ++ bytes.now ∷ []) }
+        ensures answer { (packets : List (List ℕ)) → MeterStands self.old packets
             → result ≡ metered self.old.target packets bytes.now }
         // What is refused changes nothing but the count of what is refused.
         ensures refused { (fault : Fault) → result ≡ Metered.Refused fault
             → self.new ≡ record self.old { refused = self.old.refused + 1 } }
     {
-        payload_within();
+        rtp_header_laws::payload_within();
         match rtp_header::read(bytes) {
             Ok(header) => self.take(Picture {
                 timestamp: header.timestamp,
@@ -152,10 +152,10 @@ impl Meter {
     /// Ends the log.
     pub fn close(mut self) -> Totals
         requires { IsMeter self }
-        ensures { (packets : List (List ℕ)) → Stands self packets
+        ensures { (packets : List (List ℕ)) → MeterStands self packets
             → result ≡ totals_of self.target self.bucket packets }
     {
-        payload_within();
+        rtp_header_laws::payload_within();
         let number = self.pictures;
         let last = match self.picture {
             None => None,

@@ -26,7 +26,7 @@ fn quantisers_of_sizes(rt: HostRuntime) {
     }
 }
 
-// A packet of the time with room behind its header.
+// A packet of the time with room after its header.
 fn packet_at(timestamp: u32) -> [u8; MAX_BYTES] {
     let mut bytes = [0; MAX_BYTES];
     bytes[..12].copy_from_slice(&rtp_header::write(false, 0, timestamp));

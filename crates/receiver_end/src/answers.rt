@@ -1,5 +1,5 @@
 //! What a receiver answers.
-use back_messages::Said;
+use back_messages::MessageBytes;
 use h263_bits::FaultKind;
 use h263_types::Mark;
 
@@ -23,7 +23,7 @@ pub enum PacketFault {
 pub enum Heard {
     Taken,
     /// With this slice its picture is complete: the message that acknowledges it.
-    Completed(Said),
+    Completed(MessageBytes),
     /// Its picture was played.
     Late,
     /// Its picture is too far ahead.
@@ -39,5 +39,5 @@ pub enum Heard {
 #[derive(Clone, Copy, Debug, PartialEq, Eq)]
 pub struct Played {
     pub mark: Mark,
-    pub message: Option<Said>,
+    pub message: Option<MessageBytes>,
 }

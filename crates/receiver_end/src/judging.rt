@@ -13,7 +13,7 @@ ghost use Rattle.receiver_end.specs.Decoding.{decoding};
 use crate::answers::{Heard, PacketFault};
 use crate::kept::Kept;
 use crate::numbers::nearest;
-use call_decoding::laws::whole_header;
+use call_decoding::laws as call_decoding_laws;
 use h263_types::Clock;
 use packet_collector::{Piece, Place};
 use picture_header::Header;
@@ -79,7 +79,7 @@ impl Kept {
         ensures fresh { IfOk result (IsFreshOf self.now number piece.now) }
         ensures untaken { IsUntaken result }
     {
-        whole_header();
+        call_decoding_laws::whole_header();
         let place = self.collector.place(number, piece);
         if let Place::HeaderDiffers = place {
             return Err(refused(PacketFault::HeaderDiffers));

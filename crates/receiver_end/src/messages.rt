@@ -13,8 +13,8 @@ ghost use Rattle.receiver_end.specs.Decoding.{decoding};
 ghost use Rattle.receiver_end.specs.Answers.{IsSaid};
 
 use crate::kept::Kept;
-use back_messages::{Message, Said, write};
-use call_model::laws::searches;
+use back_messages::{Message, MessageBytes, write};
+use call_model::laws as call_model_laws;
 
 fn bit(flag: bool) -> u16
     ensures { result ≡ cond flag 1 0 }
@@ -58,7 +58,7 @@ impl Kept {
     }
 
     /// The message that acknowledges a picture.
-    pub fn ack(&self, number: u32) -> Said
+    pub fn ack(&self, number: u32) -> MessageBytes
         requires slots { slots_of self.now.store ≡ self.now.params.slots }
         requires number { number ≤ 2 ^ 21 }
         ensures { IsSaid self.now.params.clock result
@@ -76,7 +76,7 @@ impl Kept {
         ensures { result ≡ offer_by_kept (decoding self.now.params.format)
             (rules_of self.now.params) (seen self.now) }
     {
-        searches();
+        call_model_laws::searches();
         let top = self.played + self.params.lead;
         'scan: for i in 0..self.params.slots + self.params.lead {
             if i > top {
@@ -91,7 +91,7 @@ impl Kept {
 
     /// The message that the next picture isn't complete. It offers another one, or names that one
     /// again.
-    pub fn nack(&self) -> Said
+    pub fn nack(&self) -> MessageBytes
         requires fits { Fits self.now }
         ensures { IsSaid self.now.params.clock result (nack
             (rules_of self.now.params) self.now.played (offer_by_kept

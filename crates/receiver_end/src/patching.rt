@@ -13,8 +13,7 @@ ghost use Rattle.picture_store.specs.Pictures.{IsKept, picture_in, slot_of, work
 ghost use Rattle.packet_collector.specs.Collected.{IsInRow, format_of, has_in};
 ghost use Rattle.receiver_end.specs.Steps.{Counts, IsSameBut, IsWholeOf, Patches};
 
-use h263_planes::laws::numbered_samples;
-use h263_planes::{PictureMut, PictureRef};
+use h263_planes::{PictureMut, PictureRef, laws as planes_laws};
 use h263_types::{Format, Kind, Mb};
 use packet_collector::Collector;
 use picture_header::Header;
@@ -86,7 +85,7 @@ fn copy_all_missing(
     ensures patches { Patches format (has_in collector.now number) (picture screen.entry)
         (work out.old) (work out.new) }
 {
-    numbered_samples();
+    planes_laws::numbered_samples();
     let header = header_of_copies(format);
     for at in 0..format.mbs() {
         copy_missing(&header, collector, number, at, screen, out);

@@ -10,13 +10,12 @@ ghost use Rattle.receiver_end.specs.Decoding.{decoding};
 
 use crate::answers::Played;
 use crate::kept::Kept;
-use crate::laws::is_decoding;
+use crate::laws;
 use crate::patching::{patch_by_kept, patch_by_work};
-use call_decoding::laws::are_rules;
-use call_decoding::{Pictured, Styled};
-use call_model::laws::{receiver_stands, searches};
+use call_decoding::{Pictured, Styled, laws as call_decoding_laws};
+use call_model::laws as call_model_laws;
 use h263_bits::Fault;
-use h263_planes::laws::{numbered_samples, picture_by_samples};
+use h263_planes::laws as planes_laws;
 use h263_types::{Mark, Mb};
 
 impl Kept {
@@ -60,7 +59,7 @@ impl Kept {
         requires fits { Fits self.old }
         ensures { IsPatched self.old self.new }
     {
-        searches();
+        call_model_laws::searches();
         let w = self.played % (self.params.lead + 2);
         if self.exact {
             patch_by_kept(
@@ -111,12 +110,12 @@ impl Kept {
         ensures stands { (past : List ReceiverEntry) → Stands self.old past
             → Stands self.new (PlayNext ∷ past) }
     {
-        numbered_samples();
-        picture_by_samples();
-        searches();
-        is_decoding();
-        are_rules();
-        receiver_stands::<Styled, Mb, Pictured, Fault>();
+        planes_laws::numbered_samples();
+        planes_laws::picture_by_samples();
+        call_model_laws::searches();
+        laws::is_decoding();
+        call_decoding_laws::are_rules();
+        call_model_laws::receiver_stands::<Styled, Mb, Pictured, Fault>();
         let played = self.told();
         self.show();
         self.collector.advance();

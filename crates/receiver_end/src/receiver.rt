@@ -4,10 +4,9 @@ ghost use Rattle.h263_types.specs.Params.{IsParams};
 
 use crate::answers::{Heard, PacketFault, Played};
 use crate::kept::Kept;
-use crate::laws::is_decoding;
-use call_decoding::laws::are_rules;
-use call_decoding::{Pictured, Styled};
-use call_model::laws::receiver_stands;
+use crate::laws;
+use call_decoding::{Pictured, Styled, laws as call_decoding_laws};
+use call_model::laws as call_model_laws;
 use h263_bits::Fault;
 use h263_outside::OutOfMemory;
 use h263_planes::PictureRef;
@@ -65,9 +64,9 @@ impl Receiver {
         ensures stands { (past : List ReceiverEntry) → Stands self.old past
             → Stands self.new (Packet bytes.now ∷ past) }
     {
-        is_decoding();
-        are_rules();
-        receiver_stands::<Styled, Mb, Pictured, Fault>();
+        laws::is_decoding();
+        call_decoding_laws::are_rules();
+        call_model_laws::receiver_stands::<Styled, Mb, Pictured, Fault>();
         match read_packet(bytes, self.kept.params.format, &mut self.mbs) {
             Err(fault) => Heard::Refused {
                 fault: PacketFault::Bytes(fault.kind),
@@ -88,9 +87,9 @@ impl Receiver {
         ensures stands { (past : List ReceiverEntry) → Stands self.old past
             → Stands self.new (PlayNext ∷ past) }
     {
-        is_decoding();
-        are_rules();
-        receiver_stands::<Styled, Mb, Pictured, Fault>();
+        laws::is_decoding();
+        call_decoding_laws::are_rules();
+        call_model_laws::receiver_stands::<Styled, Mb, Pictured, Fault>();
         self.kept.play()
     }
 

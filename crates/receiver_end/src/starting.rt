@@ -8,13 +8,12 @@ ghost use Rattle.picture_store.specs.Pictures.{work_in, works_of};
 ghost use Rattle.receiver_end.specs.Steps.{IsSameBut};
 
 use crate::kept::Kept;
-use crate::laws::is_decoding;
-use call_decoding::laws::are_rules;
-use call_decoding::{Pictured, Styled};
-use call_model::laws::receiver_stands;
+use crate::laws;
+use call_decoding::{Pictured, Styled, laws as call_decoding_laws};
+use call_model::laws as call_model_laws;
 use h263_bits::Fault;
 use h263_outside::OutOfMemory;
-use h263_planes::laws::{planes_are_bytes, samples_are_picture};
+use h263_planes::laws as planes_laws;
 use h263_types::{Format, Mb, Params};
 use packet_collector::Collector;
 use picture_store::PictureStore;
@@ -26,8 +25,8 @@ fn grey(format: Format, bytes: &mut [u8])
     ensures size { length bytes.new ≡ size_of_picture format }
     ensures picture { picture_of format bytes.new ≡ picture_by format (λ s. 128) }
 {
-    planes_are_bytes();
-    samples_are_picture();
+    planes_laws::planes_are_bytes();
+    planes_laws::samples_are_picture();
     bytes.fill(128);
 }
 
@@ -53,9 +52,9 @@ impl Kept {
         ensures played { IfOk result (λ r. r.played ≡ 0) }
         ensures stands { IfOk result (λ r. Stands r []) }
     {
-        is_decoding();
-        are_rules();
-        receiver_stands::<Styled, Mb, Pictured, Fault>();
+        laws::is_decoding();
+        call_decoding_laws::are_rules();
+        call_model_laws::receiver_stands::<Styled, Mb, Pictured, Fault>();
         let collector = Collector::start(alloc, params)?;
         let mut store = PictureStore::start(alloc, params.format, params.slots, params.lead + 2)?;
         clear(&mut store, params.format, params.lead + 1);

@@ -15,13 +15,12 @@ use crate::answers::Heard;
 use crate::drawing::draw;
 use crate::judging::Fresh;
 use crate::kept::Kept;
-use crate::laws::is_decoding;
-use back_messages::Said;
-use call_decoding::laws::are_rules;
-use call_decoding::{Pictured, Styled};
-use call_model::laws::{receiver_stands, searches, slots};
+use crate::laws;
+use back_messages::MessageBytes;
+use call_decoding::{Pictured, Styled, laws as call_decoding_laws};
+use call_model::laws as call_model_laws;
 use h263_bits::Fault;
-use h263_planes::laws::{numbered_samples, picture_by_samples};
+use h263_planes::laws as planes_laws;
 use h263_types::Mb;
 use packet_collector::Piece;
 
@@ -52,7 +51,7 @@ impl Kept {
     }
 
     // Puts a picture that is complete now into its slot, and acknowledges it.
-    fn complete(&mut self, number: u32) -> Option<Said>
+    fn complete(&mut self, number: u32) -> Option<MessageBytes>
         requires fits { Fits self.old }
         requires row { IsInRow self.old.collector number }
         ensures fits { Fits self.new }
@@ -63,7 +62,7 @@ impl Kept {
             × IsSaid self.old.params.clock said (ack_of self.old.params self.old.store number)) }
         ensures kept { IfSome result (λ said. IsCompleted self.old self.new number) }
     {
-        searches();
+        call_model_laws::searches();
         if !self.collector.whole(number) {
             return None;
         }
@@ -88,11 +87,11 @@ impl Kept {
             → IsAfterSlice (decoding self.old.params.format) (rules_of self.old.params)
             (seen self.old) (seen self.new) fresh.number (piece_in piece.now mbs.now) }
     {
-        numbered_samples();
-        searches();
-        picture_by_samples();
-        are_rules();
-        slots::<Styled, Mb, Pictured, Fault>();
+        planes_laws::numbered_samples();
+        call_model_laws::searches();
+        planes_laws::picture_by_samples();
+        call_decoding_laws::are_rules();
+        call_model_laws::slots::<Styled, Mb, Pictured, Fault>();
         self.add(piece, fresh, mbs);
         match self.complete(fresh.number) {
             Some(said) => Heard::Completed(said),
@@ -117,9 +116,9 @@ impl Kept {
             → (decoding self.old.params.format).read bytes ≡ Ok (piece_in piece.now mbs.now)
             → Stands self.new (Packet bytes ∷ past) }
     {
-        is_decoding();
-        are_rules();
-        receiver_stands::<Styled, Mb, Pictured, Fault>();
+        laws::is_decoding();
+        call_decoding_laws::are_rules();
+        call_model_laws::receiver_stands::<Styled, Mb, Pictured, Fault>();
         match self.judge(piece) {
             Ok(fresh) => self.take(piece, fresh, mbs),
             Err(heard) => heard,

@@ -1,6 +1,6 @@
 //! A receiver alone, on packets as another program writes them.
 use super::*;
-use back_messages::Said;
+use back_messages::MessageBytes;
 use h263_bits::FaultKind;
 use h263_planes::Plane;
 use h263_types::{Format, Mark, Params};
@@ -39,7 +39,7 @@ const SKIPPED_PACKET: [u8; 31] = [
 ];
 
 // It acknowledges picture 0.
-const ACK_0: Said = Said {
+const ACK_0: MessageBytes = MessageBytes {
     bytes: [0xC0, 0x04, 0x00, 0, 0],
     len: 3,
 };
@@ -113,7 +113,7 @@ fn reference_comes_late(rt: HostRuntime) -> Result<(), Fail> {
     assert_eq!(rt; first, Heard::Completed(ACK_0));
     assert_eq!(rt;
         second,
-        Heard::Completed(Said {
+        Heard::Completed(MessageBytes {
             bytes: [0xC0, 0x0C, 0x01, 0, 0],
             len: 3
         })
@@ -134,7 +134,7 @@ fn held_pictures(rt: HostRuntime) -> Result<(), Fail> {
         nothing,
         Played {
             mark: Mark::Held,
-            message: Some(Said {
+            message: Some(MessageBytes {
                 bytes: [0x80, 0x04, 0x00, 0, 0],
                 len: 3
             })
@@ -155,7 +155,7 @@ const CHANGES: [(usize, u8, FaultKind, u32); 7] = [
     (15, 0x00, FaultKind::PictureType, 126),
 ];
 
-// The packet ends after so many bytes.
+// The packet ends after this many bytes.
 const CUTS: [(usize, FaultKind, u32); 3] = [
     (0, FaultKind::Short, 0),
     (11, FaultKind::Short, 88),

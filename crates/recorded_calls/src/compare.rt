@@ -44,7 +44,7 @@ fn run<D: Desk>(alloc: Global, words: &Words<'_>, desk: &mut D) -> Status
     }
 }
 
-// How many bytes at the front are the same.
+// How many bytes at the start are the same.
 fn same_bytes(left: &[u8], right: &[u8]) -> usize {
     let len = left.len().min(right.len());
     for at in 0..len {

@@ -20,8 +20,8 @@ use std::process::ExitCode;
 use stop::Stop;
 use video::{flat_video, made_video, shown_video};
 
-// Calls of flat pictures in sub-QCIF: the name of their files, the options, the video as so many
-// pictures of one level each, and the pictures that are shown, as so many with a mark and a level.
+// Calls of flat pictures in sub-QCIF: the name of their files, the options, the video as this many
+// pictures of one level each, and the pictures that are shown, this many with a mark and a level.
 const FLAT: [(&str, &str, &[(u32, u8)], &[(u32, &str, u8)]); 11] = [
     // The last picture that is known to be there leaves the window.
     (

@@ -29,7 +29,7 @@ fn shown_head_of(format: Format) -> &'static [u8] {
     }
 }
 
-// Appends so many pictures of one level, each behind a line.
+// Appends this many pictures of one level, each after a line.
 fn append_flat(
     alloc: Global,
     format: Format,
@@ -46,7 +46,7 @@ fn append_flat(
     Ok(())
 }
 
-/// A video of flat pictures: so many of each level.
+/// A video of flat pictures: this many of each level.
 pub fn flat_video(
     alloc: Global,
     format: Format,
@@ -59,7 +59,7 @@ pub fn flat_video(
     Ok(video)
 }
 
-/// The video that is shown: so many flat pictures with each mark and level.
+/// The video that is shown: this many flat pictures with each mark and level.
 pub fn shown_video(
     alloc: Global,
     format: Format,
@@ -81,7 +81,7 @@ fn made_picture(alloc: Global, seed: u32, number: u32) -> Result<Vec<u8>, OutOfM
     Ok(bytes)
 }
 
-/// A video in QCIF of so many pictures, in which triangle waves move.
+/// A video in QCIF of this many pictures, in which triangle waves move.
 pub fn made_video(alloc: Global, seed: u32, frames: u32) -> Result<Vec<u8>, OutOfMemory> {
     let mut video = CAMERA_HEAD.to_vec(alloc)?;
     for number in 0..frames {

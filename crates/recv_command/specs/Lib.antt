@@ -1,3 +1,3 @@
 pub mod Tally
-pub mod Said
+pub mod MessageBytes
 pub mod Recv

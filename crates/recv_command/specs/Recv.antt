@@ -13,7 +13,7 @@ use Rattle.receiver_end.specs.Answers.{mark_of}
 use Rattle.receiver_end.specs.State.{run_of, answer_after, mark_after, message_after, Stands}
 use Rattle.recv_command.specs.declared.recv.Receiving.{Receiving}
 use Rattle.recv_command.specs.declared.tally.Tally.{Tally}
-use Rattle.recv_command.specs.Said.{back_text, message_in, shown_text}
+use Rattle.recv_command.specs.MessageBytes.{back_text, message_in, shown_text}
 use Rattle.recv_command.specs.Tally.{no_counts, total_of, with_mark, with_answer, count_text}
 
 -- the parameters, the packets and plays so far, newest first, and what was counted of them
@@ -25,7 +25,7 @@ pub record RecvState : Type 0 where
 abbrev pub nothing_heard : Params → RecvState
 nothing_heard p = record { params = p; past = []; tally = no_counts }
 
--- the state behind an entry
+-- the state after an entry
 abbrev pub behind_entry : RecvState → ReceiverEntry → Tally → RecvState
 behind_entry s entry tally = record { params = s.params; past = entry ∷ s.past; tally = tally }
 

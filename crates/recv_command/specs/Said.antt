@@ -5,7 +5,7 @@ use Rattle.h263_outside.specs.declared.desk.Role.{Role}
 use Rattle.h263_outside.specs.declared.desk.Role.TheVariants.{Pictures, Wire, Report}
 use Rattle.h263_types.specs.declared.Mark.{Mark}
 use Rattle.h263_planes.specs.Picture.{Picture}
-use Rattle.back_messages.specs.declared.writing.Said.{Said}
+use Rattle.back_messages.specs.declared.writing.MessageBytes.{MessageBytes}
 use Rattle.y4m.specs.Text.{frame_text}
 use Rattle.event_logs.specs.Text.{entry_text}
 use Rattle.call_report.specs.Text.{picture_text}
@@ -33,6 +33,6 @@ message_in (runs.Completed message) = Some message
 message_in _ = None
 
 -- the same, in bytes
-abbrev pub said_in : Heard → Option Said
+abbrev pub said_in : Heard → Option MessageBytes
 said_in (heards.Completed said) = Some said
 said_in _ = None

@@ -8,15 +8,13 @@ ghost use Rattle.desk_program.specs.Ends.{Gains, GainsFronts};
 ghost use Rattle.call_model.specs.Coding.{Message};
 ghost use Rattle.receiver_end.specs.Answers.{IsMessage};
 ghost use Rattle.coded_call.specs.Bytes.{AreBytes};
-ghost use Rattle.recv_command.specs.Said.{back_text, said_in, shown_text};
+ghost use Rattle.recv_command.specs.MessageBytes.{back_text, said_in, shown_text};
 
-use back_messages::Said;
+use back_messages::MessageBytes;
 use call_report::{Status, picture_line};
-use coded_call::laws::said_bytes;
-use desk_program::laws::of_turns;
-use desk_program::{put_entry, put_line, put_picture};
-use h263_outside::Desk;
-use h263_outside::laws::calls;
+use coded_call::laws as coded_call_laws;
+use desk_program::{laws as desk_program_laws, put_entry, put_line, put_picture};
+use h263_outside::{Desk, laws as outside_laws};
 use h263_planes::PictureRef;
 use receiver_end::{Heard, Played};
 
@@ -24,7 +22,7 @@ use receiver_end::{Heard, Played};
 const BACK: u8 = b'B';
 
 /// The message of an answer.
-pub fn said_in(heard: &Heard) -> Option<Said>
+pub fn said_in(heard: &Heard) -> Option<MessageBytes>
     ensures { result ≡ said_in heard.now }
 {
     match heard {
@@ -39,7 +37,7 @@ fn are_bytes(bytes: &[u8])
 {}
 
 /// Writes a message, if there is one.
-pub fn say<D: Desk>(desk: &mut D, said: Option<Said>) -> Result<(), Status>
+pub fn say<D: Desk>(desk: &mut D, said: Option<MessageBytes>) -> Result<(), Status>
     requires { (D.outside desk.old).attached Wire ≡ true }
     ensures ok { (clock : Clock) (message : Option Message)
         → IsMessage clock said message → OnOk result
@@ -52,8 +50,8 @@ pub fn say<D: Desk>(desk: &mut D, said: Option<Said>) -> Result<(), Status>
         (Rose (D.outside desk.old).faults.write (D.outside desk.new).faults.write) }
     ensures rest { OnlyWrites (D.outside desk.old) (D.outside desk.new) }
 {
-    said_bytes();
-    of_turns::<()>();
+    coded_call_laws::said_bytes();
+    desk_program_laws::of_turns::<()>();
     match said {
         Some(said) => {
             let text = said.text();
@@ -86,8 +84,8 @@ pub fn show<D: Desk>(
         (Rose (D.outside desk.old).faults.write (D.outside desk.new).faults.write) }
     ensures rest { OnlyWrites (D.outside desk.old) (D.outside desk.new) }
 {
-    calls();
-    of_turns::<()>();
+    outside_laws::calls();
+    desk_program_laws::of_turns::<()>();
     put_picture(desk, played.mark, picture)?;
     put_line(desk, &picture_line(number, Some(played.mark), None, None))?;
     say(desk, played.message)

@@ -9,16 +9,16 @@ use Rattle.call_model.specs.Coding.{Rules}
 use Rattle.call_model.specs.Numbers.{OneInAPeriod}
 use Rattle.call_model.specs.CodedPictures.{reference_for}
 use Rattle.reference_selector.specs.declared.Selector.{Selector}
-use Rattle.reference_selector.specs.Stands.{Stands}
+use Rattle.reference_selector.specs.Stands.{SelectorStands}
 use Rattle.reference_selector.proofs.Choosing.{one_rest, reference_found, reference_none}
 
 -- the flag that is read is the number's
-pub known_here : (rules : Rules) (s : Selector) (n back : ℕ) (depth : ℕ → ℕ) (known : ℕ → Bool) → Stands rules s n depth known → back < n → back < s.slots - s.lead - 1 → get_or s.known ((n - back - 1) % s.slots) false ≡ known (n - back - 1)
+pub known_here : (rules : Rules) (s : Selector) (n back : ℕ) (depth : ℕ → ℕ) (known : ℕ → Bool) → SelectorStands rules s n depth known → back < n → back < s.slots - s.lead - 1 → get_or s.known ((n - back - 1) % s.slots) false ≡ known (n - back - 1)
 known_here rules s n back depth known stands below within =
     let e : s.slots ≡ rules.slots = stands.slots in
     ap (λ (k : ℕ). get_or s.known ((n - back - 1) % k) false) e ∙ stands.known_is (n - back - 1) (omega arith) (omega (arith, e))
 
-pub depth_here : (rules : Rules) (s : Selector) (n back : ℕ) (depth : ℕ → ℕ) (known : ℕ → Bool) → Stands rules s n depth known → back < n → back < s.slots - s.lead - 1 → get_or s.depths ((n - back - 1) % s.slots) 0 ≡ depth (n - back - 1)
+pub depth_here : (rules : Rules) (s : Selector) (n back : ℕ) (depth : ℕ → ℕ) (known : ℕ → Bool) → SelectorStands rules s n depth known → back < n → back < s.slots - s.lead - 1 → get_or s.depths ((n - back - 1) % s.slots) 0 ≡ depth (n - back - 1)
 depth_here rules s n back depth known stands below within =
     let e : s.slots ≡ rules.slots = stands.slots in
     ap (λ (k : ℕ). get_or s.depths ((n - back - 1) % k) 0) e ∙ stands.depth_is (n - back - 1) (omega arith) (omega (arith, e))
@@ -32,13 +32,13 @@ looked_more known n back below before here m lt close =
     ]
 
 -- the first known number that is found is the newest
-pub chosen_here : (rules : Rules) (s : Selector) (n back : ℕ) (depth : ℕ → ℕ) (known : ℕ → Bool) → Stands rules s n depth known → back < n → back < s.slots - s.lead - 1 → ((m : ℕ) → m < n → n ≤ m + back → known m ≡ false) → get_or s.known ((n - back - 1) % s.slots) false ≡ true → reference_for rules depth known n ≡ (if ltb (get_or s.depths ((n - back - 1) % s.slots) 0) 131 then Some (n - back - 1) else None)
+pub chosen_here : (rules : Rules) (s : Selector) (n back : ℕ) (depth : ℕ → ℕ) (known : ℕ → Bool) → SelectorStands rules s n depth known → back < n → back < s.slots - s.lead - 1 → ((m : ℕ) → m < n → n ≤ m + back → known m ≡ false) → get_or s.known ((n - back - 1) % s.slots) false ≡ true → reference_for rules depth known n ≡ (if ltb (get_or s.depths ((n - back - 1) % s.slots) 0) 131 then Some (n - back - 1) else None)
 chosen_here rules s n back depth known stands below within newer flag =
     let is_known : known (n - back - 1) ≡ true = sym (known_here rules s n back depth known stands below within) ∙ flag in
     let found = reference_found rules depth known n (n - back - 1) (omega arith) (omega (arith, stands.slots, stands.lead)) is_known (λ k low high. newer k high (omega arith)) in
     rw (depth_here rules s n back depth known stands below within) (found ∙ ap (λ (c : ℕ). if ltb (depth (n - back - 1)) c then Some (n - back - 1) else None) stands.chain)
 
-pub none_here : (rules : Rules) (s : Selector) (n back : ℕ) (depth : ℕ → ℕ) (known : ℕ → Bool) → Stands rules s n depth known → ((n ≤ back) ⊎ (s.slots - s.lead - 1 ≤ back)) → ((m : ℕ) → m < n → n ≤ m + back → known m ≡ false) → reference_for rules depth known n ≡ None
+pub none_here : (rules : Rules) (s : Selector) (n back : ℕ) (depth : ℕ → ℕ) (known : ℕ → Bool) → SelectorStands rules s n depth known → ((n ≤ back) ⊎ (s.slots - s.lead - 1 ≤ back)) → ((m : ℕ) → m < n → n ≤ m + back → known m ≡ false) → reference_for rules depth known n ≡ None
 none_here rules s n back depth known stands all newer =
     reference_none rules depth known n (λ k lt close. elim all [
       | inl none_left ↦ newer k lt (omega arith)
@@ -46,7 +46,7 @@ none_here rules s n back depth known stands all newer =
     ])
 
 -- a number becomes known
-pub marked : OneInAPeriod → (rules : Rules) (s t : Selector) (sent number : ℕ) (depth : ℕ → ℕ) (known : ℕ → Bool) → 0 < s.slots → s.slots ≤ length s.known → number < sent → sent ≤ number + s.slots → t.slots ≡ s.slots → t.lead ≡ s.lead → t.clock ≡ s.clock → t.depths ≡ s.depths → t.known ≡ set s.known (number % s.slots) true → Stands rules s sent depth known → Stands rules t sent depth (λ m. eqb number m || known m)
+pub marked : OneInAPeriod → (rules : Rules) (s t : Selector) (sent number : ℕ) (depth : ℕ → ℕ) (known : ℕ → Bool) → 0 < s.slots → s.slots ≤ length s.known → number < sent → sent ≤ number + s.slots → t.slots ≡ s.slots → t.lead ≡ s.lead → t.clock ≡ s.clock → t.depths ≡ s.depths → t.known ≡ set s.known (number % s.slots) true → SelectorStands rules s sent depth known → SelectorStands rules t sent depth (λ m. eqb number m || known m)
 marked one rules s t sent number depth known pos room below last slots lead clock depths flags stands =
     let e : s.slots ≡ rules.slots = stands.slots in
     record {
@@ -68,16 +68,16 @@ marked one rules s t sent number depth known pos room below last slots lead cloc
         let at : m % rules.slots ≡ m % s.slots = ap (λ (k : ℕ). m % k) (sym e) in
         rw (ne_eqb number m differ, flags, at) (get_or-set_other s.known (number % s.slots) (m % s.slots) true false apart ∙ ap (λ (k : ℕ). get_or s.known (m % k) false) e ∙ stands.known_is m m_below m_last)
 
-pub chosen_some : (rules : Rules) (s : Selector) (n back : ℕ) (depth : ℕ → ℕ) (known : ℕ → Bool) → Stands rules s n depth known → back < n → back < s.slots - s.lead - 1 → ((m : ℕ) → m < n → n ≤ m + back → known m ≡ false) → get_or s.known ((n - back - 1) % s.slots) false ≡ true → get_or s.depths ((n - back - 1) % s.slots) 0 < 131 → Some (n - back - 1) ≡ reference_for rules depth known n
+pub chosen_some : (rules : Rules) (s : Selector) (n back : ℕ) (depth : ℕ → ℕ) (known : ℕ → Bool) → SelectorStands rules s n depth known → back < n → back < s.slots - s.lead - 1 → ((m : ℕ) → m < n → n ≤ m + back → known m ≡ false) → get_or s.known ((n - back - 1) % s.slots) false ≡ true → get_or s.depths ((n - back - 1) % s.slots) 0 < 131 → Some (n - back - 1) ≡ reference_for rules depth known n
 chosen_some rules s n back depth known stands below within newer flag small =
     sym (chosen_here rules s n back depth known stands below within newer flag ∙ rw (lt-ltb _ 131 small) refl)
 
-pub chosen_none : (rules : Rules) (s : Selector) (n back : ℕ) (depth : ℕ → ℕ) (known : ℕ → Bool) → Stands rules s n depth known → back < n → back < s.slots - s.lead - 1 → ((m : ℕ) → m < n → n ≤ m + back → known m ≡ false) → get_or s.known ((n - back - 1) % s.slots) false ≡ true → 131 ≤ get_or s.depths ((n - back - 1) % s.slots) 0 → None ≡ reference_for rules depth known n
+pub chosen_none : (rules : Rules) (s : Selector) (n back : ℕ) (depth : ℕ → ℕ) (known : ℕ → Bool) → SelectorStands rules s n depth known → back < n → back < s.slots - s.lead - 1 → ((m : ℕ) → m < n → n ≤ m + back → known m ≡ false) → get_or s.known ((n - back - 1) % s.slots) false ≡ true → 131 ≤ get_or s.depths ((n - back - 1) % s.slots) 0 → None ≡ reference_for rules depth known n
 chosen_none rules s n back depth known stands below within newer flag large =
     sym (chosen_here rules s n back depth known stands below within newer flag ∙ rw (le-ltb _ 131 large) refl)
 
 -- a mark outside the window changes no number that is kept
-pub marked_far : (rules : Rules) (s : Selector) (sent number : ℕ) (depth : ℕ → ℕ) (known : ℕ → Bool) → number + s.slots < sent → Stands rules s sent depth known → Stands rules s sent depth (λ m. eqb number m || known m)
+pub marked_far : (rules : Rules) (s : Selector) (sent number : ℕ) (depth : ℕ → ℕ) (known : ℕ → Bool) → number + s.slots < sent → SelectorStands rules s sent depth known → SelectorStands rules s sent depth (λ m. eqb number m || known m)
 marked_far rules s sent number depth known far stands =
     let e : s.slots ≡ rules.slots = stands.slots in
     record {
@@ -90,7 +90,7 @@ marked_far rules s sent number depth known far stands =
     }
 
 -- one picture more
-pub coded_more : OneInAPeriod → (rules : Rules) (s t : Selector) (number d : ℕ) (depth : ℕ → ℕ) (known : ℕ → Bool) → 0 < s.slots → s.slots ≤ length s.known → s.slots ≤ length s.depths → depth number ≡ d → known number ≡ false → t.slots ≡ s.slots → t.lead ≡ s.lead → t.clock ≡ s.clock → t.depths ≡ set s.depths (number % s.slots) d → t.known ≡ set s.known (number % s.slots) false → Stands rules s number depth known → Stands rules t (number + 1) depth known
+pub coded_more : OneInAPeriod → (rules : Rules) (s t : Selector) (number d : ℕ) (depth : ℕ → ℕ) (known : ℕ → Bool) → 0 < s.slots → s.slots ≤ length s.known → s.slots ≤ length s.depths → depth number ≡ d → known number ≡ false → t.slots ≡ s.slots → t.lead ≡ s.lead → t.clock ≡ s.clock → t.depths ≡ set s.depths (number % s.slots) d → t.known ≡ set s.known (number % s.slots) false → SelectorStands rules s number depth known → SelectorStands rules t (number + 1) depth known
 coded_more one rules s t number d depth known pos room_known room_depths depth_is known_is slots lead clock depths flags stands =
     record {
       slots = slots ∙ stands.slots;
@@ -126,7 +126,7 @@ coded_more one rules s t number d depth known pos room_known room_depths depth_i
         rw (flags, rest m) (get_or-set_other s.known (number % s.slots) (m % s.slots) false false (apart m m_below m_last differ) ∙ ap (λ (k : ℕ). get_or s.known (m % k) false) e ∙ stands.known_is m (omega arith) (omega arith))
 
 -- a selector stands for the same known pictures, however they are told
-pub same_known : (rules : Rules) (s : Selector) (sent : ℕ) (depth : ℕ → ℕ) (f g : ℕ → Bool) → ((m : ℕ) → f m ≡ g m) → Stands rules s sent depth f → Stands rules s sent depth g
+pub same_known : (rules : Rules) (s : Selector) (sent : ℕ) (depth : ℕ → ℕ) (f g : ℕ → Bool) → ((m : ℕ) → f m ≡ g m) → SelectorStands rules s sent depth f → SelectorStands rules s sent depth g
 same_known rules s sent depth f g same stands =
     record {
       slots = stands.slots;

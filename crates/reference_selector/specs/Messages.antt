@@ -19,6 +19,6 @@ abbrev pub message_of : Written → Message
 message_of (written.Ack tr marks) = Ack tr (flags_in marks)
 message_of (written.Nack tr rtr marks) = Nack tr rtr (flags_in marks)
 
--- m is one of so many numbers after t, was sent, and its flag is set
+-- m is one of this many numbers after t, was sent, and its flag is set
 abbrev pub is_named : ℕ → ℕ → (ℕ → Bool) → ℕ → ℕ → Bool
 is_named t sent flag count m = nat_lt t m && (nat_le m (t + count) && (nat_lt m sent && flag (m - t)))

@@ -26,7 +26,7 @@ ghost use Rattle.call_model.specs.Sending.{nearest_below, made_known, called_com
 ghost use Rattle.reference_selector.specs.Messages.{message_of, flags_in, is_flagged, is_named};
 
 use back_messages::Message;
-use call_model::laws::one_in_a_period;
+use call_model::laws as call_model_laws;
 use h263_types::{Clock, Params};
 
 // The longest chain of predicted pictures: within 132 coded pictures each macroblock is coded intra
@@ -121,14 +121,14 @@ fn has_flag(marks: u16, j: u32) -> bool
 }
 
 impl Selector {
-    ghost use Rattle.reference_selector.specs.Stands.{Stands};
+    ghost use Rattle.reference_selector.specs.Stands.{SelectorStands};
 
     /// No picture was coded.
     pub fn start(params: &Params) -> Selector
         requires { IsParams params.now }
         ensures { (rules : Rules) (depth : ℕ → ℕ) (known : ℕ → Bool)
             → rules.slots ≡ params.now.slots → rules.lead ≡ params.now.lead → rules.half
-            ≡ half_of params.now.clock → rules.chain ≡ 131 → Stands rules result 0 depth known }
+            ≡ half_of params.now.clock → rules.chain ≡ 131 → SelectorStands rules result 0 depth known }
     {
         Selector {
             slots: params.slots,
@@ -143,10 +143,10 @@ impl Selector {
     /// its reference.
     pub fn coded(&mut self, number: u32, depth: u8)
         ensures { (rules : Rules) (depths : ℕ → ℕ) (known : ℕ → Bool) → depths number ≡ depth
-            → known number ≡ false → Stands rules self.old number depths known
-            → Stands rules self.new (number + 1) depths known }
+            → known number ≡ false → SelectorStands rules self.old number depths known
+            → SelectorStands rules self.new (number + 1) depths known }
     {
-        one_in_a_period();
+        call_model_laws::one_in_a_period();
         let at = (number % self.slots) as usize;
         self.depths[at] = depth;
         self.known[at] = false;
@@ -157,10 +157,10 @@ impl Selector {
         requires below { number < sent }
         requires small { sent < 2 ^ 31 }
         ensures clock { self.new.clock ≡ self.old.clock }
-        ensures known { (rules : Rules) (depth : ℕ → ℕ) (known : ℕ → Bool) → Stands rules self.old
-            sent depth known → Stands rules self.new sent depth (λ m. nat_eq number m || known m) }
+        ensures known { (rules : Rules) (depth : ℕ → ℕ) (known : ℕ → Bool) → SelectorStands rules self.old
+            sent depth known → SelectorStands rules self.new sent depth (λ m. nat_eq number m || known m) }
     {
-        one_in_a_period();
+        call_model_laws::one_in_a_period();
         if sent <= number + self.slots {
             let at = (number % self.slots) as usize;
             self.known[at] = true;
@@ -173,7 +173,7 @@ impl Selector {
         requires small { sent < 2 ^ 30 }
         ensures clock { self.new.clock ≡ self.old.clock }
         ensures known { (rules : Rules) (depth : ℕ → ℕ) (known : ℕ → Bool)
-            → Stands rules self.old sent depth known → Stands rules self.new sent depth (λ m.
+            → SelectorStands rules self.old sent depth known → SelectorStands rules self.new sent depth (λ m.
             is_among (called_complete rules sent t (message_of message.now)) m || known m) }
     {
         if let Some(q) = number_called(message, t, sent, self.clock) {
@@ -187,8 +187,8 @@ impl Selector {
         requires small { sent < 2 ^ 30 }
         requires j { j < 14 }
         ensures clock { self.new.clock ≡ self.old.clock }
-        ensures known { (rules : Rules) (depth : ℕ → ℕ) (known : ℕ → Bool) → Stands rules self.old
-            sent depth (λ m. is_named t sent (is_flagged marks) j m || known m) → Stands rules
+        ensures known { (rules : Rules) (depth : ℕ → ℕ) (known : ℕ → Bool) → SelectorStands rules self.old
+            sent depth (λ m. is_named t sent (is_flagged marks) j m || known m) → SelectorStands rules
             self.new sent depth (λ m. is_named t sent (is_flagged marks) (j + 1) m || known m) }
     {
         let number = t + 1 + j;
@@ -207,7 +207,7 @@ impl Selector {
         requires small { sent < 2 ^ 30 }
         ensures clock { self.new.clock ≡ self.old.clock }
         ensures known { (rules : Rules) (depth : ℕ → ℕ) (known : ℕ → Bool) →
-            Stands rules self.old sent depth known → Stands rules self.new sent depth (λ m. is_among
+            SelectorStands rules self.old sent depth known → SelectorStands rules self.new sent depth (λ m. is_among
             (filter (λ q. nat_lt q sent) (flagged_after t (flags_in (Some marks)))) m || known m) }
     {
         for j in 0..14 {
@@ -222,7 +222,7 @@ impl Selector {
         ensures answer { (rules : Rules) → rules.half ≡ half_of self.old.clock
             → result ≡ is_some (made_known rules sent (message_of message.now)) }
         ensures known { (rules : Rules) (depth : ℕ → ℕ) (known : ℕ → Bool)
-            → Stands rules self.old sent depth known → Stands rules self.new sent depth (λ m.
+            → SelectorStands rules self.old sent depth known → SelectorStands rules self.new sent depth (λ m.
             is_among (known_by_feedback rules sent (Some (message_of message.now))) m || known m) }
         ensures old { result ≡ false → self.new ≡ self.old }
     {
@@ -239,7 +239,7 @@ impl Selector {
     /// The reference of the next picture: the newest known one in the window of `slots - lead - 1`
     /// numbers, unless there is none or its chain may not grow.
     pub fn choose(&self, number: u32) -> Option<u32>
-        ensures { (rules : Rules) (depth : ℕ → ℕ) (known : ℕ → Bool) → Stands
+        ensures { (rules : Rules) (depth : ℕ → ℕ) (known : ℕ → Bool) → SelectorStands
             rules self.now number depth known → result ≡ reference_for rules depth known number }
     {
         let window = self.slots - self.lead - 1;
@@ -264,7 +264,7 @@ impl Selector {
     pub fn depth(&self, number: u32) -> u8
         ensures { (rules : Rules) (sent : ℕ) (depth : ℕ → ℕ) (known : ℕ → Bool)
             → number < sent → sent ≤ number + rules.slots
-            → Stands rules self.now sent depth known → result ≡ depth number }
+            → SelectorStands rules self.now sent depth known → result ≡ depth number }
     {
         self.depths[(number % self.slots) as usize]
     }

@@ -179,7 +179,7 @@ two_is [] h small = absurd (omega arith)
 two_is (a ∷ []) h small = absurd (omega arith)
 two_is (a ∷ b ∷ rest) h small = rw (number-push (a ∷ []) b (small 1), number-push [] a (small 0), nothing) (omega arith)
 
--- ---- what stands behind the fixed header
+-- ---- what stands after the fixed header
 
 -- the sources are cut
 pub behind_cut : (h : Head) (bytes : List ℕ) → 12 ≤ length bytes → length bytes < 12 + 4 * h.sources → end_of (reading (behind h) (from_byte 12 bytes)) ≡ None
@@ -243,7 +243,7 @@ behind_words h bytes fits some small whole =
     let k = 12 + 4 * h.sources in
     ap end_of (extension_is h bytes (omega arith) some ∙ extension_words k bytes fits small) ∙ words_fit (k + 2 + 2) (4 * words_of h bytes) bytes (omega arith) ∙ ap (λ (n : ℕ). Some n) (omega arith)
 
--- ---- the length of what stands behind the fixed header
+-- ---- the length of what stands after the fixed header
 
 pub behind_length : (h : Head) (text : List Bool) → Spells (behind h) tt text → (m : ℕ) × (length text ≡ 8 * m)
 unfolding behind extension

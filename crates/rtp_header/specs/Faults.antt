@@ -16,8 +16,8 @@ abbrev pub end_of : Result (Unit {0} × Bits) Fault → Option ℕ
 end_of (Ok x) = Some (x.1.at / 8)
 end_of (Err e) = None
 
--- the byte behind the payload: where P is set the last byte counts the padding, which is not empty
--- and lies behind the header
+-- the byte after the payload: where P is set the last byte counts the padding, which is not empty
+-- and lies after the header
 abbrev pub payload_end_of : Head → List ℕ → ℕ → Option ℕ
 payload_end_of h bytes from =
     if h.padding == 0 then Some (length bytes)

@@ -12,12 +12,12 @@ use Rattle.rtp_header.specs.Faults.{rtp_in}
 abbrev pub IsRefusedAt : List ℕ → FaultKind → ℕ → Type 0
 IsRefusedAt bytes kind place = rtp_in bytes ≡ Err (record { kind = kind; at = place })
 
--- the fixed header of bytes that are not too many, and what is left behind it
+-- the fixed header of bytes that are not too many, and what is left after it
 pub record HasHead (bytes : List ℕ) (h : Head) (c : Bits) : Type 0 where
   pub few : length bytes ≤ 65535
   pub read : reading head (from_byte 0 bytes) ≡ Ok (h, c)
 
--- the sources and the extension behind it end in the bytes, at a byte
+-- the sources and the extension after it end in the bytes, at a byte
 pub record HasFront (bytes : List ℕ) (h : Head) (from : ℕ) : Type 0 where
   pub left : Bits
   pub end : Bits
@@ -35,7 +35,7 @@ pub record RtpFaults : Type 0 where
   pub short_behind : (bytes : List ℕ) (h : Head) (c : Bits) (fault : Fault)
       → HasHead bytes h c → h.version ≡ 2
       → reading (behind h) c ≡ Err fault → IsRefusedAt bytes faults.Short (8 * length bytes)
-  -- the last byte counts more than there is behind the header, or nothing
+  -- the last byte counts more than there is after the header, or nothing
   pub padding : (bytes : List ℕ) (h : Head) (from : ℕ) → HasFront bytes h from → (h.padding ≡ 0 → ⊥)
       → (slice_index bytes (length bytes - 1) ≡ 0)
       ⊎ (length bytes - from < slice_index bytes (length bytes - 1))

@@ -8,12 +8,12 @@ rtp_fields marker sequence timestamp =
     (2, 2) ∷ (1, 0) ∷ (1, 0) ∷ (4, 0) ∷ (1, if marker then 1 else 0)
     ∷ (7, 96) ∷ (16, sequence) ∷ (32, timestamp) ∷ (32, 1211250227) ∷ []
 
--- what it is read as, where the payload behind it has so many bytes
+-- what it is read as, where the payload after it has this many bytes
 abbrev pub written_rtp : Bool → ℕ → ℕ → ℕ → Rtp
 written_rtp marker sequence timestamp len =
     record { marker = marker; sequence = sequence; timestamp = timestamp; from = 12; to = 12 + len }
 
--- the payload lies in the packet, behind the fixed header
+-- the payload lies in the packet, after the fixed header
 pub record IsWithin (r : Rtp) (bytes : List ℕ) : Type 0 where
   pub fixed : 12 ≤ r.from
   pub order : r.from ≤ r.to

@@ -24,7 +24,7 @@ pub fn one_reading()
     ensures { (r s : Rtp) (bytes : List ℕ) → IsRtp r bytes → IsRtp s bytes → r ≡ s }
 {}
 
-/// The payload lies in the packet, behind 12 bytes at least.
+/// The payload lies in the packet, after 12 bytes at least.
 pub fn payload_within()
     ensures { (r : Rtp) (bytes : List ℕ) → rtp_in bytes ≡ Ok r → IsWithin r bytes }
 {}

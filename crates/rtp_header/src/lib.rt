@@ -34,7 +34,7 @@ const SOURCE: u32 = 0x4832_3633;
 // The payload type of every packet (PT, 5.1), of those that a session gives out.
 const PAYLOAD_TYPE: u8 = 96;
 
-// The byte behind the sources and the extension, or none where these pass the end.
+// The byte after the sources and the extension, or none where these pass the end.
 fn header_end(bytes: &[u8]) -> Option<u32>
     requires fixed { 12 ≤ length bytes.now }
     requires short { length bytes.now ≤ 65535 }
@@ -60,7 +60,7 @@ fn header_end(bytes: &[u8]) -> Option<u32>
     Some(end as u32)
 }
 
-// The byte behind the payload, or none where the count of the padding does not fit.
+// The byte after the payload, or none where the count of the padding does not fit.
 fn payload_end(bytes: &[u8], from: u32) -> Option<u32>
     requires fixed { 12 ≤ length bytes.now }
     requires short { length bytes.now ≤ 65535 }

@@ -11,6 +11,6 @@ pub struct Rtp {
     pub timestamp: u32,
     /// The payload's first byte.
     pub from: u32,
-    /// The byte behind the payload.
+    /// The byte after the payload.
     pub to: u32,
 }

@@ -75,7 +75,7 @@ whole_small xs ys e h hx hy = omega (arith, differences_small xs ys (length xs) 
 take_rest : (xs : List ℕ) (i : ℕ) → take (length xs - i) (drop i xs) ≡ drop i xs
 take_rest xs i = subst (λ (n : ℕ). take n (drop i xs) ≡ drop i xs) (length-drop i xs) (take-length (drop i xs))
 
--- the differences of what lies behind place i
+-- the differences of what lies after place i
 pub differences-rest : (xs ys : List ℕ) (i : ℕ) →
     differences (take (length xs - i) (drop i xs)) (take (length ys - i) (drop i ys)) ≡ differences (drop i xs) (drop i ys)
 differences-rest xs ys i = cc (take_rest xs i, take_rest ys i)

@@ -143,7 +143,7 @@ module _ (laws : TurnLaws SendState) (cut : CutBehind) (s : SendState) (inputs :
         left_at Report input = absurd (cc input)
         left_at Pictures2 input = absurd (cc input)
 
-  -- behind an entry
+  -- after an entry
   module _ (found : ℕ × Entry) (e : EntryGives (Ok (Some found)) reader (inputs Events) bytes (mid.left Events)) (few : reader.entries < 16777216) where
     pub found_is : send_step s inputs ≡ entry_step s inputs (Some found.1)
     found_is =

@@ -35,7 +35,7 @@ next_is : (n : ℕ) (f : Format) (at : ℕ) (rest frame : List ℕ) → next_fra
 next_is zero f at rest frame is = absurd (cc is)
 next_is (suc n) f at rest frame is = is
 
--- the bytes of a capture, and so many of its frame
+-- the bytes of a capture, and this many of its frame
 abbrev some_of : ℕ → Role → ℕ
 some_of n = and_of (of Events 3) (of Video n)
 
@@ -105,7 +105,7 @@ module _ (laws : TurnLaws SendState) (cut : CutFrames) (s : SendState) (inputs :
       left_at Report input = absurd (cc input)
       left_at Pictures2 input = absurd (cc input)
 
-  -- behind a frame
+  -- after a frame
   module _ (e : FrameGives (Ok true) reader (inputs Video) out after (mid.left Video)) (new : Outside) (texts : Role → List ℕ) (text_is : texts ≡ capture_texts s.target s.params (captured s.params.format out) s.entries) where
     abbrev size : ℕ
     size = frame_size s.params.format (inputs Video)

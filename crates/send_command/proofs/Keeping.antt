@@ -64,7 +64,7 @@ module _ (m : Send) (s : SendState) (size : ℕ) (stood : StoodBefore m s size) 
       (λ i. picture_texts (cap.packets i) (cap.number_is i) (cap.reference i))
       ∙ (λ i. capture_texts (sym target_is i) (sym params_are i) (same i) s.entries)
 
-  -- the state behind a capture
+  -- the state after a capture
   pub keeps_capture : (new : Send) (frame out : Frame) (answer : Coded) (size_of_frame : ℕ) (inputs : Role → List ℕ) → size ≡ 3 → frame ≡ out → IsCaptured (target_of m.sender.pace) frame m.sender.state.params s.entries new.sender.state answer
       → answer.packets ≡ length (packets_of new.sender.state.cutter) → new.sender.state.params ≡ m.sender.state.params → new.sender.pace ≡ m.sender.pace → new.log ≡ m.log → new.tally ≡ with_picture answer.packets m.tally
       → new.video.at ≡ s.video_at + size_of_frame → new.video.more + 1 ≡ m.video.more
@@ -103,7 +103,7 @@ module _ (m : Send) (s : SendState) (size : ℕ) (stood : StoodBefore m s size) 
         sender = sender;
       }
 
--- the state behind feedback
+-- the state after feedback
 pub keeps_feedback : (m : Send) (s : SendState) (len : ℕ) (bytes : List ℕ) (stood : StoodBefore m s (3 + len)) (new : Send) (reply : Reply MessageFault) (inputs : Role → List ℕ) → length bytes ≡ len
     → Stands (pace_of (target_of m.sender.pace) m.sender.state.params) new.sender.state (Feedback bytes ∷ s.entries)
     → reply ≡ feedback_answer (rules_of m.sender.state.params) (length (run_of m.sender.state.params (pace_of (target_of m.sender.pace) m.sender.state.params) s.entries).coded) (read_message m.sender.state.params.clock bytes)
@@ -139,7 +139,7 @@ keeps_feedback m s len bytes stood new reply inputs long stands answer params pa
       sender = subst (λ (x : SendState). Stands (pace_of x.target x.params) new.sender.state (Feedback bytes ∷ s.entries)) (sym stood.is) stands;
     }
 
--- ---- before an entry is read, and behind it
+-- ---- before an entry is read, and after it
 
 module _ (m : Send) (s : SendState) (inputs : Role → List ℕ) (stands : SendStands m s inputs) where
   pub read_at : m.log.side ≡ sides.Send → IsReadAt s m.log
@@ -168,7 +168,7 @@ module _ (m : Send) (s : SendState) (inputs : Role → List ℕ) (stands : SendS
         sender = stands.sender;
       }
 
--- what is known behind an entry that was read
+-- what is known after an entry that was read
 pub record IsBehind (m : Send) (s : SendState) (inputs : Role → List ℕ) (old mid : Outside) (log : LogReader) (bytes : Vec ℕ Global) (buf : List ℕ) (place : ℕ) (entry : Entry) : Type 0 where
   pub step_is : send_step s inputs ≡ entry_step s inputs (Some entry)
   pub stood : StoodBefore (record m { log = log; bytes = bytes }) s (3 + bytes_of entry)

@@ -5,7 +5,7 @@ use Rattle.rate_control.specs.Level.{quant_after}
 use Rattle.send_command.specs.declared.pace.SendPace.{SendPace}
 use Rattle.send_command.specs.declared.pace.SendPace.TheVariants.{Fixed, Bucket}
 
--- the quantiser behind pictures of these sizes: one for all, or, with a target, coarser the further
+-- the quantiser after pictures of these sizes: one for all, or, with a target, coarser the further
 -- the level of the bucket lies above it
 abbrev pub quant_behind : Option ℕ → ℕ → List ℕ → ℕ
 quant_behind None quant sizes = quant

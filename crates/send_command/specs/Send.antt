@@ -154,7 +154,7 @@ log_step s inputs (b ∷ log) =
 abbrev pub send_step : SendState → (Role → List ℕ) → Step SendState
 send_step s inputs = log_step s inputs (inputs Events)
 
--- before the first entry, behind a head of so many bytes
+-- before the first entry, after a head of this many bytes
 abbrev pub first_state : Sending → Format → ℕ → SendState
 first_state setup f size =
     record {

@@ -78,12 +78,12 @@ pub record IsAtEntry (m : Send) (attached : Role → Bool) : Type 0 where
   pub some : 0 < m.log.entries
   pub tally : IsOf (m.log.entries - 1) m.tally
 
--- this was the state before the entry of so many bytes that was read last
+-- this was the state before the entry of this many bytes that was read last
 pub record StoodBefore (m : Send) (s : SendState) (size : ℕ) : Type 0 where
   pub is : record s { at = s.at + size; read = s.read + 1 } ≡ state_of m s.entries
   pub sender : Stands (pace_of s.target s.params) m.sender.state s.entries
 
--- since then so many bytes of the log were taken, and nothing was written
+-- since then this many bytes of the log were taken, and nothing was written
 pub record HasTaken (size : ℕ) (inputs : Role → List ℕ) (old new : Outside) : Type 0 where
   pub left : Tells new (behind inputs (of Events size))
   pub written : new.written ≡ old.written

@@ -9,7 +9,7 @@ use Rattle.send_command.specs.declared.tally.Tally.{Tally}
 abbrev pub no_counts : Tally
 no_counts = record { sent = 0; packets = 0; noted = 0; outdated = 0; refused = 0 }
 
--- one picture more was sent, in so many packets
+-- one picture more was sent, in this many packets
 abbrev pub with_picture : ℕ → Tally → Tally
 with_picture count t = record t { sent = t.sent + 1; packets = t.packets + count }
 
@@ -30,7 +30,7 @@ count_text t =
     ∷ (codes "refused", t.refused)
     ∷ [])
 
--- what was counted comes from so many entries
+-- what was counted comes from this many entries
 pub record IsOf (n : ℕ) (t : Tally) : Type 0 where
   pub sent : t.sent ≤ n
   pub packets : t.packets ≤ n * 2 ^ 32

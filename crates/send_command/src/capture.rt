@@ -18,8 +18,7 @@ use crate::SendPace;
 use crate::mind::turn_laws;
 use call_report::{Status, picture_line};
 use desk_program::{put_entry, put_line};
-use h263_outside::Desk;
-use h263_outside::laws::calls;
+use h263_outside::{Desk, laws as outside_laws};
 use h263_planes::PictureRef;
 use sender_end::{Coded, Sender};
 
@@ -45,7 +44,7 @@ pub fn capture(sender: &mut Sender<SendPace>, frame: PictureRef<'_>) -> Coded
     sender.code(frame, &[])
 }
 
-// Writes the first so many packets of the last picture.
+// Writes the packets of the last picture, which are this many.
 fn put_packets<D: Desk>(desk: &mut D, sender: &Sender<SendPace>, count: u32) -> Result<(), Status>
     requires attached { (D.outside desk.old).attached Wire ≡ true }
     requires count { count ≡ length (packets_of sender.now.state.cutter) }
@@ -60,7 +59,7 @@ fn put_packets<D: Desk>(desk: &mut D, sender: &Sender<SendPace>, count: u32) -> 
         (Rose (D.outside desk.old).faults.write (D.outside desk.new).faults.write) }
     ensures rest { OnlyWrites (D.outside desk.old) (D.outside desk.new) }
 {
-    calls();
+    outside_laws::calls();
     turn_laws();
     for i in 0..count {
         put_entry(desk, b'K', sender.packet(i))?;
@@ -89,7 +88,7 @@ pub fn put_picture<D: Desk>(
         (Rose (D.outside desk.old).faults.write (D.outside desk.new).faults.write) }
     ensures rest { OnlyWrites (D.outside desk.old) (D.outside desk.new) }
 {
-    calls();
+    outside_laws::calls();
     turn_laws();
     put_packets(desk, sender, coded.packets)?;
     put_line(

@@ -11,8 +11,7 @@ use crate::{SendPace, Sending, Tally};
 use call_report::Status;
 use desk_program::{Acts, Turns, act_by_turns, put_line};
 use event_logs::{Entry, LogFault, LogReader, Side};
-use h263_outside::Desk;
-use h263_outside::laws::calls;
+use h263_outside::{Desk, laws as outside_laws};
 use h263_planes::PictureRef;
 use h263_types::Params;
 use sender_end::Sender;
@@ -64,7 +63,7 @@ impl Send {
         ensures rest { KeepsRoles (D.outside desk.old) (D.outside desk.new) }
     {
         turn_laws();
-        calls();
+        outside_laws::calls();
         y4m::laws::cut_behind();
         if !self.video.frame(desk, &mut self.frame)? {
             return Err(Status::LogRefused {
@@ -77,7 +76,7 @@ impl Send {
         put_picture(desk, &self.sender, &coded)
     }
 
-    // Takes the feedback that was read last, of so many bytes.
+    // Takes the feedback that was read last, of this many bytes.
     fn take_feedback(&mut self, len: u32)
         requires bytes { length self.old.bytes.items ≡ 65535 }
         requires ready { IsReady self.old.sender.state }
@@ -158,7 +157,7 @@ impl Turns for Send {
 
     fn turn<D: Desk>(&mut self, desk: &mut D) -> Result<bool, Status> {
         turn_laws();
-        calls();
+        outside_laws::calls();
         event_logs::laws::cut_behind();
         let Some((at, entry)) = self.log.next(desk, &mut self.bytes)? else {
             put_line(desk, &self.tally.line())?;

@@ -3,7 +3,7 @@ ghost use Rattle.desk_program.specs.Laws.{TurnLaws};
 ghost use Rattle.send_command.specs.Send.{SendState};
 
 use crate::Sending;
-use desk_program::laws::of_turns;
+use desk_program::laws as desk_program_laws;
 use std::marker::Model;
 
 // A type whose values are states, before the first entry; nothing is made of it.
@@ -23,5 +23,5 @@ impl Model for Mind {
 pub fn turn_laws()
     ensures { TurnLaws SendState }
 {
-    of_turns::<Mind>();
+    desk_program_laws::of_turns::<Mind>();
 }

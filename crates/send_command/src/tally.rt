@@ -31,7 +31,7 @@ impl Tally {
         }
     }
 
-    /// Counts a picture of so many packets.
+    /// Counts a picture of this many packets.
     pub fn picture(&mut self, count: u32)
         requires sent { self.old.sent + 1 < 2 ^ 32 }
         requires packets { self.old.packets + count < 2 ^ 64 }

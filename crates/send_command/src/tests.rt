@@ -307,7 +307,7 @@ fn failed(alloc: Global, failing: u64) -> Result<(Status, Vec<u8>, Vec<u8>), Out
     Ok((status, wire, report))
 }
 
-// Whether only fronts of the outputs were written, the report's with the line of a failed read.
+// Whether only prefixes of the outputs were written, the report's with the line of a failed read.
 fn are_fronts(status: Status, whole: &[u8], wire: &[u8], report: &[u8]) -> bool {
     if !whole.starts_with(wire) {
         return false;

@@ -8,7 +8,7 @@ use Rattle.std.proofs.Math.Nat.{mod-lt}
 use Rattle.h263_planes.specs.Picture.{Picture}
 use Rattle.picture_store.specs.Pictures.{Pictures, IsKept, picture_in, slot_of, slots_of}
 use Rattle.reference_selector.specs.declared.Selector.{Selector}
-use Rattle.reference_selector.specs.Stands.{Stands}
+use Rattle.reference_selector.specs.Stands.{SelectorStands}
 use Rattle.call_model.specs.Numbers.{OneRestIsFar}
 use Rattle.call_model.specs.Coding.{Rules}
 use Rattle.call_encoding.specs.Frames.{kind_of}
@@ -28,7 +28,7 @@ at_other n m v f differ = rw (ne_eqb m n differ) refl
 
 pub stands_same : (rules : Rules) (selector : Selector) (n : ℕ) (depth depth' : ℕ → ℕ) (known known' : ℕ → Bool)
     → ((m : ℕ) → m < n → n ≤ m + rules.slots → depth m ≡ depth' m) → ((m : ℕ) → m < n → n ≤ m + rules.slots → known m ≡ known' m)
-    → Stands rules selector n depth known → Stands rules selector n depth' known'
+    → SelectorStands rules selector n depth known → SelectorStands rules selector n depth' known'
 stands_same rules selector n depth depth' known known' depths flags stands = record {
   slots = stands.slots;
   lead = stands.lead;
@@ -39,8 +39,8 @@ stands_same rules selector n depth depth' known known' depths flags stands = rec
 }
 
 -- by what the selector keeps itself
-pub own_numbers : (rules : Rules) (selector : Selector) (n : ℕ) (depth : ℕ → ℕ) (known : ℕ → Bool) → Stands rules selector n depth known
-    → Stands rules selector n (λ m. get_or selector.depths (m % rules.slots) 0) (λ m. get_or selector.known (m % rules.slots) false)
+pub own_numbers : (rules : Rules) (selector : Selector) (n : ℕ) (depth : ℕ → ℕ) (known : ℕ → Bool) → SelectorStands rules selector n depth known
+    → SelectorStands rules selector n (λ m. get_or selector.depths (m % rules.slots) 0) (λ m. get_or selector.known (m % rules.slots) false)
 own_numbers rules selector n depth known stands = record {
   slots = stands.slots;
   lead = stands.lead;
@@ -51,8 +51,8 @@ own_numbers rules selector n depth known stands = record {
 }
 
 -- the same of what is known alone
-pub own_known : (rules : Rules) (selector : Selector) (n : ℕ) (depth : ℕ → ℕ) (known : ℕ → Bool) → Stands rules selector n depth known
-    → Stands rules selector n depth (λ m. get_or selector.known (m % rules.slots) false)
+pub own_known : (rules : Rules) (selector : Selector) (n : ℕ) (depth : ℕ → ℕ) (known : ℕ → Bool) → SelectorStands rules selector n depth known
+    → SelectorStands rules selector n depth (λ m. get_or selector.known (m % rules.slots) false)
 own_known rules selector n depth known stands = record {
   slots = stands.slots;
   lead = stands.lead;
@@ -65,10 +65,10 @@ own_known rules selector n depth known stands = record {
 -- what coding picture n of this depth does to a selector
 abbrev pub Codes : Selector → Selector → ℕ → ℕ → Type 0
 Codes old new n d =
-    (rules : Rules) (depths : ℕ → ℕ) (known : ℕ → Bool) → depths n ≡ d → known n ≡ false → Stands rules old n depths known → Stands rules new (n + 1) depths known
+    (rules : Rules) (depths : ℕ → ℕ) (known : ℕ → Bool) → depths n ≡ d → known n ≡ false → SelectorStands rules old n depths known → SelectorStands rules new (n + 1) depths known
 
 pub coded_numbers : (rules : Rules) (old new : Selector) (n d : ℕ) (depth : ℕ → ℕ) (known : ℕ → Bool) → Codes old new n d
-    → Stands rules old n depth known → Stands rules new (n + 1) (at_new n d depth) (at_new n false known)
+    → SelectorStands rules old n depth known → SelectorStands rules new (n + 1) (at_new n d depth) (at_new n false known)
 coded_numbers rules old new n d depth known codes stands =
     codes rules (at_new n d depth) (at_new n false known) (at_same n d depth) (at_same n false known)
     (stands_same rules old n depth (at_new n d depth) known (at_new n false known)
@@ -90,8 +90,8 @@ by_rest far slots n m v f some below last =
     apart differ same = let distance : m + slots ≤ n = far slots m n some same (omega (arith, below, differ)) in omega (arith, distance, last)
 
 pub coded_rests : OneRestIsFar → (rules : Rules) (old new : Selector) (n d : ℕ) (depth : ℕ → ℕ) (known : ℕ → Bool) → 0 < rules.slots → Codes old new n d
-    → Stands rules old n (λ m. depth (m % rules.slots)) (λ m. known (m % rules.slots))
-    → Stands rules new (n + 1) (λ m. at_new (n % rules.slots) d depth (m % rules.slots)) (λ m. at_new (n % rules.slots) false known (m % rules.slots))
+    → SelectorStands rules old n (λ m. depth (m % rules.slots)) (λ m. known (m % rules.slots))
+    → SelectorStands rules new (n + 1) (λ m. at_new (n % rules.slots) d depth (m % rules.slots)) (λ m. at_new (n % rules.slots) false known (m % rules.slots))
 coded_rests far rules old new n d depth known some codes stands =
     stands_same rules new (n + 1) (at_new n d (λ m. depth (m % rules.slots))) (λ m. at_new (n % rules.slots) d depth (m % rules.slots))
     (at_new n false (λ m. known (m % rules.slots))) (λ m. at_new (n % rules.slots) false known (m % rules.slots))

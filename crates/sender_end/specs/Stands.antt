@@ -33,7 +33,7 @@ pub record IsSeen (state : State) (s : Sender Picture) : Type 0 where
   pub sizes : s.sizes ≡ state.sizes.items
   pub picture : (rest : ℕ) → rest < state.params.slots
       → s.picture rest ≡ picture_in state.store rest
-  pub selects : selector.Stands (rules_of state.params) state.selector state.sent
+  pub selects : selector.SelectorStands (rules_of state.params) state.selector state.sent
       (λ m. s.depth (m % state.params.slots)) (λ m. s.known (m % state.params.slots))
 
 -- the parts of a state fit each other
@@ -46,7 +46,7 @@ pub record IsReady (state : State) : Type 0 where
   pub works : length state.store.pictures ≡ state.params.slots + 1
   -- the last pictures are there
   pub kept : (m : ℕ) → m < state.sent → state.sent ≤ m + state.params.slots → IsKept state.store m
-  pub selects : selector.Stands (rules_of state.params) state.selector state.sent
+  pub selects : selector.SelectorStands (rules_of state.params) state.selector state.sent
       (λ m. slice_index state.selector.depths (m % state.params.slots))
       (λ m. slice_index_or state.selector.known (m % state.params.slots) false)
   pub few : state.sent ≤ 1048576
@@ -82,7 +82,7 @@ abbrev pub next : Params → (List ℕ → ℕ) → Frame → Sender Picture →
 next p pace frame s = next_by_kept (pictures p.format) (encoding p) (rules_of p) pace frame s
 
 -- the answer says which picture this is, its reference, and how many packets it has
-pub record Tells (number : ℕ) (x : CodedPicture Style Mb Picture) (answer : Coded) : Type 0 where
+pub record Describes (number : ℕ) (x : CodedPicture Style Mb Picture) (answer : Coded) : Type 0 where
   pub number_is : answer.number ≡ number
   pub reference : answer.reference ≡ x.reference
   pub packets : answer.packets ≡ length x.slices
@@ -94,7 +94,7 @@ pub record IsCodedNext (pace : List ℕ → ℕ) (frame : Frame) (s : Sender Pic
   pub seen : IsSeen new t
   pub after : IsAfterCapture (pictures new.params.format) (encoding new.params)
       (rules_of new.params) s t (next new.params pace frame s)
-  pub tells : Tells s.sent (next new.params pace frame s) answer
+  pub tells : Describes s.sent (next new.params pace frame s) answer
 
 -- feedback was taken
 pub record IsAfterBytes (s : Sender Picture) (new : State) (bytes : List ℕ) : Type 0 where

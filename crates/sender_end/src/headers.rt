@@ -8,7 +8,7 @@ ghost use Rattle.sender_end.specs.Headers.{numbered};
 ghost use Rattle.call_encoding.specs.Frames.{style_in};
 
 use back_messages::Message;
-use call_encoding::laws::{header_in_range, of_the_call};
+use call_encoding::laws as call_encoding_laws;
 use h263_types::{Kind, Params};
 use picture_header::Header;
 
@@ -41,8 +41,8 @@ pub fn header_of(
         (style_in params.now.format (in_places back.now) (is_some reference) depth quant)) }
     ensures in_range { IsHeader result }
 {
-    of_the_call();
-    header_in_range();
+    call_encoding_laws::of_the_call();
+    call_encoding_laws::header_in_range();
     let period = params.clock.period();
     Header {
         tr: (number % period) as u16,

@@ -30,7 +30,7 @@ pub struct Sender<P: Pace> {
 }
 
 impl<P: Pace> Sender<P> {
-    ghost use Rattle.sender_end.specs.Stands.{IsReady, Stands, Tells, last_packets, next_after};
+    ghost use Rattle.sender_end.specs.Stands.{IsReady, Stands, Describes, last_packets, next_after};
     ghost use Rattle.sender_end.specs.Stands.{reply_of, run_of};
 
     /// A sender before its first picture.
@@ -65,7 +65,7 @@ impl<P: Pace> Sender<P> {
             (Capture (record { picture = picture frame.entry; messages = back.now }) ∷ entries) }
         ensures tells { (entries : List (SenderEntry Frame))
             → Stands (P.quant_of self.old.pace) self.old.state entries
-            → Tells (length (run_of self.old.state.params (P.quant_of self.old.pace) entries).coded)
+            → Describes (length (run_of self.old.state.params (P.quant_of self.old.pace) entries).coded)
             (next_after self.old.state.params (P.quant_of self.old.pace)
             (record { picture = picture frame.entry; messages = back.now }) entries) result }
     {

@@ -16,11 +16,9 @@ use crate::coding::{code_in_store, size_of};
 use crate::headers::header_of;
 use arrayvec::ArrayVec;
 use back_messages::{Message, MessageFault, read};
-use call_decoding::laws::{are_pictures, are_rules};
-use call_decoding::{Pictured, Styled};
-use call_encoding::Framed;
-use call_encoding::laws::{is_encoding, of_the_call, written_packets};
-use call_model::laws::{searches, sender_stands};
+use call_decoding::{Pictured, Styled, laws as call_decoding_laws};
+use call_encoding::{Framed, laws as call_encoding_laws};
+use call_model::laws as call_model_laws;
 use h263_outside::OutOfMemory;
 use h263_planes::PictureRef;
 use h263_types::{Mb, Params};
@@ -82,16 +80,16 @@ struct Next {
 fn next_from(pictures: &Selector, number: u32) -> Next
     requires { IsSelecting pictures.now number }
     ensures reference { (rules : Rules) (depth : ℕ → ℕ) (known : ℕ → Bool)
-        → selector.Stands rules pictures.now number depth known
+        → selector.SelectorStands rules pictures.now number depth known
         → result.reference ≡ reference_for rules depth known number }
     ensures depth { (rules : Rules) (depth : ℕ → ℕ) (known : ℕ → Bool)
-        → selector.Stands rules pictures.now number depth known
+        → selector.SelectorStands rules pictures.now number depth known
         → result.depth ≡ option_map_or (λ m. depth m + 1) result.reference 0 }
     ensures recent { (rules : Rules) (depth : ℕ → ℕ) (known : ℕ → Bool)
-        → selector.Stands rules pictures.now number depth known
+        → selector.SelectorStands rules pictures.now number depth known
         → IfSome result.reference (λ m. (m < number) × (number ≤ m + rules.slots)) }
 {
-    searches();
+    call_model_laws::searches();
     match pictures.choose(number) {
         None => Next {
             reference: None,
@@ -117,7 +115,7 @@ impl State {
     ghost use Rattle.call_encoding.specs.Frames.{Frame};
     ghost use Rattle.call_encoding.specs.Messages.{read_message};
     ghost use Rattle.sender_end.specs.Stands.{IsAfterBytes, IsReady, IsSeen, IsCodedNext, Stands};
-    ghost use Rattle.sender_end.specs.Stands.{Tells, last_packets, next_after, reply_of, run_of};
+    ghost use Rattle.sender_end.specs.Stands.{Describes, last_packets, next_after, reply_of, run_of};
 
     /// A sender before its first picture.
     pub fn start(alloc: Global, params: &Params) -> Result<State, OutOfMemory>
@@ -127,8 +125,8 @@ impl State {
         ensures sent { IfOk result (λ state. state.sent ≡ 0) }
         ensures stands { (pace : List ℕ → ℕ) → IfOk result (λ state. Stands pace state []) }
     {
-        sender_stands::<Framed, Styled, Mb, Pictured, MessageFault>();
-        are_rules();
+        call_model_laws::sender_stands::<Framed, Styled, Mb, Pictured, MessageFault>();
+        call_decoding_laws::are_rules();
         let cutter = Cutter::start(alloc, params)?;
         let store = PictureStore::start(alloc, params.format, params.slots, 1)?;
         Ok(State {
@@ -213,10 +211,10 @@ impl State {
             → IsSeen self.old s → IsCodedNext pace
             (record { picture = picture frame.entry; messages = back.now }) s self.new result }
     {
-        written_packets();
-        of_the_call();
-        are_pictures();
-        searches();
+        call_encoding_laws::written_packets();
+        call_encoding_laws::of_the_call();
+        call_decoding_laws::are_pictures();
+        call_model_laws::searches();
         let number = self.sent;
         let Next { reference, depth } = next_from(&self.selector, number);
         let header = header_of(&self.params, number, reference, depth, quant, back);
@@ -258,13 +256,13 @@ impl State {
             (Capture (record { picture = picture frame.entry; messages = back.now }) ∷ entries) }
         ensures tells { (pace : List ℕ → ℕ) (entries : List (SenderEntry Frame))
             → pace self.old.sizes.items ≡ quant → Stands pace self.old entries
-            → Tells (length (run_of self.old.params pace entries).coded)
+            → Describes (length (run_of self.old.params pace entries).coded)
             (next_after self.old.params pace
             (record { picture = picture frame.entry; messages = back.now }) entries) result }
     {
-        sender_stands::<Framed, Styled, Mb, Pictured, MessageFault>();
-        is_encoding();
-        are_rules();
+        call_model_laws::sender_stands::<Framed, Styled, Mb, Pictured, MessageFault>();
+        call_encoding_laws::is_encoding();
+        call_decoding_laws::are_rules();
         self.code(frame, back, quant)
     }
 
@@ -309,8 +307,8 @@ impl State {
             (length (run_of self.old.params pace entries).coded)
             (read_message self.old.params.clock bytes.now) }
     {
-        sender_stands::<Framed, Styled, Mb, Pictured, MessageFault>();
-        are_rules();
+        call_model_laws::sender_stands::<Framed, Styled, Mb, Pictured, MessageFault>();
+        call_decoding_laws::are_rules();
         self.hear(bytes)
     }
 }

@@ -33,7 +33,7 @@ fn put_input(
     Ok(())
 }
 
-// How many bytes at the front are the same.
+// How many bytes at the start are the same.
 fn same_bytes(left: &[u8], right: &[u8]) -> usize {
     let len = left.len().min(right.len());
     for at in 0..len {

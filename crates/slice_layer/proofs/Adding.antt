@@ -4,7 +4,7 @@ use Rattle.std.proofs.lemmas.List.{length-append, append-nil, map-append}
 use Rattle.std.proofs.lemmas.Bool.{lt-ltb, le-ltb}
 use Rattle.h263_types.specs.declared.vector.Vector.{Vector}
 use Rattle.h263_types.specs.declared.blocks.Mb.{Mb}
-use Rattle.h263_types.specs.Blocks.{IsWhole}
+use Rattle.h263_types.specs.Blocks.{HasWholeBlocks}
 use Rattle.picture_header.specs.declared.header.Header.{Header}
 use Rattle.macroblock_layer.specs.Prediction.{no_vector}
 use Rattle.picture_header.specs.Laws.{HeaderLaws}
@@ -71,7 +71,7 @@ pub answer_full : (room : ℕ) (text : List Bool) → 8 * room < length text →
 answer_full room text h = rw (lt-ltb room (bytes_of text) (bytes_past room text h)) refl
 
 -- a slice of one macroblock
-one_short : HeaderLaws → MbLaws → (h : Header) (begins : Bool) (first : ℕ) (m : Mb) → IsHeader h → IsWhole m → bytes_of (slice_text h begins first (m ∷ [])) ≤ 1095
+one_short : HeaderLaws → MbLaws → (h : Header) (begins : Bool) (first : ℕ) (m : Mb) → IsHeader h → HasWholeBlocks m → bytes_of (slice_text h begins first (m ∷ [])) ≤ 1095
 one_short laws of_mbs h begins first m is whole =
     let bits : length (slice_text h begins first (m ∷ [])) ≤ 8754 =
     omega (

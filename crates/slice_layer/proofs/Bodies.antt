@@ -20,7 +20,7 @@ use Rattle.slice_layer.specs.Filled.{Fills, IsSliceIn, mbs_from}
 use Rattle.slice_layer.proofs.Heads.{head_productive}
 use Rattle.slice_layer.proofs.Marked.{mb_marked}
 
--- ---- macroblocks that were read, behind earlier ones
+-- ---- macroblocks that were read, after earlier ones
 
 record IsRead (a : Around) (quant room : ℕ) (before mbs : List Mb) (bits : List Bool) : Type 0 where
   new : List Mb

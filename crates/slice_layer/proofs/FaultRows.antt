@@ -15,17 +15,17 @@ use Rattle.h263_bits.specs.Syntax.{Syntax, Spells, reading, any, only, done, fie
 use Rattle.h263_bits.specs.Elements.{HasFault}
 use Rattle.h263_bits.proofs.SyntaxLaws.{stands, err_is, err_not_ok, bind_err, sound, complete, fault_found, first_fault_is, only_other, fault_here, fault_behind_field, fault_in_part, fault_behind_part, fault_of_text}
 use Rattle.picture_header.specs.declared.header.Header.{Header}
-use Rattle.picture_header.specs.Text.{is_quant}
+use Rattle.picture_header.specs.Text.{allowed_quant}
 use Rattle.macroblock_layer.specs.Laws.{MbLaws}
 use Rattle.slice_layer.specs.Around.{Around, around, quant_after, next_mb}
-use Rattle.slice_layer.specs.Head.{address_bits, is_later, reference, first_head, place, tail, later_head, head}
+use Rattle.slice_layer.specs.Head.{address_bits, allowed_first, reference, first_head, place, tail, later_head, head}
 use Rattle.slice_layer.specs.Text.{is_padding, AreTexts, stops, mbs_at, numbered, body_at, slice_at}
 use Rattle.slice_layer.specs.Written.{quant_behind}
 use Rattle.slice_layer.specs.Faults.{TailFaults, HasSliceFault, StopsAt, IsBodyFault, IsSliceFault, SliceFaults}
 use Rattle.slice_layer.proofs.Heads.{reference_productive, place_productive, head_productive}
 use Rattle.slice_layer.proofs.Marked.{mb_marked}
 
--- ---- behind the picture header
+-- ---- after the picture header
 
 -- a macroblock's number fits its field
 zero_fits : (f : Format) → 0 < 2 ^ address_bits f
@@ -53,7 +53,7 @@ first_end h =
 
 -- ---- a later slice
 
-past_later : (f : Format) (n : ℕ) → mbs_of f ≤ n → 0 < n → is_later f n ≡ Some faults.Address
+past_later : (f : Format) (n : ℕ) → mbs_of f ≤ n → 0 < n → allowed_first f n ≡ Some faults.Address
 past_later f n le some = rw (ne_eqb n 0 (λ e. omega (arith, e, some)), le-ltb n (mbs_of f) le) refl
 
 some_mbs : (f : Format) → 0 < mbs_of f
@@ -61,10 +61,10 @@ some_mbs SubQcif = omega arith
 some_mbs Qcif = omega arith
 some_mbs Cif = omega arith
 
-good_later : (f : Format) (n : ℕ) → 0 < n → n < mbs_of f → is_later f n ≡ None
+good_later : (f : Format) (n : ℕ) → 0 < n → n < mbs_of f → allowed_first f n ≡ None
 good_later f n some lt = rw (ne_eqb n 0 (λ e. omega (arith, e, some)), lt-ltb n (mbs_of f) lt) refl
 
-good_quant : (q : ℕ) → 0 < q → is_quant q ≡ None
+good_quant : (q : ℕ) → 0 < q → allowed_quant q ≡ None
 good_quant q some = rw (ne_eqb q 0 (λ e. omega (arith, e, some))) refl
 
 place_start : (f : Format) → HasFault (place f) (fields ((1, 0) ∷ [])) faults.NoStart 0
@@ -83,30 +83,30 @@ unfolding place
 place_first f =
     fault_behind_field 1 (only 1 faults.NoStart) _ 1 (fields ((1, 1) ∷ ((address_bits f), 0) ∷ [])) faults.Address 1 (omega arith) refl
     (fault_behind_field 1 (only 1 faults.Marker) _ 1 (fields (((address_bits f), 0) ∷ [])) faults.Address 0 (omega arith) refl
-    (fault_here (address_bits f) (is_later f) _ 0 [] faults.Address (zero_fits f) refl))
+    (fault_here (address_bits f) (allowed_first f) _ 0 [] faults.Address (zero_fits f) refl))
 
 place_past : (f : Format) (n : ℕ) → mbs_of f ≤ n → n < 2 ^ address_bits f → HasFault (place f) (fields ((1, 1) ∷ (1, 1) ∷ (address_bits f, n) ∷ [])) faults.Address 2
 unfolding place
 place_past f n le lt =
     fault_behind_field 1 (only 1 faults.NoStart) _ 1 (fields ((1, 1) ∷ ((address_bits f), n) ∷ [])) faults.Address 1 (omega arith) refl
     (fault_behind_field 1 (only 1 faults.Marker) _ 1 (fields (((address_bits f), n) ∷ [])) faults.Address 0 (omega arith) refl
-    (fault_here (address_bits f) (is_later f) _ n [] faults.Address lt (past_later f n le (omega (arith, some_mbs f, le)))))
+    (fault_here (address_bits f) (allowed_first f) _ n [] faults.Address lt (past_later f n le (omega (arith, some_mbs f, le)))))
 
 place_quant : (f : Format) (n : ℕ) → 0 < n → n < mbs_of f → n < 2 ^ address_bits f → HasFault (place f) (fields ((1, 1) ∷ (1, 1) ∷ (address_bits f, n) ∷ (5, 0) ∷ [])) faults.Quant (1 + (1 + (address_bits f + 0)))
 unfolding place
 place_quant f n some lt fits =
     fault_behind_field 1 (only 1 faults.NoStart) _ 1 (fields ((1, 1) ∷ ((address_bits f), n) ∷ (5, 0) ∷ [])) faults.Quant (1 + ((address_bits f) + 0)) (omega arith) refl
     (fault_behind_field 1 (only 1 faults.Marker) _ 1 (fields (((address_bits f), n) ∷ (5, 0) ∷ [])) faults.Quant ((address_bits f) + 0) (omega arith) refl
-    (fault_behind_field (address_bits f) (is_later f) _ n (fields ((5, 0) ∷ [])) faults.Quant 0 fits (good_later f n some lt)
-    (fault_here 5 is_quant _ 0 [] faults.Quant (omega arith) refl)))
+    (fault_behind_field (address_bits f) (allowed_first f) _ n (fields ((5, 0) ∷ [])) faults.Quant 0 fits (good_later f n some lt)
+    (fault_here 5 allowed_quant _ 0 [] faults.Quant (omega arith) refl)))
 
 place_end : (f : Format) (n q : ℕ) → 0 < n → n < mbs_of f → n < 2 ^ address_bits f → 0 < q → q < 32 → HasFault (place f) (fields ((1, 1) ∷ (1, 1) ∷ (address_bits f, n) ∷ (5, q) ∷ (1, 0) ∷ [])) faults.Marker (1 + (1 + (address_bits f + 5)))
 unfolding place
 place_end f n q some lt fits more small =
     fault_behind_field 1 (only 1 faults.NoStart) _ 1 (fields ((1, 1) ∷ ((address_bits f), n) ∷ (5, q) ∷ (1, 0) ∷ [])) faults.Marker (1 + ((address_bits f) + 5)) (omega arith) refl
     (fault_behind_field 1 (only 1 faults.Marker) _ 1 (fields (((address_bits f), n) ∷ (5, q) ∷ (1, 0) ∷ [])) faults.Marker ((address_bits f) + 5) (omega arith) refl
-    (fault_behind_field (address_bits f) (is_later f) _ n (fields ((5, q) ∷ (1, 0) ∷ [])) faults.Marker 5 fits (good_later f n some lt)
-    (fault_behind_field 5 is_quant _ q (fields ((1, 0) ∷ [])) faults.Marker 0 small (good_quant q more)
+    (fault_behind_field (address_bits f) (allowed_first f) _ n (fields ((5, q) ∷ (1, 0) ∷ [])) faults.Marker 5 fits (good_later f n some lt)
+    (fault_behind_field 5 allowed_quant _ q (fields ((1, 0) ∷ [])) faults.Marker 0 small (good_quant q more)
     (fault_here 1 (only 1 faults.Marker) _ 0 [] faults.Marker (omega arith) refl))))
 
 -- ---- GFID, TRI, TRPI and TRP, BCI
@@ -137,7 +137,7 @@ refers_other trp n lt other =
 one_field : (n v : ℕ) (text : List Bool) → fields ((n, v) ∷ []) ++ text ≡ spelled n v ++ text
 one_field n v text = ap (λ (t : List Bool). t ++ text) (append-nil (spelled n v))
 
--- what stands behind GFID and TRI
+-- what stands after GFID and TRI
 abbrev behind_gfid : Option ℕ → Syntax (Unit {0})
 behind_gfid trp = part (reference trp) any λ again. field 2 (only 1 faults.Bci) λ bci. done tt
 
@@ -175,7 +175,7 @@ later_tail h first quant a text kind at spelt e =
 
 -- ---- the macroblocks
 
--- macroblocks that are spelled are read, and the reader goes on behind them
+-- macroblocks that are spelled are read, and the reader goes on after them
 mbs_behind : MbLaws → (a : Around) (new : List Mb) (room quant at : ℕ) (before : List Mb) (text rest : List Bool) → AreTexts a quant before new text
     → mbs_at a (length new + room) quant before (record { at = at; bits = text ++ rest }) ≡ mbs_at a room (quant_behind quant new) (before ++ new) (record { at = at + length text; bits = rest })
 unfolding mbs_at AreTexts
@@ -225,7 +225,7 @@ head_row : (h : Header) (begins : Bool) (text : List Bool) (kind : FaultKind) (p
 unfolding slice_at
 head_row h begins text kind place e = λ at rest. rw (e at rest) refl
 
--- behind its header a slice has the fault of its macroblocks
+-- after its header a slice has the fault of its macroblocks
 behind_head : (h : Header) (begins : Bool) (first quant at : ℕ) (front rest : List Bool) (kind : FaultKind) (place : ℕ) → Spells (head h begins) (first, quant) front
     → mbs_at (around h first) (mbs_of h.format - first) quant [] (record { at = at + length front; bits = rest }) ≡ Err (record { kind = kind; at = place })
     → slice_at h begins (record { at = at; bits = front ++ rest }) ≡ Err (record { kind = kind; at = place })

@@ -1,4 +1,4 @@
--- Bytes that begin with a text, padded up to a whole byte, and a text that goes on behind it.
+-- Bytes that begin with a text, padded up to a whole byte, and a text that goes on after it.
 use Rattle.std.proofs.Common.{◌≡◌, ℕ, ◌+◌, ◌-◌, ◌*◌, ◌/◌, ◌%◌, ◌≤◌, Bool, List, ◌++◌, length, take, drop, refl, sym, ap, ◌∙◌, append_assoc, arith}
 use Rattle.std.proofs.Math.Seq.{take-add}
 use Rattle.std.proofs.lemmas.List.{length-append, length-take, length-drop, take_all, take_at}
@@ -23,7 +23,7 @@ spelled_first n bits h =
     let len : length (take n bits) ≡ n = omega (arith, length-take n bits) in
     ap (λ (k : ℕ). spelled k (number (take n bits))) (sym len) ∙ spelled-number (take n bits)
 
--- the last bits by their number, behind the whole bytes
+-- the last bits by their number, after the whole bytes
 pub last_again : (bytes : List ℕ) (len last : ℕ) → len ≤ 8 * length bytes → last ≡ number (take (len % 8) (bits_between bytes (len - len % 8) len).bits)
     → take (8 * (len / 8)) (bits_of bytes) ++ spelled (len % 8) last ≡ take len (bits_of bytes)
 last_again bytes len last within e =
@@ -40,7 +40,7 @@ last_again bytes len last within e =
     let spelt : spelled n last ≡ rest = ap (λ (k : ℕ). spelled n k) (e ∙ ap number window) ∙ spelled_first n rest long ∙ same in
     ap (λ (t : List Bool). take at bits ++ t) spelt ∙ sym (take-add at n bits) ∙ ap (λ (k : ℕ). take k bits) whole
 
--- the bits of a text stand at the front of the bytes
+-- the bits of a text stand at the start of the bytes
 pub text_there : (text : List Bool) (bytes : List ℕ) → IsFront text bytes → length text ≤ 8 * length bytes → take (length text) (bits_of bytes) ≡ text
 text_there text bytes h within =
     let n = length text in
@@ -49,7 +49,7 @@ text_there text bytes h within =
     let shown : take (8 * bytes_of text) (bits_of bytes) ≡ padded text = sym (bits_of-take (bytes_of text) bytes room) ∙ h in
     sym (take-take n (8 * bytes_of text) (bits_of bytes) (omega arith) (omega (arith, length-bits_of bytes))) ∙ ap (take n) shown ∙ take_at text (spelled (to_byte n) 0) n refl
 
--- behind a text of n bits the bytes were written again, from its last whole byte on
+-- after a text of n bits the bytes were written again, from its last whole byte on
 pub grown : (old new apart : List ℕ) (text front more : List Bool) (n size : ℕ) → n ≡ length text → n ≤ 8 * length old → IsFront text old
     → length front ≡ n % 8 → take (8 * (n / 8)) (bits_of old) ++ front ≡ take n (bits_of old)
     → size ≡ bytes_of (front ++ more) → IsFront (front ++ more) apart

@@ -1,4 +1,4 @@
--- What a writer holds, as it begins, and behind one more macroblock.
+-- What a writer holds, as it begins, and after one more macroblock.
 use Rattle.std.proofs.Common.{◌≡◌, ℕ, ◌+◌, Bool, List, [], ◌∷◌, ◌++◌, length, take, replicate, refl, sym, ap, subst, ◌∙◌, arith}
 use Rattle.std.proofs.lemmas.List.{length-append, append-nil, take-replicate}
 use Rattle.h263_types.specs.declared.Kind.{Kind}
@@ -13,13 +13,13 @@ use Rattle.slice_layer.specs.Around.{vector_of, vectors_of, next_predictor, quan
 use Rattle.slice_layer.specs.Written.{opening_text, slice_text, quant_behind, IsFront}
 use Rattle.slice_layer.specs.declared.writing.SliceWriter.{SliceWriter}
 use Rattle.slice_layer.proofs.Adding.{no_text, next_text, slice_text-append, quant_behind-append, vectors_of-append}
-use Rattle.slice_layer.specs.Writer.{kind_of, format_of, first_of, next_of, quant_of, bytes_in, Holds}
+use Rattle.slice_layer.specs.Writer.{kind_of, format_of, first_of, next_of, quant_of, bytes_in, HoldsSlice}
 
 no_step : (quant : ℕ) → quant ≡ quant_behind quant []
 no_step quant = refl
 
 pub begun : (w : SliceWriter) (h : Header) (begins : Bool) (first : ℕ) → IsFront (opening_text h begins first) (bytes_in w) → w.len ≡ length (opening_text h begins first)
-    → kind_of w ≡ h.kind → format_of w ≡ h.format → first_of w ≡ first → next_of w ≡ first → quant_of w ≡ h.quant → w.vectors ≡ replicate 396 no_vector → Holds w h begins first []
+    → kind_of w ≡ h.kind → format_of w ≡ h.format → first_of w ≡ first → next_of w ≡ first → quant_of w ≡ h.quant → w.vectors ≡ replicate 396 no_vector → HoldsSlice w h begins first []
 begun w h begins first text len kind format from next quant vectors = record {
   text = subst (λ (t : List Bool). IsFront t (bytes_in w)) (sym (no_text h begins first)) text;
   len = len ∙ ap length (sym (no_text h begins first));
@@ -31,8 +31,8 @@ begun w h begins first text len kind format from next quant vectors = record {
   vectors = ap (take (next_of w)) vectors ∙ take-replicate (next_of w) 396 no_vector w.within ∙ ap (λ (k : ℕ). replicate k no_vector) next ∙ sym (append-nil (replicate first no_vector));
 }
 
--- what is written of the next macroblock is its text behind those that are held
-pub next_is : (w : SliceWriter) (h : Header) (begins : Bool) (first : ℕ) (mbs : List Mb) (m : Mb) (predictor : Vector) → Holds w h begins first mbs
+-- what is written of the next macroblock is its text after those that are held
+pub next_is : (w : SliceWriter) (h : Header) (begins : Bool) (first : ℕ) (mbs : List Mb) (m : Mb) (predictor : Vector) → HoldsSlice w h begins first mbs
     → predictor ≡ predictor_of (take (next_of w) w.vectors) (first_of w) (next_of w) (columns_of (format_of w))
     → mb_text (kind_of w) (quant_of w) predictor m ≡ next_text h first mbs m
 next_is w h begins first mbs m predictor holds e =
@@ -41,7 +41,7 @@ next_is w h begins first mbs m predictor holds e =
     ∙ ap (λ (k : ℕ). predictor_of (vectors_of first mbs) first k (columns_of (format_of w))) holds.next ∙ ap (λ (f : Format). predictor_of (vectors_of first mbs) first (first + length mbs) (columns_of f)) holds.format in
     ap (λ (k : Kind). mb_text k (quant_of w) predictor m) holds.kind ∙ ap (λ (q : ℕ). mb_text h.kind q predictor m) holds.quant ∙ ap (λ (v : Vector). mb_text h.kind (quant_behind h.quant mbs) v m) p
 
-pub next_length : (w : SliceWriter) (h : Header) (begins : Bool) (first : ℕ) (mbs : List Mb) (m : Mb) (predictor : Vector) → Holds w h begins first mbs
+pub next_length : (w : SliceWriter) (h : Header) (begins : Bool) (first : ℕ) (mbs : List Mb) (m : Mb) (predictor : Vector) → HoldsSlice w h begins first mbs
     → predictor ≡ predictor_of (take (next_of w) w.vectors) (first_of w) (next_of w) (columns_of (format_of w))
     → length (slice_text h begins first (mbs ++ m ∷ [])) ≡ w.len + length (mb_text (kind_of w) (quant_of w) predictor m)
 next_length w h begins first mbs m predictor holds e =
@@ -53,7 +53,7 @@ next_length w h begins first mbs m predictor holds e =
       holds.len,
     )
 
--- what the writer keeps for the macroblocks behind this one
+-- what the writer keeps for the macroblocks after this one
 pub record Keeps (old new : SliceWriter) (m : Mb) : Type 0 where
   pub kind : kind_of new ≡ kind_of old
   pub format : format_of new ≡ format_of old
@@ -62,9 +62,9 @@ pub record Keeps (old new : SliceWriter) (m : Mb) : Type 0 where
   pub quant : quant_of new ≡ quant_after (quant_of old) m
   pub vectors : take (next_of new) new.vectors ≡ take (next_of old) old.vectors ++ vector_of m ∷ []
 
-pub held : (old new : SliceWriter) (h : Header) (begins : Bool) (first : ℕ) (mbs : List Mb) (m : Mb) → Holds old h begins first mbs
+pub held : (old new : SliceWriter) (h : Header) (begins : Bool) (first : ℕ) (mbs : List Mb) (m : Mb) → HoldsSlice old h begins first mbs
     → IsFront (slice_text h begins first mbs ++ next_text h first mbs m) (bytes_in new) → new.len ≡ old.len + length (next_text h first mbs m) → Keeps old new m
-    → Holds new h begins first (mbs ++ m ∷ [])
+    → HoldsSlice new h begins first (mbs ++ m ∷ [])
 held old new h begins first mbs m holds text len keeps =
     let e = slice_text-append h begins first mbs m in
     record {

@@ -45,7 +45,7 @@ length-first h = omega (arith, length-fields (first_fields h))
 length-place : (h : Header) (first : ℕ) → length (fields (place_fields h first)) ≡ 8 + address_bits h.format
 length-place h first = omega (arith, length-fields (place_fields h first))
 
--- how long the opening is behind a picture header
+-- how long the opening is after a picture header
 pub length-begins : HeaderLaws → (h : Header) (first : ℕ) → length (opening_text h true first) ≡ written_bits h + (2 + address_bits h.format)
 length-begins laws h first = omega (arith, length-append (written_header h) (fields (first_fields h)), laws.length h, length-first h)
 

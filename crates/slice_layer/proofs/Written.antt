@@ -19,13 +19,13 @@ use Rattle.h263_bits.proofs.SyntaxLaws.{length-spelled, spells_field, spells_par
 use Rattle.picture_header.specs.declared.header.Header.{Header}
 use Rattle.h263_types.specs.declared.clock.Clock.{Clock}
 use Rattle.h263_types.specs.declared.clock.Clock.TheVariants as clocks
-use Rattle.picture_header.specs.Text.{is_quant}
+use Rattle.picture_header.specs.Text.{allowed_quant}
 use Rattle.picture_header.specs.Ranges.{HasTenBits, IsReference, IsHeader}
 use Rattle.picture_header.specs.Written.{kind_code, reference_fields, written_header}
 use Rattle.macroblock_layer.specs.Written.{mb_text}
 use Rattle.macroblock_layer.specs.Laws.{MbLaws}
 use Rattle.slice_layer.specs.Around.{Around, around, quant_after, reach_of}
-use Rattle.slice_layer.specs.Head.{address_bits, is_later, reference, first_head, place, tail, later_head, head}
+use Rattle.slice_layer.specs.Head.{address_bits, allowed_first, reference, first_head, place, tail, later_head, head}
 use Rattle.slice_layer.specs.Text.{is_padding, AreTexts, IsSliceText}
 use Rattle.slice_layer.specs.Laws.{AreSpelt, IsOneMore}
 use Rattle.slice_layer.specs.Written.{gfid, place_fields, tail_text, head_text, mbs_text, slice_text, padded, quant_behind, IsPlace, IsWritable, AreWritable}
@@ -37,7 +37,7 @@ address_fits SubQcif = omega arith
 address_fits Qcif = omega arith
 address_fits Cif = omega arith
 
--- the picture's first macroblock, behind the picture header
+-- the picture's first macroblock, after the picture header
 first_spelt : (h : Header) → Spells (first_head h) (0, h.quant) (head_text h true 0)
 unfolding first_head
 first_spelt h =
@@ -50,10 +50,10 @@ first_spelt h =
     some Qcif = omega arith
     some Cif = omega arith
 
-later_allowed : (f : Format) (first : ℕ) → (first == 0) ≡ false → first < mbs_of f → is_later f first ≡ None
+later_allowed : (f : Format) (first : ℕ) → (first == 0) ≡ false → first < mbs_of f → allowed_first f first ≡ None
 later_allowed f first later lt = rw (later, lt-ltb first (mbs_of f) lt) refl
 
-quant_allowed : (value : ℕ) → 1 ≤ value → is_quant value ≡ None
+quant_allowed : (value : ℕ) → 1 ≤ value → allowed_quant value ≡ None
 quant_allowed value some = at_test (value == 0) refl
   where
     at_test : (t : Bool) → (value == 0) ≡ t → cond t (Some faults.Quant) None ≡ None
@@ -65,8 +65,8 @@ unfolding place
 place_spelt h first is later lt =
     spells_field 1 (only 1 faults.NoStart) _ _ 1 _ (omega arith) refl
     (spells_field 1 (only 1 faults.Marker) _ _ 1 _ (omega arith) refl
-    (spells_field (address_bits h.format) (is_later h.format) _ _ first _ (omega (arith, lt, address_fits h.format)) (later_allowed h.format first later lt)
-    (spells_field 5 is_quant _ _ h.quant _ (omega (arith, is.quant_low)) (quant_allowed h.quant is.quant_some)
+    (spells_field (address_bits h.format) (allowed_first h.format) _ _ first _ (omega (arith, lt, address_fits h.format)) (later_allowed h.format first later lt)
+    (spells_field 5 allowed_quant _ _ h.quant _ (omega (arith, is.quant_low)) (quant_allowed h.quant is.quant_some)
     (spells_field 1 (only 1 faults.Marker) _ _ 1 _ (omega arith) refl (spells_done (first, h.quant))))))
 
 -- a temporal reference of either clock has ten bits

@@ -47,7 +47,7 @@ pub record Around : Type 0 where
   pub reaches : ℕ → Reach
   pub predictor : List Mb → Vector
 
--- the next macroblock's predictor, behind earlier ones of the slice
+-- the next macroblock's predictor, after earlier ones of the slice
 abbrev pub next_predictor : Format → ℕ → List Mb → Vector
 next_predictor f first before = predictor_of (vectors_of first before) first (first + length before) (columns_of f)
 
@@ -66,6 +66,6 @@ quant_after quant Skip = quant
 quant_after _ (Intra quant blocks) = quant
 quant_after _ (Inter quant vector blocks) = quant
 
--- the next macroblock, behind earlier ones of the slice
+-- the next macroblock, after earlier ones of the slice
 abbrev pub next_mb : Around → ℕ → List Mb → Syntax Mb
 next_mb a quant before = mb a.kind quant (a.reaches (a.first + length before)) (a.predictor before)

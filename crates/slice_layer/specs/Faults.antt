@@ -16,7 +16,7 @@ use Rattle.slice_layer.specs.Head.{address_bits, reference, first_head, place, t
 use Rattle.slice_layer.specs.Text.{is_padding, AreTexts, slice_at}
 use Rattle.slice_layer.specs.Written.{quant_behind}
 
--- behind the picture header: SEPB1, MBA, SEPB3
+-- after the picture header: SEPB1, MBA, SEPB3
 pub record FirstHeadFaults (h : Header) : Type 0 where
   pub marker : HasFault (first_head h) (fields ((1, 0) ∷ [])) faults.Marker 0
   pub address : (n : ℕ) → n < 2 ^ address_bits h.format → (n ≡ 0 → ⊥)
@@ -73,18 +73,18 @@ pub record BodyFaults (h : Header) (begins : Bool) : Type 0 where
   -- in the header
   pub of_head : (text : List Bool) (kind : FaultKind) (place : ℕ)
       → HasFault (head h begins) text kind place → HasSliceFault h begins text kind place
-  -- padding behind the header: no macroblock was read
+  -- padding after the header: no macroblock was read
   pub empty : (first quant at : ℕ) (front padding : List Bool)
       → Spells (head h begins) (first, quant) front → is_padding padding ≡ true
       → slice_at h begins (record { at = at; bits = front ++ padding })
       ≡ Err (record { kind = faults.Empty; at = at + length front })
-  -- more than padding behind the picture's last macroblock
+  -- more than padding after the picture's last macroblock
   pub trailing : (first quant at : ℕ) (mbs : List Mb) (front texts rest : List Bool)
       → Spells (head h begins) (first, quant) front → AreTexts (around h first) quant [] mbs texts
       → length mbs ≡ mbs_of h.format - first → is_padding rest ≡ false
       → slice_at h begins (record { at = at; bits = front ++ (texts ++ rest) })
       ≡ Err (record { kind = faults.Trailing; at = at + length front + length texts })
-  -- in a macroblock, which is no padding, behind those before it
+  -- in a macroblock, which is no padding, after those before it
   pub of_mb : (first quant : ℕ)
       (mbs : List Mb) (front texts text : List Bool) (kind : FaultKind) (place : ℕ)
       → Spells (head h begins) (first, quant) front → AreTexts (around h first) quant [] mbs texts
@@ -95,16 +95,16 @@ pub record BodyFaults (h : Header) (begins : Bool) : Type 0 where
 
 -- ---- the first fault of a slice, said of its elements
 
--- Behind so many macroblocks of the room, which with earlier ones are these, the slice stops with a
--- fault: padding where there is none, more than padding where there is no room, or the first fault
--- of the next macroblock.
+-- After this many macroblocks of the room, which with earlier ones are these, the slice stops with
+-- a fault: padding where there is none, more than padding where there is no room, or the first
+-- fault of the next macroblock.
 abbrev pub StopsAt : Around → ℕ → ℕ → ℕ → List Mb → Bits → Fault → Type 0
 StopsAt a quant count room all b fault =
     ((all ≡ []) × (is_padding b.bits ≡ true) × (fault ≡ record { kind = faults.Empty; at = b.at }))
     ⊎ (((count ≡ room) × (is_padding b.bits ≡ false) × (fault ≡ record { kind = faults.Trailing; at = b.at }))
     ⊎ ((count < room) × (is_padding b.bits ≡ false) × IsFirstFault (next_mb a quant all) b fault))
 
--- the bits are macroblocks without a fault, behind which the slice stops with this one
+-- the bits are macroblocks without a fault, after which the slice stops with this one
 pub record IsBodyFault (a : Around) (quant room : ℕ) (before : List Mb) (b : Bits) (fault : Fault) : Type 0 where
   pub mbs : List Mb
   pub texts : List Bool
@@ -114,7 +114,7 @@ pub record IsBodyFault (a : Around) (quant room : ℕ) (before : List Mb) (b : B
   pub stops : StopsAt a (quant_behind quant mbs)
       (length mbs) room (before ++ mbs) (record { at = b.at + length texts; bits = left }) fault
 
--- a fault in the header, or behind it
+-- a fault in the header, or after it
 abbrev pub IsSliceFault : Header → Bool → Bits → Fault → Type 0
 IsSliceFault h begins b fault =
     IsFirstFault (head h begins) b fault
@@ -127,7 +127,7 @@ pub record SliceFaults : Type 0 where
   -- a reader answers a fault exactly where it is the first one of the slice's elements
   pub whole : (h : Header) (begins : Bool) (b : Bits) (fault : Fault)
       → (slice_at h begins b ≡ Err fault) ↔ IsSliceFault h begins b fault
-  -- in the header the first fault is the one of the field behind the longest list of fields without a fault
+  -- in the header the first fault is the one of the field after the longest list of fields without a fault
   pub head : (h : Header) (begins : Bool) (b : Bits) (fault : Fault)
       → (reading (head h begins) b ≡ Err fault) ↔ IsFirstFault (head h begins) b fault
   pub first_head : (h : Header) → FirstHeadFaults h

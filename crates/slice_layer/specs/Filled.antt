@@ -7,7 +7,7 @@ use Rattle.h263_types.specs.References.{ReachesInside}
 use Rattle.h263_bits.specs.declared.fault.Fault.{Fault}
 use Rattle.picture_header.specs.declared.header.Header.{Header}
 
--- so many macroblocks of a picture's from number `first` on
+-- this many macroblocks of a picture's from number `first` on
 abbrev pub mbs_from : ℕ → ℕ → List Mb → List Mb
 mbs_from first count out = take count (drop first out)
 

@@ -2,7 +2,7 @@
 use Rattle.std.specs.Prelude.{◌≡◌, ◌↔◌, ℕ, ℤ, ◌+◌, ◌<◌, ◌≤◌, ◌++◌, List, [], ◌∷◌, length, Bool, true, false, Ok}
 use Rattle.h263_types.specs.declared.format.Format.{Format}
 use Rattle.h263_types.specs.declared.blocks.Mb.{Mb}
-use Rattle.h263_types.specs.Blocks.{IsWhole}
+use Rattle.h263_types.specs.Blocks.{HasWholeBlocks}
 use Rattle.h263_types.specs.Sizes.{mbs_of}
 use Rattle.h263_types.specs.Vectors.{InReach, IsWithin}
 use Rattle.h263_bits.specs.Bits.{spelled}
@@ -22,15 +22,15 @@ AreRead =
     (h : Header) (begins : Bool) (first : ℕ) (mbs : List Mb) (b : Bits)
     → (slice_at h begins b ≡ Ok (first, mbs)) ↔ IsSliceText h begins first mbs b.bits
 
--- What is written of a slice, with fewer than 8 zero bits behind it, is a text of it, where its macroblocks are one at
--- least, all in the picture, and each may be written behind those before it.
+-- What is written of a slice, with fewer than 8 zero bits after it, is a text of it, where its macroblocks are one at
+-- least, all in the picture, and each may be written after those before it.
 pub record AreSpelt : Type 0 where
   pub text : (h : Header) (begins : Bool) (first : ℕ) (mbs : List Mb) (padding : List Bool)
       → IsHeader h → IsPlace h begins first → 0 < length mbs → first + length mbs ≤ mbs_of h.format
       → AreWritable (around h first) h.quant [] mbs → is_padding padding ≡ true
       → IsSliceText h begins first mbs
       (head_text h begins first ++ (mbs_text (around h first) h.quant [] mbs ++ padding))
-  -- so is what a writer leaves of a later slice, and of the first one, behind the picture header
+  -- so is what a writer leaves of a later slice, and of the first one, after the picture header
   pub later : (h : Header) (first : ℕ) (mbs : List Mb)
       → IsHeader h → IsPlace h false first → 0 < length mbs → first + length mbs ≤ mbs_of h.format
       → AreWritable (around h first) h.quant [] mbs
@@ -51,10 +51,10 @@ pub record AreShort : Type 0 where
       → length (opening_text h false first) ≡ 14 + address_bits h.format + reference_bits h.trp
   pub opening : (h : Header) (begins : Bool) (first : ℕ) → IsHeader h
       → length (opening_text h begins first) ≤ 262
-  pub one : (h : Header) (begins : Bool) (first : ℕ) (m : Mb) → IsHeader h → IsWhole m
+  pub one : (h : Header) (begins : Bool) (first : ℕ) (m : Mb) → IsHeader h → HasWholeBlocks m
       → bytes_of (slice_text h begins first (m ∷ [])) ≤ 1095
 
--- macroblocks may be written one after the other where each one may behind those before it
+-- macroblocks may be written one after the other where each one may after those before it
 pub record IsOneMore : Type 0 where
   pub none : (h : Header) (first : ℕ) → AreWritable (around h first) h.quant [] []
   pub more : (h : Header) (first : ℕ) (mbs : List Mb) (m : Mb)

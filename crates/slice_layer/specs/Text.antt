@@ -19,14 +19,14 @@ is_padding bits = nat_lt (length bits) 8 && list_all not bits
 
 -- ---- the text
 
--- the texts of macroblocks one after the other, behind earlier ones, each with the quantiser that is then in force
+-- the texts of macroblocks one after the other, after earlier ones, each with the quantiser that is then in force
 unfoldable pub AreTexts : Around → ℕ → List Mb → List Mb → List Bool → Type 0
 AreTexts a quant before [] bits = bits ≡ []
 AreTexts a quant before (m ∷ mbs) bits =
     (front rest : List Bool) × (bits ≡ front ++ rest) × Spells (next_mb a quant before) m front
     × AreTexts a (quant_after quant m) (before ++ m ∷ []) mbs rest
 
--- macroblocks, at most so many, and padding
+-- macroblocks, at most this many, and padding
 pub record IsBody (a : Around) (quant room : ℕ) (mbs : List Mb) (bits : List Bool) : Type 0 where
   pub text : List Bool
   pub padding : List Bool
@@ -53,7 +53,7 @@ abbrev pub stops : List Mb → Bits → Result (List Mb) Fault
 stops [] b = Err (record { kind = faults.Empty; at = b.at })
 stops (m ∷ mbs) b = Ok (m ∷ mbs)
 
--- at most so many more macroblocks, behind those that were read
+-- at most this many more macroblocks, after those that were read
 unfoldable pub mbs_at : Around → ℕ → ℕ → List Mb → Bits → Result (List Mb) Fault
 mbs_at a zero quant before b =
     if is_padding b.bits then stops before b else Err (record { kind = faults.Trailing; at = b.at })
@@ -61,7 +61,7 @@ mbs_at a (suc room) quant before b =
     if is_padding b.bits then stops before b
     else (reading (next_mb a quant before) b >>= λ x. mbs_at a room (quant_after quant x.0) (before ++ x.0 ∷ []) x.1)
 
--- the first macroblock, by its number, with those behind it
+-- the first macroblock, by its number, with those after it
 abbrev pub numbered : ℕ → Result (List Mb) Fault → Result (ℕ × List Mb) Fault
 numbered first (Ok mbs) = Ok (first, mbs)
 numbered first (Err fault) = Err fault

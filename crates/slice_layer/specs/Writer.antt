@@ -44,7 +44,7 @@ pub record GoesOn (old new : SliceWriter) : Type 0 where
   pub loan : loan_of new ≡ loan_of old
 
 -- the writer holds these macroblocks of the slice that begins with macroblock `first`: the bytes begin with their text
-pub record Holds (w : SliceWriter) (h : Header) (begins : Bool) (first : ℕ) (mbs : List Mb) : Type 0 where
+pub record HoldsSlice (w : SliceWriter) (h : Header) (begins : Bool) (first : ℕ) (mbs : List Mb) : Type 0 where
   pub text : IsFront (slice_text h begins first mbs) (bytes_in w)
   pub len : w.len ≡ length (slice_text h begins first mbs)
   pub kind : kind_of w ≡ h.kind
@@ -54,6 +54,6 @@ pub record Holds (w : SliceWriter) (h : Header) (begins : Bool) (first : ℕ) (m
   pub quant : quant_of w ≡ quant_behind h.quant mbs
   pub vectors : take (next_of w) w.vectors ≡ vectors_of first mbs
 
--- whether a text of so many bytes fits
+-- whether a text of this many bytes fits
 abbrev pub answer : ℕ → ℕ → Added
 answer room bytes = if nat_lt room bytes then Full else Fits

@@ -1,9 +1,9 @@
--- The text that is written of a slice: behind the picture header or by itself.
+-- The text that is written of a slice: after the picture header or by itself.
 use Rattle.std.specs.Prelude.{◌≡◌, ℕ, ◌+◌, ◌*◌, ◌/◌, ◌<◌, ◌==◌, List, [], ◌∷◌, ◌++◌, length, take, Bool, true, false}
 use Rattle.h263_types.specs.declared.Kind.{Kind}
 use Rattle.h263_types.specs.declared.vector.Reach.{Reach}
 use Rattle.h263_types.specs.declared.blocks.Mb.{Mb}
-use Rattle.h263_types.specs.Blocks.{IsMb, IsOfKind, IsWhole}
+use Rattle.h263_types.specs.Blocks.{IsMb, IsOfKind, HasWholeBlocks}
 use Rattle.h263_types.specs.Sizes.{mbs_of}
 use Rattle.h263_bits.specs.Bits.{bits_of, spelled, fields}
 use Rattle.h263_bits.specs.Written.{to_byte}
@@ -17,7 +17,7 @@ use Rattle.slice_layer.specs.Head.{address_bits}
 abbrev pub gfid : Header → ℕ
 gfid h = 2 * h.rounding + kind_code h.kind
 
--- SEPB1, MBA, SEPB3 behind the picture header
+-- SEPB1, MBA, SEPB3 after the picture header
 abbrev pub first_fields : Header → List (ℕ × ℕ)
 first_fields h = (1, 1) ∷ (address_bits h.format, 0) ∷ (1, 1) ∷ []
 
@@ -29,7 +29,7 @@ place_fields h first = (1, 1) ∷ (1, 1) ∷ (address_bits h.format, first) ∷ 
 abbrev pub tail_text : Header → List Bool
 tail_text h = fields ((2, gfid h) ∷ (1, 0) ∷ []) ++ (fields (reference_fields h.trp) ++ fields ((2, 1) ∷ []))
 
--- the header of a slice that begins with macroblock `first`; where it begins a picture, behind the picture header
+-- the header of a slice that begins with macroblock `first`; where it begins a picture, after the picture header
 abbrev pub head_text : Header → Bool → ℕ → List Bool
 head_text h true first = fields (first_fields h)
 head_text h false first = fields (place_fields h first) ++ tail_text h
@@ -38,7 +38,7 @@ abbrev pub opening_text : Header → Bool → ℕ → List Bool
 opening_text h true first = written_header h ++ head_text h true first
 opening_text h false first = head_text h false first
 
--- macroblocks one after the other, behind earlier ones
+-- macroblocks one after the other, after earlier ones
 unfoldable pub mbs_text : Around → ℕ → List Mb → List Mb → List Bool
 mbs_text a quant before [] = []
 mbs_text a quant before (m ∷ mbs) = mb_text a.kind quant (a.predictor before) m
@@ -48,7 +48,7 @@ mbs_text a quant before (m ∷ mbs) = mb_text a.kind quant (a.predictor before) 
 abbrev pub slice_text : Header → Bool → ℕ → List Mb → List Bool
 slice_text h begins first mbs = opening_text h begins first ++ mbs_text (around h first) h.quant [] mbs
 
--- zero bits behind a text, up to a whole byte
+-- zero bits after a text, up to a whole byte
 abbrev pub padded : List Bool → List Bool
 padded text = text ++ spelled (to_byte (length text)) 0
 
@@ -65,7 +65,7 @@ abbrev pub quant_behind : ℕ → List Mb → ℕ
 quant_behind quant [] = quant
 quant_behind quant (m ∷ mbs) = quant_behind (quant_after quant m) mbs
 
--- where a slice may begin: with the picture's first macroblock behind the picture header, and with
+-- where a slice may begin: with the picture's first macroblock after the picture header, and with
 -- a later one by itself
 pub record IsPlace (h : Header) (begins : Bool) (first : ℕ) : Type 0 where
   pub within : first < mbs_of h.format
@@ -76,10 +76,10 @@ pub record IsWritable (kind : Kind) (quant : ℕ) (reach : Reach) (m : Mb) : Typ
   pub in_range : IsMb m
   pub of_kind : IsOfKind kind m
   pub step : IsStepped quant m
-  pub whole : IsWhole m
+  pub whole : HasWholeBlocks m
   pub reached : IsReached reach m
 
--- macroblocks that may be written one after the other, behind earlier ones
+-- macroblocks that may be written one after the other, after earlier ones
 unfoldable pub AreWritable : Around → ℕ → List Mb → List Mb → Type 0
 AreWritable a quant before [] = Unit {0}
 AreWritable a quant before (m ∷ mbs) =

@@ -5,7 +5,7 @@ ghost use Rattle.h263_bits.specs.Syntax.{field_at, reading};
 ghost use Rattle.h263_types.specs.Blocks.{IsQuant};
 ghost use Rattle.h263_types.specs.Sizes.{mbs_of};
 ghost use Rattle.picture_header.specs.Ranges.{IsHeader};
-ghost use Rattle.slice_layer.specs.Head.{address_bits, is_later, reference, first_head, place, tail, later_head, head};
+ghost use Rattle.slice_layer.specs.Head.{address_bits, allowed_first, reference, first_head, place, tail, later_head, head};
 
 use crate::shared::address_bits;
 use h263_bits::{BitReader, Fault, FaultKind};
@@ -15,7 +15,7 @@ use picture_header::{Header, read_quant};
 // The first macroblock of a later slice.
 fn read_address(reader: &mut BitReader<'_>, format: Format) -> Result<u32, Fault>
     ensures reads { Gives (λ (v : ℕ). v) result reader.new
-        (field_at (address_bits format) (is_later format) reader.old) }
+        (field_at (address_bits format) (allowed_first format) reader.old) }
     ensures below { IfOk result (λ first. first < mbs_of format) }
 {
     let at = reader.at();
@@ -26,7 +26,7 @@ fn read_address(reader: &mut BitReader<'_>, format: Format) -> Result<u32, Fault
     Ok(first)
 }
 
-// What begins behind the picture header: the first macroblock, and the picture's quantiser.
+// What begins after the picture header: the first macroblock, and the picture's quantiser.
 #[tactic(auto, unfolding(crate::specs::Head::first_head, h263_bits::specs::Syntax::reading))]
 fn read_first_head(reader: &mut BitReader<'_>, header: &Header) -> Result<(u32, u8), Fault>
     ensures reads { Gives
@@ -40,7 +40,7 @@ fn read_first_head(reader: &mut BitReader<'_>, header: &Header) -> Result<(u32, 
     Ok((0, header.quant))
 }
 
-// MBA and SQUANT of a later slice, behind the last bit of its start code.
+// MBA and SQUANT of a later slice, after the last bit of its start code.
 #[tactic(auto, unfolding(crate::specs::Head::place, h263_bits::specs::Syntax::reading))]
 fn read_place(reader: &mut BitReader<'_>, format: Format) -> Result<(u32, u8), Fault>
     ensures reads { Gives (λ x. (x.0, x.1)) result reader.new (reading (place format) reader.old) }

@@ -30,7 +30,7 @@ pub fn one_reading()
 }
 
 /// The first faults of a slice: field by field in its header, Empty and Trailing before a
-/// macroblock, and those of the macroblocks behind one another.
+/// macroblock, and those of the macroblocks one after another.
 pub fn first_faults()
     ensures { SliceFaults }
 {
@@ -53,7 +53,7 @@ pub fn longest_text()
     macroblock_layer::laws::in_a_syntax();
 }
 
-/// Macroblocks may be written one after the other where each one may behind those before it.
+/// Macroblocks may be written one after the other where each one may after those before it.
 pub fn one_more()
     ensures { IsOneMore }
 {}

@@ -17,8 +17,7 @@ use crate::head::read_head;
 use crate::shared::{quant_after, vector_of};
 use h263_bits::{BitReader, Fault, FaultKind};
 use h263_types::{Format, Mb, Reach, SliceHead, Vector, reach};
-use macroblock_layer::laws::in_a_syntax;
-use macroblock_layer::{predictor, read_mb};
+use macroblock_layer::{laws as macroblock_layer_laws, predictor, read_mb};
 use picture_header::Header;
 
 // Whether fewer than 8 bits are left, all 0.
@@ -152,6 +151,6 @@ pub fn read_slice(
     ensures others { IfOk result (AreOthersSame out.old out.new) }
     ensures size { length out.new ≡ length out.old }
 {
-    in_a_syntax();
+    macroblock_layer_laws::in_a_syntax();
     slice_at(reader, header, begins, out)
 }

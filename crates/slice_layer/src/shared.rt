@@ -20,7 +20,7 @@ pub fn address_bits(format: Format) -> u32
     }
 }
 
-/// The quantiser behind a macroblock.
+/// The quantiser after a macroblock.
 pub fn quant_after(quant: u8, mb: &Mb) -> u8
     ensures value { result ≡ quant_after quant mb.now }
     ensures range { IsQuant quant → IsMb mb.now → IsQuant result }

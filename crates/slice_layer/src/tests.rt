@@ -77,7 +77,7 @@ fn put_text(bytes: &mut [u8; 32], from: u32, to: u32, text: &str) -> u32 {
     place
 }
 
-// Reads the slice in the first `keep` bits of the later slice and in the text behind them.
+// Reads the slice in the first `keep` bits of the later slice and in the text after them.
 fn read_changed(
     header: &Header,
     begins: bool,
@@ -281,7 +281,7 @@ const LATER_FAULTS: [(u32, &str, FaultKind, u32); 36] = [
     (20, "", FaultKind::Ended, 20),
     (30, "", FaultKind::Ended, 21),
     (32, "", FaultKind::Ended, 31),
-    // the picture's last macroblock, and a bit or eight zeros behind it
+    // the picture's last macroblock, and a bit or eight zeros after it
     (
         2,
         "110001011 01000 1 11 0 1 0000000000 01 1 1",
@@ -338,7 +338,7 @@ fn first_faults_of_a_later_slice(rt: HostRuntime) {
     );
 }
 
-// The bits behind the picture header, and the first fault.
+// The bits after the picture header, and the first fault.
 const FIRST_FAULTS: [(&str, FaultKind, u32); 9] = [
     ("0", FaultKind::Marker, 0),
     ("1 000000001", FaultKind::Address, 1),

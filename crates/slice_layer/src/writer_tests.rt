@@ -137,7 +137,7 @@ fn is_step(from: u8, to: u8, quant: u8) -> bool
     from <= to.saturating_add(2) && to <= from + 2
 }
 
-// Whether the macroblock may stand behind a quantiser, and changes it to another one.
+// Whether the macroblock may stand after a quantiser, and changes it to another one.
 fn steps(from: u8, to: u8, mb: &Mb) -> bool
     requires { from ≤ 31 }
     ensures near { IsTrue result → IsStepped from mb.now }
@@ -154,7 +154,7 @@ fn steps(from: u8, to: u8, mb: &Mb) -> bool
     }
 }
 
-// Adds a macroblock so many times. Answers how often it fitted.
+// Adds a macroblock this many times. Answers how often it fitted.
 fn add_times(writer: &mut SliceWriter<'_>, mb: &Mb, times: u32) -> u32
     requires mb { IsMb mb.now }
     requires kind { IsOfKind (kind_of writer.old) mb.now }
@@ -234,7 +234,7 @@ fn slice_headers(rt: HostRuntime) -> Result<(), Fail> {
     Ok(())
 }
 
-// Behind the header's 33 bits 158 macroblocks of 58 bits and three of one bit fill 1,150 bytes.
+// After the header's 33 bits 158 macroblocks of 58 bits and three of one bit fill 1,150 bytes.
 #[test]
 fn full_at_the_room(rt: HostRuntime) -> Result<(), Fail> {
     let mb = read_text(
@@ -254,7 +254,7 @@ fn full_at_the_room(rt: HostRuntime) -> Result<(), Fail> {
     Ok(())
 }
 
-// A macroblock of 109 bits with another vector and quantiser isn't added behind 157 of 58 bits:
+// A macroblock of 109 bits with another vector and quantiser isn't added after 157 of 58 bits:
 // what follows is written as if it had not come.
 #[test]
 fn nothing_changes_where_it_is_full(rt: HostRuntime) -> Result<(), Fail> {

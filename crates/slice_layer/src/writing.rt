@@ -1,7 +1,7 @@
 //! Writes slices.
 ghost use Rattle.std.specs.Prelude.{◌≡◌, ℕ, ◌+◌, ◌*◌, ◌/◌, ◌%◌, ◌<◌, ◌≤◌, ◌^◌, ◌++◌, [], ◌∷◌, length, take, drop, List, Bool};
 ghost use Rattle.h263_bits.specs.Bits.{bits_of, spelled};
-ghost use Rattle.h263_types.specs.Blocks.{IsQuant, IsMb, IsOfKind, IsWhole};
+ghost use Rattle.h263_types.specs.Blocks.{IsQuant, IsMb, IsOfKind, HasWholeBlocks};
 ghost use Rattle.h263_types.specs.Sizes.{mbs_of, columns_of};
 ghost use Rattle.h263_types.specs.declared.blocks.Mb.{Mb};
 ghost use Rattle.picture_header.specs.declared.header.Header.{Header};
@@ -15,8 +15,7 @@ use crate::writing_text::{paste, write_apart, write_front};
 use h263_bits::BitReader;
 use h263_types::{Format, Kind, Mb, Vector};
 use macroblock_layer::predictor;
-use picture_header::Header;
-use picture_header::laws::in_a_syntax;
+use picture_header::{Header, laws as picture_header_laws};
 
 /// Whether a macroblock was added.
 #[derive(Clone, Copy, Debug, PartialEq, Eq)]
@@ -49,16 +48,16 @@ pub struct SliceWriter<'a> {
 
 impl<'a> SliceWriter<'a> {
     ghost use Rattle.slice_layer.specs.Written.{slice_text, padded, bytes_of, IsPlace, IsFront};
-    ghost use Rattle.slice_layer.specs.Writer.{kind_of, format_of, first_of, next_of, quant_of, bytes_in, loan_of, GoesOn, Holds, answer};
+    ghost use Rattle.slice_layer.specs.Writer.{kind_of, format_of, first_of, next_of, quant_of, bytes_in, loan_of, GoesOn, HoldsSlice, answer};
 
     /// A writer of the slice that begins with macroblock `first`. It writes the slice header,
-    /// behind the picture header where the slice begins a picture.
+    /// after the picture header where the slice begins a picture.
     pub fn start(bytes: &'a mut [u8], header: &Header, begins: bool, first: u32) -> SliceWriter<'a>
         requires room { 1150 ≤ length bytes.old }
         requires short { length bytes.old ≤ 65535 }
         requires header { IsHeader header.now }
         requires place { IsPlace header.now begins first }
-        ensures holds { Holds result header.now begins first [] }
+        ensures holds { HoldsSlice result header.now begins first [] }
         ensures loan { loan_of result ≡ bytes.entry.ghost_name }
         ensures room { length (bytes_in result) ≡ length bytes.old }
     {
@@ -88,7 +87,7 @@ impl<'a> SliceWriter<'a> {
         )
     }
 
-    // The bits behind the last whole byte.
+    // The bits after the last whole byte.
     fn last_bits(&self) -> u32
         ensures bits { take (8 * (self.now.len / 8)) (bits_of (bytes_in self.now))
             ++ spelled (self.now.len % 8) result ≡ take self.now.len (bits_of (bytes_in self.now)) }
@@ -98,7 +97,7 @@ impl<'a> SliceWriter<'a> {
         BitReader::new(self.bytes, from, self.len).peek(self.len % 8)
     }
 
-    // What the macroblocks behind this one depend on.
+    // What the macroblocks after this one depend on.
     fn keep(&mut self, mb: &Mb)
         requires mb { IsMb mb.now }
         requires left { next_of self.old < 396 }
@@ -123,23 +122,23 @@ impl<'a> SliceWriter<'a> {
         requires step { IsStepped (quant_of self.old) mb.now }
         requires left { next_of self.old < mbs_of (format_of self.old) }
         ensures answer { (h : Header) (begins : Bool) (first : ℕ) (mbs : List Mb)
-            → Holds self.old h begins first mbs → result ≡ answer (length (bytes_in self.old))
+            → HoldsSlice self.old h begins first mbs → result ≡ answer (length (bytes_in self.old))
             (bytes_of (slice_text h begins first (mbs ++ mb.now ∷ []))) }
         ensures fits { (h : Header) (begins : Bool) (first : ℕ) (mbs : List Mb)
-            → Holds self.old h begins first mbs
-            → result ≡ Added.Fits → Holds self.new h begins first (mbs ++ mb.now ∷ []) }
+            → HoldsSlice self.old h begins first mbs
+            → result ≡ Added.Fits → HoldsSlice self.new h begins first (mbs ++ mb.now ∷ []) }
         ensures full { result ≡ Added.Full → self.new ≡ self.old }
         // There is room for the first macroblock.
         ensures first { (h : Header) (begins : Bool) (first : ℕ) → IsHeader h → 1150
-            ≤ length (bytes_in self.old) → Holds self.old h begins first [] → result ≡ Added.Fits }
+            ≤ length (bytes_in self.old) → HoldsSlice self.old h begins first [] → result ≡ Added.Fits }
         ensures slice { GoesOn self.old self.new }
         ensures next { result ≡ Added.Fits → next_of self.new ≡ next_of self.old + 1 }
         ensures quant { result ≡ Added.Fits
             → quant_of self.new ≡ quant_after (quant_of self.old) mb.now }
-        ensures whole { IsWhole mb.now }
+        ensures whole { HasWholeBlocks mb.now }
         ensures room { length (bytes_in self.new) ≡ length (bytes_in self.old) }
     {
-        in_a_syntax();
+        picture_header_laws::in_a_syntax();
         let predictor = self.predictor();
         let front = self.last_bits();
         let count = self.len % 8;
@@ -162,10 +161,10 @@ impl<'a> SliceWriter<'a> {
     /// ones of those that were lent.
     pub fn finish(self) -> u32
         requires some { first_of self < next_of self }
-        ensures bytes { (h : Header) (begins : Bool) (first : ℕ) (mbs : List Mb) → Holds
+        ensures bytes { (h : Header) (begins : Bool) (first : ℕ) (mbs : List Mb) → HoldsSlice
             self.entry h begins first mbs → result ≡ bytes_of (slice_text h begins first mbs) }
         ensures text { (h : Header) (begins : Bool) (first : ℕ) (mbs : List Mb)
-            → Holds self.entry h begins first mbs
+            → HoldsSlice self.entry h begins first mbs
             → bits_of (take result self.exit.0.now) ≡ padded (slice_text h begins first mbs) }
         ensures same { self.exit.0.now ≡ bytes_in self.entry }
         ensures within { result ≤ length (bytes_in self.entry) }

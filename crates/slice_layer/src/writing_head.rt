@@ -10,10 +10,11 @@ ghost use Rattle.slice_layer.specs.Written.{gfid, first_fields, place_fields, ta
 
 use crate::shared::address_bits;
 use h263_bits::BitWriter;
-use picture_header::laws::in_a_syntax;
-use picture_header::{Header, kind_bits, write_header, write_reference};
+use picture_header::{
+    Header, kind_bits, laws as picture_header_laws, write_header, write_reference,
+};
 
-// SEPB1, MBA and SEPB3 behind the picture header.
+// SEPB1, MBA and SEPB3 after the picture header.
 fn write_first(writer: &mut BitWriter<'_>, header: &Header)
     requires room { len_of writer.old + 11 ≤ room_of writer.old }
     ensures bits { Appends writer.old writer.new (fields (first_fields header.now)) }
@@ -73,7 +74,7 @@ fn write_beginning(writer: &mut BitWriter<'_>, header: &Header)
     ensures bits { Appends writer.old writer.new (opening_text header.now true 0) }
     ensures len { len_of writer.new ≡ len_of writer.old + length (opening_text header.now true 0) }
 {
-    in_a_syntax();
+    picture_header_laws::in_a_syntax();
     write_header(writer, header);
     write_first(writer, header);
 }
@@ -90,7 +91,7 @@ pub fn write_opening(writer: &mut BitWriter<'_>, header: &Header, begins: bool, 
         ≡ len_of writer.old + length (opening_text header.now begins first) }
     ensures few { length (opening_text header.now begins first) ≤ 262 }
 {
-    in_a_syntax();
+    picture_header_laws::in_a_syntax();
     if begins {
         write_beginning(writer, header);
     } else {

@@ -1,8 +1,8 @@
-//! Texts at the front of bytes, padded with zero bits up to a whole byte.
+//! Texts at the start of bytes, padded with zero bits up to a whole byte.
 ghost use Rattle.std.specs.Prelude.{◌≡◌, ℕ, ◌+◌, ◌*◌, ◌<◌, ◌≤◌, ◌^◌, ◌++◌, length, take};
 ghost use Rattle.h263_bits.specs.Bits.{spelled};
 ghost use Rattle.h263_bits.specs.Written.{Appends, len_of, to_byte};
-ghost use Rattle.h263_types.specs.Blocks.{IsQuant, IsMb, IsOfKind, IsWhole};
+ghost use Rattle.h263_types.specs.Blocks.{IsQuant, IsMb, IsOfKind, HasWholeBlocks};
 ghost use Rattle.picture_header.specs.Ranges.{IsHeader};
 ghost use Rattle.macroblock_layer.specs.Written.{mb_text, IsStepped};
 ghost use Rattle.slice_layer.specs.Written.{opening_text, IsPlace, IsFront};
@@ -40,7 +40,7 @@ pub fn write_front(bytes: &mut [u8], header: &Header, begins: bool, first: u32) 
     pad(&mut writer)
 }
 
-/// Writes a macroblock's text behind the `count` bits of a number. Answers how many bits that are
+/// Writes a macroblock's text after the `count` bits of a number. Answers how many bits that are
 /// together.
 pub fn write_apart(
     bytes: &mut [u8; 1063],
@@ -60,7 +60,7 @@ pub fn write_apart(
     ensures text { IsFront (spelled count front ++ mb_text kind quant predictor mb.now) bytes.new }
     ensures len { result ≡ count + length (mb_text kind quant predictor mb.now) }
     ensures short { result ≤ 8499 }
-    ensures whole { IsWhole mb.now }
+    ensures whole { HasWholeBlocks mb.now }
 {
     mb.is_whole();
     let mut writer = BitWriter::new(bytes);

@@ -60,7 +60,7 @@ some_size SubQcif = omega arith
 some_size Qcif = omega arith
 some_size Cif = omega arith
 
--- a whole frame, and those of the k bytes behind it
+-- a whole frame, and those of the k bytes after it
 frames_cut : (f : Format) (n m at k : ℕ) (rest frame : List ℕ) → m + 1 ≡ n → 0 < length rest → next_frame n f at rest ≡ Ok frame
     → frames_of f n at (take (frame_size f rest + k) rest) ≡ frame ∷ frames_of f m (at + frame_size f rest) (take k (behind_frame f rest))
 frames_cut f zero m at k rest frame less some is = absurd (omega (arith, less))

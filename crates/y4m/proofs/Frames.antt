@@ -1,4 +1,4 @@
--- A frame by what there is of its line, and by what stands behind it.
+-- A frame by what there is of its line, and by what stands after it.
 use Rattle.std.proofs.Common.{◌≡◌, ◌≢◌, ℕ, zero, suc, ◌+◌, ◌<◌, ◌≤◌, ◌==◌, Bool, true, false, cond, nat_lt, List, [], ◌∷◌, length, take, drop, Option, Some, None, Ok, Err, refl, sym, ap, ◌∙◌, arith, length-take, length-drop}
 use Rattle.std.proofs.lemmas.Bool.Decides.{nat_tests}
 use Rattle.h263_types.specs.declared.format.Format.{Format}
@@ -58,7 +58,7 @@ module _ (f : Format) (at : ℕ) (rest l : List ℕ) (n : ℕ) (is : l ≡ frame
       let same : at + length rest ≡ at + n + length (drop n rest) = omega (arith, length-drop n rest, within) in
       by_test e true (short_test (omega (arith, length-drop n rest, within))) ∙ ap (λ (m : ℕ). Err (ShortFrame m)) same
 
-  -- behind a good line there is a frame where its samples are there
+  -- after a good line there is a frame where its samples are there
   pub planes_there : line_stop l ≡ None → size_of_picture f ≤ length (drop n rest) → frame_of f at rest ≡ Ok (take (size_of_picture f) (drop n rest))
   planes_there e long = by_test e false (long_test (omega (arith, length-drop n rest, within)))
 

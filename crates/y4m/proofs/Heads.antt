@@ -20,7 +20,7 @@ no_word k line is le =
     (λ j. cond (nat_lt (sym is j) 10) (Err (NotY4m (sym is j))) tail)
     ∙ ap (λ (b : Bool). cond b (Err (NotY4m k)) tail) (below k le)
 
--- behind the word
+-- after the word
 abbrev with_size : Option Y4mFault → Bool → Option Format → ℕ → Result Format Y4mFault
 with_size fault whole format size = unless fault (cond whole (sized format (size - 1)) (Err (NotY4m size)))
 

@@ -56,7 +56,7 @@ same_front (a ∷ word) (b ∷ line) le =
           ap (λ (n : ℕ). take n (b ∷ line)) e ∙ sym (ap (λ (n : ℕ). take n (a ∷ word)) e)
     ]
 
--- with the byte behind that, a line agrees no further, whatever follows
+-- with the byte after that, a line agrees no further, whatever follows
 kept : (word line more : List ℕ) → agreement word line < length line → agreement word (take (suc (agreement word line)) line ++ more) ≡ agreement word line
 kept word [] more lt = absurd (omega arith)
 kept [] (b ∷ line) more lt = refl
@@ -73,7 +73,7 @@ kept (a ∷ word) (b ∷ line) more lt =
           ap (λ (n : ℕ). agreement (a ∷ word) (take (suc n) (b ∷ line) ++ more)) e ∙ other_heads a b word (take 0 line ++ more) other ∙ sym e
     ]
 
--- the front of a line is the front of its bytes
+-- a prefix of a line is a prefix of its bytes
 line_take : (m : ℕ) (bytes : List ℕ) (n : ℕ) → n ≤ length (line_within m bytes) → take n (line_within m bytes) ≡ take n bytes
 line_take zero bytes zero le = refl
 line_take zero bytes (suc n) le = absurd (omega arith)
@@ -98,7 +98,7 @@ all_there word m bytes none few le lt =
           absurd (omega (arith, all, lt, le, few, ap length open_end, length-take m bytes))
     ]
 
--- a whole line agrees with its word and the gap behind it, whatever follows
+-- a whole line agrees with its word and the gap after it, whatever follows
 begun : (word line rest : List ℕ) → IsLine word line → agreement word (line ++ rest) ≡ length word + 1
 begun word line rest l =
     let tail = l.tail ++ 10 ∷ [] in
@@ -119,7 +119,7 @@ no_line word bytes more line rest m n is lt inside l whole =
     let same : agreement word (take (suc n) (line_within m bytes) ++ more) ≡ agreement word (take (suc n) bytes ++ more) = ap (λ (x : List ℕ). agreement word (x ++ more)) taken in
     omega (arith, here, there, same, inside)
 
--- up to there they are the front of the word
+-- up to there they are a prefix of the word
 word_front : (word bytes : List ℕ) (m n : ℕ) → n ≡ agreement word (line_within m bytes) → n ≤ length word → take n bytes ≡ take n word
 word_front word bytes m n is le =
     let line = line_within m bytes in

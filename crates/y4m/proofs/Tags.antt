@@ -13,7 +13,7 @@ before_gap-take : (bytes : List ℕ) → before_gap bytes ≡ take (length (befo
 before_gap-take [] = refl
 before_gap-take (b ∷ bytes) = gap_cases (is_gap b) b bytes (before_gap-take bytes)
 
--- a tag stands behind a space and ends before a gap
+-- a tag stands after a space and ends before a gap
 pub tag_found : (before n : ℕ) (bytes : List ℕ) → before ≡ 32 → n ≡ length (before_gap bytes) → 0 < n → n < length bytes → tag_behind before bytes ≡ Some (take n bytes)
 tag_found before n bytes space is some short =
     found before (length (before_gap bytes)) (length bytes) (before_gap bytes) space (omega arith) (omega arith)

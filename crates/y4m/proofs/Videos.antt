@@ -243,7 +243,7 @@ fault-nil f n at = refl
 abbrev joined : Frame → List ℕ
 joined frame = frame.line ++ frame.planes
 
--- these are the frames of the rest, so many at most
+-- these are the frames of the rest, this many at most
 record AreWhole (f : Format) (n : ℕ) (rest : List ℕ) (planes : List (List ℕ)) : Type 0 where
   pub frames : List Frame
   pub text : rest ≡ flat_map joined frames

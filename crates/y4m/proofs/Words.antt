@@ -13,7 +13,7 @@ texts tags = map (λ tag. tag.text) tags
 abbrev Gapless : ℕ → Type 0
 Gapless b = is_gap b ≡ false
 
--- no tag begins at a gap, or behind another byte than a space
+-- no tag begins at a gap, or after another byte than a space
 at_gap : (before b : ℕ) (bytes : List ℕ) → is_gap b ≡ true → tag_behind before (b ∷ bytes) ≡ None
 at_gap before b bytes gap = grind (arith, nat_tests)
 
@@ -49,7 +49,7 @@ gap_starts [] zero = refl
 gap_starts [] (suc n) = refl
 gap_starts (w ∷ words) n = refl
 
--- a word behind a space is a tag
+-- a word after a space is a tag
 word_here : (at : ℕ) (word rest : List ℕ) → IsWord word → StartsWithGap rest → tag_behind 32 (word ++ rest) ≡ Some word
 word_here at word rest is gap =
     let size : length word ≡ length (before_gap (word ++ rest)) = ap (λ (l : List ℕ). length l) (sym (before_gap-append word rest is.gapless gap)) in

@@ -13,7 +13,7 @@ frame_line rest = line_within 257 rest
 abbrev pub frame_size : Format → List ℕ → ℕ
 frame_size f rest = length (frame_line rest) + size_of_picture f
 
--- where a frame's line can't go on, if it isn't whole: behind what it has in common with the word
+-- where a frame's line can't go on, if it isn't whole: after what it has in common with the word
 -- and a gap; else at byte 256 or where it ends
 abbrev pub line_stop : List ℕ → Option ℕ
 line_stop line =
@@ -24,7 +24,7 @@ line_stop line =
 abbrev pub stop_fault : ℕ → ℕ → ℕ → Y4mFault
 stop_fault at size stop = if stop == size then ShortFrame (at + stop) else NotY4m (at + stop)
 
--- the planes behind a line of so many bytes
+-- the planes after a line of this many bytes
 abbrev pub planes_of : Format → ℕ → ℕ → List ℕ → Result (List ℕ) Y4mFault
 planes_of f at line rest =
     if nat_lt (length rest) (line + size_of_picture f) then Err (ShortFrame (at + length rest))
@@ -38,7 +38,7 @@ frame_behind None f at line rest = planes_of f at line rest
 unfoldable pub frame_of : Format → ℕ → List ℕ → Result (List ℕ) Y4mFault
 frame_of f at rest = frame_behind (line_stop (frame_line rest)) f at (length (frame_line rest)) rest
 
--- the same where so many frames may still come
+-- the same where this many frames may still come
 abbrev pub next_frame : ℕ → Format → ℕ → List ℕ → Result (List ℕ) Y4mFault
 next_frame zero f at rest = Err (TooMany at)
 next_frame (suc n) f at rest = frame_of f at rest

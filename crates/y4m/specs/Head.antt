@@ -77,7 +77,7 @@ format_of_line line =
     else unless (tags_fault (tags_of line)) (if is_whole line
     then sized (format_in (tags_of line)) (length line - 1) else Err (NotY4m (length line)))
 
--- the head's line: no byte behind the first 256 is looked at
+-- the head's line: no byte after the first 256 is looked at
 abbrev pub head_line : List ℕ → List ℕ
 head_line video = line_within 256 video
 

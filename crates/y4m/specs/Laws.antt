@@ -5,11 +5,11 @@ use Rattle.y4m.specs.declared.fault.Y4mFault.{Y4mFault}
 use Rattle.y4m.specs.Frame.{frame_of, frame_size, next_frame}
 use Rattle.y4m.specs.Video.{behind_frame, frames_of, fault_of}
 
--- a frame that stands first is followed by those behind it, of which one less may come
+-- a frame that stands first is followed by those after it, of which one less may come
 pub record IsFollowed (f : Format) (n m at : ℕ) (rest frame : List ℕ) : Type 0 where
   pub frames : frames_of f n at rest ≡ frame ∷ frames_of f m (at + frame_size f rest) (behind_frame f rest)
   pub fault : fault_of f n at rest ≡ fault_of f m (at + frame_size f rest) (behind_frame f rest)
-  -- also where only k bytes behind it are looked at
+  -- also where only k bytes after it are looked at
   pub cut : (k : ℕ) → frames_of f n at (take (frame_size f rest + k) rest)
       ≡ frame ∷ frames_of f m (at + frame_size f rest) (take k (behind_frame f rest))
 

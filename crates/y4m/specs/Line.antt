@@ -1,11 +1,11 @@
--- The line of a head or of a frame: a word, then tags, each behind one space or more, and a newline.
+-- The line of a head or of a frame: a word, then tags, each after one space or more, and a newline.
 use Rattle.std.specs.Prelude.{ℕ, suc, ◌+◌, ◌-◌, ◌==◌, ◌&&◌, ◌||◌, nat_lt, nat_le, slice_index, Bool, List, [], ◌∷◌, length, take, Option, Some, None, if◌then◌else◌, All, ◌≢◌}
 
--- what stands behind a tag: a space or a newline
+-- what stands after a tag: a space or a newline
 abbrev pub is_gap : ℕ → Bool
 is_gap b = b == 32 || b == 10
 
--- how many bytes a line has in common with a word and a gap behind it, from the start
+-- how many bytes a line has in common with a word and a gap after it, from the start
 abbrev pub agreement : List ℕ → List ℕ → ℕ
 agreement word [] = 0
 agreement [] (b ∷ line) = if is_gap b then 1 else 0
@@ -37,8 +37,8 @@ abbrev pub before_gap : List ℕ → List ℕ
 before_gap [] = []
 before_gap (b ∷ bytes) = if is_gap b then [] else b ∷ before_gap bytes
 
--- the tag that begins where these bytes of a line stand behind a byte: that one is a space, the tag
--- has one byte at least, and a gap is behind it
+-- the tag that begins where these bytes of a line stand after a byte: that one is a space, the tag
+-- has one byte at least, and a gap is after it
 abbrev pub tag_behind : ℕ → List ℕ → Option (List ℕ)
 tag_behind before bytes =
     if before == 32 && nat_lt 0 (length (before_gap bytes))
@@ -48,7 +48,7 @@ abbrev pub with_tag : ℕ → Option (List ℕ) → List Tag → List Tag
 with_tag at None tags = tags
 with_tag at (Some text) tags = record { at = at; text = text } ∷ tags
 
--- the tags that begin in these bytes, which stand at a place behind a byte
+-- the tags that begin in these bytes, which stand at a place after a byte
 abbrev pub tags_from : ℕ → ℕ → List ℕ → List Tag
 tags_from at before [] = []
 tags_from at before (b ∷ bytes) = with_tag at (tag_behind before (b ∷ bytes)) (tags_from (at + 1) b bytes)

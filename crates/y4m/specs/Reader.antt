@@ -27,7 +27,7 @@ FrameGives (Err (Refused fault)) old rest out new left =
 FrameGives (Err Read) old rest out new left =
     (k : ℕ) × (left ≡ Some (drop k rest)) × IsErr (frame_of old.format old.at (take k rest))
 
--- how a call moves the reader: one frame less may come behind a frame, and nothing changes without one
+-- how a call moves the reader: one frame less may come after a frame, and nothing changes without one
 abbrev pub Moves : Result Bool VideoStop → Y4mReader → Y4mReader → Type 0
 Moves (Ok true) old new = (new.format ≡ old.format) × (new.more + 1 ≡ old.more)
 Moves (Ok false) old new = new ≡ old

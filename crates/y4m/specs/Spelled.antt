@@ -12,7 +12,7 @@ abbrev pub StandsApart : List ℕ → Type 0
 StandsApart [] = Unit {0}
 StandsApart (b ∷ tail) = b ≡ 32
 
--- a whole line: a word, nothing or a space with anything behind it, and a newline; 256 bytes at most
+-- a whole line: a word, nothing or a space with anything after it, and a newline; 256 bytes at most
 pub record IsLine (word line : List ℕ) : Type 0 where
   pub tail : List ℕ
   pub text : line ≡ word ++ tail ++ 10 ∷ []
@@ -34,7 +34,7 @@ abbrev pub spaces : ℕ → List ℕ
 spaces zero = []
 spaces (suc n) = 32 ∷ spaces n
 
--- words, each behind one space or more, and so many spaces behind the last
+-- words, each after one space or more, and this many spaces after the last
 abbrev pub spaced : List Word → ℕ → List ℕ
 spaced [] n = spaces n
 spaced (word ∷ words) n = 32 ∷ (spaces word.more ++ (word.text ++ spaced words n))

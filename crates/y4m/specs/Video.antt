@@ -10,11 +10,11 @@ use Rattle.y4m.specs.Frame.{frame_of, frame_size}
 abbrev pub most_frames : ℕ
 most_frames = 1048576
 
--- the bytes behind the frame that stands first
+-- the bytes after the frame that stands first
 abbrev pub behind_frame : Format → List ℕ → List ℕ
 behind_frame f rest = drop (frame_size f rest) rest
 
--- a frame, and those behind it
+-- a frame, and those after it
 abbrev pub frames_from : Result (List ℕ) Y4mFault → List (List ℕ) → List (List ℕ)
 frames_from (Ok frame) more = frame ∷ more
 frames_from (Err fault) more = []
@@ -23,7 +23,7 @@ abbrev pub fault_from : Result (List ℕ) Y4mFault → Option Y4mFault → Optio
 fault_from (Ok frame) more = more
 fault_from (Err fault) more = Some fault
 
--- the frames of the rest, where so many may still come, up to the first fault
+-- the frames of the rest, where this many may still come, up to the first fault
 unfoldable pub frames_of : Format → ℕ → ℕ → List ℕ → List (List ℕ)
 frames_of f zero at rest = []
 frames_of f (suc n) at [] = []
@@ -39,7 +39,7 @@ fault_of f (suc n) at (b ∷ rest) =
     fault_from (frame_of f at (b ∷ rest))
     (fault_of f n (at + frame_size f (b ∷ rest)) (drop (frame_size f (b ∷ rest)) (b ∷ rest)))
 
--- behind a head
+-- after a head
 abbrev pub fault_behind : Result Format Y4mFault → ℕ → List ℕ → Option Y4mFault
 fault_behind (Err fault) at body = Some fault
 fault_behind (Ok f) at body = fault_of f most_frames at body

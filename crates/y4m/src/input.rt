@@ -7,10 +7,9 @@ ghost use Rattle.y4m.specs.Line.{line_within};
 ghost use Rattle.y4m.specs.Planes.{PlanesGive, IsCut};
 
 use crate::{VideoStop, Y4mFault};
-use h263_outside::laws::calls;
-use h263_outside::{Desk, Role, read_full};
+use h263_outside::{Desk, Role, laws as outside_laws, read_full};
 
-/// Reads until the buffer is full or the video ends, and answers how many bytes came to its front.
+/// Reads until the buffer is full or the video ends, and answers how many bytes came to its start.
 pub fn read<D: Desk>(desk: &mut D, buf: &mut [u8]) -> Result<usize, VideoStop>
     requires { (D.outside desk.old).attached Video ≡ true }
     ensures count { IfOk result (λ k. k ≤ length buf.old) }
@@ -53,7 +52,7 @@ fn read_byte<D: Desk>(desk: &mut D) -> Result<Option<u8>, VideoStop>
     Ok(Some(byte[0]))
 }
 
-/// Reads a line with its newline to the front of the buffer, or what there is of it, and answers
+/// Reads a line with its newline to the start of the buffer, or what there is of it, and answers
 /// its length.
 pub fn read_line<D: Desk>(desk: &mut D, line: &mut [u8]) -> Result<usize, VideoStop>
     requires { (D.outside desk.old).attached Video ≡ true }
@@ -70,7 +69,7 @@ pub fn read_line<D: Desk>(desk: &mut D, line: &mut [u8]) -> Result<usize, VideoS
         → r ≢ Video → (D.outside desk.new).left r ≡ (D.outside desk.old).left r }
     ensures rest { OnlyReads (D.outside desk.old) (D.outside desk.new) }
 {
-    calls();
+    outside_laws::calls();
     for i in 0..line.len() {
         let Some(byte) = read_byte(desk)? else {
             return Ok(i);

@@ -45,7 +45,7 @@ pub fn written_is_a_video()
     planes_are_bytes();
 }
 
-/// The tags of a line are its words behind the first one, in their order.
+/// The tags of a line are its words after the first one, in their order.
 pub fn tags_are_words()
     ensures { (word : List ℕ) (words : List Word) (n : ℕ)
         → IsWord word → All (λ w. IsWord w.text) words → map
@@ -58,7 +58,7 @@ pub fn short_at_the_end()
         → frame_of f at rest ≡ Err (ShortFrame place) → place ≡ at + length rest }
 {}
 
-/// Where a head's or a frame's line can't go on inside its first word or just behind it, the bytes
+/// Where a head's or a frame's line can't go on inside its first word or just after it, the bytes
 /// before that one begin some video, or some frame of the format, and with it they begin none.
 pub fn place_of_not_y4m()
     ensures head { (video : List ℕ) (n : ℕ) → head_of video ≡ Err (NotY4m n) → n < length video
@@ -68,7 +68,7 @@ pub fn place_of_not_y4m()
         → n < 6 → BeginsFrame f (take n rest) × (BeginsFrame f (take (suc n) rest) → ⊥) }
 {}
 
-/// A whole head or frame stays what it is where the text behind it is cut.
+/// A whole head or frame stays what it is where the text after it is cut.
 pub fn cut_behind()
     ensures head { (video : List ℕ) (f : Format) (k : ℕ) → head_of video ≡ Ok f → head_size video
         ≤ k → (head_of (take k video) ≡ Ok f) × (head_size (take k video) ≡ head_size video) }

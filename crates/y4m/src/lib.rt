@@ -4,7 +4,7 @@
 //! [`Y4mFault`] with its byte. [`write_head`] and [`write_frame`] write pictures with their marks.
 //!
 //! ```rust
-//! // behind "YUV4MPEG2 W128 H96\n", "FRAME\n" and 18,432 bytes
+//! // after "YUV4MPEG2 W128 H96\n", "FRAME\n" and 18,432 bytes
 //! let mut reader = Y4mReader::head(&mut desk)?;
 //! assert_eq!(rt; reader.format(), Format::SubQcif);
 //! assert_eq!(rt; reader.frame(&mut desk, &mut samples), Ok(true));

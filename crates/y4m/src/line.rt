@@ -12,7 +12,7 @@ fn is_gap(byte: u8) -> bool
     byte == b' ' || byte == b'\n'
 }
 
-/// How many bytes the line has in common with the word and a gap behind it.
+/// How many bytes the line has in common with the word and a gap after it.
 pub fn agreed(word: &[u8], line: &[u8]) -> usize
     ensures is { result ≡ agreement word.now line.now }
     ensures within { result ≤ length line.now }

@@ -14,7 +14,7 @@ use std::alloc::Global;
 use std::process::Abort;
 use std::test::Fail;
 
-// Bytes one part after the other, each so many times.
+// Bytes one part after the other, each this many times.
 fn joined(alloc: Global, parts: &[(&[u8], usize)]) -> Result<Vec<u8>, OutOfMemory> {
     let mut bytes = Vec::new(alloc);
     for (part, times) in parts {
@@ -144,7 +144,7 @@ fn refused_heads(rt: HostRuntime) -> Result<(), Fail> {
 const HEAD: &[u8] = b"YUV4MPEG2 W128 H96\n";
 
 fn check_long_heads(rt: &impl Abort, alloc: Global) -> Result<(), OutOfMemory> {
-    // Behind 20 bytes: so many bytes, and then these.
+    // After 20 bytes: this many bytes, and then these.
     let cases: [(usize, &[u8], Result<Format, Y4mFault>); 7] = [
         (235, b"\n", Ok(Format::SubQcif)),
         (236, b"\n", Err(NotY4m { at: 256 })),
@@ -225,7 +225,7 @@ fn frames_of(
     }
 }
 
-// What stands behind the head, each part so many times; how many frames that is, and its fault.
+// What stands after the head, each part this many times; how many frames that is, and its fault.
 const FRAMES: [(&[(&[u8], usize)], u32, Option<Y4mFault>); 19] = [
     (&[], 0, None),
     (&[(b"F", 1)], 0, Some(ShortFrame { at: 20 })),

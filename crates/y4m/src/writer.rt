@@ -5,8 +5,7 @@ ghost use Rattle.h263_outside.specs.declared.desk.Role.TheVariants.{Pictures};
 ghost use Rattle.h263_planes.specs.Lent.{picture as lent};
 ghost use Rattle.y4m.specs.Text.{head_text, mark_text, frame_text};
 
-use h263_outside::laws::{calls, fronts_of_two};
-use h263_outside::{Desk, Failed, Role, write_all};
+use h263_outside::{Desk, Failed, Role, laws as outside_laws, write_all};
 use h263_planes::PictureRef;
 use h263_types::{Format, Mark};
 
@@ -30,7 +29,7 @@ fn mark_line(mark: Mark) -> &'static [u8]
     }
 }
 
-/// Writes the line that pictures of a format begin with. After `Failed` some front of it was
+/// Writes the line that pictures of a format begin with. After `Failed` some prefix of it was
 /// written.
 pub fn write_head<D: Desk>(desk: &mut D, format: Format) -> Result<(), Failed>
     requires { (D.outside desk.old).attached Pictures ≡ true }
@@ -45,7 +44,7 @@ pub fn write_head<D: Desk>(desk: &mut D, format: Format) -> Result<(), Failed>
     write_all(desk, Role::Pictures, head_line(format))
 }
 
-/// Writes a picture with the line of its mark. After `Failed` some front of both was written.
+/// Writes a picture with the line of its mark. After `Failed` some prefix of both was written.
 pub fn write_frame<D: Desk>(desk: &mut D, mark: Mark, picture: PictureRef<'_>) -> Result<(), Failed>
     requires { (D.outside desk.old).attached Pictures ≡ true }
     ensures text { OnOk result ((D.outside desk.new).written
@@ -56,8 +55,8 @@ pub fn write_frame<D: Desk>(desk: &mut D, mark: Mark, picture: PictureRef<'_>) -
         (Rose (D.outside desk.old).faults.write (D.outside desk.new).faults.write) }
     ensures rest { OnlyWrites (D.outside desk.old) (D.outside desk.new) }
 {
-    calls();
-    fronts_of_two();
+    outside_laws::calls();
+    outside_laws::fronts_of_two();
     write_all(desk, Role::Pictures, mark_line(mark))?;
     write_all(desk, Role::Pictures, picture.bytes())
 }

@@ -71,8 +71,8 @@ fn put_text(bytes: &mut [u8; 64], from: u32, to: u32, text: &str) -> u32 {
     place
 }
 
-// What is read of a packet whose payload header is `payload`, in front of the text's first bits and
-// others behind them.
+// What is read of a packet whose payload header is `payload`, before the text's first bits and
+// others after them.
 fn read_text(payload: [u8; 2], text: &str, keep: u32, behind: &str) -> Result<Piece, Fault> {
     let mut bytes = [0; 64];
     bytes[..12].copy_from_slice(&SKIPPED[..12]);
@@ -83,11 +83,11 @@ fn read_text(payload: [u8; 2], text: &str, keep: u32, behind: &str) -> Result<Pi
     read(&bytes[..(end as usize + 7) / 8])
 }
 
-// Four messages, each behind its BCI `1`, and a fifth `1`.
+// Four messages, each after its BCI `1`, and a fifth `1`.
 const MESSAGES: &str =
     "1 11 0 0000000000 1 0000000000 1 11 0 0000000001 1 0000000001 1 11 0 0000000010 1 0000000010 1 11 0 0000000011 1 0000000011 1";
 
-// Bits behind the first ones of PICTURE, and the first fault. The text's first bit is bit 112 of
+// Bits after the first ones of PICTURE, and the first fault. The text's first bit is bit 112 of
 // the packet.
 const PICTURE_FAULTS: [(u32, &str, FaultKind, u32); 28] = [
     (22, "000", FaultKind::Ufep, 134),
@@ -163,7 +163,7 @@ fn faults_of_a_picture(rt: HostRuntime) {
     }
 }
 
-// PEBIT, bits behind the first ones of SLICE, and the first fault. PLEN is 10.
+// PEBIT, bits after the first ones of SLICE, and the first fault. PLEN is 10.
 const SLICE_FAULTS: [(u8, u32, &str, FaultKind, u32); 11] = [
     (2, 110, "", FaultKind::ExtraHeader, 189),
     (3, 80, "10", FaultKind::ExtraHeader, 192),

@@ -1,7 +1,7 @@
 use Rattle.std.proofs.Common.{◌≡◌, List, length, map, Some, refl, sym, ap, ◌∙◌, arith}
 use Rattle.std.specs.Prelude.{slice_get}
 use Rattle.call_model.specs.IdealCall.{Back}
-use Rattle.call_model.specs.JoinedRun.{Told}
+use Rattle.call_model.specs.JoinedRun.{SaidMessage}
 use Rattle.call_decoding.specs.Rules.{rules_of}
 use Rattle.call_command.specs.Both.{both_after}
 use Rattle.call_command.specs.Call.{steady}
@@ -26,7 +26,7 @@ returns-in_err-said-clause-done c = λ receiver before frames past begun h.
     let there = message_there t near_laws c.requires.recorded sender receiver carrier before frames past h begun c.requires.params c.args.message in
     is_refused c.from_residual.result c.in_err-said.field-0.0 c.args.line event _ _ _ c.from_residual.ensures.1 told
     (c.in_err-said.ensures (rules_of t.params) receiver.played said.pairs c.half-half.ensures said.holds
-    (λ none. omega (arith, there (sym told ∙ none), ap (λ (l : List Told). length l) said.same, as_many told_in said.pairs)))
+    (λ none. omega (arith, there (sym told ∙ none), ap (λ (l : List SaidMessage). length l) said.same, as_many told_in said.pairs)))
 
 pub returns-clause-standing : goal.returns-clause-standing
 returns-clause-standing c =
@@ -47,12 +47,12 @@ returns-clause-done c = λ receiver before frames past begun h.
     in
     let there = message_there t near_laws c.requires.recorded sender receiver carrier before frames past h begun c.requires.params c.args.message in
     let found = c.in_ok-said.ensures (rules_of t.params) receiver.played said.pairs c.half-half.ensures said.holds
-    (λ none. omega (arith, there (sym told ∙ none), ap (λ (l : List Told). length l) said.same, as_many told_in said.pairs))
+    (λ none. omega (arith, there (sym told ∙ none), ap (λ (l : List SaidMessage). length l) said.same, as_many told_in said.pairs))
     in
     let none = sym told ∙ found.0 in
-    let message : Told = told_in (found.1, c.in_ok-said.said) in
+    let message : SaidMessage = told_in (found.1, c.in_ok-said.said) in
     let at : slice_get (both_after t.params (steady t.params) frames before past).said c.args.message ≡ Some message =
-    ap (λ (l : List Told). slice_get l c.args.message) (sym said.same) ∙ told_at said.pairs c.args.message (found.1, c.in_ok-said.said) found.2
+    ap (λ (l : List SaidMessage). slice_get l c.args.message) (sym said.same) ∙ told_at said.pairs c.args.message (found.1, c.in_ok-said.said) found.2
     in (
       none,
       holds_back t near_laws c.requires.recorded sender receiver carrier before frames past h c.bring_back.new.sender.state c.args.message none

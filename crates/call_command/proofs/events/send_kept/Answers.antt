@@ -59,6 +59,6 @@ returns-clause-holds c = λ receiver carrier before frames past packets_same ref
     let number : coded.number ≡ old.sent = tells.number_is ∙ sym (sent_in_all t runs old receiver carrier before frames past h) in
     holds_send t near_laws c.requires.recorded old receiver carrier before frames past h runs new frame c.keep_packets.new.packets c.note.new.self none at
     (sends_so p (λ _. c.args.sender.now.pace.quant) paced old new receiver frames before past frame (c.send-coded.ensures.joined p receiver frames before past) h.joined at)
-    (λ pictures keeps. c.keep_packets.ensures.kept pictures (subst (λ (r : PacketRing). ring.Keeps r pictures) packets_same keeps))
+    (λ pictures keeps. c.keep_packets.ensures.kept pictures (subst (λ (r : PacketRing). ring.HoldsPackets r pictures) packets_same keeps))
     (λ list noted long. notes_so c.args.references.now c.note.new.self coded old.sent next.reference number tells.reference c.note.ensures list (subst (λ (r : References). AreNoted r list) references_same noted) long)
     c.send-coded.ensures.sent

@@ -1,7 +1,7 @@
 use Rattle.std.proofs.Common.{◌≡◌, ℕ, ◌+◌, ◌<◌, ◌≤◌, refl, sym, ◌∙◌, arith}
 use Rattle.std.specs.Prelude.{map}
 use Rattle.std.specs.Prelude.{length}
-use Rattle.back_messages.specs.declared.writing.Said.{Said}
+use Rattle.back_messages.specs.declared.writing.MessageBytes.{MessageBytes}
 use Rattle.call_model.specs.Refusals.{Far, NotSaid}
 use Rattle.call_command.specs.Network.{about_of}
 use Rattle.call_command.proofs.Bringing.{late_by, near_by, none_past, same_about, there, too_late}
@@ -16,7 +16,7 @@ returns-then-said-from c = λ rules played pairs half holds kept.
 
 pub returns-in-Some : goal.returns-in-Some
 returns-in-Some c = λ rules played pairs half holds kept.
-    let x : ℕ × Said = (c.in-Some.about, c.in-Some.said) in
+    let x : ℕ × MessageBytes = (c.in-Some.about, c.in-Some.said) in
     let at = there pairs c.args.message x (sym (c.get.ensures pairs holds) ∙ c.in-Some.is) in
     let near : c.args.sent < c.in-Some.about + c.args.half = near_by (c.in-Some.about + c.args.half) c.args.sent (sym c.is_late.ensures ∙ c.if-not-is_late.true) in
     (back_near rules c.args.sent played (map about_of pairs) (c.args.sent + 1) c.args.message c.in-Some.about (about_at pairs c.args.message x at) (omega (arith, near, half)), c.in-Some.about, at)

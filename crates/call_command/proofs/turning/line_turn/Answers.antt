@@ -90,7 +90,7 @@ returns-in_default-clause-keeps g c = λ s inputs k.
     let x = parts_of c.args.terms.now c.args.video.now c.args.sender.now.state c.args.receiver.now c.args.carrier.now in
     ends_stand x s inputs k
 
--- ---- behind a line
+-- ---- after a line
 
 pub event_turn-requires-clause-ready : goal.event_turn-requires-clause-ready
 event_turn-requires-clause-ready g c =

@@ -1,8 +1,8 @@
 use Rattle.std.proofs.Common.{◌≡◌, ℕ, List, ◌++◌, Option, Some, None, sym, ap, subst, ◌∙◌}
 use Rattle.std.specs.Prelude.{slice_get}
 use Rattle.std.specs.Option.{option_map, option_map_or}
-use Rattle.back_messages.specs.declared.writing.Said.{Said}
-use Rattle.call_model.specs.JoinedRun.{Told, after_bytes, said_to}
+use Rattle.back_messages.specs.declared.writing.MessageBytes.{MessageBytes}
+use Rattle.call_model.specs.JoinedRun.{SaidMessage, after_bytes, said_to}
 use Rattle.call_model.specs.Receiving.{heard}
 use Rattle.call_model.specs.Sending as call
 use Rattle.call_decoding.specs.Rules.{rules_of}
@@ -61,7 +61,7 @@ returns-clause-kept c = λ p pace sender frames before past both has among messa
     in
     let answer = heard (decoding p.format) (rules_of p) w.receiver ((decoding p.format).read bytes) in
     let says : IsMessage p.clock c.said_in.result (message_in answer) =
-    subst (λ (o : Option Said). IsMessage p.clock o (message_in answer)) (sym c.said_in.ensures)
+    subst (λ (o : Option MessageBytes). IsMessage p.clock o (message_in answer)) (sym c.said_in.ensures)
     (heard_message p.clock c.deliver-heard.result answer (c.deliver-heard.ensures.answer p pace sender frames before past both))
     in
     let laws = c.of_messages.ensures p in
@@ -69,7 +69,7 @@ returns-clause-kept c = λ p pace sender frames before past both has among messa
       pairs = with_said messages.pairs n c.said_in.result;
       holds = c.keep_message.ensures.kept messages.pairs messages.holds;
       same = kept_told laws.said p.clock messages.pairs n c.said_in.result (message_in answer) says c.keep_message.ensures.bytes
-          ∙ ap (λ (l : List Told). l ++ told_of n (message_in answer)) messages.same
-          ∙ ap (λ (l : List Told). w.said ++ l) (sym (heard_told n answer));
+          ∙ ap (λ (l : List SaidMessage). l ++ told_of n (message_in answer)) messages.same
+          ∙ ap (λ (l : List SaidMessage). w.said ++ l) (sym (heard_told n answer));
     } in
     subst (λ (o : Option (List ℕ)). HasMessages c.keep_message.new.messages (option_map_or (after_bytes (coding p) (rules_of p) w n) o w).said) (sym there) said

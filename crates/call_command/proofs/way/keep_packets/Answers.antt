@@ -1,7 +1,7 @@
 use Rattle.std.proofs.Common.{◌≡◌, ℕ, ◌+◌, ◌<◌, ◌≤◌, List, [], ◌∷◌, ◌++◌, length, take, sym, ap, subst, ◌∙◌, arith}
 use Rattle.std.proofs.lemmas.List.{length-take-le, take_all, take_more}
 use Rattle.packet_cutter.specs.Cutting.{packets_of}
-use Rattle.call_rings.specs.Keeping.{Keeps, most_of, room_of}
+use Rattle.call_rings.specs.Keeping.{HoldsPackets, most_of, room_of}
 use Rattle.call_rings.specs.Parts.{size_of}
 use Rattle.call_command.proofs.way.keep_packets.Goals as goal
 
@@ -32,7 +32,7 @@ packets-preserved g c =
     let before = c.packets.invariant.sizes in
     record {
       kept = λ pictures keeps.
-          subst (λ (l : List (List ℕ)). Keeps c.push.new.self (pictures ++ l ∷ [])) (sym one_more)
+          subst (λ (l : List (List ℕ)). HoldsPackets c.push.new.self (pictures ++ l ∷ [])) (sym one_more)
           (c.push.ensures.pushes pictures (take i packets) (c.packets.invariant.kept pictures keeps));
       sizes = record { period_is = sizes.period_is ∙ before.period_is; room_is = sizes.room_is ∙ before.room_is; most_is = sizes.most_is ∙ before.most_is };
       begun = c.push.ensures.begun ∙ c.packets.invariant.begun;
@@ -42,4 +42,4 @@ pub returns-clause-kept : goal.returns-clause-kept
 returns-clause-kept g c = λ pictures keeps.
     let packets = packets_of c.args.sender.now.state.cutter in
     let all : length packets ≤ c.packets.place = omega (arith, c.packets-test.false, c.packets.auto.place-end, c.requires.count) in
-    subst (λ (l : List (List ℕ)). Keeps c.packets.packets (pictures ++ l ∷ [])) (take_all c.packets.place packets all) (c.packets.invariant.kept pictures keeps)
+    subst (λ (l : List (List ℕ)). HoldsPackets c.packets.packets (pictures ++ l ∷ [])) (take_all c.packets.place packets all) (c.packets.invariant.kept pictures keeps)

@@ -1,5 +1,5 @@
 use Rattle.std.proofs.Common.{◌≡◌, ℕ, List, ◌++◌, ap, ◌∙◌}
-use Rattle.call_model.specs.JoinedRun.{Told}
+use Rattle.call_model.specs.JoinedRun.{SaidMessage}
 use Rattle.call_model.specs.Receiving.{played_message}
 use Rattle.call_decoding.specs.Rules.{rules_of}
 use Rattle.receiver_end.specs.Decoding.{decoding}
@@ -29,6 +29,6 @@ returns-clause-kept c = λ p pace sender frames before past both messages.
       pairs = with_said messages.pairs c.played-number.result c.play-played.result.message;
       holds = c.keep_message.ensures.kept messages.pairs messages.holds;
       same = kept_told (c.of_messages.ensures p).said p.clock messages.pairs c.played-number.result c.play-played.result.message message told.message_is c.keep_message.ensures.bytes
-          ∙ ap (λ (l : List Told). l ++ told_of c.played-number.result message) messages.same
+          ∙ ap (λ (l : List SaidMessage). l ++ told_of c.played-number.result message) messages.same
           ∙ ap (λ (n : ℕ). w.said ++ told_of n message) number;
     }

@@ -9,7 +9,7 @@ use Rattle.h263_payload.specs.Text.{leading}
 use Rattle.h263_payload.specs.Faults.{payload_at, extra_at, begun_at}
 use Rattle.h263_payload.proofs.reading.first_found.Goals as goal
 
--- where the reader stands behind the first fields
+-- where the reader stands after the first fields
 behind : (bytes : List ℕ) (from end : ℕ) (o : Opening) (c : Bits) → from ≤ end → end ≤ 8 * length bytes → reading leading (bits_between bytes from end) ≡ Ok (o, c) → IsMoved bytes end c
 behind bytes from end o c order within e = let s = sound leading (bits_between bytes from end) c o e in moved bytes from end s.0 c order within s.1
 

@@ -2,7 +2,7 @@ use Rattle.std.proofs.Common.{sym, subst}
 use Rattle.h263_bits.specs.Bits.{spelled}
 use Rattle.h263_bits.specs.Written.{Appends}
 use Rattle.h263_types.specs.declared.blocks.Mb.{Mb}
-use Rattle.h263_types.specs.Blocks.{IsWhole}
+use Rattle.h263_types.specs.Blocks.{HasWholeBlocks}
 use Rattle.macroblock_layer.specs.Written.{mb_text}
 use Rattle.macroblock_layer.proofs.writing.write_mb.Goals as goal
 
@@ -15,29 +15,29 @@ returns-in-Skip-clause-bits c =
 pub returns-in-Skip-clause-spells : goal.returns-in-Skip-clause-spells
 returns-in-Skip-clause-spells c = λ reach within.
     let a = c.args in
-    let whole : IsWhole a.mb.now = subst (λ (m : Mb). IsWhole m) (sym c.in-Skip.is) tt in
+    let whole : HasWholeBlocks a.mb.now = subst (λ (m : Mb). HasWholeBlocks m) (sym c.in-Skip.is) tt in
     c.in_a_syntax.ensures.spelt a.kind a.quant reach a.predictor a.mb.now c.requires.mb c.requires.kind c.requires.step whole within
 
 pub returns-in-Intra-clause-short : goal.returns-in-Intra-clause-short
 returns-in-Intra-clause-short c =
     let a = c.args in
-    let whole : IsWhole a.mb.now = subst (λ (m : Mb). IsWhole m) (sym c.in-Intra.is) c.write_intra_mb.ensures.whole in
+    let whole : HasWholeBlocks a.mb.now = subst (λ (m : Mb). HasWholeBlocks m) (sym c.in-Intra.is) c.write_intra_mb.ensures.whole in
     c.in_a_syntax.ensures.short a.kind a.quant a.predictor a.mb.now whole
 
 pub returns-in-Intra-clause-spells : goal.returns-in-Intra-clause-spells
 returns-in-Intra-clause-spells c = λ reach within.
     let a = c.args in
-    let whole : IsWhole a.mb.now = subst (λ (m : Mb). IsWhole m) (sym c.in-Intra.is) c.write_intra_mb.ensures.whole in
+    let whole : HasWholeBlocks a.mb.now = subst (λ (m : Mb). HasWholeBlocks m) (sym c.in-Intra.is) c.write_intra_mb.ensures.whole in
     c.in_a_syntax.ensures.spelt a.kind a.quant reach a.predictor a.mb.now c.requires.mb c.requires.kind c.requires.step whole within
 
 pub returns-in-Inter-clause-short : goal.returns-in-Inter-clause-short
 returns-in-Inter-clause-short c =
     let a = c.args in
-    let whole : IsWhole a.mb.now = subst (λ (m : Mb). IsWhole m) (sym c.in-Inter.is) c.write_inter_mb.ensures.whole in
+    let whole : HasWholeBlocks a.mb.now = subst (λ (m : Mb). HasWholeBlocks m) (sym c.in-Inter.is) c.write_inter_mb.ensures.whole in
     c.in_a_syntax.ensures.short a.kind a.quant a.predictor a.mb.now whole
 
 pub returns-in-Inter-clause-spells : goal.returns-in-Inter-clause-spells
 returns-in-Inter-clause-spells c = λ reach within.
     let a = c.args in
-    let whole : IsWhole a.mb.now = subst (λ (m : Mb). IsWhole m) (sym c.in-Inter.is) c.write_inter_mb.ensures.whole in
+    let whole : HasWholeBlocks a.mb.now = subst (λ (m : Mb). HasWholeBlocks m) (sym c.in-Inter.is) c.write_inter_mb.ensures.whole in
     c.in_a_syntax.ensures.spelt a.kind a.quant reach a.predictor a.mb.now c.requires.mb c.requires.kind c.requires.step whole within

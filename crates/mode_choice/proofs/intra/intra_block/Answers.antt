@@ -18,14 +18,14 @@ levels_in-levels-requires-clause-coefficients c at h = is_coefficient c.forward-
 dc_kept : (z : ℤ) → IsDc z → to_z w16 (of_z w16 z) ≡ z
 dc_kept z h = omega (arith, ints)
 
--- INTRADC, and behind it the levels that stand already
+-- INTRADC, and after it the levels that stand already
 with_first : (quant keep : ℕ) (samples levels : List ℤ) (dc : ℤ) → length levels ≡ 64 → dc ≡ level_of quant keep 0 (coefficient_at samples 0) →
     ((k : ℕ) → 1 ≤ k → k < 64 → get_or levels k (pos 0) ≡ level_of quant keep k (coefficient_at samples k)) →
     (k : ℕ) → k < 64 → get_or (slice_set levels 0 dc) k (pos 0) ≡ level_of quant keep k (coefficient_at samples k)
 with_first quant keep samples levels dc long first others zero h = get_or-set_same levels 0 dc (pos 0) (omega (arith, long)) ∙ first
 with_first quant keep samples levels dc long first others (suc k) h = get_or-set_other levels 0 (suc k) dc (pos 0) (omega arith) ∙ others (suc k) (omega arith) h
 
--- a level behind the first
+-- a level after the first
 behind : (k : ℕ) (dc l : ℤ) → 1 ≤ k → l ≡ cond (nat_eq k 0) dc l
 behind k dc l h = grind (arith, nat_tests)
 

@@ -1,12 +1,12 @@
 use Rattle.std.proofs.Common.{◌≡◌, ℕ, List, OnOk, OnErr, ap, ◌∙◌, subst}
 use Rattle.h263_outside.specs.declared.desk.Role.{Role}
 use Rattle.h263_outside.specs.declared.desk.Role.TheVariants.{Wire}
-use Rattle.back_messages.specs.Said.{text_of}
+use Rattle.back_messages.specs.MessageBytes.{text_of}
 use Rattle.event_logs.specs.Text.{entry_text}
 use Rattle.desk_program.specs.Ends.{Gains, GainsFronts}
 use Rattle.desk_program.specs.Texts.{on}
 use Rattle.coded_call.specs.Bytes.{AreBytes}
-use Rattle.recv_command.specs.Said.{back_text}
+use Rattle.recv_command.specs.MessageBytes.{back_text}
 use Rattle.recv_command.proofs.Saying.{said_text}
 use Rattle.recv_command.proofs.parts.say.Goals as goal
 

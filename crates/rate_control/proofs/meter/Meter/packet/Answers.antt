@@ -1,7 +1,7 @@
 use Rattle.std.proofs.Common.{◌≡◌, ◌≤◌, List, ℕ, length, ◌++◌, ◌∷◌, [], arith, subst, sym, ◌∙◌, Ok, Err}
 use Rattle.rtp_header.specs.Faults.{rtp_in}
 use Rattle.rate_control.specs.declared.meter.Meter.{Meter}
-use Rattle.rate_control.specs.Metering.{Stands}
+use Rattle.rate_control.specs.Metering.{MeterStands}
 use Rattle.rate_control.proofs.Meters.{read_as, refused_stands, room_for, taken_stands, told}
 use Rattle.rate_control.proofs.meter.Meter.packet.Goals as goal
 
@@ -14,7 +14,7 @@ take-requires c =
 
 pub returns-in-Ok-clause-stands : goal.returns-in-Ok-clause-stands
 returns-in-Ok-clause-stands c = λ packets s.
-    subst (λ (m : Meter). Stands m (packets ++ c.args.bytes.now ∷ [])) (sym c.take.ensures.meter)
+    subst (λ (m : Meter). MeterStands m (packets ++ c.args.bytes.now ∷ [])) (sym c.take.ensures.meter)
     (taken_stands c.args.self.now packets c.args.bytes.now c.in-Ok.header (sym c.in-Ok.ensures.exact) s)
 
 pub returns-in-Ok-clause-answer : goal.returns-in-Ok-clause-answer

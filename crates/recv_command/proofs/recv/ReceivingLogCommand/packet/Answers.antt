@@ -1,10 +1,10 @@
 use Rattle.std.proofs.Common.{Option, OnOk, OnErr, sym, ◌∙◌, subst}
 use Rattle.h263_types.specs.declared.params.Params.{Params}
-use Rattle.back_messages.specs.declared.writing.Said.{Said}
+use Rattle.back_messages.specs.declared.writing.MessageBytes.{MessageBytes}
 use Rattle.desk_program.specs.Ends.{Gains, GainsFronts}
 use Rattle.receiver_end.specs.Answers.{IsMessage}
 use Rattle.receiver_end.specs.State.{answer_after}
-use Rattle.recv_command.specs.Said.{message_in}
+use Rattle.recv_command.specs.MessageBytes.{message_in}
 use Rattle.recv_command.specs.Recv.{heard_text}
 use Rattle.recv_command.specs.Tally.{with_answer}
 use Rattle.recv_command.proofs.Saying.{heard_count, heard_message}
@@ -28,7 +28,7 @@ returns-clause-ok g c = λ s stands.
     let r = c.args.self.now.receiver in
     let answer = answer_after r.params s.past c.args.bytes.now in
     let says : IsMessage r.params.clock c.said_in.result (message_in answer) =
-    subst (λ (o : Option Said). IsMessage r.params.clock o (message_in answer)) (sym c.said_in.ensures)
+    subst (λ (o : Option MessageBytes). IsMessage r.params.clock o (message_in answer)) (sym c.said_in.ensures)
     (heard_message r.params.clock c.packet-heard.result answer (c.packet-heard.ensures.answer s.past stands.run))
     in
     subst (λ (p : Params). OnOk c.say.result (Gains (heard_text p s.past c.args.bytes.now) (outside c.args.desk.now).written (outside c.say.new.desk).written)) (sym stands.params)
@@ -40,7 +40,7 @@ returns-clause-err g c = λ s stands.
     let r = c.args.self.now.receiver in
     let answer = answer_after r.params s.past c.args.bytes.now in
     let says : IsMessage r.params.clock c.said_in.result (message_in answer) =
-    subst (λ (o : Option Said). IsMessage r.params.clock o (message_in answer)) (sym c.said_in.ensures)
+    subst (λ (o : Option MessageBytes). IsMessage r.params.clock o (message_in answer)) (sym c.said_in.ensures)
     (heard_message r.params.clock c.packet-heard.result answer (c.packet-heard.ensures.answer s.past stands.run))
     in
     subst (λ (p : Params). OnErr c.say.result (GainsFronts (heard_text p s.past c.args.bytes.now) (outside c.args.desk.now).written (outside c.say.new.desk).written)) (sym stands.params)

@@ -10,7 +10,7 @@ use Rattle.call_decoding.specs.Samples.{pictures}
 use Rattle.call_decoding.specs.Styles.{Style}
 use Rattle.call_encoding.specs.Encoding.{encoding}
 use Rattle.call_encoding.specs.Frames.{Frame}
-use Rattle.sender_end.specs.Stands.{Tells, next, next_after, run_of}
+use Rattle.sender_end.specs.Stands.{Describes, next, next_after, run_of}
 use Rattle.sender_end.proofs.state.State.capture.Goals as goal
 
 pub returns-clause-stands : goal.returns-clause-stands
@@ -37,9 +37,9 @@ returns-clause-tells c pace entries quant stood =
     let answer = c.code.result in
     let frame : Frame = record { picture = picture c.args.frame; messages = c.args.back.now } in
     let coded = c.code.ensures.coded pace s (ap pace stood.seen.sizes ∙ quant) stood.seen in
-    let tells : Tells s.sent (next p pace frame s) answer = subst (λ (r : Params). Tells s.sent (next r pace frame s) answer) c.code.ensures.params coded.tells in
+    let tells : Describes s.sent (next p pace frame s) answer = subst (λ (r : Params). Describes s.sent (next r pace frame s) answer) c.code.ensures.params coded.tells in
     let is_next : next p pace frame s ≡ next_after p pace frame entries =
     c.sender_stands.ensures.next (pictures p.format) (encoding p) (rules_of p) (c.are_rules.ensures p c.requires.ready.params) pace frame s entries stood.stands
     in
-    subst (λ (x : CodedPicture Style Mb Picture). Tells (length (run_of p pace entries).coded) x answer) is_next
-    (subst (λ (n : ℕ). Tells n (next p pace frame s) answer) stood.stands.sent tells)
+    subst (λ (x : CodedPicture Style Mb Picture). Describes (length (run_of p pace entries).coded) x answer) is_next
+    (subst (λ (n : ℕ). Describes n (next p pace frame s) answer) stood.stands.sent tells)

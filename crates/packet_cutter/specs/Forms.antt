@@ -5,7 +5,7 @@ use Rattle.picture_header.specs.Written.{written_bits}
 
 -- headers of one style: their texts have one length, and they may differ in the temporal
 -- references, in the rounding bit, in the messages that are asked for, and in the messages in them
-pub record HaveOneStyle (h g : Header) : Type 0 where
+pub record HaveOneForm (h g : Header) : Type 0 where
   pub format : h.format ≡ g.format
   pub kind : h.kind ≡ g.kind
   pub named : is_some h.trp ≡ is_some g.trp
