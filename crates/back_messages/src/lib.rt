@@ -18,8 +18,6 @@
 pub mod laws;
 mod message;
 mod reading;
-#[cfg(test)]
-mod tests;
 mod writing;
 
 pub use message::{Message, MessageFault};

@@ -14,8 +14,6 @@
 
 pub mod laws;
 mod reading;
-#[cfg(test)]
-mod tests;
 mod writing;
 
 pub use reading::{read_inter, read_intra};

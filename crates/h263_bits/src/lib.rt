@@ -15,8 +15,6 @@
 mod fault;
 pub mod laws;
 mod reader;
-#[cfg(test)]
-mod tests;
 mod writer;
 
 pub use fault::{Fault, FaultKind};

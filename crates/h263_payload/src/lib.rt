@@ -15,8 +15,6 @@
 pub mod laws;
 mod payload;
 mod reading;
-#[cfg(test)]
-mod tests;
 mod writing;
 
 pub use payload::{Opening, Payload};

@@ -33,6 +33,3 @@ pub enum Plane {
     Cb,
     Cr,
 }
-
-#[cfg(test)]
-mod tests;

@@ -46,6 +46,3 @@ pub enum Mark {
     /// Nothing arrived: the picture shown before is shown again.
     Held,
 }
-
-#[cfg(test)]
-mod tests;

@@ -21,6 +21,3 @@ mod place;
 mod rows;
 
 pub use macroblock::{Predicted, chroma, luma, luma_quarter, predict};
-
-#[cfg(test)]
-mod tests;

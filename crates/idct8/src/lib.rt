@@ -24,6 +24,3 @@ mod two_passes;
 
 pub use small::are_below;
 pub use two_passes::{forward, inverse};
-
-#[cfg(test)]
-mod tests;

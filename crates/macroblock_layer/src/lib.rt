@@ -17,10 +17,6 @@
 pub mod laws;
 mod prediction;
 mod reading;
-#[cfg(test)]
-mod sent_tests;
-#[cfg(test)]
-mod tests;
 mod writing;
 
 pub use prediction::predictor;

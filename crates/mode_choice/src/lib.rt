@@ -23,6 +23,3 @@ mod residual;
 mod samples;
 
 pub use macroblock::{choose, choose_into};
-
-#[cfg(test)]
-mod tests;

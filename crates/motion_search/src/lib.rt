@@ -95,6 +95,3 @@ fn samples(frame: PictureRef<'_>, mb: u32) -> [u8; 256]
     luma(frame, mb, Vector::ZERO, 0, &mut block);
     block
 }
-
-#[cfg(test)]
-mod tests;

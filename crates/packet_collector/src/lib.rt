@@ -18,8 +18,6 @@ pub mod laws;
 mod marks;
 mod piece;
 mod reading;
-#[cfg(test)]
-mod tests;
 
 pub use collector::Collector;
 pub use piece::{Piece, Place};

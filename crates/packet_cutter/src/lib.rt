@@ -19,7 +19,5 @@ mod cutter;
 mod filling;
 pub mod laws;
 mod packets;
-#[cfg(test)]
-mod tests;
 
 pub use cutter::Cutter;

@@ -13,7 +13,5 @@
 #![tactic(auto)]
 
 mod coding;
-#[cfg(test)]
-mod tests;
 
 pub use coding::code_picture;

@@ -17,8 +17,6 @@ mod header;
 pub mod laws;
 mod reading;
 mod same;
-#[cfg(test)]
-mod tests;
 mod writing;
 
 pub use header::Header;

@@ -21,6 +21,3 @@ mod squares;
 mod values;
 
 pub use macroblocks::{recon_mb, recon_slice};
-
-#[cfg(test)]
-mod tests;

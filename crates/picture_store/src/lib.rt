@@ -205,6 +205,3 @@ fn claim_all(region: &mut Region, slots: &mut Vec<Slot>)
         slots.push_reserved(slot);
     }
 }
-
-#[cfg(test)]
-mod tests;

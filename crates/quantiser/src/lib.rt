@@ -127,6 +127,3 @@ fn signed(number: i32, size: i16) -> i16
 {
     if number < 0 { -size } else { size }
 }
-
-#[cfg(test)]
-mod tests;

@@ -21,8 +21,6 @@ ghost use Rattle.rtp_header.specs.Written.{rtp_fields, written_rtp, IsWithin};
 
 pub mod laws;
 mod rtp;
-#[cfg(test)]
-mod tests;
 
 use byteorder::{BigEndian, ByteOrder};
 use h263_bits::{Fault, FaultKind};

@@ -121,6 +121,3 @@ fn one_by_one(a: &[u8], b: &[u8]) -> u32
     }
     total
 }
-
-#[cfg(test)]
-mod tests;

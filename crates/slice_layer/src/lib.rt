@@ -18,10 +18,6 @@ mod head;
 pub mod laws;
 mod reading;
 mod shared;
-#[cfg(test)]
-mod tests;
-#[cfg(test)]
-mod writer_tests;
 mod writing;
 mod writing_head;
 mod writing_text;

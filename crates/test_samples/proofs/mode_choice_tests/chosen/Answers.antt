@@ -1,0 +1,11 @@
+use Rattle.std.proofs.Common.{◌∙◌, sym, ap, subst, arith, ◌<◌}
+use Rattle.h263_types.specs.declared.format.Format.{Format}
+use Rattle.h263_types.specs.Sizes.{mbs_of}
+use Rattle.h263_planes.specs.Picture.{Picture}
+use Rattle.test_samples.proofs.mode_choice_tests.chosen.Goals as goal
+
+pub choose-requires-clause-reference : goal.choose-requires-clause-reference
+choose-requires-clause-reference g c = ap (λ (p : Picture). p.format) c.new-reference.ensures.picture ∙ sym (ap (λ (p : Picture). p.format) c.new-frame.ensures.picture)
+
+pub choose-requires-clause-mb : goal.choose-requires-clause-mb
+choose-requires-clause-mb g c = subst (λ (f : Format). c.args.mb < mbs_of f) (sym (ap (λ (p : Picture). p.format) c.new-frame.ensures.picture)) (omega arith)

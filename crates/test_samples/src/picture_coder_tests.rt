@@ -1,0 +1,301 @@
+//! Pictures coded, byte for byte. Where sums stand for the bytes, another program made these, which
+//! works by the formulas of the formats: double sums, each candidate of the search, bits as text.
+ghost use Rattle.std.specs.Prelude.{◌≡◌, ◌<◌, ◌≤◌};
+ghost use Rattle.std.specs.Option.{option_map};
+ghost use Rattle.h263_types.specs.Params.{IsParams};
+ghost use Rattle.h263_types.specs.declared.format.Format.TheVariants.{SubQcif};
+ghost use Rattle.h263_planes.specs.Lent.{picture};
+ghost use Rattle.h263_planes.specs.References.{HasReferenceOnlyInP};
+ghost use Rattle.picture_header.specs.Ranges.{IsHeader};
+ghost use Rattle.packet_cutter.specs.Cutting.{format_of, limit_of};
+
+use h263_outside::OutOfMemory;
+use h263_planes::{PictureMut, PictureRef};
+use h263_types::{Clock, Format, Kind, Params};
+use packet_cutter::Cutter;
+use picture_coder::code_picture;
+use picture_header::Header;
+use std::alloc::Global;
+use std::process::Abort;
+use std::test::Fail;
+
+// The bytes of a sub-QCIF picture.
+const SIZE: usize = 18_432;
+
+const PARAMS: Params = Params {
+    format: Format::SubQcif,
+    quant: 8,
+    keep: 64,
+    radius: 7,
+    limit: 1400,
+    slots: 16,
+    lead: 3,
+    messages: 1,
+    clock: Clock::Standard,
+};
+
+// Picture 0, an I picture.
+const FIRST: Header = Header {
+    tr: 0,
+    format: Format::SubQcif,
+    kind: Kind::I,
+    rounding: 0,
+    channel: 3,
+    trp: None,
+    quant: 8,
+    back: [None; 4],
+    clock: Clock::Standard,
+};
+
+// Picture 1, which refers to picture 0.
+const SECOND: Header = Header {
+    tr: 1,
+    kind: Kind::P,
+    rounding: 1,
+    trp: Some(0),
+    ..FIRST
+};
+
+// Picture 2, which refers to picture 1.
+const THIRD: Header = Header {
+    tr: 2,
+    rounding: 0,
+    trp: Some(1),
+    ..SECOND
+};
+
+// The packet of 48 macroblocks that are not coded, of picture 1.
+const SKIPPED_PACKET: [u8; 31] = [
+    0x80, 0xE0, 0x00, 0x01, 0x00, 0x00, 0x0B, 0xBB, 0x48, 0x32, 0x36, 0x33, 0x04, 0x00, 0x80, 0x06,
+    0x1C, 0x90, 0x31, 0x04, 0x91, 0xE0, 0x02, 0x84, 0x0F, 0xFF, 0xFF, 0xFF, 0xFF, 0xFF, 0xF8,
+];
+
+// For every vector the difference is 0, and the zero vector is chosen by its cost of -100.
+#[test]
+fn second_of_two_flat_pictures(rt: HostRuntime) -> Result<(), Fail> {
+    let mut cutter = Cutter::start(rt.alloc(), &PARAMS)?;
+    let frame = [100; SIZE];
+    let frame = PictureRef::new(Format::SubQcif, &frame);
+    let mut first = [0; SIZE];
+    let mut work = PictureMut::new(Format::SubQcif, &mut first);
+    code_picture(frame, None, 0, &FIRST, &PARAMS, &mut cutter, &mut work);
+    assert!(rt; cutter.count() == 1);
+    assert_eq!(rt; cutter.packet(0).len(), 342);
+    let reference = PictureRef::new(Format::SubQcif, &first);
+    let mut second = [0; SIZE];
+    let mut work = PictureMut::new(Format::SubQcif, &mut second);
+    code_picture(
+        frame,
+        Some(reference),
+        1,
+        &SECOND,
+        &PARAMS,
+        &mut cutter,
+        &mut work,
+    );
+    assert!(rt; cutter.count() == 1);
+    assert_eq!(rt; cutter.packet(0), SKIPPED_PACKET.as_slice());
+    assert_eq!(rt; second.as_slice(), first.as_slice());
+    Ok(())
+}
+
+// How far a number lies from 64, modulo 128.
+fn triangle(v: u32) -> u32
+    ensures { result ≤ 64 }
+{
+    (v % 128).abs_diff(64)
+}
+
+// The luma of frame n: a texture at rest, before it another that moves by five and a half samples
+// to the right and three and a half down, and from frame 1 on a bright corner.
+fn luma(n: u32, x: u32, y: u32) -> u32
+    requires n { n < 3 }
+    requires x { x < 128 }
+    requires y { y < 96 }
+    ensures { result < 256 }
+{
+    let across = 2 * x + 128 - 11 * n;
+    let down = 2 * y + 128 - 7 * n;
+    if n > 0 && x >= 96 && y >= 64 {
+        250 - (x * y + n) % 5
+    } else if across >= 176 && across < 272 && down >= 168 && down < 264 {
+        50 + triangle(5 * across + down) + triangle(2 * down + across * down / 32)
+    } else {
+        90 + triangle(3 * x + 2 * y) + 7 * x * y % 4
+    }
+}
+
+// Both colours, which change in the lower part.
+fn colour(n: u32, x: u32, y: u32) -> u32
+    requires n { n < 3 }
+    requires x { x < 64 }
+    requires y { y < 96 }
+    ensures { result < 256 }
+{
+    100 + triangle(4 * x + 2 * y + 9 * n * (y / 24))
+}
+
+// Frame n, at most 2.
+fn moving(n: u32) -> [u8; SIZE]
+    requires { n < 3 }
+{
+    let mut frame = [0; SIZE];
+    for k in 0..12_288u32 {
+        frame[k as usize] = luma(n, k % 128, k / 128) as u8;
+    }
+    for k in 0..6_144u32 {
+        frame[(12_288 + k) as usize] = colour(n, k % 64, k % 3_072 / 64) as u8;
+    }
+    frame
+}
+
+// The two sums of Adler-32 (RFC 1950).
+fn sums(bytes: &[u8]) -> (u32, u32)
+    ensures { (result.0 < 65521) × (result.1 < 65521) }
+{
+    let mut a = 1;
+    let mut b = 0;
+    for byte in bytes {
+        a = (a + *byte as u32) % 65_521;
+        b = (b + a) % 65_521;
+    }
+    (a, b)
+}
+
+// The bytes and the sums of each packet, and the sums of the reconstruction.
+type Want<'a> = (&'a [(usize, (u32, u32))], (u32, u32));
+
+fn assert_coded(rt: &impl Abort, cutter: &Cutter, shown: &[u8], want: Want<'_>) {
+    let (packets, picture) = want;
+    assert!(rt; cutter.count() as usize == packets.len());
+    for i in 0..cutter.count() {
+        let packet = cutter.packet(i);
+        assert_eq!(rt;
+            (packet.len(), sums(packet)),
+            packets[i as usize],
+            "packet {i}"
+        );
+    }
+    assert_eq!(rt; sums(shown), picture);
+}
+
+// Codes a frame of the moving pictures, and looks at what comes out.
+fn assert_moving(
+    rt: &impl Abort,
+    header: &Header,
+    before: Option<PictureRef<'_>>,
+    params: &Params,
+    cutter: &mut Cutter,
+    out: &mut [u8; SIZE],
+    want: Want<'_>,
+)
+    requires number { header.now.tr < 3 }
+    requires header { IsHeader header.now }
+    requires params { IsParams params.now }
+    requires format { params.now.format ≡ SubQcif }
+    requires header_format { header.now.format ≡ params.now.format }
+    requires before { HasReferenceOnlyInP header.now.kind params.now.format
+        (option_map picture before) }
+    requires cutter_format { format_of cutter.old ≡ params.now.format }
+    requires limit { limit_of cutter.old ≡ params.now.limit }
+    ensures cutter_format { format_of cutter.new ≡ params.now.format }
+    ensures limit { limit_of cutter.new ≡ params.now.limit }
+{
+    let number = u32::from(header.tr);
+    let frame = moving(number);
+    let frame = PictureRef::new(params.format, &frame);
+    let mut work = PictureMut::new(params.format, out);
+    code_picture(frame, before, number, header, params, cutter, &mut work);
+    assert_coded(rt, cutter, out, want);
+}
+
+fn assert_three(
+    rt: &impl Abort,
+    alloc: Global,
+    params: &Params,
+    wants: [Want<'_>; 3],
+) -> Result<(), OutOfMemory>
+    requires params { IsParams params.now }
+    requires format { params.now.format ≡ SubQcif }
+{
+    let quant = params.quant;
+    let mut cutter = Cutter::start(alloc, params)?;
+    let [mut first, mut second, mut third] = [[0; SIZE]; 3];
+    let header = Header { quant, ..FIRST };
+    assert_moving(rt, &header, None, params, &mut cutter, &mut first, wants[0]);
+    let header = Header { quant, ..SECOND };
+    let before = Some(PictureRef::new(params.format, &first));
+    assert_moving(
+        rt,
+        &header,
+        before,
+        params,
+        &mut cutter,
+        &mut second,
+        wants[1],
+    );
+    let header = Header { quant, ..THIRD };
+    let before = Some(PictureRef::new(params.format, &second));
+    assert_moving(
+        rt,
+        &header,
+        before,
+        params,
+        &mut cutter,
+        &mut third,
+        wants[2],
+    );
+    Ok(())
+}
+
+// Macroblocks that are not coded, predicted (by vectors of whole and half samples) and coded by
+// themselves, in pictures of both roundings; with the fine quantiser slices begin inside a row.
+#[test]
+fn moving_pictures(rt: HostRuntime) -> Result<(), Fail> {
+    let fine = Params {
+        quant: 2,
+        limit: 1200,
+        ..PARAMS
+    };
+    assert_three(
+        &rt,
+        rt.alloc(),
+        &fine,
+        [
+            (
+                &[
+                    (1175, (51_551, 32_542)),
+                    (1120, (45_112, 49_860)),
+                    (1191, (56_216, 615)),
+                    (69, (5474, 44_165)),
+                ],
+                (12_949, 13_602),
+            ),
+            (
+                &[(1188, (56_672, 51_666)), (188, (19_637, 8277))],
+                (7512, 1697),
+            ),
+            (
+                &[(1122, (59_493, 12_349)), (507, (54_378, 19_784))],
+                (6353, 48_060),
+            ),
+        ],
+    )?;
+    let coarse = Params {
+        quant: 9,
+        keep: 20,
+        radius: 4,
+        ..PARAMS
+    };
+    assert_three(
+        &rt,
+        rt.alloc(),
+        &coarse,
+        [
+            (&[(1112, (16_978, 10_062))], (12_839, 10_058)),
+            (&[(445, (48_980, 9724))], (7120, 6908)),
+            (&[(448, (55_309, 9022))], (7058, 27_729)),
+        ],
+    )?;
+    Ok(())
+}
