@@ -25,8 +25,6 @@ mod refusals;
 mod show;
 mod tally;
 mod terms;
-#[cfg(test)]
-mod tests;
 mod turning;
 mod way;
 

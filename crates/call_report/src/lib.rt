@@ -16,8 +16,6 @@ mod line;
 mod picture;
 mod refusal;
 mod status;
-#[cfg(test)]
-mod tests;
 
 pub use line::Line;
 pub use picture::picture_line;

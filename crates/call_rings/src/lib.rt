@@ -17,8 +17,6 @@
 pub mod laws;
 mod messages;
 mod packets;
-#[cfg(test)]
-mod tests;
 
 pub use messages::MessageRing;
 pub use packets::PacketRing;

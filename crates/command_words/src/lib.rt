@@ -16,8 +16,6 @@ mod command;
 mod forms;
 pub mod laws;
 mod simple;
-#[cfg(test)]
-mod tests;
 mod values;
 mod words;
 

@@ -15,8 +15,6 @@ pub mod laws;
 mod line;
 mod mind;
 mod terms;
-#[cfg(test)]
-mod tests;
 
 pub use demo::Demo;
 pub use terms::DemoTerms;

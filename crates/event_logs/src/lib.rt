@@ -24,6 +24,3 @@ pub use entry::{Entry, Side};
 pub use fault::{LogFault, LogStop};
 pub use reader::LogReader;
 pub use writer::write_entry;
-
-#[cfg(test)]
-mod tests;

@@ -92,19 +92,3 @@ impl LogReader {
         self.at += HEAD as u64 + bytes_of(entry) as u64;
     }
 }
-
-#[cfg(test)]
-impl LogReader {
-    ghost use Rattle.std.specs.Prelude.{◌≡◌};
-
-    /// The reader where one entry may still come, in place of reading 16 million.
-    pub fn before_the_last(self) -> LogReader
-        ensures { result.entries ≡ 16777215 }
-    {
-        LogReader {
-            side: self.side,
-            entries: MAX_ENTRIES - 1,
-            at: 0,
-        }
-    }
-}

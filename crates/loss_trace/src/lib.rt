@@ -20,6 +20,3 @@ mod reader;
 pub use event::{BadLine, Event, line};
 pub use fault::{TraceFault, TraceStop};
 pub use reader::TraceReader;
-
-#[cfg(test)]
-mod tests;

@@ -145,18 +145,3 @@ impl TraceReader {
         self.lines
     }
 }
-
-#[cfg(test)]
-impl TraceReader {
-    ghost use Rattle.std.specs.Prelude.{◌≡◌};
-
-    /// The reader where one line may still come, in place of reading 16 million.
-    pub fn before_the_last(self) -> TraceReader
-        ensures { result.lines ≡ 16777215 }
-    {
-        TraceReader {
-            lines: MAX_LINES - 1,
-            ended: self.ended,
-        }
-    }
-}

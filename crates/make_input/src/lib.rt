@@ -13,8 +13,6 @@
 
 mod frames;
 pub mod laws;
-#[cfg(test)]
-mod tests;
 mod trace;
 
 pub use frames::frame;

@@ -11,7 +11,5 @@
 pub mod laws;
 mod parts;
 mod rate;
-#[cfg(test)]
-mod tests;
 
 pub use rate::{Bucket, Metering, Rate};

@@ -12,8 +12,6 @@ pub mod laws;
 mod level;
 mod meter;
 mod pace;
-#[cfg(test)]
-mod tests;
 mod text;
 
 pub use meter::{Meter, Metered, Totals};

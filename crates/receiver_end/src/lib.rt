@@ -25,8 +25,6 @@ mod playing;
 mod receiver;
 mod starting;
 mod taking;
-#[cfg(test)]
-mod tests;
 
 pub use answers::{Heard, PacketFault, Played};
 pub use receiver::Receiver;

@@ -12,8 +12,6 @@ pub mod laws;
 mod parts;
 mod recv;
 mod tally;
-#[cfg(test)]
-mod tests;
 
 pub use recv::{Receiving, Recv};
 pub use tally::Tally;

@@ -269,6 +269,3 @@ impl Selector {
         self.depths[(number % self.slots) as usize]
     }
 }
-
-#[cfg(test)]
-mod tests;

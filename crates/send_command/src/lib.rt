@@ -16,8 +16,6 @@ mod machine;
 mod mind;
 mod pace;
 mod tally;
-#[cfg(test)]
-mod tests;
 
 pub use machine::Send;
 pub use pace::{SendPace, Sending};

@@ -18,7 +18,5 @@ mod coding;
 mod headers;
 mod sender;
 mod state;
-#[cfg(test)]
-mod tests;
 
 pub use sender::{Coded, Feedback, Sender};

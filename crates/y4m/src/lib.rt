@@ -24,6 +24,3 @@ mod writer;
 pub use fault::{VideoStop, Y4mFault};
 pub use reader::{MAX_FRAMES, Y4mReader};
 pub use writer::{write_frame, write_head};
-
-#[cfg(test)]
-mod tests;

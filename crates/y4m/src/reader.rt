@@ -93,19 +93,3 @@ impl Y4mReader {
         Ok(true)
     }
 }
-
-#[cfg(test)]
-impl Y4mReader {
-    ghost use Rattle.std.specs.Prelude.{◌≡◌};
-
-    /// The reader where one frame may still come, in place of reading a million.
-    pub fn before_the_last(self) -> Y4mReader
-        ensures { result.format ≡ self.format }
-    {
-        Y4mReader {
-            format: self.format,
-            at: self.at,
-            more: self.more.min(1),
-        }
-    }
-}

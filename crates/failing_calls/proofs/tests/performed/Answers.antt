@@ -1,4 +1,0 @@
-use Rattle.failing_calls.proofs.tests.performed.Goals as goal
-
-pub perform-requires-clause-report : goal.perform-requires-clause-report
-perform-requires-clause-report g c = c.in_default.ensures.alone c.requires.desk

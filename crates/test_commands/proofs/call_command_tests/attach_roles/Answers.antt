@@ -1,0 +1,11 @@
+use Rattle.h263_outside.specs.declared.desk.Role.TheVariants.{Video, Pictures, Report}
+use Rattle.test_commands.proofs.call_command_tests.attach_roles.Goals as goal
+
+pub returns-in-Ok-clause-video : goal.returns-in-Ok-clause-video
+returns-in-Ok-clause-video g c = (c.in-Ok.ensures.alone c.requires).roles Video
+
+pub returns-in-Ok-clause-pictures : goal.returns-in-Ok-clause-pictures
+returns-in-Ok-clause-pictures g c = (c.in-Ok.ensures.alone c.requires).roles Pictures
+
+pub returns-in-Ok-clause-report : goal.returns-in-Ok-clause-report
+returns-in-Ok-clause-report g c = (c.in-Ok.ensures.alone c.requires).roles Report

@@ -1,0 +1,264 @@
+//! Commands and refusals, each as a list of words.
+use command_words::{Command, WordStop, Words};
+use h263_outside::Role;
+use h263_types::{Clock, Format, Params};
+
+// What the words after the first may be and what they may not.
+static USAGE: [&[&str]; 53] = [
+    &[],
+    &[""],
+    &["convert", "in", "out"],
+    &["Call", "in", "out"],
+    &["call", "in"],
+    &["call", "in", "out", "more"],
+    &["call", "in", "out", "--slots", "4", "--lead", "3"],
+    &["call", "in", "out", "--quant", "0"],
+    &["call", "in", "out", "--quant", "32"],
+    &["call", "in", "out", "--quant", "264"],
+    &["call", "in", "out", "--keep", "65"],
+    &["call", "in", "out", "--radius", "16"],
+    &["call", "in", "out", "--limit", "1199"],
+    &["call", "in", "out", "--limit", "9001"],
+    &["call", "in", "out", "--slots", "65"],
+    &["call", "in", "out", "--messages", "3"],
+    &["call", "in", "out", "--messages", "0"],
+    &["call", "in", "out", "--clock", "other"],
+    &["call", "in", "out", "--clock", "Standard"],
+    &["call", "in", "out", "--format", "cif"],
+    &["call", "in", "out", "--quant", "+8"],
+    &["call", "in", "out", "--quant", "0000008"],
+    &["call", "in", "out", "--quant", ""],
+    &["call", "in", "out", "--lead="],
+    &["call", "in", "out", "--lead", "-x"],
+    &["call", "in", "out", "--lead", "--"],
+    &["call", "in", "out", "--lead"],
+    &["call", "in", "out", "--lead", "1", "--lead", "1"],
+    &["call", "in", "out", "--lead=1", "--lead", "2"],
+    &["call", "in", "out", "--le", "1"],
+    &["call", "in", "out", "--help"],
+    &["call", "in", "out", "-h"],
+    &["call", "in", "out", "--=1"],
+    &["send", "in", "log", "wire", "--messages", "2"],
+    &["send", "in", "log", "wire", "--trace", "t"],
+    &["recv", "log", "out", "wire", "--quant", "8"],
+    &["recv", "log", "out", "wire", "--format", "QCIF"],
+    &["demo", "1", "0"],
+    &["demo", "1", "10001"],
+    &["demo", "1000000000", "1"],
+    &["send", "in", "log", "wire", "--target", "0"],
+    &["send", "in", "log", "wire", "--target", "1000000"],
+    &["send", "in", "log", "wire", "--target", "+1"],
+    &["call", "in", "out", "--target", "100"],
+    &["rate", "log"],
+    &["rate", "log", "--target", "342"],
+    &["rate", "log", "--bucket", "200"],
+    &["rate", "--target", "342", "--bucket", "200"],
+    &["rate", "log", "--target", "0", "--bucket", "200"],
+    &["rate", "log", "--target", "1000000", "--bucket", "0"],
+    &["rate", "log", "--target", "1", "--bucket", "1000000"],
+    &["rate", "log", "out", "--target", "1", "--bucket", "1"],
+    &[
+        "rate", "log", "--target", "1", "--bucket", "1", "--slots", "16",
+    ],
+];
+
+#[test]
+fn words_that_are_no_command(rt: HostRuntime) {
+    for words in &USAGE {
+        match Words::read(rt.alloc(), words) {
+            Err(stop) => assert_eq!(rt; stop, WordStop::Usage, "{words:?}"),
+            Ok(_) => assert!(rt; false, "{words:?}"),
+        }
+    }
+}
+
+// The same command, its options before, between and after the positional words.
+static SAME: [&[&str]; 7] = [
+    &[
+        "call",
+        "--lead",
+        "1",
+        "--slots=4",
+        "in",
+        "out",
+        "--trace",
+        "t",
+    ],
+    &["call", "in", "--lead=1", "--slots", "4", "out", "--trace=t"],
+    &[
+        "call", "in", "out", "--trace", "t", "--slots", "000004", "--lead", "1",
+    ],
+    &[
+        "call",
+        "--trace",
+        "t",
+        "in",
+        "--slots=4",
+        "--lead=01",
+        "--",
+        "out",
+    ],
+    &[
+        "call", "--slots", "4", "--lead", "1", "--trace", "t", "--", "in", "out",
+    ],
+    &[
+        "call",
+        "in",
+        "out",
+        "--trace=t",
+        "--slots=4",
+        "--lead=1",
+        "--",
+    ],
+    &[
+        "call",
+        "in",
+        "--slots=4",
+        "out",
+        "--lead=1",
+        "--messages=1",
+        "--clock=standard",
+        "--trace=t",
+    ],
+];
+
+#[test]
+fn options_stand_anywhere(rt: HostRuntime) {
+    let params = Params {
+        slots: 4,
+        lead: 1,
+        ..Params::of(Format::Qcif)
+    };
+    for words in &SAME {
+        let read = Words::read(rt.alloc(), words).expect(&rt, "a command");
+        assert_eq!(rt;
+            read.command(),
+            Command::Call {
+                params,
+                traced: true
+            }
+        );
+        assert_eq!(rt; read.name(Role::Video), Some("in"));
+        assert_eq!(rt; read.name(Role::Events), Some("t"));
+        assert_eq!(rt; read.name(Role::Pictures), Some("out"));
+        assert_eq!(rt; read.name(Role::Wire), None);
+        assert_eq!(rt; read.name(Role::Report), None);
+    }
+}
+
+// Words, and the names of video, events, pictures and wire.
+static NAMED: [(&[&str], &[Option<&str>]); 9] = [
+    (
+        &["call", "in", "out"],
+        &[Some("in"), None, Some("out"), None],
+    ),
+    (&["call", "", "-"], &[Some(""), None, Some("-"), None]),
+    (
+        &["call", "--", "-a", "--b=c"],
+        &[Some("-a"), None, Some("--b=c"), None],
+    ),
+    (
+        &["call", "in", "--trace=", "out"],
+        &[Some("in"), Some(""), Some("out"), None],
+    ),
+    (
+        &["call", "in", "--trace", "-", "out"],
+        &[Some("in"), Some("-"), Some("out"), None],
+    ),
+    (
+        &["send", "a", "b", "c"],
+        &[Some("a"), Some("b"), None, Some("c")],
+    ),
+    (
+        &["recv", "a", "b", "c"],
+        &[None, Some("a"), Some("b"), Some("c")],
+    ),
+    (&["demo", "0", "1"], &[None, None, None, None]),
+    (
+        &["rate", "--bucket", "0", "a", "--target", "1"],
+        &[None, Some("a"), None, None],
+    ),
+];
+
+#[test]
+fn names_by_role(rt: HostRuntime) {
+    for (words, names) in &NAMED {
+        let read = Words::read(rt.alloc(), words).expect(&rt, "a command");
+        let roles = [Role::Video, Role::Events, Role::Pictures, Role::Wire];
+        for (role, name) in roles.iter().zip(names.iter()) {
+            assert_eq!(rt; read.name(*role), *name, "{words:?}");
+        }
+    }
+}
+
+static PLAIN: [&str; 3] = ["call", "in", "out"];
+
+static SENDING: [&str; 6] = ["send", "in", "log", "wire", "--clock", "custom"];
+
+static FOLLOWING: [&str; 6] = ["send", "in", "log", "wire", "--target", "100"];
+
+static RECEIVING: [&str; 9] = [
+    "recv",
+    "log",
+    "out",
+    "wire",
+    "--format=sub-qcif",
+    "--slots=2",
+    "--lead=0",
+    "--messages",
+    "2",
+];
+
+static MADE: [&str; 5] = ["demo", "999999999", "10000", "--format", "cif"];
+
+static MEASURED: [&str; 5] = ["rate", "log", "--target=999999", "--bucket", "200"];
+
+#[test]
+fn one_command_of_each(rt: HostRuntime) {
+    let params = Params::of(Format::Qcif);
+    let call = Command::Call {
+        params,
+        traced: false,
+    };
+    let send = Command::Send {
+        params: Params {
+            clock: Clock::Custom,
+            ..params
+        },
+        target: None,
+    };
+    let following = Command::Send {
+        params,
+        target: Some(100),
+    };
+    let recv = Command::Recv {
+        params: Params {
+            format: Format::SubQcif,
+            slots: 2,
+            lead: 0,
+            messages: 2,
+            ..params
+        },
+    };
+    let demo = Command::Demo {
+        params: Params::of(Format::Cif),
+        seed: 999_999_999,
+        frames: 10_000,
+    };
+    let rate = Command::Rate {
+        target: 999_999,
+        bucket: 200,
+    };
+    let table = [
+        (PLAIN.as_slice(), call),
+        (SENDING.as_slice(), send),
+        (FOLLOWING.as_slice(), following),
+        (RECEIVING.as_slice(), recv),
+        (MADE.as_slice(), demo),
+        (MEASURED.as_slice(), rate),
+    ];
+    for (words, command) in table {
+        let read = Words::read(rt.alloc(), words).expect(&rt, "a command");
+        assert_eq!(rt; read.command(), command, "{words:?}");
+    }
+}

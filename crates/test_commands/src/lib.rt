@@ -1,0 +1,25 @@
+//! Nothing to run: tests of files and words, and of the commands over a desk in memory.
+#![tactic(auto)]
+
+#[cfg(test)]
+mod call_command_tests;
+#[cfg(test)]
+mod call_report_tests;
+#[cfg(test)]
+mod command_words_tests;
+#[cfg(test)]
+mod demo_command_tests;
+#[cfg(test)]
+mod event_logs_tests;
+#[cfg(test)]
+mod failing_calls;
+#[cfg(test)]
+mod loss_trace_tests;
+#[cfg(test)]
+mod rate_command_tests;
+#[cfg(test)]
+mod recv_command_tests;
+#[cfg(test)]
+mod send_command_tests;
+#[cfg(test)]
+mod y4m_tests;

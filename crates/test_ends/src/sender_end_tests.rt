@@ -1,0 +1,235 @@
+//! Senders by hand: which reference each picture has, and what becomes of feedback.
+ghost use Rattle.std.specs.Prelude.{◌≡◌, ◌+◌, ◌<◌, ◌≤◌, length, IfOk};
+ghost use Rattle.h263_types.specs.Params.{IsParams};
+ghost use Rattle.h263_types.specs.declared.format.Format.TheVariants.{SubQcif};
+ghost use Rattle.h263_planes.specs.Lent.{picture};
+ghost use Rattle.packet_cutter.specs.Cutting.{packets_of};
+ghost use Rattle.sender_end.specs.Stands.{IsReady};
+
+use back_messages::{Message, MessageFault, write};
+use h263_outside::OutOfMemory;
+use h263_planes::{PictureRef, Plane};
+use h263_types::{FixedPace, Format, Params};
+use sender_end::{Coded, Feedback, Sender};
+use std::alloc::Global;
+use std::process::Abort;
+use std::test::Fail;
+
+// The bytes of a sub-QCIF picture.
+const SIZE: usize = 18_432;
+
+// The packet of 48 macroblocks that are not coded, of picture 1 which refers to picture 0.
+const SKIPPED_PACKET: [u8; 31] = [
+    0x80, 0xE0, 0x00, 0x01, 0x00, 0x00, 0x0B, 0xBB, 0x48, 0x32, 0x36, 0x33, 0x04, 0x00, 0x80, 0x06,
+    0x1C, 0x90, 0x31, 0x04, 0x91, 0xE0, 0x02, 0x84, 0x0F, 0xFF, 0xFF, 0xFF, 0xFF, 0xFF, 0xF8,
+];
+
+// What is done to a sender, and what it answers: the reference of a picture, or the reply to bytes.
+#[derive(Clone, Copy)]
+enum Step {
+    Code(Option<u32>),
+    Hear(&'static [u8], Feedback),
+}
+
+fn sender_of(alloc: Global, params: &Params) -> Result<Sender<FixedPace>, OutOfMemory>
+    requires { IsParams params.now }
+    ensures ready { IfOk result (λ sender. IsReady sender.state) }
+    ensures params { IfOk result (λ sender. sender.state.params ≡ params.now) }
+    ensures sent { IfOk result (λ sender. sender.state.sent ≡ 0) }
+{
+    Sender::start(
+        alloc,
+        params,
+        FixedPace {
+            quant: params.quant,
+        },
+    )
+}
+
+// Whether the sender answers so.
+fn answers(sender: &mut Sender<FixedPace>, step: Step, frame: PictureRef<'_>) -> bool
+    requires ready { IsReady sender.old.state }
+    requires frame { (picture frame).format ≡ sender.old.state.params.format }
+    requires left { sender.old.state.sent < 1048576 }
+    ensures ready { IsReady sender.new.state }
+    ensures params { sender.new.state.params ≡ sender.old.state.params }
+    ensures sent { sender.new.state.sent ≤ sender.old.state.sent + 1 }
+{
+    match step {
+        Step::Code(reference) => sender.code(frame, &[]).reference == reference,
+        Step::Hear(bytes, reply) => sender.feedback(bytes) == reply,
+    }
+}
+
+// How many of the steps are answered so, of frames that are flat 100.
+fn answered(alloc: Global, params: &Params, steps: &[Step]) -> Result<usize, OutOfMemory>
+    requires params { IsParams params.now }
+    requires format { params.now.format ≡ SubQcif }
+    requires few { length steps.now < 1000 }
+{
+    let frame = [100; SIZE];
+    let frame = PictureRef::new(Format::SubQcif, &frame);
+    let mut sender = sender_of(alloc, params)?;
+    let mut right = 0;
+    for step in steps {
+        if answers(&mut sender, *step, frame) {
+            right += 1;
+        }
+    }
+    sender.finish();
+    Ok(right)
+}
+
+fn assert_answers(
+    rt: &impl Abort,
+    alloc: Global,
+    params: &Params,
+    steps: &[Step],
+) -> Result<(), OutOfMemory>
+    requires params { IsParams params.now }
+    requires format { params.now.format ≡ SubQcif }
+    requires few { length steps.now < 1000 }
+{
+    let right = answered(alloc, params, steps)?;
+    assert_eq!(rt; right, steps.len());
+    Ok(())
+}
+
+// A window of two pictures; the first message is an ACK of picture 0.
+#[test]
+fn window_ends(rt: HostRuntime) -> Result<(), Fail> {
+    let params = Params {
+        slots: 4,
+        lead: 1,
+        radius: 1,
+        ..Params::of(Format::SubQcif)
+    };
+    let steps = [
+        Step::Code(None),
+        Step::Hear(&[0xC0, 0x04, 0x00], Feedback::Noted),
+        Step::Code(Some(0)),
+        Step::Code(Some(0)),
+        Step::Code(None),
+    ];
+    assert_answers(&rt, rt.alloc(), &params, &steps)?;
+    Ok(())
+}
+
+// A NACK of picture 1 that offers picture 0; then feedback that is refused, old (about a picture
+// that wasn't sent), and lying (it offers one that wasn't sent), which make nothing known.
+#[test]
+fn offers_and_false_feedback(rt: HostRuntime) -> Result<(), Fail> {
+    let params = Params {
+        slots: 4,
+        lead: 1,
+        radius: 1,
+        ..Params::of(Format::SubQcif)
+    };
+    let steps = [
+        Step::Code(None),
+        Step::Hear(&[0xC0, 0x04], Feedback::Refused(MessageFault::Length)),
+        Step::Hear(&[0xC0, 0x04, 0x01], Feedback::Refused(MessageFault::Pair)),
+        Step::Hear(&[0xC0, 0x1C, 0x03], Feedback::Old),
+        Step::Hear(&[0x80, 0x04, 0x03], Feedback::Noted),
+        Step::Code(None),
+        Step::Hear(&[0x80, 0x0C, 0x00], Feedback::Noted),
+        Step::Code(Some(0)),
+    ];
+    assert_answers(&rt, rt.alloc(), &params, &steps)?;
+    Ok(())
+}
+
+// An ACK of picture 0 whose first flag tells that picture 1 is complete, and a NACK of picture 2
+// that offers picture 3.
+#[test]
+fn flags_tell_of_next_picture(rt: HostRuntime) -> Result<(), Fail> {
+    let params = Params {
+        slots: 6,
+        lead: 2,
+        radius: 1,
+        messages: 2,
+        ..Params::of(Format::SubQcif)
+    };
+    let steps = [
+        Step::Code(None),
+        Step::Code(None),
+        Step::Code(None),
+        Step::Hear(&[0xE0, 0x04, 0x00, 0xC0, 0x80], Feedback::Noted),
+        Step::Code(Some(1)),
+        Step::Hear(&[0xA0, 0x14, 0x03, 0xC0, 0x80], Feedback::Noted),
+        Step::Code(Some(3)),
+    ];
+    assert_answers(&rt, rt.alloc(), &params, &steps)?;
+    Ok(())
+}
+
+// The references of pictures 131 and 132, where each picture is acknowledged.
+fn chained(alloc: Global, params: &Params) -> Result<[Option<u32>; 2], OutOfMemory>
+    requires params { IsParams params.now }
+    requires format { params.now.format ≡ SubQcif }
+{
+    let frame = [100; SIZE];
+    let frame = PictureRef::new(Format::SubQcif, &frame);
+    let mut sender = sender_of(alloc, params)?;
+    let mut references = [None; 2];
+    for number in 0..133u32 {
+        let coded = sender.code(frame, &[]);
+        references[(number % 2) as usize] = coded.reference;
+        let ack = Message::Ack {
+            tr: number as u16,
+            marks: None,
+        };
+        sender.feedback(write(&ack).text());
+    }
+    sender.finish();
+    Ok(references)
+}
+
+#[test]
+fn chain_ends(rt: HostRuntime) -> Result<(), Fail> {
+    let params = Params {
+        radius: 1,
+        ..Params::of(Format::SubQcif)
+    };
+    assert_eq!(rt; chained(rt.alloc(), &params)?, [None, Some(130)]);
+    Ok(())
+}
+
+// Whether the sender's last packets are this one.
+fn is_packet(sender: &Sender<FixedPace>, coded: &Coded, bytes: &[u8]) -> bool
+    requires { coded.now.packets ≡ length (packets_of sender.now.state.cutter) }
+{
+    if coded.packets != 1 {
+        return false;
+    }
+    sender.packet(0) == bytes
+}
+
+// Of two flat pictures: how many were sent before them, whether the second one's packet is that of
+// 48 macroblocks that are not coded, and a sample of what a decoder makes of it.
+fn two_flat(alloc: Global, params: &Params) -> Result<(u32, bool, u8), OutOfMemory>
+    requires params { IsParams params.now }
+    requires format { params.now.format ≡ SubQcif }
+{
+    let frame = [100; SIZE];
+    let frame = PictureRef::new(Format::SubQcif, &frame);
+    let mut sender = sender_of(alloc, params)?;
+    let before = sender.sent();
+    sender.code(frame, &[]);
+    sender.feedback(&[0xC0, 0x04, 0x00]);
+    let coded = sender.code(frame, &[]);
+    let skipped = is_packet(&sender, &coded, SKIPPED_PACKET.as_slice());
+    let sample = sender.recon().sample(Plane::Y, 127, 95);
+    sender.finish();
+    Ok((before, skipped, sample))
+}
+
+#[test]
+fn second_of_two_flat_pictures(rt: HostRuntime) -> Result<(), Fail> {
+    let params = Params::of(Format::SubQcif);
+    if let Err(OutOfMemory) = two_flat(rt.alloc(), &params) {
+        assert_eq!(rt; two_flat(rt.alloc(), &params)?, (0, true, 100));
+    }
+    assert_eq!(rt; two_flat(rt.alloc(), &params)?, (0, true, 100));
+    Ok(())
+}
