@@ -112,23 +112,17 @@ fn number_of(a: u8, b: u8, c: u8) -> u32
     a as u32 * 65536 + b as u32 * 256 + c as u32
 }
 
+/// The message that the bytes spell, by a clock, or its first fault.
 #[tactic(auto, unfolding(crate::specs::Text::message_in))]
-fn message_of(bytes: &[u8], clock: Clock) -> Result<Message, MessageFault>
-    ensures { result ≡ message_in clock bytes.now }
+pub fn read(bytes: &[u8], clock: Clock) -> Result<Message, MessageFault>
+    ensures value { result ≡ message_in clock bytes.now }
+    ensures range { IfOk result (IsMessage clock) }
 {
     match bytes {
         [a, b, c] => short_from(number_of(*a, *b, *c), clock),
         [a, b, c, d, e] => long_from(number_of(*a, *b, *c), number_of(0, *d, *e), clock),
         _ => Err(MessageFault::Length),
     }
-}
-
-/// The message that the bytes spell, by a clock, or its first fault.
-pub fn read(bytes: &[u8], clock: Clock) -> Result<Message, MessageFault>
-    ensures value { result ≡ message_in clock bytes.now }
-    ensures range { IfOk result (IsMessage clock) }
-{
-    message_of(bytes, clock)
 }
 
 // Reads the first 24 bits of a message.
@@ -160,9 +154,13 @@ fn read_flags(reader: &mut BitReader<'_>) -> Result<u16, Fault>
     }
 }
 
+/// Reads a message in a picture header, where URF gives its length and each fault is one (H.263,
+/// 5.1.17).
 #[tactic(auto, unfolding(crate::specs::Text::message, h263_bits::specs::Syntax::reading))]
-fn message_at(reader: &mut BitReader<'_>, clock: Clock) -> Result<Message, Fault>
-    ensures { Gives (λ (m : Message). m) result reader.new (reading (message clock) reader.old) }
+pub fn read_message(reader: &mut BitReader<'_>, clock: Clock) -> Result<Message, Fault>
+    ensures reads { Gives
+        (λ (m : Message). m) result reader.new (reading (message clock) reader.old) }
+    ensures range { IfOk result (IsMessage clock) }
 {
     let bits = read_first(reader, clock)?;
     if (bits >> 21) % 2 == 0 {
@@ -170,14 +168,4 @@ fn message_at(reader: &mut BitReader<'_>, clock: Clock) -> Result<Message, Fault
     }
     let marks = read_flags(reader)?;
     Ok(value_in(bits, Some(marks)))
-}
-
-/// Reads a message in a picture header, where URF gives its length and each fault is one (H.263,
-/// 5.1.17).
-pub fn read_message(reader: &mut BitReader<'_>, clock: Clock) -> Result<Message, Fault>
-    ensures reads { Gives
-        (λ (m : Message). m) result reader.new (reading (message clock) reader.old) }
-    ensures range { IfOk result (IsMessage clock) }
-{
-    message_at(reader, clock)
 }
