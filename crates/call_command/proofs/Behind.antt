@@ -1,6 +1,5 @@
 -- The parts of a call after the event of a line.
-use Rattle.std.proofs.Common.{◌≡◌, ℕ, zero, suc, ◌+◌, ◌-◌, ◌<◌, Bool, true, false, not, List, [], ◌∷◌, ◌++◌, length, drop, Option, Some, None, Result, Ok, Err, refl, sym, ap, subst, ◌∙◌, arith}
-use Rattle.std.specs.Prelude.{slice_get}
+use Rattle.std.proofs.Common.{◌≡◌, ℕ, ◌+◌, ◌-◌, Bool, true, false, not, List, [], ◌∷◌, ◌++◌, length, drop, Option, Some, None, Result, Ok, Err, refl, sym, ap, subst, ◌∙◌, arith}
 use Rattle.std.proofs.lemmas.List.{append-nil}
 use Rattle.h263_types.specs.declared.blocks.Mb.{Mb}
 use Rattle.h263_types.specs.declared.params.Params.{Params}
@@ -26,10 +25,10 @@ use Rattle.desk_program.specs.Run.Step.{Goes}
 use Rattle.desk_program.specs.Ends.{Ended, Gains, GainsFronts, OnGoing, TurnGives, Went, step_texts}
 use Rattle.desk_program.specs.Laws.{TurnLaws}
 use Rattle.desk_program.specs.Texts.{and_of, no_texts, of, on, then_also}
-use Rattle.call_model.specs.Coding.{Coding, Rules}
-use Rattle.call_model.specs.IdealCall.{Event, Send, Deliver, Play, Back, slices_at}
-use Rattle.call_model.specs.JoinedRun.{AllMayHappenBoth, EachEndRuns, Joined, after_both, joined, sender_with_frame}
-use Rattle.call_model.specs.Receiving.{ReceiverRun, ReceiverEntry, played_mark}
+use Rattle.call_model.specs.IdealCall.{Event, Send, Play, slices_at}
+use Rattle.call_model.specs.JoinedRun.{EachEndRuns, Joined}
+use Rattle.call_model.specs.LaterFrames.{LaterFramesBoth}
+use Rattle.call_model.specs.Receiving.{ReceiverEntry, played_mark}
 use Rattle.call_model.specs.Refusals.{Refusal}
 use Rattle.call_decoding.specs.Rules.{rules_of}
 use Rattle.call_decoding.specs.Styles.{Style}
@@ -49,28 +48,6 @@ use Rattle.call_command.specs.Standing.{HasTaken, Holds, IsDone, Parts, PartsSta
 use Rattle.call_command.proofs.After.{longer, push_then}
 use Rattle.call_command.proofs.OneMore.{heard_in, played_is, screen_is}
 use Rattle.call_command.proofs.LineTurning.{double_not, event_done, line_refused, nothing_behind}
-
--- ---- frames that come after
-
-module _ {Frame Style Mb Picture Fault MessageFault : Type 0} (coding : Coding Frame Style Mb Picture Fault MessageFault) (rules : Rules) (begun : ReceiverRun Style Mb Picture) (pace : List ℕ → ℕ) (frames later : List Frame) where
-  get_front : (xs ys : List Frame) (n : ℕ) → n < length xs → slice_get (xs ++ ys) n ≡ slice_get xs n
-  get_front [] ys n few = absurd (omega (arith, few))
-  get_front (x ∷ xs) ys zero few = refl
-  get_front (x ∷ xs) ys (suc n) few = get_front xs ys n (omega (arith, few))
-
-  -- both ends do the same of near events, whatever frames come after those that were sent
-  pub same_before : (past : List Event) → AllMayHappenBoth coding rules begun pace frames past → joined coding rules begun pace (frames ++ later) past ≡ joined coding rules begun pace frames past
-  same_before [] near = refl
-  same_before (Send ∷ past) near =
-      let w = joined coding rules begun pace frames past in
-      ap (λ (w : Joined Style Mb Picture). after_both coding rules pace (frames ++ later) w Send) (same_before past near.1)
-      ∙ ap (λ (o : Option Frame). after_frame w o) (get_front frames later (length w.sender.coded) near.0.0)
-    where
-      after_frame : Joined Style Mb Picture → Option Frame → Joined Style Mb Picture
-      after_frame w o = record w { sender = sender_with_frame coding rules pace w.sender o }
-  same_before (Deliver n j ∷ past) near = ap (λ (w : Joined Style Mb Picture). after_both coding rules pace frames w (Deliver n j)) (same_before past near.1)
-  same_before (Play ∷ past) near = ap (λ (w : Joined Style Mb Picture). after_both coding rules pace frames w Play) (same_before past near.1)
-  same_before (Back k ∷ past) near = ap (λ (w : Joined Style Mb Picture). after_both coding rules pace frames w (Back k)) (same_before past near.1)
 
 -- ---- a line that was read
 
@@ -204,9 +181,9 @@ module _ (x : Parts) (s : CallState) (inputs : Role → List ℕ) (k : StoodBefo
   count_in q frames n = length (slices_at (both_after q (steady q) frames s.before s.past).sender.coded n)
 
   -- their number is the same whatever frames come after, and by the state
-  pub count_same : (n : ℕ) (later : List Frame) → count_in p (s.frames ++ later) n ≡ count_in s.params s.frames n
-  count_same n later =
-      ap (λ (both : Joined Style Mb Picture). length (slices_at both.sender.coded n)) (same_before (coding p) (rules_of p) (receiver_end.run_of p s.before) (steady p) s.frames later s.past holds_here.near)
+  pub count_same : LaterFramesBoth (coding p) (rules_of p) → (n : ℕ) (later : List Frame) → count_in p (s.frames ++ later) n ≡ count_in s.params s.frames n
+  count_same frames_law n later =
+      ap (λ (both : Joined Style Mb Picture). length (slices_at both.sender.coded n)) (frames_law (receiver_end.run_of p s.before) (steady p) s.frames later s.past holds_here.near).0
       ∙ sym (ap (λ (q : Params). count_in q s.frames n) params_is)
 
   -- ---- the frame that the line asks for was sent

@@ -19,7 +19,7 @@ use Rattle.call_report.specs.Text.{picture_text}
 use Rattle.call_model.specs.Coding.{Exact, Shown}
 use Rattle.call_model.specs.CodedPictures.{capture}
 use Rattle.call_model.specs.Numbers.{AllBelowIs}
-use Rattle.call_model.specs.IdealCall.{Event, Send, AllMayHappen, ideal}
+use Rattle.call_model.specs.IdealCall.{Event, Send, AllMayHappen, encoded, ideal}
 use Rattle.call_model.specs.Before.{sent_before, played_before, slices_before, reference_of}
 use Rattle.call_decoding.specs.Rules.{rules_of}
 use Rattle.call_decoding.specs.Samples.{pictures}
@@ -67,7 +67,7 @@ module _ (p : Params) (laws : CallLaws p) (below : AllBelowIs) where
     coded later = (laws.counts (steady p) (all later) past).0 (plain.near (f ∷ later)) ∙ plain.sent
 
     abbrev count_in : List Frame → ℕ
-    count_in later = slices_before (coding p) (rules_of p) (steady p) (all later) (Send ∷ past) n
+    count_in later = slices_before (pictures p.format) (rules_of p) (encoded (coding p) (rules_of p) (steady p) (all later)) (Send ∷ past) n
 
     same_count : (later : List Frame) → count_in later ≡ count_in []
     same_count later =
@@ -111,7 +111,7 @@ module _ (p : Params) (laws : CallLaws p) (below : AllBelowIs) where
           (ap (λ (l : List (Shown Picture)). count_of one_held l) (plays_with later) ∙ ap (λ (k : ℕ). k + 0) (plain.held (f ∷ later)));
     }
 
-    texts_with : newest_texts n (reference_of (coding p) (rules_of p) (steady p) (all []) after n) (ideal (coding p) (rules_of p) (steady p) (all []) after).plays ≡ shown_texts n None shown
+    texts_with : newest_texts n (reference_of (pictures p.format) (rules_of p) (encoded (coding p) (rules_of p) (steady p) (all [])) after n) (ideal (coding p) (rules_of p) (steady p) (all []) after).plays ≡ shown_texts n None shown
     texts_with = λ i. newest_texts n (reference_after p laws below (all []) past n f (plain.known (f ∷ [])) (coded []) (at_end frames [] f) plain.played i) (plays_with [] i)
 
   -- ---- what a run from a state comes to

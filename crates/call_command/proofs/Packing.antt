@@ -1,9 +1,10 @@
 -- The packets of a picture that a sender coded have room in the ring.
-use Rattle.std.proofs.Common.{◌≡◌, ℕ, zero, suc, ◌*◌, ◌%◌, ◌<◌, ◌≤◌, Bool, List, [], ◌∷◌, ◌++◌, length, take, Option, Some, None, is_some, refl, sym, ap, subst, arith}
+use Rattle.std.proofs.Common.{◌≡◌, ℕ, zero, suc, ◌-◌, ◌*◌, ◌%◌, ◌<◌, ◌≤◌, Bool, List, [], ◌∷◌, ◌++◌, length, take, Option, Some, None, is_some, refl, sym, ap, subst, arith}
 use Rattle.std.specs.Prelude.{All, slice_get, slice_index_or}
 use Rattle.std.specs.Option.{option_map, option_map_or}
 use Rattle.std.proofs.Math.Nat.{mod-lt}
 use Rattle.std.proofs.lemmas.List.Elements.{All-from_get_or}
+use Rattle.std.proofs.lemmas.List.FromFn.{length-map-range_with_len}
 use Rattle.h263_types.specs.declared.blocks.Mb.{Mb}
 use Rattle.h263_types.specs.declared.blocks.Mb.TheVariants.{Skip}
 use Rattle.h263_types.specs.declared.clock.Clock.{Clock}
@@ -133,12 +134,20 @@ module _ (p : Params) (below : Below p) where
   one_more (z ∷ coded) y each last zero x is = each zero x is
   one_more (z ∷ coded) y each last (suc n) x is = one_more coded y (λ k. each (suc k)) last n x is
 
+  -- a pace is asked for 16 sizes at most
+  few_sizes : (coded : List (Coded Style Mb Picture)) → length (call.last_sizes (encoding p) (rules_of p) coded) ≤ 16
+  few_sizes coded =
+      let count : length (call.last_sizes (encoding p) (rules_of p) coded) ≡ length coded - (length coded - 16) =
+      length-map-range_with_len (λ n. call.bytes_in (call.packets_of (encoding p) (rules_of p) coded n)) (length coded - 16) (length coded - (length coded - 16))
+      in
+      omega (arith, count)
+
   all_captured : (pace : List ℕ → ℕ) (entries : List (SenderEntry Frame)) → IsPace pace
       → AllCaptured (sender_run (pictures p.format) (encoding p) (rules_of p) pace entries).coded
   all_captured pace [] paced = λ n x is. absurd (cc is)
   all_captured pace (Capture frame ∷ entries) paced =
       one_more (sender_run (pictures p.format) (encoding p) (rules_of p) pace entries).coded _ (all_captured pace entries paced)
-      (record { quant = _; frame = frame; coded = _; reference = _; some = (paced _).0; few = (paced _).1; is = refl })
+      (record { quant = _; frame = frame; coded = _; reference = _; some = (paced _ (few_sizes _)).0; few = (paced _ (few_sizes _)).1; is = refl })
   all_captured pace (Feedback bytes ∷ entries) paced = all_captured pace entries paced
 
   by_slot : (n sequence : ℕ) (o : Option (Coded Style Mb Picture)) → ((x : Coded Style Mb Picture) → o ≡ Some x → IsCaptured p x)

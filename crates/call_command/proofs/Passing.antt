@@ -21,7 +21,7 @@ half_some Standard = omega arith
 half_some Custom = omega arith
 
 pub steady_is : (p : Params) → IsParams p → IsPace (steady p)
-steady_is p in_range sizes = (omega (arith, in_range.quant_low), omega (arith, in_range.quant_high))
+steady_is p in_range sizes few = (omega (arith, in_range.quant_low), omega (arith, in_range.quant_high))
 
 -- ---- one play more is counted
 

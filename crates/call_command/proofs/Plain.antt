@@ -10,7 +10,7 @@ use Rattle.h263_planes.specs.Picture.{Picture}
 use Rattle.call_model.specs.Numbers.{AllBelowIs, all_below, greatest}
 use Rattle.call_model.specs.Coding.{Rules, Shown, Exact, Pictures, Encoding, grey, window}
 use Rattle.call_model.specs.CodedPictures.{Coded, capture, depth_at, is_among, reference_for}
-use Rattle.call_model.specs.IdealCall.{Event, Send, Deliver, Arrival, Call, ideal, is_full, has_arrived, slices_at, shown_at, reconstruction_at}
+use Rattle.call_model.specs.IdealCall.{Event, Send, Deliver, Arrival, Call, Source, encoded, ideal, is_full, has_arrived, slices_at, shown_at, reconstruction_at}
 use Rattle.call_model.specs.Sending.{next_coded}
 use Rattle.call_model.specs.Before.{played_before, WasDelivered, reference_of, slices_before}
 use Rattle.call_decoding.specs.Rules.{rules_of}
@@ -57,6 +57,9 @@ last_is [] x = refl
 last_is (y ∷ xs) x = last_is xs x
 
 module _ (p : Params) (laws : CallLaws p) (below : AllBelowIs) (frames : List Frame) where
+  abbrev source : Source Style Mb Picture
+  source = encoded (coding p) (rules_of p) (steady p) frames
+
   abbrev call : List Event → Call Style Mb Picture
   call past = ideal (coding p) (rules_of p) (steady p) frames past
 
@@ -79,7 +82,7 @@ module _ (p : Params) (laws : CallLaws p) (below : AllBelowIs) (frames : List Fr
 
   module _ (past : List Event) (n : ℕ) (f : Frame) (known : (call past).known ≡ []) (coded : length (call past).coded ≡ n) (at : slice_get frames n ≡ Some f) (played : played_before past ≡ n) where
     abbrev count : ℕ
-    count = slices_before (coding p) (rules_of p) (steady p) frames (Send ∷ past) n
+    count = slices_before (pictures p.format) (rules_of p) source (Send ∷ past) n
 
     abbrev behind : List Event
     behind = delivered n count ++ Send ∷ past
@@ -100,7 +103,7 @@ module _ (p : Params) (laws : CallLaws p) (below : AllBelowIs) (frames : List Fr
         ∙ ap (λ (k : ℕ). slice_get ((call past).coded ++ intra f ∷ []) k) (sym coded)
         ∙ last_is (call past).coded (intra f)
 
-    slices_same : (i : ℕ) → slices_before (coding p) (rules_of p) (steady p) frames (delivered n i ++ Send ∷ past) n ≡ count
+    slices_same : (i : ℕ) → slices_before (pictures p.format) (rules_of p) source (delivered n i ++ Send ∷ past) n ≡ count
     slices_same i =
         ap (λ (l : List (Coded Style Mb Picture)). length (slices_at l n)) (coded_delivered (coding p) (rules_of p) (steady p) frames n i (Send ∷ past))
 
@@ -112,17 +115,17 @@ module _ (p : Params) (laws : CallLaws p) (below : AllBelowIs) (frames : List Fr
         ∙ ap (λ (o : Option (Coded Style Mb Picture)). length (option_map_or (λ (x : Coded Style Mb Picture). x.slices) o [])) at_n
 
     -- it is full
-    was_delivered : (k j : ℕ) → j < k → WasDelivered (coding p) (rules_of p) (steady p) frames (delivered n k ++ Send ∷ past) n j ⊎ (count ≤ j)
+    was_delivered : (k j : ℕ) → j < k → WasDelivered (pictures p.format) (rules_of p) source (delivered n k ++ Send ∷ past) n j ⊎ (count ≤ j)
     was_delivered zero j less = absurd (omega (arith, less))
     was_delivered (suc i) j less = go (was_delivered i j) (cases_lt j i) (cases_lt j count)
       where
-        go : (j < i → WasDelivered (coding p) (rules_of p) (steady p) frames (delivered n i ++ Send ∷ past) n j ⊎ (count ≤ j))
+        go : (j < i → WasDelivered (pictures p.format) (rules_of p) source (delivered n i ++ Send ∷ past) n j ⊎ (count ≤ j))
             → (j < i) ⊎ (i ≤ j) → (j < count) ⊎ (count ≤ j)
-            → WasDelivered (coding p) (rules_of p) (steady p) frames (Deliver n i ∷ (delivered n i ++ Send ∷ past)) n j ⊎ (count ≤ j)
+            → WasDelivered (pictures p.format) (rules_of p) source (Deliver n i ∷ (delivered n i ++ Send ∷ past)) n j ⊎ (count ≤ j)
         go before (inl lower) some = later (before lower)
           where
-            later : WasDelivered (coding p) (rules_of p) (steady p) frames (delivered n i ++ Send ∷ past) n j ⊎ (count ≤ j)
-                → WasDelivered (coding p) (rules_of p) (steady p) frames (Deliver n i ∷ (delivered n i ++ Send ∷ past)) n j ⊎ (count ≤ j)
+            later : WasDelivered (pictures p.format) (rules_of p) source (delivered n i ++ Send ∷ past) n j ⊎ (count ≤ j)
+                → WasDelivered (pictures p.format) (rules_of p) source (Deliver n i ∷ (delivered n i ++ Send ∷ past)) n j ⊎ (count ≤ j)
             later (inl was) = inl (inr was)
             later (inr past_end) = inr past_end
         go before (inr same) (inr past_end) = inr past_end
@@ -136,7 +139,7 @@ module _ (p : Params) (laws : CallLaws p) (below : AllBelowIs) (frames : List Fr
     each_arrived : (j : ℕ) → j < count → has_arrived (call behind).arrivals n j ≡ true
     each_arrived j less = go (was_delivered count j less)
       where
-        go : WasDelivered (coding p) (rules_of p) (steady p) frames behind n j ⊎ (count ≤ j) → has_arrived (call behind).arrivals n j ≡ true
+        go : WasDelivered (pictures p.format) (rules_of p) source behind n j ⊎ (count ≤ j) → has_arrived (call behind).arrivals n j ≡ true
         go (inl was) = (laws.arrived (steady p) frames behind n j).1 was
         go (inr past_end) = absurd (omega (arith, less, past_end))
 
@@ -159,7 +162,7 @@ module _ (p : Params) (laws : CallLaws p) (below : AllBelowIs) (frames : List Fr
         ∙ ap (λ (o : Option (Coded Style Mb Picture)). let x : Shown Picture = record { mark = Exact; picture = option_map_or (λ (x : Coded Style Mb Picture). x.picture) o (grey (pictures p.format)) } in x ∷ (call behind).plays) at_n
         ∙ ap (λ (l : List (Shown Picture)). shown ∷ l) (plays_delivered (coding p) (rules_of p) (steady p) frames n count (Send ∷ past))
 
-    pub reference_after : reference_of (coding p) (rules_of p) (steady p) frames (passed_on n count past) n ≡ None
+    pub reference_after : reference_of (pictures p.format) (rules_of p) source (passed_on n count past) n ≡ None
     reference_after =
         ap (λ (o : Option (Coded Style Mb Picture)). option_and_then (λ (x : Coded Style Mb Picture). x.reference) o) at_n
         ∙ none_named (pictures p.format) (encoding p) p.quant f

@@ -17,10 +17,10 @@ use Rattle.loss_trace.specs.Reading.{event_in}
 use Rattle.call_report.specs.declared.status.Status.TheVariants.{TraceRefused}
 use Rattle.desk_program.specs.Run.{Run, Step, behind, follow, refusal, run_of, silence}
 use Rattle.desk_program.specs.Run.Step.{Goes, Ends}
-use Rattle.call_model.specs.Coding.{Coding, Rules}
 use Rattle.call_model.specs.CodedPictures.{Coded}
 use Rattle.call_model.specs.IdealCall.{Event, Send, Deliver, Play, Back, slices_at}
-use Rattle.call_model.specs.JoinedRun.{AllMayHappenBoth, MayHappenBoth, Joined, joined}
+use Rattle.call_model.specs.JoinedRun.{AllMayHappenBoth, Joined}
+use Rattle.call_model.specs.LaterFrames.{LaterFramesBoth}
 use Rattle.call_model.specs.Receiving.{ReceiverRun}
 use Rattle.call_model.specs.Refusals.{Refusal}
 use Rattle.call_model.specs.Sending.{SenderRun, packets_of}
@@ -37,32 +37,14 @@ use Rattle.call_command.specs.Laws.{NearLaws, ShowTheSame, TalkIsTheCall}
 use Rattle.call_command.specs.Seen.{Seen, in_both}
 use Rattle.call_command.proofs.After.{at_end, longer}
 use Rattle.call_command.proofs.Agreeing.{trace_agrees, video_agrees}
-use Rattle.call_command.proofs.Behind.{same_before}
 use Rattle.call_command.proofs.BothAfter.{coded_brought, near_delivered, played_delivered, sender_after, sender_delivered}
 use Rattle.call_command.proofs.Joining.{coded_sent}
 use Rattle.call_command.proofs.Passing.{half_some}
 use Rattle.call_command.proofs.Refusing.{any_back, any_packet, any_play, capture_not_far}
 
--- ---- events stay near where a frame comes after
-
-module _ {Frame Style Mb Picture Fault MessageFault : Type 0} (coding : Coding Frame Style Mb Picture Fault MessageFault) (rules : Rules) (begun : ReceiverRun Style Mb Picture) (pace : List ℕ → ℕ) (frames : List Frame) (f : Frame) where
-  near_so : (w : Joined Style Mb Picture) (e : Event) → MayHappenBoth coding rules frames w e → MayHappenBoth coding rules (frames ++ f ∷ []) w e
-  near_so w Send near = (omega (arith, near.0, longer frames f), near.1)
-  near_so w (Deliver n j) near = near
-  near_so w Play near = near
-  near_so w (Back k) near = near
-
-  near_with : (past : List Event) → AllMayHappenBoth coding rules begun pace frames past → AllMayHappenBoth coding rules begun pace (frames ++ f ∷ []) past
-  near_with [] near = near
-  near_with (e ∷ past) near = (
-    subst (λ (w : Joined Style Mb Picture). MayHappenBoth coding rules (frames ++ f ∷ []) w e) (sym (same_before coding rules begun pace frames (f ∷ []) past near.1))
-        (near_so (joined coding rules begun pace frames past) e near.0),
-    near_with past near.1,
-  )
-
 -- ---- the states along the way
 
-module _ (p : Params) where
+module _ (p : Params) (frames_law : LaterFramesBoth (coding p) (rules_of p)) where
   abbrev begin : ReceiverRun Style Mb Picture
   begin = receiver_end.run_of p []
 
@@ -107,10 +89,10 @@ module _ (p : Params) where
     n = length frames
 
     near_all : Near all past
-    near_all = near_with (coding p) (rules_of p) begin (steady p) frames f past near
+    near_all = (frames_law begin (steady p) frames (f ∷ []) past near).1
 
     same_all : both all past ≡ both frames past
-    same_all = same_before (coding p) (rules_of p) begin (steady p) frames (f ∷ []) past near
+    same_all = (frames_law begin (steady p) frames (f ∷ []) past near).0
 
     coded_all : length (both all past).sender.coded ≡ n
     coded_all = ap (λ (w : Joined Style Mb Picture). length w.sender.coded) same_all ∙ sent
@@ -346,11 +328,11 @@ module _ (p : Params) where
         ∙ ap (λ (step : Step CallState). follow step (λ next taken. run_of call_step turns next (behind inputs taken))) (same_turn plain s inputs k)
 
 -- from the first state on
-pub talk_is_the_call : (t : Terms) → NearLaws t.params
+pub talk_is_the_call : (t : Terms) → LaterFramesBoth (coding t.params) (rules_of t.params) → NearLaws t.params
     → ((frames : List Frame) (past : List Event) → AllMayHappenBoth (coding t.params) (rules_of t.params) (receiver_end.run_of t.params []) (steady t.params) frames past → ShowTheSame t.params frames past)
     → TalkIsTheCall t
-talk_is_the_call t near_laws agree at turns inputs =
-    same_run t.params near_laws agree turns t.plain (first_state t [] at) inputs
+talk_is_the_call t frames_law near_laws agree at turns inputs =
+    same_run t.params frames_law near_laws agree turns t.plain (first_state t [] at) inputs
     (record {
       frames = [];
       past = [];

@@ -12,6 +12,7 @@ ghost use Rattle.y4m.specs.Video.{video_fault, video_frames};
 ghost use Rattle.call_report.specs.declared.status.Status.TheVariants.{VideoRefused};
 ghost use Rattle.desk_program.specs.Run.{run_from};
 ghost use Rattle.call_model.specs.JoinedRun.{EachEndRuns};
+ghost use Rattle.call_model.specs.LaterFrames.{LaterFramesBoth};
 ghost use Rattle.call_decoding.specs.Rules.{rules_of};
 ghost use Rattle.coded_call.specs.Coding.{coding};
 ghost use Rattle.call_model.specs.IdealCall.{Event};
@@ -29,7 +30,7 @@ use call_decoding::laws::are_rules;
 use call_decoding::{Pictured, Styled};
 use call_encoding::Framed;
 use call_encoding::laws::{header_in_range, written_packets};
-use call_model::laws::{by_events, each_end_runs, in_a_call, refusals, rings, searches};
+use call_model::laws::{each_end_runs, frames_by_events, in_a_call, refusals, rings, searches};
 use call_rings::laws::room_of_a_picture;
 use coded_call::laws::{is_coding, said_bytes, two_stores};
 use h263_bits::Fault;
@@ -72,12 +73,19 @@ pub fn ends_run()
     each_end_runs::<Framed, Styled, Mb, Pictured, Fault, MessageFault>();
 }
 
+/// Frames after those that were sent change nothing of both ends.
+pub fn later_frames()
+    ensures { (p : Params) → LaterFramesBoth (coding p) (rules_of p) }
+{
+    call_model::laws::later_frames::<Framed, Styled, Mb, Pictured, Fault, MessageFault>();
+}
+
 /// Both ends in a near call do what the ideal call says.
 pub fn of_the_ends()
     ensures { (p : Params) → IsParams p → CallLaws p }
 {
     ends_run();
-    by_events::<Framed, Styled, Mb, Pictured, Fault, MessageFault>();
+    frames_by_events::<Framed, Styled, Mb, Pictured, Fault, MessageFault>();
     two_stores();
 }
 
@@ -104,6 +112,7 @@ pub fn ends_agree()
 pub fn talks_agree()
     ensures { (t : Terms) → IsParams t.params → TalkIsTheCall t }
 {
+    later_frames();
     ends_agree();
     of_near_events();
 }

@@ -227,6 +227,7 @@ fn event_turn<D: Desk>(
     ensures rest { KeepsRoles (D.outside desk.old) (D.outside desk.new) }
 {
     turn_laws();
+    laws::later_frames();
     match event {
         Event::Nothing => Ok(true),
         Event::Send => send_line(desk, line, terms, video, sender, receiver, carrier),

@@ -1,16 +1,17 @@
 -- The encoder's pictures are sound, and its packets are read as their slices.
-use Rattle.std.proofs.Common.{Ok, ◌≡◌, ℕ, ◌+◌, ◌%◌, ◌<◌, ◌≤◌, Bool, true, false, ◌&&◌, refl, sym, ap, ◌∙◌, subst, arith, inl, inr, Option, Some, None, List, [], ◌∷◌, ◌++◌, length, ltb, leb}
+use Rattle.std.proofs.Common.{Ok, ◌≡◌, ℕ, ◌+◌, ◌-◌, ◌%◌, ◌<◌, ◌≤◌, Bool, true, false, ◌&&◌, refl, sym, ap, ◌∙◌, subst, arith, inl, inr, Option, Some, None, List, [], ◌∷◌, ◌++◌, length, ltb, leb}
 use Rattle.std.specs.Prelude.{if◌then◌else◌, slice_get, slice_index_or, option_and_then, is_some, take}
 use Rattle.std.specs.Option.{option_map, option_map_or}
 use Rattle.std.proofs.lemmas.Bool.{and_parts, leb-true, eq-eqb}
 use Rattle.std.proofs.lemmas.Option.{slice_get_cases}
 use Rattle.std.proofs.lemmas.List.{append-nil}
+use Rattle.std.proofs.lemmas.List.FromFn.{length-map-range_with_len}
 use Rattle.std.proofs.Math.Nat.{mod-lt}
 use Rattle.call_model.specs.Numbers.{greatest}
 use Rattle.call_model.specs.Coding.{Rules, window, period, Slice, Pictures, Encoding, Coding, pictures_of, reconstruction, reconstruction_of_slices, mb_among}
 use Rattle.call_model.specs.CodedPictures.{Coded, picture_at, capture, reference_for, is_among, depth_at}
 use Rattle.call_model.specs.IdealCall.{Event, Send, Deliver, Play, Back, Call, encoded, ideal}
-use Rattle.call_model.specs.Sending.{header_of, packets_of, packets_before, last_sizes, next_coded}
+use Rattle.call_model.specs.Sending.{header_of, packets_of, packets_before, bytes_in, last_sizes, next_coded}
 use Rattle.call_model.specs.Sound.{IsSoundPicture, IsPacket, IsSoundEvent, AllSound}
 use Rattle.call_model.specs.Lawful.{Divides, IsMade, IsChosen, IsPictures, IsEncoding, IsCoding, IsRules, IsPace, FitsHeader}
 use Rattle.call_model.proofs.ListLemmas.{slice_get_push, greatest_passes}
@@ -105,8 +106,14 @@ module _ {Frame Style Mb Picture MessageFault : Type 0} (pictures : Pictures Sty
         | inr new ↦ subst (λ (z : Coded Style Mb Picture). IsEncoded pictures encoding z) (sym new.1) one
       ]
 
+  -- a pace is asked for 16 sizes at most
+  sizes_few : (coded : List (Coded Style Mb Picture)) → length (last_sizes encoding rules coded) ≤ 16
+  sizes_few coded =
+      let count : length (last_sizes encoding rules coded) ≡ length coded - (length coded - 16) = length-map-range_with_len (λ n. bytes_in (packets_of encoding rules coded n)) (length coded - 16) (length coded - (length coded - 16)) in
+      omega (arith, count)
+
   pub next_encoded : (pace : List ℕ → ℕ) (frame : Frame) (coded : List (Coded Style Mb Picture)) (known : List ℕ) → IsPace pace → AllEncoded pictures encoding coded → AllEncoded pictures encoding (coded ++ next_coded pictures encoding rules pace frame coded known ∷ [])
-  next_encoded pace frame coded known range all = more_encoded coded _ all (capture_encoded (pace (last_sizes encoding rules coded)) frame coded known (range (last_sizes encoding rules coded)) all)
+  next_encoded pace frame coded known range all = more_encoded coded _ all (capture_encoded (pace (last_sizes encoding rules coded)) frame coded known (range (last_sizes encoding rules coded) (sizes_few coded)) all)
 
   -- the picture by its slices is the picture by its macroblocks
   by_slices : IsPictures pictures rules → (style : Style) (reference : Option Picture) (slices : List (Slice Mb)) (mbs : List Mb) → Divides pictures.skip rules.mbs slices mbs → reconstruction pictures style reference mbs ≡ reconstruction_of_slices pictures style reference slices
@@ -197,7 +204,7 @@ module _ {Frame Style Mb Picture Fault MessageFault : Type 0} (coding : Coding F
         go x (Some frame) is =
             let same : next_coded (pictures_of coding) coding.encoding rules pace frame (ideal coding rules pace frames past).coded (ideal coding rules pace frames past).known ≡ x = cc in
             subst (λ (y : Coded Style Mb Picture). IsSoundPicture (pictures_of coding) rules (ideal coding rules pace frames past) y) same
-            (capture_sound (pictures_of coding) coding.encoding rules lawful.decodes.pictures lawful.encodes (pace (last_sizes coding.encoding rules (ideal coding rules pace frames past).coded)) frame (ideal coding rules pace frames past) (range (last_sizes coding.encoding rules (ideal coding rules pace frames past).coded)) (all_encoded past))
+            (capture_sound (pictures_of coding) coding.encoding rules lawful.decodes.pictures lawful.encodes (pace (last_sizes coding.encoding rules (ideal coding rules pace frames past).coded)) frame (ideal coding rules pace frames past) (range (last_sizes coding.encoding rules (ideal coding rules pace frames past).coded) (sizes_few (pictures_of coding) coding.encoding rules (ideal coding rules pace frames past).coded)) (all_encoded past))
     sound_event past (Deliver n j) = λ x at_n. is_packet (ideal coding rules pace frames past).coded n j x at_n (all_encoded past n x at_n)
     sound_event past Play = tt
     sound_event past (Back k) = tt

@@ -163,7 +163,7 @@ scenes_agree scene fits passed =
     (two_stores small scene.rules (small_lawful scene.rules fits.two) fits.rules scene.pace scene.frames fits.pace (reverse scene.events) near).agree
 
 steady_pace : IsPace steady
-steady_pace sizes = (omega arith, omega arith)
+steady_pace sizes few = (omega arith, omega arith)
 
 small_rules : (rules : Rules) → rules.mbs ≡ 2 → rules.lead + 2 ≤ rules.slots → rules.slots ≤ rules.half → IsRules rules
 small_rules rules two lead slots = record { some_mbs = omega (arith, two); lead_small = lead; slots_small = slots }
@@ -176,7 +176,7 @@ steady_scene scene two lead slots pace = record {
 }
 
 sizes_pace : IsPace by_sizes
-sizes_pace sizes = let small : sum sizes % 31 < 31 = mod-lt (sum sizes) (omega arith) in (omega arith, omega (arith, small))
+sizes_pace sizes few = let small : sum sizes % 31 < 31 = mod-lt (sum sizes) (omega arith) in (omega arith, omega (arith, small))
 
 pub scenes_are_lawful : ScenesAreLawful
 scenes_are_lawful = (

@@ -1,10 +1,10 @@
--- The ideal call before an event, by a name for each thing: what is so after the events before it,
--- the newest first.
+-- The ideal call of any source before an event, by a name for each thing: what is so after the
+-- events before it, the newest first.
 use Rattle.std.specs.Prelude.{◌≡◌, ◌↔◌, ◌⊎◌, ℕ, ◌+◌, ◌<◌, ◌≤◌, Bool, true, ◌==◌, List, [], ◌∷◌, length, slice_get, Option, Some, None, option_and_then, if◌then◌else◌}
 use Rattle.std.specs.Option.{option_map}
-use Rattle.call_model.specs.Coding.{Rules, Mark, Exact, Coding, Shown}
+use Rattle.call_model.specs.Coding.{Rules, Mark, Exact, Pictures, Coding, pictures_of, Shown}
 use Rattle.call_model.specs.CodedPictures.{Coded, depth_at, picture_at}
-use Rattle.call_model.specs.IdealCall.{Event, Send, Deliver, Play, NumberedMessage, Call, has_arrived, slices_at, is_full, ideal, AllMayHappen}
+use Rattle.call_model.specs.IdealCall.{Event, Send, Deliver, Play, NumberedMessage, Call, Source, has_arrived, slices_at, is_full, call_from, encoded, ideal, AllMayHappen, AllMayHappenFrom}
 
 -- how many pictures were sent
 abbrev pub sent_before : List Event → ℕ
@@ -27,12 +27,16 @@ abbrev pub play_at : {Picture : Type 0} → List (Shown Picture) → ℕ → Opt
 play_at [] n = None
 play_at (x ∷ shown) n = if length shown == n then Some x else play_at shown n
 
-module _ {Frame Style Mb Picture Fault MessageFault : Type 0}
-    (coding : Coding Frame Style Mb Picture Fault MessageFault)
-    (rules : Rules) (pace : List ℕ → ℕ) (frames : List Frame) where
+-- the source has a picture while fewer than this many were sent
+abbrev pub Sends : {Style Mb Picture : Type 0} → Source Style Mb Picture → ℕ → Type 0
+Sends {Style} {Mb} {Picture} source count =
+    (c : Call Style Mb Picture) → length c.coded < count → (x : Coded Style Mb Picture) × (source c ≡ Some x)
+
+module _ {Style Mb Picture : Type 0}
+    (pictures : Pictures Style Mb Picture) (rules : Rules) (source : Source Style Mb Picture) where
   -- the ideal call before an event, after these
   abbrev pub call_after : List Event → Call Style Mb Picture
-  call_after past = ideal coding rules pace frames past
+  call_after past = call_from pictures rules source past
 
   -- the slice at place j of picture n arrived while n was open
   abbrev pub arrived : List Event → ℕ → ℕ → Bool
@@ -83,32 +87,53 @@ module _ {Frame Style Mb Picture Fault MessageFault : Type 0}
   WasDelivered (_ ∷ past) n j = WasDelivered past n j
 
   -- the pictures that the call has sent and played are the events that did so
-  abbrev pub CountsAreThose : Type 0
-  CountsAreThose = (past : List Event) →
-      (AllMayHappen coding rules pace frames past → length (call_after past).coded ≡ sent_before past)
+  abbrev pub CountsByEvents : Type 0
+  CountsByEvents = (count : ℕ) → Sends source count → (past : List Event) →
+      (AllMayHappenFrom pictures rules source count past → length (call_after past).coded ≡ sent_before past)
       × ((call_after past).played ≡ played_before past)
 
   -- what has arrived is what was delivered in time
-  abbrev pub ArrivedWasDelivered : Type 0
-  ArrivedWasDelivered = (past : List Event) (n j : ℕ) → (arrived past n j ≡ true) ↔ WasDelivered past n j
+  abbrev pub ArrivedByEvents : Type 0
+  ArrivedByEvents = (past : List Event) (n j : ℕ) → (arrived past n j ≡ true) ↔ WasDelivered past n j
 
   -- the play of a picture is marked exact where the picture is full and nowhere else, and then
   -- shows what decoding gives of it
-  abbrev pub ExactWhereFull : Type 0
-  ExactWhereFull = (past : List Event) → let n = played_before past in
+  abbrev pub ExactByEvents : Type 0
+  ExactByEvents = (past : List Event) → let n = played_before past in
       ((mark_of (Play ∷ past) n ≡ Some Exact) ↔ IsFull past n)
       × (IsFull past n → shown (Play ∷ past) n ≡ reconstruction_of past n)
 
   -- what a play showed stays
-  abbrev pub ShownStays : Type 0
-  ShownStays = (past : List Event) (e : Event) (n : ℕ) → n < played_before past →
+  abbrev pub ShownByEvents : Type 0
+  ShownByEvents = (past : List Event) (e : Event) (n : ℕ) → n < played_before past →
       (mark_of (e ∷ past) n ≡ mark_of past n) × (shown (e ∷ past) n ≡ shown past n)
+
+-- the same of the call of an encoder, which sends these frames
+module _ {Frame Style Mb Picture Fault MessageFault : Type 0}
+    (coding : Coding Frame Style Mb Picture Fault MessageFault)
+    (rules : Rules) (pace : List ℕ → ℕ) (frames : List Frame) where
+  abbrev pub CountsAreThose : Type 0
+  CountsAreThose = (past : List Event) →
+      (AllMayHappen coding rules pace frames past → length (ideal coding rules pace frames past).coded ≡ sent_before past)
+      × ((ideal coding rules pace frames past).played ≡ played_before past)
+
+  abbrev pub ArrivedWasDelivered : Type 0
+  ArrivedWasDelivered = ArrivedByEvents (pictures_of coding) rules (encoded coding rules pace frames)
+
+  abbrev pub ExactWhereFull : Type 0
+  ExactWhereFull = ExactByEvents (pictures_of coding) rules (encoded coding rules pace frames)
+
+  abbrev pub ShownStays : Type 0
+  ShownStays = ShownByEvents (pictures_of coding) rules (encoded coding rules pace frames)
 
   -- a picture that was sent keeps its reference, its depth and its reconstruction
   abbrev pub CodedStays : Type 0
-  CodedStays = (past : List Event) (e : Event) (n : ℕ) → n < length (call_after past).coded →
-      (reference_of (e ∷ past) n ≡ reference_of past n) × (depth_of (e ∷ past) n ≡ depth_of past n)
-      × (reconstruction_of (e ∷ past) n ≡ reconstruction_of past n)
+  CodedStays = (past : List Event) (e : Event) (n : ℕ) → n < length (ideal coding rules pace frames past).coded →
+      let pictures = pictures_of coding in
+      let source = encoded coding rules pace frames in
+      (reference_of pictures rules source (e ∷ past) n ≡ reference_of pictures rules source past n)
+      × (depth_of pictures rules source (e ∷ past) n ≡ depth_of pictures rules source past n)
+      × (reconstruction_of pictures rules source (e ∷ past) n ≡ reconstruction_of pictures rules source past n)
 
 -- what the call says of events depends on the frames that they send alone
 abbrev pub SentFramesAlone : {Frame Style Mb Picture Fault MessageFault : Type 0}

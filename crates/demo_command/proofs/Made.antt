@@ -24,7 +24,7 @@ use Rattle.demo_command.specs.declared.terms.DemoTerms.{DemoTerms}
 use Rattle.demo_command.specs.Demo.{made_call, made_events, made_frame, made_video, with_line}
 
 pub steady_is : (p : Params) → IsParams p → IsPace (steady p)
-steady_is p in_range sizes = (omega (arith, in_range.quant_low), omega (arith, in_range.quant_high))
+steady_is p in_range sizes few = (omega (arith, in_range.quant_low), omega (arith, in_range.quant_high))
 
 -- half a period is more than four pictures
 pub half_enough : (clock : Clock) → 4 ≤ half_of clock

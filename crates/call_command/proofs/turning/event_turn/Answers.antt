@@ -86,7 +86,7 @@ returns-in-All-clause-gives g c = λ before s inputs k number taken.
     (event_gives x s inputs k x.sender done.new.receiver done.new.carrier (ap (λ (y : Carrier). y.trace) done.ensures.others) refl c.turn_laws.ensures before (outside c.args.desk.now) taken done.result c.args.line event (delivered n count ++ s.past) number
     (λ later. subst (λ (count : ℕ). IsDone done.result c.args.line event (refusal_after t.params s.before (s.frames ++ later) s.past event)
     (Holds t x.sender done.new.receiver done.new.carrier s.before (s.frames ++ later) (delivered n count ++ s.past)))
-    (count_same x s inputs k n later) (done.ensures.done s.before (s.frames ++ later) s.past k.begun (k.holds later))))
+    (count_same x s inputs k (c.later_frames.ensures t.params) n later) (done.ensures.done s.before (s.frames ++ later) s.past k.begun (k.holds later))))
 
 pub returns-in-All-clause-ready : goal.returns-in-All-clause-ready
 returns-in-All-clause-ready g c =
