@@ -98,9 +98,16 @@ fn accepted(bytes: &[u8], from: u32, to: u32) -> Result<Rtp, Fault>
     })
 }
 
-// Reads the parts of the header in the order in which their faults count.
-fn first_found(bytes: &[u8]) -> Result<Rtp, Fault>
-    ensures { result ≡ rtp_in bytes.now }
+/// Reads the header of an RTP packet, and finds its payload (RFC 3550, 5.1, 5.3.1).
+pub fn read(bytes: &[u8]) -> Result<Rtp, Fault>
+    // What is read is spelled by the bytes.
+    ensures found { IfOk result (λ r. IsRtp r bytes.now) }
+    // What the bytes spell is read.
+    ensures only { (r : Rtp) → IsRtp r bytes.now → result ≡ Ok r }
+    // Otherwise it is the first fault, at its place.
+    ensures fault { first_fault result ≡ rtp_fault bytes.now }
+    ensures exact { result ≡ rtp_in bytes.now }
+    ensures range { IfOk result (λ r. IsWithin r bytes.now) }
 {
     if bytes.len() > 65_535 {
         return Err(FaultKind::Long.at(0));
@@ -119,20 +126,6 @@ fn first_found(bytes: &[u8]) -> Result<Rtp, Fault>
         return Err(FaultKind::Padding.at(8 * bytes.len() as u32 - 8));
     };
     accepted(bytes, from, to)
-}
-
-/// Reads the header of an RTP packet, and finds its payload (RFC 3550, 5.1, 5.3.1).
-pub fn read(bytes: &[u8]) -> Result<Rtp, Fault>
-    // What is read is spelled by the bytes.
-    ensures found { IfOk result (λ r. IsRtp r bytes.now) }
-    // What the bytes spell is read.
-    ensures only { (r : Rtp) → IsRtp r bytes.now → result ≡ Ok r }
-    // Otherwise it is the first fault, at its place.
-    ensures fault { first_fault result ≡ rtp_fault bytes.now }
-    ensures exact { result ≡ rtp_in bytes.now }
-    ensures range { IfOk result (λ r. IsWithin r bytes.now) }
-{
-    first_found(bytes)
 }
 
 /// The header of a packet without sources, extension and padding.
