@@ -13,6 +13,7 @@ use sender_end::{Feedback, Sender};
 use std::alloc::Global;
 use std::process::Abort;
 use std::test::Fail;
+use test_fixtures::codec::SKIPPED_PACKET;
 
 // What is done, and what comes of it. Packets and messages are counted over the whole call.
 #[derive(Clone, Copy)]
@@ -539,13 +540,6 @@ fn without_flags_the_picture_is_unknown(rt: HostRuntime) -> Result<(), Fail> {
     Ok(())
 }
 
-// A packet of picture 1 by the standard clock, which refers to picture 0: 48 macroblocks that are
-// not coded.
-const ALL_SKIPPED: [u8; 31] = [
-    0x80, 0xE0, 0x00, 0x01, 0x00, 0x00, 0x0B, 0xBB, 0x48, 0x32, 0x36, 0x33, 0x04, 0x00, 0x80, 0x06,
-    0x1C, 0x90, 0x31, 0x04, 0x91, 0xE0, 0x02, 0x84, 0x0F, 0xFF, 0xFF, 0xFF, 0xFF, 0xFF, 0xF8,
-];
-
 // By the custom clock a packet may be 511 pictures late. One by the other clock is refused.
 #[test]
 fn late_by_the_custom_clock(rt: HostRuntime) -> Result<(), Fail> {
@@ -559,7 +553,7 @@ fn late_by_the_custom_clock(rt: HostRuntime) -> Result<(), Fail> {
         at: 0,
     };
     let steps = [
-        Step::Hear(&ALL_SKIPPED, other),
+        Step::Hear(&SKIPPED_PACKET, other),
         Step::Lose(511),
         Step::Deliver(0, Heard::Late),
     ];
@@ -582,7 +576,7 @@ fn early_packet_and_other_header(rt: HostRuntime) -> Result<(), Fail> {
         Step::Deliver(2, Heard::Early),
         Step::Complete(0, &ACK_0),
         Step::Complete(1, &ACK_1),
-        Step::Hear(&ALL_SKIPPED, differs),
+        Step::Hear(&SKIPPED_PACKET, differs),
         Step::Deliver(1, Heard::Repeat),
         Step::Exact,
         Step::Complete(2, &ACK_2),

@@ -21,8 +21,6 @@ mod joined_ends;
 #[cfg(test)]
 mod make_input_tests;
 #[cfg(test)]
-mod paced_sender;
-#[cfg(test)]
 mod rate_control_tests;
 #[cfg(test)]
 mod receiver_end_tests;

@@ -9,20 +9,16 @@ ghost use Rattle.sender_end.specs.Stands.{IsReady};
 use back_messages::{Message, MessageFault, write};
 use h263_outside::OutOfMemory;
 use h263_planes::{PictureRef, Plane};
-use h263_types::{FixedPace, Format, Params};
-use sender_end::{Coded, Feedback, Sender};
+use h263_types::{FixedPace, Format, Pace, Params};
+use rate_control::BucketPace;
+use sender_end::{Feedback, Sender};
 use std::alloc::Global;
 use std::process::Abort;
 use std::test::Fail;
+use test_fixtures::codec::SKIPPED_PACKET;
 
 // The bytes of a sub-QCIF picture.
 const SIZE: usize = 18_432;
-
-// The packet of 48 macroblocks that are not coded, of picture 1 which refers to picture 0.
-const SKIPPED_PACKET: [u8; 31] = [
-    0x80, 0xE0, 0x00, 0x01, 0x00, 0x00, 0x0B, 0xBB, 0x48, 0x32, 0x36, 0x33, 0x04, 0x00, 0x80, 0x06,
-    0x1C, 0x90, 0x31, 0x04, 0x91, 0xE0, 0x02, 0x84, 0x0F, 0xFF, 0xFF, 0xFF, 0xFF, 0xFF, 0xF8,
-];
 
 // What is done to a sender, and what it answers: the reference of a picture, or the reply to bytes.
 #[derive(Clone, Copy)]
@@ -195,41 +191,56 @@ fn chain_ends(rt: HostRuntime) -> Result<(), Fail> {
     Ok(())
 }
 
-// Whether the sender's last packets are this one.
-fn is_packet(sender: &Sender<FixedPace>, coded: &Coded, bytes: &[u8]) -> bool
-    requires { coded.now.packets ≡ length (packets_of sender.now.state.cutter) }
+// Whether the picture that was coded last has this packet alone.
+fn has_only<P: Pace>(sender: &Sender<P>, count: u32, bytes: &[u8]) -> bool
+    requires { count ≡ length (packets_of sender.now.state.cutter) }
 {
-    if coded.packets != 1 {
-        return false;
+    if count == 1 {
+        sender.packet(0) == bytes
+    } else {
+        false
     }
-    sender.packet(0) == bytes
 }
 
-// Of two flat pictures: how many were sent before them, whether the second one's packet is that of
-// 48 macroblocks that are not coded, and a sample of what a decoder makes of it.
-fn two_flat(alloc: Global, params: &Params) -> Result<(u32, bool, u8), OutOfMemory>
-    requires params { IsParams params.now }
-    requires format { params.now.format ≡ SubQcif }
-{
+// Of two flat pictures, of which the first is acknowledged: how many were sent before them, whether
+// the second one's packet is this one, and a sample of what a decoder makes of it.
+fn two_flat<P: Pace>(
+    alloc: Global,
+    pace: P,
+    packet: &[u8],
+) -> Result<(u32, bool, u8), OutOfMemory> {
+    let params = Params::of(Format::SubQcif);
     let frame = [100; SIZE];
     let frame = PictureRef::new(Format::SubQcif, &frame);
-    let mut sender = sender_of(alloc, params)?;
+    let mut sender = Sender::start(alloc, &params, pace)?;
     let before = sender.sent();
     sender.code(frame, &[]);
     sender.feedback(&[0xC0, 0x04, 0x00]);
     let coded = sender.code(frame, &[]);
-    let skipped = is_packet(&sender, &coded, SKIPPED_PACKET.as_slice());
+    let same = has_only(&sender, coded.packets, packet);
     let sample = sender.recon().sample(Plane::Y, 127, 95);
     sender.finish();
-    Ok((before, skipped, sample))
+    Ok((before, same, sample))
 }
 
 #[test]
 fn second_of_two_flat_pictures(rt: HostRuntime) -> Result<(), Fail> {
-    let params = Params::of(Format::SubQcif);
-    if let Err(OutOfMemory) = two_flat(rt.alloc(), &params) {
-        assert_eq!(rt; two_flat(rt.alloc(), &params)?, (0, true, 100));
-    }
-    assert_eq!(rt; two_flat(rt.alloc(), &params)?, (0, true, 100));
+    let pace = FixedPace { quant: 8 };
+    let seen = match two_flat(rt.alloc(), pace, &SKIPPED_PACKET) {
+        Ok(seen) => seen,
+        Err(OutOfMemory) => two_flat(rt.alloc(), pace, &SKIPPED_PACKET)?,
+    };
+    assert_eq!(rt; seen, (0, true, 100));
+    Ok(())
+}
+
+// With a target of 100 bytes, where the first picture has 342, PQUANT is 17 in the place of 8.
+#[test]
+fn pace_follows_a_target(rt: HostRuntime) -> Result<(), Fail> {
+    let mut coarser = SKIPPED_PACKET;
+    coarser[22] = 0x03;
+    coarser[23] = 0x14;
+    let pace = BucketPace::new(100, 8);
+    assert_eq!(rt; two_flat(rt.alloc(), pace, &coarser)?, (0, true, 100));
     Ok(())
 }

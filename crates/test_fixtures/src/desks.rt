@@ -1,0 +1,205 @@
+//! Texts that are joined, and desks in memory: with a role attached, and with a command run over
+//! them.
+ghost use Rattle.std.specs.Prelude.{◌≡◌, ◌∷◌, [], ◌<◌, false, true, IsTrue, IfOk};
+ghost use Rattle.h263_outside.specs.Desk.{Outside, IsInput, NoneAttached, with_role};
+ghost use Rattle.h263_outside.specs.Memory.{memory_outside};
+ghost use Rattle.h263_outside.specs.declared.desk.Role.TheVariants.{Report};
+ghost use Rattle.desk_program.specs.Attached.{AreAttached, are_free, names};
+
+use call_report::Status;
+use desk_program::{Acts, attach_role, perform};
+use h263_outside::{Desk, MemoryDesk, OutOfMemory, Role};
+use std::alloc::Global;
+
+/// The head of a video in sub-QCIF, and of one that is shown.
+pub const HEAD: &[u8] = b"YUV4MPEG2 W128 H96\n";
+
+pub const SHOWN_HEAD: &[u8] = b"YUV4MPEG2 W128 H96 F30000:1001 Ip C420jpeg\n";
+
+/// The line of a frame, and of a picture that is shown exact or held.
+pub const FRAME: &[u8] = b"FRAME\n";
+
+pub const EXACT: &[u8] = b"FRAME XEXACT\n";
+
+pub const HELD: &[u8] = b"FRAME XHELD\n";
+
+/// A number that no call of a desk has.
+pub const NEVER: u64 = u64::MAX;
+
+/// Parts that are joined.
+pub type Parts<'a> = &'a [&'a [u8]];
+
+pub const NOTHING: Parts<'static> = &[];
+
+/// The parts one after the other.
+pub fn joined(alloc: Global, parts: Parts) -> Result<Vec<u8>, OutOfMemory> {
+    let mut bytes = Vec::new(alloc);
+    for part in parts {
+        bytes.extend_from_slice(part)?;
+    }
+    Ok(bytes)
+}
+
+/// The parts one after the other, each this many times.
+pub fn repeated(alloc: Global, parts: &[(&[u8], usize)]) -> Result<Vec<u8>, OutOfMemory> {
+    let mut bytes = Vec::new(alloc);
+    for (part, times) in parts {
+        for _ in 0..*times {
+            bytes.extend_from_slice(part)?;
+        }
+    }
+    Ok(bytes)
+}
+
+/// A desk on which this role is attached and holds these bytes, whose call of this number is to
+/// fail; attaching the role is call 0.
+pub fn reading(
+    alloc: Global,
+    piece: usize,
+    role: Role,
+    bytes: &[u8],
+    failing: u64,
+) -> Result<MemoryDesk, OutOfMemory>
+    requires piece { 0 < piece }
+    requires input { IsInput role }
+    ensures { IfOk result (λ desk. (memory_outside desk).attached role ≡ true) }
+{
+    let mut desk = MemoryDesk::new(alloc, piece, 0)?;
+    desk.put(role, bytes)?;
+    desk.fail(failing)?;
+    match desk.attach(role, "in") {
+        Ok(()) => Ok(desk),
+        Err(_) => Err(OutOfMemory),
+    }
+}
+
+/// A desk on which this role is attached and has room for this many bytes.
+pub fn writing(
+    alloc: Global,
+    piece: usize,
+    role: Role,
+    room: usize,
+) -> Result<MemoryDesk, OutOfMemory>
+    requires { 0 < piece }
+    ensures { IfOk result (λ desk. (memory_outside desk).attached role ≡ true) }
+{
+    let mut desk = MemoryDesk::new(alloc, piece, room)?;
+    match desk.attach(role, "out") {
+        Ok(()) => Ok(desk),
+        Err(_) => Err(OutOfMemory),
+    }
+}
+
+/// What the inputs of a run hold and which call of its desk fails; how it is to end, and what it is
+/// to write.
+#[derive(Clone, Copy)]
+pub struct Case<'a> {
+    pub video: Parts<'a>,
+    pub events: Parts<'a>,
+    pub failing: u64,
+    pub ends: Status,
+    pub pictures: Parts<'a>,
+    pub wire: Parts<'a>,
+    pub report: Parts<'a>,
+}
+
+/// What is not as it was wanted.
+#[derive(Clone, Copy, Debug, PartialEq, Eq)]
+pub enum Differs {
+    Status(Status),
+    Pictures,
+    Wire,
+    Report,
+}
+
+/// A desk with the inputs of a run, on which nothing is attached.
+pub fn desk_of(alloc: Global, piece: usize, case: &Case) -> Result<MemoryDesk, OutOfMemory>
+    requires { 0 < piece }
+    ensures { IfOk result (λ desk. NoneAttached (memory_outside desk).attached) }
+{
+    let mut desk = MemoryDesk::new(alloc, piece, 200_000)?;
+    desk.put(Role::Video, &joined(alloc, case.video)?)?;
+    desk.put(Role::Events, &joined(alloc, case.events)?)?;
+    desk.fail(case.failing)?;
+    Ok(desk)
+}
+
+/// What a run that ended so differs in from what was wanted.
+pub fn difference(
+    alloc: Global,
+    desk: &MemoryDesk,
+    ends: Status,
+    case: &Case,
+) -> Result<Option<Differs>, OutOfMemory> {
+    if ends == Status::OutOfMemory {
+        return Err(OutOfMemory);
+    }
+    if ends != case.ends {
+        return Ok(Some(Differs::Status(ends)));
+    }
+    if desk.text(Role::Pictures) != joined(alloc, case.pictures)?.as_slice() {
+        return Ok(Some(Differs::Pictures));
+    }
+    if desk.text(Role::Wire) != joined(alloc, case.wire)?.as_slice() {
+        return Ok(Some(Differs::Wire));
+    }
+    if desk.text(Role::Report) != joined(alloc, case.report)?.as_slice() {
+        return Ok(Some(Differs::Report));
+    }
+    Ok(None)
+}
+
+/// How a command ends over a desk on which nothing is attached: its report is attached first.
+pub fn performed<D: Desk, A: Acts>(
+    alloc: Global,
+    setup: &A::Setup,
+    order: &[(Role, &str)],
+    desk: &mut D,
+) -> Status
+    requires none { NoneAttached (D.outside desk.old).attached }
+    requires free { IsTrue (are_free (with_role (λ _. false) Report true) (names order.now)) }
+    requires opens { (now : Outside) → AreAttached ((Report, []) ∷ names order.now) now
+        → A.opens setup.now now.attached }
+{
+    if let Err(status) = attach_role(desk, Role::Report, "") {
+        return status;
+    }
+    perform::<D, A>(alloc, setup, order, desk)
+}
+
+// What a run of the command differs in from what was wanted.
+fn run_once<A: Acts>(
+    alloc: Global,
+    setup: &A::Setup,
+    order: &[(Role, &str)],
+    piece: usize,
+    case: &Case,
+) -> Result<Option<Differs>, OutOfMemory>
+    requires piece { 0 < piece }
+    requires free { IsTrue (are_free (with_role (λ _. false) Report true) (names order.now)) }
+    requires opens { (now : Outside) → AreAttached ((Report, []) ∷ names order.now) now
+        → A.opens setup.now now.attached }
+{
+    let mut desk = desk_of(alloc, piece, case)?;
+    let ends = performed::<MemoryDesk, A>(alloc, setup, order, &mut desk);
+    difference(alloc, &desk, ends, case)
+}
+
+/// The same. A run in which memory ran out is taken again, and is then to reach its end.
+pub fn run<A: Acts>(
+    alloc: Global,
+    setup: &A::Setup,
+    order: &[(Role, &str)],
+    piece: usize,
+    case: &Case,
+) -> Result<Option<Differs>, OutOfMemory>
+    requires piece { 0 < piece }
+    requires free { IsTrue (are_free (with_role (λ _. false) Report true) (names order.now)) }
+    requires opens { (now : Outside) → AreAttached ((Report, []) ∷ names order.now) now
+        → A.opens setup.now now.attached }
+{
+    match run_once::<A>(alloc, setup, order, piece, case) {
+        Ok(found) => Ok(found),
+        Err(OutOfMemory) => run_once::<A>(alloc, setup, order, piece, case),
+    }
+}
