@@ -1,22 +1,37 @@
 //! What the program cites of a whole call. Each law is the contract of a function that does nothing
 //! else.
-ghost use Rattle.std.specs.Prelude.{◌≡◌, ℕ, List};
+ghost use Rattle.std.specs.Prelude.{◌≡◌, ℕ, ◌+◌, ◌<◌, ◌≤◌, [], Bool, List, length, slice_get};
+ghost use Rattle.std.specs.Prelude.{Some, Ok};
+ghost use Rattle.h263_types.specs.declared.blocks.Mb.{Mb};
 ghost use Rattle.h263_types.specs.declared.clock.Clock.{Clock};
 ghost use Rattle.h263_types.specs.declared.params.Params.{Params};
 ghost use Rattle.h263_types.specs.Params.{IsParams};
+ghost use Rattle.h263_types.specs.Sizes.{mbs_of};
 ghost use Rattle.back_messages.specs.MessageBytes.{text_of};
+ghost use Rattle.back_messages.specs.Text.{IsMessage};
+ghost use Rattle.back_messages.specs.declared.message.Message.{Message as BackMessage};
 ghost use Rattle.back_messages.specs.declared.writing.MessageBytes.{MessageBytes};
-ghost use Rattle.call_model.specs.Coding.{Message};
+ghost use Rattle.picture_header.specs.declared.header.Header.{Header};
+ghost use Rattle.picture_header.specs.Ranges.{IsHeader};
+ghost use Rattle.slice_layer.specs.Around.{around};
+ghost use Rattle.slice_layer.specs.Written.{AreWritable};
+ghost use Rattle.packet_cutter.specs.Cut.{packet_bytes};
+ghost use Rattle.packet_cutter.specs.Packets.{packet_of, packets_of};
+ghost use Rattle.packet_cutter.specs.Slices.{cut_of};
+ghost use Rattle.packet_collector.specs.Packet.{packet_at};
+ghost use Rattle.call_model.specs.Coding.{Message, Slice};
 ghost use Rattle.call_model.specs.IdealCall.{AllMayHappen, Event, ideal};
 ghost use Rattle.call_model.specs.JoinedRun.{joined, new_receiver};
 ghost use Rattle.call_model.specs.Lawful.{IsCoding, IsPace};
 ghost use Rattle.call_model.specs.TwoStores.{EndsFollow};
 ghost use Rattle.call_decoding.specs.Rules.{rules_of};
 ghost use Rattle.call_encoding.specs.Frames.{Frame};
-ghost use Rattle.call_encoding.specs.Messages.{write_message};
+ghost use Rattle.call_encoding.specs.Messages.{marked, write_message};
 ghost use Rattle.coded_call.specs.Bytes.{AreBytes};
 ghost use Rattle.coded_call.specs.Coding.{coding};
+ghost use Rattle.coded_call.specs.Sent.{AreSent};
 ghost use Rattle.receiver_end.specs.Answers.{IsSaid};
+ghost use Rattle.reference_selector.specs.Messages.{message_of};
 
 use back_messages::MessageFault;
 use back_messages::laws::{exact_text, in_a_syntax};
@@ -29,8 +44,40 @@ use h263_planes::laws::samples_are_picture;
 use h263_types::Mb;
 use mode_choice::laws::{chosen_is_in_range, one_for_each_place};
 use packet_cutter::laws::packet_of_each;
-use packets_read_again::laws::read_again;
 use receiver_end::laws::is_decoding;
+
+/// A packet is read as its header and its slice, where the slice's macroblocks may be written one
+/// after the other and RTP has room for it.
+pub fn packet_again()
+    ensures { (number sequence : ℕ) (marker : Bool) (h : Header) (first : ℕ) (run : List Mb)
+        → IsHeader h → 0 < length run → first + length run ≤ mbs_of h.format
+        → AreWritable (around h first) h.quant [] run
+        → packet_bytes h first run ≤ 65535
+        → packet_at h.format (packet_of number sequence marker h first run)
+        ≡ Ok (record { header = h; first = first; mbs = run }) }
+{
+    packet_cutter::laws::packet_is_text();
+    packet_cutter::laws::written_again();
+    packet_collector::laws::exact_text();
+    rtp_header::laws::exact_text();
+    h263_payload::laws::exact_text();
+}
+
+/// Slice j of a cut has packet j, and it is read as this slice with the picture's header.
+pub fn read_again()
+    ensures { (number sequence : ℕ) (h : Header) (limit : ℕ) (mbs : List Mb) (j : ℕ)
+        (slice : Slice Mb) → IsHeader h → 1200 ≤ limit → limit ≤ 65535 → AreSent h mbs
+        → slice_get (cut_of h limit mbs) j ≡ Some slice
+        → (bytes : List ℕ)
+        × (slice_get (packets_of number sequence h (cut_of h limit mbs)) j ≡ Some bytes)
+        × (packet_at h.format bytes
+        ≡ Ok (record { header = h; first = slice.first; mbs = slice.mbs })) }
+{
+    packet_again();
+    packet_cutter::laws::cut_divides();
+    packet_cutter::laws::packet_of_each();
+    slice_layer::laws::reaches();
+}
 
 /// The coding is what the laws of a call ask: each layer's definitions meet its laws, and each
 /// packet is read as its slice with its picture's header.
@@ -62,10 +109,13 @@ pub fn two_stores()
     call_model::laws::two_stores::<Framed, Styled, Mb, Pictured, Fault, MessageFault>();
 }
 
-/// The bytes that a receiver says of a message are those that are written of it.
+/// The bytes that a receiver says of a message are those that are written of it (`written`). A
+/// message of the program, as a call has it, is that message again (`marked_again`).
 pub fn said_bytes()
-    ensures { (clock : Clock) (said : MessageBytes) (message : Message) → AreBytes (text_of said)
+    ensures written { (clock : Clock) (said : MessageBytes) (message : Message) → AreBytes (text_of said)
         → IsSaid clock said message → text_of said ≡ write_message message }
+    ensures marked_again { (clock : Clock) (m : BackMessage)
+        → IsMessage clock m → marked (message_of m) ≡ m }
 {
     exact_text();
     in_a_syntax();

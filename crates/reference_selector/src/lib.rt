@@ -260,6 +260,15 @@ impl Selector {
         None
     }
 
+    /// Whether a picture that is among the last `slots` that were coded is known.
+    pub fn knows(&self, number: u32) -> bool
+        ensures { (rules : Rules) (sent : ℕ) (depth : ℕ → ℕ) (known : ℕ → Bool)
+            → number < sent → sent ≤ number + rules.slots
+            → SelectorStands rules self.now sent depth known → result ≡ known number }
+    {
+        self.known[(number % self.slots) as usize]
+    }
+
     /// The depth of a picture that is among the last `slots` that were coded.
     pub fn depth(&self, number: u32) -> u8
         ensures { (rules : Rules) (sent : ℕ) (depth : ℕ → ℕ) (known : ℕ → Bool)

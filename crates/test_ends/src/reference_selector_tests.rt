@@ -21,6 +21,7 @@ fn window_ends(rt: HostRuntime) {
     assert_eq!(rt; selector.note(&ack, 1), true);
     assert_eq!(rt; selector.choose(1), Some(0));
     selector.coded(1, 1);
+    assert_eq!(rt; (selector.knows(0), selector.knows(1)), (true, false));
     assert_eq!(rt; selector.choose(2), Some(0));
     selector.coded(2, 1);
     assert_eq!(rt; selector.choose(3), None);

@@ -14,7 +14,7 @@ use Rattle.mode_choice.specs.Choice.{choice_of}
 use Rattle.packet_cutter.specs.Packets.{packets_of}
 use Rattle.packet_cutter.specs.Slices.{cut_of}
 use Rattle.packet_collector.specs.Packet.{packet_at}
-use Rattle.packets_read_again.specs.Sent.{AreSent, IsSentAt}
+use Rattle.coded_call.specs.Sent.{AreSent, IsSentAt}
 use Rattle.call_model.specs.Coding as call
 use Rattle.call_decoding.specs.Styles.{Style, header_from}
 use Rattle.call_encoding.specs.Encoding.{encoding}

@@ -4,8 +4,11 @@ use Rattle.call_encoding.specs.Messages.{marked, written}
 use Rattle.coded_call.proofs.MessageBytes.{bytes_of_text, marked_again}
 use Rattle.coded_call.proofs.laws.said_bytes.Goals as goal
 
-pub returns : goal.returns
-returns c clock said message fit is =
+pub returns-clause-written : goal.returns-clause-written
+returns-clause-written c clock said message fit is =
     let read = c.exact_text.ensures.read clock is.written _ is.read in
     bytes_of_text c.in_a_syntax.ensures is.written _ fit read.1
     ∙ ap (λ (m : Message). written m) (sym (marked_again clock is.written read.0) ∙ ap marked is.means)
+
+pub returns-clause-marked_again : goal.returns-clause-marked_again
+returns-clause-marked_again c clock m fits = marked_again clock m fits

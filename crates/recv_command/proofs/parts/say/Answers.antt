@@ -16,7 +16,7 @@ returns-in-Some-clause-ok g c = λ clock message is.
     let fit : AreBytes (text_of c.in-Some.said) = subst AreBytes c.text-text.ensures c.are_bytes.ensures in
     let text : on Wire (entry_text 66 c.text-text.result.now) ≡ back_text message =
     ap (λ (l : List ℕ). on Wire (entry_text 66 l)) c.text-text.ensures
-    ∙ said_text c.said_bytes.ensures clock c.args.said c.in-Some.said message c.in-Some.is fit is
+    ∙ said_text c.said_bytes.ensures.written clock c.args.said c.in-Some.said message c.in-Some.is fit is
     in
     subst (λ (t : Role → List ℕ). OnOk c.put_entry.result (Gains t (outside c.args.desk.now).written (outside c.put_entry.new.desk).written)) text c.put_entry.ensures.ok
 
@@ -26,6 +26,6 @@ returns-in-Some-clause-err g c = λ clock message is.
     let fit : AreBytes (text_of c.in-Some.said) = subst AreBytes c.text-text.ensures c.are_bytes.ensures in
     let text : on Wire (entry_text 66 c.text-text.result.now) ≡ back_text message =
     ap (λ (l : List ℕ). on Wire (entry_text 66 l)) c.text-text.ensures
-    ∙ said_text c.said_bytes.ensures clock c.args.said c.in-Some.said message c.in-Some.is fit is
+    ∙ said_text c.said_bytes.ensures.written clock c.args.said c.in-Some.said message c.in-Some.is fit is
     in
     subst (λ (t : Role → List ℕ). OnErr c.put_entry.result (GainsFronts t (outside c.args.desk.now).written (outside c.put_entry.new.desk).written)) text c.put_entry.ensures.err

@@ -1,5 +1,5 @@
-use Rattle.packets_read_again.proofs.Again.{slice_again}
-use Rattle.packets_read_again.proofs.laws.read_again.Goals as goal
+use Rattle.coded_call.proofs.Again.{slice_again}
+use Rattle.coded_call.proofs.laws.read_again.Goals as goal
 
 pub returns : goal.returns
 returns c = slice_again (record {

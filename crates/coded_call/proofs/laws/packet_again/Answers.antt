@@ -1,5 +1,5 @@
-use Rattle.packets_read_again.proofs.Again.{packet_again}
-use Rattle.packets_read_again.proofs.laws.packet_again.Goals as goal
+use Rattle.coded_call.proofs.Again.{packet_again}
+use Rattle.coded_call.proofs.laws.packet_again.Goals as goal
 
 pub returns : goal.returns
 returns c = packet_again (record {

@@ -32,7 +32,7 @@ use Rattle.packet_cutter.specs.Slices.{cut_of}
 use Rattle.packet_cutter.specs.Packets.{packet_text, packet_of, packets_of}
 use Rattle.packet_collector.specs.Packet as collector
 use Rattle.packet_collector.specs.Packet.{IsPacket, packet_at}
-use Rattle.packets_read_again.specs.Sent.{IsSentAt, AreSent}
+use Rattle.coded_call.specs.Sent.{IsSentAt, AreSent}
 
 -- ---- one packet
 
