@@ -80,28 +80,9 @@ fn read_dc(reader: &mut BitReader<'_>) -> Result<[i16; 64], Fault>
     Ok(levels)
 }
 
-#[tactic(auto, unfolding(crate::specs::Text::intra_block, h263_bits::specs::Syntax::reading))]
-fn intra_at(reader: &mut BitReader<'_>, coded: bool, out: &mut Block) -> Result<(), Fault>
-    ensures { Gives
-        (λ _. out.new.levels) result reader.new (reading (intra_block coded) reader.old) }
-{
-    out.levels = read_dc(reader)?;
-    if !coded {
-        return Ok(());
-    }
-    read_events(reader, 1, &mut out.levels)
-}
-
-#[tactic(auto, unfolding(crate::specs::Text::inter_block))]
-fn inter_at(reader: &mut BitReader<'_>, out: &mut Block) -> Result<(), Fault>
-    ensures { Gives (λ _. out.new.levels) result reader.new (reading inter_block reader.old) }
-{
-    out.levels = [0; 64];
-    read_events(reader, 0, &mut out.levels)
-}
-
 /// Reads a block of an intra macroblock: INTRADC, and its events where it is `coded` (H.263, 5.4).
 /// After a fault `out` is left open.
+#[tactic(auto, unfolding(crate::specs::Text::intra_block, h263_bits::specs::Syntax::reading))]
 pub fn read_intra(reader: &mut BitReader<'_>, coded: bool, out: &mut Block) -> Result<(), Fault>
     // What is read is spelled by the bits that were taken.
     ensures found { IfOk result (λ _.
@@ -117,11 +98,16 @@ pub fn read_intra(reader: &mut BitReader<'_>, coded: bool, out: &mut Block) -> R
     ensures range { IfOk result (λ _. IsIntraBlock out.new) }
 {
     code_tables_laws::in_a_syntax();
-    intra_at(reader, coded, out)
+    out.levels = read_dc(reader)?;
+    if !coded {
+        return Ok(());
+    }
+    read_events(reader, 1, &mut out.levels)
 }
 
 /// Reads the events of a coded block of an inter macroblock (H.263, 5.4.2). After a fault `out` is
 /// left open.
+#[tactic(auto, unfolding(crate::specs::Text::inter_block))]
 pub fn read_inter(reader: &mut BitReader<'_>, out: &mut Block) -> Result<(), Fault>
     // What is read is spelled by the bits that were taken.
     ensures found { IfOk result (λ _. Takes reader.old reader.new (IsInterText out.new.levels)) }
@@ -135,5 +121,6 @@ pub fn read_inter(reader: &mut BitReader<'_>, out: &mut Block) -> Result<(), Fau
     ensures range { IfOk result (λ _. IsInterBlock out.new) }
 {
     code_tables_laws::in_a_syntax();
-    inter_at(reader, out)
+    out.levels = [0; 64];
+    read_events(reader, 0, &mut out.levels)
 }

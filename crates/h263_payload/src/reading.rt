@@ -119,21 +119,6 @@ fn read_start(bytes: &[u8], at: u32, end: u32, extra: Option<Header>) -> Result<
     })
 }
 
-// Reads the parts of the payload header in their order.
-fn first_found(bytes: &[u8], from: u32, end: u32, format: Format) -> Result<Payload, Fault>
-    requires short { length bytes.now ≤ 65535 }
-    requires order { from ≤ end }
-    requires within { end ≤ 8 * length bytes.now }
-    ensures exact { result ≡ payload_at format (bits_between bytes.now from end) }
-    ensures extra { IfOk result (λ p. IsExtraHeader p.extra) }
-{
-    let mut reader = BitReader::new(bytes, from, end);
-    let opening = read_leading(&mut reader)?;
-    let at = reader.at();
-    let extra = read_extra(bytes, at, end, opening, format)?;
-    read_start(bytes, at + 8 * opening.plen, end, extra)
-}
-
 /// Reads the payload header of a packet and the extra picture header, up to the first bit of the
 /// data (RFC 4629, 5.1).
 pub fn read_payload(bytes: &[u8], rtp: &Rtp, format: Format) -> Result<Payload, Fault>
@@ -151,5 +136,10 @@ pub fn read_payload(bytes: &[u8], rtp: &Rtp, format: Format) -> Result<Payload, 
 {
     rtp_header_laws::payload_within();
     picture_header_laws::in_a_syntax();
-    first_found(bytes, 8 * rtp.from, 8 * rtp.to, format)
+    let end = 8 * rtp.to;
+    let mut reader = BitReader::new(bytes, 8 * rtp.from, end);
+    let opening = read_leading(&mut reader)?;
+    let at = reader.at();
+    let extra = read_extra(bytes, at, end, opening, format)?;
+    read_start(bytes, at + 8 * opening.plen, end, extra)
 }
