@@ -108,8 +108,8 @@ cause_since status old mid new still rose cause = by_phase (phase status) cause
     by_phase starved cause = tt
     by_phase unasked cause = tt
 
-pub keeps_since : (old mid new : Outside) → mid.attached ≡ old.attached → mid.name ≡ old.name → NoneFalls old.faults mid.faults → KeepsRoles mid new → KeepsRoles old new
-keeps_since old mid new attached name still keeps = record {
+pub keeps_since : (old mid new : Outside) → mid.attached ≡ old.attached → mid.name ≡ old.name → NoneFalls old.faults mid.faults → mid.loans ≡ old.loans → KeepsRoles mid new → KeepsRoles old new
+keeps_since old mid new attached name still loans keeps = record {
   attached = keeps.attached ∙ attached;
   name = keeps.name ∙ name;
   faults = record {
@@ -117,6 +117,7 @@ keeps_since old mid new attached name still keeps = record {
     read = omega (arith, still.read, keeps.faults.read);
     write = omega (arith, still.write, keeps.faults.write);
   };
+  loans = keeps.loans ∙ loans;
 }
 
 -- what a refusal left as it was is kept

@@ -267,6 +267,7 @@ roles_on a b c p q = record {
   attached = q.attached ∙ p.attached;
   name = q.name ∙ p.name;
   faults = record { attach = omega arith; read = omega arith; write = omega arith };
+  loans = q.loans ∙ p.loans;
 }
 
 -- what the desk tells, where nothing was read

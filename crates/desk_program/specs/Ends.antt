@@ -44,11 +44,12 @@ abbrev pub IsPart : List Turn → (Role → ℕ) → Type 0
 IsPart [] k = Unit {0}
 IsPart (t ∷ turns) k = holds t k ≡ false
 
--- the roles stay attached by their names, and no count falls
+-- the roles stay attached by their names, no count falls, and the desk stands on the same loans
 pub record KeepsRoles (old new : Outside) : Type 0 where
   pub attached : new.attached ≡ old.attached
   pub name : new.name ≡ old.name
   pub faults : NoneFalls old.faults new.faults
+  pub loans : new.loans ≡ old.loans
 
 -- a fault comes only where its own count rose
 abbrev pub CauseIn : Phase → Faults → Faults → Type 0

@@ -33,6 +33,7 @@ writes_on a b c p q = record {
   name = q.name ∙ p.name;
   left = q.left ∙ p.left;
   faults = record { attach = omega arith; read = omega arith; write = omega arith };
+  loans = q.loans ∙ p.loans;
 }
 
 -- two reads, one after the other, change nothing but what is left
@@ -42,6 +43,7 @@ reads_on a b c p q = record {
   name = q.name ∙ p.name;
   written = q.written ∙ p.written;
   faults = record { attach = omega arith; read = omega arith; write = omega arith };
+  loans = q.loans ∙ p.loans;
 }
 
 -- a count that rose since, rose

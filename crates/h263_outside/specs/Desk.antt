@@ -1,5 +1,5 @@
 -- What a program sees of the outside, and what each call of a desk does to it.
-use Rattle.std.specs.Prelude.{◌≡◌, ◌⊎◌, ℕ, ◌+◌, ◌-◌, ◌^◌, ◌<◌, ◌≤◌, ◌==◌, min, Bool, true, false, IsTrue, IsFalse, List, ◌++◌, length, take, drop, [], Option, if◌then◌else◌}
+use Rattle.std.specs.Prelude.{◌≡◌, ◌⊎◌, ℕ, ◌+◌, ◌-◌, ◌^◌, ◌<◌, ◌≤◌, ◌==◌, min, Bool, true, false, IsTrue, IsFalse, List, ◌∷◌, ◌++◌, length, take, drop, [], Option, if◌then◌else◌}
 use Rattle.std.specs.Option.{option_map}
 use Rattle.h263_outside.specs.declared.desk.Role.{Role}
 use Rattle.h263_outside.specs.declared.desk.Role.TheVariants.{Video, Events, Pictures, Wire, Report, Video2, Pictures2}
@@ -18,6 +18,8 @@ pub record Outside : Type 0 where
   pub left : Role → Option (List ℕ)
   pub written : Role → Option (List ℕ)
   pub faults : Faults
+  -- the names of the loans that the desk stands on, one below the other
+  pub loans : List ℕ
 
 -- the roles in their order, by number
 abbrev pub role_number : Role → ℕ
@@ -113,6 +115,7 @@ pub record OnlyAttaches (old new : Outside) : Type 0 where
   pub left : new.left ≡ old.left
   pub written : new.written ≡ old.written
   pub faults : NoneFalls old.faults new.faults
+  pub loans : new.loans ≡ old.loans
 
 -- nothing changes but what is left
 pub record OnlyReads (old new : Outside) : Type 0 where
@@ -120,6 +123,7 @@ pub record OnlyReads (old new : Outside) : Type 0 where
   pub name : new.name ≡ old.name
   pub written : new.written ≡ old.written
   pub faults : NoneFalls old.faults new.faults
+  pub loans : new.loans ≡ old.loans
 
 -- nothing changes but what was written
 pub record OnlyWrites (old new : Outside) : Type 0 where
@@ -127,6 +131,7 @@ pub record OnlyWrites (old new : Outside) : Type 0 where
   pub name : new.name ≡ old.name
   pub left : new.left ≡ old.left
   pub faults : NoneFalls old.faults new.faults
+  pub loans : new.loans ≡ old.loans
 
 -- the second party's role in the place of the first's, and the other way round
 abbrev pub exchanged : Role → Role
@@ -139,11 +144,12 @@ exchanged Video2 = Video
 exchanged Pictures2 = Pictures
 
 -- what is told where the two parties have changed places
-abbrev pub exchanged_outside : Outside → Outside
-exchanged_outside o = record {
+abbrev pub exchanged_outside : ℕ → Outside → Outside
+exchanged_outside name o = record {
   attached = λ r. o.attached (exchanged r);
   name = λ r. o.name (exchanged r);
   left = λ r. o.left (exchanged r);
   written = λ r. o.written (exchanged r);
   faults = o.faults;
+  loans = name ∷ o.loans;
 }

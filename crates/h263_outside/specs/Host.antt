@@ -1,8 +1,11 @@
 -- What a desk over the host tells: which roles are attached, and its counts.
-use Rattle.std.specs.Prelude.{ℕ, Bool, List, Option, Some, None}
+use Rattle.std.specs.Prelude.{ℕ, Bool, List, [], Option, Some, None, is_some}
 use Rattle.h263_outside.specs.Desk.{Outside, Faults}
+use Rattle.h263_outside.specs.Memory.{by_role, by_input, by_output}
+use Rattle.h263_outside.specs.declared.host.HostDesk.{HostDesk}
 use Rattle.h263_outside.specs.declared.desk.Role.{Role}
 
+-- a desk that tells no names and no bytes
 abbrev pub silent_outside : (Role → Bool) → ℕ → ℕ → ℕ → Outside
 silent_outside attached attaches reads writes = record {
   attached = attached;
@@ -10,6 +13,7 @@ silent_outside attached attaches reads writes = record {
   left = λ _. None;
   written = λ _. None;
   faults = record { attach = attaches; read = reads; write = writes };
+  loans = [];
 }
 
 -- what is known of a file, where there is one
@@ -19,3 +23,15 @@ told_of known (Some file) = known file
 
 abbrev pub no_faults : Faults
 no_faults = record { attach = 0; read = 0; write = 0 }
+
+-- what a desk over the host tells
+abbrev pub host_outside : {R F D I A : Type 0} → HostDesk R F D I A → Outside
+host_outside d = silent_outside (by_role (is_some d.video) (is_some d.events) (is_some d.pictures) (is_some d.wire) d.reports (is_some d.video2) (is_some d.pictures2)) d.attach_faults d.read_faults d.write_faults
+
+-- the file that a role reads
+abbrev pub input_of : {R F D I A : Type 0} → Role → HostDesk R F D I A → Option F
+input_of role d = by_input d.video d.events d.video2 None role
+
+-- the file that a role writes; the report is standard output
+abbrev pub output_of : {R F D I A : Type 0} → Role → HostDesk R F D I A → Option F
+output_of role d = by_output d.pictures d.wire None d.pictures2 None role

@@ -1,5 +1,5 @@
 //! The host's files and standard output: the trusted edge. What they hold is not told.
-ghost use Rattle.std.specs.Prelude.{◌≡◌, ◌≤◌, length, IfOk, is_some};
+ghost use Rattle.std.specs.Prelude.{◌≡◌, ◌≤◌, ◌<◌, length, IfOk, is_some};
 ghost use Rattle.std.specs.Io.KnownBytes.{ReadConsumes, WriteAppends};
 ghost use Rattle.h263_outside.specs.Host.{told_of};
 ghost use Rattle.h263_outside.specs.Desk.{NoneAttached};
@@ -7,11 +7,15 @@ ghost use Rattle.h263_outside.specs.Desk.{NoneAttached};
 use crate::memory::raised;
 use crate::{Desk, Failed, Role, Unattached};
 use std::fs;
+use std::fs::{Metadata, OpenFile, OpenOptions};
 use std::io::{Read, Write};
+use std::os::unix::fs::MetadataExt;
 use std::rt::Runtime;
 
 /// A desk over a runtime: files by name, where those that are written are created or emptied, and
 /// standard output for the report. It tells neither names nor bytes.
+///
+/// A regular file that is attached as an input is refused as an output, by whatever name.
 #[derive(Drop)]
 pub struct HostDesk<R: Runtime> {
     rt: R,
@@ -49,6 +53,41 @@ impl<R: Runtime> HostDesk<R> {
             write_faults: 0,
         }
     }
+
+    // A file to be written: created, or emptied. One that is read is refused while it is whole.
+    fn create(&self, name: &str) -> Option<R::File> {
+        let file = OpenOptions::new()
+            .write(true)
+            .create(true)
+            .open(&self.rt, name)
+            .ok()?;
+        let about = file.metadata().ok()?;
+        if about.is_file() {
+            if self.reads(&about) {
+                return None;
+            }
+            file.set_len(0).ok()?;
+        }
+        Some(file)
+    }
+
+    // Whether one of the inputs is this file.
+    fn reads(&self, about: &Metadata) -> bool {
+        is_file(&self.video, about) || is_file(&self.events, about) || is_file(&self.video2, about)
+    }
+}
+
+// Whether an input is this file: both have one number on one device, which all names and links of a
+// file share. An input that can't be asked is taken to be it. The system numbers each file; a
+// runtime that numbers none (0) tells none apart.
+fn is_file<F: OpenFile>(input: &Option<F>, about: &Metadata) -> bool {
+    let Some(file) = input else {
+        return false;
+    };
+    match file.metadata() {
+        Ok(read) => read.ino() != 0 && read.ino() == about.ino() && read.dev() == about.dev(),
+        Err(_) => true,
+    }
 }
 
 fn read_file<F: Read>(file: &mut Option<F>, buf: &mut [u8]) -> Result<usize, Failed>
@@ -70,6 +109,7 @@ fn read_file<F: Read>(file: &mut Option<F>, buf: &mut [u8]) -> Result<usize, Fai
 
 fn write_file<F: Write>(file: &mut Option<F>, bytes: &[u8]) -> Result<usize, Failed>
     ensures count { IfOk result (λ k. k ≤ length bytes.now) }
+    ensures advances { IfOk result (λ k. 0 < k) }
     // The file gains as many bytes as the answer says, and none where the write fails.
     ensures bytes { WriteAppends
         (told_of F.contents file.old) (told_of F.contents file.new) result bytes.now }
@@ -79,20 +119,51 @@ fn write_file<F: Write>(file: &mut Option<F>, bytes: &[u8]) -> Result<usize, Fai
         return Err(Failed);
     };
     match file.write(bytes) {
-        Ok(count) => Ok(count),
-        Err(_) => Err(Failed),
+        Ok(count) if count > 0 => Ok(count),
+        _ => Err(Failed),
+    }
+}
+
+fn print_some<R: Runtime>(rt: &R, bytes: &[u8]) -> Result<usize, Failed>
+    ensures count { IfOk result (λ k. k ≤ length bytes.now) }
+    ensures advances { IfOk result (λ k. 0 < k) }
+{
+    match rt.write_some(bytes) {
+        Ok(count) if count > 0 => Ok(count),
+        _ => Err(Failed),
     }
 }
 
 impl<R: Runtime> Desk for HostDesk<R> {
-    ghost use Rattle.h263_outside.specs.Host.{silent_outside};
-    ghost use Rattle.h263_outside.specs.Memory.{by_role};
+    ghost use Rattle.std.specs.Prelude.{◌≢◌, true, false, take, IfSome, OnOk, OnErr, IsErrOf};
+    ghost use Rattle.h263_outside.specs.Host.{host_outside, input_of, output_of};
+    ghost use Rattle.h263_outside.specs.Desk.{IsInput, IsOutput, IsFront, OnlyAttaches, OnlyReads, OnlyWrites, Rose, with_role, appended, consumed, raised_count};
 
-    ghost outside = { λ d. silent_outside (by_role (is_some d.video) (is_some d.events)
-        (is_some d.pictures) (is_some d.wire) d.reports (is_some d.video2) (is_some d.pictures2))
-        d.attach_faults d.read_faults d.write_faults };
+    ghost outside = { host_outside };
 
-    fn attach(&mut self, role: Role, name: &str) -> Result<(), Unattached> {
+    fn attach(&mut self, role: Role, name: &str) -> Result<(), Unattached>
+        requires { (host_outside self.old).attached role ≡ false }
+        ensures attached { OnOk result ((host_outside self.new).attached
+            ≡ with_role (host_outside self.old).attached role true) }
+        ensures name { OnOk result
+            (IfSome ((host_outside self.new).name role) (λ told. told ≡ name.now)) }
+        ensures other_names { (r : Role)
+            → r ≢ role → (host_outside self.new).name r ≡ (host_outside self.old).name r }
+        ensures err { OnErr result
+            ((host_outside self.new).attached ≡ (host_outside self.old).attached) }
+        ensures err_name { OnErr result
+            ((host_outside self.new).name ≡ (host_outside self.old).name) }
+        ensures cause { IsErrOf result Unattached.Failed
+            → Rose (host_outside self.old).faults.attach (host_outside self.new).faults.attach }
+        ensures rest { OnlyAttaches (host_outside self.old) (host_outside self.new) }
+
+        // The count rises by one where the call fails, and stays otherwise.
+        ensures ok_faults { OnOk result
+            ((host_outside self.new).faults ≡ (host_outside self.old).faults) }
+        ensures failed { OnErr result ((host_outside self.new).faults
+            ≡ record ((host_outside self.old).faults)
+            { attach = raised_count (host_outside self.old).faults.attach }) }
+    {
         match role {
             Role::Video => {
                 if let Ok(file) = fs::open(&self.rt, name) {
@@ -107,13 +178,13 @@ impl<R: Runtime> Desk for HostDesk<R> {
                 }
             }
             Role::Pictures => {
-                if let Ok(file) = fs::create(&self.rt, name) {
+                if let Some(file) = self.create(name) {
                     self.pictures = Some(file);
                     return Ok(());
                 }
             }
             Role::Wire => {
-                if let Ok(file) = fs::create(&self.rt, name) {
+                if let Some(file) = self.create(name) {
                     self.wire = Some(file);
                     return Ok(());
                 }
@@ -129,7 +200,7 @@ impl<R: Runtime> Desk for HostDesk<R> {
                 }
             }
             Role::Pictures2 => {
-                if let Ok(file) = fs::create(&self.rt, name) {
+                if let Some(file) = self.create(name) {
                     self.pictures2 = Some(file);
                     return Ok(());
                 }
@@ -139,7 +210,31 @@ impl<R: Runtime> Desk for HostDesk<R> {
         Err(Unattached::Failed)
     }
 
-    fn read(&mut self, role: Role, buf: &mut [u8]) -> Result<usize, Failed> {
+    fn read(&mut self, role: Role, buf: &mut [u8]) -> Result<usize, Failed>
+        requires input { IsInput role }
+        requires attached { (host_outside self.old).attached role ≡ true }
+        requires room { 0 < length buf.old }
+        ensures count { IfOk result (λ k. k ≤ length buf.old) }
+        ensures bytes { IfOk result (λ k.
+            IfSome ((host_outside self.old).left role) (λ left. IsFront left buf.new k)) }
+        ensures left { IfOk result (λ k.
+            (host_outside self.new).left ≡ consumed (host_outside self.old).left role k) }
+        ensures err { OnErr result ((host_outside self.new).left ≡ (host_outside self.old).left) }
+        ensures cause { OnErr result
+            (Rose (host_outside self.old).faults.read (host_outside self.new).faults.read) }
+        ensures rest { OnlyReads (host_outside self.old) (host_outside self.new) }
+
+        // The role's file is read, as `read_file` says.
+        ensures of_file { ReadConsumes (told_of R.File.remaining (input_of role self.old))
+            (told_of R.File.remaining (input_of role self.new)) result buf.new }
+
+        // The count rises by one where the call fails, and stays otherwise.
+        ensures ok_faults { OnOk result
+            ((host_outside self.new).faults ≡ (host_outside self.old).faults) }
+        ensures failed { OnErr result ((host_outside self.new).faults
+            ≡ record ((host_outside self.old).faults)
+            { read = raised_count (host_outside self.old).faults.read }) }
+    {
         let outcome = match role {
             Role::Video => read_file(&mut self.video, buf),
             Role::Events => read_file(&mut self.events, buf),
@@ -152,78 +247,41 @@ impl<R: Runtime> Desk for HostDesk<R> {
         outcome
     }
 
-    fn write(&mut self, role: Role, bytes: &[u8]) -> Result<usize, Failed> {
+    fn write(&mut self, role: Role, bytes: &[u8]) -> Result<usize, Failed>
+        requires output { IsOutput role }
+        requires attached { (host_outside self.old).attached role ≡ true }
+        requires some { 0 < length bytes.now }
+        ensures count { IfOk result (λ k. k ≤ length bytes.now) }
+        ensures advances { IfOk result (λ k. 0 < k) }
+        ensures written { IfOk result (λ k. (host_outside self.new).written
+            ≡ appended (host_outside self.old).written role (take k bytes.now)) }
+        ensures err { OnErr result
+            ((host_outside self.new).written ≡ (host_outside self.old).written) }
+        ensures cause { OnErr result
+            (Rose (host_outside self.old).faults.write (host_outside self.new).faults.write) }
+        ensures rest { OnlyWrites (host_outside self.old) (host_outside self.new) }
+
+        // The role's file is written, as `write_file` says.
+        ensures of_file { WriteAppends (told_of R.File.contents (output_of role self.old))
+            (told_of R.File.contents (output_of role self.new)) result bytes.now }
+
+        // The count rises by one where the call fails, and stays otherwise.
+        ensures ok_faults { OnOk result
+            ((host_outside self.new).faults ≡ (host_outside self.old).faults) }
+        ensures failed { OnErr result ((host_outside self.new).faults
+            ≡ record ((host_outside self.old).faults)
+            { write = raised_count (host_outside self.old).faults.write }) }
+    {
         let outcome = match role {
             Role::Pictures => write_file(&mut self.pictures, bytes),
             Role::Wire => write_file(&mut self.wire, bytes),
             Role::Pictures2 => write_file(&mut self.pictures2, bytes),
-            Role::Report => self.rt.write_some(bytes).map_err(|_| Failed),
+            Role::Report => print_some(&self.rt, bytes),
             _ => unreachable!(),
         };
-        match outcome {
-            Ok(count) if count > 0 => Ok(count),
-            _ => {
-                self.write_faults = raised(self.write_faults);
-                Err(Failed)
-            }
+        if outcome.is_err() {
+            self.write_faults = raised(self.write_faults);
         }
-    }
-}
-
-// Its one test, in an empty folder: what is written as one role is read as another.
-#[cfg(test)]
-mod tests {
-    use super::*;
-    use crate::{read_full, write_all};
-    use std::test::Fail;
-
-    #[test]
-    fn files_of_the_host(rt: HostRuntime) -> Result<(), Fail> {
-        let mut desk = HostDesk::new(rt);
-        write_and_read(&mut desk)?;
-        fs::remove_file(&desk.rt, "written")?;
-        fs::remove_file(&desk.rt, "sent")?;
-        Ok(())
-    }
-
-    fn write_and_read<D: Desk>(desk: &mut D) -> Result<(), &'static str>
-        requires { NoneAttached (D.outside desk.old).attached }
-    {
-        if desk.attach(Role::Pictures, "written").is_err() {
-            return Err("a file is created");
-        }
-        if write_all(desk, Role::Pictures, b"FRAME").is_err() {
-            return Err("it is written");
-        }
-        if desk.attach(Role::Wire, "sent").is_err() || write_all(desk, Role::Wire, b"K").is_err() {
-            return Err("another file is written");
-        }
-        if desk.attach(Role::Video2, "written").is_err() {
-            return Err("it is opened");
-        }
-        let mut buf = [0; 6];
-        if read_full(desk, Role::Video2, &mut buf) != Ok(5) || buf != *b"FRAME\0" {
-            return Err("it holds what was written");
-        }
-        if desk.attach(Role::Video, "missing") != Err(Unattached::Failed) {
-            return Err("a missing file is not opened");
-        }
-        if desk.attach(Role::Events, "sent").is_err() {
-            return Err("the other file is opened");
-        }
-        let mut byte = [0; 2];
-        if read_full(desk, Role::Events, &mut byte) != Ok(1) || byte != *b"K\0" {
-            return Err("it holds what was sent");
-        }
-        if desk.attach(Role::Video, ".").is_ok() && desk.read(Role::Video, &mut buf).is_ok() {
-            return Err("a folder is not read");
-        }
-        if desk.attach(Role::Report, "").is_err() {
-            return Err("the report is opened");
-        }
-        if write_all(desk, Role::Report, b"a line\n").is_err() {
-            return Err("the report is written");
-        }
-        Ok(())
+        outcome
     }
 }

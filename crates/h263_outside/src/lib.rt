@@ -19,8 +19,6 @@ mod host;
 pub mod laws;
 mod memory;
 mod second;
-#[cfg(test)]
-mod tests;
 mod whole;
 
 pub use desk::{Desk, Failed, OutOfMemory, Role, Unattached};

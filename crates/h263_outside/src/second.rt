@@ -15,7 +15,7 @@ impl<'a, D: Desk> Second<'a, D> {
     /// The desk with the two parties exchanged.
     pub fn new(desk: &'a mut D) -> Second<'a, D>
         ensures outside { ⟦<Second<'a, D> as Desk>⟧.outside result
-            ≡ exchanged_outside (D.outside desk.old) }
+            ≡ exchanged_outside desk.entry.ghost_name (D.outside desk.old) }
         ensures lent { result.desk.now ≡ desk.old }
         ensures same_loan { result.desk.ghost_name ≡ desk.entry.ghost_name }
     {
@@ -37,7 +37,7 @@ fn other(role: Role) -> Role
 }
 
 impl<'a, D: Desk> Desk for Second<'a, D> {
-    ghost outside = { λ s. exchanged_outside (D.outside s.desk.now) };
+    ghost outside = { λ s. exchanged_outside s.desk.ghost_name (D.outside s.desk.now) };
 
     fn attach(&mut self, role: Role, name: &str) -> Result<(), Unattached> {
         self.desk.attach(other(role), name)

@@ -16,6 +16,3 @@ mod slot;
 
 pub use region::Region;
 pub use slot::Slot;
-
-#[cfg(test)]
-mod tests;

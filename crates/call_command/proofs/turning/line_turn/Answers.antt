@@ -155,4 +155,4 @@ returns-clause-cause g c =
 pub returns-clause-rest : goal.returns-clause-rest
 returns-clause-rest g c =
     let outside = g.D.Desk.outside in
-    keeps_since (outside c.args.desk.now) (outside c.next.new.desk) (outside c.event_turn.new.desk) c.next.ensures.rest.attached c.next.ensures.rest.name c.next.ensures.rest.faults c.event_turn.ensures.rest
+    keeps_since (outside c.args.desk.now) (outside c.next.new.desk) (outside c.event_turn.new.desk) c.next.ensures.rest.attached c.next.ensures.rest.name c.next.ensures.rest.faults c.next.ensures.rest.loans c.event_turn.ensures.rest

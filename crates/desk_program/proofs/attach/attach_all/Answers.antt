@@ -23,6 +23,7 @@ loop-role-preserved g c =
         left = said.rest.left ∙ c.loop-role.invariant.rest.left;
         written = said.rest.written ∙ c.loop-role.invariant.rest.written;
         faults = record { attach = omega arith; read = omega arith; write = omega arith };
+        loans = said.rest.loans ∙ c.loop-role.invariant.rest.loans;
       };
     }
 

@@ -11,7 +11,7 @@ loop-status-init g c = record {
   loan = refl;
   ready = c.requires;
   source = refl;
-  rest = record { attached = refl; name = refl; faults = record { attach = omega arith; read = omega arith; write = omega arith } };
+  rest = record { attached = refl; name = refl; faults = record { attach = omega arith; read = omega arith; write = omega arith }; loans = refl };
 }
 
 pub loop-status-preserved : goal.loop-status-preserved

@@ -40,7 +40,7 @@ pub returns-in-Ok-clause-rest : goal.returns-in-Ok-clause-rest
 returns-in-Ok-clause-rest g c =
     let outside = g.D.Desk.outside in
     let began = c.begin.ensures.rest in
-    keeps_since (outside c.args.desk.now) (outside c.begin.new.desk) (outside c.converse-status.new.desk) began.attached began.name began.faults c.converse-status.ensures.rest
+    keeps_since (outside c.args.desk.now) (outside c.begin.new.desk) (outside c.converse-status.new.desk) began.attached began.name began.faults began.loans c.converse-status.ensures.rest
 
 pub returns-in-Ok-clause-cause : goal.returns-in-Ok-clause-cause
 returns-in-Ok-clause-cause g c =
