@@ -146,8 +146,10 @@ module _ (p : Params) (below : Below p) where
       → AllCaptured (sender_run (pictures p.format) (encoding p) (rules_of p) pace entries).coded
   all_captured pace [] paced = λ n x is. absurd (cc is)
   all_captured pace (Capture frame ∷ entries) paced =
-      one_more (sender_run (pictures p.format) (encoding p) (rules_of p) pace entries).coded _ (all_captured pace entries paced)
-      (record { quant = _; frame = frame; coded = _; reference = _; some = (paced _ (few_sizes _)).0; few = (paced _ (few_sizes _)).1; is = refl })
+      let before = (sender_run (pictures p.format) (encoding p) (rules_of p) pace entries).coded in
+      let range = paced (call.last_sizes (encoding p) (rules_of p) before) (few_sizes before) in
+      one_more before _ (all_captured pace entries paced)
+      (record { quant = _; frame = frame; coded = _; reference = _; some = range.0; few = range.1; is = refl })
   all_captured pace (Feedback bytes ∷ entries) paced = all_captured pace entries paced
 
   by_slot : (n sequence : ℕ) (o : Option (Coded Style Mb Picture)) → ((x : Coded Style Mb Picture) → o ≡ Some x → IsCaptured p x)
