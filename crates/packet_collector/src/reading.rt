@@ -63,23 +63,10 @@ fn read_behind(
     Ok(Piece { header, head })
 }
 
-// The parts of a packet in their order.
-#[tactic(auto, unfolding(crate::specs::Packet::packet_at))]
-fn first_found(bytes: &[u8], format: Format, out: &mut [Mb]) -> Result<Piece, Fault>
-    requires picture { length out.old ≡ mbs_of format }
-    ensures exact { FillsPacket result out.new (packet_at format bytes.now) }
-    ensures range { IfOk result (IsPieceIn format out.new) }
-    ensures others { IfOk result (λ piece. AreOthersSame out.old out.new piece.head) }
-    ensures size { length out.new ≡ length out.old }
-{
-    let rtp = rtp_header::read(bytes)?;
-    let payload = read_payload(bytes, &rtp, format)?;
-    read_behind(bytes, 8 * rtp.to, &payload, format, out)
-}
-
 /// Reads a packet whole: RTP's header, the payload's header, and a slice of a picture of the
 /// expected format (RFC 4629, 5.1). `out` has all macroblocks of the picture, by number, and the
 /// slice's are put into their places; after a fault it is left open.
+#[tactic(auto, unfolding(crate::specs::Packet::packet_at))]
 pub fn read_packet(bytes: &[u8], format: Format, out: &mut [Mb]) -> Result<Piece, Fault>
     requires picture { length out.old ≡ mbs_of format }
     // What is read is spelled by the bytes.
@@ -96,5 +83,7 @@ pub fn read_packet(bytes: &[u8], format: Format, out: &mut [Mb]) -> Result<Piece
     ensures size { length out.new ≡ length out.old }
 {
     laws::of_the_parts();
-    first_found(bytes, format, out)
+    let rtp = rtp_header::read(bytes)?;
+    let payload = read_payload(bytes, &rtp, format)?;
+    read_behind(bytes, 8 * rtp.to, &payload, format, out)
 }

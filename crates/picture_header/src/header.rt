@@ -1,5 +1,4 @@
 //! What a picture header says, as one value.
-use crate::same;
 use back_messages::Message;
 use h263_types::{Clock, Format, Kind};
 
@@ -27,7 +26,7 @@ pub struct Header {
 }
 
 impl Header {
-    ghost use Rattle.std.specs.Prelude.{◌≡◌, ◌<◌, ◌≤◌, ◌↔◌, IsTrue};
+    ghost use Rattle.std.specs.Prelude.{◌≡◌, ◌<◌, ◌≤◌};
     ghost use Rattle.h263_types.specs.Blocks.{IsQuant};
     ghost use Rattle.h263_types.specs.Clocks.{period_of};
     ghost use Rattle.picture_header.specs.Ranges.{IsHeader};
@@ -85,12 +84,5 @@ impl Header {
             trp: Some(trp),
             ..self
         }
-    }
-
-    /// Whether both headers say the same.
-    pub fn is_same(&self, other: &Header) -> bool
-        ensures { IsTrue result ↔ (self.now ≡ other.now) }
-    {
-        same::is_same(self, other)
     }
 }

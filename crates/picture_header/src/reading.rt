@@ -245,12 +245,23 @@ pub fn read_quant(reader: &mut BitReader<'_>) -> Result<u8, Fault>
     Ok(quant as u8)
 }
 
+/// Reads a picture header of the expected format, from the bit `1` of the start code to the last
+/// PEI (H.263, 5.1).
 #[tactic(auto, unfolding(crate::specs::Text::header, h263_bits::specs::Syntax::reading))]
-fn header_at(reader: &mut BitReader<'_>, format: Format) -> Result<Header, Fault>
-    ensures reads { Gives
+pub fn read_header(reader: &mut BitReader<'_>, format: Format) -> Result<Header, Fault>
+    // What is read is spelled by the bits that were taken.
+    ensures found { IfOk result (λ h. Takes reader.old reader.new (IsHeaderText format h)) }
+    // What is spelled is read, whatever follows.
+    ensures only { (h : Header) (text rest : List Bool)
+        → IsHeaderText format h text → reader.old.bits ≡ text ++ rest
+        → IsOkAnd result (λ found. (found ≡ h) × (reader.new.bits ≡ rest)) }
+    // Otherwise it is the first fault, at its place.
+    ensures fault { first_fault result ≡ header_fault format reader.old }
+    ensures exact { Gives
         (λ (h : Header). h) result reader.new (reading (header format) reader.old) }
     ensures range { IfOk result IsHeader }
 {
+    back_messages_laws::in_a_syntax();
     let low = read_opening(reader)?;
     let (clock, kind, rounding) = read_plus_type(reader, format)?;
     read_multipoint(reader)?;
@@ -271,23 +282,4 @@ fn header_at(reader: &mut BitReader<'_>, format: Format) -> Result<Header, Fault
         back,
         clock,
     })
-}
-
-/// Reads a picture header of the expected format, from the bit `1` of the start code to the last
-/// PEI (H.263, 5.1).
-pub fn read_header(reader: &mut BitReader<'_>, format: Format) -> Result<Header, Fault>
-    // What is read is spelled by the bits that were taken.
-    ensures found { IfOk result (λ h. Takes reader.old reader.new (IsHeaderText format h)) }
-    // What is spelled is read, whatever follows.
-    ensures only { (h : Header) (text rest : List Bool)
-        → IsHeaderText format h text → reader.old.bits ≡ text ++ rest
-        → IsOkAnd result (λ found. (found ≡ h) × (reader.new.bits ≡ rest)) }
-    // Otherwise it is the first fault, at its place.
-    ensures fault { first_fault result ≡ header_fault format reader.old }
-    ensures exact { Gives
-        (λ (h : Header). h) result reader.new (reading (header format) reader.old) }
-    ensures range { IfOk result IsHeader }
-{
-    back_messages_laws::in_a_syntax();
-    header_at(reader, format)
 }

@@ -1,6 +1,6 @@
 //! Whether two headers are the same, field by field: what `==` says of two headers a proof can't
 //! use.
-ghost use Rattle.std.specs.Prelude.{◌≡◌, ◌↔◌, true};
+ghost use Rattle.std.specs.Prelude.{◌≡◌, ◌↔◌, true, IsTrue};
 
 use crate::header::Header;
 use back_messages::Message;
@@ -52,17 +52,20 @@ fn are_same_numbers(a: &Header, b: &Header) -> bool
     a.tr == b.tr && a.rounding == b.rounding && a.channel == b.channel && a.quant == b.quant
 }
 
-pub(crate) fn is_same(a: &Header, b: &Header) -> bool
-    ensures { (result ≡ true) ↔ (a.now ≡ b.now) }
-{
-    if !are_same_numbers(a, b) {
-        return false;
+impl Header {
+    /// Whether both headers say the same.
+    pub fn is_same(&self, other: &Header) -> bool
+        ensures { IsTrue result ↔ (self.now ≡ other.now) }
+    {
+        if !are_same_numbers(self, other) {
+            return false;
+        }
+        if !is_same_format(self.format, other.format) || !is_same_kind(self.kind, other.kind) {
+            return false;
+        }
+        if !is_same_clock(self.clock, other.clock) || !is_same_reference(self.trp, other.trp) {
+            return false;
+        }
+        are_same_messages(&self.back, &other.back)
     }
-    if !is_same_format(a.format, b.format) || !is_same_kind(a.kind, b.kind) {
-        return false;
-    }
-    if !is_same_clock(a.clock, b.clock) || !is_same_reference(a.trp, b.trp) {
-        return false;
-    }
-    are_same_messages(&a.back, &b.back)
 }

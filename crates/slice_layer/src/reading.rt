@@ -104,28 +104,10 @@ fn read_body(
     })
 }
 
-#[tactic(auto, unfolding(crate::specs::Text::slice_at))]
-fn slice_at(
-    reader: &mut BitReader<'_>,
-    header: &Header,
-    begins: bool,
-    out: &mut [Mb],
-) -> Result<SliceHead, Fault>
-    requires header { IsHeader header.now }
-    requires picture { length out.old ≡ mbs_of header.now.format }
-    ensures exact { Fills result out.new (slice_at header.now begins reader.old) }
-    ensures left { IfOk result (λ _. is_padding reader.new.bits ≡ true) }
-    ensures range { IfOk result (IsSliceIn header.now out.new) }
-    ensures others { IfOk result (AreOthersSame out.old out.new) }
-    ensures size { length out.new ≡ length out.old }
-{
-    let (first, quant) = read_head(reader, header, begins)?;
-    read_body(reader, header, first, quant, out)
-}
-
 /// Reads a slice of the picture with this header (H.263, Annex K), up to the end of the bits.
 /// `begins` says that the picture header stood just before. `out` has all macroblocks of the
 /// picture, by number, and is filled from the slice's first on; after a fault it is left open.
+#[tactic(auto, unfolding(crate::specs::Text::slice_at))]
 pub fn read_slice(
     reader: &mut BitReader<'_>,
     header: &Header,
@@ -152,5 +134,6 @@ pub fn read_slice(
     ensures size { length out.new ≡ length out.old }
 {
     macroblock_layer_laws::in_a_syntax();
-    slice_at(reader, header, begins, out)
+    let (first, quant) = read_head(reader, header, begins)?;
+    read_body(reader, header, first, quant, out)
 }

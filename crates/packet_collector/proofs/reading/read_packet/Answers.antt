@@ -1,12 +1,48 @@
-use Rattle.std.proofs.Common.{◌∙◌}
-use Rattle.packet_collector.proofs.Exact.{fills_packet, packet_fills, fault_is}
+use Rattle.std.proofs.Common.{◌∙◌, rules}
+use Rattle.packet_collector.specs.Packet.{packet_at}
+use Rattle.packet_collector.proofs.Exact.{fills_packet, packet_fills, fault_is, extra_format}
 use Rattle.packet_collector.proofs.reading.read_packet.Goals as goal
 
+pub read_behind-requires-clause-format : goal.read_behind-requires-clause-format
+read_behind-requires-clause-format c =
+    let text = c.in_ok-payload.ensures.found in
+    extra_format c.args.format text.opening.plen text.opening.pebit c.in_ok-payload.payload.extra text.middle text.extra
+
+pub returns-in_err-rtp-clause-exact : goal.returns-in_err-rtp-clause-exact
+unfolding packet_at
+returns-in_err-rtp-clause-exact c = search rules
+
+pub returns-in_err-rtp-clause-range : goal.returns-in_err-rtp-clause-range
+returns-in_err-rtp-clause-range c = search rules
+
+pub returns-in_err-rtp-clause-only : goal.returns-in_err-rtp-clause-only
+returns-in_err-rtp-clause-only c = packet_fills c.of_the_parts.ensures c.from_residual.result c.args.out.now c.args.format c.args.bytes.now (returns-in_err-rtp-clause-range c) c.requires.picture (returns-in_err-rtp-clause-exact c)
+
+pub returns-in_err-rtp-clause-fault : goal.returns-in_err-rtp-clause-fault
+returns-in_err-rtp-clause-fault c = fault_is c.from_residual.result c.args.out.now _ (returns-in_err-rtp-clause-exact c)
+
+pub returns-in_err-payload-clause-exact : goal.returns-in_err-payload-clause-exact
+unfolding packet_at
+returns-in_err-payload-clause-exact c = search rules
+
+pub returns-in_err-payload-clause-range : goal.returns-in_err-payload-clause-range
+returns-in_err-payload-clause-range c = search rules
+
+pub returns-in_err-payload-clause-only : goal.returns-in_err-payload-clause-only
+returns-in_err-payload-clause-only c = packet_fills c.of_the_parts.ensures c.from_residual-in_err-payload.result c.args.out.now c.args.format c.args.bytes.now (returns-in_err-payload-clause-range c) c.requires.picture (returns-in_err-payload-clause-exact c)
+
+pub returns-in_err-payload-clause-fault : goal.returns-in_err-payload-clause-fault
+returns-in_err-payload-clause-fault c = fault_is c.from_residual-in_err-payload.result c.args.out.now _ (returns-in_err-payload-clause-exact c)
+
+pub returns-clause-exact : goal.returns-clause-exact
+unfolding packet_at
+returns-clause-exact c = search rules
+
 pub returns-clause-found : goal.returns-clause-found
-returns-clause-found c = fills_packet c.of_the_parts.ensures c.first_found.result c.first_found.new.out c.args.format c.args.bytes.now c.first_found.ensures.exact
+returns-clause-found c = fills_packet c.of_the_parts.ensures c.read_behind.result c.read_behind.new.out c.args.format c.args.bytes.now (returns-clause-exact c)
 
 pub returns-clause-only : goal.returns-clause-only
-returns-clause-only c = packet_fills c.of_the_parts.ensures c.first_found.result c.first_found.new.out c.args.format c.args.bytes.now c.first_found.ensures.range (c.first_found.ensures.size ∙ c.requires.picture) c.first_found.ensures.exact
+returns-clause-only c = packet_fills c.of_the_parts.ensures c.read_behind.result c.read_behind.new.out c.args.format c.args.bytes.now c.read_behind.ensures.range (c.read_behind.ensures.size ∙ c.requires.picture) (returns-clause-exact c)
 
 pub returns-clause-fault : goal.returns-clause-fault
-returns-clause-fault c = fault_is c.first_found.result c.first_found.new.out _ c.first_found.ensures.exact
+returns-clause-fault c = fault_is c.read_behind.result c.read_behind.new.out _ (returns-clause-exact c)
