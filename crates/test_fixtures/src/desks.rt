@@ -1,0 +1,1 @@
+//! Desks as tests use them.
