@@ -1,6 +1,82 @@
-//! Packets as another program writes them.
+//! Headers, packets, texts and macroblocks of several tests.
+ghost use Rattle.std.specs.Prelude.{◌≡◌, ◌*◌, ◌<◌, ◌≤◌, IfOk, IsTrue, length};
+ghost use Rattle.h263_types.specs.Blocks.{HasQuant, IsDc, IsIntraBlock, IsLevel, IsMb, IsOfKind};
+ghost use Rattle.h263_types.specs.Sizes.{mbs_of};
+ghost use Rattle.h263_types.specs.Vectors.{InReach};
+ghost use Rattle.macroblock_layer.specs.Written.{IsNear, IsStepped};
 
-/// The packet of a flat picture of 48 macroblocks with INTRADC 100.
+use h263_bits::{BitReader, Fault};
+use h263_types::{Block, Clock, Format, Kind, Mb, Params, Reach, Vector, reach};
+use macroblock_layer::read_mb;
+use picture_header::Header;
+use std::process::Abort;
+
+/// The bytes of a sub-QCIF picture: 128 x 96 of Y, 64 x 48 of Cb, 64 x 48 of Cr.
+pub const SIZE: usize = 18_432;
+
+pub const PARAMS: Params = Params {
+    format: Format::SubQcif,
+    quant: 8,
+    keep: 64,
+    radius: 7,
+    limit: 1400,
+    slots: 16,
+    lead: 3,
+    messages: 1,
+    clock: Clock::Standard,
+};
+
+pub const PARAMS_OF_CIF: Params = Params {
+    format: Format::Cif,
+    ..PARAMS
+};
+
+/// Picture 0 of sub-QCIF, an I picture.
+pub const INTRA: Header = Header {
+    tr: 0,
+    format: Format::SubQcif,
+    kind: Kind::I,
+    rounding: 0,
+    channel: 3,
+    trp: None,
+    quant: 8,
+    back: [None; 4],
+    clock: Clock::Standard,
+};
+
+/// Picture 1 of sub-QCIF, which refers to picture 0.
+pub const INTER: Header = Header {
+    tr: 1,
+    kind: Kind::P,
+    rounding: 1,
+    trp: Some(0),
+    ..INTRA
+};
+
+pub const INTRA_OF_CIF: Header = Header {
+    format: Format::Cif,
+    ..INTRA
+};
+
+pub const INTER_OF_CIF: Header = Header {
+    format: Format::Cif,
+    ..INTER
+};
+
+/// The reach of a macroblock in the middle of a picture.
+pub const FAR: Reach = Reach {
+    left: -32,
+    right: 31,
+    up: -32,
+    down: 31,
+};
+
+/// Four messages of a picture header, each after its BCI `1`, and a fifth `1`.
+pub const MESSAGES: &str =
+    "1 11 0 0000000000 1 0000000000 1 11 0 0000000001 1 0000000001 1 11 0 0000000010 1 0000000010 1 11 0 0000000011 1 0000000011 1";
+
+/// The packet of picture 0 of sub-QCIF, each sample 100: packed by another program from the
+/// formats.
 pub const FLAT_PACKET: [u8; 342] = [
     0x80, 0xE0, 0x00, 0x00, 0x00, 0x00, 0x00, 0x00, 0x48, 0x32, 0x36, 0x33, 0x04, 0x00, 0x80, 0x02,
     0x1C, 0x90, 0x31, 0x00, 0x11, 0xCA, 0x10, 0x33, 0x64, 0x64, 0x64, 0x64, 0x64, 0x64, 0x9B, 0x23,
@@ -26,8 +102,190 @@ pub const FLAT_PACKET: [u8; 342] = [
     0x8C, 0x8C, 0x8C, 0x8C, 0x8C, 0x80,
 ];
 
-/// The packet of 48 macroblocks that are not coded, of picture 1.
+/// Picture 1 after it, all macroblocks as they were.
 pub const SKIPPED_PACKET: [u8; 31] = [
     0x80, 0xE0, 0x00, 0x01, 0x00, 0x00, 0x0B, 0xBB, 0x48, 0x32, 0x36, 0x33, 0x04, 0x00, 0x80, 0x06,
     0x1C, 0x90, 0x31, 0x04, 0x91, 0xE0, 0x02, 0x84, 0x0F, 0xFF, 0xFF, 0xFF, 0xFF, 0xFF, 0xF8,
 ];
+
+/// A textured intra picture of sub-QCIF with quantiser 31, coded by another program.
+pub const GRAIN_PACKET: [u8; 342] = [
+    0x80, 0xE0, 0x00, 0x00, 0x00, 0x00, 0x00, 0x00, 0x48, 0x32, 0x36, 0x33, 0x04, 0x00, 0x80, 0x02,
+    0x1C, 0x90, 0x31, 0x00, 0x11, 0xCF, 0xD0, 0x33, 0xA4, 0x9C, 0x94, 0x8D, 0x9D, 0x64, 0x9C, 0xA4,
+    0x5C, 0x1B, 0xDC, 0xAB, 0x24, 0xE0, 0xDF, 0x1D, 0x1B, 0x23, 0x59, 0x26, 0xF0, 0xFE, 0xD0, 0xDF,
+    0x0A, 0xC9, 0x38, 0x78, 0xE7, 0x67, 0xE7, 0xD6, 0x49, 0xCB, 0x4F, 0x43, 0x47, 0xBA, 0x31, 0xCE,
+    0x9A, 0xBE, 0x5E, 0x7D, 0xB1, 0x8E, 0x76, 0x75, 0x74, 0x93, 0x8C, 0x8C, 0xB3, 0x84, 0x7B, 0x74,
+    0x6B, 0x9C, 0x6C, 0x9B, 0x9B, 0x5B, 0x1A, 0xE4, 0xAB, 0x64, 0xD8, 0xD6, 0xD5, 0x13, 0x23, 0x9B,
+    0x26, 0xB0, 0xBC, 0x90, 0x9D, 0x08, 0xD9, 0x36, 0x76, 0xE5, 0x75, 0xF7, 0xD6, 0xB9, 0xBB, 0x3F,
+    0xB3, 0x37, 0xBA, 0xB5, 0xCE, 0x1A, 0x39, 0xDD, 0xFD, 0xB1, 0xB2, 0x72, 0x91, 0x90, 0x4F, 0x6C,
+    0x8D, 0x93, 0x72, 0x6A, 0x82, 0x79, 0x9D, 0x73, 0x9B, 0x0A, 0xCB, 0x8B, 0x4C, 0xAB, 0x9C, 0xD4,
+    0xD2, 0x98, 0x96, 0x63, 0x5C, 0xE6, 0x8A, 0x9C, 0xAA, 0xBB, 0x0A, 0xE9, 0x35, 0x55, 0xC6, 0x46,
+    0xC7, 0xD7, 0x49, 0xB2, 0x36, 0xBA, 0xBE, 0xBA, 0x3A, 0x4D, 0xD5, 0xF6, 0x12, 0x31, 0xB1, 0xCE,
+    0x70, 0x2F, 0x32, 0x11, 0x4C, 0x8E, 0x93, 0x91, 0x8A, 0xA2, 0x9A, 0x9D, 0x7C, 0x9C, 0x13, 0xCC,
+    0x94, 0x4C, 0xAB, 0xDC, 0xDC, 0x9A, 0x60, 0x9E, 0x63, 0x5F, 0x26, 0xCC, 0xD8, 0xEC, 0xF9, 0x0A,
+    0xF9, 0x37, 0x57, 0xC8, 0x58, 0xD7, 0xC7, 0xC9, 0xC2, 0x46, 0x4A, 0x4E, 0x39, 0xBE, 0x4E, 0x56,
+    0x72, 0x96, 0xB5, 0xB5, 0xF2, 0x74, 0x33, 0x36, 0x55, 0x2C, 0xAF, 0x93, 0xA5, 0x9B, 0x94, 0x8C,
+    0x9C, 0x83, 0x9C, 0xA4, 0x5C, 0x23, 0xDC, 0xA4, 0x1C, 0xE1, 0x1E, 0xDD, 0x1B, 0x23, 0x21, 0x26,
+    0xEE, 0xFE, 0xD0, 0xDD, 0x09, 0x07, 0x38, 0x68, 0xE7, 0x67, 0xE7, 0xD8, 0x39, 0xCB, 0xCF, 0xC3,
+    0xC7, 0xBA, 0x41, 0xCE, 0x9A, 0xBE, 0x5A, 0x7D, 0xB6, 0x0E, 0x76, 0x95, 0x94, 0x93, 0x8C, 0x90,
+    0xB3, 0x84, 0x7C, 0x73, 0x6B, 0x9D, 0x8B, 0x9B, 0x9B, 0x5B, 0x1A, 0xE4, 0xAC, 0x64, 0xD9, 0x16,
+    0xD5, 0x12, 0xE3, 0x62, 0xE6, 0xAE, 0xBC, 0x90, 0x9F, 0x09, 0x19, 0x36, 0x77, 0x05, 0x75, 0xE7,
+    0xD8, 0xC9, 0xBB, 0xBF, 0x33, 0xB7, 0xBA, 0xC5, 0xCE, 0x1E, 0x3D, 0xDD, 0xF9, 0xBA, 0x2E, 0x72,
+    0x71, 0x70, 0x6F, 0x8C, 0xB1, 0x60,
+];
+
+/// The last three macroblocks of an intra picture of sub-QCIF with quantiser 12, coded by another
+/// program.
+pub const LATER_PACKET: [u8; 102] = [
+    0x80, 0xE0, 0x00, 0x01, 0x00, 0x00, 0x00, 0x00, 0x48, 0x32, 0x36, 0x33, 0x04, 0x4D, 0x80, 0x02,
+    0x1C, 0x90, 0x31, 0x00, 0x11, 0xCB, 0x00, 0xED, 0x64, 0x17, 0xC5, 0x80, 0x77, 0xCD, 0x30, 0x97,
+    0x83, 0x85, 0xFD, 0x34, 0x5C, 0x0E, 0x10, 0x1B, 0x6A, 0xA5, 0x67, 0xE2, 0xAF, 0xC1, 0xC1, 0xFB,
+    0x6F, 0x07, 0x0F, 0xF5, 0xED, 0xBE, 0x80, 0xE0, 0x81, 0xAB, 0x40, 0x70, 0xBF, 0x99, 0x83, 0x36,
+    0x55, 0x5F, 0x3C, 0xFE, 0x5C, 0x3E, 0x00, 0x87, 0x10, 0x60, 0x42, 0x34, 0xC3, 0xA7, 0xB0, 0x82,
+    0xA8, 0xDD, 0xC3, 0x30, 0xFC, 0x1C, 0x2F, 0xD8, 0x60, 0x60, 0x42, 0x74, 0xC3, 0x77, 0xCB, 0xC0,
+    0x21, 0xCC, 0x18, 0x10, 0xA2, 0x40,
+];
+
+/// The beginning of the second packet of a flat CIF picture: the RTP header, the payload header with
+/// the picture header of 67 bits, and four bytes of its slice.
+pub const SECOND_OF_CIF: [u8; 27] = [
+    0x80, 0xE0, 0x00, 0x01, 0x00, 0x00, 0x00, 0x00, 0x48, 0x32, 0x36, 0x33, 0x04, 0x4D, 0x80, 0x02,
+    0x1C, 0xB0, 0x31, 0x00, 0x11, 0xCA, 0x00, 0xD9, 0xE8, 0x83, 0x36,
+];
+
+/// Puts a text of zeros and ones, in which spaces say nothing, into zeros from place `from` on, as
+/// far as it fits. Answers where it ends.
+pub fn put_text(bytes: &mut [u8], from: u32, text: &str) -> u32
+    requires { length bytes.old ≤ 65535 }
+    ensures length { length bytes.new ≡ length bytes.old }
+    ensures end { from ≤ 8 * length bytes.old → result ≤ 8 * length bytes.old }
+{
+    put_first(bytes, from, u32::MAX, text)
+}
+
+/// Puts the first `keep` bits of a text, and then another one.
+pub fn put_changed(bytes: &mut [u8], from: u32, text: &str, keep: u32, other: &str) -> u32
+    requires { length bytes.old ≤ 65535 }
+    ensures length { length bytes.new ≡ length bytes.old }
+    ensures end { from ≤ 8 * length bytes.old → result ≤ 8 * length bytes.old }
+{
+    let kept = put_first(bytes, from, keep, text);
+    put_first(bytes, kept, u32::MAX, other)
+}
+
+// Puts at most `most` bits of a text.
+fn put_first(bytes: &mut [u8], from: u32, most: u32, text: &str) -> u32
+    requires { length bytes.old ≤ 65535 }
+    ensures length { length bytes.new ≡ length bytes.old }
+    ensures end { from ≤ 8 * length bytes.old → result ≤ 8 * length bytes.old }
+{
+    let end = 8 * bytes.len() as u32;
+    let mut place = from;
+    let mut left = most;
+    'digits: for digit in text.as_bytes() {
+        if *digit != b' ' && left > 0 && place < end {
+            bytes[(place / 8) as usize] |= (*digit & 1) << (7 - place % 8);
+            place += 1;
+            left -= 1;
+        }
+    }
+    place
+}
+
+/// The macroblock of a text, where the quantiser before it is 8.
+pub fn read_text(kind: Kind, predictor: Vector, reach: Reach, text: &str) -> Result<Mb, Fault>
+    ensures mb { IfOk result (λ m. IsMb m) }
+    ensures kind { IfOk result (λ m. IsOfKind kind m) }
+{
+    let mut bytes = [0; 32];
+    let end = put_text(&mut bytes, 0, text);
+    let mut reader = BitReader::new(&bytes, 0, end);
+    let mut mb = Mb::Skip;
+    read_mb(&mut reader, kind, 8, predictor, reach, &mut mb)?;
+    Ok(mb)
+}
+
+/// A block of INTRADC `dc` and of one level more, at place `place + 1` of the zigzag order.
+pub fn intra_block(dc: i16, place: usize, level: i16) -> Block
+    requires dc { IsDc dc }
+    requires place { place < 63 }
+    requires level { IsLevel level }
+    ensures { IsIntraBlock result }
+{
+    let mut levels = [0; 64];
+    levels[place + 1] = level;
+    levels[0] = dc;
+    Block { levels }
+}
+
+/// A macroblock of which each sample is 100, as in the flat packet.
+pub fn flat_mb() -> Mb
+    ensures mb { IsMb result }
+    ensures kind { IsOfKind Kind.I result }
+    ensures quant { HasQuant 8 result }
+    ensures step { IsStepped 8 result }
+{
+    let block = intra_block(100, 0, 0);
+    Mb::Intra {
+        quant: 8,
+        blocks: [block, block, block, block, block, block],
+    }
+}
+
+/// The quantiser and the vector of a macroblock, zeros where it has none.
+pub fn head_of(mb: &Mb) -> (u8, Vector) {
+    match mb {
+        Mb::Skip => (0, Vector::ZERO),
+        Mb::Intra { quant, blocks: _ } => (*quant, Vector::ZERO),
+        Mb::Inter {
+            quant,
+            vector,
+            blocks: _,
+        } => (*quant, *vector),
+    }
+}
+
+// Whether a quantiser is within 2 of another one.
+fn is_near(from: u8, to: u8) -> bool
+    requires { from ≤ 31 }
+    ensures { IsTrue result → IsNear from to }
+{
+    from <= to.saturating_add(2) && to <= from + 2
+}
+
+/// Whether a macroblock may follow a quantiser.
+pub fn is_stepped(from: u8, mb: &Mb) -> bool
+    requires { from ≤ 31 }
+    ensures { IsTrue result → IsStepped from mb.now }
+{
+    match mb {
+        Mb::Skip => true,
+        Mb::Intra { quant, blocks: _ } => is_near(from, *quant),
+        Mb::Inter {
+            quant,
+            vector: _,
+            blocks: _,
+        } => is_near(from, *quant),
+    }
+}
+
+/// Ends the test where the vector is not in reach.
+pub fn assert_reach(rt: &impl Abort, format: Format, mb: u32, vector: Vector)
+    requires { mb < mbs_of format }
+    ensures { InReach format mb vector.x vector.y }
+{
+    let reach = reach(format, mb);
+    assert!(rt; reach.left <= vector.x);
+    assert!(rt; vector.x <= reach.right);
+    assert!(rt; reach.up <= vector.y);
+    assert!(rt; vector.y <= reach.down);
+}
+
+/// What textures are made of.
+pub fn texture(x: usize, y: usize) -> usize
+    requires x { x < 256 }
+    requires y { y < 256 }
+{
+    let curves = (x * x * 3 + y * y * 5 + x * y * 7) / 64;
+    curves + x / 8 * 37 + y / 8 * 59 + x * y % 11
+}

@@ -1,28 +1,12 @@
 //! Samples between samples, by hand.
 ghost use Rattle.std.specs.Prelude.{◌<◌};
-ghost use Rattle.h263_types.specs.Sizes.{mbs_of};
-ghost use Rattle.h263_types.specs.Vectors.{InReach};
 ghost use Rattle.h263_planes.specs.Lent.{picture};
 
 use h263_planes::{PictureRef, Plane};
-use h263_types::{Format, Vector, reach};
+use h263_types::{Format, Vector};
 use half_sample::{chroma, luma, luma_quarter};
 use std::process::Abort;
-
-// The bytes of a sub-QCIF picture: 128 x 96 of Y, 64 x 48 of Cb, 64 x 48 of Cr.
-const SIZE: usize = 18_432;
-
-// Ends the test where the vector is not in reach.
-fn assert_reach(rt: &impl Abort, reference: PictureRef<'_>, mb: u32, vector: Vector)
-    requires mb { mb < mbs_of (picture reference).format }
-    ensures { InReach (picture reference.entry).format mb vector.x vector.y }
-{
-    let reach = reach(reference.format(), mb);
-    assert!(rt; reach.left <= vector.x);
-    assert!(rt; vector.x <= reach.right);
-    assert!(rt; reach.up <= vector.y);
-    assert!(rt; vector.y <= reach.down);
-}
+use test_fixtures::codec::{SIZE, assert_reach};
 
 // The prediction of Y where the vector is in reach.
 fn luma_of(
@@ -33,7 +17,7 @@ fn luma_of(
     rounding: u8,
 ) -> [u8; 256] {
     assert!(rt; mb < reference.format().mbs() && rounding <= 1);
-    assert_reach(rt, reference, mb, vector);
+    assert_reach(rt, reference.format(), mb, vector);
     let mut out = [0; 256];
     luma(reference, mb, vector, rounding, &mut out);
     out
@@ -49,7 +33,7 @@ fn chroma_of(
     rounding: u8,
 ) -> [u8; 64] {
     assert!(rt; mb < reference.format().mbs() && rounding <= 1);
-    assert_reach(rt, reference, mb, vector);
+    assert_reach(rt, reference.format(), mb, vector);
     let mut out = [0; 64];
     match plane {
         Plane::Y => {}
@@ -191,7 +175,7 @@ fn assert_quarters(
 ) {
     let whole = luma_of(rt, reference, mb, vector, rounding);
     assert!(rt; mb < reference.format().mbs() && rounding <= 1);
-    assert_reach(rt, reference, mb, vector);
+    assert_reach(rt, reference.format(), mb, vector);
     for first in 0..4u32 {
         let mut rows = [0; 64];
         luma_quarter(reference, mb, vector, rounding, first, &mut rows);

@@ -2,38 +2,11 @@
 ghost use Rattle.std.specs.Prelude.{◌<◌, ◌≤◌};
 
 use h263_planes::{PictureMut, PictureRef, Plane};
-use h263_types::{Block, Clock, Format, Kind, Mb, Params};
+use h263_types::{Block, Format, Kind, Mb, Params};
 use mode_choice::choose;
 use picture_header::Header;
 use std::process::Abort;
-
-// The bytes of a sub-QCIF picture.
-const SIZE: usize = 18_432;
-
-// The header of an I picture.
-const HEADER: Header = Header {
-    tr: 0,
-    format: Format::SubQcif,
-    kind: Kind::I,
-    rounding: 0,
-    channel: 3,
-    trp: None,
-    quant: 8,
-    back: [None; 4],
-    clock: Clock::Standard,
-};
-
-const PARAMS: Params = Params {
-    format: Format::SubQcif,
-    quant: 8,
-    keep: 64,
-    radius: 7,
-    limit: 1400,
-    slots: 16,
-    lead: 3,
-    messages: 1,
-    clock: Clock::Standard,
-};
+use test_fixtures::codec::{self, PARAMS, SIZE, texture};
 
 // A block of INTRADC and of levels at places 1, 2, 6, 9 and 20 of the zigzag order.
 fn block(dc: i16, others: [i16; 5]) -> Block {
@@ -83,14 +56,14 @@ fn levels_of_a_macroblock(rt: HostRuntime) {
             block(90, [0; 5]),
             block(200, [0; 5]),
         ];
-        let mb = choose(out.seen(), None, 9, &HEADER, &params);
+        let mb = choose(out.seen(), None, 9, &codec::INTRA, &params);
         assert_eq!(rt; mb, Mb::Intra { quant: 8, blocks }, "keep {keep}");
     }
     let grey = Mb::Intra {
         quant: 8,
         blocks: [block(128, [0; 5]); 6],
     };
-    assert_eq!(rt; choose(out.seen(), None, 47, &HEADER, &PARAMS), grey);
+    assert_eq!(rt; choose(out.seen(), None, 47, &codec::INTRA, &PARAMS), grey);
 }
 
 // The samples of Y of a sub-QCIF picture, and of one of its colours.
@@ -142,7 +115,7 @@ fn chosen(
         kind: Kind::P,
         rounding,
         trp: Some(0),
-        ..HEADER
+        ..codec::INTRA
     };
     let params = Params { keep, ..PARAMS };
     let frame = PictureRef::new(Format::SubQcif, frame);
@@ -154,14 +127,6 @@ fn chosen(
     }
 }
 
-fn texture(x: usize, y: usize) -> u8
-    requires x { x < 256 }
-    requires y { y < 256 }
-{
-    let curves = (x * x * 3 + y * y * 5 + x * y * 7) / 64;
-    ((curves + x / 8 * 37 + y / 8 * 59 + x * y % 11) % 251) as u8
-}
-
 // A texture, seen from a place on. The colours have every second sample of it, across and down.
 fn textured(right: usize, down: usize) -> [u8; SIZE]
     requires right { right < 32 }
@@ -170,9 +135,9 @@ fn textured(right: usize, down: usize) -> [u8; SIZE]
     let mut bytes = [0; SIZE];
     for i in 0..SIZE {
         bytes[i] = if i < LUMA {
-            texture(i % 128 + right, i / 128 + down)
+            (texture(i % 128 + right, i / 128 + down) % 251) as u8
         } else {
-            texture(2 * (i % 64) + right, 2 * ((i - LUMA) % COLOUR / 64) + down)
+            (texture(2 * (i % 64) + right, 2 * ((i - LUMA) % COLOUR / 64) + down) % 251) as u8
         };
     }
     bytes

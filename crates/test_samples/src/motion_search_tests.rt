@@ -5,9 +5,7 @@ use h263_planes::PictureRef;
 use h263_types::{Format, Vector};
 use motion_search::{search, search_from};
 use std::process::Abort;
-
-// The bytes of a sub-QCIF picture: 128 x 96 of Y, 64 x 48 of Cb, 64 x 48 of Cr.
-const SIZE: usize = 18_432;
+use test_fixtures::codec::{SIZE, texture};
 
 const WIDTH: usize = 128;
 
@@ -44,8 +42,7 @@ fn textured(bytes: &mut [u8; SIZE], right: usize, down: usize)
     for i in 0..WIDTH * HEIGHT {
         let x = i % WIDTH + right;
         let y = i / WIDTH + down;
-        let curves = (x * x * 3 + y * y * 5 + x * y * 7) / 64;
-        bytes[i] = ((curves + x / 8 * 37 + y / 8 * 59 + x * y % 11) % 256) as u8;
+        bytes[i] = (texture(x, y) % 256) as u8;
     }
 }
 

@@ -11,64 +11,22 @@ ghost use Rattle.packet_cutter.specs.Cutting.{format_of, limit_of};
 
 use h263_outside::OutOfMemory;
 use h263_planes::{PictureMut, PictureRef};
-use h263_types::{Clock, Format, Kind, Params};
+use h263_types::{Format, Params};
 use packet_cutter::Cutter;
 use picture_coder::code_picture;
 use picture_header::Header;
 use std::alloc::Global;
 use std::process::Abort;
 use std::test::Fail;
-
-// The bytes of a sub-QCIF picture.
-const SIZE: usize = 18_432;
-
-const PARAMS: Params = Params {
-    format: Format::SubQcif,
-    quant: 8,
-    keep: 64,
-    radius: 7,
-    limit: 1400,
-    slots: 16,
-    lead: 3,
-    messages: 1,
-    clock: Clock::Standard,
-};
-
-// Picture 0, an I picture.
-const FIRST: Header = Header {
-    tr: 0,
-    format: Format::SubQcif,
-    kind: Kind::I,
-    rounding: 0,
-    channel: 3,
-    trp: None,
-    quant: 8,
-    back: [None; 4],
-    clock: Clock::Standard,
-};
-
-// Picture 1, which refers to picture 0.
-const SECOND: Header = Header {
-    tr: 1,
-    kind: Kind::P,
-    rounding: 1,
-    trp: Some(0),
-    ..FIRST
-};
+use test_fixtures::codec::{INTER, INTRA, PARAMS, SIZE, SKIPPED_PACKET};
 
 // Picture 2, which refers to picture 1.
 const THIRD: Header = Header {
     tr: 2,
     rounding: 0,
     trp: Some(1),
-    ..SECOND
+    ..INTER
 };
-
-// The packet of 48 macroblocks that are not coded, of picture 1.
-const SKIPPED_PACKET: [u8; 31] = [
-    0x80, 0xE0, 0x00, 0x01, 0x00, 0x00, 0x0B, 0xBB, 0x48, 0x32, 0x36, 0x33, 0x04, 0x00, 0x80, 0x06,
-    0x1C, 0x90, 0x31, 0x04, 0x91, 0xE0, 0x02, 0x84, 0x0F, 0xFF, 0xFF, 0xFF, 0xFF, 0xFF, 0xF8,
-];
 
 // For every vector the difference is 0, and the zero vector is chosen by its cost of -100.
 #[test]
@@ -78,7 +36,7 @@ fn second_of_two_flat_pictures(rt: HostRuntime) -> Result<(), Fail> {
     let frame = PictureRef::new(Format::SubQcif, &frame);
     let mut first = [0; SIZE];
     let mut work = PictureMut::new(Format::SubQcif, &mut first);
-    code_picture(frame, None, 0, &FIRST, &PARAMS, &mut cutter, &mut work);
+    code_picture(frame, None, 0, &INTRA, &PARAMS, &mut cutter, &mut work);
     assert!(rt; cutter.count() == 1);
     assert_eq!(rt; cutter.packet(0).len(), 342);
     let reference = PictureRef::new(Format::SubQcif, &first);
@@ -88,7 +46,7 @@ fn second_of_two_flat_pictures(rt: HostRuntime) -> Result<(), Fail> {
         frame,
         Some(reference),
         1,
-        &SECOND,
+        &INTER,
         &PARAMS,
         &mut cutter,
         &mut work,
@@ -221,9 +179,9 @@ fn assert_three(
     let quant = params.quant;
     let mut cutter = Cutter::start(alloc, params)?;
     let [mut first, mut second, mut third] = [[0; SIZE]; 3];
-    let header = Header { quant, ..FIRST };
+    let header = Header { quant, ..INTRA };
     assert_moving(rt, &header, None, params, &mut cutter, &mut first, wants[0]);
-    let header = Header { quant, ..SECOND };
+    let header = Header { quant, ..INTER };
     let before = Some(PictureRef::new(params.format, &first));
     assert_moving(
         rt,

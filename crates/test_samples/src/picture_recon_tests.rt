@@ -1,43 +1,17 @@
 //! Samples of macroblocks against the double sum, and a P picture's against its reference.
-ghost use Rattle.std.specs.Prelude.{◌≡◌, ℕ, ◌<◌, ◌≤◌};
-ghost use Rattle.h263_types.specs.Blocks.{IsDc, IsInterBlock, IsIntraBlock, IsLevel, IsMb, IsOfKind, mb_in};
+ghost use Rattle.std.specs.Prelude.{◌≡◌, ◌<◌, ◌≤◌};
+ghost use Rattle.h263_types.specs.Blocks.{IsInterBlock, IsLevel, IsMb, IsOfKind};
 ghost use Rattle.h263_types.specs.Vectors.{InReach};
 ghost use Rattle.h263_types.specs.References.{ReachesInside};
 
 use h263_planes::{PictureMut, PictureRef, Plane};
-use h263_types::{Block, Clock, Format, Kind, Mb, SliceHead, Vector, reach};
+use h263_types::{Block, Format, Kind, Mb, SliceHead, Vector, reach};
 use picture_header::Header;
 use picture_recon::{recon_mb, recon_slice};
-use std::process::Abort;
-
-// The bytes of a sub-QCIF picture.
-const SIZE: usize = 18_432;
+use test_fixtures::codec::{INTRA, SIZE, assert_reach, intra_block};
 
 // The header of an I picture.
-const HEADER: Header = Header {
-    tr: 0,
-    format: Format::SubQcif,
-    kind: Kind::I,
-    rounding: 0,
-    channel: 3,
-    trp: None,
-    quant: 31,
-    back: [None; 4],
-    clock: Clock::Standard,
-};
-
-// A block with INTRADC `dc` and one level more, at a place of the zigzag order.
-fn block(dc: i16, place: usize, level: i16) -> Block
-    requires dc { IsDc dc }
-    requires place { place < 63 }
-    requires level { IsLevel level }
-    ensures { IsIntraBlock result }
-{
-    let mut levels = [0; 64];
-    levels[place + 1] = level;
-    levels[0] = dc;
-    Block { levels }
-}
+const HEADER: Header = Header { quant: 31, ..INTRA };
 
 // Six different blocks.
 fn macroblock() -> Mb
@@ -45,12 +19,12 @@ fn macroblock() -> Mb
     ensures of_kind { IsOfKind Kind.I result }
 {
     let blocks = [
-        block(50, 0, 20),
-        block(60, 1, 20),
-        block(70, 0, 0),
-        block(80, 3, -7),
-        block(90, 0, 0),
-        block(254, 0, 127),
+        intra_block(50, 0, 20),
+        intra_block(60, 1, 20),
+        intra_block(70, 0, 0),
+        intra_block(80, 3, -7),
+        intra_block(90, 0, 0),
+        intra_block(254, 0, 127),
     ];
     Mb::Intra { quant: 8, blocks }
 }
@@ -152,17 +126,6 @@ fn residual(first: i16, place: usize, level: i16) -> Block
     levels[place + 1] = level;
     levels[0] = first;
     Block { levels }
-}
-
-// Ends the test where the vector is not in reach of macroblock 9.
-fn assert_reach(rt: &impl Abort, vector: Vector)
-    ensures { InReach Format.SubQcif 9 vector.x vector.y }
-{
-    let reach = reach(Format::SubQcif, 9);
-    assert!(rt; reach.left <= vector.x);
-    assert!(rt; vector.x <= reach.right);
-    assert!(rt; reach.up <= vector.y);
-    assert!(rt; vector.y <= reach.down);
 }
 
 // Six different blocks and a vector.
@@ -269,7 +232,7 @@ fn predicted_blocks_and_their_residuals(rt: HostRuntime) {
     for (x, y, rounding, want, total) in PREDICTED {
         assert!(rt; rounding <= 1 && total < 100_000);
         let vector = Vector { x, y };
-        assert_reach(&rt, vector);
+        assert_reach(&rt, Format::SubQcif, 9, vector);
         let mut bytes = [128; SIZE];
         let mut out = PictureMut::new(Format::SubQcif, &mut bytes);
         let reference = PictureRef::new(Format::SubQcif, &lent);

@@ -2,29 +2,18 @@
 ghost use Rattle.std.specs.Prelude.{◌≡◌, ◌≤◌, true, false};
 ghost use Rattle.h263_types.specs.Blocks.{IsIntraBlock, IsInterBlock};
 
-use block_layer::{is_inter_coded, read_inter, read_intra, write_inter, write_intra};
+use block_layer::{
+    is_inter_coded, laws as block_laws, read_inter, read_intra, write_inter, write_intra,
+};
 use h263_bits::{BitReader, BitWriter, Fault, FaultKind};
 use h263_types::Block;
 use std::test::Fail;
-
-// Puts a text of zeros and ones into bytes. Answers where it ends.
-fn put_text(bytes: &mut [u8; 16], text: &str) -> u32
-    ensures { result ≤ 128 }
-{
-    let mut place = 0;
-    for digit in text.as_bytes() {
-        if *digit != b' ' && place < 128 {
-            bytes[(place / 8) as usize] |= (*digit & 1) << (7 - place % 8);
-            place += 1;
-        }
-    }
-    place
-}
+use test_fixtures::codec::put_text;
 
 // The levels of a block of an intra macroblock, or of an inter macroblock, or the fault.
 fn read_text(intra: bool, coded: bool, text: &str) -> Result<[i16; 64], Fault> {
     let mut bytes = [0; 16];
-    let end = put_text(&mut bytes, text);
+    let end = put_text(&mut bytes, 0, text);
     let mut reader = BitReader::new(&bytes, 0, end);
     let mut block = Block { levels: [7; 64] };
     if intra {
@@ -40,6 +29,7 @@ fn written(intra: bool, block: &Block, out: &mut [u8; 256]) -> u32
     requires intra { intra ≡ true → IsIntraBlock block.now }
     requires inter { intra ≡ false → IsInterBlock block.now }
 {
+    block_laws::longest_text();
     let mut writer = BitWriter::new(out);
     let coded = is_inter_coded(block);
     if intra {
@@ -164,9 +154,9 @@ fn read_and_written(rt: HostRuntime) -> Result<(), Fail> {
     ];
     for (intra, coded, text, want) in table {
         let mut bytes = [0; 16];
-        let len = put_text(&mut bytes, text);
+        let len = put_text(&mut bytes, 0, text);
         let mut expected = [0; 16];
-        let end = put_text(&mut expected, want);
+        let end = put_text(&mut expected, 0, want);
         let mut out = [0; 256];
         assert_eq!(rt;
             rewritten(intra, coded, &bytes, len, &mut out)?,

@@ -1,34 +1,14 @@
 //! The payload header's bytes, and each fault at its place.
 use h263_bits::{BitReader, BitWriter, Fault, FaultKind};
 use h263_payload::{Opening, Payload, read_opening, read_payload, write_payload};
-use h263_types::{Clock, Format, Kind};
-use picture_header::Header;
+use h263_types::Format;
 use rtp_header::read;
 use std::test::Fail;
-
-// The beginning of a packet with a later slice of an I picture of CIF: the RTP header, the payload
-// header, the picture header of 67 bits, and four bytes of data.
-const LATER: [u8; 27] = [
-    0x80, 0xE0, 0x00, 0x01, 0x00, 0x00, 0x00, 0x00, 0x48, 0x32, 0x36, 0x33, 0x04, 0x4D, 0x80, 0x02,
-    0x1C, 0xB0, 0x31, 0x00, 0x11, 0xCA, 0x00, 0xD9, 0xE8, 0x83, 0x36,
-];
-
-// The picture's header.
-const HEADER: Header = Header {
-    tr: 0,
-    format: Format::Cif,
-    kind: Kind::I,
-    rounding: 0,
-    channel: 3,
-    trp: None,
-    quant: 8,
-    back: [None; 4],
-    clock: Clock::Standard,
-};
+use test_fixtures::codec::{INTRA_OF_CIF, SECOND_OF_CIF};
 
 // What is read of the packet's first `len` bytes, where three bytes have other values.
 fn read_changed(len: usize, changes: [(usize, u8); 3], format: Format) -> Result<Payload, Fault> {
-    let mut bytes = LATER;
+    let mut bytes = SECOND_OF_CIF;
     for (place, value) in changes {
         if place < 27 {
             bytes[place] = value;
@@ -61,17 +41,17 @@ fn one_flat_picture(rt: HostRuntime) -> Result<(), Fail> {
 
 #[test]
 fn later_slice(rt: HostRuntime) -> Result<(), Fail> {
-    let rtp = read(&LATER)?;
+    let rtp = read(&SECOND_OF_CIF)?;
     let want = Payload {
-        extra: Some(HEADER),
+        extra: Some(INTRA_OF_CIF),
         begins: false,
         from: 184,
     };
-    assert_eq!(rt; read_payload(&LATER, &rtp, Format::Cif), Ok(want));
+    assert_eq!(rt; read_payload(&SECOND_OF_CIF, &rtp, Format::Cif), Ok(want));
     let mut written = [0xFF; 11];
     let mut writer = BitWriter::new(&mut written);
-    write_payload(&mut writer, Some(&HEADER));
-    assert_eq!(rt; &written[..], &LATER[12..23]);
+    write_payload(&mut writer, Some(&INTRA_OF_CIF));
+    assert_eq!(rt; &written[..], &SECOND_OF_CIF[12..23]);
     Ok(())
 }
 

@@ -1,91 +1,18 @@
 //! Macroblocks in bytes, the vectors that predict them, and each fault at its place.
-ghost use Rattle.std.specs.Prelude.{◌≡◌, ◌≤◌, IsTrue};
-ghost use Rattle.h263_types.specs.Blocks.{IsMb, IsOfKind};
-ghost use Rattle.macroblock_layer.specs.Written.{IsStepped};
 
-use h263_bits::{BitReader, BitWriter, Fault, FaultKind};
+use h263_bits::{BitWriter, Fault, FaultKind};
 use h263_types::{Kind, Mb, Reach, Vector};
-use macroblock_layer::{predictor, read_mb, write_mb};
+use macroblock_layer::{predictor, write_mb};
 use std::test::Fail;
-
-const NO_VECTOR: Vector = Vector { x: 0, y: 0 };
+use test_fixtures::codec::{FAR, head_of, is_stepped, put_text, read_text};
 
 const PREDICTOR: Vector = Vector { x: 31, y: -3 };
 
-const FAR: Reach = Reach {
-    left: -32,
-    right: 31,
-    up: -32,
-    down: 31,
-};
-
-// Puts a text of zeros and ones into bytes. Answers where it ends.
-fn put_text(bytes: &mut [u8; 32], text: &str) -> u32
-    ensures { result ≤ 256 }
-{
-    let mut place = 0;
-    for digit in text.as_bytes() {
-        if *digit != b' ' && place < 256 {
-            bytes[(place / 8) as usize] |= (*digit & 1) << (7 - place % 8);
-            place += 1;
-        }
-    }
-    place
-}
-
-// Reads the macroblock of a text, where the quantiser before it is 8 and the predictor is (31, -3).
-fn read_text(kind: Kind, reach: Reach, text: &str) -> Result<Mb, Fault> {
-    let mut bytes = [0; 32];
-    let end = put_text(&mut bytes, text);
-    let mut reader = BitReader::new(&bytes, 0, end);
-    let mut mb = Mb::Skip;
-    read_mb(&mut reader, kind, 8, PREDICTOR, reach, &mut mb)?;
-    Ok(mb)
-}
-
-// The quantiser and the vector of a macroblock.
-fn head_of(mb: &Mb) -> (u8, Vector) {
-    match mb {
-        Mb::Skip => (0, NO_VECTOR),
-        Mb::Intra { quant, blocks: _ } => (*quant, NO_VECTOR),
-        Mb::Inter {
-            quant,
-            vector,
-            blocks: _,
-        } => (*quant, *vector),
-    }
-}
-
-// Whether the quantiser is within 2 of 8.
-fn is_stepped(mb: &Mb) -> bool
-    ensures { IsTrue result → IsStepped 8 mb.now }
-{
-    match mb {
-        Mb::Skip => true,
-        Mb::Intra { quant, blocks: _ } => 6 <= *quant && *quant <= 10,
-        Mb::Inter {
-            quant,
-            vector: _,
-            blocks: _,
-        } => 6 <= *quant && *quant <= 10,
-    }
-}
-
-// Reads the macroblock of a text of this many bits, and writes it again. Answers it, and how many
-// bits were written.
-fn rewritten(
-    kind: Kind,
-    text: &[u8; 32],
-    len: u32,
-    out: &mut [u8; 1062],
-) -> Result<(Mb, u32), Fault>
-    requires { len ≤ 256 }
-{
-    let mut reader = BitReader::new(text, 0, len);
-    let mut mb = Mb::Skip;
-    read_mb(&mut reader, kind, 8, PREDICTOR, FAR, &mut mb)?;
+// Reads the macroblock of a text, and writes it again. Answers it, and how many bits were written.
+fn rewritten(kind: Kind, text: &str, out: &mut [u8; 1062]) -> Result<(Mb, u32), Fault> {
+    let mb = read_text(kind, PREDICTOR, FAR, text)?;
     let mut writer = BitWriter::new(out);
-    if is_stepped(&mb) {
+    if is_stepped(8, &mb) {
         write_mb(&mut writer, kind, 8, PREDICTOR, &mb);
     }
     Ok((mb, writer.len()))
@@ -131,9 +58,9 @@ fn one_text_of_each_class(rt: HostRuntime) -> Result<(), Fail> {
     ];
     for (kind, text, quant, x, y) in table {
         let mut bytes = [0; 32];
-        let len = put_text(&mut bytes, text);
+        let len = put_text(&mut bytes, 0, text);
         let mut out = [0; 1062];
-        let (mb, end) = rewritten(kind, &bytes, len, &mut out)?;
+        let (mb, end) = rewritten(kind, text, &mut out)?;
         assert_eq!(rt; head_of(&mb), (quant, Vector { x, y }), "{text}");
         assert_eq!(rt; end, len, "{text}");
         assert!(rt; out.starts_with(&bytes), "{text}");
@@ -168,7 +95,11 @@ fn first_faults(rt: HostRuntime) {
     ];
     for (reach, text, kind, at) in table {
         let fault = Fault { kind, at };
-        assert_eq!(rt; read_text(Kind::P, reach, text), Err(fault), "{text}");
+        assert_eq!(rt;
+            read_text(Kind::P, PREDICTOR, reach, text),
+            Err(fault),
+            "{text}"
+        );
     }
     for (text, kind, at) in [
         ("00000000", FaultKind::Ended, 0),
@@ -177,7 +108,11 @@ fn first_faults(rt: HostRuntime) {
         ("1 000000", FaultKind::BadCode, 1),
     ] {
         let fault = Fault { kind, at };
-        assert_eq!(rt; read_text(Kind::I, FAR, text), Err(fault), "{text}");
+        assert_eq!(rt;
+            read_text(Kind::I, PREDICTOR, FAR, text),
+            Err(fault),
+            "{text}"
+        );
     }
 }
 
@@ -196,7 +131,7 @@ fn predicted(first: u32, mb: u32) -> Vector {
     if first <= mb && mb <= 8 {
         return predictor(&vectors, first, mb, 4);
     }
-    NO_VECTOR
+    Vector::ZERO
 }
 
 // At the edges, and where a slice starts inside the row above.

@@ -1,14 +1,12 @@
 //! Slices that an independent encoder wrote, from its calls over moving pictures.
-ghost use Rattle.std.specs.Prelude.{◌≤◌, ◌<◌, ◌*◌, length, IsTrue};
+ghost use Rattle.std.specs.Prelude.{◌≤◌, ◌<◌, ◌*◌, length};
 ghost use Rattle.h263_types.specs.Blocks.{IsMb, IsOfKind};
-ghost use Rattle.macroblock_layer.specs.Written.{IsStepped};
 
 use h263_bits::{BitReader, BitWriter, Fault};
 use h263_types::{Format, Kind, Mb, Vector, reach};
 use macroblock_layer::{predictor, read_mb, write_mb};
 use std::test::Fail;
-
-const NO_VECTOR: Vector = Vector { x: 0, y: 0 };
+use test_fixtures::codec::{head_of, is_stepped};
 
 // The 48 macroblocks of a moving P picture of 128 x 96, from bit 5 on, at quantiser 12.
 const MOVED: [u8; 180] = [
@@ -62,32 +60,6 @@ fn same_bits(bytes: &[u8], from: u32, to: u32, other: &[u8; 1062]) -> bool
     true
 }
 
-fn vector_of(mb: &Mb) -> Vector {
-    match mb {
-        Mb::Inter {
-            quant: _,
-            vector,
-            blocks: _,
-        } => *vector,
-        _ => NO_VECTOR,
-    }
-}
-
-// Whether the quantiser stays 12.
-fn is_at_12(mb: &Mb) -> bool
-    ensures { IsTrue result → IsStepped 12 mb.now }
-{
-    match mb {
-        Mb::Skip => true,
-        Mb::Intra { quant, blocks: _ } => *quant == 12,
-        Mb::Inter {
-            quant,
-            vector: _,
-            blocks: _,
-        } => *quant == 12,
-    }
-}
-
 // Whether a macroblock is written as the bits from `from` to `to`.
 fn is_rewritten(bytes: &[u8], from: u32, to: u32, predicted: Vector, mb: &Mb) -> bool
     requires order { from ≤ to }
@@ -98,7 +70,7 @@ fn is_rewritten(bytes: &[u8], from: u32, to: u32, predicted: Vector, mb: &Mb) ->
 {
     let mut out = [0; 1062];
     let mut writer = BitWriter::new(&mut out);
-    if !is_at_12(mb) {
+    if !is_stepped(12, mb) {
         return false;
     }
     write_mb(&mut writer, Kind::P, 12, predicted, mb);
@@ -113,7 +85,7 @@ fn is_written_again(bytes: &[u8]) -> Result<bool, Fault>
 {
     let end = 8 * bytes.len() as u32;
     let mut reader = BitReader::new(bytes, 5, end);
-    let mut vectors = [NO_VECTOR; 48];
+    let mut vectors = [Vector::ZERO; 48];
     let mut mb = Mb::Skip;
     for at in 0..48u32 {
         let from = reader.at();
@@ -124,7 +96,7 @@ fn is_written_again(bytes: &[u8]) -> Result<bool, Fault>
         if from > to || to > end || !is_rewritten(bytes, from, to, predicted, &mb) {
             return Ok(false);
         }
-        vectors[at as usize] = vector_of(&mb);
+        vectors[at as usize] = head_of(&mb).1;
     }
     Ok(reader.rest() < 8)
 }

@@ -1,5 +1,4 @@
 //! Packets read, each fault at its place, and pieces collected.
 mod collected;
 mod faults;
-mod packets;
 mod read;

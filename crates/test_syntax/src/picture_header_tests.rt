@@ -4,31 +4,18 @@ use h263_bits::{BitReader, BitWriter, Fault, FaultKind};
 use h263_types::{Clock, Format, Kind};
 use picture_header::{Header, header_bits, read_header, write_header};
 use std::test::Fail;
+use test_fixtures::codec::{MESSAGES, put_changed, put_text};
 
 // A P picture of QCIF: TR 5, rounding 1, RPSMF 111, TRP 4, PQUANT 8. A space stands between fields.
 const P_HEADER: &str =
     "100000 00000101 10 010 111 001 010 0 0000011000 1000 001 00 1 001 0 00 111 1 0000000100 01 01000 0";
 
-// Puts a text of zeros and ones into bytes from place `from` up to place `to` at most. Answers
-// where it ends.
-fn put_text(bytes: &mut [u8; 32], from: u32, to: u32, text: &str) -> u32 {
-    let mut place = from;
-    for digit in text.as_bytes() {
-        if *digit != b' ' && place < to && place < 256 {
-            bytes[(place / 8) as usize] |= (*digit & 1) << (7 - place % 8);
-            place += 1;
-        }
-    }
-    place
-}
-
 // The header in the first `keep` bits of the P picture's header and in the text after them, or its
 // fault.
 fn read_changed(format: Format, keep: u32, text: &str) -> Result<Header, Fault> {
     let mut bytes = [0; 32];
-    let kept = put_text(&mut bytes, 0, keep, P_HEADER);
-    let end = put_text(&mut bytes, kept, 256, text);
-    let mut reader = BitReader::new(&bytes, 0, end.min(256));
+    let end = put_changed(&mut bytes, 0, P_HEADER, keep, text);
+    let mut reader = BitReader::new(&bytes, 0, end);
     read_header(&mut reader, format)
 }
 
@@ -138,15 +125,18 @@ fn headers_made_and_compared(rt: HostRuntime) {
 #[test]
 fn four_messages_and_psupp(rt: HostRuntime) -> Result<(), Fail> {
     let mut bytes = [0; 32];
-    let kept = put_text(&mut bytes, 0, 69, P_HEADER);
     let ack = "1 11 0 0000000011 1 0000000011";
     let nack = "1 10 0 0011111111 1 0000000000";
-    let mut end = kept;
+    let mut end = put_changed(&mut bytes, 0, P_HEADER, 69, "");
     for message in [ack, nack, ack, nack] {
-        end = put_text(&mut bytes, end, 256, message);
+        end = put_text(&mut bytes, end.min(256), message);
     }
-    end = put_text(&mut bytes, end, 256, "01 11111 1 10101010 1 11111111 0 1");
-    let mut reader = BitReader::new(&bytes, 0, end.min(256));
+    end = put_text(
+        &mut bytes,
+        end.min(256),
+        "01 11111 1 10101010 1 11111111 0 1",
+    );
+    let mut reader = BitReader::new(&bytes, 0, end);
     let header = read_header(&mut reader, Format::Qcif)?;
     let want = Header {
         tr: 5,
@@ -262,10 +252,6 @@ const FAULTS: [(u32, &str, FaultKind, u32); 35] = [
     (76, "1 1111111", FaultKind::Ended, 77),
     (76, "1 11111111", FaultKind::Ended, 85),
 ];
-
-// Four messages, each after its BCI `1`, and a fifth `1`.
-const MESSAGES: &str =
-    "1 11 0 0000000000 1 0000000000 1 11 0 0000000001 1 0000000001 1 11 0 0000000010 1 0000000010 1 11 0 0000000011 1 0000000011 1";
 
 #[test]
 fn first_faults(rt: HostRuntime) {

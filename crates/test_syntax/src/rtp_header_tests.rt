@@ -2,16 +2,12 @@
 use h263_bits::{Fault, FaultKind};
 use rtp_header::{Rtp, read, write};
 use std::test::Fail;
+use test_fixtures::codec::FLAT_PACKET;
 
-// A packet of picture 0 with the marker: the fixed header, and eight bytes of payload.
-const PACKET: [u8; 20] = [
-    0x80, 0xE0, 0x00, 0x00, 0x00, 0x00, 0x00, 0x00, 0x48, 0x32, 0x36, 0x33, 0x04, 0x00, 0x80, 0x02,
-    0x1C, 0x90, 0x31, 0x00,
-];
-
-// What is read of the packet's first `len` bytes, where three bytes have other values.
+// What is read of the first `len` bytes of the flat packet, 20 at most, where three bytes have other values.
 fn read_changed(len: usize, changes: [(usize, u8); 3]) -> Result<Rtp, Fault> {
-    let mut bytes = PACKET;
+    let mut bytes = [0; 20];
+    bytes.copy_from_slice(&FLAT_PACKET[..20]);
     for (place, value) in changes {
         if place < 20 {
             bytes[place] = value;
@@ -29,8 +25,8 @@ fn one_flat_picture(rt: HostRuntime) -> Result<(), Fail> {
         from: 12,
         to: 20,
     };
-    assert_eq!(rt; read(&PACKET), Ok(want));
-    assert_eq!(rt; &write(true, 0, 0)[..], &PACKET[..12]);
+    assert_eq!(rt; read(&FLAT_PACKET[..20]), Ok(want));
+    assert_eq!(rt; &write(true, 0, 0)[..], &FLAT_PACKET[..12]);
     let later = [
         0x80, 0x60, 0xFF, 0xFE, 0x12, 0x34, 0x56, 0x78, 0x48, 0x32, 0x36, 0x33,
     ];

@@ -1,81 +1,25 @@
 //! Slices in bytes, and each fault at its place.
-ghost use Rattle.std.specs.Prelude.{◌≡◌, ◌≤◌};
+ghost use Rattle.std.specs.Prelude.{◌≡◌};
 ghost use Rattle.h263_types.specs.declared.format.Format.TheVariants.{Cif};
 ghost use Rattle.picture_header.specs.Ranges.{IsHeader};
 
 use h263_bits::{BitReader, Fault, FaultKind};
-use h263_types::{Block, Clock, Format, Kind, Mb, SliceHead, Vector};
+use h263_types::{Block, Format, Mb, SliceHead, Vector};
 use picture_header::{Header, read_header};
 use slice_layer::read_slice;
 use std::test::Fail;
-
-// A P picture of CIF with rounding 1, TRP 0 and quantiser 8.
-const P_HEADER: Header = Header {
-    tr: 1,
-    format: Format::Cif,
-    kind: Kind::P,
-    rounding: 1,
-    channel: 3,
-    trp: Some(0),
-    quant: 8,
-    back: [None; 4],
-    clock: Clock::Standard,
-};
-
-// An I picture of CIF.
-const I_HEADER: Header = Header {
-    tr: 0,
-    format: Format::Cif,
-    kind: Kind::I,
-    rounding: 0,
-    channel: 3,
-    trp: None,
-    quant: 8,
-    back: [None; 4],
-    clock: Clock::Standard,
+use test_fixtures::codec::{
+    INTER, INTER_OF_CIF, INTRA, INTRA_OF_CIF, LATER_PACKET, head_of, put_changed,
 };
 
 // The P picture of 128 x 96 whose only slice an independent encoder wrote.
-const SENT_P_HEADER: Header = Header {
-    tr: 1,
-    format: Format::SubQcif,
-    kind: Kind::P,
-    rounding: 1,
-    channel: 3,
-    trp: Some(0),
-    quant: 31,
-    back: [None; 4],
-    clock: Clock::Standard,
-};
+const SENT_P_HEADER: Header = Header { quant: 31, ..INTER };
 
 // An I picture of 128 x 96 whose second slice the same encoder wrote.
-const SENT_I_HEADER: Header = Header {
-    tr: 0,
-    format: Format::SubQcif,
-    kind: Kind::I,
-    rounding: 0,
-    channel: 3,
-    trp: None,
-    quant: 12,
-    back: [None; 4],
-    clock: Clock::Standard,
-};
+const SENT_I_HEADER: Header = Header { quant: 12, ..INTRA };
 
 // A slice of the P picture, seven Skip from macroblock 207 on. A space stands between fields.
 const LATER: &str = "1 1 011001111 01000 1 11 0 1 0000000000 01 1111111";
-
-// Puts a text of zeros and ones into bytes from place `from` up to place `to` at most. Answers
-// where it ends.
-fn put_text(bytes: &mut [u8; 32], from: u32, to: u32, text: &str) -> u32 {
-    let mut place = from;
-    for digit in text.as_bytes() {
-        if *digit != b' ' && place < to && place < 256 {
-            bytes[(place / 8) as usize] |= (*digit & 1) << (7 - place % 8);
-            place += 1;
-        }
-    }
-    place
-}
 
 // Reads the slice in the first `keep` bits of the later slice and in the text after them.
 fn read_changed(
@@ -89,23 +33,15 @@ fn read_changed(
     requires format { header.now.format ≡ Cif }
 {
     let mut bytes = [0; 32];
-    let kept = put_text(&mut bytes, 0, keep, LATER);
-    let end = put_text(&mut bytes, kept, 256, text);
-    let mut reader = BitReader::new(&bytes, 0, end.min(256));
+    let end = put_changed(&mut bytes, 0, LATER, keep, text);
+    let mut reader = BitReader::new(&bytes, 0, end);
     read_slice(&mut reader, header, begins, out)
 }
 
-// The quantiser and the vector of a macroblock, zeros where it has none.
-fn head_of(mb: &Mb) -> (u8, i8, i8) {
-    match mb {
-        Mb::Skip => (0, 0, 0),
-        Mb::Intra { quant, blocks: _ } => (*quant, 0, 0),
-        Mb::Inter {
-            quant,
-            vector,
-            blocks: _,
-        } => (*quant, vector.x, vector.y),
-    }
+// The quantiser and the vector of a macroblock.
+fn numbers_of(mb: &Mb) -> (u8, i8, i8) {
+    let (quant, vector) = head_of(mb);
+    (quant, vector.x, vector.y)
 }
 
 #[test]
@@ -122,7 +58,7 @@ fn later_slice_of_skips(rt: HostRuntime) -> Result<(), Fail> {
     out[213] = other;
     out[214] = other;
     let mut reader = BitReader::new(&bytes, 0, 40);
-    let head = read_slice(&mut reader, &P_HEADER, false, &mut out)?;
+    let head = read_slice(&mut reader, &INTER_OF_CIF, false, &mut out)?;
     let want = SliceHead {
         first: 207,
         count: 7,
@@ -209,19 +145,10 @@ fn first_slice_of_another_sender(rt: HostRuntime) -> Result<(), Fail> {
     };
     assert_eq!(rt; head, want);
     for (mb, want) in out.iter().zip(SENT_HEADS) {
-        assert_eq!(rt; head_of(mb), want);
+        assert_eq!(rt; numbers_of(mb), want);
     }
     Ok(())
 }
-
-// The second slice of that I picture.
-const SENT_LATER: [u8; 79] = [
-    0xED, 0x64, 0x17, 0xC5, 0x80, 0x77, 0xCD, 0x30, 0x97, 0x83, 0x85, 0xFD, 0x34, 0x5C, 0x0E, 0x10,
-    0x1B, 0x6A, 0xA5, 0x67, 0xE2, 0xAF, 0xC1, 0xC1, 0xFB, 0x6F, 0x07, 0x0F, 0xF5, 0xED, 0xBE, 0x80,
-    0xE0, 0x81, 0xAB, 0x40, 0x70, 0xBF, 0x99, 0x83, 0x36, 0x55, 0x5F, 0x3C, 0xFE, 0x5C, 0x3E, 0x00,
-    0x87, 0x10, 0x60, 0x42, 0x34, 0xC3, 0xA7, 0xB0, 0x82, 0xA8, 0xDD, 0xC3, 0x30, 0xFC, 0x1C, 0x2F,
-    0xD8, 0x60, 0x60, 0x42, 0x74, 0xC3, 0x77, 0xCB, 0xC0, 0x21, 0xCC, 0x18, 0x10, 0xA2, 0x40,
-];
 
 // The first levels of its macroblocks' first blocks.
 const SENT_LEVELS: [[i16; 10]; 3] = [
@@ -232,7 +159,7 @@ const SENT_LEVELS: [[i16; 10]; 3] = [
 
 #[test]
 fn later_slice_of_another_sender(rt: HostRuntime) -> Result<(), Fail> {
-    let mut reader = BitReader::new(&SENT_LATER, 0, 632);
+    let mut reader = BitReader::new(&LATER_PACKET, 184, 816);
     let mut out = [Mb::Skip; 48];
     let head = read_slice(&mut reader, &SENT_I_HEADER, false, &mut out)?;
     let want = SliceHead {
@@ -323,7 +250,7 @@ fn first_faults_of_a_later_slice(rt: HostRuntime) {
     for (keep, text, kind, at) in LATER_FAULTS {
         let fault = Fault { kind, at };
         assert_eq!(rt;
-            read_changed(&P_HEADER, false, keep, text, &mut out),
+            read_changed(&INTER_OF_CIF, false, keep, text, &mut out),
             Err(fault),
             "{text} at place {keep}"
         );
@@ -333,7 +260,7 @@ fn first_faults_of_a_later_slice(rt: HostRuntime) {
         at: 20,
     };
     assert_eq!(rt;
-        read_changed(&I_HEADER, false, 20, "1", &mut out),
+        read_changed(&INTRA_OF_CIF, false, 20, "1", &mut out),
         Err(refers)
     );
 }
@@ -357,7 +284,7 @@ fn first_faults_behind_the_picture_header(rt: HostRuntime) {
     for (text, kind, at) in FIRST_FAULTS {
         let fault = Fault { kind, at };
         assert_eq!(rt;
-            read_changed(&P_HEADER, true, 0, text, &mut out),
+            read_changed(&INTER_OF_CIF, true, 0, text, &mut out),
             Err(fault),
             "{text}"
         );
@@ -386,9 +313,12 @@ fn vectors_and_quantisers_go_on(rt: HostRuntime) -> Result<(), Fail> {
         count: 4,
     };
     for (text, heads) in RUNS {
-        assert_eq!(rt; read_changed(&P_HEADER, false, 33, text, &mut out)?, want);
+        assert_eq!(rt;
+            read_changed(&INTER_OF_CIF, false, 33, text, &mut out)?,
+            want
+        );
         for (mb, head) in out[207..211].iter().zip(heads) {
-            assert_eq!(rt; head_of(mb), head);
+            assert_eq!(rt; numbers_of(mb), head);
         }
     }
     Ok(())

@@ -1,41 +1,18 @@
 //! Pieces collected: which are fresh, and when a picture is whole.
-ghost use Rattle.std.specs.Prelude.{◌≡◌, ◌+◌, ◌<◌, ◌^◌, IfOk};
+ghost use Rattle.std.specs.Prelude.{◌≡◌, ◌<◌, IfOk};
 ghost use Rattle.h263_types.specs.Blocks.{IsHeadOf};
 ghost use Rattle.packet_collector.specs.Collected.{IsInRow, IsRowFrom, first_of, format_of, row_of};
 ghost use Rattle.h263_types.specs.declared.format.Format.TheVariants.{Cif};
 
 use back_messages::Message;
 use h263_outside::OutOfMemory;
-use h263_types::{Clock, Format, Kind, Params, SliceHead};
+use h263_types::{Clock, Kind, SliceHead};
 use packet_collector::{Collector, Piece, Place};
 use picture_header::Header;
 use std::alloc::Global;
 use std::process::Abort;
 use std::test::Fail;
-
-const PARAMS: Params = Params {
-    format: Format::Cif,
-    quant: 8,
-    keep: 64,
-    radius: 7,
-    limit: 1400,
-    slots: 16,
-    lead: 3,
-    messages: 1,
-    clock: Clock::Standard,
-};
-
-const HEADER: Header = Header {
-    tr: 0,
-    format: Format::Cif,
-    kind: Kind::I,
-    rounding: 0,
-    channel: 3,
-    trp: None,
-    quant: 8,
-    back: [None; 4],
-    clock: Clock::Standard,
-};
+use test_fixtures::codec::{INTRA_OF_CIF, PARAMS_OF_CIF};
 
 // The two slices of a picture, and a slice that has a part of both.
 const FIRST: SliceHead = SliceHead {
@@ -58,7 +35,7 @@ fn started(alloc: Global) -> Result<Collector, OutOfMemory>
     ensures first { IfOk result (λ c. first_of c ≡ 0) }
     ensures many { IfOk result (λ c. row_of c ≡ 4) }
 {
-    Collector::start(alloc, &PARAMS)
+    Collector::start(alloc, &PARAMS_OF_CIF)
 }
 
 // Adds a slice that is fresh.
@@ -68,7 +45,7 @@ fn add(rt: &impl Abort, collector: &mut Collector, number: u32, head: SliceHead)
     ensures { IsRowFrom (first_of collector.old) collector.old collector.new }
 {
     let piece = Piece {
-        header: HEADER,
+        header: INTRA_OF_CIF,
         head,
     };
     match collector.place(number, &piece) {
@@ -95,7 +72,7 @@ fn take_both(rt: &impl Abort, alloc: Global) -> Result<(), OutOfMemory> {
     assert!(rt; collector.whole(0) && !collector.any(1) && !collector.any(3));
     for head in [FIRST, SECOND, BOTH] {
         let piece = Piece {
-            header: HEADER,
+            header: INTRA_OF_CIF,
             head,
         };
         assert_eq!(rt; collector.place(0, &piece), Place::Repeat);
@@ -125,7 +102,7 @@ fn stand(rt: &impl Abort, alloc: Global) -> Result<(), OutOfMemory> {
         (SECOND, Place::Fresh),
     ] {
         let piece = Piece {
-            header: HEADER,
+            header: INTRA_OF_CIF,
             head,
         };
         assert_eq!(rt; collector.place(2, &piece), place);
@@ -133,25 +110,34 @@ fn stand(rt: &impl Abort, alloc: Global) -> Result<(), OutOfMemory> {
     let mut back = [None; 4];
     back[0] = Some(Message::Ack { tr: 0, marks: None });
     for header in [
-        Header { tr: 1, ..HEADER },
+        Header {
+            tr: 1,
+            ..INTRA_OF_CIF
+        },
         Header {
             rounding: 1,
-            ..HEADER
+            ..INTRA_OF_CIF
         },
         Header {
             channel: 0,
-            ..HEADER
+            ..INTRA_OF_CIF
         },
-        Header { quant: 9, ..HEADER },
+        Header {
+            quant: 9,
+            ..INTRA_OF_CIF
+        },
         Header {
             kind: Kind::P,
             trp: Some(1),
-            ..HEADER
+            ..INTRA_OF_CIF
         },
-        Header { back, ..HEADER },
+        Header {
+            back,
+            ..INTRA_OF_CIF
+        },
         Header {
             clock: Clock::Custom,
-            ..HEADER
+            ..INTRA_OF_CIF
         },
     ] {
         let piece = Piece {

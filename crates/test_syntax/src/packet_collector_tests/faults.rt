@@ -1,8 +1,8 @@
 //! One change each, and the fault that it is.
-use super::packets::{FLAT, SKIPPED};
 use h263_bits::{Fault, FaultKind};
 use h263_types::{Format, Mb, SliceHead};
 use packet_collector::{Piece, read_packet};
+use test_fixtures::codec::{FLAT_PACKET, MESSAGES, SKIPPED_PACKET, put_changed};
 
 // What is read of a picture of sub-QCIF.
 fn read(bytes: &[u8]) -> Result<Piece, Fault> {
@@ -11,7 +11,7 @@ fn read(bytes: &[u8]) -> Result<Piece, Fault> {
 
 // What is read of the flat picture's first `len` bytes, where one byte has another value.
 fn read_changed(len: usize, place: usize, value: u8) -> Result<Piece, Fault> {
-    let mut bytes = FLAT;
+    let mut bytes = FLAT_PACKET;
     if place < 342 {
         bytes[place] = value;
     }
@@ -58,34 +58,16 @@ const PICTURE: &str =
 const SLICE: &str =
     "100000 00000001 10 000 111 001 001 0 0000011000 1000 001 00 1 001 0 00 111 1 0000000000 01 01000 0 000 1 1 000111 01000 1 11 0 1 0000000000 01";
 
-// Puts a text of zeros and ones into bytes from place `from` up to place `to` at most. Answers
-// where it ends.
-fn put_text(bytes: &mut [u8; 64], from: u32, to: u32, text: &str) -> u32 {
-    let mut place = from;
-    for digit in text.as_bytes() {
-        if *digit != b' ' && place < to && place < 512 {
-            bytes[(place / 8) as usize] |= (*digit & 1) << (7 - place % 8);
-            place += 1;
-        }
-    }
-    place
-}
-
 // What is read of a packet whose payload header is `payload`, before the text's first bits and
 // others after them.
 fn read_text(payload: [u8; 2], text: &str, keep: u32, behind: &str) -> Result<Piece, Fault> {
     let mut bytes = [0; 64];
-    bytes[..12].copy_from_slice(&SKIPPED[..12]);
+    bytes[..12].copy_from_slice(&SKIPPED_PACKET[..12]);
     bytes[12] = payload[0];
     bytes[13] = payload[1];
-    let kept = put_text(&mut bytes, 112, 112 + keep.min(400), text);
-    let end = put_text(&mut bytes, kept, 512, behind).min(512);
+    let end = put_changed(&mut bytes, 112, text, keep, behind);
     read(&bytes[..(end as usize + 7) / 8])
 }
-
-// Four messages, each after its BCI `1`, and a fifth `1`.
-const MESSAGES: &str =
-    "1 11 0 0000000000 1 0000000000 1 11 0 0000000001 1 0000000001 1 11 0 0000000010 1 0000000010 1 11 0 0000000011 1 0000000011 1";
 
 // Bits after the first ones of PICTURE, and the first fault. The text's first bit is bit 112 of
 // the packet.
@@ -196,7 +178,7 @@ fn faults_of_the_whole_packet(rt: HostRuntime) {
         at: 0,
     };
     assert_eq!(rt; read(&[0; 65_536]), Err(long));
-    let mut bytes = SKIPPED;
+    let mut bytes = SKIPPED_PACKET;
     bytes[0] = 0xA0;
     let padding = Fault {
         kind: FaultKind::Padding,

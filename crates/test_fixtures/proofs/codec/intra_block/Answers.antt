@@ -2,7 +2,7 @@ use Rattle.std.proofs.Common.{◌≡◌, ◌≢◌, ℕ, ◌+◌, ℤ, pos, arit
 use Rattle.std.proofs.lemmas.Int.{ints}
 use Rattle.std.proofs.lemmas.List.Elements.{All-replicate, All-set, All-get_or}
 use Rattle.h263_types.specs.Blocks.{IsDc, IsLevel, IsIntraBlock}
-use Rattle.test_samples.proofs.picture_recon_tests.block.Goals as goal
+use Rattle.test_fixtures.proofs.codec.intra_block.Goals as goal
 
 -- zeros with one level and INTRADC put in
 intra_block : (place : ℕ) (dc level : ℤ) → IsDc dc → IsLevel level → IsIntraBlock (record { levels = slice_set (slice_set (replicate 64 (pos 0)) (place + 1) level) 0 dc })
