@@ -1,18 +1,12 @@
-//! The host's desk on real files, in the folder that the test is run in.
+//! The host's desk on real files, in the folder that the test is run in. The top call is the
+//! program's own, so this test stands here.
 ghost use Rattle.std.specs.Prelude.{◌≡◌, false};
 ghost use Rattle.h263_outside.specs.declared.desk.Role.TheVariants.{Video, Pictures};
 
 use super::*;
 use h263_outside::{Desk, Failed, Role, Unattached, read_full, write_all};
 use std::test::Fail;
-
-const HEAD_LINE: &[u8] = b"YUV4MPEG2 W128 H96\n";
-
-const FRAME_LINE: &[u8] = b"FRAME\n";
-
-const OUT_HEAD: &[u8] = b"YUV4MPEG2 W128 H96 F30000:1001 Ip C420jpeg\n";
-
-const EXACT_LINE: &[u8] = b"FRAME XEXACT\n";
+use test_fixtures::desks::{EXACT, FRAME, HEAD, SHOWN_HEAD};
 
 const PICTURE: &[u8] = &[100; 18_432];
 
@@ -41,7 +35,7 @@ fn holds<D: Desk>(desk: &mut D, name: &str, parts: &[&[u8]]) -> Result<bool, Una
     let mut rest = &read[..count.min(20_000)];
     for part in parts {
         match rest.strip_prefix(*part) {
-            Some(behind) => rest = behind,
+            Some(after) => rest = after,
             None => return Ok(false),
         }
     }
@@ -51,14 +45,14 @@ fn holds<D: Desk>(desk: &mut D, name: &str, parts: &[&[u8]]) -> Result<bool, Una
 #[test]
 fn files_of_the_host(rt: HostRuntime) -> Result<(), Fail> {
     let mut desk = HostDesk::new(rt.clone()?);
-    write_file(&mut desk, "in.y4m", &[HEAD_LINE, FRAME_LINE, PICTURE])?;
+    write_file(&mut desk, "in.y4m", &[HEAD, FRAME, PICTURE])?;
     let mut desk = HostDesk::new(rt.clone()?);
     assert_eq!(rt;
         run(rt.alloc(), &["call", "in.y4m", "out.y4m"], &mut desk),
         Status::Ok
     );
     let mut desk = HostDesk::new(rt.clone()?);
-    assert!(rt; holds(&mut desk, "out.y4m", &[OUT_HEAD, EXACT_LINE, PICTURE])?);
+    assert!(rt; holds(&mut desk, "out.y4m", &[SHOWN_HEAD, EXACT, PICTURE])?);
     let mut desk = HostDesk::new(rt.clone()?);
     let missing = Status::OpenFault { role: Role::Video };
     assert_eq!(rt;

@@ -1,5 +1,4 @@
-//! Runs over a desk in memory. Where memory ran out in a test its steps are taken again, and are
-//! then to reach their end.
+//! Calls over a desk in memory.
 ghost use Rattle.std.specs.Prelude.{◌≡◌, ◌<◌, true, OnOk};
 ghost use Rattle.h263_types.specs.Params.{IsParams};
 ghost use Rattle.h263_outside.specs.Desk.{NoneAttached};
@@ -7,7 +6,7 @@ ghost use Rattle.h263_outside.specs.declared.desk.Role.TheVariants.{Video, Pictu
 
 use call_command::{Call, Terms, converse};
 use call_report::Status;
-use desk_program::{attach_all, perform};
+use desk_program::attach_all;
 use h263_outside::{Desk, MemoryDesk, OutOfMemory, Role};
 use h263_planes::PictureRef;
 use h263_types::{Clock, FixedPace, Format, Params};
@@ -17,119 +16,76 @@ use sender_end::Sender;
 use std::alloc::Global;
 use std::process::Abort;
 use std::test::Fail;
+use test_fixtures::desks::{
+    Case, Differs, EXACT, FRAME, HEAD, HELD, NEVER, NOTHING, Parts, SHOWN_HEAD, joined, run,
+};
 use y4m::{Y4mFault, Y4mReader};
-
-const HEAD_LINE: &[u8] = b"YUV4MPEG2 W128 H96\n";
-
-const FRAME_LINE: &[u8] = b"FRAME\n";
-
-const OUT_HEAD: &[u8] = b"YUV4MPEG2 W128 H96 F30000:1001 Ip C420jpeg\n";
-
-const EXACT_LINE: &[u8] = b"FRAME XEXACT\n";
 
 // Bytes of a plane of luma, and of a picture, flat 64.
 const LUMA: &[u8] = &[64; 12_288];
 
 const PICTURE: &[u8] = &[64; 18_432];
 
-fn joined(alloc: Global, parts: &[&[u8]]) -> Result<Vec<u8>, OutOfMemory> {
-    let mut bytes = Vec::new(alloc);
-    for part in parts {
-        bytes.extend_from_slice(part)?;
-    }
-    Ok(bytes)
-}
+const ONE: Parts<'static> = &[HEAD, FRAME, PICTURE];
 
-// How the command ends over a desk on which nothing is attached.
-fn performed<D: Desk>(alloc: Global, params: &Params, desk: &mut D) -> Status
+const SHOWN: Parts<'static> = &[SHOWN_HEAD, EXACT, PICTURE];
+
+// What a call over the plain trace, or over a recorded one, differs in from what is wanted.
+fn differs(
+    alloc: Global,
+    params: &Params,
+    plain: bool,
+    piece: usize,
+    case: &Case,
+) -> Result<Option<Differs>, OutOfMemory>
+    requires piece { 0 < piece }
     requires params { IsParams params.now }
-    requires desk { NoneAttached (D.outside desk.old).attached }
 {
-    if let Err(status) = attach_all(desk, &[(Role::Report, "")]) {
-        return status;
-    }
-    let order = &[(Role::Video, "in"), (Role::Pictures, "out")];
     let terms = Terms {
         params: *params,
-        plain: true,
+        plain,
     };
-    perform::<D, Call>(alloc, &terms, order, desk)
-}
-
-// The same over a recorded trace.
-fn recorded<D: Desk>(alloc: Global, params: &Params, desk: &mut D) -> Status
-    requires params { IsParams params.now }
-    requires desk { NoneAttached (D.outside desk.old).attached }
-{
-    if let Err(status) = attach_all(desk, &[(Role::Report, "")]) {
-        return status;
+    if plain {
+        let order = &[(Role::Video, "in"), (Role::Pictures, "out")];
+        run::<Call>(alloc, &terms, order, piece, case)
+    } else {
+        let order = &[
+            (Role::Video, "in"),
+            (Role::Events, "trace"),
+            (Role::Pictures, "out"),
+        ];
+        run::<Call>(alloc, &terms, order, piece, case)
     }
-    let order = &[
-        (Role::Video, "in"),
-        (Role::Events, "trace"),
-        (Role::Pictures, "out"),
-    ];
-    let terms = Terms {
-        params: *params,
-        plain: false,
-    };
-    perform::<D, Call>(alloc, &terms, order, desk)
 }
 
-// What is read, the call that fails, how the run ends, and what it writes on both outputs.
-type Case<'a> = (&'a [&'a [u8]], u64, Status, &'a [&'a [u8]], &'a [u8]);
+// The video, how the run ends, and what it writes on both outputs.
+type Plain<'a> = (Parts<'a>, Status, Parts<'a>, &'a [u8]);
 
-fn run_cases(
+fn check_plain(
     rt: &impl Abort,
     alloc: Global,
     params: &Params,
     piece: usize,
-    cases: &[Case],
+    table: &[Plain],
 ) -> Result<(), OutOfMemory>
     requires piece { 0 < piece }
     requires params { IsParams params.now }
 {
-    for (video, failing, ends, pictures, report) in cases {
-        let mut desk = MemoryDesk::new(alloc, piece, 200_000)?;
-        desk.put(Role::Video, &joined(alloc, video)?)?;
-        desk.fail(*failing)?;
-        let status = performed(alloc, params, &mut desk);
-        if status == Status::OutOfMemory {
-            return Err(OutOfMemory);
-        }
-        assert_eq!(rt; status, *ends);
-        let shown = joined(alloc, pictures)?;
-        assert_eq!(rt;
-            desk.text(Role::Pictures),
-            shown.as_slice(),
-            "where {status:?}"
-        );
-        assert_eq!(rt; desk.text(Role::Report), *report, "where {status:?}");
+    for (video, ends, pictures, report) in table {
+        let case = Case {
+            video,
+            events: NOTHING,
+            failing: NEVER,
+            ends: *ends,
+            pictures,
+            wire: NOTHING,
+            report: &[*report],
+        };
+        let found = differs(alloc, params, true, piece, &case)?;
+        assert_eq!(rt; found, None, "where {ends:?}");
     }
     Ok(())
 }
-
-fn run_twice(
-    rt: &impl Abort,
-    alloc: Global,
-    params: &Params,
-    piece: usize,
-    cases: &[Case],
-) -> Result<(), OutOfMemory>
-    requires piece { 0 < piece }
-    requires params { IsParams params.now }
-{
-    if let Err(OutOfMemory) = run_cases(rt, alloc, params, piece, cases) {
-        run_cases(rt, alloc, params, piece, cases)?;
-    }
-    Ok(())
-}
-
-const NONE: u64 = 1_000_000;
-
-const ONE: &[&[u8]] = &[HEAD_LINE, FRAME_LINE, PICTURE];
-
-const SHOWN: &[&[u8]] = &[OUT_HEAD, EXACT_LINE, PICTURE];
 
 const NO_COUNTS: &[u8] = b"played 0 sent 0 exact 0 patched 0 held 0\n";
 
@@ -138,10 +94,10 @@ const ONE_EXACT: &[u8] = b"0 exact intra\nplayed 1 sent 1 exact 1 patched 0 held
 #[test]
 fn the_head_alone_and_one_flat_picture(rt: HostRuntime) -> Result<(), Fail> {
     let params = Params::of(Format::Cif);
-    let head: Case = (&[HEAD_LINE], NONE, Status::Ok, &[OUT_HEAD], NO_COUNTS);
-    run_twice(&rt, rt.alloc(), &params, 1, &[head])?;
-    let flat: Case = (ONE, NONE, Status::Ok, SHOWN, ONE_EXACT);
-    run_twice(&rt, rt.alloc(), &params, 4096, &[head, flat])?;
+    let head: Plain = (&[HEAD], Status::Ok, &[SHOWN_HEAD], NO_COUNTS);
+    check_plain(&rt, rt.alloc(), &params, 1, &[head])?;
+    let flat: Plain = (ONE, Status::Ok, SHOWN, ONE_EXACT);
+    check_plain(&rt, rt.alloc(), &params, 4096, &[head, flat])?;
     Ok(())
 }
 
@@ -156,8 +112,8 @@ fn custom() -> Params
 
 #[test]
 fn one_flat_picture_by_the_custom_clock(rt: HostRuntime) -> Result<(), Fail> {
-    let flat: Case = (ONE, NONE, Status::Ok, SHOWN, ONE_EXACT);
-    run_twice(&rt, rt.alloc(), &custom(), 4096, &[flat])?;
+    let flat: Plain = (ONE, Status::Ok, SHOWN, ONE_EXACT);
+    check_plain(&rt, rt.alloc(), &custom(), 4096, &[flat])?;
     Ok(())
 }
 
@@ -171,13 +127,9 @@ const DARKEST: &[u8] = &[1; 18_432];
 
 const BRIGHTEST: &[u8] = &[254; 18_432];
 
-const THREE: &[&[u8]] = &[
-    HEAD_LINE, FRAME_LINE, BLACK, FRAME_LINE, GREY, FRAME_LINE, WHITE,
-];
+const THREE: Parts<'static> = &[HEAD, FRAME, BLACK, FRAME, GREY, FRAME, WHITE];
 
-const THREE_SHOWN: &[&[u8]] = &[
-    OUT_HEAD, EXACT_LINE, DARKEST, EXACT_LINE, GREY, EXACT_LINE, BRIGHTEST,
-];
+const THREE_SHOWN: Parts<'static> = &[SHOWN_HEAD, EXACT, DARKEST, EXACT, GREY, EXACT, BRIGHTEST];
 
 const THREE_EXACT: &[u8] = b"0 exact intra\n1 exact intra\n2 exact intra\n\
 played 3 sent 3 exact 3 patched 0 held 0\n";
@@ -186,17 +138,17 @@ played 3 sent 3 exact 3 patched 0 held 0\n";
 #[test]
 fn three_flat_pictures(rt: HostRuntime) -> Result<(), Fail> {
     let params = Params::of(Format::SubQcif);
-    let three: Case = (THREE, NONE, Status::Ok, THREE_SHOWN, THREE_EXACT);
-    run_twice(&rt, rt.alloc(), &params, 4096, &[three])?;
+    let three: Plain = (THREE, Status::Ok, THREE_SHOWN, THREE_EXACT);
+    check_plain(&rt, rt.alloc(), &params, 4096, &[three])?;
     Ok(())
 }
 
 // Its second frame ends after its first plane.
-const CUT_FRAME: &[&[u8]] = &[HEAD_LINE, FRAME_LINE, PICTURE, FRAME_LINE, LUMA];
+const CUT_FRAME: Parts<'static> = &[HEAD, FRAME, PICTURE, FRAME, LUMA];
 
 const CUT_REPORT: &[u8] = b"0 exact intra\nvideo refused: short frame at byte 30751\n";
 
-const NO_VIDEO: &[u8] = b"video refused: not y4m at byte 0\n";
+const NOT_Y4M: &[u8] = b"video refused: not y4m at byte 0\n";
 
 #[test]
 fn refused_videos(rt: HostRuntime) -> Result<(), Fail> {
@@ -207,118 +159,40 @@ fn refused_videos(rt: HostRuntime) -> Result<(), Fail> {
     let other = Status::VideoRefused {
         fault: Y4mFault::NotY4m { at: 0 },
     };
-    let cases: &[Case] = &[
-        (CUT_FRAME, NONE, short, SHOWN, CUT_REPORT),
-        (&[b"RIFF"], NONE, other, &[], NO_VIDEO),
+    let table: &[Plain] = &[
+        (CUT_FRAME, short, SHOWN, CUT_REPORT),
+        (&[b"RIFF"], other, NOTHING, NOT_Y4M),
     ];
-    run_twice(&rt, rt.alloc(), &params, 4096, cases)?;
-    Ok(())
-}
-
-const ONE_LINE: &[u8] = b"0 exact intra\n";
-
-const READ_LINE: &[u8] = b"read fault\n";
-
-const BOTH_LINES: &[u8] = b"0 exact intra\nread fault\n";
-
-// Two of the pieces in which a picture is written.
-const TWO_PIECES: &[u8] = &[64; 8192];
-
-const CUT_SHOWN: &[&[u8]] = &[OUT_HEAD, EXACT_LINE, TWO_PIECES];
-
-const NOTHING: &[u8] = b"";
-
-const NO_PICTURES: &[&[u8]] = &[];
-
-const HEAD_SHOWN: &[&[u8]] = &[OUT_HEAD];
-
-const LINE_SHOWN: &[&[u8]] = &[OUT_HEAD, EXACT_LINE];
-
-const UNOPENED_VIDEO: &[u8] = b"cannot open video\n";
-
-const UNOPENED_PICTURES: &[u8] = b"cannot open pictures\n";
-
-// Calls 0 to 2 attach, 3 to 21 read the head byte by byte, 22 writes it, 23 to 28 read the
-// frame's line, and 29 to 33 its planes in pieces of 4,096 bytes; 34 writes the picture's line, 35
-// to 39 its planes, and 40 the line of the report; 41 comes to the end of the video, and 42 writes
-// the counts.
-#[test]
-fn each_failing_call(rt: HostRuntime) -> Result<(), Fail> {
-    let params = Params::of(Format::SubQcif);
-    let report = Status::OpenFault { role: Role::Report };
-    let video = Status::OpenFault { role: Role::Video };
-    let pictures = Status::OpenFault {
-        role: Role::Pictures,
-    };
-    let cases: &[Case] = &[
-        (ONE, 0, report, NO_PICTURES, NOTHING),
-        (ONE, 1, video, NO_PICTURES, UNOPENED_VIDEO),
-        (ONE, 2, pictures, NO_PICTURES, UNOPENED_PICTURES),
-        (ONE, 3, Status::ReadFault, NO_PICTURES, READ_LINE),
-        (ONE, 21, Status::ReadFault, NO_PICTURES, READ_LINE),
-        (ONE, 22, Status::WriteFault, NO_PICTURES, NOTHING),
-        (ONE, 23, Status::ReadFault, HEAD_SHOWN, READ_LINE),
-        (ONE, 28, Status::ReadFault, HEAD_SHOWN, READ_LINE),
-        (ONE, 29, Status::ReadFault, HEAD_SHOWN, READ_LINE),
-        (ONE, 33, Status::ReadFault, HEAD_SHOWN, READ_LINE),
-        (ONE, 34, Status::WriteFault, HEAD_SHOWN, NOTHING),
-        (ONE, 35, Status::WriteFault, LINE_SHOWN, NOTHING),
-        (ONE, 37, Status::WriteFault, CUT_SHOWN, NOTHING),
-        (ONE, 40, Status::WriteFault, SHOWN, NOTHING),
-        (ONE, 41, Status::ReadFault, SHOWN, BOTH_LINES),
-        (ONE, 42, Status::WriteFault, SHOWN, ONE_LINE),
-    ];
-    run_twice(&rt, rt.alloc(), &params, 4096, cases)?;
+    check_plain(&rt, rt.alloc(), &params, 4096, table)?;
     Ok(())
 }
 
 // ---- over a recorded trace
 
 // The video, the trace, how the run ends, and what it writes on both outputs.
-type Recorded<'a> = (&'a [&'a [u8]], &'a [u8], Status, &'a [&'a [u8]], &'a [u8]);
+type Traced<'a> = (Parts<'a>, &'a [u8], Status, Parts<'a>, &'a [u8]);
 
-fn run_traces(
-    rt: &impl Abort,
-    alloc: Global,
-    piece: usize,
-    cases: &[Recorded],
-) -> Result<(), OutOfMemory>
-    requires { 0 < piece }
-{
+fn check_traced(rt: &impl Abort, alloc: Global, table: &[Traced]) -> Result<(), OutOfMemory> {
     let params = Params::of(Format::SubQcif);
-    for (video, trace, ends, pictures, report) in cases {
-        let mut desk = MemoryDesk::new(alloc, piece, 200_000)?;
-        desk.put(Role::Video, &joined(alloc, video)?)?;
-        desk.put(Role::Events, trace)?;
-        let status = recorded(alloc, &params, &mut desk);
-        if status == Status::OutOfMemory {
-            return Err(OutOfMemory);
+    for (video, trace, ends, pictures, report) in table {
+        let case = Case {
+            video,
+            events: &[*trace],
+            failing: NEVER,
+            ends: *ends,
+            pictures,
+            wire: NOTHING,
+            report: &[*report],
+        };
+        for piece in [1, 4096] {
+            let found = differs(alloc, &params, false, piece, &case)?;
+            assert_eq!(rt; found, None, "where {ends:?}");
         }
-        assert_eq!(rt; status, *ends);
-        let shown = joined(alloc, pictures)?;
-        assert_eq!(rt;
-            desk.text(Role::Pictures),
-            shown.as_slice(),
-            "where {status:?}"
-        );
-        assert_eq!(rt; desk.text(Role::Report), *report, "where {status:?}");
     }
     Ok(())
 }
 
-fn traces_twice(
-    rt: &impl Abort,
-    alloc: Global,
-    piece: usize,
-    cases: &[Recorded],
-) -> Result<(), OutOfMemory>
-    requires { 0 < piece }
-{
-    if let Err(OutOfMemory) = run_traces(rt, alloc, piece, cases) {
-        run_traces(rt, alloc, piece, cases)?;
-    }
-    Ok(())
-}
+const HEAD_ALONE: Parts<'static> = &[SHOWN_HEAD];
 
 const BAD: Status = Status::TraceRefused {
     fault: TraceFault::BadLine { line: 2 },
@@ -340,64 +214,61 @@ const NOT_SAID: Status = Status::TraceRefused {
     fault: TraceFault::NotSaid { line: 2 },
 };
 
-const REFUSED: &[Recorded] = &[
+const REFUSED: &[Traced] = &[
     (
         ONE,
         b"S\nX\n",
         BAD,
-        HEAD_SHOWN,
+        HEAD_ALONE,
         b"trace refused: bad line at line 2\n",
     ),
     (
         ONE,
         b"P\n",
         EARLY,
-        HEAD_SHOWN,
+        HEAD_ALONE,
         b"trace refused: play before send at line 1\n",
     ),
     (
         ONE,
         b"S\nS\n",
         NO_FRAME,
-        HEAD_SHOWN,
+        HEAD_ALONE,
         b"trace refused: no frame at line 2\n",
     ),
     (
         ONE,
         b"D 0.0\n",
         NOT_SENT,
-        HEAD_SHOWN,
+        HEAD_ALONE,
         b"trace refused: not sent at line 1\n",
     ),
     (
         ONE,
         b"S\nB 0\n",
         NOT_SAID,
-        HEAD_SHOWN,
+        HEAD_ALONE,
         b"trace refused: not said at line 2\n",
     ),
 ];
 
 #[test]
 fn five_refusals_of_lines(rt: HostRuntime) -> Result<(), Fail> {
-    traces_twice(&rt, rt.alloc(), 1, REFUSED)?;
-    traces_twice(&rt, rt.alloc(), 4096, REFUSED)?;
+    check_traced(&rt, rt.alloc(), REFUSED)?;
     Ok(())
 }
 
-const HELD_LINE: &[u8] = b"FRAME XHELD\n";
-
 // All samples are 128 before the first picture.
-const HELD_SHOWN: &[&[u8]] = &[OUT_HEAD, HELD_LINE, GREY];
+const HELD_SHOWN: Parts<'static> = &[SHOWN_HEAD, HELD, GREY];
 
-const TWO: &[&[u8]] = &[HEAD_LINE, FRAME_LINE, PICTURE, FRAME_LINE, PICTURE];
+const TWO: Parts<'static> = &[HEAD, FRAME, PICTURE, FRAME, PICTURE];
 
-const TWO_SHOWN: &[&[u8]] = &[OUT_HEAD, EXACT_LINE, PICTURE, EXACT_LINE, PICTURE];
+const TWO_SHOWN: Parts<'static> = &[SHOWN_HEAD, EXACT, PICTURE, EXACT, PICTURE];
 
 // The packet's only message is its ACK, which comes back before the second capture; a picture that
 // is never delivered is held, and a packet past the last is nothing.
-const CARRIED: &[Recorded] = &[
-    (ONE, b"", Status::Ok, HEAD_SHOWN, NO_COUNTS),
+const CARRIED: &[Traced] = &[
+    (ONE, b"", Status::Ok, HEAD_ALONE, NO_COUNTS),
     (ONE, b"S\n\nD 0.*\nP", Status::Ok, SHOWN, ONE_EXACT),
     (
         ONE,
@@ -424,8 +295,131 @@ const CARRIED: &[Recorded] = &[
 
 #[test]
 fn traces_of_one_and_two_pictures(rt: HostRuntime) -> Result<(), Fail> {
-    traces_twice(&rt, rt.alloc(), 1, CARRIED)?;
-    traces_twice(&rt, rt.alloc(), 4096, CARRIED)?;
+    check_traced(&rt, rt.alloc(), CARRIED)?;
+    Ok(())
+}
+
+// ---- where a call of the desk fails
+
+// The first of some calls of the desk and the one after them: how a call of one flat picture ends
+// where one of these fails, and what it writes on both outputs.
+type Stretch<'a> = (u64, u64, Status, Parts<'a>, Parts<'a>);
+
+fn check_failing(
+    rt: &impl Abort,
+    alloc: Global,
+    plain: bool,
+    table: &[Stretch],
+) -> Result<(), OutOfMemory> {
+    let params = Params::of(Format::SubQcif);
+    for (first, after, ends, pictures, report) in table {
+        for failing in *first..*after {
+            let case = Case {
+                video: ONE,
+                events: ARRIVES,
+                failing,
+                ends: *ends,
+                pictures,
+                wire: NOTHING,
+                report,
+            };
+            let found = differs(alloc, &params, plain, 4096, &case)?;
+            assert_eq!(rt; found, None, "where call {failing} fails");
+        }
+    }
+    Ok(())
+}
+
+// A trace by which all arrives at once.
+const ARRIVES: Parts<'static> = &[b"S\nD 0.*\nP\n"];
+
+const ONE_LINE: &[u8] = b"0 exact intra\n";
+
+const READ_LINE: &[u8] = b"read fault\n";
+
+const NO_REPORT: Status = Status::OpenFault { role: Role::Report };
+
+const NO_VIDEO: Status = Status::OpenFault { role: Role::Video };
+
+const NO_EVENTS: Status = Status::OpenFault { role: Role::Events };
+
+const NO_PICTURES: Status = Status::OpenFault {
+    role: Role::Pictures,
+};
+
+const NO_VIDEO_LINE: Parts<'static> = &[b"cannot open video\n"];
+
+const NO_EVENTS_LINE: Parts<'static> = &[b"cannot open events\n"];
+
+const NO_PICTURES_LINE: Parts<'static> = &[b"cannot open pictures\n"];
+
+// One of the pieces in which a picture is written.
+const PIECE: &[u8] = &[64; 4096];
+
+const LINE_ALONE: Parts<'static> = &[SHOWN_HEAD, EXACT];
+
+const CUT_1: Parts<'static> = &[SHOWN_HEAD, EXACT, PIECE];
+
+const CUT_2: Parts<'static> = &[SHOWN_HEAD, EXACT, PIECE, PIECE];
+
+const CUT_3: Parts<'static> = &[SHOWN_HEAD, EXACT, PIECE, PIECE, PIECE];
+
+const CUT_4: Parts<'static> = &[SHOWN_HEAD, EXACT, PIECE, PIECE, PIECE, PIECE];
+
+// Three roles are attached; the head is read byte by byte and written; the frame's line is read
+// byte by byte, and its planes in five pieces; the picture's line, its planes in five pieces, and
+// the line of the report are written; the video's end is met, and the counts are written.
+const PLAIN: &[Stretch] = &[
+    (0, 1, NO_REPORT, NOTHING, NOTHING),
+    (1, 2, NO_VIDEO, NOTHING, NO_VIDEO_LINE),
+    (2, 3, NO_PICTURES, NOTHING, NO_PICTURES_LINE),
+    (3, 22, Status::ReadFault, NOTHING, &[READ_LINE]),
+    (22, 23, Status::WriteFault, NOTHING, NOTHING),
+    (23, 34, Status::ReadFault, HEAD_ALONE, &[READ_LINE]),
+    (34, 35, Status::WriteFault, HEAD_ALONE, NOTHING),
+    (35, 36, Status::WriteFault, LINE_ALONE, NOTHING),
+    (36, 37, Status::WriteFault, CUT_1, NOTHING),
+    (37, 38, Status::WriteFault, CUT_2, NOTHING),
+    (38, 39, Status::WriteFault, CUT_3, NOTHING),
+    (39, 40, Status::WriteFault, CUT_4, NOTHING),
+    (40, 41, Status::WriteFault, SHOWN, NOTHING),
+    (41, 42, Status::ReadFault, SHOWN, &[ONE_LINE, READ_LINE]),
+    (42, 43, Status::WriteFault, SHOWN, &[ONE_LINE]),
+    (43, 44, Status::Ok, SHOWN, &[ONE_EXACT]),
+];
+
+// The same with a fourth role, and with each line of the trace byte by byte: one before the frame
+// and two after it.
+const TRACED: &[Stretch] = &[
+    (0, 1, NO_REPORT, NOTHING, NOTHING),
+    (1, 2, NO_VIDEO, NOTHING, NO_VIDEO_LINE),
+    (2, 3, NO_EVENTS, NOTHING, NO_EVENTS_LINE),
+    (3, 4, NO_PICTURES, NOTHING, NO_PICTURES_LINE),
+    (4, 23, Status::ReadFault, NOTHING, &[READ_LINE]),
+    (23, 24, Status::WriteFault, NOTHING, NOTHING),
+    (24, 45, Status::ReadFault, HEAD_ALONE, &[READ_LINE]),
+    (45, 46, Status::WriteFault, HEAD_ALONE, NOTHING),
+    (46, 47, Status::WriteFault, LINE_ALONE, NOTHING),
+    (47, 48, Status::WriteFault, CUT_1, NOTHING),
+    (48, 49, Status::WriteFault, CUT_2, NOTHING),
+    (49, 50, Status::WriteFault, CUT_3, NOTHING),
+    (50, 51, Status::WriteFault, CUT_4, NOTHING),
+    (51, 52, Status::WriteFault, SHOWN, NOTHING),
+    (52, 53, Status::ReadFault, SHOWN, &[ONE_LINE, READ_LINE]),
+    (53, 54, Status::WriteFault, SHOWN, &[ONE_LINE]),
+    (54, 55, Status::Ok, SHOWN, &[ONE_EXACT]),
+];
+
+// For each call up to the first that isn't made.
+#[test]
+fn each_call_of_a_plain_call(rt: HostRuntime) -> Result<(), Fail> {
+    check_failing(&rt, rt.alloc(), true, PLAIN)?;
+    Ok(())
+}
+
+#[test]
+fn each_call_of_a_traced_call(rt: HostRuntime) -> Result<(), Fail> {
+    check_failing(&rt, rt.alloc(), false, TRACED)?;
     Ok(())
 }
 
@@ -452,7 +446,7 @@ fn hear_another(alloc: Global, params: &Params, receiver: &mut Receiver) -> Resu
 
 const FLAT_50: &[u8] = &[50; 18_432];
 
-const DARKER: &[&[u8]] = &[HEAD_LINE, FRAME_LINE, FLAT_50];
+const DARKER: Parts<'static> = &[HEAD, FRAME, FLAT_50];
 
 // Attaches the roles of a call over the plain trace on a desk on which nothing is attached.
 fn attach_roles<D: Desk>(desk: &mut D) -> Result<(), OutOfMemory>
@@ -510,7 +504,7 @@ fn conversed(alloc: Global) -> Result<(Status, bool, bool), OutOfMemory> {
     if status == Status::OutOfMemory {
         return Err(OutOfMemory);
     }
-    let shown = joined(alloc, &[EXACT_LINE, PICTURE])?;
+    let shown = joined(alloc, &[EXACT, PICTURE])?;
     let pictures = desk.text(Role::Pictures) == shown.as_slice();
     Ok((status, pictures, desk.text(Role::Report) == ONE_EXACT))
 }

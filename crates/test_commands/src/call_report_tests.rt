@@ -1,10 +1,15 @@
 //! The lines byte for byte.
 use call_report::{Line, Status, picture_line, refusal_line};
 use event_logs::LogFault;
+use event_logs::LogFault::BadRecord;
 use h263_outside::Role;
 use h263_types::Mark;
 use loss_trace::TraceFault;
+use loss_trace::TraceFault::{BadLine, Far, NotSaid, NotSent, PlayBeforeSend};
+use std::process::Abort;
+use test_fixtures::desks::USAGE;
 use y4m::Y4mFault;
+use y4m::Y4mFault::{Colour, Interlaced, NotY4m, ShortFrame, Size};
 
 #[test]
 fn lines_of_pictures(rt: HostRuntime) {
@@ -44,162 +49,108 @@ fn lines_of_pictures(rt: HostRuntime) {
     }
 }
 
+// Compares the line of a refusal, by what it begins with.
+fn check_line(rt: &impl Abort, status: &Status, begins: &str, text: &str) {
+    let line = refusal_line(status);
+    let rest = line.text().strip_prefix(begins.as_bytes());
+    assert_eq!(rt; rest, Some(text.as_bytes()), "{status:?}");
+}
+
+// What can't be opened; where the report can't be, nothing is said.
+const UNOPENED: [(Role, &str, &str); 7] = [
+    (Role::Report, "", ""),
+    (Role::Video, "cannot open ", "video\n"),
+    (Role::Events, "cannot open ", "events\n"),
+    (Role::Pictures, "cannot open ", "pictures\n"),
+    (Role::Wire, "cannot open ", "wire\n"),
+    (Role::Video2, "cannot open ", "video 2\n"),
+    (Role::Pictures2, "cannot open ", "pictures 2\n"),
+];
+
 #[test]
 fn lines_of_refusals(rt: HostRuntime) {
     let table = [
         (Status::Ok, ""),
         (Status::WriteFault, ""),
-        (Status::OpenFault { role: Role::Report }, ""),
         (Status::OutOfMemory, "out of memory\n"),
-        (
-            Status::Usage,
-            "usage: h263rps call IN OUT [--trace FILE] | send IN LOG WIRE | recv LOG OUT WIRE | demo SEED FRAMES\n",
-        ),
+        (Status::Usage, USAGE),
         (Status::ReadFault, "read fault\n"),
-        (
-            Status::OpenFault { role: Role::Video },
-            "cannot open video\n",
-        ),
-        (
-            Status::OpenFault { role: Role::Events },
-            "cannot open events\n",
-        ),
-        (
-            Status::OpenFault {
-                role: Role::Pictures,
-            },
-            "cannot open pictures\n",
-        ),
-        (Status::OpenFault { role: Role::Wire }, "cannot open wire\n"),
-        (
-            Status::OpenFault { role: Role::Video2 },
-            "cannot open video 2\n",
-        ),
-        (
-            Status::OpenFault {
-                role: Role::Pictures2,
-            },
-            "cannot open pictures 2\n",
-        ),
     ];
     for (status, text) in table {
-        assert_eq!(rt; refusal_line(&status).text(), text.as_bytes());
+        check_line(&rt, &status, "", text);
+    }
+    for (role, begins, text) in UNOPENED {
+        check_line(&rt, &Status::OpenFault { role }, begins, text);
     }
 }
 
-// Refusals at a byte, and the line of each.
-const AT_A_BYTE: [(Status, &str); 10] = [
+const VIDEOS: [(Y4mFault, &str); 6] = [
+    (NotY4m { at: 0 }, "not y4m at byte 0\n"),
+    (Size { at: 10 }, "size at byte 10\n"),
+    (Interlaced { at: 9 }, "interlaced at byte 9\n"),
+    (Colour { at: 25 }, "colour at byte 25\n"),
+    (ShortFrame { at: 18_480 }, "short frame at byte 18480\n"),
+    (Y4mFault::TooMany { at: 1 }, "too many frames at byte 1\n"),
+];
+
+const LOGS: [(LogFault, &str); 3] = [
+    (BadRecord { at: 0 }, "bad record at byte 0\n"),
+    (LogFault::NoFrame { at: 3 }, "no frame at byte 3\n"),
     (
-        Status::VideoRefused {
-            fault: Y4mFault::NotY4m { at: 0 },
-        },
-        "video refused: not y4m at byte 0\n",
-    ),
-    (
-        Status::VideoRefused {
-            fault: Y4mFault::Size { at: 10 },
-        },
-        "video refused: size at byte 10\n",
-    ),
-    (
-        Status::VideoRefused {
-            fault: Y4mFault::Interlaced { at: 9 },
-        },
-        "video refused: interlaced at byte 9\n",
-    ),
-    (
-        Status::VideoRefused {
-            fault: Y4mFault::Colour { at: 25 },
-        },
-        "video refused: colour at byte 25\n",
-    ),
-    (
-        Status::VideoRefused {
-            fault: Y4mFault::ShortFrame { at: 18_480 },
-        },
-        "video refused: short frame at byte 18480\n",
-    ),
-    (
-        Status::VideoRefused {
-            fault: Y4mFault::TooMany { at: 1 },
-        },
-        "video refused: too many frames at byte 1\n",
-    ),
-    (
-        Status::Video2Refused {
-            fault: Y4mFault::NotY4m { at: 3 },
-        },
-        "video 2 refused: not y4m at byte 3\n",
-    ),
-    (
-        Status::LogRefused {
-            fault: LogFault::BadRecord { at: 0 },
-        },
-        "log refused: bad record at byte 0\n",
-    ),
-    (
-        Status::LogRefused {
-            fault: LogFault::NoFrame { at: 3 },
-        },
-        "log refused: no frame at byte 3\n",
-    ),
-    (
-        Status::LogRefused {
-            fault: LogFault::TooMany {
-                at: 18_446_744_073_709_551_615,
-            },
-        },
-        "log refused: too many records at byte 18446744073709551615\n",
+        LogFault::TooMany { at: u64::MAX },
+        "too many records at byte 18446744073709551615\n",
     ),
 ];
 
 #[test]
 fn lines_of_faults_at_a_byte(rt: HostRuntime) {
-    for (status, text) in AT_A_BYTE {
-        assert_eq!(rt; refusal_line(&status).text(), text.as_bytes());
+    for (fault, text) in VIDEOS {
+        check_line(
+            &rt,
+            &Status::VideoRefused { fault },
+            "video refused: ",
+            text,
+        );
+        check_line(
+            &rt,
+            &Status::Video2Refused { fault },
+            "video 2 refused: ",
+            text,
+        );
+    }
+    for (fault, text) in LOGS {
+        check_line(&rt, &Status::LogRefused { fault }, "log refused: ", text);
     }
 }
 
+const TRACES: [(TraceFault, &str); 7] = [
+    (BadLine { line: 2 }, "bad line at line 2\n"),
+    (
+        TraceFault::TooMany { line: 16_777_217 },
+        "too many lines at line 16777217\n",
+    ),
+    (TraceFault::NoFrame { line: 3 }, "no frame at line 3\n"),
+    (NotSent { line: 1 }, "not sent at line 1\n"),
+    (NotSaid { line: 4 }, "not said at line 4\n"),
+    (PlayBeforeSend { line: 1 }, "play before send at line 1\n"),
+    (
+        Far {
+            line: 129,
+            given: 128,
+            other: 0,
+        },
+        "far at line 129: 128 0\n",
+    ),
+];
+
 #[test]
 fn lines_of_faults_at_a_line(rt: HostRuntime) {
-    let table = [
-        (
-            TraceFault::BadLine { line: 2 },
-            "trace refused: bad line at line 2\n",
-        ),
-        (
-            TraceFault::TooMany { line: 16_777_217 },
-            "trace refused: too many lines at line 16777217\n",
-        ),
-        (
-            TraceFault::NoFrame { line: 3 },
-            "trace refused: no frame at line 3\n",
-        ),
-        (
-            TraceFault::NotSent { line: 1 },
-            "trace refused: not sent at line 1\n",
-        ),
-        (
-            TraceFault::NotSaid { line: 4 },
-            "trace refused: not said at line 4\n",
-        ),
-        (
-            TraceFault::PlayBeforeSend { line: 1 },
-            "trace refused: play before send at line 1\n",
-        ),
-        (
-            TraceFault::Far {
-                line: 129,
-                given: 128,
-                other: 0,
-            },
-            "trace refused: far at line 129: 128 0\n",
-        ),
-    ];
-    for (fault, text) in table {
-        assert_eq!(rt;
-            refusal_line(&Status::TraceRefused { fault }).text(),
-            text.as_bytes()
+    for (fault, text) in TRACES {
+        check_line(
+            &rt,
+            &Status::TraceRefused { fault },
+            "trace refused: ",
+            text,
         );
     }
 }
@@ -216,37 +167,20 @@ fn line_of_counts(rt: HostRuntime) {
 
 #[test]
 fn codes_of_statuses(rt: HostRuntime) {
+    let fault = NotY4m { at: 0 };
+    let trace = BadLine { line: 1 };
+    let log = BadRecord { at: 0 };
     let table = [
         (Status::Ok, 0),
         (Status::OutOfMemory, 1),
         (Status::Usage, 2),
         (Status::ReadFault, 3),
         (Status::WriteFault, 4),
-        (
-            Status::VideoRefused {
-                fault: Y4mFault::NotY4m { at: 0 },
-            },
-            5,
-        ),
-        (
-            Status::TraceRefused {
-                fault: TraceFault::BadLine { line: 1 },
-            },
-            6,
-        ),
-        (
-            Status::LogRefused {
-                fault: LogFault::BadRecord { at: 0 },
-            },
-            7,
-        ),
+        (Status::VideoRefused { fault }, 5),
+        (Status::TraceRefused { fault: trace }, 6),
+        (Status::LogRefused { fault: log }, 7),
         (Status::OpenFault { role: Role::Report }, 8),
-        (
-            Status::Video2Refused {
-                fault: Y4mFault::NotY4m { at: 0 },
-            },
-            9,
-        ),
+        (Status::Video2Refused { fault }, 9),
     ];
     for (status, code) in table {
         assert_eq!(rt; status.code(), code);

@@ -3,7 +3,7 @@ use command_words::{Command, WordStop, Words};
 use h263_outside::Role;
 use h263_types::{Clock, Format, Params};
 
-// What the words after the first may be and what they may not.
+// Words after the program's name that are no command.
 static USAGE: [&[&str]; 53] = [
     &[],
     &[""],

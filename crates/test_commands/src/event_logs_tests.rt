@@ -1,30 +1,14 @@
 //! Logs that were written by hand. Where memory ran out in a test its steps are taken again, and
 //! are then to reach their end.
 ghost use Rattle.std.specs.Prelude.{◌≡◌, ◌<◌, ◌≤◌, true, length, vec_len, IfOk};
-ghost use Rattle.h263_outside.specs.Memory.{memory_outside};
-ghost use Rattle.h263_outside.specs.declared.desk.Role.TheVariants.{Events, Wire};
+ghost use Rattle.h263_outside.specs.declared.desk.Role.TheVariants.{Events};
 
 use event_logs::{Entry, LogReader, LogStop, Side, write_entry};
-use h263_outside::{Desk, MemoryDesk, OutOfMemory, Role};
+use h263_outside::{Desk, OutOfMemory, Role};
 use std::alloc::Global;
 use std::process::Abort;
 use std::test::Fail;
-
-// A desk with a log, whose call of this number is to fail; attaching the log is call 0.
-fn opened(alloc: Global, piece: usize, log: &[u8], failing: u64) -> Result<MemoryDesk, OutOfMemory>
-    requires { 0 < piece }
-    ensures { IfOk result (λ desk. (memory_outside desk).attached Events ≡ true) }
-{
-    let mut desk = MemoryDesk::new(alloc, piece, 0)?;
-    desk.put(Role::Events, log)?;
-    desk.fail(failing)?;
-    match desk.attach(Role::Events, "log") {
-        Ok(()) => Ok(desk),
-        Err(_) => Err(OutOfMemory),
-    }
-}
-
-const NEVER: u64 = u64::MAX;
+use test_fixtures::desks::{NEVER, reading, writing};
 
 // What `next` answers: the byte where an entry begins and the entry, or none.
 type Answer = Result<Option<(u64, Entry)>, LogStop>;
@@ -190,7 +174,7 @@ fn check_entries<D: Desk>(
         assert_eq!(rt; reader.next(desk, buf), Ok(Some((*at, *entry))));
         assert!(rt; buf.starts_with(bytes), "at {at}");
     }
-    assert_eq!(rt; reader.next(desk, buf), end, "behind {found:?}");
+    assert_eq!(rt; reader.next(desk, buf), end, "after {found:?}");
 }
 
 // This many bytes, to be read to and written from.
@@ -231,7 +215,7 @@ fn before_the_last(rt: &impl Abort, alloc: Global, buf: &mut [u8]) -> Result<Log
     ensures { length buf.new ≡ length buf.old }
 {
     let captures = b"S\0\0".repeat(alloc, CAPTURES)?;
-    let mut desk = opened(alloc, 4096, &captures, NEVER)?;
+    let mut desk = reading(alloc, 4096, Role::Events, &captures, NEVER)?;
     let mut reader = LogReader::new(Side::Send);
     for _ in 0..255 {
         pass_captures(rt, &mut desk, &mut reader, buf, CAPTURES);
@@ -252,11 +236,11 @@ fn check_logs(
     requires room { 65535 ≤ length buf.old }
 {
     for (side, log, found, end) in LOGS {
-        let mut desk = opened(alloc, piece, log, NEVER)?;
+        let mut desk = reading(alloc, piece, Role::Events, log, NEVER)?;
         check_entries(rt, &mut desk, LogReader::new(side), buf, found, end);
     }
     for (log, found, end) in LAST {
-        let mut desk = opened(alloc, piece, log, NEVER)?;
+        let mut desk = reading(alloc, piece, Role::Events, log, NEVER)?;
         check_entries(rt, &mut desk, last, buf, found, end);
     }
     Ok(())
@@ -266,7 +250,7 @@ fn check_failed(rt: &impl Abort, alloc: Global, buf: &mut [u8]) -> Result<(), Ou
     requires { 65535 ≤ length buf.old }
 {
     for (log, failing, found, end) in FAILED {
-        let mut desk = opened(alloc, 4096, log, failing)?;
+        let mut desk = reading(alloc, 4096, Role::Events, log, failing)?;
         check_entries(rt, &mut desk, LogReader::new(Side::Send), buf, found, end);
     }
     Ok(())
@@ -288,17 +272,6 @@ fn logs_and_their_faults(rt: HostRuntime) -> Result<(), Fail> {
     Ok(())
 }
 
-fn writing(alloc: Global, piece: usize, room: usize) -> Result<MemoryDesk, OutOfMemory>
-    requires { 0 < piece }
-    ensures { IfOk result (λ desk. (memory_outside desk).attached Wire ≡ true) }
-{
-    let mut desk = MemoryDesk::new(alloc, piece, room)?;
-    match desk.attach(Role::Wire, "wire") {
-        Ok(()) => Ok(desk),
-        Err(_) => Err(OutOfMemory),
-    }
-}
-
 // A long entry and a short one, written and read again.
 fn check_written(
     rt: &impl Abort,
@@ -311,13 +284,13 @@ fn check_written(
     requires size { length bytes.now ≤ 65535 }
     requires room { 65535 ≤ length buf.old }
 {
-    let mut wire = writing(alloc, piece, 70_000)?;
+    let mut wire = writing(alloc, piece, Role::Wire, 70_000)?;
     assert_eq!(rt; write_entry(&mut wire, b'K', bytes), Ok(()));
     assert_eq!(rt; write_entry(&mut wire, b'P', b""), Ok(()));
     let text = wire.text(Role::Wire);
     assert!(rt; text.starts_with(b"K\xFF\xFF\0\x01\x02"));
     assert!(rt; text.ends_with(b"P\0\0"));
-    let mut desk = opened(alloc, piece, text, NEVER)?;
+    let mut desk = reading(alloc, piece, Role::Events, text, NEVER)?;
     let packet: Found = (0, Entry::Packet { len: 65_535 }, b"\0\x01\x02");
     let play = Ok(Some((65_538, Entry::Play)));
     check_entries(
@@ -341,7 +314,7 @@ fn check_writing(rt: &impl Abort, alloc: Global) -> Result<(), OutOfMemory> {
     check_written(rt, alloc, 1, &bytes, &mut buf)?;
     check_written(rt, alloc, 4096, &bytes, &mut buf)?;
     // Without room for the last byte all the others are written.
-    let mut wire = writing(alloc, 4096, 5)?;
+    let mut wire = writing(alloc, 4096, Role::Wire, 5)?;
     assert!(rt; write_entry(&mut wire, b'B', b"abc").is_err());
     assert_eq!(rt; wire.text(Role::Wire), b"B\0\x03ab".as_slice());
     Ok(())

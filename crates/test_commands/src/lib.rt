@@ -12,8 +12,6 @@ mod demo_command_tests;
 #[cfg(test)]
 mod event_logs_tests;
 #[cfg(test)]
-mod failing_calls;
-#[cfg(test)]
 mod loss_trace_tests;
 #[cfg(test)]
 mod rate_command_tests;

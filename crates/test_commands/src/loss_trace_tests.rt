@@ -1,14 +1,14 @@
 //! Lines and traces that were written by hand. Where memory ran out in a test its steps are taken
 //! again, and are then to reach their end.
-ghost use Rattle.std.specs.Prelude.{◌≡◌, ◌<◌, true, IfOk};
-ghost use Rattle.h263_outside.specs.Memory.{memory_outside};
+ghost use Rattle.std.specs.Prelude.{◌≡◌, ◌<◌, true};
 ghost use Rattle.h263_outside.specs.declared.desk.Role.TheVariants.{Events};
 
-use h263_outside::{Desk, MemoryDesk, OutOfMemory, Role};
+use h263_outside::{Desk, OutOfMemory, Role};
 use loss_trace::{BadLine, Event, TraceReader, TraceStop, line};
 use std::alloc::Global;
 use std::process::Abort;
 use std::test::Fail;
+use test_fixtures::desks::{NEVER, reading};
 
 const SPELLED: [(&[u8], Event); 10] = [
     (b"", Event::Nothing),
@@ -92,27 +92,6 @@ fn lines_and_their_events(rt: HostRuntime) {
         assert_eq!(rt; line(bytes), Err(BadLine), "in {bytes:?}");
     }
 }
-
-// A desk with a trace, whose call of this number is to fail; attaching the trace is call 0.
-fn opened(
-    alloc: Global,
-    piece: usize,
-    trace: &[u8],
-    failing: u64,
-) -> Result<MemoryDesk, OutOfMemory>
-    requires { 0 < piece }
-    ensures { IfOk result (λ desk. (memory_outside desk).attached Events ≡ true) }
-{
-    let mut desk = MemoryDesk::new(alloc, piece, 0)?;
-    desk.put(Role::Events, trace)?;
-    desk.fail(failing)?;
-    match desk.attach(Role::Events, "trace") {
-        Ok(()) => Ok(desk),
-        Err(_) => Err(OutOfMemory),
-    }
-}
-
-const NEVER: u64 = u64::MAX;
 
 // What `next` answers: a line's number and its event, or none.
 type Answer = Result<Option<(u32, Event)>, TraceStop>;
@@ -212,13 +191,13 @@ fn check_events<D: Desk>(
     for (number, event) in (first..).zip(events) {
         assert_eq!(rt; reader.next(desk), Ok(Some((number, *event))));
     }
-    assert_eq!(rt; reader.next(desk), end, "behind {events:?}");
+    assert_eq!(rt; reader.next(desk), end, "after {events:?}");
 }
 
 fn check_traces(rt: &impl Abort, alloc: Global) -> Result<(), OutOfMemory> {
     for (trace, events, end) in TRACES {
         for piece in [1, 4096] {
-            let mut desk = opened(alloc, piece, trace, NEVER)?;
+            let mut desk = reading(alloc, piece, Role::Events, trace, NEVER)?;
             check_events(rt, &mut desk, TraceReader::new(), 1, events, end);
         }
     }
@@ -264,7 +243,7 @@ fn pass_lines<D: Desk>(rt: &impl Abort, desk: &mut D, reader: &mut TraceReader, 
 // The reader where one line may still come: it has read 16,777,215.
 fn before_the_last(rt: &impl Abort, alloc: Global) -> Result<TraceReader, OutOfMemory> {
     let lines = vec![in alloc; b'\n'; LINES]?;
-    let mut desk = opened(alloc, 4096, &lines, NEVER)?;
+    let mut desk = reading(alloc, 4096, Role::Events, &lines, NEVER)?;
     let mut reader = TraceReader::new();
     for _ in 0..255 {
         pass_lines(rt, &mut desk, &mut reader, LINES);
@@ -302,7 +281,7 @@ const LAST: [(&[u8], &[Event], Answer); 7] = [
 fn check_last_bytes(rt: &impl Abort, alloc: Global, last: TraceReader) -> Result<(), OutOfMemory> {
     for piece in [1, 4096] {
         let mut buf = [0; 64];
-        let mut desk = opened(alloc, piece, b"?\n?", NEVER)?;
+        let mut desk = reading(alloc, piece, Role::Events, b"?\n?", NEVER)?;
         let mut reader = last;
         assert_eq!(rt; reader.raw(&mut desk, &mut buf), Ok(Some((16_777_216, 1))));
         assert_eq!(rt;
@@ -317,16 +296,16 @@ fn check_ends(rt: &impl Abort, alloc: Global) -> Result<(), OutOfMemory> {
     let last = before_the_last(rt, alloc)?;
     for piece in [1, 4096] {
         for (trace, failing, events, end) in FAILED {
-            let mut desk = opened(alloc, piece, trace, failing)?;
+            let mut desk = reading(alloc, piece, Role::Events, trace, failing)?;
             check_events(rt, &mut desk, TraceReader::new(), 1, events, end);
         }
         for (trace, events, end) in LAST {
-            let mut desk = opened(alloc, piece, trace, NEVER)?;
+            let mut desk = reading(alloc, piece, Role::Events, trace, NEVER)?;
             check_events(rt, &mut desk, last, 16_777_216, events, end);
         }
     }
     // No byte of line 16,777,217 after the first is asked for.
-    let mut desk = opened(alloc, 1, b"S\nX", 4)?;
+    let mut desk = reading(alloc, 1, Role::Events, b"S\nX", 4)?;
     let many = Err(TraceStop::TooMany { line: 16_777_217 });
     check_events(rt, &mut desk, last, 16_777_216, &[Event::Send], many);
     check_last_bytes(rt, alloc, last)
@@ -346,9 +325,10 @@ const LINE_64: &[u8] = b"0123456789012345678901234567890123456789012345678901234
 fn check_bytes(rt: &impl Abort, alloc: Global, piece: usize) -> Result<(), OutOfMemory>
     requires { 0 < piece }
 {
-    let mut desk = opened(
+    let mut desk = reading(
         alloc,
         piece,
+        Role::Events,
         b"a S\n\nD 1.2\n0123456789012345678901234567890123456789012345678901234567890123\nP",
         NEVER,
     )?;
@@ -386,18 +366,18 @@ fn check_bad_bytes(rt: &impl Abort, alloc: Global, piece: usize) -> Result<(), O
         b"01234567890123456789012345678901234567890123456789012345678901234\nS".as_slice(),
         b"01234567890123456789012345678901234567890123456789012345678901234".as_slice(),
     ] {
-        let mut desk = opened(alloc, piece, long, NEVER)?;
+        let mut desk = reading(alloc, piece, Role::Events, long, NEVER)?;
         assert_eq!(rt;
             TraceReader::new().raw(&mut desk, &mut buf),
             Err(TraceStop::Bad { line: 1 })
         );
     }
-    let mut desk = opened(alloc, piece, LINE_64, NEVER)?;
+    let mut desk = reading(alloc, piece, Role::Events, LINE_64, NEVER)?;
     assert_eq!(rt;
         TraceReader::new().raw(&mut desk, &mut buf),
         Ok(Some((1, 64)))
     );
-    let mut desk = opened(alloc, piece, b"S", 2)?;
+    let mut desk = reading(alloc, piece, Role::Events, b"S", 2)?;
     assert_eq!(rt;
         TraceReader::new().raw(&mut desk, &mut buf),
         Err(TraceStop::Read)

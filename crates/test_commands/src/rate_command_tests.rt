@@ -1,16 +1,14 @@
-//! Runs of the meter over a desk in memory. Where memory ran out in a run it is taken again, and is
-//! then to reach its end.
-ghost use Rattle.std.specs.Prelude.{◌<◌, ◌≤◌};
-ghost use Rattle.h263_outside.specs.Desk.{NoneAttached};
+//! Runs of the meter over a desk in memory.
+ghost use Rattle.std.specs.Prelude.{◌<◌};
 
 use call_report::Status;
-use desk_program::{attach_all, perform};
 use event_logs::LogFault;
-use h263_outside::{Desk, MemoryDesk, OutOfMemory, Role};
+use h263_outside::{OutOfMemory, Role};
 use rate_command::{Bucket, Rate};
 use std::alloc::Global;
 use std::process::Abort;
 use std::test::Fail;
+use test_fixtures::desks::{Case, NEVER, NOTHING, Parts, run};
 
 // The heads of the entries of 342 and of 31 bytes, and of a play.
 const OF_342: &[u8] = b"K\x01\x56";
@@ -32,43 +30,21 @@ const REST_OF_342: &[u8] = &[0; 330];
 
 const REST_OF_31: &[u8] = &[0; 19];
 
-const TWO: &[&[u8]] = &[OF_342, FIRST, REST_OF_342, OF_31, SECOND, REST_OF_31];
+const TWO: Parts<'static> = &[OF_342, FIRST, REST_OF_342, OF_31, SECOND, REST_OF_31];
 
 const MEASURED: &[u8] = b"0 342 242\n1 31 173\npictures 2 greatest 242 over 1 refused 0\n";
 
 const FIRST_LINE: &[u8] = b"0 342 242\n";
 
 // The log, the call that fails, how the run ends, and what it writes on the report.
-type Case<'a> = (&'a [&'a [u8]], u64, Status, &'a [u8]);
+type Row<'a> = (Parts<'a>, u64, Status, &'a [u8]);
 
-const NONE: u64 = 1_000_000;
-
-fn joined(alloc: Global, parts: &[&[u8]]) -> Result<Vec<u8>, OutOfMemory> {
-    let mut bytes = Vec::new(alloc);
-    for part in parts {
-        bytes.extend_from_slice(part)?;
-    }
-    Ok(bytes)
-}
-
-// A run of `rate log` over a desk on which nothing is attached.
-fn measured<D: Desk>(alloc: Global, bucket: &Bucket, desk: &mut D) -> Status
-    requires detached { NoneAttached (D.outside desk.old).attached }
-    requires some { 1 ≤ bucket.now.target }
-    requires few { bucket.now.target ≤ 999999 }
-    requires bucket { bucket.now.bucket ≤ 999999 }
-{
-    if let Err(status) = attach_all(desk, &[(Role::Report, "")]) {
-        return status;
-    }
-    perform::<D, Rate>(alloc, bucket, &[(Role::Events, "log")], desk)
-}
-
-fn run_cases(
+// Runs of `rate log`.
+fn check_rates(
     rt: &impl Abort,
     alloc: Global,
     piece: usize,
-    cases: &[Case],
+    table: &[Row],
 ) -> Result<(), OutOfMemory>
     requires { 0 < piece }
 {
@@ -76,35 +52,19 @@ fn run_cases(
         target: 100,
         bucket: 200,
     };
-    for (log, failing, ends, report) in cases {
-        let mut desk = MemoryDesk::new(alloc, piece, 1_000)?;
-        let log = joined(alloc, log)?;
-        desk.put(Role::Events, &log)?;
-        desk.fail(*failing)?;
-        let status = measured(alloc, &bucket, &mut desk);
-        if status == Status::OutOfMemory {
-            return Err(OutOfMemory);
-        }
-        assert_eq!(rt; status, *ends, "where call {failing} fails");
-        assert_eq!(rt;
-            desk.text(Role::Report),
-            *report,
-            "where call {failing} fails"
-        );
-    }
-    Ok(())
-}
-
-fn run_twice(
-    rt: &impl Abort,
-    alloc: Global,
-    piece: usize,
-    cases: &[Case],
-) -> Result<(), OutOfMemory>
-    requires { 0 < piece }
-{
-    if let Err(OutOfMemory) = run_cases(rt, alloc, piece, cases) {
-        run_cases(rt, alloc, piece, cases)?;
+    let order = &[(Role::Events, "log")];
+    for (log, failing, ends, report) in table {
+        let case = Case {
+            video: NOTHING,
+            events: log,
+            failing: *failing,
+            ends: *ends,
+            pictures: NOTHING,
+            wire: NOTHING,
+            report: &[*report],
+        };
+        let found = run::<Rate>(alloc, &bucket, order, piece, &case)?;
+        assert_eq!(rt; found, None, "where call {failing} fails");
     }
     Ok(())
 }
@@ -118,8 +78,8 @@ fn bad(at: u64) -> Status {
 // The last picture's line is written at the log's end alone.
 #[test]
 fn two_flat_pictures_and_other_logs(rt: HostRuntime) -> Result<(), Fail> {
-    let cases: &[Case] = &[
-        (TWO, NONE, Status::Ok, MEASURED),
+    let table: &[Row] = &[
+        (TWO, NEVER, Status::Ok, MEASURED),
         (
             &[
                 PLAY,
@@ -132,43 +92,43 @@ fn two_flat_pictures_and_other_logs(rt: HostRuntime) -> Result<(), Fail> {
                 REST_OF_31,
                 PLAY,
             ],
-            NONE,
+            NEVER,
             Status::Ok,
             MEASURED,
         ),
         (
             &[],
-            NONE,
+            NEVER,
             Status::Ok,
             b"pictures 0 greatest 0 over 0 refused 0\n",
         ),
         (
             &[b"K\x00\x02\x80\xE0", OF_31, SECOND, REST_OF_31],
-            NONE,
+            NEVER,
             Status::Ok,
             b"0 31 0\npictures 1 greatest 0 over 0 refused 1\n",
         ),
         (
             &[OF_342, FIRST, REST_OF_342, OF_31, SECOND, REST_OF_31, b"K"],
-            NONE,
+            NEVER,
             bad(379),
             b"0 342 242\nlog refused: bad record at byte 379\n",
         ),
         (
             &[b"B\x00\x00"],
-            NONE,
+            NEVER,
             bad(0),
             b"log refused: bad record at byte 0\n",
         ),
     ];
-    run_twice(&rt, rt.alloc(), 1, cases)?;
-    run_twice(&rt, rt.alloc(), 4096, cases)?;
+    check_rates(&rt, rt.alloc(), 1, table)?;
+    check_rates(&rt, rt.alloc(), 4096, table)?;
     Ok(())
 }
 
 // Calls 0 and 1 attach the report and the log. With pieces of 4,096 bytes the parts of an entry are
 // read, and a line is written, by one call each.
-const FAILING: &[Case<'static>] = &[
+const FAILING: &[Row<'static>] = &[
     (TWO, 0, Status::OpenFault { role: Role::Report }, b""),
     (
         TWO,
@@ -188,6 +148,6 @@ const FAILING: &[Case<'static>] = &[
 
 #[test]
 fn each_failing_call(rt: HostRuntime) -> Result<(), Fail> {
-    run_twice(&rt, rt.alloc(), 4096, FAILING)?;
+    check_rates(&rt, rt.alloc(), 4096, FAILING)?;
     Ok(())
 }

@@ -1,50 +1,18 @@
 //! Heads, frames and texts against bytes that were written by hand or by ffmpeg. Where memory ran
 //! out in a test its steps are taken again, and are then to reach their end.
-ghost use Rattle.std.specs.Prelude.{◌≡◌, ◌<◌, true, length, IfOk};
+ghost use Rattle.std.specs.Prelude.{◌≡◌, ◌<◌, true, length};
 ghost use Rattle.h263_types.specs.Sizes.{size_of_picture};
-ghost use Rattle.h263_outside.specs.Memory.{memory_outside};
-ghost use Rattle.h263_outside.specs.declared.desk.Role.TheVariants.{Video, Pictures};
+ghost use Rattle.h263_outside.specs.declared.desk.Role.TheVariants.{Video};
 
-use h263_outside::{Desk, MemoryDesk, OutOfMemory, Role};
+use h263_outside::{Desk, OutOfMemory, Role};
 use h263_planes::PictureRef;
 use h263_types::{Format, Mark};
 use std::alloc::Global;
 use std::process::Abort;
 use std::test::Fail;
+use test_fixtures::desks::{HEAD, NEVER, reading, repeated, writing};
 use y4m::Y4mFault::{Colour, Interlaced, NotY4m, ShortFrame, Size, TooMany};
 use y4m::{MAX_FRAMES, VideoStop, Y4mFault, Y4mReader, write_frame, write_head};
-
-// Bytes one part after the other, each this many times.
-fn joined(alloc: Global, parts: &[(&[u8], usize)]) -> Result<Vec<u8>, OutOfMemory> {
-    let mut bytes = Vec::new(alloc);
-    for (part, times) in parts {
-        for _ in 0..*times {
-            bytes.extend_from_slice(part)?;
-        }
-    }
-    Ok(bytes)
-}
-
-// A desk with a video, whose call of this number is to fail; attaching the video is call 0.
-fn opened(
-    alloc: Global,
-    piece: usize,
-    video: &[u8],
-    failing: u64,
-) -> Result<MemoryDesk, OutOfMemory>
-    requires { 0 < piece }
-    ensures { IfOk result (λ desk. (memory_outside desk).attached Video ≡ true) }
-{
-    let mut desk = MemoryDesk::new(alloc, piece, 0)?;
-    desk.put(Role::Video, video)?;
-    desk.fail(failing)?;
-    match desk.attach(Role::Video, "in") {
-        Ok(()) => Ok(desk),
-        Err(_) => Err(OutOfMemory),
-    }
-}
-
-const NEVER: u64 = u64::MAX;
 
 // The format that the head gives, in pieces of this size.
 fn head_of(
@@ -54,7 +22,7 @@ fn head_of(
 ) -> Result<Result<Format, VideoStop>, OutOfMemory>
     requires { 0 < piece }
 {
-    let mut desk = opened(alloc, piece, video, NEVER)?;
+    let mut desk = reading(alloc, piece, Role::Video, video, NEVER)?;
     match Y4mReader::head(&mut desk) {
         Ok(reader) => Ok(Ok(reader.format())),
         Err(stop) => Ok(Err(stop)),
@@ -141,8 +109,6 @@ fn refused_heads(rt: HostRuntime) -> Result<(), Fail> {
     Ok(())
 }
 
-const HEAD: &[u8] = b"YUV4MPEG2 W128 H96\n";
-
 fn check_long_heads(rt: &impl Abort, alloc: Global) -> Result<(), OutOfMemory> {
     // After 20 bytes: this many bytes, and then these.
     let cases: [(usize, &[u8], Result<Format, Y4mFault>); 7] = [
@@ -156,7 +122,7 @@ fn check_long_heads(rt: &impl Abort, alloc: Global) -> Result<(), OutOfMemory> {
         (233, b" It\n", Err(NotY4m { at: 256 })),
     ];
     for (times, tail, wanted) in cases {
-        let video = joined(
+        let video = repeated(
             alloc,
             &[(b"YUV4MPEG2 W128 H96 X", 1), (b"x", times), (tail, 1)],
         )?;
@@ -205,7 +171,7 @@ fn frames_of(
 ) -> Result<(u32, Option<VideoStop>), OutOfMemory>
     requires { 0 < piece }
 {
-    let mut desk = opened(alloc, piece, video, failing)?;
+    let mut desk = reading(alloc, piece, Role::Video, video, failing)?;
     let reader = match Y4mReader::head(&mut desk) {
         Ok(reader) => reader,
         Err(stop) => return Ok((0, Some(stop))),
@@ -281,8 +247,8 @@ const FRAMES: [(&[(&[u8], usize)], u32, Option<Y4mFault>); 19] = [
 
 fn check_frames(rt: &impl Abort, alloc: Global) -> Result<(), OutOfMemory> {
     for (parts, count, fault) in FRAMES {
-        let body = joined(alloc, parts)?;
-        let video = joined(alloc, &[(HEAD, 1), (&body, 1)])?;
+        let body = repeated(alloc, parts)?;
+        let video = repeated(alloc, &[(HEAD, 1), (&body, 1)])?;
         let stop = fault.map(VideoStop::Refused);
         for piece in [1, 4096] {
             let (frames, ends) = frames_of(alloc, piece, &video, NEVER)?;
@@ -302,8 +268,8 @@ fn frames_and_their_faults(rt: HostRuntime) -> Result<(), Fail> {
 }
 
 fn check_last_frame(rt: &impl Abort, alloc: Global) -> Result<(), OutOfMemory> {
-    let frame = joined(alloc, &[(b"FRAME\n", 1), (b"7", 18_432)])?;
-    let mut desk = opened(alloc, 65_536, HEAD, NEVER)?;
+    let frame = repeated(alloc, &[(b"FRAME\n", 1), (b"7", 18_432)])?;
+    let mut desk = reading(alloc, 65_536, Role::Video, HEAD, NEVER)?;
     let Ok(mut reader) = Y4mReader::head(&mut desk) else {
         return Err(OutOfMemory);
     };
@@ -318,7 +284,7 @@ fn check_last_frame(rt: &impl Abort, alloc: Global) -> Result<(), OutOfMemory> {
     assert_eq!(rt; reader.frame(&mut desk, &mut out), many);
     assert_eq!(rt; out.as_slice(), &frame[6..]);
     // A read that fails, in the head and in the frame: the head is read byte by byte.
-    let one = joined(alloc, &[(HEAD, 1), (&frame, 1)])?;
+    let one = repeated(alloc, &[(HEAD, 1), (&frame, 1)])?;
     for (failing, frames) in [(1, 0), (19, 0), (20, 0), (25, 0), (26, 0), (31, 1)] {
         let (count, ends) = frames_of(alloc, 4096, &one, failing)?;
         assert_eq!(rt; count, frames);
@@ -333,17 +299,6 @@ fn the_last_frame_and_failed_reads(rt: HostRuntime) -> Result<(), Fail> {
         check_last_frame(&rt, rt.alloc())?;
     }
     Ok(())
-}
-
-fn writing(alloc: Global, piece: usize, room: usize) -> Result<MemoryDesk, OutOfMemory>
-    requires { 0 < piece }
-    ensures { IfOk result (λ desk. (memory_outside desk).attached Pictures ≡ true) }
-{
-    let mut desk = MemoryDesk::new(alloc, piece, room)?;
-    match desk.attach(Role::Pictures, "out") {
-        Ok(()) => Ok(desk),
-        Err(_) => Err(OutOfMemory),
-    }
 }
 
 fn check_texts(rt: &impl Abort, alloc: Global) -> Result<(), OutOfMemory> {
@@ -372,9 +327,9 @@ fn check_texts(rt: &impl Abort, alloc: Global) -> Result<(), OutOfMemory> {
         for (i, sample) in samples.iter_mut().enumerate() {
             *sample = (i % 251) as u8;
         }
-        let wanted = joined(alloc, &[(head, 1), (line, 1), (&samples, 1)])?;
+        let wanted = repeated(alloc, &[(head, 1), (line, 1), (&samples, 1)])?;
         for piece in [1, 4096] {
-            let mut desk = writing(alloc, piece, 160_000)?;
+            let mut desk = writing(alloc, piece, Role::Pictures, 160_000)?;
             assert_eq!(rt; write_head(&mut desk, format), Ok(()));
             assert_eq!(rt;
                 write_frame(&mut desk, mark, PictureRef::new(format, &samples)),
@@ -384,7 +339,7 @@ fn check_texts(rt: &impl Abort, alloc: Global) -> Result<(), OutOfMemory> {
         }
         // Without room for the last byte all the others are written.
         let cut = wanted.len().saturating_sub(1);
-        let mut desk = writing(alloc, 4096, cut)?;
+        let mut desk = writing(alloc, 4096, Role::Pictures, cut)?;
         assert_eq!(rt; write_head(&mut desk, format), Ok(()));
         assert!(rt; write_frame(&mut desk, mark, PictureRef::new(format, &samples)).is_err());
         assert_eq!(rt; desk.text(Role::Pictures), &wanted[..cut]);

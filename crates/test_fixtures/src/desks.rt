@@ -23,6 +23,10 @@ pub const EXACT: &[u8] = b"FRAME XEXACT\n";
 
 pub const HELD: &[u8] = b"FRAME XHELD\n";
 
+/// The report of words that are no command.
+pub const USAGE: &str = "usage: h263rps call IN OUT [--trace FILE] | send IN LOG WIRE | \
+     recv LOG OUT WIRE | demo SEED FRAMES\n";
+
 /// A number that no call of a desk has.
 pub const NEVER: u64 = u64::MAX;
 
@@ -103,6 +107,17 @@ pub struct Case<'a> {
     pub report: Parts<'a>,
 }
 
+/// A run that is given nothing, ends well and writes nothing.
+pub const BLANK: Case<'static> = Case {
+    video: NOTHING,
+    events: NOTHING,
+    failing: NEVER,
+    ends: Status::Ok,
+    pictures: NOTHING,
+    wire: NOTHING,
+    report: NOTHING,
+};
+
 /// What is not as it was wanted.
 #[derive(Clone, Copy, Debug, PartialEq, Eq)]
 pub enum Differs {
@@ -149,8 +164,8 @@ pub fn difference(
     Ok(None)
 }
 
-/// How a command ends over a desk on which nothing is attached: its report is attached first.
-pub fn performed<D: Desk, A: Acts>(
+// How a command ends over a desk on which nothing is attached: its report is attached first.
+fn performed<D: Desk, A: Acts>(
     alloc: Global,
     setup: &A::Setup,
     order: &[(Role, &str)],

@@ -1,27 +1,19 @@
-//! A test of recorded calls: what is reported and shown of calls that lose, delay, double and
-//! reorder packets and messages, up to the limits of what may be late.
+//! Worked calls: what is reported and shown of calls that lose, delay, double and reorder packets
+//! and messages, up to the limits of what may be late.
 //!
-//! A call `NAME` runs over the trace `NAME.trace`, and is to report `NAME.txt`, which ends with a
-//! line for the number that the process ends with. Its video is made here: flat pictures, or
-//! pictures of triangle waves that move. The pictures that are shown are compared where they are
-//! flat, or stored as `NAME.out.y4m`. The packets and plays of a call in CIF are stored as the log
-//! `NAME.log`, and a receiver over it is to show the same pictures. Where anything differs the
-//! program says where, and ends with status 1.
-#![tactic(auto)]
-
-mod compare;
-mod stop;
-mod video;
-
-use compare::{compare_call, compare_file, compare_log};
+//! A call `NAME` runs over the trace `NAME.trace`, and is to report `NAME.txt`. Its video is made
+//! here: flat pictures, or pictures of triangle waves that move. The pictures that are shown are
+//! compared where they are flat, or stored as `NAME.out.y4m`. The packets and plays of a call in
+//! CIF are stored as the log `NAME.log`, and a receiver over it is to show the same pictures.
+use crate::compare::{compare_call, compare_log, compare_shown};
+use crate::stop::Stop;
+use crate::told;
+use crate::video::{flat_video, made_video, shown_video};
 use h263_types::Format;
 use std::io;
-use std::process::ExitCode;
-use stop::Stop;
-use video::{flat_video, made_video, shown_video};
 
-// Calls of flat pictures in sub-QCIF: the name of their files, the options, the video as this many
-// pictures of one level each, and the pictures that are shown, this many with a mark and a level.
+// Calls of flat pictures in sub-QCIF: the name of their files, the options, the video as numbers of
+// pictures of one level, and the pictures that are shown, as numbers with a mark and a level.
 const FLAT: [(&str, &str, &[(u32, u8)], &[(u32, &str, u8)]); 11] = [
     // The last picture that is known to be there leaves the window.
     (
@@ -102,17 +94,6 @@ const FLAT: [(&str, &str, &[(u32, u8)], &[(u32, &str, u8)]); 11] = [
 // Calls of one flat picture in CIF, in two packets: one late, and both doubled in the other order.
 const CIF: [&str; 2] = ["one_late", "doubled"];
 
-// Prints what came out of a comparison. Whether it could be made, and nothing differs.
-fn told(rt: &HostRuntime, name: &str, compared: Result<bool, Stop>) -> io::Result<bool> {
-    match compared {
-        Ok(same) => Ok(same),
-        Err(stop) => {
-            println!(rt; "{name}: {stop}")?;
-            Ok(false)
-        }
-    }
-}
-
 fn flat_call(
     rt: &HostRuntime,
     name: &str,
@@ -128,7 +109,7 @@ fn flat_call(
 
 fn cif_call(rt: &HostRuntime, name: &str) -> Result<bool, Stop> {
     let video = flat_video(rt.alloc(), Format::Cif, &[(1, 100)])?;
-    let called = compare_file(rt, name, "", &video)?;
+    let called = compare_shown(rt, name, "", &video)?;
     let received = compare_log(rt, name, "--format cif")?;
     Ok(called && received)
 }
@@ -140,7 +121,8 @@ fn users_call(rt: &HostRuntime) -> Result<bool, Stop> {
     compare_call(rt, "users_call", "", &video, None)
 }
 
-fn report_calls(rt: &HostRuntime) -> io::Result<bool> {
+/// Compares each call.
+pub fn recorded_calls(rt: &HostRuntime) -> io::Result<bool> {
     let mut same = true;
     for (name, options, video, shown) in FLAT {
         let compared = flat_call(rt, name, options, video, shown);
@@ -156,11 +138,4 @@ fn report_calls(rt: &HostRuntime) -> io::Result<bool> {
     }
     let compared = users_call(rt);
     Ok(told(rt, "users_call", compared)? && same)
-}
-
-fn main(rt: HostRuntime) -> ExitCode {
-    match report_calls(&rt) {
-        Ok(true) => ExitCode::SUCCESS,
-        _ => ExitCode::FAILURE,
-    }
 }

@@ -1,24 +1,13 @@
-//! A test of both ends by calls that an independent program made, which works by the formulas of
-//! the formats.
+//! Calls that an independent program made, which works by the formulas of the formats.
 //!
 //! Of a call `NAME` there are the video `NAME.y4m` and the sender's log `NAME.send.log`, of which
 //! `send` is to make the packets `NAME.wire`; the receiver's log `NAME.recv.log`, of which `recv`
 //! is to make the pictures `NAME.out.y4m` and the messages `NAME.feedback.wire`; and the trace
 //! `NAME.trace`, over which `call` is to show the same pictures of that video. The reports are in
-//! `NAME.send.txt`, `NAME.recv.txt` and `NAME.call.txt`, each with a line for the number that the
-//! process ends with. Each command is run by its words over a desk in memory, and all that it
-//! writes is compared byte for byte. Where anything differs the program says where, and ends with
-//! status 1. Last it compares with a file of which one byte was turned, `turned.wire`, and must
-//! find that byte.
-#![tactic(auto)]
-
-mod command;
-mod compare;
-mod stop;
-
-use compare::compare_run;
+//! `NAME.send.txt`, `NAME.recv.txt` and `NAME.call.txt`.
+use crate::compare::compare_run;
+use crate::told;
 use std::io;
-use std::process::ExitCode;
 
 // The calls: the name of their files, and the options of `send`, of `recv` and of `call`.
 const CALLS: [(&str, &str, &str, &str); 7] = [
@@ -74,19 +63,8 @@ const CALLS: [(&str, &str, &str, &str); 7] = [
     ),
 ];
 
-// Compares a run and prints what came out. Whether it could be compared, and nothing differs.
-fn report_run(rt: &HostRuntime, report: &str, words: &str) -> io::Result<bool> {
-    match compare_run(rt, report, words) {
-        Ok(same) => Ok(same),
-        Err(stop) => {
-            println!(rt; "{report}: {stop}")?;
-            Ok(false)
-        }
-    }
-}
-
 // The three commands of a call.
-fn report_call(
+fn sent_call(
     rt: &HostRuntime,
     name: &str,
     sends: &str,
@@ -99,32 +77,38 @@ fn report_call(
         "recv {name}.recv.log {name}.out.y4m {name}.feedback.wire {receives}"
     )?;
     let call = format!(in alloc; "call {name}.y4m {name}.out.y4m --trace {name}.trace {calls}")?;
-    let sent = report_run(rt, &format!(in alloc; "{name}.send.txt")?, &send)?;
-    let received = report_run(rt, &format!(in alloc; "{name}.recv.txt")?, &recv)?;
-    let called = report_run(rt, &format!(in alloc; "{name}.call.txt")?, &call)?;
+    let sent = told(
+        rt,
+        name,
+        compare_run(rt, &format!(in alloc; "{name}.send.txt")?, &send),
+    )?;
+    let received = told(
+        rt,
+        name,
+        compare_run(rt, &format!(in alloc; "{name}.recv.txt")?, &recv),
+    )?;
+    let called = told(
+        rt,
+        name,
+        compare_run(rt, &format!(in alloc; "{name}.call.txt")?, &call),
+    )?;
     Ok(sent && received && called)
 }
 
 // The packets of a call, where one byte of the file that they are compared with was turned: the
 // comparison must find it.
-fn report_turned(rt: &HostRuntime) -> io::Result<bool> {
+fn turned_call(rt: &HostRuntime) -> io::Result<bool> {
     let words = "send grain.y4m grain.send.log turned.wire --quant 31 --keep 10";
-    Ok(!report_run(rt, "grain.send.txt", words)?)
+    Ok(!told(rt, "turned", compare_run(rt, "grain.send.txt", words))?)
 }
 
-fn report_calls(rt: &HostRuntime) -> io::Result<bool> {
+/// Compares each call.
+pub fn sent_calls(rt: &HostRuntime) -> io::Result<bool> {
     let mut same = true;
     for (name, sends, receives, calls) in CALLS {
-        if !report_call(rt, name, sends, receives, calls)? {
+        if !sent_call(rt, name, sends, receives, calls)? {
             same = false;
         }
     }
-    Ok(report_turned(rt)? && same)
-}
-
-fn main(rt: HostRuntime) -> ExitCode {
-    match report_calls(&rt) {
-        Ok(true) => ExitCode::SUCCESS,
-        _ => ExitCode::FAILURE,
-    }
+    Ok(turned_call(rt)? && same)
 }

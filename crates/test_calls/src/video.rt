@@ -4,8 +4,7 @@ use h263_planes::PictureMut;
 use h263_types::Format;
 use make_input::frame;
 use std::alloc::Global;
-
-const FRAME_LINE: &[u8] = b"FRAME\n";
+use test_fixtures::desks::{FRAME, HEAD, SHOWN_HEAD};
 
 // The head of a camera's video in QCIF, with tags that tell more than is asked for.
 const CAMERA_HEAD: &[u8] =
@@ -14,7 +13,7 @@ const CAMERA_HEAD: &[u8] =
 // The head of a video, as it is read.
 fn head_of(format: Format) -> &'static [u8] {
     match format {
-        Format::SubQcif => b"YUV4MPEG2 W128 H96\n",
+        Format::SubQcif => HEAD,
         Format::Qcif => b"YUV4MPEG2 W176 H144\n",
         Format::Cif => b"YUV4MPEG2 W352 H288\n",
     }
@@ -23,7 +22,7 @@ fn head_of(format: Format) -> &'static [u8] {
 // The head of the video that is shown.
 fn shown_head_of(format: Format) -> &'static [u8] {
     match format {
-        Format::SubQcif => b"YUV4MPEG2 W128 H96 F30000:1001 Ip C420jpeg\n",
+        Format::SubQcif => SHOWN_HEAD,
         Format::Qcif => b"YUV4MPEG2 W176 H144 F30000:1001 Ip C420jpeg\n",
         Format::Cif => b"YUV4MPEG2 W352 H288 F30000:1001 Ip C420jpeg\n",
     }
@@ -46,7 +45,7 @@ fn append_flat(
     Ok(())
 }
 
-/// A video of flat pictures: this many of each level.
+/// A video of flat pictures, a number of each level.
 pub fn flat_video(
     alloc: Global,
     format: Format,
@@ -54,12 +53,12 @@ pub fn flat_video(
 ) -> Result<Vec<u8>, OutOfMemory> {
     let mut video = head_of(format).to_vec(alloc)?;
     for (count, level) in levels {
-        append_flat(alloc, format, *count, FRAME_LINE, *level, &mut video)?;
+        append_flat(alloc, format, *count, FRAME, *level, &mut video)?;
     }
     Ok(video)
 }
 
-/// The video that is shown: this many flat pictures with each mark and level.
+/// The video that is shown: a number of flat pictures with each mark and level.
 pub fn shown_video(
     alloc: Global,
     format: Format,
@@ -85,7 +84,7 @@ fn made_picture(alloc: Global, seed: u32, number: u32) -> Result<Vec<u8>, OutOfM
 pub fn made_video(alloc: Global, seed: u32, frames: u32) -> Result<Vec<u8>, OutOfMemory> {
     let mut video = CAMERA_HEAD.to_vec(alloc)?;
     for number in 0..frames {
-        video.extend_from_slice(FRAME_LINE)?;
+        video.extend_from_slice(FRAME)?;
         video.extend_from_slice(&made_picture(alloc, seed, number)?)?;
     }
     Ok(video)

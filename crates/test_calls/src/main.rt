@@ -1,0 +1,45 @@
+//! A test of `send`, `recv` and `call`, by calls that an independent program made and by worked
+//! calls over traces.
+//!
+//! Each command is run by its words over a desk in memory, and all that it writes is compared byte
+//! for byte; the stored reports end with a line for the number that the process ends with. Where
+//! anything differs the program says where, and ends with status 1. One comparison is with a file
+//! of which one byte was turned, `turned.wire`, and must find that byte.
+#![tactic(auto)]
+
+mod command;
+mod compare;
+mod recorded;
+mod sent;
+mod stop;
+mod video;
+
+use recorded::recorded_calls;
+use sent::sent_calls;
+use std::io;
+use std::process::ExitCode;
+use stop::Stop;
+
+// Prints what came out of a comparison. Whether it could be made, and nothing differs.
+fn told(rt: &HostRuntime, name: &str, compared: Result<bool, Stop>) -> io::Result<bool> {
+    match compared {
+        Ok(same) => Ok(same),
+        Err(stop) => {
+            println!(rt; "{name}: {stop}")?;
+            Ok(false)
+        }
+    }
+}
+
+fn compare_calls(rt: &HostRuntime) -> io::Result<bool> {
+    let sent = sent_calls(rt)?;
+    let recorded = recorded_calls(rt)?;
+    Ok(sent && recorded)
+}
+
+fn main(rt: HostRuntime) -> ExitCode {
+    match compare_calls(&rt) {
+        Ok(true) => ExitCode::SUCCESS,
+        _ => ExitCode::FAILURE,
+    }
+}
