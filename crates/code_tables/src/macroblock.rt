@@ -65,17 +65,8 @@ fn read_inter_mcbpc(reader: &mut BitReader<'_>) -> Result<Mcbpc, Fault>
     Ok(symbol_at(&INTER_MCBPC_SYMBOLS, place))
 }
 
-#[tactic(auto, unfolding(crate::specs::Mcbpc::mcbpc, crate::specs::Mcbpc::mcbpc_table, h263_bits::specs::Syntax::reading))]
-fn mcbpc_at(reader: &mut BitReader<'_>, kind: Kind) -> Result<Mcbpc, Fault>
-    ensures { Gives (λ (m : Mcbpc). m) result reader.new (reading (mcbpc kind) reader.old) }
-{
-    match kind {
-        Kind::I => read_intra_mcbpc(reader),
-        Kind::P => read_inter_mcbpc(reader),
-    }
-}
-
 /// MCBPC of a kind of picture (H.263 5.3.2).
+#[tactic(auto, unfolding(crate::specs::Mcbpc::mcbpc, crate::specs::Mcbpc::mcbpc_table, h263_bits::specs::Syntax::reading))]
 pub fn read_mcbpc(reader: &mut BitReader<'_>, kind: Kind) -> Result<Mcbpc, Fault>
     // What is read is spelled by the bits that were taken.
     ensures found { IfOk result (λ m. Takes reader.old reader.new (Spells (mcbpc kind) m)) }
@@ -90,7 +81,10 @@ pub fn read_mcbpc(reader: &mut BitReader<'_>, kind: Kind) -> Result<Mcbpc, Fault
     // CBPC is below 4, and in an I picture the class is intra.
     ensures range { IfOk result (IsInTable kind) }
 {
-    mcbpc_at(reader, kind)
+    match kind {
+        Kind::I => read_intra_mcbpc(reader),
+        Kind::P => read_inter_mcbpc(reader),
+    }
 }
 
 fn read_step(reader: &mut BitReader<'_>) -> Result<i8, Fault>
@@ -100,15 +94,8 @@ fn read_step(reader: &mut BitReader<'_>) -> Result<i8, Fault>
     Ok(step_at(&STEP_SYMBOLS, place))
 }
 
-#[tactic(auto, unfolding(crate::specs::Mcbpc::dquant, crate::specs::Mcbpc::dquant_table, h263_bits::specs::Syntax::reading))]
-fn dquant_at(reader: &mut BitReader<'_>) -> Result<i8, Fault>
-    ensures reads { Gives (λ (s : ℤ). s) result reader.new (reading dquant reader.old) }
-    ensures ended { IfErr result (λ fault. fault.kind ≡ Ended) }
-{
-    read_step(reader)
-}
-
 /// DQUANT, the step of the quantiser (H.263 5.3.6): -2, -1, 1 or 2.
+#[tactic(auto, unfolding(crate::specs::Mcbpc::dquant, crate::specs::Mcbpc::dquant_table, h263_bits::specs::Syntax::reading))]
 pub fn read_dquant(reader: &mut BitReader<'_>) -> Result<i8, Fault>
     // What is read is spelled by the bits that were taken.
     ensures found { IfOk result (λ step. Takes reader.old reader.new (Spells dquant step)) }
@@ -123,7 +110,7 @@ pub fn read_dquant(reader: &mut BitReader<'_>) -> Result<i8, Fault>
     // Each pair of bits is a word, so there is no bad code.
     ensures ended { IfErr result (λ fault. fault.kind ≡ Ended) }
 {
-    dquant_at(reader)
+    read_step(reader)
 }
 
 // The place of a word of P pictures.

@@ -23,16 +23,9 @@ fn read_pattern(reader: &mut BitReader<'_>) -> Result<usize, Fault>
     read_code(reader, &CBPY, &CBPY_FAST)
 }
 
-#[tactic(auto, unfolding(crate::specs::Tables::cbpy, crate::specs::Tables::cbpy_table, h263_bits::specs::Syntax::reading))]
-fn cbpy_at(reader: &mut BitReader<'_>, intra: bool) -> Result<u8, Fault>
-    ensures { Gives (λ (i : ℕ). i) result reader.new (reading (cbpy intra) reader.old) }
-{
-    let pattern = read_pattern(reader)? as u8;
-    Ok(if intra { pattern } else { 15 - pattern })
-}
-
 /// CBPY, the pattern of the luminance blocks, 0 to 15 (H.263 5.3.5). An inter macroblock has the
 /// word of the complement.
+#[tactic(auto, unfolding(crate::specs::Tables::cbpy, crate::specs::Tables::cbpy_table, h263_bits::specs::Syntax::reading))]
 pub fn read_cbpy(reader: &mut BitReader<'_>, intra: bool) -> Result<u8, Fault>
     // What is read is spelled by the bits that were taken.
     ensures found { IfOk result (λ pattern.
@@ -47,7 +40,11 @@ pub fn read_cbpy(reader: &mut BitReader<'_>, intra: bool) -> Result<u8, Fault>
     ensures exact { Gives (λ (i : ℕ). i) result reader.new (reading (cbpy intra) reader.old) }
     ensures range { IfOk result (λ pattern. pattern < 16) }
 {
-    cbpy_at(reader, intra)
+    let place = read_pattern(reader)?;
+    if intra {
+        return Ok(place as u8);
+    }
+    Ok(15 - place as u8)
 }
 
 fn read_magnitude(reader: &mut BitReader<'_>) -> Result<usize, Fault>
@@ -163,18 +160,8 @@ fn escape_level(bits: u32) -> i8
     }
 }
 
-#[tactic(auto, unfolding(crate::specs::Tables::event, h263_bits::specs::Syntax::reading))]
-fn event_at(reader: &mut BitReader<'_>) -> Result<Coefficient, Fault>
-    ensures { Gives coefficient_of result reader.new (reading event reader.old) }
-{
-    let at = reader.at();
-    match read_event_parts(reader) {
-        Ok(event) => Ok(event),
-        Err(fault) => Err(fault.kind.at(at)),
-    }
-}
-
 /// An event of TCOEF: LAST, RUN and LEVEL, as a word with its sign or as an escape (H.263 5.4.2).
+#[tactic(auto, unfolding(crate::specs::Tables::event, h263_bits::specs::Syntax::reading))]
 pub fn read_event(reader: &mut BitReader<'_>) -> Result<Coefficient, Fault>
     // What is read is spelled by the bits that were taken.
     ensures found { IfOk result (λ e.
@@ -189,7 +176,11 @@ pub fn read_event(reader: &mut BitReader<'_>) -> Result<Coefficient, Fault>
         (d.at ≡ reader.old.at) × IsEventFault reader.old.bits d.kind) }
     ensures exact { Gives coefficient_of result reader.new (reading event reader.old) }
 {
-    event_at(reader)
+    let at = reader.at();
+    match read_event_parts(reader) {
+        Ok(event) => Ok(event),
+        Err(fault) => Err(fault.kind.at(at)),
+    }
 }
 
 fn write_pattern(writer: &mut BitWriter<'_>, pattern: usize)

@@ -1,18 +1,35 @@
-use Rattle.std.proofs.Common.{◌≡◌}
+use Rattle.std.proofs.Common.{◌≡◌, ◌++◌, Bool, List, Result, Ok, Err, rules}
+use Rattle.std.specs.Prelude.{IfOk, IfErr, IsOkAnd}
 use Rattle.h263_bits.specs.declared.fault.Fault.{Fault}
-use Rattle.h263_bits.proofs.SyntaxLaws.{reads_texts, texts_read, reads_err}
+use Rattle.h263_bits.specs.Reading.{Bits, Gives, Takes}
+use Rattle.h263_bits.specs.Syntax.{reading, Spells}
+use Rattle.code_tables.specs.declared.code.Coefficient.{Coefficient}
 use Rattle.code_tables.specs.Events.{coefficient_of}
 use Rattle.code_tables.specs.EventWords.{IsEventFault}
-use Rattle.code_tables.specs.Tables.{event}
+use Rattle.code_tables.specs.Tables.{event, Coefficient as Event}
 use Rattle.code_tables.proofs.EventWords.{event_fault}
 use Rattle.code_tables.proofs.Productive.{event_productive}
+use Rattle.h263_bits.proofs.SyntaxLaws.{reads_texts, texts_read, reads_err}
 use Rattle.code_tables.proofs.words.read_event.Goals as goal
 
-pub returns-clause-found : goal.returns-clause-found
-returns-clause-found c = reads_texts coefficient_of event c.event_at.result c.args.reader.now c.event_at.new.reader c.event_at.ensures
+-- what is said of each return
+every : (r : Result Coefficient Fault) (old new : Bits) → Gives coefficient_of r new (reading event old) → record {
+  found : IfOk r (λ e. Takes old new (Spells event (coefficient_of e)));
+  only : (e : Event) (text rest : List Bool) → Spells event e text → old.bits ≡ text ++ rest → IsOkAnd r (λ found. (coefficient_of found ≡ e) × (new.bits ≡ rest));
+  fault : IfErr r (λ d. (d.at ≡ old.at) × IsEventFault old.bits d.kind);
+  exact : Gives coefficient_of r new (reading event old);
+}
+every r old new e = record {
+  found = reads_texts coefficient_of event r old new e;
+  only = texts_read coefficient_of event r old new event_productive e;
+  fault = reads_err coefficient_of event r old new (λ (d : Fault). (d.at ≡ old.at) × IsEventFault old.bits d.kind) e (λ d f. event_fault old d f);
+  exact = e;
+}
 
-pub returns-clause-only : goal.returns-clause-only
-returns-clause-only c = texts_read coefficient_of event c.event_at.result c.args.reader.now c.event_at.new.reader event_productive c.event_at.ensures
+pub returns-in-Ok : goal.returns-in-Ok
+unfolding event reading
+returns-in-Ok c = every (Ok _) c.args.reader.now c.read_event_parts.new.reader (search rules)
 
-pub returns-clause-fault : goal.returns-clause-fault
-returns-clause-fault c = reads_err coefficient_of event c.event_at.result c.args.reader.now c.event_at.new.reader (λ (d : Fault). (d.at ≡ c.args.reader.now.at) × IsEventFault c.args.reader.now.bits d.kind) c.event_at.ensures (λ d e. event_fault c.args.reader.now d e)
+pub returns-in-Err : goal.returns-in-Err
+unfolding event reading
+returns-in-Err c = every (Err _) c.args.reader.now c.read_event_parts.new.reader (search rules)
