@@ -28,8 +28,8 @@ fn median_of(a: Vector, b: Vector, c: Vector) -> Vector
     ensures { result ≡ median_of a b c }
 {
     Vector {
-        x: median_across(a, b, c),
-        y: median_along(a, b, c),
+        x: median(a.x, b.x, c.x),
+        y: median(a.y, b.y, c.y),
     }
 }
 
@@ -39,22 +39,6 @@ fn median(a: i8, b: i8, c: i8) -> i8
     ensures high { result ≤ℤ pos 127 }
 {
     a.min(b).max(a.max(b).min(c))
-}
-
-fn median_across(a: Vector, b: Vector, c: Vector) -> i8
-    ensures median { result ≡ median a.x b.x c.x }
-    ensures low { negsuc 127 ≤ℤ result }
-    ensures high { result ≤ℤ pos 127 }
-{
-    median(a.x, b.x, c.x)
-}
-
-fn median_along(a: Vector, b: Vector, c: Vector) -> i8
-    ensures median { result ≡ median a.y b.y c.y }
-    ensures low { negsuc 127 ≤ℤ result }
-    ensures high { result ≤ℤ pos 127 }
-{
-    median(a.y, b.y, c.y)
 }
 
 fn left(vectors: &[Vector], first: u32, mb: u32, columns: u32) -> Vector

@@ -75,28 +75,21 @@ pub fn wrapped(sum: i16) -> i8
     ((sum + 32).rem_euclid(64) - 32) as i8
 }
 
-fn moved_across(predictor: Vector, difference: Vector) -> i8
-    ensures wrapped { result ≡ wrapped (predictor.x +ℤ difference.x) }
+// A component of a vector, by its difference to the predictor's.
+fn moved_by(predictor: i8, difference: i8) -> i8
+    ensures wrapped { result ≡ wrapped (predictor +ℤ difference) }
     ensures low { negsuc 31 ≤ℤ result }
     ensures high { result ≤ℤ pos 31 }
 {
-    wrapped(predictor.x as i16 + difference.x as i16)
-}
-
-fn moved_along(predictor: Vector, difference: Vector) -> i8
-    ensures wrapped { result ≡ wrapped (predictor.y +ℤ difference.y) }
-    ensures low { negsuc 31 ≤ℤ result }
-    ensures high { result ≤ℤ pos 31 }
-{
-    wrapped(predictor.y as i16 + difference.y as i16)
+    wrapped(predictor as i16 + difference as i16)
 }
 
 fn moved(predictor: Vector, difference: Vector) -> Vector
     ensures { result ≡ moved predictor difference }
 {
     Vector {
-        x: moved_across(predictor, difference),
-        y: moved_along(predictor, difference),
+        x: moved_by(predictor.x, difference.x),
+        y: moved_by(predictor.y, difference.y),
     }
 }
 
@@ -329,25 +322,10 @@ fn read_behind(
     }
 }
 
-#[tactic(auto, unfolding(crate::specs::Text::mb, h263_bits::specs::Syntax::reading))]
-fn mb_at(
-    reader: &mut BitReader<'_>,
-    kind: Kind,
-    quant: u8,
-    predictor: Vector,
-    reach: Reach,
-    out: &mut Mb,
-) -> Result<(), Fault>
-    ensures { Gives
-        (λ _. out.new) result reader.new (reading (mb kind quant reach predictor) reader.old) }
-{
-    let lead = read_lead(reader, kind)?;
-    read_behind(reader, quant, reach, predictor, lead, out)
-}
-
 /// Reads a macroblock of a picture of this kind (H.263, 5.3): `quant` is the quantiser before it, 1
 /// to 31; `predictor` predicts its vector, and `reach` says how far that may reach. After a fault
 /// `out` is left open.
+#[tactic(auto, unfolding(crate::specs::Text::mb, h263_bits::specs::Syntax::reading))]
 pub fn read_mb(
     reader: &mut BitReader<'_>,
     kind: Kind,
@@ -371,5 +349,6 @@ pub fn read_mb(
 {
     block_layer::laws::in_a_syntax();
     laws::in_a_syntax();
-    mb_at(reader, kind, quant, predictor, reach, out)
+    let lead = read_lead(reader, kind)?;
+    read_behind(reader, quant, reach, predictor, lead, out)
 }
