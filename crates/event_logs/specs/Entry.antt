@@ -3,14 +3,15 @@ use Rattle.std.specs.Prelude.{ℕ, ◌+◌, ◌==◌, nat_lt, Bool, List, [], �
 use Rattle.std.specs.List.{list_any}
 use Rattle.byteorder.specs.Endian.{big_number}
 use Rattle.event_logs.specs.declared.entry.Side.{Side}
-use Rattle.event_logs.specs.declared.entry.Side.TheVariants.{Send, Recv}
+use Rattle.event_logs.specs.declared.entry.Side.TheVariants.{Send, Recv, Audit}
 use Rattle.event_logs.specs.declared.entry.Entry.{Entry}
 use Rattle.event_logs.specs.declared.entry.Entry.TheVariants.{Capture, Back, Packet, Play}
 
--- the letters of the entries that the log of a side has: S and B, K and P
+-- the letters of the entries that the log of a side has: S and B, K and P, K and B
 abbrev pub letters_of : Side → List ℕ
 letters_of Send = 83 ∷ 66 ∷ []
 letters_of Recv = 75 ∷ 80 ∷ []
+letters_of Audit = 75 ∷ 66 ∷ []
 
 abbrev pub has_letter : Side → ℕ → Bool
 has_letter side letter = list_any (λ l. l == letter) (letters_of side)

@@ -11,6 +11,8 @@ pub enum Side {
     Send,
     /// Of a receiver: the packets that arrived, and plays.
     Recv,
+    /// Of a stream: the packets that were sent, and the messages that had arrived.
+    Audit,
 }
 
 /// What one entry says, with the number of its bytes.
@@ -36,6 +38,7 @@ fn letters_of(side: Side) -> &'static [u8]
     match side {
         Side::Send => b"SB",
         Side::Recv => b"KP",
+        Side::Audit => b"KB",
     }
 }
 

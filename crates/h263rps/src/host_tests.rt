@@ -54,6 +54,16 @@ fn files_of_the_host(rt: HostRuntime) -> Result<(), Fail> {
     let mut desk = HostDesk::new(rt.clone()?);
     assert!(rt; holds(&mut desk, "out.y4m", &[SHOWN_HEAD, EXACT, PICTURE])?);
     let mut desk = HostDesk::new(rt.clone()?);
+    let onto_itself = Status::OpenFault {
+        role: Role::Pictures,
+    };
+    assert_eq!(rt;
+        run(rt.alloc(), &["call", "in.y4m", "./in.y4m"], &mut desk),
+        onto_itself
+    );
+    let mut desk = HostDesk::new(rt.clone()?);
+    assert!(rt; holds(&mut desk, "in.y4m", &[HEAD_LINE, FRAME_LINE, PICTURE])?);
+    let mut desk = HostDesk::new(rt.clone()?);
     let missing = Status::OpenFault { role: Role::Video };
     assert_eq!(rt;
         run(rt.alloc(), &["call", "missing.y4m", "out.y4m"], &mut desk),

@@ -21,7 +21,7 @@ const CAPTURE_0: Found = (0, Entry::Capture, b"");
 const PLAY_0: Found = (0, Entry::Play, b"");
 
 // Whose log, its bytes, the entries and what comes then.
-const LOGS: [(Side, &[u8], &[Found], Answer); 24] = [
+const LOGS: [(Side, &[u8], &[Found], Answer); 28] = [
     (Side::Send, b"", &[], Ok(None)),
     (Side::Recv, b"", &[], Ok(None)),
     (Side::Send, b"S\0\0", &[CAPTURE_0], Ok(None)),
@@ -43,6 +43,16 @@ const LOGS: [(Side, &[u8], &[Found], Answer); 24] = [
             (0, Entry::Packet { len: 2 }, b"ab"),
             (5, Entry::Packet { len: 0 }, b""),
             (8, Entry::Play, b""),
+        ],
+        Ok(None),
+    ),
+    (
+        Side::Audit,
+        b"K\0\x02abB\0\x03\xC0\x04\0K\0\0",
+        &[
+            (0, Entry::Packet { len: 2 }, b"ab"),
+            (5, Entry::Back { len: 3 }, b"\xC0\x04\0"),
+            (11, Entry::Packet { len: 0 }, b""),
         ],
         Ok(None),
     ),
@@ -104,6 +114,24 @@ const LOGS: [(Side, &[u8], &[Found], Answer); 24] = [
     (Side::Send, b"P\0\0", &[], Err(LogStop::BadRecord { at: 0 })),
     (Side::Recv, b"S\0\0", &[], Err(LogStop::BadRecord { at: 0 })),
     (Side::Recv, b"B\0\0", &[], Err(LogStop::BadRecord { at: 0 })),
+    (
+        Side::Audit,
+        b"S\0\0",
+        &[],
+        Err(LogStop::BadRecord { at: 0 }),
+    ),
+    (
+        Side::Audit,
+        b"P\0\0",
+        &[],
+        Err(LogStop::BadRecord { at: 0 }),
+    ),
+    (
+        Side::Audit,
+        b"B\0\x01aK\0",
+        &[(0, Entry::Back { len: 1 }, b"a")],
+        Err(LogStop::BadRecord { at: 4 }),
+    ),
     (Side::Send, b"s\0\0", &[], Err(LogStop::BadRecord { at: 0 })),
     (
         Side::Recv,

@@ -13,7 +13,7 @@ use std::process::Abort;
 use std::test::Fail;
 
 // Memory ran out, or an attach failed, which it does again when the steps are taken again.
-#[derive(Debug)]
+#[derive(Clone, Copy, Debug)]
 struct Stopped;
 
 impl From<OutOfMemory> for Stopped {
