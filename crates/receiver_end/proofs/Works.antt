@@ -1,5 +1,5 @@
 -- A store after a work picture was written.
-use Rattle.std.proofs.Common.{◌≡◌, ℕ, ◌+◌, ◌<◌, List, [], length, set, refl, ap, sym, ◌∙◌, subst, arith, length-set, Some, Bool}
+use Rattle.std.proofs.Common.{◌≡◌, ℕ, ◌+◌, ◌<◌, List, [], length, set, refl, ap, sym, ◌∙◌, subst, arith, length-set, Option, Bool}
 use Rattle.std.proofs.lemmas.Bool.{eq-eqb}
 use Rattle.std.proofs.lemmas.List.{get_or-set_same, get_or-set_other}
 use Rattle.h263_types.specs.Sizes.{size_of_picture}
@@ -8,7 +8,7 @@ use Rattle.h263_types.specs.declared.blocks.Mb.{Mb}
 use Rattle.h263_planes.specs.Layout.{picture_of}
 use Rattle.h263_planes.specs.Picture.{Picture}
 use Rattle.packet_collector.specs.declared.piece.Piece.{Piece}
-use Rattle.picture_store.specs.Pictures.{Pictures, slots_of, slot_of, works_of, work_in, picture_in, with_work}
+use Rattle.picture_store.specs.Pictures.{Pictures, slots_of, works_of, work_in, with_work}
 use Rattle.receiver_end.specs.Steps.{IsSameBut, SetsSlice, Patches}
 
 abbrev with_bytes : Pictures → ℕ → List ℕ → Pictures
@@ -32,16 +32,16 @@ module _ (f : Format) (s : Pictures) (bytes : List ℕ) (w : ℕ) (same : f ≡ 
   pub new_is : picture_of f bytes ≡ work_in (with_work s w bytes) w
   new_is = ap (λ (k : Format). picture_of k bytes) same ∙ sym (work_is s w bytes inside (long ∙ ap size_of_picture same))
 
-  pub sets_kept : (mbs : List Mb) (piece : Piece) (reference before : List ℕ) (m : ℕ)
-      → picture_of s.format reference ≡ picture_in s (slot_of s m) → picture_of s.format before ≡ work_in s w
-      → SetsSlice f mbs piece (Some (picture_of f reference)) (picture_of f before) (picture_of f bytes)
-      → SetsSlice f mbs piece (Some (picture_in s (slot_of s m))) (work_in s w) (work_in (with_work s w bytes) w)
-  sets_kept mbs piece reference before m seen old sets =
+  -- a slice drawn into the bytes that a work picture is given is drawn into that picture
+  pub sets_kept : (mbs : List Mb) (piece : Piece) (reference kept : Option Picture) (before : List ℕ)
+      → reference ≡ kept → picture_of s.format before ≡ work_in s w
+      → SetsSlice f mbs piece reference (picture_of f before) (picture_of f bytes)
+      → SetsSlice f mbs piece kept (work_in s w) (work_in (with_work s w bytes) w)
+  sets_kept mbs piece reference kept before seen old sets =
       let e : picture_of f before ≡ work_in s w = ap (λ (k : Format). picture_of k before) same ∙ old in
-      let r : picture_of f reference ≡ picture_in s (slot_of s m) = ap (λ (k : Format). picture_of k reference) same ∙ seen in
-      subst (λ (p : Picture). SetsSlice f mbs piece (Some (picture_in s (slot_of s m))) (work_in s w) p) new_is
-      (subst (λ (p : Picture). SetsSlice f mbs piece (Some (picture_in s (slot_of s m))) p (picture_of f bytes)) e
-      (subst (λ (p : Picture). SetsSlice f mbs piece (Some p) (picture_of f before) (picture_of f bytes)) r sets))
+      subst (λ (p : Picture). SetsSlice f mbs piece kept (work_in s w) p) new_is
+      (subst (λ (p : Picture). SetsSlice f mbs piece kept p (picture_of f bytes)) e
+      (subst (λ (r : Option Picture). SetsSlice f mbs piece r (picture_of f before) (picture_of f bytes)) seen sets))
 
   -- a patch of the bytes that a work picture is given is a patch of that picture
   pub patched_kept : (test : ℕ → Bool) (screen before : List ℕ) (q : Picture) → picture_of s.format screen ≡ q → picture_of s.format before ≡ work_in s w

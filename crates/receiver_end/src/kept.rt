@@ -25,14 +25,17 @@ fn is_there(store: &PictureStore, number: u32) -> bool
 
 impl Kept {
     ghost use Rattle.h263_planes.specs.Lent.{picture};
+    ghost use Rattle.h263_planes.specs.Samples.{IsPicture};
     ghost use Rattle.picture_store.specs.Pictures.{slots_of};
     ghost use Rattle.receiver_end.specs.State.{Fits, holds, screen_in};
 
     /// The picture on the screen.
     pub fn screen(&self) -> PictureRef<'_>
         requires { Fits self.now }
-        ensures { picture result
+        ensures picture { picture result
             ≡ screen_in self.now.params self.now.store self.now.exact self.now.played }
+        ensures format { (picture result).format ≡ self.now.params.format }
+        ensures whole { IsPicture (picture result) }
     {
         if self.exact {
             if let Some(picture) = self.store.view(self.played - 1) {

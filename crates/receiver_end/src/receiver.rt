@@ -37,6 +37,7 @@ impl Model for Receiver {
 
 impl Receiver {
     ghost use Rattle.h263_planes.specs.Lent.{picture};
+    ghost use Rattle.h263_planes.specs.Samples.{IsPicture};
     ghost use Rattle.call_model.specs.Receiving.{ReceiverEntry, Packet, PlayNext};
     ghost use Rattle.receiver_end.specs.Answers.{IsHeard, IsPlayed, takes};
     ghost use Rattle.receiver_end.specs.State.{Stands, answer_after, mark_after, message_after};
@@ -95,8 +96,10 @@ impl Receiver {
 
     /// The picture on the screen: the one played last, and before the first all samples are 128.
     pub fn shown(&self) -> PictureRef<'_>
-        ensures { (past : List ReceiverEntry) → Stands self.now past → picture result
+        ensures run { (past : List ReceiverEntry) → Stands self.now past → picture result
             ≡ (run_of self.now.params past).screen }
+        ensures format { (picture result).format ≡ self.now.params.format }
+        ensures whole { IsPicture (picture result) }
     {
         self.kept.screen()
     }

@@ -1,11 +1,11 @@
 //! A picture coded into a store, from the kept picture that it refers to.
-ghost use Rattle.std.specs.Prelude.{◌≡◌, ◌+◌, ◌%◌, ◌<◌, ◌≤◌, All, Option, Some, None, length};
+ghost use Rattle.std.specs.Prelude.{◌≡◌, ◌+◌, ◌%◌, ◌<◌, ◌≤◌, All, length};
 ghost use Rattle.std.specs.Option.{option_map};
 ghost use Rattle.h263_types.specs.Params.{IsParams};
 ghost use Rattle.h263_types.specs.Sizes.{size_of_picture};
 ghost use Rattle.h263_planes.specs.Layout.{picture_of};
 ghost use Rattle.h263_planes.specs.Lent.{picture};
-ghost use Rattle.h263_types.specs.declared.Kind.TheVariants.{I, P};
+ghost use Rattle.h263_planes.specs.References.{HasReferenceOnlyInP};
 ghost use Rattle.picture_header.specs.Ranges.{IsHeader};
 ghost use Rattle.mode_choice.specs.Choice.{choices_of};
 ghost use Rattle.picture_recon.specs.Samples.{reconstruction};
@@ -22,10 +22,11 @@ use picture_coder::code_picture;
 use picture_header::Header;
 use picture_store::PictureStore;
 
-// Codes an I picture into bytes.
-fn code_intra(
+// Codes a picture into bytes, from its reference if it has one.
+fn code_into(
     params: &Params,
     frame: PictureRef<'_>,
+    reference: Option<PictureRef<'_>>,
     number: u32,
     header: &Header,
     cutter: &mut Cutter,
@@ -34,69 +35,27 @@ fn code_intra(
     requires header { IsHeader header.now }
     requires params { IsParams params.now }
     requires header_format { header.now.format ≡ params.now.format }
-    requires kind { header.now.kind ≡ I }
     requires frame_format { (picture frame).format ≡ params.now.format }
+    requires reference { HasReferenceOnlyInP header.now.kind params.now.format
+        (option_map picture reference) }
     requires cutter_format { format_of cutter.old ≡ params.now.format }
     requires cutter_limit { limit_of cutter.old ≡ params.now.limit }
     requires size { length bytes.old ≡ size_of_picture params.now.format }
     ensures packets { ArePacketsOf number (sequence_of cutter.old) header.now params.now.limit
-        (choices_of (picture frame.entry) None header.now params.now) (packets_of cutter.new) }
-    ensures sequence { sequence_of cutter.new
-        ≡ (sequence_of cutter.old + length (packets_of cutter.new)) % 65536 }
-    ensures cutter_format { format_of cutter.new ≡ params.now.format }
-    ensures cutter_limit { limit_of cutter.new ≡ params.now.limit }
-    ensures reconstruction { picture_of params.now.format bytes.new
-        ≡ reconstruction params.now.format header.now.rounding None
-        (choices_of (picture frame.entry) None header.now params.now) }
-{
-    let mut work = PictureMut::new(params.format, bytes);
-    code_picture(frame, None, number, header, params, cutter, &mut work);
-}
-
-// Codes a P picture into bytes, with the picture in other bytes as its reference.
-fn code_predicted(
-    params: &Params,
-    frame: PictureRef<'_>,
-    reference: &[u8],
-    number: u32,
-    header: &Header,
-    cutter: &mut Cutter,
-    bytes: &mut [u8],
-)
-    requires header { IsHeader header.now }
-    requires params { IsParams params.now }
-    requires header_format { header.now.format ≡ params.now.format }
-    requires kind { header.now.kind ≡ P }
-    requires frame_format { (picture frame).format ≡ params.now.format }
-    requires cutter_format { format_of cutter.old ≡ params.now.format }
-    requires cutter_limit { limit_of cutter.old ≡ params.now.limit }
-    requires reference_size { length reference.now ≡ size_of_picture params.now.format }
-    requires size { length bytes.old ≡ size_of_picture params.now.format }
-    ensures packets { ArePacketsOf number (sequence_of cutter.old) header.now params.now.limit
-        (choices_of (picture frame.entry)
-        (Some (picture_of params.now.format reference.now)) header.now params.now)
-        (packets_of cutter.new) }
+        (choices_of (picture frame.entry) (option_map picture reference.entry) header.now
+        params.now) (packets_of cutter.new) }
     ensures sequence { sequence_of cutter.new
         ≡ (sequence_of cutter.old + length (packets_of cutter.new)) % 65536 }
     ensures cutter_format { format_of cutter.new ≡ params.now.format }
     ensures cutter_limit { limit_of cutter.new ≡ params.now.limit }
     ensures reconstruction { picture_of params.now.format bytes.new
         ≡ reconstruction params.now.format header.now.rounding
-        (Some (picture_of params.now.format reference.now))
-        (choices_of (picture frame.entry)
-        (Some (picture_of params.now.format reference.now)) header.now params.now) }
+        (option_map picture reference.entry)
+        (choices_of (picture frame.entry) (option_map picture reference.entry) header.now
+        params.now) }
 {
-    let reference = PictureRef::new(params.format, reference);
     let mut work = PictureMut::new(params.format, bytes);
-    code_picture(
-        frame,
-        Some(reference),
-        number,
-        header,
-        params,
-        cutter,
-        &mut work,
-    );
+    code_picture(frame, reference, number, header, params, cutter, &mut work);
 }
 
 /// Codes a picture into work picture 0 of a store. A P picture refers to the kept picture of this
@@ -132,10 +91,11 @@ pub fn code_in_store(
         (kept_picture store.old reference) header.now params.now)) }
 {
     match reference {
-        None => code_intra(params, frame, number, header, cutter, store.work(0)),
+        None => code_into(params, frame, None, number, header, cutter, store.work(0)),
         Some(m) => {
             let (reference, work) = store.pair(m, 0);
-            code_predicted(params, frame, reference, number, header, cutter, work);
+            let reference = PictureRef::new(params.format, reference);
+            code_into(params, frame, Some(reference), number, header, cutter, work);
         }
     }
 }

@@ -102,7 +102,7 @@ returns-in_err-show-clause-gives g c = λ s inputs k told.
     let receiver = c.pass-passed.new.receiver in
     let carrier : Carrier = record c.args.carrier.now { frame = with_items c.args.carrier.now.frame out; tally = c.count.new.self } in
     let passes = passed_so x s out coded mark sender receiver (λ _. c.args.sender.now.pace.quant) (picture c.new-frame.result) (λ i _. c.requires.ready.quant_is i) picture_is (λ all. c.pass-passed.ensures.passed terms.params all s.before s.past) in
-    let row = row_is x runs s inputs k c.requires.plain level out coded mark sender receiver passes (picture c.shown.result) c.shown.ensures in
+    let row = row_is x runs s inputs k c.requires.plain level out coded mark sender receiver passes (picture c.shown.result) c.shown.ensures.run in
     let status = c.in_err-show.field-0.0 in
     let after = PartsStand (parts_of terms c.frame.new.self sender receiver carrier) in
     plainly x s inputs k.is c.requires.plain (λ (step : Step CallState) (now : Bool). TurnGives c.from_residual-in_err-show.result step after may_read now inputs (outside c.args.desk.now) (outside c.show.new.desk))
@@ -136,7 +136,7 @@ returns-clause-gives g c = λ s inputs k told.
     let receiver = c.pass-passed.new.receiver in
     let carrier : Carrier = record c.args.carrier.now { frame = with_items c.args.carrier.now.frame out; tally = c.count.new.self } in
     let passes = passed_so x s out coded mark sender receiver (λ _. c.args.sender.now.pace.quant) (picture c.new-frame.result) (λ i _. c.requires.ready.quant_is i) picture_is (λ all. c.pass-passed.ensures.passed terms.params all s.before s.past) in
-    let row = row_is x runs s inputs k c.requires.plain level out coded mark sender receiver passes (picture c.shown.result) c.shown.ensures in
+    let row = row_is x runs s inputs k c.requires.plain level out coded mark sender receiver passes (picture c.shown.result) c.shown.ensures.run in
     plainly x s inputs k.is c.requires.plain (λ (step : Step CallState) (now : Bool). Went step (PartsStand (parts_of terms c.frame.new.self sender receiver carrier)) may_read now inputs (outside c.args.desk.now) (outside c.show.new.desk))
     (frame_goes c.turn_laws.ensures c.of_the_video.ensures inputs (outside c.args.desk.now) (outside c.frame.new.desk) told c.frame.ensures.others c.frame.ensures.rest.written (outside c.show.new.desk) c.show.ensures.rest.left here (c.requires.ready.unread c.requires.plain) out c.frame.new.self e _ row (PartsStand (parts_of terms c.frame.new.self sender receiver carrier))
     (stands_behind x runs s inputs k c.requires.plain level out coded mark sender receiver passes c.frame.new.self carrier c.count.ensures.value refl c.pass-passed.ensures.sent (frame_size terms.params.format (inputs Video)) (behind inputs (of Video (frame_size terms.params.format (inputs Video)))) e.2 moves.1 refl)

@@ -40,7 +40,7 @@ returns-in_err-show-in-Ok-clause-gives g c = λ before s inputs k number taken.
     let ahead : x.receiver.played < x.sender.sent = omega (arith, c.in-Ok.ensures.played, c.in-Ok.ensures.behind) in
     let texts = row_texts c.played-number.result c.in-Ok.mark c.reference_of_next-reference.result (picture c.shown.result) in
     let texts_are = row_played x s inputs k (c.ends_run.ensures t.params) receiver carrier done.1 c.played-number.result c.played-number.ensures.count c.in-Ok.mark (c.in-Ok.ensures.mark s.before s.frames s.past h)
-    c.reference_of_next-reference.result (c.reference_of_next-reference.ensures s.before s.frames s.past k.begun h ahead) (picture c.shown.result) c.shown.ensures
+    c.reference_of_next-reference.result (c.reference_of_next-reference.ensures s.before s.frames s.past k.begun h ahead) (picture c.shown.result) c.shown.ensures.run
     in
     let status = c.in_err-show-in-Ok.field-0.0 in
     let stands = PartsStand (parts_of t c.args.video.now x.sender receiver carrier) in
@@ -62,7 +62,7 @@ returns-in_ok-show-in-Ok-clause-gives g c = λ before s inputs k number taken.
     let ahead : x.receiver.played < x.sender.sent = omega (arith, c.in-Ok.ensures.played, c.in-Ok.ensures.behind) in
     let texts = row_texts c.played-number.result c.in-Ok.mark c.reference_of_next-reference.result (picture c.shown.result) in
     let texts_are = row_played x s inputs k (c.ends_run.ensures t.params) receiver carrier done.1 c.played-number.result c.played-number.ensures.count c.in-Ok.mark (c.in-Ok.ensures.mark s.before s.frames s.past h)
-    c.reference_of_next-reference.result (c.reference_of_next-reference.ensures s.before s.frames s.past k.begun h ahead) (picture c.shown.result) c.shown.ensures
+    c.reference_of_next-reference.result (c.reference_of_next-reference.ensures s.before s.frames s.past k.begun h ahead) (picture c.shown.result) c.shown.ensures.run
     in
     let stands = PartsStand (parts_of t c.args.video.now x.sender receiver carrier) in
     play_goes x s inputs k before old new taken c.show.ensures.rest.left done.0 texts texts_are stands

@@ -16,11 +16,11 @@ returns-in-None-clause-store c =
     let p = c.args.params.now in
     let h = c.args.header.now in
     let frame = picture c.args.frame in
-    let bytes = c.code_intra.new.bytes in
+    let bytes = c.code_into.new.bytes in
     let long : length bytes ≡ size_of_picture store.format = search rules in
     let shown : Option Picture → Picture = λ reference. reconstruction p.format h.rounding reference (choices_of frame reference h p) in
     coded_into store bytes (shown (kept_picture store c.args.reference)) long c.requires.work
-    (ap (λ (f : Format). picture_of f bytes) c.requires.store_format ∙ c.code_intra.ensures.reconstruction
+    (ap (λ (f : Format). picture_of f bytes) c.requires.store_format ∙ c.code_into.ensures.reconstruction
     ∙ ap (λ (r : Option ℕ). shown (kept_picture store r)) (sym c.in-None.is))
 
 pub returns-in-Some-clause-store : goal.returns-in-Some-clause-store
@@ -29,12 +29,13 @@ returns-in-Some-clause-store c =
     let p = c.args.params.now in
     let h = c.args.header.now in
     let frame = picture c.args.frame in
-    let bytes = c.code_predicted.new.bytes in
+    let bytes = c.code_into-in-Some.new.bytes in
     let long : length bytes ≡ size_of_picture store.format = search rules in
     let shown : Option Picture → Picture = λ reference. reconstruction p.format h.rounding reference (choices_of frame reference h p) in
     let lent = c.pair-work.result.0.now in
-    let kept : picture_of p.format lent ≡ _ = ap (λ (f : Format). picture_of f lent) (sym c.requires.store_format) ∙ c.pair-work.ensures.reference in
+    let kept : picture c.new-reference.result ≡ _ = c.new-reference.ensures.picture
+    ∙ ap (λ (f : Format). picture_of f lent) (sym c.requires.store_format) ∙ c.pair-work.ensures.reference in
     coded_into store bytes (shown (kept_picture store c.args.reference)) long c.requires.work
-    (ap (λ (f : Format). picture_of f bytes) c.requires.store_format ∙ c.code_predicted.ensures.reconstruction
+    (ap (λ (f : Format). picture_of f bytes) c.requires.store_format ∙ c.code_into-in-Some.ensures.reconstruction
     ∙ ap (λ (q : Picture). shown (Some q)) kept
     ∙ ap (λ (r : Option ℕ). shown (kept_picture store r)) (sym c.in-Some.is))

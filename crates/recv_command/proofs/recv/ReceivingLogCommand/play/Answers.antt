@@ -29,7 +29,7 @@ returns-clause-ok g c = λ s stands.
     let told = c.play-played.ensures.told s.past stands.run in
     let after = c.play-played.ensures.stands s.past stands.run in
     let picture : lent c.shown.result ≡ (run_of r.params (PlayNext ∷ s.past)).screen =
-    c.shown.ensures (PlayNext ∷ s.past) after ∙ ap (λ (p : Params). (run_of p (PlayNext ∷ s.past)).screen) c.play-played.ensures.params
+    c.shown.ensures.run (PlayNext ∷ s.past) after ∙ ap (λ (p : Params). (run_of p (PlayNext ∷ s.past)).screen) c.play-played.ensures.params
     in
     let text = shown_same (message_after r.params s.past) (c.played-number.ensures.run s.past stands.run) told.mark_is picture
     ∙ ap (λ (p : Params). played_text p s.past) (sym stands.params)
@@ -44,7 +44,7 @@ returns-clause-err g c = λ s stands.
     let told = c.play-played.ensures.told s.past stands.run in
     let after = c.play-played.ensures.stands s.past stands.run in
     let picture : lent c.shown.result ≡ (run_of r.params (PlayNext ∷ s.past)).screen =
-    c.shown.ensures (PlayNext ∷ s.past) after ∙ ap (λ (p : Params). (run_of p (PlayNext ∷ s.past)).screen) c.play-played.ensures.params
+    c.shown.ensures.run (PlayNext ∷ s.past) after ∙ ap (λ (p : Params). (run_of p (PlayNext ∷ s.past)).screen) c.play-played.ensures.params
     in
     let text = shown_same (message_after r.params s.past) (c.played-number.ensures.run s.past stands.run) told.mark_is picture
     ∙ ap (λ (p : Params). played_text p s.past) (sym stands.params)
