@@ -231,7 +231,7 @@ fn pass_captures<D: Desk>(
     ensures attached { (D.outside desk.new).attached Events ≡ true }
     ensures room { length buf.new ≡ length buf.old }
 {
-    for _ in 0..count {
+    'captures: for _ in 0..count {
         let read = reader.next(desk, buf);
         assert!(rt; matches!(&read, Ok(Some((_, Entry::Capture)))));
     }
@@ -245,7 +245,7 @@ fn before_the_last(rt: &impl Abort, alloc: Global, buf: &mut [u8]) -> Result<Log
     let captures = b"S\0\0".repeat(alloc, CAPTURES)?;
     let mut desk = reading(alloc, 4096, Role::Events, &captures, NEVER)?;
     let mut reader = LogReader::new(Side::Send);
-    for _ in 0..255 {
+    'chunks: for _ in 0..255 {
         pass_captures(rt, &mut desk, &mut reader, buf, CAPTURES);
         desk.put(Role::Events, &captures)?;
     }

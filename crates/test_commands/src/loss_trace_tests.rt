@@ -234,7 +234,7 @@ fn pass_lines<D: Desk>(rt: &impl Abort, desk: &mut D, reader: &mut TraceReader, 
     requires { (D.outside desk.old).attached Events ≡ true }
     ensures { (D.outside desk.new).attached Events ≡ true }
 {
-    for _ in 0..count {
+    'lines: for _ in 0..count {
         let read = reader.next(desk);
         assert!(rt; matches!(&read, Ok(Some((_, Event::Nothing)))));
     }
@@ -245,7 +245,7 @@ fn before_the_last(rt: &impl Abort, alloc: Global) -> Result<TraceReader, OutOfM
     let lines = vec![in alloc; b'\n'; LINES]?;
     let mut desk = reading(alloc, 4096, Role::Events, &lines, NEVER)?;
     let mut reader = TraceReader::new();
-    for _ in 0..255 {
+    'chunks: for _ in 0..255 {
         pass_lines(rt, &mut desk, &mut reader, LINES);
         desk.put(Role::Events, &lines)?;
     }

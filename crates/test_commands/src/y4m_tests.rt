@@ -2,9 +2,10 @@
 //! out in a test its steps are taken again, and are then to reach their end.
 ghost use Rattle.std.specs.Prelude.{◌≡◌, ◌<◌, true, length};
 ghost use Rattle.h263_types.specs.Sizes.{size_of_picture};
+ghost use Rattle.h263_outside.specs.Memory.{memory_outside};
 ghost use Rattle.h263_outside.specs.declared.desk.Role.TheVariants.{Video};
 
-use h263_outside::{Desk, OutOfMemory, Role};
+use h263_outside::{Desk, MemoryDesk, OutOfMemory, Role};
 use h263_planes::PictureRef;
 use h263_types::{Format, Mark};
 use std::alloc::Global;
@@ -267,6 +268,27 @@ fn frames_and_their_faults(rt: HostRuntime) -> Result<(), Fail> {
     Ok(())
 }
 
+// Reads as many frames as a video may have.
+fn pass_frames(
+    rt: &impl Abort,
+    desk: &mut MemoryDesk,
+    reader: &mut Y4mReader,
+    frame: &[u8],
+    out: &mut [u8],
+) -> Result<(), OutOfMemory>
+    requires attached { (memory_outside desk.old).attached Video ≡ true }
+    requires size { length out.old ≡ size_of_picture reader.old.format }
+    ensures attached { (memory_outside desk.new).attached Video ≡ true }
+    ensures same { reader.new.format ≡ reader.old.format }
+    ensures size { length out.new ≡ length out.old }
+{
+    'frames: for _ in 0..MAX_FRAMES {
+        desk.put(Role::Video, frame)?;
+        assert_eq!(rt; reader.frame(desk, out), Ok(true));
+    }
+    Ok(())
+}
+
 fn check_last_frame(rt: &impl Abort, alloc: Global) -> Result<(), OutOfMemory> {
     let frame = repeated(alloc, &[(b"FRAME\n", 1), (b"7", 18_432)])?;
     let mut desk = reading(alloc, 65_536, Role::Video, HEAD, NEVER)?;
@@ -274,10 +296,7 @@ fn check_last_frame(rt: &impl Abort, alloc: Global) -> Result<(), OutOfMemory> {
         return Err(OutOfMemory);
     };
     let mut out = vec![in alloc; 0; reader.format().size() as usize]?;
-    for _ in 0..MAX_FRAMES {
-        desk.put(Role::Video, &frame)?;
-        assert_eq!(rt; reader.frame(&mut desk, &mut out), Ok(true));
-    }
+    pass_frames(rt, &mut desk, &mut reader, &frame, &mut out)?;
     assert_eq!(rt; reader.frame(&mut desk, &mut out), Ok(false));
     desk.put(Role::Video, b"?")?;
     let many = Err(VideoStop::Refused(TooMany { at: 19_333_644_307 }));
