@@ -281,8 +281,8 @@ event_fault b d e =
 -- ---- the way back: what is a fault is found
 
 -- LEVEL that is allowed
-allowed_level : (v : ℕ) → allowed_level v ≡ None → (v ≡ 0 → ⊥) × (v ≡ 128 → ⊥)
-allowed_level v is = (
+level_is_allowed : (v : ℕ) → allowed_level v ≡ None → (v ≡ 0 → ⊥) × (v ≡ 128 → ⊥)
+level_is_allowed v is = (
   λ e. let h : allowed_level 0 ≡ None = subst (λ (k : ℕ). allowed_level k ≡ None) e is in cc,
   λ e. let h : allowed_level 128 ≡ None = subst (λ (k : ℕ). allowed_level k ≡ None) e is in cc,
 )
@@ -347,7 +347,7 @@ of_word w (Some e) rest x i s =
 of_word w None rest x i s =
     let a = s.5 in
     let b = a.5 in
-    let free = allowed_level b.0 b.3 in
+    let free = level_is_allowed b.0 b.3 in
     let tail : rest ≡ fields ((1, s.0) ∷ (6, a.0) ∷ (8, b.0) ∷ []) =
     s.4 ∙ ap (λ (t : List Bool). spelled 1 s.0 ++ t) (a.4 ∙ ap (λ (t : List Bool). spelled 6 a.0 ++ t) (b.4 ∙ ap (λ (t : List Bool). spelled 8 b.0 ++ t) b.5.1)) in
     inr (record { last = s.0; run = a.0; level = b.0; one = s.2; six = a.2; eight = b.2; some = free.0; great = free.1; parts = ap (λ (t : List Bool). t ++ rest) (none_is w i) ∙ ap (λ (t : List Bool). word "0000011" ++ t) tail })

@@ -74,23 +74,8 @@ fn read_mvd_parts(reader: &mut BitReader<'_>) -> Result<i8, Fault>
     Ok(with_sign(sign, size as u8))
 }
 
-#[tactic(auto, unfolding(crate::specs::Tables::mvd, h263_bits::specs::Syntax::reading))]
-fn mvd_at(reader: &mut BitReader<'_>) -> Result<i8, Fault>
-    ensures { Gives (λ (v : ℤ). v) result reader.new (reading mvd reader.old) }
-{
-    let at = reader.at();
-    match read_mvd_parts(reader) {
-        Ok(value) => {
-            if value == 32 {
-                return Err(FaultKind::BadCode.at(at));
-            }
-            Ok(value)
-        }
-        Err(fault) => Err(fault.kind.at(at)),
-    }
-}
-
 /// MVD, a difference of vectors in half samples, -32 to 31 (H.263 5.3.7).
+#[tactic(auto, unfolding(crate::specs::Tables::mvd, h263_bits::specs::Syntax::reading))]
 pub fn read_mvd(reader: &mut BitReader<'_>) -> Result<i8, Fault>
     // What is read is spelled by the bits that were taken.
     ensures found { IfOk result (λ v. Takes reader.old reader.new (Spells mvd v)) }
@@ -104,7 +89,16 @@ pub fn read_mvd(reader: &mut BitReader<'_>) -> Result<i8, Fault>
     ensures low { IfOk result (λ v. negsuc 31 ≤ℤ v) }
     ensures high { IfOk result (λ v. v ≤ℤ pos 31) }
 {
-    mvd_at(reader)
+    let at = reader.at();
+    match read_mvd_parts(reader) {
+        Ok(value) => {
+            if value == 32 {
+                return Err(FaultKind::BadCode.at(at));
+            }
+            Ok(value)
+        }
+        Err(fault) => Err(fault.kind.at(at)),
+    }
 }
 
 fn level_at(levels: &[Level], place: usize) -> Option<Level>

@@ -1,6 +1,8 @@
-use Rattle.std.proofs.Common.{◌≡◌}
-use Rattle.std.specs.Prelude.{ℤ, pos, negsuc, ◌≤ℤ◌}
+use Rattle.std.proofs.Common.{◌≡◌, ◌++◌, Bool, List, Result, Ok, Err, rules}
+use Rattle.std.specs.Prelude.{IfOk, IfErr, IsOkAnd, ℤ, pos, negsuc, ◌≤ℤ◌}
 use Rattle.h263_bits.specs.declared.fault.Fault.{Fault}
+use Rattle.h263_bits.specs.Reading.{Bits, Gives, Takes}
+use Rattle.h263_bits.specs.Syntax.{reading, Spells}
 use Rattle.h263_bits.specs.Elements.{IsWordOf, IsWordFault}
 use Rattle.code_tables.specs.Tables.{mvd, mvd_words}
 use Rattle.code_tables.proofs.Productive.{mvd_productive}
@@ -9,17 +11,34 @@ use Rattle.code_tables.proofs.InRange.{mvd_low, mvd_high}
 use Rattle.h263_bits.proofs.SyntaxLaws.{reads_texts, texts_read, reads_within, reads_err}
 use Rattle.code_tables.proofs.words.read_mvd.Goals as goal
 
-pub returns-clause-found : goal.returns-clause-found
-returns-clause-found c = reads_texts (λ (v : ℤ). v) (mvd) c.mvd_at.result c.args.reader.now c.mvd_at.new.reader c.mvd_at.ensures
+-- what is said of each return
+every : (r : Result ℤ Fault) (old new : Bits) → Gives (λ (v : ℤ). v) r new (reading mvd old) → record {
+  found : IfOk r (λ v. Takes old new (Spells mvd v));
+  only : (v : ℤ) (text rest : List Bool) → Spells mvd v text → old.bits ≡ text ++ rest → IsOkAnd r (λ found. (found ≡ v) × (new.bits ≡ rest));
+  fault : IfErr r (λ d. (d.at ≡ old.at) × IsWordFault (λ w. IsWordOf mvd_words w) old.bits d.kind);
+  exact : Gives (λ (v : ℤ). v) r new (reading mvd old);
+  low : IfOk r (λ v. negsuc 31 ≤ℤ v);
+  high : IfOk r (λ v. v ≤ℤ pos 31);
+}
+every r old new e =
+    let view = λ (v : ℤ). v in
+    record {
+      found = reads_texts view mvd r old new e;
+      only = texts_read view mvd r old new mvd_productive e;
+      fault = reads_err view mvd r old new (λ (d : Fault). (d.at ≡ old.at) × IsWordFault (λ w. IsWordOf mvd_words w) old.bits d.kind) e (λ d f. (mvd_words_are old d).0 f);
+      exact = e;
+      low = reads_within view mvd r old new (λ (v : ℤ). negsuc 31 ≤ℤ v) e mvd_low;
+      high = reads_within view mvd r old new (λ (v : ℤ). v ≤ℤ pos 31) e mvd_high;
+    }
 
-pub returns-clause-only : goal.returns-clause-only
-returns-clause-only c = texts_read (λ (v : ℤ). v) (mvd) c.mvd_at.result c.args.reader.now c.mvd_at.new.reader mvd_productive c.mvd_at.ensures
+pub returns-else-value-eq32 : goal.returns-else-value-eq32
+unfolding mvd reading
+returns-else-value-eq32 c = every (Ok _) c.args.reader.now c.read_mvd_parts.new.reader (search rules)
 
-pub returns-clause-fault : goal.returns-clause-fault
-returns-clause-fault c = reads_err (λ (v : ℤ). v) (mvd) c.mvd_at.result c.args.reader.now c.mvd_at.new.reader (λ (d : Fault). (d.at ≡ c.args.reader.now.at) × IsWordFault (λ w. IsWordOf mvd_words w) c.args.reader.now.bits d.kind) c.mvd_at.ensures (λ d e. (mvd_words_are c.args.reader.now d).0 e)
+pub returns-in-Err : goal.returns-in-Err
+unfolding mvd reading
+returns-in-Err c = every (Err _) c.args.reader.now c.read_mvd_parts.new.reader (search rules)
 
-pub returns-clause-low : goal.returns-clause-low
-returns-clause-low c = reads_within (λ (v : ℤ). v) mvd c.mvd_at.result c.args.reader.now c.mvd_at.new.reader (λ (v : ℤ). negsuc 31 ≤ℤ v) c.mvd_at.ensures mvd_low
-
-pub returns-clause-high : goal.returns-clause-high
-returns-clause-high c = reads_within (λ (v : ℤ). v) mvd c.mvd_at.result c.args.reader.now c.mvd_at.new.reader (λ (v : ℤ). v ≤ℤ pos 31) c.mvd_at.ensures mvd_high
+pub returns-then-value-eq32 : goal.returns-then-value-eq32
+unfolding mvd reading
+returns-then-value-eq32 c = every (Err _) c.args.reader.now c.read_mvd_parts.new.reader (search rules)
