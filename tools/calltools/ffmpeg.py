@@ -7,6 +7,8 @@ from .errors import BadInput
 from .y4m import Size
 
 _QUIET = ("-v", "error", "-nostdin")
+# Of a window, about.
+_WINDOW_WIDTH = 704
 
 
 def _found(name: str, without: str) -> str:
@@ -36,11 +38,13 @@ def camera_words(name: str, size: Size, rate: Fraction) -> list[str]:
     return [*own, "-an", "-vf", fit, "-f", "yuv4mpegpipe", "-"]
 
 
-def window_words(title: str) -> list[str]:
-    """The words of a window that shows each picture as soon as it comes."""
+def window_words(size: Size, title: str) -> list[str]:
+    """The words of a window that shows each picture as soon as it comes, enlarged."""
     own = _found("ffplay", "so --screen takes a Y4M file, - or none")
     low = ["-fflags", "nobuffer", "-flags", "low_delay", "-framedrop", "-probesize", "32"]
-    words = [own, "-v", "error", *low, "-sync", "ext", "-autoexit", "-window_title", title]
+    times = max(1, _WINDOW_WIDTH // size.width)
+    big = ["-x", str(times * size.width), "-y", str(times * size.height)]
+    words = [own, "-v", "error", *low, "-sync", "ext", "-autoexit", *big, "-window_title", title]
     return [*words, "-f", "yuv4mpegpipe", "-i", "-"]
 
 

@@ -22,6 +22,8 @@ LOOPBACK = "127.0.0.1"
 _MORE = 0.2
 # How long the ends may take to finish.
 _PATIENCE = 10.0
+# When nothing came by then, that is told.
+_ALONE = 2.0
 
 
 @dataclass(frozen=True)
@@ -56,6 +58,7 @@ class LiveCall:
         self.parties = self._both_alone() if asked.other is None else [self._with(asked.other)]
         for party in self.parties:
             party.on_end, party.on_fault = self.end, self._failed
+        self._add_ends()
 
     def _facts(self) -> dict[str, Any]:
         asked, settings = self._asked, self._settings
@@ -86,11 +89,9 @@ class LiveCall:
 
     def _with(self, other: Address) -> Party:
         (host, port), (at, own) = other, self._asked.at
-        party = self._party(
+        return self._party(
             self._channel((at, own), (host, port)), self._channel((at, own + 1), (host, port + 1))
         )
-        self._add(party, self._asked.camera, self._asked.screen)
-        return party
 
     def _both_alone(self) -> list[Party]:
         # The party with the camera, the network, and the party with the screen at the ports told.
@@ -107,16 +108,17 @@ class LiveCall:
                 one.on_datagram = link.take
             near.append(ends[0])
             far.append(ends[3])
-        parties = [self._party(*near), self._party(*far)]
-        self._add(parties[0], self._asked.camera, None)
-        self._add(parties[1], None, self._asked.screen)
-        return parties
+        return [self._party(*near), self._party(*far)]
 
-    def _add(self, party: Party, camera: Optional[str], screen: Optional[str]) -> None:
-        if screen:
-            party.add_screen(screen_of(self.loop, self._settings, screen, "h263rps"))
+    def _add_ends(self) -> None:
+        # What can be refused comes first, so that no program was started in vain.
+        asked, settings = self._asked, self._settings
+        camera = camera_of(self.loop, settings, asked.camera) if asked.camera else None
+        screen = screen_of(self.loop, settings, asked.screen, "h263rps") if asked.screen else None
         if camera:
-            party.add_camera(camera_of(self.loop, self._settings, camera))
+            self.parties[0].add_camera(camera)
+        if screen:
+            self.parties[-1].add_screen(screen)
 
     def say(self, words: str) -> None:
         """A line for the user."""
@@ -130,30 +132,48 @@ class LiveCall:
                 party.camera.start()
         if self._asked.seconds is not None:
             self.loop.at(self._began + self._asked.seconds, self.end)
+        self._line = StatusLine(bool(self._asked.camera), bool(self._asked.screen))
         if not self._asked.is_quiet:
-            self._line = StatusLine(bool(self._asked.camera), bool(self._asked.screen))
+            self.say(self._first_line())
             self.loop.at(self._began + 1, self._tell)
+        self.loop.at(self._began + _ALONE, self._tell_if_nobody_is_there)
         self.loop.run(lambda: self._is_over)
         self._finish()
         if self.fault:
             raise self.fault
+
+    def _first_line(self) -> str:
+        settings, (host, port) = self._settings, self._asked.at
+        other = "itself" if self._asked.other is None else ":".join(map(str, self._asked.other))
+        return (
+            f"{host}:{port} calls {other}: {settings.format} {settings.rate} a second, "
+            f"{settings.target:,} bytes a picture, wait {1000 * settings.wait:g} ms"
+        )
+
+    def _tell_if_nobody_is_there(self) -> None:
+        party = self.parties[-1]
+        if self._asked.other and not party.bytes_in:
+            what = "nobody is there yet" if party.unreached else "nothing has come from there yet"
+            self.say(f"{self._asked.other[0]}: {what}")
 
     def end(self, why: str = "") -> None:
         """The camera stops; what is on its way is still shown."""
         if self._is_ending:
             return
         self._is_ending = True
+        if self.loop.now() < self._began + _ALONE:
+            self._tell_if_nobody_is_there()
         if why and not self._asked.is_quiet:
             self.say(why)
         for party in self.parties:
             party.stop_camera()
         network = self._asked.network
         way = network.delay + network.jitter if self._asked.other is None else 0.0
-        self.loop.at(self.loop.now() + way + self._settings.wait + _MORE, self._stop_screens)
+        self.loop.at(self.loop.now() + way + self._settings.wait + _MORE, self._stop)
 
-    def _stop_screens(self) -> None:
+    def _stop(self) -> None:
         for party in self.parties:
-            party.stop_screen()
+            party.stop()
         self._until = self.loop.now() + _PATIENCE
         self._watch()
 

@@ -65,19 +65,18 @@ class Party:
         self.screen, self.receiving = screen, receiving
 
     def stop_camera(self) -> None:
-        """The sending end finishes, and the other party is told."""
+        """No more pictures, and the other party is told."""
         if self.camera and self.sending:
             self.camera.stop()
-            self._left += 1
-            self.sending.end()
             for _ in range(_BYES):
                 self._control.send(bye_bytes(self.sending.source))
 
-    def stop_screen(self) -> None:
-        """The receiving end plays what it has, and finishes."""
-        if self.receiving:
-            self._left += 1
-            self.receiving.end()
+    def stop(self) -> None:
+        """Both ends finish; the receiving one plays what it has."""
+        ends = [end for end in (self.sending, self.receiving) if end]
+        self._left += len(ends)
+        for end in ends:
+            end.end()
 
     @property
     def is_over(self) -> bool:

@@ -203,7 +203,7 @@ class Receiving:
             self._tally.dropped["malformed"] += 1
         elif not self._is_wanted(start):
             self._tally.dropped["other format or clock"] += 1
-        elif self._is_of_run(header.source, now):
+        elif not self._is_ending and self._is_of_run(header.source, now):
             self._tally.packets_in += 1
             self.last = now
             self._run.packet(data, header, start, now)

@@ -113,7 +113,7 @@ def screen_of(loop: Loop, settings: Settings, name: str, title: str) -> Screen:
     if name == "none":
         return Screen()
     if name == "window":
-        return PipeScreen(loop, settings, ffmpeg.window_words(title), is_window=True)
+        return PipeScreen(loop, settings, ffmpeg.window_words(settings.size, title), is_window=True)
     if name == "-":
         if stat.S_ISFIFO(os.fstat(1).st_mode):
             return PipeScreen(loop, settings, [], is_window=False)

@@ -47,6 +47,7 @@ class SendingRun:
         self._last = 0.0
         self._times: dict[int, float] = {}
         self._began = 0.0
+        self._is_ended = False
         self._put_video(head_bytes(settings.size, settings.rate))
 
     def _facts(self) -> dict[str, object]:
@@ -60,7 +61,7 @@ class SendingRun:
     def capture(self, samples: bytes, now: float) -> bool:
         """A frame came from the camera. It is left out where the coder is behind, or where it
         had piled up with another."""
-        is_piled = self.captured and now - self._last < 0.5 * self._settings.period
+        is_piled = self.captured > 0 and now - self._last < 0.5 * self._settings.period
         if is_piled or self.captured - self._coded > _BEHIND:
             return False
         if not self.captured:
@@ -73,7 +74,9 @@ class SendingRun:
         return True
 
     def message(self, body: bytes, now: float) -> None:
-        """A message came back about this run."""
+        """A message came back about this run. Behind its end it counts no more."""
+        if self._is_ended:
+            return
         said = read_message(body)
         if said.is_ack:
             newest = self.captured - 1
@@ -83,6 +86,7 @@ class SendingRun:
 
     def end(self) -> None:
         """Ends the log; the program then says its counts."""
+        self._is_ended = True
         self._log.end()
         self._video.end()
 
