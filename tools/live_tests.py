@@ -37,7 +37,7 @@ def example_packets() -> list[bytes]:
 
 
 def wait(turns: loop.Loop, seconds: float) -> None:
-    """Lets a loop go on for so long."""
+    """Lets a loop go on for a while."""
     until = turns.now() + seconds
     turns.at(until, lambda: None)
     turns.run(lambda: turns.now() >= until)
@@ -447,7 +447,7 @@ class CallsTest(unittest.TestCase):
             self.assertGreater(call.shown("exact"), 40, call.told)
 
     def test_one_way_and_joining_late(self) -> None:
-        """The screen's party comes when the stream is at picture 300 or so, behind a wrap."""
+        """The screen's party comes when the stream is at picture 300 or so, after a wrap."""
         port = free_port()
         ends = ("--port", port, "--format", "sub-qcif", "--rate", 120, "--wait", 50)
         camera = self.start(*ends, "--at", "127.0.0.1", "--with", "127.0.0.2", "--one-way", "camera", "--camera", self.video(600))

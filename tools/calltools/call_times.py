@@ -44,7 +44,8 @@ def _report(folder: Path, name: str) -> Report:
 @dataclass(frozen=True)
 class CallTimes:
     """A recorded stream, from its capture to the screen. By picture: when it was captured, when
-    its first packet went out, when it was shown; the bytes of all packets; marks, references."""
+    its first packet went out, when it was shown; the bytes of all packets; marks, references;
+    when packets came, and of which picture; the share of a processor that the bridges took."""
 
     captured: list[float]
     first_out: dict[int, float]
@@ -53,6 +54,7 @@ class CallTimes:
     marks: list[str]
     references: list[Optional[int]]
     arrived: list[tuple[float, int]]
+    processor: Optional[float]
 
     @property
     def seconds(self) -> float:
@@ -97,14 +99,22 @@ def read_call(folder: Path) -> CallTimes:
         facts = json.loads(path.read_text())
         send, recv = facts["send"][0], facts["recv"][0]
         is_one = send["source"] == recv["source"] and not recv["skipped"]
+        counts = facts.get("counts")
+        processor = counts and counts["processor_seconds"] / counts["seconds"]
     except (ValueError, LookupError, TypeError):
         raise BadInput(str(path), "its runs", "this isn't a recorded call with both ends") from None
     if not is_one:
         raise BadInput(str(path), "its runs", "the ends aren't of one stream from its start on")
-    return _call(folder, send, recv, PERIODS[facts["clock"]])
+    return _call(folder, send, recv, PERIODS[facts["clock"]], processor)
 
 
-def _call(folder: Path, send: dict[str, Any], recv: dict[str, Any], period: int) -> CallTimes:
+def _call(
+    folder: Path,
+    send: dict[str, Any],
+    recv: dict[str, Any],
+    period: int,
+    processor: Optional[float],
+) -> CallTimes:
     captured = [it.time for it in _entries(folder, send["log"]) if it.entry.letter == logs.CAPTURE]
     first_out: dict[int, float] = {}
     count = 0
@@ -125,7 +135,7 @@ def _call(folder: Path, send: dict[str, Any], recv: dict[str, Any], period: int)
     marks = [picture.mark or "" for picture in _report(folder, recv["report"]).pictures]
     told = _report(folder, send["report"]).pictures
     references = [picture.reference for picture in told]
-    return CallTimes(captured, first_out, count, shown, marks, references, arrived)
+    return CallTimes(captured, first_out, count, shown, marks, references, arrived, processor)
 
 
 def _spread(name: str, values: list[float]) -> str:
@@ -156,6 +166,8 @@ def lines_of(call: CallTimes) -> list[str]:
         f"references: intra {back[None]} {inter}",
         f"runs of wrong pictures: {wrong or 'none'}",
     ]
+    if call.processor is not None:
+        lines.append(f"bridges: {100 * call.processor:.1f} % of a processor")
     for length, picture, mark in call.silences(0.5):
         lines.append(f"after {length:.2f} s of silence: picture {picture} {mark}")
     return lines

@@ -1,5 +1,6 @@
 """A live call from its start to its counts."""
 
+import resource
 import sys
 from dataclasses import dataclass
 from datetime import datetime, timezone
@@ -215,7 +216,10 @@ class LiveCall:
                 self.tally.unshown += party.screen.left_out
         self._count_datagrams()
         seconds = round(self.loop.now() - self._began, 3)
-        self._recorder.finish({"seconds": seconds, **self.tally.facts()})
+        used = resource.getrusage(resource.RUSAGE_SELF)
+        processor = round(used.ru_utime + used.ru_stime, 3)
+        facts = {"seconds": seconds, "processor_seconds": processor, **self.tally.facts()}
+        self._recorder.finish(facts)
         for channel in self._channels:
             channel.close()
         for line in counts(self.tally, bool(self._asked.camera), bool(self._asked.screen)):

@@ -24,7 +24,8 @@ class Loop:
     """Calls back when a file can be read or written, and when a time has come."""
 
     def __init__(self) -> None:
-        self._selector = selectors.DefaultSelector()
+        # Its waits end to the microsecond; those of others only to the millisecond.
+        self._selector = selectors.SelectSelector()
         self._calls: dict[int, dict[int, Call]] = {}
         self._timers: list[tuple[float, int, Timer]] = []
         self._count = 0

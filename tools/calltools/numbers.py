@@ -4,7 +4,7 @@ from typing import Optional
 
 from .rtp import CLOCK
 
-# Behind a silence of so many seconds the temporal reference alone doesn't tell the number.
+# After this many seconds of silence a temporal reference alone doesn't tell the number.
 SILENCE = 3.0
 
 

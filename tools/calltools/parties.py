@@ -15,7 +15,7 @@ from .tally import Tally
 from .udp import Channel
 from .y4m import Frame
 
-# The end of a stream is said so many times, since a datagram may be lost.
+# How often the end of a stream is said, since a datagram may be lost.
 _BYES = 3
 
 

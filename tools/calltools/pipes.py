@@ -11,6 +11,8 @@ from .loop import Call, Loop
 _SET_SIZE = 1031  # F_SETPIPE_SZ of Linux
 # A few CIF frames; Linux gives 64 kB at first, through which a frame goes in pieces.
 WIDE = 1 << 20
+# What is read at once: more would have its memory mapped for each read.
+_AT_ONCE = 1 << 16
 
 
 def widen(file: int) -> None:
@@ -49,7 +51,7 @@ class Feed:
             self.close()
 
     def drain(self, patience: float) -> None:
-        """Waits for what isn't written yet, so many seconds at most, and closes the pipe."""
+        """Waits for what isn't written yet, this many seconds at most, and closes the pipe."""
         until = self._loop.now() + patience
         while self._parts and (left := until - self._loop.now()) > 0:
             if select.select([], [self._file], [], left)[1]:
@@ -104,7 +106,7 @@ class Source:
 
     def _read(self) -> None:
         try:
-            data = os.read(self._file, WIDE)
+            data = os.read(self._file, _AT_ONCE)
         except BlockingIOError:
             return
         if data:

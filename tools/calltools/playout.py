@@ -5,7 +5,7 @@ from typing import Optional
 
 # How long a datagram's way counts for the least one, in seconds.
 _MEMORY = 0.5
-# A least way may grow when so many ways of so many seconds are known.
+# The least way may grow when this many ways are known, over this many seconds.
 _SOME, _LONG = 5, 0.3
 
 
@@ -14,7 +14,7 @@ class Playout:
     the wait.
 
     A way is the time between capture and arrival, each on its own clock. A picture of which
-    nothing came is due by its neighbours. Behind the newest that came none is due: perhaps the
+    nothing came is due by its neighbours. None after the newest that came is due: perhaps the
     camera paused, and there is no such picture yet.
     """
 

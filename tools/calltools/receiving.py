@@ -22,11 +22,11 @@ from .y4m_pipe import FrameCutter
 
 # Pictures that are open before the first one that came, for packets out of order at the start.
 _BEFORE = 2
-# Another SSRC is taken when the present one has been silent so long, in seconds.
+# Another SSRC is taken when the present one has been silent for this many seconds.
 SILENT = 0.5
-# Behind so long a silence the end is begun anew: numbers can't be told any more.
+# After this many seconds of silence the end begins anew: numbers can't be told any more.
 _LOST = 30.0
-# So many packets in a row, for so many seconds, of pictures that were played: it is begun anew.
+# After this many packets in a row, over this many seconds, of pictures that were played, too.
 _LATE, _LATE_TIME = 30, 1.0
 # Entries of a log, and pictures, that are left when a run counts as full.
 _MOST_ENTRIES, _LEFT = 1 << 24, 1_024

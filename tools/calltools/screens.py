@@ -12,7 +12,7 @@ from .loop import Call, Loop
 from .pipes import Feed, widen
 from .y4m import Frame, head_bytes
 
-# A window gets no more than so many frames ahead of what it takes; a file's maker may lag more.
+# How many frames may wait before a window, and before a program that writes a file.
 _WINDOW_AHEAD, _FILE_AHEAD = 3, 300
 _PATIENCE = 5.0
 

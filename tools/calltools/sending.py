@@ -17,13 +17,13 @@ from .rtp import CLOCK, TICKS_A_PICTURE, renumbered, rtp_header
 from .tally import Recent, Tally
 from .y4m import head_bytes
 
-# So many pictures may be captured and not coded; a further frame is left out.
+# This many pictures may be captured and not coded yet; a further frame is left out.
 _BEHIND = 4
-# The times of so many pictures are kept, for their packets.
+# The times of this many pictures are kept, for their packets.
 _KEPT = 100
-# An end that dies this soon, so many times in a row, isn't begun anew.
+# An end that dies this soon, this many times in a row, isn't begun anew.
 SOON, DEATHS = 1.0, 3
-# So many seconds before a run is full, it is told.
+# That a run is nearly full is told this many seconds before.
 _NOTICE = 60
 
 
@@ -59,8 +59,8 @@ class SendingRun:
         }
 
     def capture(self, samples: bytes, now: float) -> bool:
-        """A frame came from the camera. It is left out where the coder is behind, or where it
-        had piled up with another."""
+        """A frame came from the camera. It is left out where the coder lags, or where it had
+        piled up with another."""
         is_piled = self.captured > 0 and now - self._last < 0.5 * self._settings.period
         if is_piled or self.captured - self._coded > _BEHIND:
             return False
@@ -74,7 +74,7 @@ class SendingRun:
         return True
 
     def message(self, body: bytes, now: float) -> None:
-        """A message came back about this run. Behind its end it counts no more."""
+        """A message came back about this run. After its end it counts no more."""
         if self._is_ended:
             return
         said = read_message(body)

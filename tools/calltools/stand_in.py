@@ -40,7 +40,7 @@ def _line(file: BinaryIO) -> bytes:
 
 
 def _packet(number: int, format: str) -> bytes:
-    # Start, TR, PTYPE, UFEP 1, the format, and zeros; behind them a picture of no bytes.
+    # Start, TR, PTYPE, UFEP 1, the format, and zeros; after them a picture of no bytes.
     bits = 0b100000 << 58 | (number & 255) << 50 | 0b10 << 48 | 0b111 << 42 | 1 << 39
     bits |= _FORMATS[format] << 36
     head = bytes([0x80, 0x80 | rtp.PAYLOAD_TYPE]) + (number & 0xFFFF).to_bytes(2, "big")

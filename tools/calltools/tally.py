@@ -44,11 +44,11 @@ class Recent:
         self.intra = 0
 
     def trip(self, pictures: int) -> None:
-        """So many pictures were captured since the one that a message is about."""
+        """How many pictures were captured since the one that a message is about."""
         self._trips.append(pictures)
 
     def reference(self, back: Optional[int]) -> None:
-        """A picture was predicted from so far back, or coded by itself."""
+        """How far back a picture's reference lies; None for an intra picture."""
         if back is None:
             self.intra += 1
         else:
