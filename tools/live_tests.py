@@ -407,7 +407,7 @@ class CallsTest(unittest.TestCase):
     def test_without_ffmpeg(self) -> None:
         video = self.video(2)
         for words in (("--camera", "test"), ("--camera", video), ("--camera", video, "--screen", "out.mkv")):
-            call = self.run_call("--format", "sub-qcif", *words, env={"PATH": str(self.room)})
+            call = self.run_call("--format", "sub-qcif", *words, env={"PATH": str(self.room), "DISPLAY": ":0"})
             told = r"^ff(mpeg|play): not on this machine: so --(camera|screen) takes a Y4M file.*\n$"
             self.assertEqual(call.status, 1)
             self.assertRegex(call.told, told)
@@ -587,9 +587,11 @@ class CallsTest(unittest.TestCase):
             (("--camera", "/dev/video99", "--screen", "none"), "/dev/video99: no camera: is one plugged in.*"),
             (("--camera", none.with_suffix(".y4m"), "--screen", "none"), f"{none}.y4m: No such file or directory"),
             (("--camera", video, "--screen", "none"), f"{video}: the head: 128 x 96, and the call is qcif, 176 x 144"),
+            ((*ends, "--screen", "window"), "--screen: window: there is no display here, so --screen takes a Y4M file, - or none"),
             ((*ends, "--screen", none / "x.y4m"), f"{none}/x.y4m: No such file or directory"),
         ):
-            call = Call([*map(str, words), "--program", self.stand_in] if "--program" not in words else list(words)).ended()
+            own = () if "--program" in words else ("--program", self.stand_in)
+            call = Call([*words, *own], env={"PATH": os.environ["PATH"]}).ended()
             self.assertEqual(call.status, 1, (words, call.told))
             self.assertRegex(call.told, f"^{told}\n$")
         taken.close()
@@ -610,6 +612,25 @@ class CallsTest(unittest.TestCase):
         os.close(read)
         call.ended(15)
         self.assertEqual(call.status, 0, call.told)
+
+    def test_a_camera_that_pauses(self) -> None:
+        """For as long as temporal references alone can't bridge; no picture is held for it."""
+        video = self.video(50).read_bytes()
+        head, frames = video.split(b"\n", 1)
+        size = len(frames) // 50
+        call = self.start("--port", free_port(), "--format", "sub-qcif", "--camera", "-", "--screen", "none", given=subprocess.PIPE)
+        camera = call.process.stdin
+        assert camera
+        camera.write(head + b"\n")
+        for number in range(50):
+            time.sleep(4 if number == 25 else 1 / 30)
+            camera.write(frames[number * size : (number + 1) * size])
+            camera.flush()
+        camera.close()
+        call.process.stdin = None
+        self.assertEqual(call.ended().status, 0, call.told)
+        self.assertGreater(call.shown("exact"), 40, call.told)
+        self.assertEqual((call.shown("held"), call.dropped("anew")), (0, 0), call.told)
 
     def test_video_that_comes_in(self) -> None:
         """On the standard input, from a pipe; frames that pile up are left out."""

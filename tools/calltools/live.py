@@ -127,7 +127,7 @@ class LiveCall:
 
     def run(self) -> None:
         """The whole call. A fault ends it, and is raised when both ends have finished."""
-        self.loop.on_signals(self.end)
+        self.loop.on_signals(self._interrupted)
         for party in self.parties:
             if party.camera:
                 party.camera.start()
@@ -142,6 +142,11 @@ class LiveCall:
         self._finish()
         if self.fault:
             raise self.fault
+
+    def _interrupted(self) -> None:
+        # The second one doesn't wait for the ends.
+        self._is_over = self._is_ending
+        self.end()
 
     def _first_line(self) -> str:
         settings, (host, port) = self._settings, self._asked.at
@@ -180,7 +185,7 @@ class LiveCall:
 
     def _watch(self) -> None:
         is_late = self.loop.now() > self._until
-        self._is_over = is_late or all(party.is_over for party in self.parties)
+        self._is_over |= is_late or all(party.is_over for party in self.parties)
         if not self._is_over:
             self.loop.at(self.loop.now() + 0.01, self._watch)
 

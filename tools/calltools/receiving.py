@@ -28,6 +28,8 @@ SILENT = 0.5
 _LOST = 30.0
 # After this many packets in a row, over this many seconds, of pictures that were played, too.
 _LATE, _LATE_TIME = 30, 1.0
+# Bytes that may wait before `recv`; a packet that comes then is dropped.
+_MOST_WAITING = 1 << 20
 # Entries of a log, and pictures, that are left when a run counts as full.
 _MOST_ENTRIES, _LEFT = 1 << 24, 1_024
 
@@ -70,6 +72,9 @@ class ReceivingRun:
 
     def packet(self, packet: bytes, header: RtpHeader, start: PictureStart, now: float) -> None:
         """A packet of this run's SSRC came."""
+        if self._log.waiting > _MOST_WAITING:
+            self._tally.dropped["too many"] += 1
+            return
         if self._numbers is None:
             self._join(header, start)
         assert self._numbers

@@ -15,6 +15,8 @@ from .y4m import Frame, head_bytes
 # How many frames may wait before a window, and before a program that writes a file.
 _WINDOW_AHEAD, _FILE_AHEAD = 3, 300
 _PATIENCE = 5.0
+# One of them tells a window where to be.
+_DISPLAYS = ("DISPLAY", "WAYLAND_DISPLAY", "SDL_VIDEODRIVER")
 
 
 class Screen:
@@ -105,7 +107,17 @@ class PipeScreen(Screen):
             self._process.wait()
 
     def _broke(self) -> None:
-        self.on_gone()
+        status = 0
+        if self._process:
+            try:
+                status = self._process.wait(_PATIENCE)
+            except subprocess.TimeoutExpired:
+                self._process.terminate()
+        if status:
+            told = "is there a display?" if self._is_window else "it says why"
+            self.on_fault(BadInput("the screen", f"it ended with status {status}", told))
+        else:
+            self.on_gone()
 
 
 def screen_of(loop: Loop, settings: Settings, name: str, title: str) -> Screen:
@@ -113,10 +125,15 @@ def screen_of(loop: Loop, settings: Settings, name: str, title: str) -> Screen:
     if name == "none":
         return Screen()
     if name == "window":
+        if not any(map(os.environ.get, _DISPLAYS)):
+            told = "there is no display here, so --screen takes a Y4M file, - or none"
+            raise BadInput("--screen", "window", told)
         return PipeScreen(loop, settings, ffmpeg.window_words(settings.size, title), is_window=True)
     if name == "-":
         if stat.S_ISFIFO(os.fstat(1).st_mode):
             return PipeScreen(loop, settings, [], is_window=False)
+        if os.isatty(1):
+            raise BadInput("--screen", "-", "the standard output is a terminal")
         return FileScreen(settings, os.fdopen(os.dup(1), "wb"), "the standard output")
     if name.endswith(".y4m"):
         return FileScreen(settings, open(name, "wb"), name)

@@ -21,6 +21,8 @@ from .y4m import head_bytes
 _BEHIND = 4
 # The times of this many pictures are kept, for their packets.
 _KEPT = 100
+# Bytes that may wait in the log of `send`; a message that comes then is dropped.
+_MOST_WAITING = 1 << 16
 # An end that dies this soon, this many times in a row, isn't begun anew.
 SOON, DEATHS = 1.0, 3
 # That a run is nearly full is told this many seconds before.
@@ -75,7 +77,7 @@ class SendingRun:
 
     def message(self, body: bytes, now: float) -> None:
         """A message came back about this run. After its end it counts no more."""
-        if self._is_ended:
+        if self._is_ended or self._log.waiting > _MOST_WAITING:
             return
         said = read_message(body)
         if said.is_ack:
