@@ -8,14 +8,11 @@ import resource
 import shutil
 import signal
 import socket
-import struct
 import subprocess
 import sys
 import tempfile
-import threading
 import time
 import unittest
-from fractions import Fraction
 from pathlib import Path
 from typing import Any, Callable, Optional, Sequence
 

@@ -142,9 +142,11 @@ def _spread(name: str, values: list[float]) -> str:
     if not values:
         return f"{name}: none"
     ordered = sorted(values)
-    shares = {"median": 0.5, "95 %": 0.95, "99 %": 0.99, "most": 1.0}
-    at = {word: ordered[min(len(ordered) - 1, int(share * len(ordered)))] for word, share in shares.items()}
-    return f"{name}: " + " ".join(f"{word} {1000 * value:.1f}" for word, value in at.items()) + " ms"
+    words = [f"{name}:"]
+    for word, share in (("median", 0.5), ("95 %", 0.95), ("99 %", 0.99), ("most", 1.0)):
+        value = ordered[min(len(ordered) - 1, int(share * len(ordered)))]
+        words.append(f"{word} {1000 * value:.1f}")
+    return " ".join(words) + " ms"
 
 
 def lines_of(call: CallTimes) -> list[str]:

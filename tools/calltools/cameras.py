@@ -133,8 +133,8 @@ class PipeCamera(Camera):
 def _check_size(video: Union[Y4mReader, FrameCutter], settings: Settings, name: str) -> None:
     size, wanted = video.size, settings.size
     if size != wanted:
-        told = f"{size.width} x {size.height}, and the call is {settings.format}, {wanted.width} x {wanted.height}"
-        raise BadInput(name, "the head", told)
+        told = f"{size.width} x {size.height}, and the call is {settings.format}"
+        raise BadInput(name, "the head", f"{told}, {wanted.width} x {wanted.height}")
 
 
 def camera_of(loop: Loop, settings: Settings, name: str) -> Camera:

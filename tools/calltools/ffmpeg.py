@@ -29,7 +29,8 @@ def _source(name: str, size: Size, rate: Fraction) -> list[str]:
 
 def camera_words(name: str, size: Size, rate: Fraction) -> list[str]:
     """The words that make Y4M of a camera, of the test picture or of a video file."""
-    without = f"so --camera takes a Y4M file of {size.width} x {size.height}, or - for one that comes in"
+    whole = f"{size.width} x {size.height}"
+    without = f"so --camera takes a Y4M file of {whole}, or - for one that comes in"
     fit = (
         f"fps={rate},scale={size.width}:{size.height}:force_original_aspect_ratio=increase,"
         f"crop={size.width}:{size.height},format=yuv420p"

@@ -5,7 +5,7 @@ import sys
 from dataclasses import dataclass
 from datetime import datetime, timezone
 from pathlib import Path
-from typing import Any, Callable, Optional
+from typing import Any, Optional
 
 from .bad_network import BadLink, BadNetwork
 from .cameras import camera_of
@@ -15,8 +15,8 @@ from .loop import Loop
 from .parties import Party
 from .recording import Recorder
 from .screens import screen_of
-from .tally import StatusLine, Tally, counts
-from .udp import Address, Channel, resolved
+from .tally import Recent, StatusLine, Tally, counts
+from .udp import Address, Channel
 
 LOOPBACK = "127.0.0.1"
 # What is on its way when a camera ends is waited for so much longer than it takes, in seconds.
@@ -207,8 +207,9 @@ class LiveCall:
     def _tell(self) -> None:
         self._count_datagrams()
         second = self.loop.now() - self._began
-        sending = next((party.sending for party in self.parties if party.sending), None)
-        self.say(self._line.line(second, self.tally, sending.recent if sending else None))
+        sending = self.parties[0].sending
+        recent = sending.recent if sending else Recent()
+        self.say(self._line.line(second, self.tally, recent))
         if not self._is_ending:
             self.loop.at(self._began + round(second) + 1, self._tell)
 

@@ -72,8 +72,9 @@ def lead_for(wait: float, rate: Fraction, asked: Optional[int]) -> int:
             most = int(1000 * (MOST_SLOTS - 4) / rate)
             raise BadInput("--wait", f"{1000 * wait:g} ms", f"{most} is the most")
         return min(pictures + _AHEAD, MOST_SLOTS - 2)
-    if asked < pictures + _LEAST_AHEAD:
-        told = f"it can't hold --wait {1000 * wait:g}, for which {pictures + _LEAST_AHEAD} is the least"
+    least = pictures + _LEAST_AHEAD
+    if asked < least:
+        told = f"it can't hold --wait {1000 * wait:g}, for which {least} is the least"
         raise BadInput("--lead", str(asked), told)
     return asked
 

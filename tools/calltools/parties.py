@@ -1,4 +1,4 @@
-"""A party of a live call: its camera, its screen and both ends of `h263rps` between them and the network."""
+"""A party of a live call: its camera and its screen, and the ends between them and the network."""
 
 from typing import Callable, Optional
 

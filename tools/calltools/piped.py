@@ -19,7 +19,9 @@ class Piped:
     An interrupt is the call's: it ends the logs, and the program says its counts.
     """
 
-    def __init__(self, loop: Loop, program: Path, command: str, reads: str, options: list[str]) -> None:
+    def __init__(
+        self, loop: Loop, program: Path, command: str, reads: str, options: list[str]
+    ) -> None:
         """`reads` has a letter for each file: `r` where the program reads it, else `w`."""
         self._loop = loop
         self._open = 0

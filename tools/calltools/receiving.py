@@ -156,7 +156,7 @@ class ReceivingRun:
         self._record.mark("wire", self._loop.now())
         self._record.write("wire", entry)
         self._messages += 1
-        # The first ones are of the plays before the first picture: each says one, and about nothing.
+        # The first ones are of the plays before the first picture, and about nothing.
         if self._messages > self._skipped:
             self.on_message(entry[3:])
 

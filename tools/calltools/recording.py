@@ -60,7 +60,7 @@ class Recorder:
         self.fault: Optional[OSError] = None
         self.on_fault: Callable[[OSError], None] = lambda _: None
         self._folder = folder
-        self._facts = {"version": VERSION, **facts, "send": [], "recv": []}
+        self._facts: dict[str, Any] = {"version": VERSION, **facts, "send": [], "recv": []}
         self._runs: list[RunRecord] = []
         if folder:
             folder.mkdir(parents=True, exist_ok=True)
@@ -93,7 +93,8 @@ class Recorder:
 
     def write(self, file: Optional[BinaryIO], data: bytes) -> None:
         if file and not self.fault:
-            self.guarded(lambda: file.write(data))
+            write = file.write
+            self.guarded(lambda: write(data))
 
     def guarded(self, act: Callable[[], Any]) -> None:
         """Does what may fail for want of room."""

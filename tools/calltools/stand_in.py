@@ -18,6 +18,10 @@ def _opened(name: str) -> BinaryIO:
     return open(name, "rb", buffering=0)
 
 
+def _made(name: str) -> int:
+    return os.open(name, os.O_WRONLY | os.O_CREAT | os.O_TRUNC)
+
+
 def _exactly(file: BinaryIO, count: int) -> bytes:
     data = b""
     while len(data) < count and (part := file.read(count - len(data))):
@@ -106,9 +110,9 @@ def main(words: list[str]) -> None:
     names = [word for word in words[1:] if not word.startswith("--")]
     format = next((word[9:] for word in words if word.startswith("--format=")), "qcif")
     if words[0] == "send":
-        send(_opened(names[0]), _opened(names[1]), os.open(names[2], os.O_WRONLY | os.O_CREAT | os.O_TRUNC))
+        send(_opened(names[0]), _opened(names[1]), _made(names[2]))
     else:
-        out, wire = (os.open(name, os.O_WRONLY | os.O_CREAT | os.O_TRUNC) for name in names[1:])
+        out, wire = map(_made, names[1:])
         recv(_opened(names[0]), out, wire, y4m.Size(*y4m.FORMATS[format]))
 
 

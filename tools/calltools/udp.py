@@ -72,7 +72,8 @@ class Channel:
             self._net.connect(address)
             others.bind(self.address)
         except OSError as fault:
-            raise BadInput(to[0], f"port {to[1]}", f"{fault.strerror} from {self.address[0]}") from None
+            why = f"{fault.strerror} from {self.address[0]}"
+            raise BadInput(to[0], f"port {to[1]}", why) from None
         for net in (self._net, others):
             net.setsockopt(socket.SOL_SOCKET, socket.SO_REUSEADDR, 0)
         self._others = others

@@ -22,7 +22,7 @@ class FrameCutter:
         for part in self._cutter.parts(data):
             if self.head is None:
                 self.head = part
-                self.size = Y4mReader(io.BufferedReader(io.BytesIO(part)), self._path).size
+                self.size = Y4mReader(io.BytesIO(part), self._path).size
                 continue
             line, _, _ = part.partition(b"\n")
             tags = line.decode("latin-1").split(" ")[1:]
