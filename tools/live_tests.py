@@ -15,6 +15,7 @@ import time
 import unittest
 from pathlib import Path
 from typing import Any, Callable, Optional, Sequence
+from unittest import mock
 
 from calltools import bad_network, errors, live_settings, logs, loop, messages, numbers, pipes
 from calltools import picture_start, playout, program, rtcp, rtp, udp, y4m, y4m_pipe
@@ -203,6 +204,10 @@ class PartsTest(unittest.TestCase):
         with self.assertRaises(errors.BadInput) as caught:
             udp.Channel(turns, one.address)
         self.assertEqual(str(caught.exception), f"127.0.0.1: port {one.address[1]}: it is taken")
+        with mock.patch.object(udp, "MOST_BYTES", 3):
+            other.send(b"long")
+            wait(turns, 0.1)
+        self.assertEqual((len(came), one.long), (5, 1))
         for channel in (one, other, stranger):
             channel.close()
 
@@ -522,6 +527,39 @@ class CallsTest(unittest.TestCase):
         wanted = {"malformed": 2 * count, "other source": 2 * count, "stale": count, "of strangers": count, "not asked for": count}
         self.assertEqual({cause: call.dropped(cause) for cause in wanted}, wanted, call.told)
         for net in (other, control, stranger):
+            net.close()
+
+    def test_what_a_camera_sends(self) -> None:
+        """The test is the other party: an SSRC, sequence numbers and times of its own, the times
+        those of the captures, and BYE at the end; a message counts if it is about that SSRC."""
+        port, other_port = free_port(), free_port()
+        other, control = bound(other_port), bound(other_port + 1)
+        for net in (other, control):
+            net.settimeout(20)
+        ends = ("--with", "127.0.0.1", "--port", port, "--other-port", other_port, "--one-way", "camera")
+        call = self.start(*ends, "--format", "sub-qcif", "--rate", 20, "--camera", self.video(30))
+        headers = []
+        for number in range(30):
+            packet = other.recv(2_000)
+            header = rtp.rtp_header(packet)
+            start = picture_start.picture_start(packet)
+            assert header and start
+            self.assertEqual(start.reference, number)
+            headers.append(header)
+            for about in (header.source, header.source ^ 1):
+                said = rtcp.Feedback(1, about, bytes([0xC0, number >> 5, (number & 31) << 3 | 4]))
+                control.sendto(rtcp.feedback_bytes(said), ("127.0.0.1", port + 1))
+        first = headers[0]
+        self.assertEqual({header.source for header in headers}, {first.source})
+        self.assertNotEqual(first.source, rtp.OWN_SOURCE)
+        steps = [(header.sequence - first.sequence) & 0xFFFF for header in headers]
+        self.assertEqual(steps, list(range(30)))
+        ticks = (headers[-1].timestamp - first.timestamp) & 0xFFFFFFFF
+        self.assertAlmostEqual(ticks / rtp.CLOCK, 29 / 20, delta=0.5)
+        self.assertEqual(rtcp.read_rtcp(control.recv(100)), rtcp.Bye(first.source))
+        self.assertEqual(call.ended().status, 0, call.told)
+        self.assertEqual((call.count("messages in", "sent"), call.dropped("stale messages")), (30, 30), call.told)
+        for net in (other, control):
             net.close()
 
     def test_a_flood_of_strangers(self) -> None:
