@@ -244,6 +244,15 @@ def flood(port: int, seconds: float, rate: int) -> int:
     return sent
 
 
+def mutated(draws: random.Random, data: bytes) -> bytes:
+    """Some bytes changed, but not the SSRC, and now and then the end cut."""
+    changed = bytearray(data)
+    for _ in range(draws.randrange(4)):
+        at = draws.choice([0, 1, 2, 3, 4, 5, 6, 7, *range(12, min(len(data), 40))])
+        changed[at] = draws.randrange(256)
+    return bytes(changed[: draws.choice([len(data), len(data), draws.randrange(len(data))])])
+
+
 def wait_for_port(port: int) -> None:
     """Until a call has this port."""
     until = time.monotonic() + 20
@@ -529,6 +538,31 @@ class CallsTest(unittest.TestCase):
         for net in (other, control, stranger):
             net.close()
 
+    def test_mutated_datagrams_do_no_harm(self) -> None:
+        """From the other party's address, with the right SSRC, to a screen and to a camera."""
+        program = PROGRAM if HAS_PROGRAM else self.stand_in
+        port, other_port = free_port(), free_port()
+        ends = ("--with", "127.0.0.1", "--port", port, "--other-port", other_port, "--seconds", 5)
+        words = ("--format", "sub-qcif", "--camera", self.video(600), "--screen", "none")
+        call = self.start(*ends, *words, program=program)
+        other, control = bound(other_port), bound(other_port + 1)
+        wait_for_port(port)
+        source = rtp.rtp_header(other.recv(2_000)).source
+        draws, packets = random.Random(5), example_packets()
+        messages = [rtcp.feedback_bytes(rtcp.Feedback(1, source, bytes([0xC0, number, 4]))) for number in range(8)]
+        for number in range(4_000):
+            other.sendto(mutated(draws, packets[number % len(packets)]), ("127.0.0.1", port))
+            control.sendto(mutated(draws, draws.choice(messages)), ("127.0.0.1", port + 1))
+            if number % 20 == 0:
+                time.sleep(0.01)
+        self.assertEqual(call.ended().status, 0, call.told)
+        self.assertNotIn("Traceback", call.told)
+        self.assertGreater(call.shown("shown"), 100, call.told)
+        self.assertGreater(call.count("messages in", "sent"), 1_000, call.told)
+        self.assertGreater(call.dropped("malformed"), 100, call.told)
+        for net in (other, control):
+            net.close()
+
     def test_what_a_camera_sends(self) -> None:
         """The test is the other party: an SSRC, sequence numbers and times of its own, the times
         those of the captures, and BYE at the end; a message counts if it is about that SSRC."""
@@ -621,7 +655,7 @@ class CallsTest(unittest.TestCase):
             (("--camera", none, "--screen", "none"), f"{none}: no camera: there is no such file that can be read"),
             (("--camera", "/dev/video99", "--screen", "none"), "/dev/video99: no camera: is one plugged in.*"),
             (("--camera", none.with_suffix(".y4m"), "--screen", "none"), f"{none}.y4m: No such file or directory"),
-            (("--camera", video, "--screen", "none"), f"{video}: the head: 128 x 96, and the call is qcif, 176 x 144"),
+            ((*ends[:4], "--format", "qcif"), f"{video}: the head: 128 x 96, and the call is qcif, 176 x 144"),
             ((*ends, "--screen", "window"), "--screen: window: there is no display here, so --screen takes a Y4M file, - or none"),
             ((*ends, "--screen", none / "x.y4m"), f"{none}/x.y4m: No such file or directory"),
         ):
