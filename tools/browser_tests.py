@@ -85,7 +85,7 @@ class BrowserTest(Room):
 
     def test_keys(self) -> None:
         browser = self.open(self.burst_page(), "#10")
-        self.assertEqual(self.settled(browser), (10, "Picture 10 of 15, held, from 9"))
+        self.assertEqual(self.settled(browser), (10, "Picture 10 of 0 to 15, held, from 9"))
         self.assertIn("all lost", self.told(browser, "told"))
         self.assertIn("NACK came back", self.told(browser, "told"))
         shift = 8
@@ -107,7 +107,7 @@ class BrowserTest(Room):
         browser.key(" ", "Space")
         self.assertTrue(browser.value("page.player.isPlaying"))
         browser.value(UNTIL.format("!page.player.isPlaying"))
-        self.assertEqual(self.settled(browser), (15, "Picture 15 of 15, exact, from 14"))
+        self.assertEqual(self.settled(browser), (15, "Picture 15 of 0 to 15, exact, from 14"))
         label = "document.getElementById('play').getAttribute('aria-label')"
         self.assertEqual(browser.value(label), "Play")
         browser.key(" ", "Space")
@@ -121,8 +121,8 @@ class BrowserTest(Room):
         browser.resize(390, 844, 2, is_phone=True)
         self.assertEqual(browser.value("document.documentElement.scrollWidth"), 390)
         self.assertEqual(browser.value(SMALL_TARGETS), 0)
-        shown = self.box(browser, "shown")
-        x, y = shown["x"] + 20, shown["y"] + 40
+        shown = self.box(browser, "shown_figure")
+        x, y = shown["x"] + 20, shown["y"] + 80
         browser.touch((x, y), (x + 30, y), (x + 56, y + 3))
         self.assertEqual(self.settled(browser)[0], 4)
         line = self.box(browser, "overview")

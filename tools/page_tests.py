@@ -180,9 +180,9 @@ class Folder:
     def __init__(self, path: Path, clock: float = 0.0) -> None:
         path.mkdir()
         self.path, self.clock = path, clock
-        network = {"loss": 0.05, "burst": 2.0, "delay": 0.03, "outage": [2.0, 0.5]}
-        self.call: dict[str, Any] = {"version": 1, "format": "sub-qcif", "rate": "30000/1001"}
-        self.call.update(network=network, send=[], recv=[])
+        network: dict[str, Any] = {"loss": 0.05, "burst": 2.0, "delay": 0.03, "outage": [2.0, 0.5]}
+        settings = {"version": 1, "format": "sub-qcif", "rate": "30000/1001", "network": network}
+        self.call: dict[str, Any] = {**settings, "send": [], "recv": []}
 
     def log(self, name: str, rows: list[tuple[str, bytes, float]]) -> None:
         with open(self.path / f"{name}.log", "wb") as file:
@@ -261,6 +261,8 @@ class PageTest(Room):
         self.assertIn("default-src 'none'", text)
         self.assertNotIn("{{", text)
         self.assertEqual(set(re.findall(r'byId\("(\w+)"\)', text)) - set(marks.ids), set())
+        acts = set(re.findall(r'data-act="(\w+)"', text))
+        self.assertEqual(acts - set(re.findall(r"^ {6}(\w+): \(\) =>", text, re.M)), set())
 
     def test_a_small_call_is_stored_exactly(self) -> None:
         page = self.burst_page()
@@ -292,10 +294,9 @@ class PageTest(Room):
         self.assertEqual(said[:2], [(1, True, "lost"), (0, False, "taken")])
         sizes = {0: [90, 80], 1: [70], 2: [60, 50], 3: [40]}
         found = traced.way_of_report(told, SMALL, traced.Trace("trace", text, 2, sizes))
-        of_packets = [(packet.picture, packet.fate, packet.size) for packet in found.packets]
-        wanted = [(0, "taken", 90), (0, "again", 90), (0, "lost", 80), (1, "taken", 70)]
-        wanted += [(2, "late", 50), (2, "lost", 60), (3, "early", 40)]
-        self.assertEqual(of_packets, wanted)
+        by_size = [(packet.picture, packet.fate, packet.size) for packet in found.packets]
+        first = [(0, "taken", 90), (0, "again", 90), (0, "lost", 80), (1, "taken", 70)]
+        self.assertEqual(by_size, first + [(2, "late", 50), (2, "lost", 60), (3, "early", 40)])
 
     def test_colours_can_be_read(self) -> None:
         """Words and marks have a contrast of 4.5 at least in both schemes."""

@@ -39,14 +39,14 @@ class Browser:
     """A browser with one page, used as a context."""
 
     def __init__(self, width: int = 1100, height: int = 900) -> None:
-        self._room = tempfile.TemporaryDirectory(ignore_cleanup_errors=True)
+        self._room = tempfile.mkdtemp()
         program = chromium()
         assert program
         read, self._to = os.pipe()
         self._from, write = os.pipe()
         # Numbers of their own, since the browser reads from file 3 and writes to file 4.
         read, write = _moved(read), _moved(write)
-        words = [program, *_FLAGS, f"--user-data-dir={self._room.name}", "about:blank"]
+        words = [program, *_FLAGS, f"--user-data-dir={self._room}", "about:blank"]
         script = f'exec "$@" 3<&{read} 4>&{write}'
         self._process = subprocess.Popen(
             ["bash", "-c", script, "bash", *words],
@@ -81,7 +81,7 @@ class Browser:
         except ProcessLookupError:
             pass
         self._process.wait()
-        self._room.cleanup()
+        shutil.rmtree(self._room, ignore_errors=True)
 
     def _message(self) -> dict[str, Any]:
         while b"\0" not in self._data:

@@ -1,50 +1,50 @@
-/* The page: its parts put together, words, keys and touch. */
+/* The page: its parts put together, keys and touch. */
 
 const byId = (id) => document.getElementById(id);
-/* A drag of so many CSS pixels across a picture is a step. */
+/* A drag of this many CSS pixels across a picture is a step. */
 const DRAG_STEP = 14;
+/* One of this many is a tap that slipped. */
+const SLIP = 4;
 
-function rowsOf(call) {
-  for (const way of call.ways) {
-    way.packets = way.packets.map(([picture, fate, sent, came, size, isAll]) => ({ picture, fate, sent, came, size, isAll }));
-    way.messages = way.messages.map(([picture, isAck, fate, said, heard]) => ({ picture, isAck, fate, said, heard }));
-    prepare(way);
-  }
-  return call;
-}
-
-function referenceWords(reference) {
-  return reference === -1 ? "intra" : reference === -2 ? "" : `from ${reference}`;
-}
-
-function milliseconds(from, to) {
-  return from === null || to === null ? "" : ` after ${Math.round(1000 * (to - from))} ms`;
-}
-
-function packetWords(packets) {
-  if (packets.some((packet) => packet.isAll)) {
-    return packets.map((packet) => `${packet.isAll ? "all" : "one"} ${FATES[packet.fate]}`).join(", ");
-  }
-  const words = Object.entries(FATES).map(([fate, word]) => [packets.filter((packet) => packet.fate === fate).length, word]);
-  return words.filter(([count]) => count).map(([count, word]) => `${count} ${word}`).join(", ");
-}
-
-function messageWords({ isAck, fate, said, heard }) {
-  const what = fate === "lost" ? "lost" : fate === "passed" ? "said" : `came back${milliseconds(said, heard)}`;
-  return `${isAck ? "ACK" : "NACK"} ${what}`;
+function element(name, words) {
+  return Object.assign(document.createElement(name), { textContent: words });
 }
 
 class Page {
-  constructor(call) {
-    this.call = call;
+  constructor(ways) {
+    this.ways = ways;
     const colours = () => (this.colours ||= coloursOf(document.documentElement));
     const figures = { captured: byId("captured_figure"), shown: byId("shown_figure") };
     this.overview = new Overview(byId("overview"), colours);
     this.timeline = new Timeline(byId("timeline"), colours);
-    this.player = new Player(call.ways, figures, () => this.update());
+    this.player = new Player(ways, figures, () => this.update());
+    this.acts = this.actsOf(this.player);
     this.listen();
     this.choose(0);
     this.drawLegend(colours());
+  }
+
+  /* What buttons and keys do, by name. */
+  actsOf(player) {
+    return {
+      first: () => player.step(-player.place),
+      back: () => player.step(-1),
+      far_back: () => player.step(-10),
+      play: () => player.toggle(),
+      forward: () => player.step(1),
+      far_forward: () => player.step(10),
+      last: () => player.step(player.count),
+      next_fault: () => player.fault(1),
+      fault_before: () => player.fault(-1),
+      reference: () => this.toReference(),
+      closer: () => this.zoom(1),
+      farther: () => this.zoom(-1),
+    };
+  }
+
+  act(name) {
+    this.acts[name]();
+    this.remember();
   }
 
   choose(number) {
@@ -52,80 +52,34 @@ class Page {
     this.player.choose(number);
     const { way, count } = this.player;
     byId("pictures").classList.toggle("is_single", !(way.captured_video && way.shown_video));
-    Object.assign(byId("place"), { max: count - 1 });
-    byId("stored").textContent = this.storedWords(way);
+    byId("place").max = count - 1;
+    byId("stored").textContent = storedWords(way);
     return this.player.go(0);
   }
 
-  storedWords(way) {
-    const videos = [way.captured_video, way.shown_video].filter(Boolean);
-    if (!videos.length) return "";
-    if (!videos[0].steps) return "This page holds the pictures exactly, sample by sample, and loads nothing.";
-    const names = [way.captured_video && `captured ${way.captured_video.psnr} dB`, way.shown_video && `shown ${way.shown_video.psnr} dB`];
-    const psnr = names.filter(Boolean).join(", ");
-    return `This page holds the pictures at reduced precision, so that it stays small (PSNR of Y against the real ones: ${psnr}), and loads nothing. Marks, references and the quality named at each picture are those of the real ones.`;
-  }
-
   update() {
-    const { player } = this;
-    const { way, place } = player;
+    const { way, place, number, isPlaying } = this.player;
+    const sentence = sentenceOf(way, place);
     this.timeline.look(way, place);
     this.timeline.draw();
     this.overview.draw(way, place, this.timeline.places());
     byId("place").value = place;
-    byId("place").setAttribute("aria-valuetext", this.sentence());
-    byId("play").setAttribute("aria-pressed", player.isPlaying);
-    byId("play").setAttribute("aria-label", player.isPlaying ? "Stop" : "Play");
-    this.tellMark();
-    this.tellAll();
-    byId("status").textContent = player.isPlaying ? "Playing" : this.sentence();
+    byId("place").setAttribute("aria-valuetext", sentence);
+    byId("play").classList.toggle("is_on", isPlaying);
+    byId("play").setAttribute("aria-label", isPlaying ? "Stop" : "Play");
+    byId("status").textContent = isPlaying ? "Playing" : sentence;
+    byId("captured_told").textContent = `picture ${number}`;
+    this.tellMark(way.marks[place]);
+    const row = ([name, words]) => [element("dt", name), element("dd", words)];
+    byId("told").replaceChildren(...rowsOf(way, place).flatMap(row));
   }
 
-  tellMark() {
-    const { way, place } = this.player;
-    const mark = way.marks[place];
-    const badge = byId("mark");
-    badge.className = `mark ${mark || ""}`;
-    badge.textContent = mark ? MARKS[mark].word : "not played";
-    byId("captured_told").textContent = `picture ${this.player.number}`;
+  tellMark(mark) {
+    byId("mark").className = `mark ${mark || ""}`;
+    byId("mark").textContent = mark ? MARKS[mark].word : "not played";
   }
 
-  /* In words what the line of time shows of this picture. */
-  tellAll() {
-    const { way, place, number } = this.player;
-    byId("timeline").setAttribute("aria-label", `References, packets and messages around picture ${number}`);
-    const packets = way.packetsOf[place];
-    const sizes = packets.map(({ size }) => size);
-    const rows = [["Reference", referenceWords(way.references[place]), true]];
-    rows.push(["Packets", packetWords(packets), way.packets.length]);
-    rows.push(["Bytes", sizes.reduce((sum, size) => sum + size, 0).toLocaleString("en"), way.packets.some(({ size }) => size)]);
-    rows.push(["Message", way.messagesOf[place].map(messageWords).join(", "), way.messages.length]);
-    rows.push(["Captured", this.seconds(way.captured[place]), true]);
-    rows.push(["Played", this.seconds(way.played[place]), way.played.some(Boolean)]);
-    rows.push(["Quality", this.quality(way.psnr[place]), way.psnr.length]);
-    byId("told").replaceChildren(...rows.filter(([, , isTold]) => isTold).flatMap(([name, words]) => [
-      Object.assign(document.createElement("dt"), { textContent: name }),
-      Object.assign(document.createElement("dd"), { textContent: words || "\u2013" }),
-    ]));
-  }
-
-  seconds(time) {
-    return time === null || time === undefined ? "" : `${time.toFixed(3)} s`;
-  }
-
-  quality(psnr) {
-    return psnr === undefined ? "" : psnr >= 99 ? "as captured" : `${psnr.toFixed(1)} dB (PSNR of Y, shown against captured)`;
-  }
-
-  sentence() {
-    const { way, place, number } = this.player;
-    const last = way.first + this.player.count - 1;
-    const mark = way.marks[place];
-    const words = [`Picture ${number} of ${last}`, mark ? MARKS[mark].word : "", referenceWords(way.references[place])];
-    return words.filter(Boolean).join(", ");
-  }
-
-  /* Puts the place into the page's address, so that it can be passed on. */
+  /* Puts the number into the page's address, so that it can be passed on. */
   remember() {
     try {
       history.replaceState(null, "", `#${this.player.number}`);
@@ -142,17 +96,18 @@ class Page {
 
   listen() {
     const { player } = this;
-    const clicks = {
-      first: () => player.step(-player.place), back: () => player.step(-1), play: () => player.toggle(),
-      forward: () => player.step(1), last: () => player.step(player.count), next_fault: () => player.fault(1),
-      closer: () => this.zoom(1), farther: () => this.zoom(-1),
-    };
-    for (const [id, act] of Object.entries(clicks)) {
-      byId(id).addEventListener("click", () => { act(); this.remember(); });
+    for (const button of document.querySelectorAll("button[data-act]")) {
+      button.addEventListener("click", () => this.act(button.dataset.act));
     }
-    byId("place").addEventListener("input", (event) => { player.stop(); player.go(Number(event.target.value)); });
-    byId("speed").addEventListener("change", (event) => player.setSpeed(Number(event.target.value)));
-    byId("way").addEventListener("change", (event) => this.choose(Number(event.target.value)));
+    byId("place").addEventListener("input", (event) => {
+      player.stop();
+      player.go(Number(event.target.value));
+    });
+    const chosen = (id, act) => {
+      byId(id).addEventListener("change", (event) => act(Number(event.target.value)));
+    };
+    chosen("speed", (speed) => player.setSpeed(speed));
+    chosen("way", (number) => this.choose(number));
     document.addEventListener("keydown", (event) => this.key(event));
     addEventListener("resize", () => this.update());
     addEventListener("hashchange", () => this.recall());
@@ -172,109 +127,102 @@ class Page {
   }
 
   key(event) {
-    const { player } = this;
-    if (event.ctrlKey || event.altKey || event.metaKey || event.target.tagName === "SELECT") return;
-    if (event.key === " " && ["BUTTON", "SUMMARY"].includes(event.target.tagName)) return;
-    const far = event.shiftKey ? 10 : 1;
+    if (event.ctrlKey || event.altKey || event.metaKey) return;
+    const tag = event.target.tagName;
+    if (tag === "SELECT" || (event.key === " " && ["BUTTON", "SUMMARY"].includes(tag))) return;
     const keys = {
-      " ": () => player.toggle(), ArrowLeft: () => player.step(-far), ArrowRight: () => player.step(far),
-      Home: () => player.step(-player.place), End: () => player.step(player.count),
-      n: () => player.fault(1), p: () => player.fault(-1), r: () => this.toReference(),
-      "+": () => this.zoom(1), "=": () => this.zoom(1), "-": () => this.zoom(-1),
+      " ": "play", ArrowLeft: "back", ArrowRight: "forward", Home: "first", End: "last",
+      n: "next_fault", p: "fault_before", r: "reference",
+      "+": "closer", "=": "closer", "-": "farther",
     };
-    const act = keys[event.key.length === 1 ? event.key.toLowerCase() : event.key];
+    const far = { ArrowLeft: "far_back", ArrowRight: "far_forward" };
+    const name = event.key.length === 1 ? event.key.toLowerCase() : event.key;
+    const act = (event.shiftKey && far[name]) || keys[name];
     if (!act) return;
     event.preventDefault();
-    act();
-    this.remember();
+    this.act(act);
   }
 
   toReference() {
-    const reference = this.player.way.references[this.player.place];
-    if (reference >= 0) this.player.step(reference - this.player.number);
+    const { way, place, number } = this.player;
+    if (way.references[place] >= 0) this.player.step(way.references[place] - number);
   }
 
   /* Fingers and mice: across a picture to step, on the lines of time to go there. */
   listenToTouch() {
-    const { player } = this;
-    this.drag(byId("pictures"), (moved) => player.go(this.dragged + Math.round(moved / DRAG_STEP)));
-    this.drag(byId("overview"), (moved, x) => player.go(this.overview.placeAt(player.way, x)), true);
-    this.drag(byId("timeline"), (moved) => player.go(this.dragged - Math.round(moved / ZOOMS[this.timeline.zoom])));
-    byId("timeline").addEventListener("click", (event) => {
-      if (!this.hasMoved) player.go(this.timeline.placeAt(event.offsetX));
-    });
+    const { player, overview, timeline } = this;
+    const steps = (moved, size) => this.dragged + Math.round(moved / size);
+    this.drag(byId("pictures"), (moved) => player.go(steps(moved, DRAG_STEP)), () => {});
+    const there = (moved, x) => player.go(overview.placeAt(player.way, x));
+    this.drag(byId("overview"), there, (x) => there(0, x));
+    const tapped = (x) => player.go(timeline.placeAt(x));
+    const along = (moved) => player.go(steps(moved, -ZOOMS[timeline.zoom]));
+    this.drag(byId("timeline"), along, tapped);
   }
 
-  drag(element, act, isAtOnce = false) {
+  /* Calls `dragged` with how far a pointer was moved and where it is; `tapped` where it wasn't. */
+  drag(target, dragged, tapped) {
+    const x = (event) => event.clientX - target.getBoundingClientRect().left;
     let start = null;
-    element.addEventListener("pointerdown", (event) => {
+    let hasMoved = false;
+    target.addEventListener("pointerdown", (event) => {
       if (event.button) return;
       start = event.clientX;
+      hasMoved = false;
       this.dragged = this.player.place;
-      this.hasMoved = false;
       this.player.stop();
-      element.setPointerCapture(event.pointerId);
-      if (isAtOnce) act(0, event.offsetX);
+      target.setPointerCapture(event.pointerId);
     });
-    element.addEventListener("pointermove", (event) => {
+    target.addEventListener("pointermove", (event) => {
       if (start === null) return;
-      const moved = event.clientX - start;
-      this.hasMoved ||= Math.abs(moved) > 4;
-      if (this.hasMoved || isAtOnce) act(moved, event.clientX - element.getBoundingClientRect().left);
+      hasMoved ||= Math.abs(event.clientX - start) > SLIP;
+      if (hasMoved) dragged(event.clientX - start, x(event));
     });
-    for (const end of ["pointerup", "pointercancel"]) {
-      element.addEventListener(end, () => { start = null; this.update(); this.remember(); });
-    }
+    const ended = (event) => {
+      if (event.type === "pointerup" && start !== null && !hasMoved) tapped(x(event));
+      start = null;
+      this.update();
+      this.remember();
+    };
+    target.addEventListener("pointerup", ended);
+    target.addEventListener("pointercancel", ended);
   }
 
   drawLegend(colours) {
-    const list = byId("legend");
-    list.replaceChildren();
-    for (const [word, draw] of this.signs(colours)) {
+    byId("legend").replaceChildren();
+    for (const [word, draw] of signsOf(this.ways, colours)) {
       const canvas = document.createElement("canvas");
-      const item = document.createElement("li");
       canvas.setAttribute("aria-hidden", "true");
+      const item = document.createElement("li");
       item.append(canvas, word);
-      list.append(item);
+      byId("legend").append(item);
       draw(prepared(canvas, 20).pen);
     }
   }
-
-  /* The signs that this call has, each with its word. */
-  signs(colours) {
-    const { ways } = this.call;
-    const signs = [];
-    for (const [mark, { letter, word }] of Object.entries(MARKS)) {
-      if (ways.some((way) => way.marks.includes(mark))) signs.push([word, (pen) => drawMark(pen, colours, mark, 14, 10, 18, letter)]);
-    }
-    if (ways.some((way) => way.references.includes(-1) && way.packets.length)) {
-      signs.push(["intra", (pen) => drawMark(pen, colours, null, 14, 10, 18, "I")]);
-    }
-    for (const fate of Object.keys(FATES)) {
-      const has = ways.some((way) => way.packets.some((packet) => packet.fate === fate));
-      if (has) signs.push([`packet ${FATES[fate]}`, (pen) => drawPacket(pen, colours, fate, false, 4, 3, 24, 16)]);
-    }
-    for (const [isAck, fate, word] of [[true, "taken", "ACK"], [false, "taken", "NACK"], [true, "lost", "message lost"]]) {
-      const has = ways.some((way) => way.messages.some((message) => (fate === "lost" || message.isAck === isAck) && message.fate === fate));
-      if (has) signs.push([word, (pen) => drawMessage(pen, colours, isAck, fate, 4, 17, 24, 4)]);
-    }
-    return signs;
-  }
 }
 
-function chooseWay(call) {
-  byId("choice").hidden = call.ways.length < 2;
-  call.ways.forEach((way, number) => byId("way").append(new Option(way.name || `Way ${number + 1}`, number)));
+/* Rows with names, and what the drawing needs. */
+function wayOf(told) {
+  const packet = ([picture, fate, sent, came, size, isAll]) => {
+    return { picture, fate, sent, came, size, isAll };
+  };
+  const message = ([picture, isAck, fate, said, heard]) => ({ picture, isAck, fate, said, heard });
+  const way = { ...told, packets: told.packets.map(packet), messages: told.messages.map(message) };
+  prepare(way);
+  return way;
 }
 
 function start() {
   if (typeof DecompressionStream === "undefined") {
-    Object.assign(byId("fault"), { hidden: false, textContent: "This browser is too old for this page: it has no DecompressionStream." });
+    byId("fault").hidden = false;
+    byId("fault").textContent = "This browser is too old: it has no DecompressionStream.";
     return;
   }
-  const call = rowsOf(JSON.parse(byId("call").textContent));
-  chooseWay(call);
-  window.page = new Page(call);
+  const ways = JSON.parse(byId("call").textContent).ways.map(wayOf);
+  byId("choice").hidden = ways.length < 2;
+  const option = (way, number) => new Option(way.name || `way ${number + 1}`, number);
+  byId("way").append(...ways.map(option));
+  window.page = new Page(ways);
   window.page.recall();
 }
 

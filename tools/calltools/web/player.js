@@ -66,7 +66,7 @@ class Player {
     return this.go(this.place + count);
   }
 
-  /* The nearest picture after this one, or before it, that isn't exact; this one where there is none. */
+  /* The nearest picture on one side that isn't exact; this one where there is none. */
   fault(direction) {
     for (let place = this.place + direction; place >= 0 && place < this.count; place += direction) {
       const mark = this.way.marks[place];

@@ -1,5 +1,5 @@
 "use strict";
-/* The way back from what calltools/stored.py makes: groups of pictures to samples, and samples to colours. */
+/* The way back from what calltools/stored.py makes: groups to samples, and samples to colours. */
 
 const LEVELS = 3;
 const FINER = [2, 1, 1, 1, 1, 1, 0, 0, 0, -1];
@@ -18,7 +18,7 @@ async function inflated(bytes) {
   return new Uint8Array(await new Response(stream).arrayBuffer());
 }
 
-/* The pictures of an inflated group: a byte that says whether each is less the one before, bitmaps, values. */
+/* The pictures of an inflated group: whether each is less the one before, bitmaps, values. */
 function unpacked(data, count, length) {
   const pictures = [];
   const isChange = data[0] === 1;
@@ -121,7 +121,8 @@ class StoredVideo {
     let found = this.kept.get(number);
     if (!found) {
       const count = Math.min(this.group, this.count - number * this.group);
-      found = inflated(bytesOf(this.groups[number])).then((data) => unpacked(data, count, this.length));
+      const data = inflated(bytesOf(this.groups[number]));
+      found = data.then((bytes) => unpacked(bytes, count, this.length));
     }
     this.kept.delete(number);
     this.kept.set(number, found);

@@ -1,4 +1,4 @@
-/* The lines of time: the whole call as bars, and the pictures around one with references, packets and messages. */
+/* The lines of time: the whole call as bars, and what is around one picture. */
 
 const SQUARE = 20;
 const ARCS = 74;
@@ -106,7 +106,7 @@ class Timeline {
   }
 
   isSeen(...times) {
-    const seen = times.filter((time) => time !== null && time !== undefined).map((time) => this.x(time));
+    const seen = times.map((time) => this.x(time));
     return Math.max(...seen) > -40 && Math.min(...seen) < this.width + 40;
   }
 
@@ -120,7 +120,9 @@ class Timeline {
     const first = Math.max(Math.floor(this.place - half), 0);
     const last = Math.min(Math.ceil(this.place + half), this.way.marks.length - 1);
     const others = [];
-    for (let place = first; place <= last; place++) if (place !== this.place) others.push(place);
+    for (let place = first; place <= last; place++) {
+      if (place !== this.place) others.push(place);
+    }
     this.drawRails();
     pen.globalAlpha = 0.5;
     this.drawArcs(first, false);
@@ -146,7 +148,7 @@ class Timeline {
     }
   }
 
-  /* An arc from each picture to its reference; those of pictures on the right of the drawing reach into it, too. */
+  /* An arc from each picture to its reference, also from pictures on the right of what is seen. */
   drawArcs(first, isHere) {
     const { references, marks } = this.way;
     const places = isHere ? [this.place] : marks.keys();
@@ -166,11 +168,12 @@ class Timeline {
     this.pen.strokeStyle = isHere ? this.ink.ink : this.ink.quiet;
     this.pen.lineWidth = isHere ? 2.2 : 1.1;
     this.pen.beginPath();
-    this.pen.ellipse((start + end) / 2, base, across, Math.min(across, ARCS - 14), 0, 0, Math.PI, true);
+    const tall = Math.min(across, ARCS - 14);
+    this.pen.ellipse((start + end) / 2, base, across, tall, 0, 0, Math.PI, true);
     this.pen.stroke();
     if (!isHere) return;
     this.pen.fillStyle = this.ink.ink;
-    drawArrow(this.pen, end + 2, base - 12, end, base + 1);
+    drawArrow(this.pen, [end + 2, base - 12], [end, base + 1]);
   }
 
   drawWays(place) {
@@ -185,7 +188,7 @@ class Timeline {
     if (!this.isSeen(from, to)) return;
     const top = this.top + SQUARE / 2;
     const bottom = this.bottom - SQUARE / 2 - 3;
-    drawPacket(this.pen, this.ink, fate, isAll, this.x(from), top, this.x(to), bottom);
+    drawPacket(this.pen, this.ink, fate, isAll, [this.x(from), top], [this.x(to), bottom]);
   }
 
   drawMessage({ isAck, fate, said, heard }) {
@@ -194,7 +197,7 @@ class Timeline {
     if (!this.isSeen(said, to)) return;
     const bottom = this.bottom - SQUARE / 2 - 1;
     const top = this.top + SQUARE / 2 + 1;
-    drawMessage(this.pen, this.ink, isAck, fate, this.x(said), bottom, this.x(to), top);
+    drawMessage(this.pen, this.ink, isAck, fate, [this.x(said), bottom], [this.x(to), top]);
   }
 
   /* Where a picture's squares stand: at the sender, and at the receiver where it was played. */
@@ -213,8 +216,9 @@ class Timeline {
     const mark = this.way.marks[place];
     const letter = mark ? MARKS[mark].letter : "";
     const isIntra = this.way.references[place] === -1;
-    if (this.hasWays) drawMark(this.pen, this.ink, null, sender, this.top, this.side, isIntra ? "I" : "");
-    if (receiver !== null) drawMark(this.pen, this.ink, mark, receiver, this.bottom, this.side, letter);
+    const [pen, ink, side] = [this.pen, this.ink, this.side];
+    if (this.hasWays) drawMark(pen, ink, null, sender, this.top, side, isIntra ? "I" : "");
+    if (receiver !== null) drawMark(pen, ink, mark, receiver, this.bottom, side, letter);
   }
 
   /* Around the squares of the picture that is looked at. */
@@ -223,8 +227,9 @@ class Timeline {
     const wide = this.side + 5;
     this.pen.strokeStyle = this.ink.ink;
     this.pen.lineWidth = 2.5;
-    if (this.hasWays) this.pen.strokeRect(sender - wide / 2, this.top - wide / 2, wide, wide);
-    if (receiver !== null) this.pen.strokeRect(receiver - wide / 2, this.bottom - wide / 2, wide, wide);
+    const frame = (x, y) => this.pen.strokeRect(x - wide / 2, y - wide / 2, wide, wide);
+    if (this.hasWays) frame(sender, this.top);
+    if (receiver !== null) frame(receiver, this.bottom);
   }
 
   /* The numbers of this picture, and of every few that have room beside it and one another. */
@@ -235,7 +240,7 @@ class Timeline {
       const { receiver } = this.squaresAt(place);
       if (receiver === null || taken.some((x) => Math.abs(x - receiver) < 28)) return;
       taken.push(receiver);
-      this.pen.font = `${weight} 11px system-ui, "DejaVu Sans", sans-serif`;
+      this.pen.font = `${weight} 11px ${FONT}`;
       this.pen.fillStyle = colour;
       this.pen.fillText(String(this.way.first + place), receiver, this.bottom + SQUARE / 2 + 6);
     };
@@ -249,7 +254,7 @@ class Timeline {
 
   drawNames() {
     if (!this.hasWays) return;
-    this.pen.font = '600 11px system-ui, "DejaVu Sans", sans-serif';
+    this.pen.font = `600 11px ${FONT}`;
     this.pen.textAlign = "left";
     this.pen.textBaseline = "middle";
     for (const [word, y] of [["sender", this.top + SQUARE], ["receiver", this.bottom - SQUARE]]) {
