@@ -274,6 +274,18 @@ class PageTest(Room):
         self.assertEqual(told["psnr"][1], 99.0)
         self.assertLess(page.stat().st_size, 120_000)
 
+    def test_a_page_that_cannot_fit_is_told(self) -> None:
+        """It has the coarsest steps then, and the tool says how long it is."""
+        pictures = [random.Random(n).randbytes(SMALL.bytes) for n in range(20)]
+        lines = "".join(f"{number} exact intra\n" for number in range(len(pictures) * 13))
+        video = write_video(self.room / "noise.y4m", SMALL, pictures * 13)
+        report_of = self.file("report", lines.encode())
+        page = self.page(report_of, "--shown", video, "--megabytes", 1)
+        size = page.stat().st_size
+        self.assertEqual(
+            self.said, f"the page has {size:,} bytes: fewer --pictures make it shorter\n"
+        )
+
     def test_a_section(self) -> None:
         told = call_of(self.burst_page("--from", 5, "--pictures", 4))["ways"][0]
         self.assertEqual((told["first"], told["marks"]), (5, ["held", "held", "exact", "exact"]))

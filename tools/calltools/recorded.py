@@ -85,7 +85,7 @@ def _check_runs(path: Path, command: str, runs: object, names: tuple[str, ...]) 
             file = run.get(name)
             if not isinstance(file, str) or file in ("", ".", "..") or "/" in file or "\0" in file:
                 raise BadInput(str(path), place, f"{name} names no file of the folder")
-        for name in ("source", "first_sequence", "skipped"):
+        for name in ("source", "first_sequence", "first_time", "skipped"):
             number_of = run.get(name)
             if number_of is not None and (
                 type(number_of) is not int or not 0 <= number_of < 1 << 32

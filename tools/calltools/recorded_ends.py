@@ -51,6 +51,7 @@ class Sender:
     number: int
     source: Optional[int]
     first_sequence: int
+    first_time: int
     pictures: list[report.Picture]
     captured: list[Optional[float]]
     packets: list[SentPacket]
@@ -74,7 +75,8 @@ def sender_of(record: Record, place: int) -> Sender:
     return Sender(
         number=place + 1,
         source=run.get("source"),
-        first_sequence=int(run.get("first_sequence") or 0),
+        first_sequence=run.get("first_sequence") or 0,
+        first_time=run.get("first_time") or 0,
         pictures=_report_of(record, run),
         captured=[timed.time for timed in entries if timed.entry.letter == logs.CAPTURE],
         packets=packets,
@@ -134,7 +136,7 @@ def receiver_of(record: Record, place: int) -> Receiver:
     run = record.runs("recv")[place]
     entries = entries_of(record, run["log"])
     played = [timed.time for timed in entries if timed.entry.letter == logs.PLAY]
-    skipped = int(run.get("skipped") or 0)
+    skipped = run.get("skipped") or 0
     return Receiver(
         number=place + 1,
         source=run.get("source"),

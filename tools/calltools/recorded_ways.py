@@ -36,6 +36,11 @@ def ways_of(record: Record, other: Optional[Record] = None) -> list[way.Way]:
     return [replace(one, name="") for one in ways] if len(ways) == 1 else ways
 
 
+def _quickest(times: list[float]) -> float:
+    # Of which one in twenty is less, since a busy machine may note a time too late.
+    return sorted(times)[len(times) // 20] if times else 0.0
+
+
 def _add(time: Optional[float], shift: float) -> Optional[float]:
     return None if time is None else time + shift
 
@@ -72,19 +77,24 @@ class _Joined:
         self.shift = 0.0 if is_one_clock else self._least_way()
         self.heard = self._heard()
         if not is_one_clock:
-            self.shift -= (
-                min((heard - self._said(k) for k, heard in self.heard.items()), default=0.0) / 2
-            )
+            self.shift -= _quickest([heard - self._said(k) for k, heard in self.heard.items()]) / 2
             self.heard = self._heard()
 
     def _came(self) -> Iterator[tuple[int, CamePacket]]:
         # Each packet that came with its place among those sent.
         count = len(self.sender.packets)
-        last = 0
+        last = self._joined_at()
         for packet in self.receiver.packets:
             last = nearest(packet.sequence - self.sender.first_sequence, 1 << 16, last)
             if 0 <= last < count:
                 yield last, packet
+
+    def _joined_at(self) -> int:
+        # About which place among those sent the first packet that came has, by its timestamp.
+        since = (self.receiver.packets[0].stamp - self.sender.first_time) % (1 << 32) / _SECOND
+        known = [time for time in self.sender.captured if time is not None]
+        picture = sum(time - known[0] < since - 0.001 for time in known) if known else 0
+        return sum(packet.picture < picture for packet in self.sender.packets)
 
     def _least_way(self) -> float:
         ways = [
@@ -92,7 +102,7 @@ class _Joined:
             for place, packet in self.came
             if packet.time is not None and (sent := self.sender.packets[place].time) is not None
         ]
-        return min(ways, default=0.0)
+        return _quickest(ways)
 
     def _said(self, number: int) -> float:
         return self.receiver.said[number].time or 0.0

@@ -40,12 +40,18 @@ class Overview {
     const colours = this.colours();
     const count = way.marks.length;
     const step = width / count;
-    const heights = { exact: 1, patched: 0.55, held: 0.25 };
+    const heights = { patched: 0.55, held: 0.25 };
     const gap = step > 4 ? 1 : 0;
+    const bar = (number, tall, colour, least) => {
+      pen.fillStyle = colour;
+      pen.fillRect(number * step, height - 6 - tall, Math.max(step - gap, least), tall);
+    };
+    /* Where pictures are finer than points, those that aren't exact are seen all the same. */
+    way.marks.forEach((mark, number) => bar(number, height - 12, colours.exact, 0.75));
     way.marks.forEach((mark, number) => {
-      const tall = (height - 12) * (heights[mark] || 0.7);
-      pen.fillStyle = colours[mark] || colours.none;
-      pen.fillRect(number * step, height - 6 - tall, Math.max(step - gap, 0.75), tall);
+      if (mark === "exact") return;
+      bar(number, height - 12, colours.paper, 1.5);
+      bar(number, (height - 12) * (heights[mark] || 0.7), colours[mark] || colours.none, 1.5);
     });
     pen.strokeStyle = colours.quiet;
     const [from, to] = shownPlaces;
