@@ -182,7 +182,7 @@ class Folder:
         self.path, self.clock = path, clock
         network: dict[str, Any] = {"loss": 0.05, "burst": 2.0, "delay": 0.03, "outage": [2.0, 0.5]}
         settings = {"version": 1, "format": "sub-qcif", "rate": "30000/1001", "network": network}
-        self.call: dict[str, Any] = {**settings, "send": [], "recv": []}
+        self.call: dict[str, Any] = {**settings, "send": [], "recv": [], "counts": {}}
 
     def log(self, name: str, rows: list[tuple[str, bytes, float]]) -> None:
         with open(self.path / f"{name}.log", "wb") as file:
@@ -192,8 +192,9 @@ class Folder:
         (self.path / f"{name}.times").write_text("".join(times))
 
     def run(self, command: str, video: str, wire: str, **more: object) -> None:
-        files = {"video": video, "log": f"{command}.log", "wire": wire, "report": f"{command}.txt"}
-        self.call[command].append({**files, "source": self.SOURCE, **more})
+        run: dict[str, object] = {"video": video, "wire": wire, "source": self.SOURCE}
+        run.update(log=f"{command}.log", report=f"{command}.txt", **more)
+        self.call[command].append(run)
 
     def sent(self, pictures: list[bytes], heard: list[tuple[bytes, float]]) -> "Folder":
         """Each picture in two packets, and messages that came back."""
@@ -434,6 +435,21 @@ class RecordedTest(Room):
         (found,) = recorded_ways.ways_of(recorded.read_record(there))
         self.assertEqual({packet.fate for packet in found.packets}, {"passed"})
         self.assertEqual(len(call_of(self.page(there))["ways"][0]["marks"]), 5)
+
+    def test_a_call_that_was_cut_off(self) -> None:
+        """What was written before the cut is told; in a call that ended, a cut is a fault."""
+        folder = whole_folder(self.room / "call")
+        folder.done()
+        for name in ("recv.log", "packets.log", "messages.log", "captured.y4m", "recv.times"):
+            path = folder.path / name
+            path.write_bytes(path.read_bytes()[:-2])
+        with self.assertRaisesRegex(errors.BadInput, "ends within"):
+            self.page(folder.path)
+        del folder.call["counts"]
+        (found,) = recorded_ways.ways_of(recorded.read_record(folder.done()))
+        self.assertEqual([picture.mark for picture in found.pictures], MARKS)
+        self.assertIsNone(found.pictures[3].played)
+        self.assertEqual(len(found.captured), 4)
 
     def test_a_joined_call_leaves_out_what_nobody_saw(self) -> None:
         shown = [bytes([128]) * SMALL.bytes] * 2 + frames()[2:4]

@@ -7,10 +7,11 @@ from fractions import Fraction
 from pathlib import Path
 from typing import Any, Optional, Sequence
 
-from . import logs
+from . import logs, report
 from .errors import BadInput
+from .frames import frames_of
 from .way import format_of
-from .y4m import FORMATS, Size, Y4mReader
+from .y4m import FORMATS, Size
 
 
 _TIME = re.compile(r"-?\d{1,9}(?:\.\d{1,9})?")
@@ -34,6 +35,11 @@ class Record:
         return list(self.told.get(command, []))
 
     @property
+    def is_cut(self) -> bool:
+        """Whether nobody wrote the end: the files may stop anywhere."""
+        return "counts" not in self.told
+
+    @property
     def size(self) -> Size:
         return Size(*FORMATS[self.told["format"]])
 
@@ -53,7 +59,7 @@ def read_record(folder: Path) -> Record:
     with open(path, encoding="utf-8") as file:
         try:
             told = json.load(file)
-        except ValueError as fault:
+        except (ValueError, RecursionError) as fault:
             raise BadInput(str(path), "its text", f"this is no JSON: {fault}") from None
     if not isinstance(told, dict) or told.get("version") != 1:
         raise BadInput(str(path), "version", "1 is wanted")
@@ -104,38 +110,52 @@ class Timed:
     time: Optional[float]
 
 
-def _times(path: Path) -> list[float]:
+def _times(path: Path, is_cut: bool) -> list[float]:
     if not path.exists():
         return []
-    times = []
-    with open(path, encoding="ascii", errors="replace") as file:
-        for number, line in enumerate(file, 1):
-            if not _TIME.fullmatch(line.rstrip("\n")):
-                raise BadInput(str(path), f"line {number}", "a time in seconds is wanted")
-            times.append(float(line))
-    return times
+    lines = path.read_text(encoding="ascii", errors="replace").split("\n")
+    # What follows the last newline: nothing, or a number that was cut off.
+    last = lines.pop()
+    if last and not is_cut:
+        lines.append(last)
+    for number, line in enumerate(lines, 1):
+        if not _TIME.fullmatch(line):
+            raise BadInput(str(path), f"line {number}", "a time in seconds is wanted")
+    return list(map(float, lines))
 
 
 def entries_of(record: Record, name: str) -> list[Timed]:
-    """The entries of a log with their times. Where the log was cut off, those before."""
+    """The entries of a log with their times. Where the call was cut off, those before the cut."""
     path = record.path(name)
-    times: Sequence[Optional[float]] = _times(path.with_suffix(".times"))
+    times: list[Optional[float]] = [*_times(path.with_suffix(".times"), record.is_cut)]
+    entries: list[logs.Entry] = []
     with open(path, "rb") as file:
-        entries = list(logs.read_log(file, str(path)))
-    padded = [*times, *[None] * (len(entries) - len(times))]
-    return [Timed(entry, time) for entry, time in zip(entries, padded)]
+        try:
+            entries.extend(logs.read_log(file, str(path)))
+        except BadInput:
+            if not record.is_cut:
+                raise
+    times += [None] * (len(entries) - len(times))
+    return [Timed(entry, time) for entry, time in zip(entries, times)]
 
 
-def frames_of(record: Record, name: str) -> list[bytes]:
+def video_of(record: Record, name: str) -> Sequence[bytes]:
     """The pictures of a video, all of the call's size."""
     path = record.path(name)
     if not path.exists() or not path.stat().st_size:
         return []
-    with open(path, "rb") as file:
-        reader = Y4mReader(file, str(path))
-        if reader.size != record.size:
-            raise BadInput(str(path), "the head", "its size is not the call's format")
-        return [frame.samples for frame in reader]
+    found = frames_of(path, record.is_cut)
+    if found.size != record.size:
+        raise BadInput(str(path), "the head", "its size is not the call's format")
+    return found
+
+
+def pictures_of(record: Record, name: str) -> list[report.Picture]:
+    """The pictures of a report. One of an end that died at once has none."""
+    path = record.path(name)
+    with open(path, encoding="ascii", errors="replace") as file:
+        lines = file.readlines()
+    return report.read_report(lines, str(path)).pictures if lines else []
 
 
 def about(record: Record) -> list[str]:

@@ -7,7 +7,7 @@ from typing import Any, Optional, Sequence
 
 from . import logs, report, rtp
 from .errors import BadInput
-from .recorded import Record, Timed, entries_of, frames_of
+from .recorded import Record, Timed, entries_of, pictures_of, video_of
 
 _SEQUENCES, _STAMPS = 1 << 16, 1 << 32
 _ACK = 3
@@ -19,12 +19,6 @@ def nearest(rest: int, modulus: int, to: int) -> int:
     """The number with this rest that is nearest to another number."""
     half = modulus // 2
     return to + (rest - to + half) % modulus - half
-
-
-def _report_of(record: Record, run: dict[str, Any]) -> list[report.Picture]:
-    path = record.path(run["report"])
-    with open(path, encoding="ascii", errors="replace") as file:
-        return report.read_report(file, str(path)).pictures
 
 
 @dataclass(frozen=True)
@@ -77,7 +71,7 @@ def sender_of(record: Record, place: int) -> Sender:
         source=run.get("source"),
         first_sequence=run.get("first_sequence") or 0,
         first_time=run.get("first_time") or 0,
-        pictures=_report_of(record, run),
+        pictures=pictures_of(record, run["report"]),
         captured=[timed.time for timed in entries if timed.entry.letter == logs.CAPTURE],
         packets=packets,
         heard=[
@@ -85,7 +79,7 @@ def sender_of(record: Record, place: int) -> Sender:
             for timed in entries
             if timed.entry.letter == logs.MESSAGE
         ],
-        frames=frames_of(record, run["video"]),
+        frames=video_of(record, run["video"]),
     )
 
 
@@ -142,11 +136,11 @@ def receiver_of(record: Record, place: int) -> Receiver:
         source=run.get("source"),
         lead=_lead_of(record, place),
         skipped=skipped,
-        pictures=_report_of(record, run),
+        pictures=pictures_of(record, run["report"]),
         played=played,
         packets=_came(entries),
         said=_said(record, run, played)[skipped:],
-        frames=frames_of(record, run["video"]),
+        frames=video_of(record, run["video"]),
     )
 
 
