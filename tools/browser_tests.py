@@ -7,7 +7,7 @@ from pathlib import Path
 from typing import Any
 
 from calltools.browser import Browser, chromium
-from page_tests import SMALL, Room, call_of, noisy, samples_of, write_video
+from page_tests import SMALL, Room, call_of, noisy, samples_of, whole_folder, write_video
 
 # A promise of the time when what the script says holds.
 UNTIL = "new Promise(done => {{ const look = () => {} ? done() : setTimeout(look, 5); look(); }})"
@@ -128,6 +128,32 @@ class BrowserTest(Room):
         line = self.box(browser, "overview")
         browser.touch((line["x"] + line["width"] * 10.5 / 16, line["y"] + 20))
         self.assertEqual(self.settled(browser)[0], 10)
+
+    def test_two_ways(self) -> None:
+        """One is chosen from a list; without a video its figure is gone."""
+        folder = whole_folder(self.room / "call")
+        folder.call["recv"][0]["source"] = 8
+        browser = self.open(self.page(folder.done()))
+        options = "[...document.getElementById('way').options].map(option => option.text)"
+        self.assertEqual(browser.value(options), ["shown to call", "sent by call"])
+        gone = "['captured', 'shown'].filter(name => page.player.figures[name].hidden)"
+        self.assertEqual(browser.value(gone), ["captured"])
+        change = "dispatchEvent(new Event('change'))"
+        browser.value(
+            f"(way => {{ way.value = 1; way.{change}; }})(document.getElementById('way'))"
+        )
+        self.assertEqual(self.settled(browser), (0, "Picture 0 of 0 to 4, intra"))
+        self.assertEqual(browser.value(gone), ["shown"])
+
+    def test_the_scheme_is_the_readers(self) -> None:
+        browser = self.open(self.burst_page())
+        grounds = []
+        for name in ("light", "dark"):
+            browser.scheme(name)
+            browser.value(UNTIL.format(f"matchMedia('(prefers-color-scheme: {name})').matches"))
+            grounds.append(browser.value("coloursOf(document.documentElement).paper"))
+            self.assertEqual(browser.value("page.timeline.colours().paper"), grounds[-1])
+        self.assertNotEqual(*grounds)
 
     def test_all_that_is_pressed_has_a_name(self) -> None:
         browser = self.open(self.burst_page())

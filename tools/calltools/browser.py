@@ -4,13 +4,15 @@ import base64
 import fcntl
 import json
 import os
+import select
 import shutil
 import signal
-import subprocess
 import tempfile
 from pathlib import Path
 from typing import Any, Optional
 
+# Seconds for an answer.
+_PATIENCE = 60
 _NAMES = ("chromium", "chromium-browser", "google-chrome")
 _FLAGS = (
     "--headless=new",
@@ -29,8 +31,55 @@ def chromium() -> Optional[str]:
     return next((found for name in _NAMES if (found := shutil.which(name))), None)
 
 
+class _Program:
+    """The browser's process, and messages to and from it, each ended by a zero byte."""
+
+    def __init__(self, program: str) -> None:
+        self._room = tempfile.mkdtemp()
+        words = [program, *_FLAGS, f"--user-data-dir={self._room}", "about:blank"]
+        read, self._to = os.pipe()
+        self._from, write = os.pipe()
+        # It reads from file 3 and writes to file 4, which the pipes' own numbers mustn't be.
+        read, write = _moved(read), _moved(write)
+        nothing = [(os.POSIX_SPAWN_OPEN, file, os.devnull, os.O_RDWR, 0) for file in range(3)]
+        ends = [(os.POSIX_SPAWN_DUP2, read, 3), (os.POSIX_SPAWN_DUP2, write, 4)]
+        actions = [*nothing, *ends]
+        self._process = os.posix_spawn(
+            program, words, os.environ, file_actions=actions, setpgroup=0
+        )
+        os.close(read)
+        os.close(write)
+        self._data = b""
+
+    def send(self, message: dict[str, Any]) -> None:
+        """Writes a message."""
+        data = json.dumps(message).encode() + b"\0"
+        while data:
+            data = data[os.write(self._to, data) :]
+
+    def message(self) -> dict[str, Any]:
+        """The next message, which must come within a minute."""
+        while b"\0" not in self._data:
+            if not select.select([self._from], [], [], _PATIENCE)[0]:
+                raise RuntimeError("the browser doesn't answer")
+            part = os.read(self._from, 1 << 20)
+            if not part:
+                raise RuntimeError("the browser ended")
+            self._data += part
+        message, _, self._data = self._data.partition(b"\0")
+        return json.loads(message)
+
+    def end(self) -> None:
+        """Ends it, with the processes that it started."""
+        os.killpg(self._process, signal.SIGKILL)
+        os.waitpid(self._process, 0)
+        os.close(self._to)
+        os.close(self._from)
+        shutil.rmtree(self._room, ignore_errors=True)
+
+
 def _moved(file: int) -> int:
-    moved = fcntl.fcntl(file, fcntl.F_DUPFD, 20)
+    moved = fcntl.fcntl(file, fcntl.F_DUPFD_CLOEXEC, 20)
     os.close(file)
     return moved
 
@@ -39,58 +88,31 @@ class Browser:
     """A browser with one page, used as a context."""
 
     def __init__(self, width: int = 1100, height: int = 900) -> None:
-        self._room = tempfile.mkdtemp()
         program = chromium()
         assert program
-        read, self._to = os.pipe()
-        self._from, write = os.pipe()
-        # Numbers of their own, since the browser reads from file 3 and writes to file 4.
-        read, write = _moved(read), _moved(write)
-        words = [program, *_FLAGS, f"--user-data-dir={self._room}", "about:blank"]
-        script = f'exec "$@" 3<&{read} 4>&{write}'
-        self._process = subprocess.Popen(
-            ["bash", "-c", script, "bash", *words],
-            pass_fds=(read, write),
-            start_new_session=True,
-            stdin=subprocess.DEVNULL,
-            stdout=subprocess.DEVNULL,
-            stderr=subprocess.DEVNULL,
-        )
-        os.close(read)
-        os.close(write)
-        self._data = b""
+        self._program = _Program(program)
         self._count = 0
         self._session: Optional[str] = None
         self.events: list[dict[str, Any]] = []
+        try:
+            self._attach()
+            self.resize(width, height)
+        except RuntimeError:
+            self._program.end()
+            raise
+
+    def _attach(self) -> None:
         target = self.ask("Target.createTarget", url="about:blank")["targetId"]
-        self._session = self.ask("Target.attachToTarget", targetId=target, flatten=True)[
-            "sessionId"
-        ]
+        attached = self.ask("Target.attachToTarget", targetId=target, flatten=True)
+        self._session = attached["sessionId"]
         for domain in ("Page", "Runtime", "Network", "Log"):
             self.ask(f"{domain}.enable")
-        self.resize(width, height)
 
     def __enter__(self) -> "Browser":
         return self
 
     def __exit__(self, *_: object) -> None:
-        os.close(self._to)
-        os.close(self._from)
-        try:
-            os.killpg(self._process.pid, signal.SIGKILL)
-        except ProcessLookupError:
-            pass
-        self._process.wait()
-        shutil.rmtree(self._room, ignore_errors=True)
-
-    def _message(self) -> dict[str, Any]:
-        while b"\0" not in self._data:
-            part = os.read(self._from, 1 << 20)
-            if not part:
-                raise RuntimeError("the browser ended")
-            self._data += part
-        message, _, self._data = self._data.partition(b"\0")
-        return json.loads(message)
+        self._program.end()
 
     def ask(self, method: str, **parameters: Any) -> dict[str, Any]:
         """The answer to a command of the protocol."""
@@ -98,11 +120,9 @@ class Browser:
         asked = {"id": self._count, "method": method, "params": parameters}
         if self._session:
             asked["sessionId"] = self._session
-        data = json.dumps(asked).encode() + b"\0"
-        while data:
-            data = data[os.write(self._to, data) :]
+        self._program.send(asked)
         while True:
-            message = self._message()
+            message = self._program.message()
             if message.get("id") == self._count:
                 if "error" in message:
                     raise RuntimeError(f"{method}: {message['error']}")
@@ -126,7 +146,7 @@ class Browser:
         self.events.clear()
         self.ask("Page.navigate", url=path.resolve().as_uri() + place)
         while not any(event.get("method") == "Page.loadEventFired" for event in self.events):
-            self.events.append(self._message())
+            self.events.append(self._program.message())
 
     def value(self, script: str) -> Any:
         """What a script, or the promise that it makes, comes to."""
