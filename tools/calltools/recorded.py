@@ -1,0 +1,198 @@
+"""The folder that `live_call --record` writes (docs/LIVE.md): its settings, logs, times, videos."""
+
+import json
+import re
+from dataclasses import dataclass
+from fractions import Fraction
+from pathlib import Path
+from typing import Any, Optional, Sequence
+
+from . import logs, report
+from .errors import BadInput
+from .frames import frames_of
+from .way import format_of
+from .y4m import FORMATS, Size
+
+
+_TIME = re.compile(r"-?\d{1,9}(?:\.\d{1,9})?")
+# What a run of each command names.
+_NAMES = {"send": ("video", "log", "wire", "report"), "recv": ("log", "video", "wire", "report")}
+
+
+@dataclass(frozen=True)
+class Record:
+    """A folder, and what its call.json says."""
+
+    folder: Path
+    told: dict[str, Any]
+
+    def path(self, name: str) -> Path:
+        """A file of the folder."""
+        return self.folder / name
+
+    def runs(self, command: str) -> list[dict[str, Any]]:
+        """The runs of `send`, or of `recv`."""
+        return list(self.told.get(command, []))
+
+    @property
+    def is_cut(self) -> bool:
+        """Whether nobody wrote the end: the files may stop anywhere."""
+        return "counts" not in self.told
+
+    @property
+    def size(self) -> Size:
+        return Size(*FORMATS[self.told["format"]])
+
+    @property
+    def period(self) -> float:
+        return float(1 / Fraction(self.told["rate"]))
+
+    @property
+    def numbers(self) -> int:
+        """How many numbers temporal references tell apart."""
+        return 1024 if self.told.get("clock") == "custom" else 256
+
+
+def read_record(folder: Path) -> Record:
+    """A folder with a whole call.json of version 1."""
+    path = folder / "call.json"
+    with open(path, encoding="utf-8") as file:
+        try:
+            told = json.load(file)
+        except (ValueError, RecursionError) as fault:
+            raise BadInput(str(path), "its text", f"this is no JSON: {fault}") from None
+    if not isinstance(told, dict) or told.get("version") != 1:
+        raise BadInput(str(path), "version", "1 is wanted")
+    if not isinstance(told.get("format"), str) or told["format"] not in FORMATS:
+        raise BadInput(str(path), "format", f"it is none of {', '.join(FORMATS)}")
+    if not _is_rate(told.get("rate")):
+        raise BadInput(str(path), "rate", "pictures a second are wanted, as in 30000/1001")
+    for command, names in _NAMES.items():
+        _check_runs(path, command, told.get(command, []), names)
+    return Record(folder, told)
+
+
+def _is_rate(rate: object) -> bool:
+    try:
+        return isinstance(rate, str) and Fraction(1, 10) <= Fraction(rate) <= 1000
+    except (ValueError, ZeroDivisionError):
+        return False
+
+
+def _check_runs(path: Path, command: str, runs: object, names: tuple[str, ...]) -> None:
+    if not isinstance(runs, list):
+        raise BadInput(str(path), command, "a list of runs is wanted")
+    for number, run in enumerate(runs, 1):
+        place = f"{command}, run {number}"
+        if not isinstance(run, dict):
+            raise BadInput(str(path), place, "this is no run")
+        for name in names:
+            # Names are flat, so that none leads out of the folder.
+            file = run.get(name)
+            if not isinstance(file, str) or file in ("", ".", "..") or "/" in file or "\0" in file:
+                raise BadInput(str(path), place, f"{name} names no file of the folder")
+        for name in ("source", "first_sequence", "first_time", "skipped"):
+            number_of = run.get(name)
+            if number_of is not None and (
+                type(number_of) is not int or not 0 <= number_of < 1 << 32
+            ):
+                raise BadInput(str(path), place, f"{name} is no number of 32 bits")
+        options = run.get("options", [])
+        if not isinstance(options, list) or not all(isinstance(word, str) for word in options):
+            raise BadInput(str(path), place, "its options are no list of words")
+
+
+@dataclass(frozen=True)
+class Timed:
+    """An entry of a log and its time, or None where the times end before."""
+
+    entry: logs.Entry
+    time: Optional[float]
+
+
+def _times(path: Path, is_cut: bool) -> list[float]:
+    if not path.exists():
+        return []
+    lines = path.read_text(encoding="ascii", errors="replace").split("\n")
+    # What follows the last newline: nothing, or a number that was cut off.
+    last = lines.pop()
+    if last and not is_cut:
+        lines.append(last)
+    for number, line in enumerate(lines, 1):
+        if not _TIME.fullmatch(line):
+            raise BadInput(str(path), f"line {number}", "a time in seconds is wanted")
+    return list(map(float, lines))
+
+
+def entries_of(record: Record, name: str) -> list[Timed]:
+    """The entries of a log with their times. Where the call was cut off, those before the cut."""
+    path = record.path(name)
+    times: list[Optional[float]] = [*_times(path.with_suffix(".times"), record.is_cut)]
+    entries: list[logs.Entry] = []
+    with open(path, "rb") as file:
+        try:
+            entries.extend(logs.read_log(file, str(path)))
+        except BadInput:
+            if not record.is_cut:
+                raise
+    times += [None] * (len(entries) - len(times))
+    return [Timed(entry, time) for entry, time in zip(entries, times)]
+
+
+def video_of(record: Record, name: str) -> Sequence[bytes]:
+    """The pictures of a video, all of the call's size."""
+    path = record.path(name)
+    if not path.exists() or not path.stat().st_size:
+        return []
+    found = frames_of(path, record.is_cut)
+    if found.size != record.size:
+        raise BadInput(str(path), "the head", "its size is not the call's format")
+    return found
+
+
+def pictures_of(record: Record, name: str) -> list[report.Picture]:
+    """The pictures of a report. One of an end that died at once has none."""
+    path = record.path(name)
+    with open(path, encoding="ascii", errors="replace") as file:
+        lines = file.readlines()
+    return report.read_report(lines, str(path)).pictures if lines else []
+
+
+def about(record: Record) -> list[str]:
+    """What was asked for, in words: format, rate, network, settings."""
+    told = record.told
+    words = [format_of(record.size), f"{1 / record.period:.4g} pictures a second"]
+    network = told.get("network")
+    if isinstance(network, dict):
+        words.append(_network(network))
+    if _is_number(told.get("target")):
+        words.append(f"target {told['target']:,} bytes a picture")
+    if _is_number(told.get("wait")):
+        words.append(f"wait {1000 * told['wait']:g} ms")
+    if isinstance(told.get("began"), str):
+        words.append(f"{told['began'][:16].replace('T', ' ')} UTC")
+    return words
+
+
+def _is_number(value: object) -> bool:
+    return isinstance(value, (int, float)) and not isinstance(value, bool)
+
+
+def _network(network: dict[str, Any]) -> str:
+    # What is nothing isn't told.
+    words = []
+    signs = (
+        ("loss", 100, " % lost"),
+        ("duplicate", 100, " % twice"),
+        ("delay", 1000, " ms of delay"),
+    )
+    for name, scale, unit in (*signs, ("jitter", 1000, " ms of jitter"), ("kbits", 1, " kbit/s")):
+        value = network.get(name)
+        if _is_number(value) and value:
+            words.append(f"{scale * value:g}{unit}")
+    if words and network.get("loss") and _is_number(network.get("burst")) and network["burst"] > 1:
+        words[0] += f" in bursts of {network['burst']:g}"
+    outage = network.get("outage")
+    if isinstance(outage, list) and len(outage) == 2 and all(map(_is_number, outage)):
+        words.append(f"nothing for {outage[1]:g} s from {outage[0]:g} s on")
+    return "network: " + (", ".join(words) or "nothing lost")

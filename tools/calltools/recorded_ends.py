@@ -1,0 +1,208 @@
+"""The two ends of a recorded call: what a run of `send` sent and heard, and what a run of `recv`
+was given and said."""
+
+import re
+from dataclasses import dataclass
+from typing import Any, Optional, Sequence
+
+from . import logs, report, rtp
+from .errors import BadInput
+from .recorded import Record, Timed, entries_of, pictures_of, video_of
+
+_SEQUENCES, _STAMPS = 1 << 16, 1 << 32
+_ACK = 3
+# `recv` without --lead.
+_LEAD = 3
+
+
+def nearest(rest: int, modulus: int, to: int) -> int:
+    """The number with this rest that is nearest to another number."""
+    half = modulus // 2
+    return to + (rest - to + half) % modulus - half
+
+
+@dataclass(frozen=True)
+class SentPacket:
+    """A packet as `send` wrote it."""
+
+    picture: int
+    size: int
+    time: Optional[float]
+
+
+@dataclass(frozen=True)
+class Heard:
+    """A message that came back to `send`."""
+
+    body: bytes
+    time: Optional[float]
+
+
+@dataclass(frozen=True)
+class Sender:
+    """A run of `send`. Packet k has sequence number first_sequence + k on the network."""
+
+    number: int
+    source: Optional[int]
+    first_sequence: int
+    first_time: int
+    pictures: list[report.Picture]
+    captured: list[Optional[float]]
+    packets: list[SentPacket]
+    heard: list[Heard]
+    frames: Sequence[bytes]
+
+
+def sender_of(record: Record, place: int) -> Sender:
+    """Reads the run of `send` at this place of call.json."""
+    run = record.runs("send")[place]
+    entries = entries_of(record, run["log"])
+    packets = []
+    for number, timed in enumerate(entries_of(record, run["wire"])):
+        header = rtp.rtp_header(timed.entry.body)
+        if header is None:
+            raise BadInput(
+                str(record.path(run["wire"])), f"entry {number}", "this is no RTP packet"
+            )
+        picture = header.timestamp // rtp.TICKS_A_PICTURE
+        packets.append(SentPacket(picture, len(timed.entry.body), timed.time))
+    return Sender(
+        number=place + 1,
+        source=run.get("source"),
+        first_sequence=run.get("first_sequence") or 0,
+        first_time=run.get("first_time") or 0,
+        pictures=pictures_of(record, run["report"]),
+        captured=[timed.time for timed in entries if timed.entry.letter == logs.CAPTURE],
+        packets=packets,
+        heard=[
+            Heard(timed.entry.body, timed.time)
+            for timed in entries
+            if timed.entry.letter == logs.MESSAGE
+        ],
+        frames=video_of(record, run["video"]),
+    )
+
+
+@dataclass(frozen=True)
+class CamePacket:
+    """A packet that came to `recv` after `played` plays. Its sequence number and its timestamp are
+    counted on from the first packet's without end."""
+
+    sequence: int
+    stamp: int
+    reference: Optional[int]
+    has_marker: bool
+    size: int
+    played: int
+    time: Optional[float]
+
+
+@dataclass(frozen=True)
+class Said:
+    """A message of `recv`, and the picture that it is about, by the receiver's count."""
+
+    body: bytes
+    picture: int
+    time: Optional[float]
+
+    @property
+    def is_ack(self) -> bool:
+        return self.body[0] >> 6 == _ACK
+
+
+@dataclass(frozen=True)
+class Receiver:
+    """A run of `recv`. Nobody saw the first `skipped` pictures: it joined a call under way."""
+
+    number: int
+    source: Optional[int]
+    lead: int
+    skipped: int
+    pictures: list[report.Picture]
+    played: list[Optional[float]]
+    packets: list[CamePacket]
+    said: list[Said]
+    frames: Sequence[bytes]
+
+
+def receiver_of(record: Record, place: int) -> Receiver:
+    """Reads the run of `recv` at this place of call.json."""
+    run = record.runs("recv")[place]
+    entries = entries_of(record, run["log"])
+    played = [timed.time for timed in entries if timed.entry.letter == logs.PLAY]
+    skipped = run.get("skipped") or 0
+    return Receiver(
+        number=place + 1,
+        source=run.get("source"),
+        lead=_lead_of(record, place),
+        skipped=skipped,
+        pictures=pictures_of(record, run["report"]),
+        played=played,
+        packets=_came(entries),
+        said=_said(record, run, played)[skipped:],
+        frames=video_of(record, run["video"]),
+    )
+
+
+def _lead_of(record: Record, place: int) -> int:
+    words = [
+        word for word in record.runs("recv")[place].get("options", []) if word.startswith("--lead=")
+    ]
+    lead = words[-1][len("--lead=") :] if words else str(_LEAD)
+    if not re.fullmatch("[0-9]{1,6}", lead):
+        raise BadInput(
+            str(record.path("call.json")), f"recv, run {place + 1}", "its lead is no number"
+        )
+    return int(lead)
+
+
+def _came(entries: list[Timed]) -> list[CamePacket]:
+    found: list[CamePacket] = []
+    played, sequence, stamp = 0, None, None
+    for timed in entries:
+        body = timed.entry.body
+        played += timed.entry.letter == logs.PLAY
+        header = rtp.rtp_header(body) if timed.entry.letter == logs.PACKET else None
+        if header is None:
+            continue
+        sequence = nearest(
+            header.sequence, _SEQUENCES, header.sequence if sequence is None else sequence
+        )
+        stamp = nearest(header.timestamp, _STAMPS, header.timestamp if stamp is None else stamp)
+        found.append(
+            CamePacket(
+                sequence,
+                stamp,
+                temporal_reference(body),
+                bool(body[1] >> 7),
+                len(body),
+                played,
+                timed.time,
+            )
+        )
+    return found
+
+
+def temporal_reference(packet: bytes) -> Optional[int]:
+    """The low 8 bits of TR in the packet's picture header, or None where it has none."""
+    payload = packet[rtp.HEADER_BYTES :]
+    if len(payload) < 5:
+        return None
+    header = payload[3 if payload[0] >> 1 & 1 else 2 :]
+    return (header[0] & 3) << 6 | header[1] >> 2
+
+
+def _said(record: Record, run: dict[str, Any], played: list[Optional[float]]) -> list[Said]:
+    # A message is about the picture of the last play, or an open one: the nearest with its TR.
+    found, plays = [], 0
+    for number, timed in enumerate(entries_of(record, run["wire"])):
+        body = timed.entry.body
+        if len(body) < 3:
+            raise BadInput(str(record.path(run["wire"])), f"entry {number}", "this is no message")
+        if timed.time is None:
+            plays = number
+        while timed.time is not None and plays < len(played) and (played[plays] or 0) <= timed.time:
+            plays += 1
+        number_by_tr = int.from_bytes(body[:3], "big") >> 11 & record.numbers - 1
+        found.append(Said(body, nearest(number_by_tr, record.numbers, plays), timed.time))
+    return found

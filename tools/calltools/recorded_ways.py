@@ -1,0 +1,251 @@
+"""The ways of a recorded call: each run of `recv` with the run of `send` that it heard."""
+
+from dataclasses import replace
+from typing import Iterator, Optional, Sequence
+
+from . import way
+from .recorded import Record
+from .recorded_ends import CamePacket, Receiver, Sender, nearest, receiver_of, sender_of
+
+_TEMPORAL = 256
+_SECOND = 90_000
+
+
+def ways_of(record: Record, other: Optional[Record] = None) -> list[way.Way]:
+    """All ways of a call. `other` is the folder of the other machine: its sender's pictures come
+    here, and ours go there. A run whose other end isn't recorded tells what it knows."""
+    records = [record] if other is None else [record, other]
+    senders = [
+        (at, sender_of(at, number)) for at in records for number in range(len(at.runs("send")))
+    ]
+    receivers = [
+        (at, receiver_of(at, number)) for at in records for number in range(len(at.runs("recv")))
+    ]
+    ways, joined = [], set()
+    for at, receiver in receivers:
+        if not receiver.packets:
+            continue
+        found = next((pair for pair in senders if pair[1].source == receiver.source), None)
+        if found is None:
+            ways.append(_CameOnly(at, receiver).way())
+            continue
+        joined.add(id(found[1]))
+        ways.append(_Joined(at, receiver, found[1], found[0]).way())
+    ways += [_sent_only(at, sender) for at, sender in senders if id(sender) not in joined]
+    ways = [one for one in ways if one.pictures]
+    return [replace(one, name="") for one in ways] if len(ways) == 1 else ways
+
+
+def _quickest(times: list[float]) -> float:
+    # Of which one in twenty is less, since a busy machine may note a time too late.
+    return sorted(times)[len(times) // 20] if times else 0.0
+
+
+def _add(time: Optional[float], shift: float) -> Optional[float]:
+    return None if time is None else time + shift
+
+
+def _item(times: Sequence, number: int) -> Optional[float]:
+    return times[number] if 0 <= number < len(times) else None
+
+
+def _fate(picture: int, packet: CamePacket, lead: int, is_taken: bool) -> str:
+    # By the count of plays before it: what is open is taken, once.
+    if picture < packet.played:
+        return "late"
+    return "early" if picture > packet.played + lead else "again" if is_taken else "taken"
+
+
+def _run_name(record: Record, number: int) -> str:
+    # The folder's name, and which run it was where there are more.
+    return record.folder.resolve().name + (f" (run {number})" if number > 1 else "")
+
+
+class _Joined:
+    """A run of `recv` and the run of `send` that it heard. Pictures have the sender's
+    numbers, the receiver's plus `offset`; times are the receiver's, the sender's plus `shift`."""
+
+    def __init__(self, record: Record, receiver: Receiver, sender: Sender, sent_at: Record) -> None:
+        self.record, self.receiver, self.sender = record, receiver, sender
+        is_one_clock = sent_at is record
+        self.name = _run_name(record, receiver.number)
+        if not is_one_clock:
+            self.name = f"{_run_name(sent_at, sender.number)} to {self.name}"
+        self.came = list(self._came())
+        first = sender.packets[self.came[0][0]].picture if self.came else 0
+        self.offset = first - first % record.numbers
+        self.shift = 0.0 if is_one_clock else self._least_way()
+        self.heard = self._heard()
+        if not is_one_clock:
+            self.shift -= _quickest([heard - self._said(k) for k, heard in self.heard.items()]) / 2
+            self.heard = self._heard()
+
+    def _came(self) -> Iterator[tuple[int, CamePacket]]:
+        # Each packet that came with its place among those sent.
+        count = len(self.sender.packets)
+        last = self._joined_at()
+        for packet in self.receiver.packets:
+            last = nearest(packet.sequence - self.sender.first_sequence, 1 << 16, last)
+            if 0 <= last < count:
+                yield last, packet
+
+    def _joined_at(self) -> int:
+        # About which place among those sent the first packet that came has, by its timestamp.
+        since = (self.receiver.packets[0].stamp - self.sender.first_time) % (1 << 32) / _SECOND
+        known = [time for time in self.sender.captured if time is not None]
+        picture = sum(time - known[0] < since - 0.001 for time in known) if known else 0
+        return sum(packet.picture < picture for packet in self.sender.packets)
+
+    def _least_way(self) -> float:
+        ways = [
+            packet.time - sent
+            for place, packet in self.came
+            if packet.time is not None and (sent := self.sender.packets[place].time) is not None
+        ]
+        return _quickest(ways)
+
+    def _said(self, number: int) -> float:
+        return self.receiver.said[number].time or 0.0
+
+    def _heard(self) -> dict[int, float]:
+        # Of each message that came back, by its place: when.
+        by_body: dict[bytes, list[int]] = {}
+        for number, said in enumerate(self.receiver.said):
+            by_body.setdefault(said.body, []).append(number)
+        found: dict[int, float] = {}
+        for heard in self.sender.heard:
+            time = (heard.time or 0.0) + self.shift
+            before = [
+                k
+                for k in by_body.get(heard.body, [])
+                if k not in found and self._said(k) <= time + 0.05
+            ]
+            if before:
+                found[before[-1]] = time
+        return found
+
+    def _packets(self) -> Iterator[way.Packet]:
+        came, taken = set(), set()
+        for place, packet in self.came:
+            sent = self.sender.packets[place]
+            fate = _fate(sent.picture - self.offset, packet, self.receiver.lead, place in taken)
+            came.add(place)
+            taken.update([place] if fate == "taken" else [])
+            yield way.Packet(
+                sent.picture, fate, _add(sent.time, self.shift), packet.time, sent.size
+            )
+        for place, sent in enumerate(self.sender.packets):
+            if place not in came:
+                yield way.Packet(sent.picture, "lost", _add(sent.time, self.shift), None, sent.size)
+
+    def _messages(self) -> Iterator[way.Message]:
+        for number, said in enumerate(self.receiver.said):
+            heard = self.heard.get(number)
+            fate = "lost" if heard is None else "taken"
+            yield way.Message(said.picture + self.offset, said.is_ack, fate, said.time, heard)
+
+    def _picture(self, number: int) -> way.Picture:
+        coded, shown = self.sender.pictures[number], self.receiver.pictures[number - self.offset]
+        captured = _add(_item(self.sender.captured, number), self.shift)
+        played = _item(self.receiver.played, number - self.offset)
+        return way.Picture(number, shown.mark, coded.is_intra, coded.reference, captured, played)
+
+    def way(self) -> way.Way:
+        """The pictures that were sent and played."""
+        first = self.offset + self.receiver.skipped
+        last = min(len(self.sender.pictures), self.offset + len(self.receiver.pictures))
+        return way.Way(
+            name=self.name,
+            size=self.record.size,
+            period=self.record.period,
+            pictures=[self._picture(number) for number in range(first, last)],
+            packets=list(self._packets()),
+            messages=list(self._messages()),
+            captured=self.sender.frames[first:last],
+            shown=self.receiver.frames[first - self.offset : last - self.offset],
+        )
+
+
+def _sent_only(record: Record, sender: Sender) -> way.Way:
+    pictures = [
+        way.Picture(
+            line.number, None, line.is_intra, line.reference, _item(sender.captured, line.number)
+        )
+        for line in sender.pictures
+    ]
+    packets = [
+        way.Packet(packet.picture, "passed", packet.time, None, packet.size)
+        for packet in sender.packets
+    ]
+    name = f"sent by {_run_name(record, sender.number)}"
+    return way.Way(name, record.size, record.period, pictures, packets, captured=sender.frames)
+
+
+class _CameOnly:
+    """A run of `recv` whose sender isn't recorded. Gaps of the sequence numbers tell what was lost,
+    and timestamps when a picture was captured, as if the quickest packet took no time."""
+
+    def __init__(self, record: Record, receiver: Receiver) -> None:
+        self.record, self.receiver = record, receiver
+        self.start = min(
+            (
+                packet.time - packet.stamp / _SECOND
+                for packet in receiver.packets
+                if packet.time is not None
+            ),
+            default=0.0,
+        )
+
+    def _number(self, packet: CamePacket) -> int:
+        reference = packet.played if packet.reference is None else packet.reference
+        return nearest(reference % _TEMPORAL, _TEMPORAL, packet.played)
+
+    def _sent(self, packet: CamePacket) -> float:
+        return packet.stamp / _SECOND + self.start
+
+    def _packets(self) -> Iterator[way.Packet]:
+        taken: set[int] = set()
+        for packet in self.receiver.packets:
+            number = self._number(packet)
+            fate = _fate(number, packet, self.receiver.lead, packet.sequence in taken)
+            taken.update([packet.sequence] if fate == "taken" else [])
+            yield way.Packet(number, fate, self._sent(packet), packet.time, packet.size)
+        in_order = sorted({packet.sequence: packet for packet in self.receiver.packets}.items())
+        for (before, one), (after, other) in zip(in_order, in_order[1:]):
+            yield from self._lost(one, other, after - before - 1)
+
+    def _lost(self, one: CamePacket, other: CamePacket, count: int) -> Iterator[way.Packet]:
+        # Between two that came: of the pictures between them, shared out evenly.
+        first = self._number(one) + one.has_marker
+        pictures = max(self._number(other) - first + 1, 1)
+        for place in range(min(count, 1 << 16)):
+            step = place * pictures // count
+            yield way.Packet(
+                first + step, "lost", self._sent(one) + (step + one.has_marker) * self.record.period
+            )
+
+    def way(self) -> way.Way:
+        """The pictures that were played."""
+        receiver = self.receiver
+        captured = {self._number(packet): self._sent(packet) for packet in receiver.packets}
+        pictures = [
+            way.Picture(
+                line.number,
+                line.mark,
+                captured=captured.get(line.number),
+                played=_item(receiver.played, line.number),
+            )
+            for line in receiver.pictures[receiver.skipped :]
+        ]
+        messages = [
+            way.Message(said.picture, said.is_ack, "passed", said.time) for said in receiver.said
+        ]
+        return way.Way(
+            f"shown to {_run_name(self.record, receiver.number)}",
+            self.record.size,
+            self.record.period,
+            pictures,
+            list(self._packets()),
+            messages,
+            shown=receiver.frames[receiver.skipped :],
+        )

@@ -1,0 +1,534 @@
+"""Tests of the page of a call: what it holds, and what it is made of."""
+
+import contextlib
+import html.parser
+import importlib.machinery
+import importlib.util
+import io
+import json
+import random
+import re
+import tempfile
+import unittest
+import zlib
+from base64 import b64decode
+from collections import Counter
+from pathlib import Path
+from types import ModuleType
+from typing import Any, Optional, Sequence
+
+from calltools import errors, lanes, logs, made, recorded, recorded_ways, report
+from calltools import stored, traced, wavelet, way, y4m
+
+TOOLS = Path(__file__).resolve().parent
+EXAMPLES = TOOLS.parent / "examples"
+VIDEO = EXAMPLES / "video.y4m"
+BURST = EXAMPLES / "expected" / "burst.txt"
+TRACE = EXAMPLES / "burst.trace"
+SMALL = y4m.Size(*y4m.FORMATS["sub-qcif"])
+PERIOD = 1001 / 30000
+WITHOUT_END = ("meta", "link", "br", "input", "path")
+OUTSIDE = r"(?i)https?:|//[a-z]|url\(|@import|\bfetch\(|XMLHttpRequest|import\("
+
+
+def tool() -> ModuleType:
+    loader = importlib.machinery.SourceFileLoader("page_of_call", str(TOOLS / "page_of_call"))
+    spec = importlib.util.spec_from_loader("page_of_call", loader)
+    assert spec
+    module = importlib.util.module_from_spec(spec)
+    loader.exec_module(module)
+    return module
+
+
+def frames(path: Path = VIDEO) -> list[bytes]:
+    with open(path, "rb") as file:
+        return [frame.samples for frame in y4m.Y4mReader(file, str(path))]
+
+
+def burst_marks() -> list[Optional[str]]:
+    told = report.read_report(BURST.read_text().splitlines(), str(BURST))
+    return [picture.mark for picture in told.pictures]
+
+
+def write_video(path: Path, size: y4m.Size, pictures: Sequence[bytes]) -> Path:
+    with open(path, "wb") as file:
+        y4m.write_head(file, size)
+        for samples in pictures:
+            y4m.write_frame(file, samples)
+    return path
+
+
+def as_shown(pictures: Sequence[bytes], marks: Sequence[Optional[str]]) -> list[bytes]:
+    """What a receiver might show: exact pictures, and the one before in the place of others."""
+    shown = [bytes([128]) * len(pictures[0])]
+    for samples, mark in zip(pictures, marks):
+        shown.append(samples if mark == "exact" else shown[-1])
+    return shown[1:]
+
+
+def noisy(count: int) -> list[bytes]:
+    draws = random.Random(7)
+    return [made.with_noise(SMALL, made.made_frame(SMALL, 1, n), 4, draws) for n in range(count)]
+
+
+def call_of(page: Path) -> dict[str, Any]:
+    """The data of a page."""
+    start, end = '<script type="application/json" id="call">', "</script>"
+    return json.loads(page.read_text().partition(start)[2].partition(end)[0])
+
+
+def samples_of(told: dict[str, Any]) -> list[bytes]:
+    """The pictures that a page shows, decoded from its data."""
+    size = y4m.Size(told["width"], told["height"])
+    steps = stored.Steps(*told["steps"]) if told["steps"] else None
+    pictures: list[bytes] = []
+    for group in told["groups"]:
+        data = zlib.decompress(b64decode(group))
+        count = min(told["group"], told["count"] - len(pictures))
+        bits = data[1 : 1 + count * size.bytes // 8]
+        values = iter(data[1 + len(bits) :])
+        last = bytes(size.bytes)
+        for number in range(count):
+            here = bytearray()
+            for at, before in enumerate(last, number * size.bytes):
+                value = next(values) if bits[at >> 3] >> (at & 7) & 1 else 0
+                here.append((value + (before if data[0] else 0)) % 256)
+            last = bytes(here)
+            pictures.append(stored.decoded(size, last, steps))
+    return pictures
+
+
+class Marks(html.parser.HTMLParser):
+    """The elements of a page; each must be ended in its order."""
+
+    def __init__(self, text: str) -> None:
+        super().__init__()
+        self.open: list[str] = []
+        self.names: Counter[str] = Counter()
+        self.ids: Counter[str] = Counter()
+        self.attributes: set[str] = set()
+        self.faults: list[str] = []
+        self.feed(text)
+        self.close()
+
+    def handle_starttag(self, tag: str, attrs: list[tuple[str, Optional[str]]]) -> None:
+        self.names[tag] += 1
+        self.attributes.update(name for name, _ in attrs)
+        self.ids.update(value or "" for name, value in attrs if name == "id")
+        if tag not in WITHOUT_END:
+            self.open.append(tag)
+
+    def handle_startendtag(self, tag: str, attrs: list[tuple[str, Optional[str]]]) -> None:
+        self.names[tag] += 1
+
+    def handle_endtag(self, tag: str) -> None:
+        if not self.open or self.open.pop() != tag:
+            self.faults.append(tag)
+
+
+class Room(unittest.TestCase):
+    """Tests with a folder of their own."""
+
+    def setUp(self) -> None:
+        room = tempfile.TemporaryDirectory()
+        self.addCleanup(room.cleanup)
+        self.room = Path(room.name)
+
+    def file(self, name: str, content: bytes) -> Path:
+        path = self.room / name
+        path.write_bytes(content)
+        return path
+
+    def page(self, *words: object, name: str = "page.html") -> Path:
+        """What the tool makes."""
+        page = self.room / name
+        with contextlib.redirect_stderr(io.StringIO()) as told:
+            tool().main([str(words[0]), str(page), *map(str, words[1:])])
+        self.said = told.getvalue()
+        return page
+
+    def burst_page(self, *words: object) -> Path:
+        """The page of the example with a burst of losses."""
+        pictures = as_shown(frames(), burst_marks())
+        shown = write_video(self.room / "shown.y4m", SMALL, pictures)
+        return self.page(BURST, "--captured", VIDEO, "--shown", shown, "--trace", TRACE, *words)
+
+    def assert_refused(self, told: str, *words: object) -> None:
+        with self.assertRaises(errors.BadInput) as caught:
+            self.page(*words)
+        self.assertEqual(str(caught.exception), told)
+
+
+def packet(sequence: int, picture: int, has_marker: bool = False) -> bytes:
+    """RTP, the payload header of RFC 4629 and the start of a picture header."""
+    head = bytes([0x80, 96 | has_marker << 7]) + (sequence % 65536).to_bytes(2, "big")
+    bits = 0b100000 << 10 | (picture & 255) << 2 | 0b10
+    time = (3003 * picture).to_bytes(4, "big")
+    return head + time + b"H263" + b"\4\0" + bits.to_bytes(2, "big") + bytes(6)
+
+
+def message(is_ack: bool, picture: int) -> bytes:
+    bits = (3 if is_ack else 2) << 22 | picture % 256 << 11 | 1 << 10 | picture % 256
+    return bits.to_bytes(3, "big")
+
+
+class Folder:
+    """A recorded folder, written as `live_call --record` does."""
+
+    FIRST, SOURCE = 65_530, 7
+
+    def __init__(self, path: Path, clock: float = 0.0) -> None:
+        path.mkdir()
+        self.path, self.clock = path, clock
+        network: dict[str, Any] = {"loss": 0.05, "burst": 2.0, "delay": 0.03, "outage": [2.0, 0.5]}
+        settings = {"version": 1, "format": "sub-qcif", "rate": "30000/1001", "network": network}
+        self.call: dict[str, Any] = {**settings, "send": [], "recv": [], "counts": {}}
+
+    def log(self, name: str, rows: list[tuple[str, bytes, float]]) -> None:
+        with open(self.path / f"{name}.log", "wb") as file:
+            for letter, body, _ in rows:
+                logs.write_entry(file, logs.Entry(letter, body))
+        times = [f"{time + self.clock:.6f}\n" for _, _, time in rows]
+        (self.path / f"{name}.times").write_text("".join(times))
+
+    def run(self, command: str, video: str, wire: str, **more: object) -> None:
+        run: dict[str, object] = {"video": video, "wire": wire, "source": self.SOURCE}
+        run.update(log=f"{command}.log", report=f"{command}.txt", **more)
+        self.call[command].append(run)
+
+    def sent(self, pictures: list[bytes], heard: list[tuple[bytes, float]]) -> "Folder":
+        """Each picture in two packets, and messages that came back."""
+        write_video(self.path / "captured.y4m", SMALL, pictures)
+        rows = [("S", b"", number * PERIOD) for number in range(len(pictures))]
+        rows += [("B", body, time) for body, time in heard]
+        self.log("send", sorted(rows, key=lambda row: row[2]))
+        places = range(2 * len(pictures))
+        self.log("packets", [("K", packet(k, k // 2), k // 2 * PERIOD + 0.001) for k in places])
+        lines = ["0 intra", *(f"{number} from {number - 1}" for number in range(1, len(pictures)))]
+        (self.path / "send.txt").write_text("\n".join(lines) + "\n")
+        self.run("send", "captured.y4m", "packets.log", first_sequence=self.FIRST, first_time=0)
+        return self
+
+    def came(self, rows: list[tuple[str, int, float]], said: list[tuple[bytes, float]]) -> "Folder":
+        """Plays `P`, and packets `K` by their places at the sender; what was said."""
+        entries = []
+        for letter, k, time in rows:
+            body = packet(self.FIRST + k, k // 2, k % 2 == 1) if letter == "K" else b""
+            entries.append((letter, body, time))
+        self.log("recv", entries)
+        self.log("messages", [("B", text, time) for text, time in said])
+        return self
+
+    def shown(self, marks: list[str], pictures: list[bytes], skipped: int = 0) -> "Folder":
+        """What was shown, of which nobody saw the first ones."""
+        write_video(self.path / "shown.y4m", SMALL, pictures)
+        lines = [f"{number} {mark}\n" for number, mark in enumerate(marks)]
+        (self.path / "recv.txt").write_text("".join(lines))
+        self.run("recv", "shown.y4m", "messages.log", skipped=skipped, options=["--lead=1"])
+        return self
+
+    def done(self) -> Path:
+        (self.path / "call.json").write_text(json.dumps(self.call))
+        return self.path
+
+
+# Of four pictures: 0 whole and one of its packets twice, 1 half, 2 too late, 3 too early and again.
+ROWS = [("K", 0, 0.031), ("K", 1, 0.032), ("K", 1, 0.033), ("K", 2, 0.065), ("K", 6, 0.131)]
+ROWS += [("P", 0, 0.14), ("P", 0, 0.18), ("P", 0, 0.2), ("K", 4, 0.21), ("K", 6, 0.22)]
+ROWS += [("K", 7, 0.22), ("P", 0, 0.25)]
+SAID = [(message(True, 0), 0.032), (message(False, 1), 0.18)]
+SAID += [(message(False, 2), 0.2), (message(True, 3), 0.22)]
+HEARD = [(message(True, 0), 0.062), (message(False, 2), 0.23), (message(True, 3), 0.25)]
+MARKS = ["exact", "patched", "held", "exact"]
+
+
+def whole_folder(path: Path) -> Folder:
+    shown = as_shown(frames()[:4], MARKS)
+    return Folder(path).sent(frames()[:5], HEARD).came(ROWS, SAID).shown(MARKS, shown)
+
+
+class PageTest(Room):
+    def test_the_page_is_whole_and_alone(self) -> None:
+        """Each element is ended, each id is one, and nothing is named that lies outside."""
+        text = self.burst_page("--title", "A <b>call</b> & more</script>").read_text()
+        marks = Marks(text)
+        self.assertEqual((marks.open, marks.faults), ([], []))
+        self.assertEqual([name for name, count in marks.ids.items() if count > 1], [])
+        self.assertEqual((marks.names["title"], marks.names["b"], marks.names["script"]), (1, 0, 2))
+        self.assertIn("<h1>A &lt;b&gt;call&lt;/b&gt; &amp; more&lt;/script&gt;</h1>", text)
+        self.assertEqual(marks.attributes & {"src", "href", "style", "onclick", "onload"}, set())
+        without_data = re.sub(r'"groups":\[.*?\]|sha256-[^\']*', "", text)
+        self.assertNotRegex(without_data, OUTSIDE)
+        self.assertIn("default-src 'none'", text)
+        self.assertNotIn("{{", text)
+        self.assertEqual(set(re.findall(r'byId\("(\w+)"\)', text)) - set(marks.ids), set())
+        acts = set(re.findall(r'data-act="(\w+)"', text))
+        self.assertEqual(acts - set(re.findall(r"^ {6}(\w+): \(\) =>", text, re.M)), set())
+
+    def test_a_small_call_is_stored_exactly(self) -> None:
+        page = self.burst_page()
+        told = call_of(page)["ways"][0]
+        self.assertEqual(told["marks"], burst_marks())
+        self.assertEqual(told["references"][:4], [-1, -1, 1, 2])
+        self.assertEqual(samples_of(told["captured_video"]), frames())
+        self.assertEqual(samples_of(told["shown_video"]), as_shown(frames(), burst_marks()))
+        self.assertEqual(told["psnr"][1], 99.0)
+        self.assertLess(page.stat().st_size, 120_000)
+
+    def test_a_page_that_cannot_fit_is_told(self) -> None:
+        """It has the coarsest steps then, and the tool says how long it is."""
+        pictures = [random.Random(n).randbytes(SMALL.bytes) for n in range(20)]
+        lines = "".join(f"{number} exact intra\n" for number in range(len(pictures) * 13))
+        video = write_video(self.room / "noise.y4m", SMALL, pictures * 13)
+        report_of = self.file("report", lines.encode())
+        page = self.page(report_of, "--shown", video, "--megabytes", 1)
+        size = page.stat().st_size
+        self.assertEqual(
+            self.said, f"the page has {size:,} bytes: fewer --pictures make it shorter\n"
+        )
+
+    def test_a_section(self) -> None:
+        told = call_of(self.burst_page("--from", 5, "--pictures", 4))["ways"][0]
+        self.assertEqual((told["first"], told["marks"]), (5, ["held", "held", "exact", "exact"]))
+        self.assertEqual(samples_of(told["captured_video"]), frames()[5:9])
+        said = "the page has 4 of 16 pictures; --from and --pictures choose others\n"
+        self.assertEqual(self.said, said)
+
+    def test_a_trace_is_told(self) -> None:
+        """What comes in time, late, early and again, what is lost, and the messages in order."""
+        text = "S,D 0.0,D 0.0,D 2.*,S,D 1.*,S,S,D 3.*,P,B 1,P,P,D 2.1,P".split(",")
+        lines = ["0 patched intra", "1 exact intra", "2 held from 1", "3 exact from 1"]
+        told = report.read_report(lines, "report")
+        found = traced.way_of_report(told, SMALL, traced.Trace("trace", text, lead=2))
+        fates = [(packet.picture, packet.fate, packet.is_all) for packet in found.packets]
+        wanted = [(0, "taken", False), (0, "again", False), (0, "lost", False), (1, "taken", True)]
+        self.assertEqual(fates, wanted + [(2, "late", False), (3, "early", True)])
+        said = [(message.picture, message.is_ack, message.fate) for message in found.messages]
+        self.assertEqual(said[:2], [(1, True, "lost"), (0, False, "taken")])
+        sizes = {0: [90, 80], 1: [70], 2: [60, 50], 3: [40]}
+        found = traced.way_of_report(told, SMALL, traced.Trace("trace", text, 2, sizes))
+        by_size = [(packet.picture, packet.fate, packet.size) for packet in found.packets]
+        first = [(0, "taken", 90), (0, "again", 90), (0, "lost", 80), (1, "taken", 70)]
+        self.assertEqual(by_size, first + [(2, "late", 50), (2, "lost", 60), (3, "early", 40)])
+
+    def test_colours_can_be_read(self) -> None:
+        """Words and marks have a contrast of 4.5 at least in both schemes."""
+        style = (TOOLS / "calltools" / "web" / "page.css").read_text()
+        for scheme in style.split("prefers-color-scheme: dark"):
+            found = dict(re.findall(r"--(\w+): (#\w{6})", scheme))
+            words = ("ink", "quiet", "exact", "patched", "held", "late", "message", "none")
+            pairs = [(word, ground) for word in words for ground in ("paper", "panel")]
+            for word, ground in [*pairs, ("on", "exact")]:
+                self.assertGreaterEqual(contrast(found[word], found[ground]), 4.5, (word, ground))
+
+
+def contrast(one: str, other: str) -> float:
+    """Of two colours, after WCAG 2."""
+
+    def linear(part: float) -> float:
+        return part / 12.92 if part <= 0.04045 else ((part + 0.055) / 1.055) ** 2.4
+
+    def light(colour: str) -> float:
+        red, green, blue = (linear(int(colour[at : at + 2], 16) / 255) for at in (1, 3, 5))
+        return 0.2126 * red + 0.7152 * green + 0.0722 * blue + 0.05
+
+    return max(light(one), light(other)) / min(light(one), light(other))
+
+
+class StoredTest(unittest.TestCase):
+    """How pictures are stored."""
+
+    def test_the_transform_is_undone(self) -> None:
+        """Whatever the samples are: all bands together give them back."""
+        draws = random.Random(3)
+        for width, height in ((176, 144), (88, 72), (8, 8), (16, 8)):
+            noise = bytes(draws.choices((0, 255, 128, 7), k=width * height))
+            bands = wavelet.bands_of(lanes.widened(noise, width, height, 128))
+            self.assertEqual(len(bands), len(wavelet.FINER))
+            self.assertEqual(sum(band.count for band in bands), width * height)
+            self.assertEqual(lanes.narrowed(wavelet.plane_of(bands), 128), noise)
+
+    def test_steps_round_towards_nothing(self) -> None:
+        values = list(range(-1000, 1000, 7)) + [0]
+        row = sum(lanes.BIAS + value << 16 * at for at, value in enumerate(values))
+        for steps in stored.LADDER[1:]:
+            assert steps
+            found = wavelet.in_steps(lanes.Plane(len(values), 1, row), steps.times, steps.bits)
+            sizes = [abs(value) * steps.times >> steps.bits for value in values]
+            signed = [-size if value < 0 else size for value, size in zip(values, sizes)]
+            wanted = bytes(min(max(value + 128, 0), 255) for value in signed)
+            self.assertEqual(lanes.narrowed(found, 128), wanted, steps)
+
+    def test_what_is_coarse_is_near(self) -> None:
+        (samples,) = noisy(1)
+        for bits, least in ((4, 41), (5, 37), (7, 31)):
+            steps = stored.Steps(4, bits)
+            kept = stored.stored(SMALL, [samples], steps)
+            wanted = stored.decoded(SMALL, stored.coded(SMALL, samples, steps), steps)
+            self.assertEqual(samples_of(kept.told()), [wanted])
+            self.assertGreater(kept.errors.psnr()[0], least)
+
+    def test_differences_are_of_bytes(self) -> None:
+        one, other = (bytes(random.Random(k).choices(range(256), k=999)) for k in (1, 2))
+        wanted = bytes((a - b) % 256 for a, b in zip(one, other))
+        self.assertEqual(stored.difference(one, other), wanted)
+
+    def test_long_calls_fit(self) -> None:
+        """With noise, which can't be foretold, the steps are as fine as the room allows."""
+        pictures = noisy(40)
+        for most in (600_000, 180_000, 70_000):
+            videos = stored.fitting([(SMALL, pictures), (SMALL, pictures[::-1])], most)
+            length = sum(video.length for video in videos)
+            self.assertLessEqual(length, most)
+            self.assertGreater(length, most // 3)
+            self.assertEqual(videos[0].steps, videos[1].steps)
+
+
+class RecordedTest(Room):
+    """Pages of recorded folders."""
+
+    def test_a_record_is_told(self) -> None:
+        shown = as_shown(frames()[:4], MARKS)
+        folder = whole_folder(self.room / "call").done()
+        (found,) = recorded_ways.ways_of(recorded.read_record(folder))
+        self.assertEqual([picture.mark for picture in found.pictures], MARKS)
+        self.assertEqual([picture.reference for picture in found.pictures], [None, 0, 1, 2])
+        self.assertEqual((list(found.captured), list(found.shown)), (frames()[:4], shown))
+        played = [round(picture.played or 0, 3) for picture in found.pictures]
+        self.assertEqual(played, [0.14, 0.18, 0.2, 0.25])
+        fates = Counter((packet.picture, packet.fate) for packet in found.packets)
+        twos = {(0, "taken"): 2, (3, "taken"): 2, (4, "lost"): 2}
+        ones = ((0, "again"), (1, "taken"), (1, "lost"), (2, "late"), (2, "lost"), (3, "early"))
+        self.assertEqual(fates, {**twos, **{one: 1 for one in ones}})
+        said = [(message.picture, message.is_ack, message.fate) for message in found.messages]
+        wanted = [(0, True, "taken"), (1, False, "lost"), (2, False, "taken"), (3, True, "taken")]
+        self.assertEqual(said, wanted)
+        page = self.page(folder)
+        network = "5 % lost in bursts of 2, 30 ms of delay, nothing for 0.5 s from 2 s on"
+        self.assertIn(network, page.read_text())
+        self.assertEqual(samples_of(call_of(page)["ways"][0]["shown_video"]), shown)
+
+    def test_clocks_of_two_machines_are_put_together(self) -> None:
+        """So that the quickest packet takes as long as the quickest message."""
+        here = Folder(self.room / "here", clock=3.0).came(ROWS, SAID)
+        here.shown(MARKS, as_shown(frames()[:4], MARKS)).done()
+        there = Folder(self.room / "there", clock=-2.0).sent(frames()[:5], HEARD).done()
+        record, other = recorded.read_record(here.path), recorded.read_record(there)
+        (found,) = recorded_ways.ways_of(record, other)
+        self.assertAlmostEqual(self.least_way(found), 0.03, places=3)
+        back = [message.heard - (message.said or 0) for message in found.messages if message.heard]
+        self.assertAlmostEqual(min(back), 0.03, places=3)
+
+    def least_way(self, found: way.Way) -> float:
+        return min(packet.came - (packet.sent or 0) for packet in found.packets if packet.came)
+
+    def test_one_of_two_machines(self) -> None:
+        """The side that shows knows what came, by its own clock; the side that sends, what went."""
+        here = Folder(self.room / "here").came(ROWS, SAID)
+        here.shown(MARKS, as_shown(frames()[:4], MARKS)).done()
+        (found,) = recorded_ways.ways_of(recorded.read_record(here.path))
+        self.assertEqual([picture.mark for picture in found.pictures], MARKS)
+        fates = Counter(packet.fate for packet in found.packets)
+        self.assertEqual(fates, {"taken": 5, "again": 1, "lost": 2, "late": 1, "early": 1})
+        self.assertAlmostEqual(self.least_way(found), 0)
+        there = Folder(self.room / "there").sent(frames()[:5], HEARD).done()
+        (found,) = recorded_ways.ways_of(recorded.read_record(there))
+        self.assertEqual({packet.fate for packet in found.packets}, {"passed"})
+        self.assertEqual(len(call_of(self.page(there))["ways"][0]["marks"]), 5)
+
+    def test_a_call_that_was_cut_off(self) -> None:
+        """What was written before the cut is told; in a call that ended, a cut is a fault."""
+        folder = whole_folder(self.room / "call")
+        folder.done()
+        for name in ("recv.log", "packets.log", "messages.log", "captured.y4m", "recv.times"):
+            path = folder.path / name
+            path.write_bytes(path.read_bytes()[:-2])
+        with self.assertRaisesRegex(errors.BadInput, "ends within"):
+            self.page(folder.path)
+        del folder.call["counts"]
+        (found,) = recorded_ways.ways_of(recorded.read_record(folder.done()))
+        self.assertEqual([picture.mark for picture in found.pictures], MARKS)
+        self.assertIsNone(found.pictures[3].played)
+        self.assertEqual(len(found.captured), 4)
+
+    def test_a_joined_call_leaves_out_what_nobody_saw(self) -> None:
+        shown = [bytes([128]) * SMALL.bytes] * 2 + frames()[2:4]
+        rows = [("P", 0, 0.1), ("P", 0, 0.1), ("K", 4, 0.11), ("K", 5, 0.12), ("P", 0, 0.13)]
+        rows += [("K", 6, 0.14), ("K", 7, 0.14), ("P", 0, 0.15)]
+        said = [(message(False, 0), 0.1), (message(False, 1), 0.1)]
+        said += [(message(True, 2), 0.12), (message(True, 3), 0.14)]
+        marks = ["held", "held", "exact", "exact"]
+        folder = Folder(self.room / "call").sent(frames()[:5], said[2:]).came(rows, said)
+        record = recorded.read_record(folder.shown(marks, shown, skipped=2).done())
+        (found,) = recorded_ways.ways_of(record)
+        self.assertEqual([picture.mark for picture in found.pictures], ["exact", "exact"])
+        self.assertEqual((found.first, list(found.shown)), (2, frames()[2:4]))
+        self.assertEqual([message.picture for message in found.messages], [2, 3])
+
+
+class BadPageTest(Room):
+    def test_bad_videos_and_traces(self) -> None:
+        short = write_video(self.room / "short.y4m", SMALL, frames()[:3])
+        other = write_video(self.room / "other.y4m", y4m.Size(176, 144), [bytes(38016)] * 16)
+        odd = self.file("odd.y4m", b"YUV4MPEG2 W32 H16\n")
+        trace, few = self.file("bad.trace", b"S\nD x\n"), self.file("few.trace", b"S\nP\n")
+        log = EXAMPLES / "send.log"
+        shown, traced_by = ("--shown", VIDEO), ("--shown", VIDEO, "--trace")
+        cases: list[tuple[str, tuple]] = [
+            (f"{BURST}: alone: a report needs --shown or --captured beside it", ()),
+            (f"{BURST}: picture 16: the call has 16 pictures", (*shown, "--from", 16)),
+            (f"{short}: picture 3: the report has 16 pictures", ("--shown", short)),
+            (f"{other}: the head: its size is not that of {VIDEO}", (*shown, "--captured", other)),
+            (f"{odd}: the head: 32 x 16 is none of the three formats", ("--shown", odd)),
+            (f"{trace}: line 2: it says no event", (*traced_by, trace)),
+            (f"{few}: its end: it sends 1 of the report's 16 pictures", (*traced_by, few)),
+            (f"{log}: entry 0: this is no RTP packet", (*traced_by, TRACE, "--packets", log)),
+        ]
+        for told, words in cases:
+            self.assert_refused(told, BURST, *words)
+
+    def test_bad_settings_of_records(self) -> None:
+        """Each fault is told with its place, and no name leads out of the folder."""
+        folder = whole_folder(self.room / "call")
+        path = folder.done() / "call.json"
+        no_rate = "rate: pictures a second are wanted, as in 30000/1001"
+        cases = [
+            ('"version": 1', '"version": 2', "version: 1 is wanted"),
+            ('"sub-qcif"', "[]", "format: it is none of sub-qcif, qcif, cif"),
+            ("30000/1001", "1/0", no_rate),
+            ("30000/1001", "1e999", no_rate),
+            ("captured.y4m", "../x", "send, run 1: video names no file of the folder"),
+            ('"recv.log"', "3", "recv, run 1: log names no file of the folder"),
+            ('"source": 7', '"source": -1', "send, run 1: source is no number of 32 bits"),
+            ('["--lead=1"]', '"--lead=1"', "recv, run 1: its options are no list of words"),
+            ('"--lead=1"', '"--lead=x"', "recv, run 1: its lead is no number"),
+        ]
+        for before, after, told in cases:
+            path.write_text(json.dumps(folder.call).replace(before, after))
+            self.assert_refused(f"{path}: {told}", folder.path)
+        path.write_text("{")
+        with self.assertRaisesRegex(errors.BadInput, "call.json: its text: this is no JSON"):
+            self.page(folder.path)
+        path.write_text(json.dumps({**folder.call, "send": [], "recv": []}))
+        self.assert_refused(f"{folder.path}: its runs: no picture was sent or played", folder.path)
+
+    def test_bad_files_of_records(self) -> None:
+        folder = whole_folder(self.room / "call")
+        folder.call["format"] = "cif"
+        video = folder.done() / "captured.y4m"
+        self.assert_refused(f"{video}: the head: its size is not the call's format", folder.path)
+        folder.call["format"] = "sub-qcif"
+        folder.done()
+        times = folder.path / "recv.times"
+        times.write_text("0.1\nnan\n")
+        self.assert_refused(f"{times}: line 2: a time in seconds is wanted", folder.path)
+        times.unlink()
+        self.page(folder.path)
+        for name, fault in (("messages.log", "message"), ("packets.log", "RTP packet")):
+            path = folder.path / name
+            path.write_bytes(b"K\0\1x" if fault == "RTP packet" else b"B\0\1x")
+            self.assert_refused(f"{path}: entry 0: this is no {fault}", folder.path)
+
+
+if __name__ == "__main__":
+    unittest.main()
