@@ -7,7 +7,7 @@ use Rattle.call_report.specs.Text.{HasRoom, Text, gap, with_pair}
 pub decimal_short : (n : ℕ) → n < 2 ^ 64 → length (decimal n) ≤ 20
 decimal_short n h = length-decimal-le 20 n (omega arith) (omega arith) h
 
-gap_short : (text : Text) → length (gap text) ≤ 1
+pub gap_short : (text : Text) → length (gap text) ≤ 1
 gap_short [] = omega arith
 gap_short (_ ∷ _) = omega arith
 

@@ -36,12 +36,17 @@ impl Line {
 
     /// Appends a word and its number, each after a space; the line's first word stands at its
     /// start.
+    #[tactic(auto, using(crate::proofs::Digits::pair_fits))]
     pub fn pair(&mut self, word: &str, number: u64)
         requires { HasRoom (text_of self.old) word.now number }
         ensures value { text_of self.new ≡ with_pair (text_of self.old) word.now number }
         ensures len { length (text_of self.new) ≤ length (text_of self.old) + length word.now + 22 }
     {
-        self.put_pair(word, number);
+        let mut buffer = Buffer::new();
+        self.put_gap();
+        self.put(word);
+        self.put(" ");
+        self.put(buffer.format(number));
     }
 
     /// Appends the newline.
@@ -51,16 +56,6 @@ impl Line {
         ensures len { length (text_of self.new) ≡ length (text_of self.old) + 1 }
     {
         self.put("\n");
-    }
-
-    fn put_pair(&mut self, word: &str, number: u64)
-        requires { length (with_pair (text_of self.old) word.now number) ≤ 256 }
-        ensures { text_of self.new ≡ with_pair (text_of self.old) word.now number }
-    {
-        self.put_gap();
-        self.put(word);
-        self.put(" ");
-        self.put_digits(number);
     }
 
     // The line of one text.
@@ -102,23 +97,14 @@ impl Line {
         self.text.push_str(text);
     }
 
-    fn put_digits(&mut self, number: u64)
-        requires { length (text_of self.old) + length (decimal number) ≤ 256 }
-        ensures value { text_of self.new ≡ text_of self.old ++ decimal number }
-        ensures len { length (text_of self.new)
-            ≡ length (text_of self.old) + length (decimal number) }
-    {
-        let mut buffer = Buffer::new();
-        self.put(buffer.format(number));
-    }
-
-    // A number has at most 20 digits.
+    // Appends a number, which has at most 20 digits.
     #[tactic(auto, using(crate::proofs::Digits::decimal_short))]
     pub(crate) fn put_number(&mut self, number: u64)
         requires { length (text_of self.old) + 20 ≤ 256 }
         ensures value { text_of self.new ≡ text_of self.old ++ decimal number }
         ensures len { length (text_of self.new) ≤ length (text_of self.old) + 20 }
     {
-        self.put_digits(number);
+        let mut buffer = Buffer::new();
+        self.put(buffer.format(number));
     }
 }

@@ -1,8 +1,10 @@
-use Rattle.call_report.proofs.Digits.{pair_fits, pair_short}
+use Rattle.std.proofs.Common.{◌≡◌, ap, arith, decimal, length, length-append}
+use Rattle.call_report.specs.View.{text_of}
+use Rattle.call_report.proofs.Digits.{decimal_short, gap_short}
 use Rattle.call_report.proofs.line.Line.pair.Goals as goal
 
-pub put_pair-requires : goal.put_pair-requires
-put_pair-requires c = pair_fits _ _ _ c.ranges.number.fits c.requires
-
 pub returns-clause-len : goal.returns-clause-len
-returns-clause-len c = rw c.put_pair.ensures (pair_short _ c.args.word.now c.args.number c.ranges.number.fits)
+returns-clause-len c =
+    let gapped = simp length-append at (ap length c.put_gap.ensures.value) in
+    let digits : length c.format.result.now ≡ length (decimal c.args.number) = ap length c.format.ensures.text in
+    omega (arith, gapped, gap_short (text_of c.args.self.now), c.put.ensures.len, c.put-2.ensures.len, c.put-3.ensures.len, digits, decimal_short c.args.number c.ranges.number.fits)
