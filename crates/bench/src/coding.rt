@@ -1,9 +1,13 @@
 //! A picture coded whole, with no sender around it.
 ghost use Rattle.std.specs.Prelude.{◌≡◌, ◌<◌, ◌≤◌, IfOk, length};
+ghost use Rattle.std.specs.Option.{option_map};
 ghost use Rattle.h263_types.specs.Clocks.{period_of};
 ghost use Rattle.h263_types.specs.Params.{IsParams};
 ghost use Rattle.h263_types.specs.Sizes.{size_of_picture};
+ghost use Rattle.h263_types.specs.declared.Kind.TheVariants.{I};
 ghost use Rattle.h263_planes.specs.Lent.{picture};
+ghost use Rattle.h263_planes.specs.References.{HasReferenceOnlyInP};
+ghost use Rattle.picture_header.specs.Ranges.{IsHeader};
 ghost use Rattle.packet_cutter.specs.Cutting.{format_of, limit_of, packets_of};
 
 use crate::times::Stop;
@@ -15,17 +19,23 @@ use picture_header::Header;
 use std::alloc::Global;
 use std::mem;
 
+/// A sender that knows each picture codes each 132nd by itself, since its chain is at its limit.
+pub const CHAIN: u32 = 132;
+
 /// Codes pictures one after the other, each from the reconstruction of the one before.
 #[derive(Drop)]
 pub struct Coder {
     params: Params,
     cutter: Cutter,
+    /// Each picture whose number is a multiple of this is coded by itself.
+    apart: u32,
     /// Whether the picture before has an odd depth.
     odd: bool,
     /// The samples of the last two reconstructions.
     last: Vec<u8>,
     work: Vec<u8>,
     ghost ranged: { IsParams params },
+    ghost some: { 0 < apart },
     ghost cutter_format: { format_of cutter ≡ params.format },
     ghost cutter_limit: { limit_of cutter ≡ params.limit },
     ghost whole_last: { length last.items ≡ size_of_picture params.format },
@@ -33,28 +43,31 @@ pub struct Coder {
 }
 
 impl Coder {
-    /// A coder before its first picture.
-    pub fn start(alloc: Global, params: &Params) -> Result<Coder, Stop>
-        requires { IsParams params.now }
+    /// A coder before its first picture. Each picture whose number is a multiple of `apart` is
+    /// coded by itself.
+    pub fn start(alloc: Global, params: &Params, apart: u32) -> Result<Coder, Stop>
+        requires params { IsParams params.now }
+        requires apart { 0 < apart }
         ensures { IfOk result (λ coder. coder.params ≡ params.now) }
     {
         let size = params.format.size() as usize;
         Ok(Coder {
             params: *params,
             cutter: Cutter::start(alloc, params)?,
+            apart,
             odd: false,
             last: vec![in alloc; 0; size]?,
             work: vec![in alloc; 0; size]?,
         })
     }
 
-    /// Codes the next picture from the one before, or by itself: so is each 132nd, where the chain
-    /// of a sender that knows each picture is at its limit.
+    /// Codes the next picture from the one before, or by itself.
     pub fn code(&mut self, frame: PictureRef<'_>, number: u32)
         requires { (picture frame).format ≡ self.old.params.format }
         ensures { self.new.params ≡ self.old.params }
     {
-        let is_intra = number % 132 == 0;
+        mem::swap(&mut self.last, &mut self.work);
+        let is_intra = number % self.apart == 0;
         self.odd = !is_intra && !self.odd;
         if is_intra {
             self.intra(frame, number);
@@ -77,16 +90,18 @@ impl Coder {
         self.cutter.packet(i)
     }
 
-    /// Codes a picture by itself.
-    pub fn intra(&mut self, frame: PictureRef<'_>, number: u32)
+    // Codes a picture by itself.
+    fn intra(&mut self, frame: PictureRef<'_>, number: u32)
         requires { (picture frame).format ≡ self.old.params.format }
         ensures { self.new.params ≡ self.old.params }
     {
-        mem::swap(&mut self.last, &mut self.work);
-        code_intra(
+        let header = header_of(&self.params, number);
+        code_into(
             &self.params,
             frame,
+            None,
             number,
+            &header,
             &mut self.cutter,
             &mut self.work,
         );
@@ -98,13 +113,15 @@ impl Coder {
         requires rounding { rounding ≤ 1 }
         ensures { self.new.params ≡ self.old.params }
     {
-        mem::swap(&mut self.last, &mut self.work);
-        code_predicted(
+        let before = tr_of(&self.params, number.saturating_sub(1));
+        let header = header_of(&self.params, number).predicted(rounding, before);
+        let reference = PictureRef::new(self.params.format, &self.last);
+        code_into(
             &self.params,
             frame,
+            Some(reference),
             number,
-            rounding,
-            &self.last,
+            &header,
             &mut self.cutter,
             &mut self.work,
         );
@@ -118,61 +135,44 @@ fn tr_of(params: &Params, number: u32) -> u16
     (number % params.clock.period()) as u16
 }
 
-// Codes a picture by itself, into bytes.
-fn code_intra(
-    params: &Params,
-    frame: PictureRef<'_>,
-    number: u32,
-    cutter: &mut Cutter,
-    bytes: &mut [u8],
-)
-    requires params { IsParams params.now }
-    requires frame { (picture frame).format ≡ params.now.format }
-    requires cutter_format { format_of cutter.old ≡ params.now.format }
-    requires cutter_limit { limit_of cutter.old ≡ params.now.limit }
-    requires bytes { length bytes.old ≡ size_of_picture params.now.format }
-    ensures cutter_format { format_of cutter.new ≡ params.now.format }
-    ensures cutter_limit { limit_of cutter.new ≡ params.now.limit }
+// The header of a picture that is coded by itself.
+fn header_of(params: &Params, number: u32) -> Header
+    requires { IsParams params.now }
+    ensures in_range { IsHeader result }
+    ensures kind { result.kind ≡ I }
+    ensures format { result.format ≡ params.now.format }
+    ensures clock { result.clock ≡ params.now.clock }
 {
-    let tr = tr_of(params, number);
-    let header = Header::intra(params.format, params.clock, tr, params.quant);
-    let mut work = PictureMut::new(params.format, bytes);
-    code_picture(frame, None, number, &header, params, cutter, &mut work);
+    Header::intra(
+        params.format,
+        params.clock,
+        tr_of(params, number),
+        params.quant,
+    )
 }
 
-// Codes a picture into bytes, with the picture in other bytes as its reference.
-fn code_predicted(
+// Codes a picture into bytes, from its reference if it has one.
+fn code_into(
     params: &Params,
     frame: PictureRef<'_>,
+    reference: Option<PictureRef<'_>>,
     number: u32,
-    rounding: u8,
-    reference: &[u8],
+    header: &Header,
     cutter: &mut Cutter,
     bytes: &mut [u8],
 )
     requires params { IsParams params.now }
     requires frame { (picture frame).format ≡ params.now.format }
-    requires rounding { rounding ≤ 1 }
-    requires reference { length reference.now ≡ size_of_picture params.now.format }
+    requires reference { HasReferenceOnlyInP header.now.kind params.now.format
+        (option_map picture reference) }
+    requires header { IsHeader header.now }
+    requires header_format { header.now.format ≡ params.now.format }
     requires cutter_format { format_of cutter.old ≡ params.now.format }
     requires cutter_limit { limit_of cutter.old ≡ params.now.limit }
     requires bytes { length bytes.old ≡ size_of_picture params.now.format }
     ensures cutter_format { format_of cutter.new ≡ params.now.format }
     ensures cutter_limit { limit_of cutter.new ≡ params.now.limit }
 {
-    let tr = tr_of(params, number);
-    let before = tr_of(params, number.saturating_sub(1));
-    let header = Header::intra(params.format, params.clock, tr, params.quant);
-    let header = header.predicted(rounding, before);
-    let reference = PictureRef::new(params.format, reference);
     let mut work = PictureMut::new(params.format, bytes);
-    code_picture(
-        frame,
-        Some(reference),
-        number,
-        &header,
-        params,
-        cutter,
-        &mut work,
-    );
+    code_picture(frame, reference, number, header, params, cutter, &mut work);
 }

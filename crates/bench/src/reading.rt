@@ -1,13 +1,12 @@
 //! Packets read and reconstructed, with no receiver around it.
 ghost use Rattle.std.specs.Prelude.{◌≡◌, length};
-ghost use Rattle.h263_types.specs.declared.Kind.TheVariants.{I};
 ghost use Rattle.h263_types.specs.Sizes.{mbs_of};
 ghost use Rattle.packet_collector.specs.Filled.{IsPieceIn};
 
 use crate::times::Stop;
 use h263_outside::OutOfMemory;
 use h263_planes::{PictureMut, PictureRef};
-use h263_types::{Format, Kind, Mb};
+use h263_types::{Format, Mb};
 use packet_collector::{Piece, read_packet};
 use picture_recon::recon_slice;
 use std::alloc::Global;
@@ -81,22 +80,14 @@ impl Reader {
     /// Reads a packet and reconstructs its slice. A packet with a fault changes no picture.
     pub fn packet(&mut self, bytes: &[u8]) {
         if let Ok(piece) = read_packet(bytes, self.format, &mut self.mbs) {
-            match piece.header.kind {
-                Kind::I => set_intra(self.format, &self.mbs, &piece, &mut self.work),
-                Kind::P => set_predicted(
-                    self.format,
-                    &self.mbs,
-                    &piece,
-                    &self.last,
-                    &mut self.work,
-                ),
-            }
+            set_slice(self.format, &self.mbs, &piece, &self.last, &mut self.work);
         }
     }
 }
 
-// Both pictures have the format's size.
-fn set_predicted(format: Format, mbs: &[Mb], piece: &Piece, reference: &[u8], bytes: &mut [u8])
+// Reconstructs a slice into a picture, from another one if it is of a P picture. Both have the
+// format's size.
+fn set_slice(format: Format, mbs: &[Mb], piece: &Piece, reference: &[u8], bytes: &mut [u8])
     requires mbs { length mbs.now ≡ mbs_of format }
     requires piece { IsPieceIn format mbs.now piece.now }
 {
@@ -116,17 +107,4 @@ fn set_predicted(format: Format, mbs: &[Mb], piece: &Piece, reference: &[u8], by
         Some(reference),
         &mut picture,
     );
-}
-
-// The picture has the format's size.
-fn set_intra(format: Format, mbs: &[Mb], piece: &Piece, bytes: &mut [u8])
-    requires mbs { length mbs.now ≡ mbs_of format }
-    requires piece { IsPieceIn format mbs.now piece.now }
-    requires intra { piece.now.header.kind ≡ I }
-{
-    if bytes.len() != format.size() as usize {
-        return;
-    }
-    let mut picture = PictureMut::new(format, bytes);
-    recon_slice(mbs, piece.head, &piece.header, None, &mut picture);
 }

@@ -227,11 +227,11 @@ pub fn record_stills(
     requires size { length samples.old ≡ size_of_picture params.now.format }
     ensures { length samples.new ≡ length samples.old }
 {
-    let mut coder = Coder::start(alloc, params)?;
+    let mut coder = Coder::start(alloc, params, 1)?;
     let mut pictures = Vec::new(alloc);
     'frames: for number in 0..frames {
         make(video, number, samples);
-        coder.intra(PictureRef::new(video.format, samples), number);
+        coder.code(PictureRef::new(video.format, samples), number);
         let packets = packets_of_last(alloc, &coder)?;
         add(&mut pictures, packets)?;
     }

@@ -5,7 +5,7 @@ ghost use Rattle.h263_types.specs.Sizes.{size_of_picture};
 ghost use Rattle.h263_planes.specs.Lent.{picture};
 ghost use Rattle.sender_end.specs.Stands.{IsReady};
 
-use crate::coding::Coder;
+use crate::coding::{CHAIN, Coder};
 use crate::reading::Reader;
 use crate::recording::{Recorded, record, record_stills};
 use crate::times::{Stop, Times, add_since};
@@ -90,51 +90,29 @@ fn send(
     Ok(sum)
 }
 
-// The time of the same pictures with no sender around it.
+// The time of the same pictures with no sender around it, where each whose number is a multiple of
+// `apart` is coded by itself.
 fn code(
     rt: &HostRuntime,
     params: &Params,
     video: Video,
     frames: u32,
+    apart: u32,
     samples: &mut [u8],
 ) -> Result<u64, Stop>
     requires params { IsParams params.now }
+    requires apart { 0 < apart }
     requires format { video.format ≡ params.now.format }
     requires size { length samples.old ≡ size_of_picture params.now.format }
     ensures { length samples.new ≡ length samples.old }
 {
-    let mut coder = Coder::start(rt.alloc(), params)?;
+    let mut coder = Coder::start(rt.alloc(), params, apart)?;
     let mut sum = 0;
     'frames: for number in 0..frames {
         make(video, number, samples);
         let frame = PictureRef::new(video.format, samples);
         let begin = Instant::now(rt)?;
         coder.code(frame, number);
-        add_since(rt, &begin, &mut sum)?;
-    }
-    Ok(sum)
-}
-
-// The time of the same pictures where each is coded by itself.
-fn code_intra(
-    rt: &HostRuntime,
-    params: &Params,
-    video: Video,
-    frames: u32,
-    samples: &mut [u8],
-) -> Result<u64, Stop>
-    requires params { IsParams params.now }
-    requires format { video.format ≡ params.now.format }
-    requires size { length samples.old ≡ size_of_picture params.now.format }
-    ensures { length samples.new ≡ length samples.old }
-{
-    let mut coder = Coder::start(rt.alloc(), params)?;
-    let mut sum = 0;
-    'frames: for number in 0..frames {
-        make(video, number, samples);
-        let frame = PictureRef::new(video.format, samples);
-        let begin = Instant::now(rt)?;
-        coder.intra(frame, number);
         add_since(rt, &begin, &mut sum)?;
     }
     Ok(sum)
@@ -218,11 +196,11 @@ pub fn run(rt: &HostRuntime, params: &Params, video: Video, frames: u32) -> Resu
         format: params.format,
         frames,
         bytes: recorded.bytes(),
-        code: code(rt, params, video, frames, &mut samples)?,
+        code: code(rt, params, video, frames, CHAIN, &mut samples)?,
         send: send(rt, params, video, &recorded, &mut samples)?,
         read: read(rt, params, &recorded)?,
         receive: receive(rt, params, &recorded)?,
-        code_intra: code_intra(rt, params, video, frames, &mut samples)?,
+        code_intra: code(rt, params, video, frames, 1, &mut samples)?,
         read_intra: read(rt, params, &stills)?,
     })
 }
