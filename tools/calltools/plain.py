@@ -49,7 +49,7 @@ class PlainStream:
 
 
 def coded(video: Path, size: Size, quant: int, every: int, room: Path) -> PlainStream:
-    """Codes a video at one quantiser, every so many pictures one by itself, and decodes it with nothing lost."""
+    """Codes a video at one quantiser, one picture in `every` by itself, and decodes it with nothing lost."""
     path = room / "plain.h263"
     ffmpeg("-i", video, "-c:v", "h263", "-qmin", 1, "-qscale:v", quant, "-g", every, "-sc_threshold", 10**9, "-f", "h263", path)
     pictures = pictures_of(path.read_bytes())

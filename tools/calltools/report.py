@@ -23,7 +23,7 @@ class Picture:
 
 @dataclass(frozen=True)
 class Report:
-    """The pictures in their order, and the lines behind them: counts, a refusal or none."""
+    """The pictures in their order, and the lines after them: counts, a refusal or none."""
 
     pictures: list[Picture]
     rest: list[str]

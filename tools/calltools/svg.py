@@ -24,7 +24,7 @@ def path(steps: str, stroke: str = DARK, width: float = 1) -> str:
 
 
 def legend(x: float, y: float, entries: list[tuple[str, str]]) -> str:
-    """Squares with a word behind each: pairs of a colour and its word."""
+    """Squares with a word after each: pairs of a colour and its word."""
     parts = []
     for colour, word in entries:
         parts += [rect(x, y - 9, 10, 10, colour), text(x + 14, y, word, "start")]

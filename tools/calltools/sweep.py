@@ -13,9 +13,9 @@ MOST_QUANT = 31
 
 @dataclass(frozen=True)
 class Way:
-    """How a call answers losses: messages that come back so many pictures late, or none (intra pictures alone).
+    """How a call answers losses: messages that come back this many pictures late, or none (intra pictures alone).
 
-    With `plain` it is ffmpeg's coder, which hears of no loss: every so many pictures one is coded by itself.
+    With `plain` it is ffmpeg's coder, which hears of no loss: one picture is coded by itself every so often.
     """
 
     name: str

@@ -19,7 +19,7 @@ def processor_time(words: Sequence[object]) -> float:
 
 
 def frame_time(run: Callable[[Path], float], short: Path, long: Path, frames: int, times: int) -> float:
-    """Milliseconds a frame: what a video with so many frames more takes more, each by the best of so many times."""
+    """Milliseconds a frame: what a video with this many frames more takes more, each by the best of this many times."""
     best = [min(run(video) for _ in range(times)) for video in (short, long)]
     return 1000 * (best[1] - best[0]) / frames
 

@@ -35,7 +35,7 @@ class Loss:
 
 
 def trace(pictures: int, network: Network, loss: Loss, seed: int) -> Iterator[str]:
-    """The lines of a call of so many pictures.
+    """The lines of a call of this many pictures.
 
     One message is said of each picture, by its play at the latest, so message n is brought back no sooner. Packets,
     messages and delays are drawn apart from one another, so which packets are lost depends on nothing else.
