@@ -14,7 +14,7 @@ use Rattle.receiver_end.specs.Answers.{IsHeard, IsMessage, IsSaid}
 use Rattle.receiver_end.specs.declared.answers.Heard.{Heard}
 use Rattle.coded_call.specs.Bytes.{AreBytes}
 use Rattle.recv_command.specs.declared.tally.Tally.{Tally}
-use Rattle.recv_command.specs.MessageBytes.{back_text, message_in, said_in}
+use Rattle.recv_command.specs.Said.{back_text, message_in, said_in}
 use Rattle.recv_command.specs.Tally.{with_answer, with_heard}
 
 -- ---- answers

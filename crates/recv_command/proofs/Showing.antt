@@ -10,7 +10,7 @@ use Rattle.desk_program.specs.Ends.{Gains, GainsFronts}
 use Rattle.desk_program.specs.Laws.{TurnLaws}
 use Rattle.desk_program.specs.Texts.{on, then_also}
 use Rattle.call_model.specs.Coding.{Message}
-use Rattle.recv_command.specs.MessageBytes.{back_text, shown_text}
+use Rattle.recv_command.specs.Said.{back_text, shown_text}
 
 -- what holds holds where a call failed
 pub on_err : {T E : Type 0} {P : Type 0} (r : Result T E) → P → OnErr r P

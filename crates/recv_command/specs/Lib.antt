@@ -1,3 +1,3 @@
 pub mod Tally
-pub mod MessageBytes
+pub mod Said
 pub mod Recv

@@ -13,7 +13,7 @@ use Rattle.receiver_end.specs.Answers.{mark_of}
 use Rattle.receiver_end.specs.State.{run_of, answer_after, mark_after, message_after, Stands}
 use Rattle.recv_command.specs.declared.recv.Receiving.{Receiving}
 use Rattle.recv_command.specs.declared.tally.Tally.{Tally}
-use Rattle.recv_command.specs.MessageBytes.{back_text, message_in, shown_text}
+use Rattle.recv_command.specs.Said.{back_text, message_in, shown_text}
 use Rattle.recv_command.specs.Tally.{no_counts, total_of, with_mark, with_answer, count_text}
 
 -- the parameters, the packets and plays so far, newest first, and what was counted of them

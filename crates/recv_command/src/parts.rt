@@ -8,7 +8,7 @@ ghost use Rattle.desk_program.specs.Ends.{Gains, GainsFronts};
 ghost use Rattle.call_model.specs.Coding.{Message};
 ghost use Rattle.receiver_end.specs.Answers.{IsMessage};
 ghost use Rattle.coded_call.specs.Bytes.{AreBytes};
-ghost use Rattle.recv_command.specs.MessageBytes.{back_text, said_in, shown_text};
+ghost use Rattle.recv_command.specs.Said.{back_text, said_in, shown_text};
 
 use back_messages::MessageBytes;
 use call_report::{Status, picture_line};

@@ -1,7 +1,7 @@
 use Rattle.std.proofs.Common.{ap, ◌∙◌, sym}
 use Rattle.back_messages.specs.declared.message.Message.{Message}
 use Rattle.call_encoding.specs.Messages.{marked, written}
-use Rattle.coded_call.proofs.MessageBytes.{bytes_of_text, marked_again}
+use Rattle.coded_call.proofs.Said.{bytes_of_text, marked_again}
 use Rattle.coded_call.proofs.laws.said_bytes.Goals as goal
 
 pub returns-clause-written : goal.returns-clause-written

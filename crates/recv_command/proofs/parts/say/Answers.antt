@@ -6,7 +6,7 @@ use Rattle.event_logs.specs.Text.{entry_text}
 use Rattle.desk_program.specs.Ends.{Gains, GainsFronts}
 use Rattle.desk_program.specs.Texts.{on}
 use Rattle.coded_call.specs.Bytes.{AreBytes}
-use Rattle.recv_command.specs.MessageBytes.{back_text}
+use Rattle.recv_command.specs.Said.{back_text}
 use Rattle.recv_command.proofs.Saying.{said_text}
 use Rattle.recv_command.proofs.parts.say.Goals as goal
 

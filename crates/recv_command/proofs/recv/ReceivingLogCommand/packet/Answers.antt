@@ -4,7 +4,7 @@ use Rattle.back_messages.specs.declared.writing.MessageBytes.{MessageBytes}
 use Rattle.desk_program.specs.Ends.{Gains, GainsFronts}
 use Rattle.receiver_end.specs.Answers.{IsMessage}
 use Rattle.receiver_end.specs.State.{answer_after}
-use Rattle.recv_command.specs.MessageBytes.{message_in}
+use Rattle.recv_command.specs.Said.{message_in}
 use Rattle.recv_command.specs.Recv.{heard_text}
 use Rattle.recv_command.specs.Tally.{with_answer}
 use Rattle.recv_command.proofs.Saying.{heard_count, heard_message}
