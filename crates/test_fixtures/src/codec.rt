@@ -9,7 +9,6 @@ use h263_bits::{BitReader, Fault};
 use h263_types::{Block, Clock, Format, Kind, Mb, Params, Reach, Vector, reach};
 use macroblock_layer::read_mb;
 use picture_header::Header;
-use std::process::Abort;
 
 /// The bytes of a sub-QCIF picture: 128 x 96 of Y, 64 x 48 of Cb, 64 x 48 of Cr.
 pub const SIZE: usize = 18_432;
@@ -269,16 +268,25 @@ pub fn is_stepped(from: u8, mb: &Mb) -> bool
     }
 }
 
-/// Ends the test where the vector is not in reach.
-pub fn assert_reach(rt: &impl Abort, format: Format, mb: u32, vector: Vector)
+/// Whether the vector is in the reach of a macroblock.
+pub fn is_in_reach(format: Format, mb: u32, vector: Vector) -> bool
     requires { mb < mbs_of format }
-    ensures { InReach format mb vector.x vector.y }
+    ensures { IsTrue result → InReach format mb vector.x vector.y }
 {
     let reach = reach(format, mb);
-    assert!(rt; reach.left <= vector.x);
-    assert!(rt; vector.x <= reach.right);
-    assert!(rt; reach.up <= vector.y);
-    assert!(rt; vector.y <= reach.down);
+    if vector.x < reach.left {
+        return false;
+    }
+    if vector.x > reach.right {
+        return false;
+    }
+    if vector.y < reach.up {
+        return false;
+    }
+    if vector.y > reach.down {
+        return false;
+    }
+    true
 }
 
 /// What textures are made of.

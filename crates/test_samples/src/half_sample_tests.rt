@@ -6,7 +6,7 @@ use h263_planes::{PictureRef, Plane};
 use h263_types::{Format, Vector};
 use half_sample::{chroma, luma, luma_quarter};
 use std::process::Abort;
-use test_fixtures::codec::{SIZE, assert_reach};
+use test_fixtures::codec::{SIZE, is_in_reach};
 
 // The prediction of Y where the vector is in reach.
 fn luma_of(
@@ -17,7 +17,7 @@ fn luma_of(
     rounding: u8,
 ) -> [u8; 256] {
     assert!(rt; mb < reference.format().mbs() && rounding <= 1);
-    assert_reach(rt, reference.format(), mb, vector);
+    assert!(rt; is_in_reach(reference.format(), mb, vector));
     let mut out = [0; 256];
     luma(reference, mb, vector, rounding, &mut out);
     out
@@ -33,7 +33,7 @@ fn chroma_of(
     rounding: u8,
 ) -> [u8; 64] {
     assert!(rt; mb < reference.format().mbs() && rounding <= 1);
-    assert_reach(rt, reference.format(), mb, vector);
+    assert!(rt; is_in_reach(reference.format(), mb, vector));
     let mut out = [0; 64];
     match plane {
         Plane::Y => {}
@@ -175,7 +175,7 @@ fn assert_quarters(
 ) {
     let whole = luma_of(rt, reference, mb, vector, rounding);
     assert!(rt; mb < reference.format().mbs() && rounding <= 1);
-    assert_reach(rt, reference.format(), mb, vector);
+    assert!(rt; is_in_reach(reference.format(), mb, vector));
     for first in 0..4u32 {
         let mut rows = [0; 64];
         luma_quarter(reference, mb, vector, rounding, first, &mut rows);

@@ -1,14 +1,17 @@
-use Rattle.std.proofs.Common.{◌<◌, true, ◌∷◌, ◌++◌, refl, sym, ap, subst, arith}
+use Rattle.std.proofs.Common.{◌≡◌, ◌<◌, Bool, true, ◌∷◌, ◌++◌, refl, sym, ap, subst, arith}
+use Rattle.h263_outside.specs.declared.desk.Role.{Role}
 use Rattle.h263_outside.specs.declared.desk.Role.TheVariants.{Events}
+use Rattle.loss_trace.specs.declared.reader.TraceReader.{TraceReader}
 use Rattle.h263_planes.specs.Lent.{picture}
 use Rattle.call_model.specs.IdealCall.{Play}
 use Rattle.receiver_end.specs.declared.kept.Kept.{Kept}
 use Rattle.call_command.specs.declared.carrier.Carrier.{Carrier}
 use Rattle.call_command.specs.Call.{by_ends, line_turn, may_read, after_line, with_play, play_texts}
 use Rattle.desk_program.specs.Run.Step.{Goes}
-use Rattle.call_command.specs.Standing.{EndsStand, PartsStand, parts_of, row_texts}
+use Rattle.call_command.specs.Standing.{EndsStand, PartsReady, PartsStand, parts_of, row_texts}
 use Rattle.call_command.proofs.Behind.{event_refused, holds_here, play_cut, play_goes, row_played, stands_event}
 use Rattle.call_command.proofs.FrameTurning.{cut_gives, turn_gives}
+use Rattle.call_command.proofs.Readying.{ready_line}
 use Rattle.call_command.proofs.turning.play_line.Goals as goal
 
 pub returns-in-Err-clause-gives : goal.returns-in-Err-clause-gives
@@ -69,3 +72,20 @@ returns-in_ok-show-in-Ok-clause-gives g c = λ before s inputs k number taken.
     (stands_event x s inputs k x.sender receiver carrier (ap (λ (y : Carrier). y.trace) c.play_event.ensures.others) refl (Play ∷ s.past)
     (λ later. (c.in-Ok.ensures.done s.before (s.frames ++ later) s.past k.begun (k.holds later)).1))
     c.in_ok-show-in-Ok.ensures.ok
+
+pub returns-in_ok-show-in-Ok-clause-ready : goal.returns-in_ok-show-in-Ok-clause-ready
+returns-in_ok-show-in-Ok-clause-ready g c =
+    let outside = g.D.Desk.outside in
+    let x = parts_of c.args.terms.now c.args.video.now c.args.sender.now.state c.args.receiver.now c.args.carrier.now in
+    let quant = c.args.sender.now.pace.quant in
+    let r = c.requires.ready in
+    let done = c.play_event in
+    let same = done.ensures.others in
+    let trace : done.new.carrier.trace ≡ x.carrier.trace = ap (λ (y : Carrier). y.trace) same in
+    let lines : done.new.carrier.trace.lines ≡ x.carrier.trace.lines = ap (λ (y : TraceReader). y.lines) trace in
+    subst (λ (attached : Role → Bool). PartsReady (parts_of c.args.terms.now c.args.video.now c.args.sender.now.state done.new.receiver done.new.carrier) quant attached)
+    (sym c.show.ensures.rest.attached)
+    (ready_line x quant quant (outside c.args.desk.now).attached r c.requires.recorded refl
+    x.sender done.new.receiver done.new.carrier r.sender refl r.standing refl c.in-Ok.ensures.behind done.ensures.counted
+    (ap (λ (y : Carrier). y.frame) same) (ap (λ (y : Carrier). y.packets) same) trace
+    (omega (arith, lines, c.requires.room, done.ensures.few)))

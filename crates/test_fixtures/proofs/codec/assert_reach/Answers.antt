@@ -1,6 +1,0 @@
-use Rattle.std.proofs.Common.{arith}
-use Rattle.std.proofs.lemmas.Int.{ints}
-use Rattle.test_fixtures.proofs.codec.assert_reach.Goals as goal
-
-pub returns : goal.returns
-returns g c = (c.reach-reach.ensures c.args.vector.x c.args.vector.y).1 ((omega (arith, ints), omega (arith, ints)), (omega (arith, ints), omega (arith, ints)))
