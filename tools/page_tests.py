@@ -8,6 +8,7 @@ import io
 import json
 import random
 import re
+import subprocess
 import tempfile
 import unittest
 import zlib
@@ -248,6 +249,12 @@ def whole_folder(path: Path) -> Folder:
 
 
 class PageTest(Room):
+    def test_the_tool_has_help(self) -> None:
+        words = [str(TOOLS / "page_of_call"), "--help"]
+        run = subprocess.run(words, capture_output=True, text=True)
+        self.assertEqual((run.returncode, run.stderr), (0, ""))
+        self.assertIn("usage: page_of_call", run.stdout)
+
     def test_the_page_is_whole_and_alone(self) -> None:
         """Each element is ended, each id is one, and nothing is named that lies outside."""
         text = self.burst_page("--title", "A <b>call</b> & more</script>").read_text()
