@@ -15,10 +15,10 @@ _ACK = 3
 _LEAD = 3
 
 
-def nearest(rest: int, modulus: int, to: int) -> int:
-    """The number with this rest that is nearest to another number."""
-    half = modulus // 2
-    return to + (rest - to + half) % modulus - half
+def nearest(guess: int, reference: int, period: int) -> int:
+    """The number next to `guess` that is this reference modulo the period."""
+    half = period // 2
+    return guess + (reference - guess + half) % period - half
 
 
 @dataclass(frozen=True)
@@ -158,28 +158,24 @@ def _lead_of(record: Record, place: int) -> int:
 
 def _came(entries: list[Timed]) -> list[CamePacket]:
     found: list[CamePacket] = []
-    played, sequence, stamp = 0, None, None
+    played = 0
     for timed in entries:
         body = timed.entry.body
         played += timed.entry.letter == logs.PLAY
         header = rtp.rtp_header(body) if timed.entry.letter == logs.PACKET else None
         if header is None:
             continue
-        sequence = nearest(
-            header.sequence, _SEQUENCES, header.sequence if sequence is None else sequence
+        last = found[-1] if found else None
+        packet = CamePacket(
+            sequence=nearest(last.sequence if last else 0, header.sequence, _SEQUENCES),
+            stamp=nearest(last.stamp if last else 0, header.timestamp, _STAMPS),
+            reference=temporal_reference(body),
+            has_marker=bool(body[1] >> 7),
+            size=len(body),
+            played=played,
+            time=timed.time,
         )
-        stamp = nearest(header.timestamp, _STAMPS, header.timestamp if stamp is None else stamp)
-        found.append(
-            CamePacket(
-                sequence,
-                stamp,
-                temporal_reference(body),
-                bool(body[1] >> 7),
-                len(body),
-                played,
-                timed.time,
-            )
-        )
+        found.append(packet)
     return found
 
 
@@ -204,5 +200,5 @@ def _said(record: Record, run: dict[str, Any], played: list[Optional[float]]) ->
         while timed.time is not None and plays < len(played) and (played[plays] or 0) <= timed.time:
             plays += 1
         number_by_tr = int.from_bytes(body[:3], "big") >> 11 & record.numbers - 1
-        found.append(Said(body, nearest(number_by_tr, record.numbers, plays), timed.time))
+        found.append(Said(body, nearest(plays, number_by_tr, record.numbers), timed.time))
     return found
