@@ -6,8 +6,10 @@ import importlib.machinery
 import importlib.util
 import io
 import json
+import os
 import random
 import re
+import socket
 import subprocess
 import tempfile
 import unittest
@@ -18,12 +20,14 @@ from pathlib import Path
 from types import ModuleType
 from typing import Any, Optional, Sequence
 
-from calltools import errors, lanes, logs, made, recorded, recorded_ways, report
+from calltools import errors, lanes, logs, made, program, recorded, recorded_ways, report
 from calltools import stored, traced, wavelet, way, y4m
 
 TOOLS = Path(__file__).resolve().parent
 EXAMPLES = TOOLS.parent / "examples"
 VIDEO = EXAMPLES / "video.y4m"
+LIVE_CALL = TOOLS / "live_call"
+PROGRAM = Path(os.environ.get("H263RPS_PROGRAM", program.OWN))
 BURST = EXAMPLES / "expected" / "burst.txt"
 TRACE = EXAMPLES / "burst.trace"
 SMALL = y4m.Size(*y4m.FORMATS["sub-qcif"])
@@ -39,6 +43,12 @@ def tool() -> ModuleType:
     module = importlib.util.module_from_spec(spec)
     loader.exec_module(module)
     return module
+
+
+def free_port() -> int:
+    with socket.socket(socket.AF_INET, socket.SOCK_DGRAM) as found:
+        found.bind(("127.0.0.1", 0))
+        return found.getsockname()[1]
 
 
 def frames(path: Path = VIDEO) -> list[bytes]:
@@ -414,6 +424,25 @@ class RecordedTest(Room):
         network = "5 % lost in bursts of 2, 30 ms of delay, nothing for 0.5 s from 2 s on"
         self.assertIn(network, page.read_text())
         self.assertEqual(samples_of(call_of(page)["ways"][0]["shown_video"]), shown)
+
+    @unittest.skipUnless(LIVE_CALL.exists() and os.access(PROGRAM, os.X_OK), "no live call here")
+    def test_a_live_call_is_told(self) -> None:
+        """What became of its packets is what `recv` counted."""
+        folder = self.room / "call"
+        words = ["--program", PROGRAM, "--camera", VIDEO, "--screen", "none", "--record", folder]
+        network = ["--loss", 0.2, "--burst", 2, "--delay", 20, "--duplicate", 0.2, "--quiet"]
+        asked = [str(word) for word in (LIVE_CALL, *words, *network, "--port", free_port())]
+        subprocess.run(asked, check=True, capture_output=True, timeout=60)
+        (found,) = recorded_ways.ways_of(recorded.read_record(folder))
+        lines = (folder / "recv.txt").read_text().splitlines()
+        self.assertEqual([f"{p.number} {p.mark}" for p in found.pictures], lines[:-1])
+        counts = dict(re.findall(r"(\w+) (\d+)", lines[-1]))
+        fates = Counter(packet.fate for packet in found.packets)
+        for fate, word in (("taken",) * 2, ("late",) * 2, ("early",) * 2, ("again", "repeat")):
+            self.assertEqual(fates[fate], int(counts[word]), fate)
+        sent = len({(packet.picture, packet.sent) for packet in found.packets})
+        self.assertEqual(fates["lost"] + fates["taken"] + fates["late"] + fates["early"], sent)
+        self.assertIn("20 % lost in bursts of 2, 20 % twice", self.page(folder).read_text())
 
     def test_clocks_of_two_machines_are_put_together(self) -> None:
         """So that the quickest packet takes as long as the quickest message."""
