@@ -206,10 +206,12 @@ class LiveCall:
 
     def _tell(self) -> None:
         self._count_datagrams()
-        second = self.loop.now() - self._began
-        sending = self.parties[0].sending
+        now = self.loop.now()
+        second = now - self._began
+        sending, receiving = self.parties[0].sending, self.parties[-1].receiving
         recent = sending.recent if sending else Recent()
-        self.say(self._line.line(second, self.tally, recent))
+        silent = now - max(receiving.last, self._began) if receiving else 0.0
+        self.say(self._line.line(second, self.tally, recent, silent))
         if not self._is_ending:
             self.loop.at(self._began + round(second) + 1, self._tell)
 

@@ -217,7 +217,7 @@ class Receiving:
         """The other side says that its stream ends."""
         if bye.source == self._source:
             self.on_hung_up()
-        else:
+        elif self._source is not None:
             self._tally.dropped["other source"] += 1
 
     def end(self) -> None:
