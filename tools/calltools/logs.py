@@ -33,6 +33,11 @@ def read_log(file: BinaryIO, path: str) -> Iterator[Entry]:
         at += 3 + length
 
 
+def entry_bytes(letter: str, body: bytes = b"") -> bytes:
+    """One entry as bytes; its body has at most 65,535."""
+    return struct.pack(">cH", letter.encode(), len(body)) + body
+
+
 def write_entry(file: BinaryIO, entry: Entry) -> None:
     """One entry; its body has at most 65,535 bytes."""
-    file.write(struct.pack(">cH", entry.letter.encode(), len(entry.body)) + entry.body)
+    file.write(entry_bytes(entry.letter, entry.body))

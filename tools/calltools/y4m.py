@@ -1,6 +1,7 @@
 """Y4M video as the program reads and writes it: 4:2:0, three formats, 30000/1001 pictures a second."""
 
 from dataclasses import dataclass
+from fractions import Fraction
 from typing import BinaryIO, Iterator
 
 from .errors import BadInput
@@ -88,9 +89,19 @@ class Y4mReader:
             yield Frame(tuple(tags), samples)
 
 
+# Frames a second of the program's videos.
+RATE = Fraction(30_000, 1_001)
+
+
+def head_bytes(size: Size, rate: Fraction = RATE) -> bytes:
+    """The head of a progressive video."""
+    told = f"F{rate.numerator}:{rate.denominator}"
+    return f"YUV4MPEG2 W{size.width} H{size.height} {told} Ip C420jpeg\n".encode()
+
+
 def write_head(file: BinaryIO, size: Size) -> None:
     """The head of a video: progressive, 30000/1001 frames a second."""
-    file.write(f"YUV4MPEG2 W{size.width} H{size.height} F30000:1001 Ip C420jpeg\n".encode())
+    file.write(head_bytes(size))
 
 
 def write_frame(file: BinaryIO, samples: bytes) -> None:

@@ -1,0 +1,60 @@
+"""Which picture a temporal reference means, and at what time a timestamp was captured."""
+
+from typing import Optional
+
+from .rtp import CLOCK
+
+# After this many seconds of silence a temporal reference alone doesn't tell the number.
+SILENCE = 3.0
+
+
+def nearest(guess: int, reference: int, period: int) -> int:
+    """The number next to `guess` that has this temporal reference."""
+    half = period // 2
+    return guess + (reference - guess + half) % period - half
+
+
+class Numbers:
+    """Numbers and times of one stream, by its packets in any order.
+
+    The first packet's temporal reference is its number. From then on a number is the nearest to
+    the newest one. After a silence the time tells how many pictures went by, and the sequence
+    numbers how many there can be at most: a camera that paused sent none.
+    """
+
+    def __init__(self, period: int, rate: float) -> None:
+        self._period, self._rate = period, rate
+        self._first_stamp: Optional[int] = None
+        self._stamp = 0  # of the newest picture, counted on from the first one
+        self._sequence = 0  # of the newest packet, likewise
+        self.newest = 0
+
+    @property
+    def is_empty(self) -> bool:
+        return self._first_stamp is None
+
+    def place(self, reference: int, sequence: int, timestamp: int) -> tuple[int, float]:
+        """The packet's picture, and its time of capture in seconds from the first one's."""
+        if self._first_stamp is None:
+            self._first_stamp, self._sequence = timestamp, sequence
+            self.newest = reference
+        newest_stamp = self._first_stamp + self._stamp
+        stamp = self._stamp + _signed(timestamp - newest_stamp, 32)
+        ahead = _signed(sequence - self._sequence, 16)
+        number = nearest(self._guess(stamp, ahead), reference, self._period)
+        if number >= self.newest:
+            self.newest, self._stamp = number, stamp
+        self._sequence += max(ahead, 0)
+        return number, stamp / CLOCK
+
+    def _guess(self, stamp: int, ahead: int) -> int:
+        silence = (stamp - self._stamp) / CLOCK
+        if abs(silence) < SILENCE:
+            return self.newest
+        return self.newest + min(round(silence * self._rate), max(ahead, 0))
+
+
+def _signed(difference: int, bits: int) -> int:
+    # The least difference modulo 2^bits.
+    half = 1 << bits - 1
+    return (difference + half) % (1 << bits) - half

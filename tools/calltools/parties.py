@@ -1,0 +1,136 @@
+"""A party of a live call: its camera and its screen, and the ends between them and the network."""
+
+from typing import Callable, Optional
+
+from .cameras import Camera
+from .errors import BadInput
+from .live_settings import Settings
+from .loop import Loop
+from .recording import Recorder
+from .receiving import Receiving
+from .rtcp import Feedback, bye_bytes, feedback_bytes, read_rtcp
+from .screens import Screen
+from .sending import Sending
+from .tally import Tally
+from .udp import Channel
+from .y4m import Frame
+
+# How often the end of a stream is said, since a datagram may be lost.
+_BYES = 3
+
+
+class Party:
+    """Packets go over `media` and messages over `control`, each to the other party and back."""
+
+    def __init__(
+        self,
+        loop: Loop,
+        settings: Settings,
+        recorder: Recorder,
+        tally: Tally,
+        media: Channel,
+        control: Channel,
+        say: Callable[[str], None],
+    ) -> None:
+        self._loop, self._settings, self._recorder = loop, settings, recorder
+        self._tally, self._say = tally, say
+        self._media, self._control = media, control
+        media.on_datagram, control.on_datagram = self._packet, self._rtcp
+        self.camera: Optional[Camera] = None
+        self.screen: Optional[Screen] = None
+        self.sending: Optional[Sending] = None
+        self.receiving: Optional[Receiving] = None
+        self.on_end: Callable[[str], None] = lambda _: None
+        self.on_fault: Callable[[BadInput], None] = lambda _: None
+        self._left = 0
+
+    def add_camera(self, camera: Camera) -> None:
+        """What the party sends."""
+        sending = Sending(self._loop, self._settings, self._recorder, self._tally, self._say)
+        sending.on_packet = self._media.send
+        sending.on_over = self._over
+        sending.on_fault = self._fault
+        camera.on_frame, camera.on_end, camera.on_fault = sending.frame, self._end, self._fault
+        self.camera, self.sending = camera, sending
+
+    def add_screen(self, screen: Screen) -> None:
+        """What shows what the other party sends."""
+        receiving = Receiving(self._loop, self._settings, self._recorder, self._tally, self._say)
+        receiving.on_frame = self._show
+        receiving.on_feedback = self._feedback
+        receiving.on_over = self._over
+        receiving.on_hung_up = self._hung_up
+        receiving.on_fault = self._fault
+        screen.on_gone, screen.on_fault = self._gone, self._fault
+        self.screen, self.receiving = screen, receiving
+
+    def stop_camera(self) -> None:
+        """No more pictures, and the other party is told."""
+        if self.camera and self.sending:
+            self.camera.stop()
+            for _ in range(_BYES):
+                self._control.send(bye_bytes(self.sending.source))
+
+    def stop(self) -> None:
+        """Both ends finish; the receiving one plays what it has."""
+        ends = [end for end in (self.sending, self.receiving) if end]
+        self._left += len(ends)
+        for end in ends:
+            end.end()
+
+    @property
+    def is_over(self) -> bool:
+        """Whether the ends that were stopped have finished."""
+        return not self._left
+
+    @property
+    def bytes_out(self) -> int:
+        """Bytes of the datagrams that went to the other party."""
+        return self._media.bytes_out + self._control.bytes_out
+
+    @property
+    def bytes_in(self) -> int:
+        """Bytes of the datagrams that came from there."""
+        return self._media.bytes_in + self._control.bytes_in
+
+    @property
+    def unreached(self) -> int:
+        """How often the system said that nobody is there."""
+        return self._media.unreached + self._control.unreached
+
+    def _over(self) -> None:
+        self._left -= 1
+
+    def _end(self) -> None:
+        self.on_end("the camera has ended")
+
+    def _fault(self, fault: BadInput) -> None:
+        self.on_fault(fault)
+
+    def _hung_up(self) -> None:
+        self.on_end("the other side has hung up")
+
+    def _gone(self) -> None:
+        self.on_end("the screen was closed")
+
+    def _show(self, frame: Frame) -> None:
+        assert self.screen
+        self.screen.show(frame, self._loop.now())
+
+    def _packet(self, data: bytes) -> None:
+        if self.receiving:
+            self.receiving.packet(data)
+        else:
+            self._tally.dropped["not asked for"] += 1
+
+    def _feedback(self, feedback: Feedback) -> None:
+        self._control.send(feedback_bytes(feedback))
+
+    def _rtcp(self, data: bytes) -> None:
+        packet = read_rtcp(data)
+        if isinstance(packet, Feedback) and self.sending:
+            self.sending.feedback(packet)
+        elif packet and not isinstance(packet, Feedback) and self.receiving:
+            self.receiving.bye(packet)
+        else:
+            self._tally.dropped["malformed" if not packet else "not asked for"] += 1

@@ -1,0 +1,106 @@
+"""The folder of a call that can be looked at afterwards (docs/LIVE.md, "A recorded call")."""
+
+import json
+from pathlib import Path
+from typing import Any, BinaryIO, Callable, Optional
+
+VERSION = 1
+# What each end's run has: its key in call.json, the file's name, and whether it has times beside.
+_FILES = {
+    "send": (
+        ("video", "captured", ".y4m", False),
+        ("log", "send", ".log", True),
+        ("wire", "packets", ".log", True),
+        ("report", "send", ".txt", False),
+    ),
+    "recv": (
+        ("log", "recv", ".log", True),
+        ("video", "shown", ".y4m", True),
+        ("wire", "messages", ".log", True),
+        ("report", "recv", ".txt", False),
+    ),
+}
+
+
+class RunRecord:
+    """The files of one run of an end."""
+
+    def __init__(self, recorder: "Recorder", end: str, number: int, facts: dict[str, Any]) -> None:
+        self._recorder = recorder
+        self._files: dict[str, BinaryIO] = {}
+        self._times: dict[str, BinaryIO] = {}
+        self.facts = facts
+        for key, name, suffix, has_times in _FILES[end]:
+            stem = name if number == 1 else f"{name}-{number}"
+            facts[key] = stem + suffix
+            recorder.open(self._files, key, stem + suffix)
+            if has_times:
+                recorder.open(self._times, key, stem + ".times")
+
+    def write(self, key: str, data: bytes) -> None:
+        """More bytes of a file."""
+        self._recorder.write(self._files.get(key), data)
+
+    def mark(self, key: str, when: float) -> None:
+        """The time of the next entry, or frame, of a file."""
+        if key in self._times:
+            self._recorder.write(self._times[key], f"{when - self._recorder.began:.6f}\n".encode())
+
+    def close(self) -> None:
+        for file in (*self._files.values(), *self._times.values()):
+            self._recorder.guarded(file.close)
+
+
+class Recorder:
+    """Writes a call's folder, or nothing without one. Where a write fails, recording ends, the
+    call goes on, and `fault` says why."""
+
+    def __init__(self, folder: Optional[Path], began: float, facts: dict[str, Any]) -> None:
+        self.began = began
+        self.fault: Optional[OSError] = None
+        self.on_fault: Callable[[OSError], None] = lambda _: None
+        self._folder = folder
+        self._facts: dict[str, Any] = {"version": VERSION, **facts, "send": [], "recv": []}
+        self._runs: list[RunRecord] = []
+        if folder:
+            folder.mkdir(parents=True, exist_ok=True)
+            self._write_facts()
+
+    def run(self, end: str, facts: dict[str, Any]) -> RunRecord:
+        """A new run of `send` or `recv`; `facts` may be filled later on."""
+        self._facts[end].append(facts)
+        run = RunRecord(self, end, len(self._facts[end]), facts)
+        self._runs.append(run)
+        return run
+
+    def finish(self, counts: dict[str, Any]) -> None:
+        """Closes the files, and writes what came of the call."""
+        for run in self._runs:
+            run.close()
+        self._facts["counts"] = counts
+        if self._folder and not self.fault:
+            self.guarded(self._write_facts)
+
+    def _write_facts(self) -> None:
+        assert self._folder
+        (self._folder / "call.json").write_text(json.dumps(self._facts, indent=1) + "\n")
+
+    def open(self, files: dict[str, BinaryIO], key: str, name: str) -> None:
+        """Opens a file of the folder, if there is one."""
+        if self._folder and not self.fault:
+            path = self._folder / name
+            self.guarded(lambda: files.update({key: open(path, "wb")}))
+
+    def write(self, file: Optional[BinaryIO], data: bytes) -> None:
+        if file and not self.fault:
+            write = file.write
+            self.guarded(lambda: write(data))
+
+    def guarded(self, act: Callable[[], Any]) -> None:
+        """Does what may fail for want of room."""
+        try:
+            act()
+        except OSError as fault:
+            if not self.fault:
+                self.fault = fault
+                self.on_fault(fault)

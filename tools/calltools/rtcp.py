@@ -1,0 +1,70 @@
+"""Back-channel messages on the network, and the end of a stream: packets of RTCP.
+
+A message goes as a Reference Picture Selection Indication (RFC 4585, 6.3.3), whose native bit
+string it is; it carries the SSRC of the stream that it is about. A stream's end is a BYE
+(RFC 3550, 6.6). Each is a packet by itself (RFC 5506)."""
+
+import struct
+from dataclasses import dataclass
+from typing import Optional, Union
+
+from .rtp import PAYLOAD_TYPE
+
+_VERSION = 0x80
+_RPSI, _PAYLOAD_FEEDBACK, _BYE = 3, 206, 203
+# Bytes of a message: version 1, version 2 (docs/FORMATS.md, "Back-channel message").
+MESSAGE_BYTES = (3, 5)
+
+
+@dataclass(frozen=True)
+class Feedback:
+    """A message, by whom it is said and about which stream."""
+
+    speaker: int
+    about: int
+    message: bytes
+
+
+@dataclass(frozen=True)
+class Bye:
+    """The end of a stream."""
+
+    source: int
+
+
+def feedback_bytes(feedback: Feedback) -> bytes:
+    """The packet of a message."""
+    length = 2 + len(feedback.message)
+    padding = -length % 4
+    words = 2 + (length + padding) // 4
+    head = struct.pack(
+        ">BBHIIBB",
+        _VERSION | _RPSI,
+        _PAYLOAD_FEEDBACK,
+        words,
+        feedback.speaker,
+        feedback.about,
+        8 * padding,
+        PAYLOAD_TYPE,
+    )
+    return head + feedback.message + bytes(padding)
+
+
+def bye_bytes(source: int) -> bytes:
+    """The packet that ends a stream."""
+    return struct.pack(">BBHI", _VERSION | 1, _BYE, 1, source)
+
+
+def read_rtcp(data: bytes) -> Optional[Union[Feedback, Bye]]:
+    """The packet's message or end, or None where it is neither, or isn't whole."""
+    if len(data) < 8 or len(data) != 4 + 4 * int.from_bytes(data[2:4], "big"):
+        return None
+    if data[0] == _VERSION | 1 and data[1] == _BYE and len(data) == 8:
+        return Bye(int.from_bytes(data[4:8], "big"))
+    if data[0] != _VERSION | _RPSI or data[1] != _PAYLOAD_FEEDBACK or len(data) < 16:
+        return None
+    speaker, about, padding, kind = struct.unpack(">IIBB", data[4:14])
+    message = data[14 : len(data) - padding // 8]
+    if padding % 8 or padding >= 32 or kind != PAYLOAD_TYPE or len(message) not in MESSAGE_BYTES:
+        return None
+    return Feedback(speaker, about, message)

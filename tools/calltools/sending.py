@@ -1,0 +1,218 @@
+"""The sending end of a live call: frames in, packets out to the network, messages back in."""
+
+import random
+from typing import Callable
+
+from . import logs
+from .errors import BadInput
+from .live_settings import Settings
+from .loop import Call, Loop
+from .messages import read_message
+from .numbers import nearest
+from .picture_start import PERIODS
+from .piped import Piped
+from .recording import Recorder
+from .rtcp import Feedback
+from .rtp import CLOCK, TICKS_A_PICTURE, renumbered, rtp_header
+from .tally import Recent, Tally
+from .y4m import head_bytes
+
+# This many pictures may be captured and not coded yet; a further frame is left out.
+_BEHIND = 4
+# The times of this many pictures are kept, for their packets.
+_KEPT = 100
+# Bytes that may wait in the log of `send`; a message that comes then is dropped.
+_MOST_WAITING = 1 << 16
+# An end that dies this soon, this many times in a row, isn't begun anew.
+SOON, DEATHS = 1.0, 3
+# That a run is nearly full is told this many seconds before.
+_NOTICE = 60
+
+
+class SendingRun:
+    """One run of `send`, with an SSRC, a first sequence number and a first time of its own
+    (RFC 3550, 5.1)."""
+
+    def __init__(
+        self, loop: Loop, settings: Settings, recorder: Recorder, tally: Tally, recent: Recent
+    ) -> None:
+        self._loop, self._settings, self._tally, self._recent = loop, settings, tally, recent
+        self.source, self._first_sequence, self._first_time = map(random.getrandbits, (32, 16, 32))
+        self._record = recorder.run("send", self._facts())
+        self.program = Piped(loop, settings.program, "send", "rrw", settings.send_options())
+        video, log, wire = self.program.files
+        self._video, self._log = self.program.feed(video), self.program.feed(log)
+        self.program.entries(wire, self._packet)
+        self.program.lines(self._line)
+        self.on_packet: Callable[[bytes], None] = lambda _: None
+        self.captured = self._coded = 0
+        self._last = 0.0
+        self._times: dict[int, float] = {}
+        self._began = 0.0
+        self._is_ended = False
+        self._put_video(head_bytes(settings.size, settings.rate))
+
+    def _facts(self) -> dict[str, object]:
+        return {
+            "options": self._settings.send_options(),
+            "source": self.source,
+            "first_sequence": self._first_sequence,
+            "first_time": self._first_time,
+        }
+
+    def capture(self, samples: bytes, now: float) -> bool:
+        """A frame came from the camera. It is left out where the coder lags, or where it had
+        piled up with another."""
+        is_piled = self.captured > 0 and now - self._last < 0.5 * self._settings.period
+        if is_piled or self.captured - self._coded > _BEHIND:
+            return False
+        if not self.captured:
+            self._began = now
+        self._times[self.captured] = self._last = now
+        self._times.pop(self.captured - _KEPT, None)
+        self.captured += 1
+        self._put_log(logs.entry_bytes(logs.CAPTURE), now)
+        self._put_video(b"FRAME\n" + samples)
+        return True
+
+    def message(self, body: bytes, now: float) -> None:
+        """A message came back about this run. After its end it counts no more."""
+        if self._is_ended or self._log.waiting > _MOST_WAITING:
+            return
+        said = read_message(body)
+        if said.is_ack:
+            newest = self.captured - 1
+            period = PERIODS[self._settings.clock]
+            self._recent.trip(newest - nearest(newest - period // 2 + 1, said.reference, period))
+        self._put_log(logs.entry_bytes(logs.MESSAGE, body), now)
+
+    def end(self) -> None:
+        """Ends the log; the program then says its counts."""
+        self._is_ended = True
+        self._log.end()
+        self._video.end()
+
+    def _put_log(self, entry: bytes, now: float) -> None:
+        self._record.mark("log", now)
+        self._record.write("log", entry)
+        self._log.put(entry)
+
+    def _put_video(self, data: bytes) -> None:
+        self._record.write("video", data)
+        self._video.put(data)
+
+    def _packet(self, entry: bytes) -> None:
+        packet = entry[3:]
+        header = rtp_header(packet)
+        assert header
+        picture = header.timestamp // TICKS_A_PICTURE
+        if header.is_last:
+            self._coded = picture + 1
+        # RTP's time is that of the capture: `send` counts pictures, and a camera may skip some.
+        ticks = round((self._times[picture] - self._began) * CLOCK)
+        sequence = self._first_sequence + header.sequence
+        self.on_packet(renumbered(packet, sequence, self._first_time + ticks, self.source))
+        self._tally.packets_out += 1
+        self._record.mark("wire", self._loop.now())
+        self._record.write("wire", entry)
+
+    def _line(self, line: bytes) -> None:
+        self._record.write("report", line)
+        words = line.split()
+        if words and words[0].isdigit():
+            self._tally.coded += 1
+            is_inter = len(words) == 3
+            self._recent.reference(int(words[0]) - int(words[2]) if is_inter else None)
+
+
+class Sending:
+    """The sending end, begun anew where its program dies or has coded as much as it may."""
+
+    def __init__(
+        self,
+        loop: Loop,
+        settings: Settings,
+        recorder: Recorder,
+        tally: Tally,
+        say: Callable[[str], None],
+    ) -> None:
+        self._loop, self._settings, self._recorder = loop, settings, recorder
+        self._tally, self._say = tally, say
+        self.recent = Recent()
+        self.on_packet: Callable[[bytes], None] = lambda _: None
+        self.on_over: Call = lambda: None
+        self.on_fault: Callable[[BadInput], None] = lambda _: None
+        self._deaths = 0
+        self._is_ending = self._is_told = False
+        self._run = self._begun()
+
+    def _begun(self) -> SendingRun:
+        run = SendingRun(self._loop, self._settings, self._recorder, self._tally, self.recent)
+        run.on_packet = lambda packet: self.on_packet(packet)
+        run.program.on_end = lambda: self._ended(run)
+        return run
+
+    @property
+    def source(self) -> int:
+        """The SSRC of the present run."""
+        return self._run.source
+
+    @property
+    def process(self) -> int:
+        """The number of the program's process."""
+        return self._run.program.number
+
+    def frame(self, samples: bytes) -> bool:
+        """A frame came from the camera; answers whether it was taken."""
+        if self._is_ending:
+            return False
+        if self._run.captured >= self._settings.most_pictures:
+            self._begin_anew()
+        self._tell_of_the_end()
+        is_taken = self._run.capture(samples, self._loop.now())
+        self._tally.captured += is_taken
+        return is_taken
+
+    def feedback(self, feedback: Feedback) -> None:
+        """A message came from the network."""
+        if feedback.about != self._run.source:
+            self._tally.dropped["stale messages"] += 1
+            return
+        self._tally.messages_in += 1
+        self._run.message(feedback.message, self._loop.now())
+
+    def end(self) -> None:
+        """No more frames; `on_over` is called when the program has ended."""
+        self._is_ending = True
+        if self._run.program.is_over:
+            self.on_over()
+        else:
+            self._run.end()
+
+    def _tell_of_the_end(self) -> None:
+        most = self._settings.most_pictures
+        left = (most - self._run.captured) * self._settings.period
+        if left <= _NOTICE and not self._is_told:
+            self._is_told = True
+            self._say(f"in {left:.0f} s, after {most:,} pictures, the sending end begins anew")
+
+    def _begin_anew(self) -> None:
+        self._tally.begun_anew += 1
+        old, self._is_told = self._run, False
+        old.program.on_end = lambda: None
+        old.end()
+        self._run = self._begun()
+
+    def _ended(self, run: SendingRun) -> None:
+        if self._is_ending:
+            self.on_over()
+            return
+        is_soon = self._loop.now() - run.program.began < SOON
+        self._deaths = self._deaths + 1 if is_soon else 0
+        status = run.program.status
+        if self._deaths == DEATHS:
+            why = f"it ended {DEATHS} times with status {status}"
+            self.on_fault(BadInput(str(self._settings.program), "send", why))
+            return
+        self._say(f"send ended with status {status}; it is begun anew")
+        self._begin_anew()

@@ -1,0 +1,712 @@
+"""Tests of the live call: its parts by themselves, and calls of a few seconds over loopback."""
+
+import json
+import os
+import random
+import re
+import resource
+import shutil
+import signal
+import socket
+import subprocess
+import sys
+import tempfile
+import time
+import unittest
+from pathlib import Path
+from typing import Any, Callable, Optional, Sequence
+from unittest import mock
+
+from calltools import bad_network, errors, live_settings, logs, loop, messages, numbers, pipes
+from calltools import picture_start, playout, program, rtcp, rtp, udp, y4m, y4m_pipe
+
+TOOLS = Path(__file__).resolve().parent
+EXAMPLES = TOOLS.parent / "examples"
+# The proved program, where the gate left it; another one may be named.
+PROGRAM = Path(os.environ.get("H263RPS_PROGRAM", program.OWN))
+HAS_PROGRAM = os.access(PROGRAM, os.X_OK)
+needs_program = unittest.skipUnless(HAS_PROGRAM, "the program isn't built: rt ci does it")
+needs_ffmpeg = unittest.skipUnless(shutil.which("ffmpeg"), "ffmpeg isn't there")
+
+
+def example_packets() -> list[bytes]:
+    with open(EXAMPLES / "recv.log", "rb") as file:
+        return [entry.body for entry in logs.read_log(file, "recv.log") if entry.letter == logs.PACKET]
+
+
+def wait(turns: loop.Loop, seconds: float) -> None:
+    """Lets a loop go on for a while."""
+    until = turns.now() + seconds
+    turns.at(until, lambda: None)
+    turns.run(lambda: turns.now() >= until)
+
+
+class PartsTest(unittest.TestCase):
+    def test_numbers_follow_temporal_references(self) -> None:
+        """Out of order, over a wrap, after a long loss, and after a camera's pause."""
+        of = numbers.Numbers(256, 30.0)
+        start = 2**32 - 3_000  # the timestamp wraps, too
+        place = lambda n, tick, sequence: of.place(n % 256, sequence & 0xFFFF, start + tick & 0xFFFFFFFF)
+        self.assertEqual(place(250, 0, 65_530), (250, 0.0))
+        self.assertEqual(place(252, 6_000, 65_532)[0], 252)
+        number, time = place(251, 3_000, 65_531)
+        self.assertEqual((number, round(time, 4)), (251, 0.0333))
+        self.assertEqual(place(256, 18_000, 65_540)[0], 256)
+        # Ten seconds of loss: 300 pictures, and as many packets at least.
+        self.assertEqual(place(556, 918_000, 65_536 + 600)[0], 556)
+        # A pause of ten seconds: the next packet is of the next picture.
+        self.assertEqual(place(557, 1_818_000, 65_536 + 601)[0], 557)
+        self.assertEqual(numbers.nearest(1_000, 3, 1_024), 1_027)
+
+    def test_pictures_are_due_by_their_capture_and_the_least_way(self) -> None:
+        out = playout.Playout(0.1, 0.05)
+        self.assertIsNone(out.due(0))
+        out.arrived(0, 0.0, 10.03)
+        self.assertAlmostEqual(out.due(0), 10.08)
+        out.arrived(1, 0.1, 10.11)  # a faster way
+        self.assertAlmostEqual(out.due(0), 10.06)
+        out.played(0)
+        out.played(1)
+        self.assertIsNone(out.due(2))  # perhaps there is none yet
+        out.arrived(4, 0.35, 10.40)
+        self.assertAlmostEqual(out.due(2), 0.2 + 10.01 + 0.05)  # by the one before
+        out.played(2)
+        self.assertAlmostEqual(out.due(3), 0.3 + 10.01 + 0.05)
+        for step in range(10):  # the way grows: it counts after a while
+            out.arrived(5 + step, 0.5 + step / 10, 10.8 + step / 10)
+        self.assertAlmostEqual(out.due(14), 1.4 + 10.3 + 0.05)
+
+    def test_messages_go_as_reference_picture_selection_indications(self) -> None:
+        for body in (bytes([0xC0, 0x0C, 0x01]), bytes([0xE0, 0x0C, 0x01, 0x80, 0x80])):
+            said = rtcp.Feedback(1, 2, body)
+            data = rtcp.feedback_bytes(said)
+            self.assertEqual(len(data) % 4, 0)
+            self.assertEqual(rtcp.read_rtcp(data), said)
+            for cut in range(len(data)):
+                self.assertIsNone(rtcp.read_rtcp(data[:cut]))
+        self.assertEqual(rtcp.feedback_bytes(rtcp.Feedback(1, 2, bytes(3))).hex(), "83ce0004000000010000000218600000000000" + "00")
+        self.assertEqual(rtcp.read_rtcp(rtcp.bye_bytes(7)), rtcp.Bye(7))
+        draws = random.Random(1)
+        for _ in range(2_000):
+            rtcp.read_rtcp(draws.randbytes(draws.randrange(40)))
+        self.assertEqual(messages.read_message(bytes([0xC0, 0x2C, 0x05])), messages.Message(True, 5))
+
+    def test_each_packet_tells_its_picture(self) -> None:
+        found = {(start := picture_start.picture_start(packet)) and start.reference for packet in example_packets()}
+        self.assertEqual(found, {0, 1, 2, 3, 4, 7, 8, 9, 12, 13, 14, 15})
+        packet = example_packets()[0]
+        start = picture_start.picture_start(packet)
+        self.assertEqual((start.format, start.clock, start.period), ("sub-qcif", "standard", 256))
+        for bad in (packet[:20], b"\0" + packet[1:], packet[:1] + b"\x61" + packet[2:], packet[:12] + b"\0" + packet[13:], packet[:14] + bytes(60)):
+            self.assertIsNone(picture_start.picture_start(bad))
+        draws = random.Random(2)
+        for _ in range(5_000):
+            data = bytearray(packet[: draws.randrange(len(packet))])
+            for _ in range(min(len(data), 3)):
+                data[draws.randrange(len(data))] = draws.randrange(256)
+            picture_start.picture_start(bytes(data))
+
+    def test_padding_and_extensions_are_no_payload(self) -> None:
+        packet = example_packets()[0]
+        padded = bytes([packet[0] | 0x20]) + packet[1:] + bytes([0, 0, 3])
+        extended = bytes([packet[0] | 0x11]) + packet[1:12] + bytes(4) + bytes([0, 0, 0, 1]) + bytes(4) + packet[12:]
+        for other in (padded, extended):
+            self.assertEqual(rtp.payload_of(other), packet[12:])
+        self.assertIsNone(rtp.payload_of(bytes([0xA0]) + packet[1:] + b"\0"))
+        self.assertIsNone(rtp.payload_of(bytes([0x8F]) + packet[1:40]))
+
+    def test_lead_and_slots_hold_the_wait(self) -> None:
+        rate = y4m.RATE
+        self.assertEqual([live_settings.lead_for(wait, rate, None) for wait in (0, 0.1, 0.101, 1.9)], [3, 6, 7, 60])
+        self.assertEqual([live_settings.slots_for(lead, None) for lead in (3, 6, 31, 60)], [36, 39, 64, 64])
+        self.assertEqual(live_settings.lead_for(0.1, rate, 4), 4)
+        refused: list[tuple[Callable[[], int], str]] = [
+            (lambda: live_settings.lead_for(0.1, rate, 3), "--lead: 3: it can't hold --wait 100, for which 4 is the least"),
+            (lambda: live_settings.lead_for(2.01, rate, None), "--wait: 2010 ms: 2002 is the most"),
+            (lambda: live_settings.slots_for(6, 7), "--slots: 7: they can't hold a lead of 6, for which 8 is the least"),
+        ]
+        for call, told in refused:
+            with self.assertRaises(errors.BadInput) as caught:
+                call()
+            self.assertEqual(str(caught.exception), told)
+
+    def test_pipes_are_wide_and_never_waited_for(self) -> None:
+        turns = loop.Loop()
+        read, write = os.pipe()
+        pipes.widen(read)
+        data = random.Random(3).randbytes(3 << 20)
+        feed = pipes.Feed(turns, write, lambda: None)
+        feed.put(data)
+        self.assertGreater(feed.waiting, 0)
+        self.assertGreaterEqual(len(data) - feed.waiting, 1 << 20)
+        feed.end()
+        came, ended = [], []
+        pipes.Source(turns, read, came.append, lambda: ended.append(True))
+        turns.run(lambda: bool(ended))
+        self.assertEqual(b"".join(came), data)
+
+    def test_a_closed_pipe_is_told(self) -> None:
+        turns, broken = loop.Loop(), []
+        read, write = os.pipe()
+        feed = pipes.Feed(turns, write, lambda: broken.append(True))
+        os.close(read)
+        feed.put(b"x")
+        self.assertEqual((broken, feed.is_closed), ([True], True))
+
+    def test_video_is_cut_out_of_a_pipe(self) -> None:
+        video = (EXAMPLES / "video.y4m").read_bytes()
+        cutter = y4m_pipe.FrameCutter("camera")
+        found = [frame for at in range(0, len(video), 1_000) for frame in cutter.frames(video[at : at + 1_000])]
+        with open(EXAMPLES / "video.y4m", "rb") as file:
+            self.assertEqual(found, list(y4m.Y4mReader(file, "video")))
+        for bad in (b"RIFF\n", b"Y" * 256, b"YUV4MPEG2 W16 H16\nFRAM\n"):
+            with self.assertRaises(errors.BadInput):
+                list(y4m_pipe.FrameCutter("camera").frames(bad))
+
+    def test_a_bad_link(self) -> None:
+        turns = loop.Loop()
+        came: list[bytes] = []
+        network = bad_network.BadNetwork(delay=0.01, jitter=0.03, duplicate=0.3, outage=(0.05, 0.05), loss=0.1, burst=2)
+        link = bad_network.BadLink(turns, network, "link", came.append)
+        sent = [bytes([number]) for number in range(100)]
+        began = turns.now()
+        for number, data in enumerate(sent):
+            turns.at(began + number / 500, lambda data=data: link.take(data))
+        wait(turns, 0.5)
+        self.assertEqual((link.came, len(came)), (100, 100 - link.lost + link.twice))
+        self.assertNotEqual(came, sorted(came))
+        self.assertTrue(20 <= link.lost <= 60 and link.twice)
+
+    def test_a_narrow_line(self) -> None:
+        turns = loop.Loop()
+        came: list[float] = []
+        link = bad_network.BadLink(turns, bad_network.BadNetwork(kbits=100), "link", lambda _: came.append(turns.now()))
+        began = turns.now()
+        for _ in range(60):
+            link.take(bytes(97))  # with its heads 125 bytes: 10 ms
+        wait(turns, 0.7)
+        self.assertTrue(49 <= len(came) <= 52, len(came))
+        self.assertAlmostEqual(came[9] - began, 0.1, delta=0.03)
+
+    def test_strangers_are_kept_apart(self) -> None:
+        turns = loop.Loop()
+        one, other, stranger = (udp.Channel(turns, ("127.0.0.1", 0)) for _ in range(3))
+        one.connect(other.address)
+        other.connect(one.address)
+        stranger.connect(one.address)
+        came: list[bytes] = []
+        one.on_datagram = came.append
+        for _ in range(5):
+            stranger.send(b"strange")
+            other.send(b"good")
+        wait(turns, 0.1)
+        self.assertEqual((came, one.strangers), ([b"good"] * 5, 5))
+        with self.assertRaises(errors.BadInput) as caught:
+            udp.Channel(turns, one.address)
+        self.assertEqual(str(caught.exception), f"127.0.0.1: port {one.address[1]}: it is taken")
+        with mock.patch.object(udp, "MOST_BYTES", 3):
+            other.send(b"long")
+            wait(turns, 0.1)
+        self.assertEqual((len(came), one.long), (5, 1))
+        for channel in (one, other, stranger):
+            channel.close()
+
+
+def bound(port: int) -> socket.socket:
+    """A socket of a loopback port, or of any with 0."""
+    net = socket.socket(socket.AF_INET, socket.SOCK_DGRAM)
+    net.bind(("127.0.0.1", port))
+    return net
+
+
+def free_port() -> int:
+    """A port that is free, as the next one is."""
+    while True:
+        with bound(0) as net:
+            port = net.getsockname()[1]
+            try:
+                bound(port + 1).close()
+                return port
+            except (OSError, OverflowError):
+                continue
+
+
+def flood(port: int, seconds: float, rate: int) -> int:
+    """Sends datagrams of random bytes to a port and the next one. Answers how many."""
+    net, draws = bound(0), random.Random(4)
+    began, sent = time.monotonic(), 0
+    while (second := time.monotonic() - began) < seconds:
+        while sent < second * rate:
+            net.sendto(draws.randbytes(draws.randrange(200)), ("127.0.0.1", port + sent % 2))
+            sent += 1
+        time.sleep(0.001)
+    net.close()
+    return sent
+
+
+def mutated(draws: random.Random, data: bytes) -> bytes:
+    """Some bytes changed, but not the SSRC, and now and then the end cut."""
+    changed = bytearray(data)
+    for _ in range(draws.randrange(4)):
+        at = draws.choice([0, 1, 2, 3, 4, 5, 6, 7, *range(12, min(len(data), 40))])
+        changed[at] = draws.randrange(256)
+    return bytes(changed[: draws.choice([len(data), len(data), draws.randrange(len(data))])])
+
+
+def wait_for_port(port: int) -> None:
+    """Until a call has this port."""
+    until = time.monotonic() + 20
+    while f":{port:04X} " not in Path("/proc/net/udp").read_text() and time.monotonic() < until:
+        time.sleep(0.02)
+    time.sleep(0.2)
+
+
+def kill_child(parent: int, command: str) -> None:
+    """Kills the program that runs this command for a call."""
+    for child in Path(f"/proc/{parent}/task/{parent}/children").read_text().split():
+        if command.encode() in Path(f"/proc/{child}/cmdline").read_bytes().split(b"\0"):
+            os.kill(int(child), signal.SIGKILL)
+
+
+def joined_hosts(names: list[str], at_end: Callable[..., Any]) -> bool:
+    """Two network namespaces with 192.0.2.6 and 192.0.2.7; whether that could be had."""
+    ways = [f"h2{os.getpid()}{letter}" for letter in "ab"]
+    lines = [f"netns add {name}" for name in names]
+    lines.append(f"link add {ways[0]} netns {names[0]} type veth peer name {ways[1]} netns {names[1]}")
+    for name, way, host in zip(names, ways, (6, 7)):
+        lines.append(f"-n {name} addr add 192.0.2.{host}/24 dev {way}")
+        lines.append(f"-n {name} link set {way} up")
+        at_end(subprocess.run, ["ip", "netns", "del", name], stderr=subprocess.DEVNULL)
+    return all(not subprocess.run(["ip", *line.split()], stderr=subprocess.DEVNULL).returncode for line in lines)
+
+
+class Call:
+    """A running live_call: the words of one party, and what came of it."""
+
+    def __init__(
+        self,
+        words: list[object],
+        within: Sequence[str] = (),
+        given: Any = subprocess.DEVNULL,
+        out: Any = subprocess.PIPE,
+        **more: Any,
+    ) -> None:
+        told = [*within, sys.executable, *(str(word) for word in (TOOLS / "live_call", *words))]
+        pipes = {"stdin": given, "stdout": out, "stderr": subprocess.PIPE}
+        self.process = subprocess.Popen(told, **pipes, **more)
+        self.out, self.told, self.status = b"", "", -1
+
+    def ended(self, seconds: float = 30) -> "Call":
+        """Waits for its end."""
+        try:
+            self.out, told = self.process.communicate(timeout=seconds)
+        except subprocess.TimeoutExpired:
+            self.process.kill()
+            raise
+        self.told, self.status = told.decode(), self.process.returncode
+        return self
+
+    def interrupt(self) -> "Call":
+        self.process.send_signal(signal.SIGINT)
+        return self
+
+    def count(self, word: str, line: str) -> int:
+        """A count of the last line that begins so."""
+        row = [row for row in self.told.splitlines() if row.startswith(line)][-1]
+        found = re.search(rf"(?:^| ){word} (\d+)", row)
+        return int(found[1]) if found else 0
+
+    def shown(self, word: str) -> int:
+        return self.count(word, "shown")
+
+    def dropped(self, cause: str) -> int:
+        return self.count(cause, "dropped")
+
+
+class CallsTest(unittest.TestCase):
+    def setUp(self) -> None:
+        room = tempfile.TemporaryDirectory()
+        self.addCleanup(room.cleanup)
+        self.room = Path(room.name)
+        self.calls: list[Call] = []
+        self.addCleanup(lambda: [call.process.kill() for call in self.calls if call.process.poll() is None])
+        # In the place of the program, so that the tests need Python alone.
+        self.stand_in = self.room / "stand_in"
+        head = f"#!{sys.executable}\nimport sys\nsys.path.insert(0, {str(TOOLS)!r})\n"
+        self.stand_in.write_text(head + "from calltools import stand_in\nstand_in.main(sys.argv[1:])\n")
+        self.stand_in.chmod(0o755)
+
+    def start(self, *words: object, program: Optional[Path] = None, **more: Any) -> Call:
+        call = Call([*words, "--quiet", "--program", program or self.stand_in], **more)
+        self.calls.append(call)
+        return call
+
+    def run_call(self, *words: object, program: Optional[Path] = None, **more: Any) -> Call:
+        return self.start("--port", free_port(), *words, program=program, **more).ended()
+
+    def video(self, frames: int, format: str = "sub-qcif") -> Path:
+        path = self.room / f"{format}-{frames}.y4m"
+        words = [TOOLS / "make_video", path, "--frames", frames, "--format", format]
+        subprocess.run(list(map(str, words)), check=True)
+        return path
+
+    def assert_played_again(self, folder: Path, program: Path) -> dict[str, Any]:
+        """Both ends write the same bytes over the recorded logs. Answers what was recorded."""
+        facts = json.loads((folder / "call.json").read_text())
+        again = self.room / "again"
+        for run in facts["send"]:
+            words = [program, "send", folder / run["video"], folder / run["log"], again, *run["options"]]
+            told = subprocess.run(words, capture_output=True).stdout
+            self.assertEqual(told, (folder / run["report"]).read_bytes())
+            self.assertEqual(again.read_bytes(), (folder / run["wire"]).read_bytes())
+        for run in facts["recv"]:
+            out = self.room / "out"
+            words = [program, "recv", folder / run["log"], out, again, *run["options"]]
+            told = subprocess.run(words, capture_output=True).stdout
+            self.assertEqual(told, (folder / run["report"]).read_bytes())
+            self.assertEqual(again.read_bytes(), (folder / run["wire"]).read_bytes())
+            self.assertEqual(out.read_bytes(), (folder / run["video"]).read_bytes())
+        return facts
+
+    def test_a_call_alone_by_the_stand_in(self) -> None:
+        """With losses, each picture is counted, and the recorded call is played again."""
+        video, out, folder = self.video(60), self.room / "out.y4m", self.room / "call"
+        bad = ("--loss", 0.1, "--burst", 2, "--delay", 30, "--jitter", 20, "--seed", 3)
+        ends = ("--format", "sub-qcif", "--camera", video, "--screen", out, "--record", folder)
+        call = self.run_call(*ends, *bad)
+        self.assertEqual((call.status, call.count("sent", "sent")), (0, 60), call.told)
+        self.assertLess(call.shown("exact"), 60)
+        self.assertLessEqual(call.shown("exact"), call.shown("packets"))
+        facts = self.assert_played_again(folder, self.stand_in)
+        self.assertEqual((facts["party"], facts["counts"]["captured"]), ("alone", 60))
+        captured = (folder / "captured.y4m").read_bytes()
+        self.assertEqual(captured, video.read_bytes())
+        self.assertEqual(out.read_bytes(), (folder / "shown.y4m").read_bytes())
+
+    @needs_program
+    def test_a_call_alone(self) -> None:
+        """Losses in bursts, reordering, duplicates and a second without anything."""
+        video, folder = self.video(120, "qcif"), self.room / "call"
+        bad = ("--loss", 0.05, "--burst", 2, "--delay", 30, "--jitter", 30, "--duplicate", 0.05, "--outage", "1.5:1")
+        ends = ("--camera", video, "--screen", "none", "--record", folder)
+        call = self.run_call(*ends, *bad, program=PROGRAM)
+        self.assertEqual((call.status, call.count("sent", "sent")), (0, 120), call.told)
+        self.assertGreater(call.shown("exact"), 60)
+        self.assertGreater(call.shown("held"), 20)
+        self.assert_played_again(folder, PROGRAM)
+        told = subprocess.run([TOOLS / "times_of_call", folder], capture_output=True, text=True, check=True).stdout
+        self.assertRegex(told, r"after 1\.\d+ s of silence: picture \d+ exact")
+
+    @needs_program
+    def test_a_clean_call_is_exact(self) -> None:
+        for clock, version, format in (("standard", 1, "qcif"), ("custom", 2, "cif")):
+            video, folder = self.video(45, format), self.room / format
+            ends = ("--format", format, "--clock", clock, "--messages", version, "--camera", video)
+            call = self.run_call(*ends, "--screen", "none", "--record", folder, program=PROGRAM)
+            self.assertEqual((call.status, call.shown("exact"), call.shown("held")), (0, 45, 0), call.told)
+            self.assert_played_again(folder, PROGRAM)
+
+    @needs_ffmpeg
+    def test_ffmpeg_is_camera_and_screen(self) -> None:
+        screen = self.room / "out.mp4"
+        call = self.run_call("--camera", "test", "--screen", screen, "--seconds", 2)
+        self.assertEqual(call.status, 0, call.told)
+        self.assertGreater(call.shown("exact"), 20)
+        words = ["ffprobe", "-v", "error", "-show_entries", "stream=width,height", "-of", "csv=p=0", str(screen)]
+        self.assertEqual(subprocess.run(words, capture_output=True, text=True).stdout.strip(), "176,144")
+
+    def test_without_ffmpeg(self) -> None:
+        video = self.video(2)
+        for words in (("--camera", "test"), ("--camera", video), ("--camera", video, "--screen", "out.mkv")):
+            call = self.run_call("--format", "sub-qcif", *words, env={"PATH": str(self.room), "DISPLAY": ":0"})
+            told = r"^ff(mpeg|play): not on this machine: so --(camera|screen) takes a Y4M file.*\n$"
+            self.assertEqual(call.status, 1)
+            self.assertRegex(call.told, told)
+
+    def test_a_call_to_another_party(self) -> None:
+        """Both ways; one party is interrupted, and both finish."""
+        port = free_port()
+        ends = ("--port", port, "--camera", self.video(600), "--format", "sub-qcif", "--rate", 15)
+        parties = []
+        for own, other in (("127.0.0.1", "127.0.0.2"), ("127.0.0.2", "127.0.0.1")):
+            words = ("--at", own, "--with", other, "--screen", self.room / f"{own}.y4m", "--record", self.room / own)
+            parties.append(self.start(*ends, *words))
+        time.sleep(3)
+        parties[0].interrupt()
+        for call, own in zip(parties, ("127.0.0.1", "127.0.0.2")):
+            call.ended()
+            self.assertEqual(call.status, 0, call.told)
+            self.assertGreater(call.shown("exact"), 15, call.told)
+            self.assert_played_again(self.room / own, self.stand_in)
+            head = (self.room / f"{own}.y4m").open("rb").readline()
+            self.assertIn(b" F15:1 ", head)
+
+    @unittest.skipUnless(os.geteuid() == 0 and shutil.which("ip"), "not root, or ip isn't there")
+    def test_a_call_between_two_hosts(self) -> None:
+        """Each in a network namespace of its own, with a pair of links between them."""
+        names = [f"h263rps{os.getpid()}{letter}" for letter in "ab"]
+        if not joined_hosts(names, self.addCleanup):
+            self.skipTest("no network namespaces here")
+        program = PROGRAM if HAS_PROGRAM else self.stand_in
+        video = self.video(60, "qcif")
+        parties = []
+        for name, own, other in ((names[0], 6, 7), (names[1], 7, 6)):
+            words = ("--at", f"192.0.2.{own}", "--with", f"192.0.2.{other}", "--camera", video, "--screen", "none")
+            parties.append(self.start(*words, program=program, within=["ip", "netns", "exec", name]))
+        for call in parties:
+            self.assertEqual(call.ended().status, 0, call.told)
+            self.assertGreater(call.shown("exact"), 40, call.told)
+
+    def test_one_way_and_joining_late(self) -> None:
+        """The screen's party comes when the stream is at picture 300 or so, after a wrap."""
+        port = free_port()
+        ends = ("--port", port, "--format", "sub-qcif", "--rate", 120, "--wait", 50)
+        camera = self.start(*ends, "--at", "127.0.0.1", "--with", "127.0.0.2", "--one-way", "camera", "--camera", self.video(600))
+        time.sleep(2.5)
+        folder = self.room / "call"
+        screen = self.start(*ends, "--at", "127.0.0.2", "--with", "127.0.0.1", "--one-way", "screen", "--screen", self.room / "out.y4m", "--record", folder)
+        self.assertEqual([call.ended().status for call in (camera, screen)], [0, 0], screen.told)
+        self.assertEqual(camera.count("sent", "sent"), 600)
+        run = self.assert_played_again(folder, self.stand_in)["recv"][0]
+        self.assertEqual(run["skipped"], max(0, run["first"] - 2))
+        self.assertGreater(screen.shown("exact"), 100)
+        self.assertLessEqual(screen.shown("held"), 12)
+        shown = (self.room / "out.y4m").read_bytes().count(b"FRAME X")
+        self.assertEqual(shown, screen.shown("shown"))
+
+    def test_an_end_that_dies_is_begun_anew(self) -> None:
+        folder = self.room / "call"
+        ends = ("--format", "sub-qcif", "--camera", self.video(150), "--screen", "none", "--record", folder)
+        port = free_port()
+        call = self.start("--port", port, *ends)
+        wait_for_port(port)
+        for command in ("recv", "send"):
+            time.sleep(1.2)
+            kill_child(call.process.pid, command)
+        self.assertEqual(call.ended().status, 0, call.told)
+        self.assertIn("recv ended with status -9; it is begun anew", call.told)
+        self.assertIn("send ended with status -9; it is begun anew", call.told)
+        facts = json.loads((folder / "call.json").read_text())
+        self.assertEqual((len(facts["send"]), len(facts["recv"])), (2, 3))
+        self.assertEqual(facts["send"][1]["source"], facts["recv"][2]["source"])
+        self.assertTrue((folder / "captured-2.y4m").exists())
+        self.assertGreater(call.shown("exact"), 80, call.told)
+        marks = (folder / facts["recv"][2]["report"]).read_text().splitlines()
+        self.assertEqual(marks[-2].split()[1], "exact")
+
+    def test_an_end_that_always_dies_ends_the_call(self) -> None:
+        self.stand_in.write_text("#!/bin/sh\nexit 1\n")
+        call = self.run_call("--format", "sub-qcif", "--camera", self.video(60), "--screen", "none")
+        self.assertEqual(call.status, 1)
+        self.assertRegex(call.told, f"{self.stand_in}: (send|recv): it ended 3 times with status 1\n$")
+
+    def test_a_run_is_full(self) -> None:
+        """That is told before it comes, and the ends begin anew."""
+        ends = ("--format", "sub-qcif", "--camera", self.video(90), "--screen", "none", "--most-pictures", 40)
+        call = self.run_call(*ends)
+        self.assertEqual((call.status, call.count("sent", "sent")), (0, 90), call.told)
+        self.assertIn("in 1 s, after 40 pictures, the sending end begins anew\n", call.told)
+        self.assertGreater(call.shown("exact"), 50, call.told)
+
+    def test_strangers_and_bad_datagrams_count_and_do_no_harm(self) -> None:
+        """The test is the other party: what it sends of another SSRC, of a stale run, or malformed
+        is dropped; what it should send is shown."""
+        port, other_port = free_port(), free_port()
+        ends = ("--with", "127.0.0.1", "--port", port, "--other-port", other_port, "--one-way", "screen")
+        call = self.start(*ends, "--format", "sub-qcif", "--screen", "none", "--seconds", 4)
+        other, control = bound(other_port), bound(other_port + 1)
+        stranger = bound(0)
+        wait_for_port(port)
+        packets = example_packets()
+        for number, packet in enumerate(packets):
+            other.sendto(packet, ("127.0.0.1", port))
+            other.sendto(packet[:8] + b"othr" + packet[12:], ("127.0.0.1", port))
+            other.sendto(packet[:20], ("127.0.0.1", port))
+            stranger.sendto(packet, ("127.0.0.1", port))
+            control.sendto(bytes(9), ("127.0.0.1", port + 1))
+            control.sendto(rtcp.feedback_bytes(rtcp.Feedback(1, 2, bytes(3))), ("127.0.0.1", port + 1))
+            control.sendto(rtcp.bye_bytes(5), ("127.0.0.1", port + 1))
+        time.sleep(1)  # then another SSRC counts, and the first one is stale
+        for packet in packets:
+            other.sendto(packet[:8] + b"next" + packet[12:], ("127.0.0.1", port))
+            other.sendto(packet, ("127.0.0.1", port))
+        self.assertEqual(call.ended().status, 0, call.told)
+        count = len(packets)
+        self.assertEqual(call.shown("packets"), 2 * count, call.told)
+        wanted = {"malformed": 2 * count, "other source": 2 * count, "stale": count, "of strangers": count, "not asked for": count}
+        self.assertEqual({cause: call.dropped(cause) for cause in wanted}, wanted, call.told)
+        for net in (other, control, stranger):
+            net.close()
+
+    def test_mutated_datagrams_do_no_harm(self) -> None:
+        """From the other party's address, with the right SSRC, to a screen and to a camera."""
+        program = PROGRAM if HAS_PROGRAM else self.stand_in
+        port, other_port = free_port(), free_port()
+        ends = ("--with", "127.0.0.1", "--port", port, "--other-port", other_port, "--seconds", 5)
+        words = ("--format", "sub-qcif", "--camera", self.video(600), "--screen", "none")
+        call = self.start(*ends, *words, program=program)
+        other, control = bound(other_port), bound(other_port + 1)
+        wait_for_port(port)
+        source = rtp.rtp_header(other.recv(2_000)).source
+        draws, packets = random.Random(5), example_packets()
+        messages = [rtcp.feedback_bytes(rtcp.Feedback(1, source, bytes([0xC0, number, 4]))) for number in range(8)]
+        for number in range(4_000):
+            other.sendto(mutated(draws, packets[number % len(packets)]), ("127.0.0.1", port))
+            control.sendto(mutated(draws, draws.choice(messages)), ("127.0.0.1", port + 1))
+            if number % 20 == 0:
+                time.sleep(0.01)
+        self.assertEqual(call.ended().status, 0, call.told)
+        self.assertNotIn("Traceback", call.told)
+        self.assertGreater(call.shown("shown"), 100, call.told)
+        self.assertGreater(call.count("messages in", "sent"), 1_000, call.told)
+        self.assertGreater(call.dropped("malformed"), 100, call.told)
+        for net in (other, control):
+            net.close()
+
+    def test_what_a_camera_sends(self) -> None:
+        """The test is the other party: an SSRC, sequence numbers and times of its own, the times
+        those of the captures, and BYE at the end; a message counts if it is about that SSRC."""
+        port, other_port = free_port(), free_port()
+        other, control = bound(other_port), bound(other_port + 1)
+        for net in (other, control):
+            net.settimeout(20)
+        ends = ("--with", "127.0.0.1", "--port", port, "--other-port", other_port, "--one-way", "camera")
+        call = self.start(*ends, "--format", "sub-qcif", "--rate", 20, "--camera", self.video(30))
+        headers = []
+        for number in range(30):
+            packet = other.recv(2_000)
+            header = rtp.rtp_header(packet)
+            start = picture_start.picture_start(packet)
+            assert header and start
+            self.assertEqual(start.reference, number)
+            headers.append(header)
+            for about in (header.source, header.source ^ 1):
+                said = rtcp.Feedback(1, about, bytes([0xC0, number >> 5, (number & 31) << 3 | 4]))
+                control.sendto(rtcp.feedback_bytes(said), ("127.0.0.1", port + 1))
+        first = headers[0]
+        self.assertEqual({header.source for header in headers}, {first.source})
+        self.assertNotEqual(first.source, rtp.OWN_SOURCE)
+        steps = [(header.sequence - first.sequence) & 0xFFFF for header in headers]
+        self.assertEqual(steps, list(range(30)))
+        ticks = (headers[-1].timestamp - first.timestamp) & 0xFFFFFFFF
+        self.assertAlmostEqual(ticks / rtp.CLOCK, 29 / 20, delta=0.5)
+        self.assertEqual(rtcp.read_rtcp(control.recv(100)), rtcp.Bye(first.source))
+        self.assertEqual(call.ended().status, 0, call.told)
+        self.assertEqual((call.count("messages in", "sent"), call.dropped("stale messages")), (30, 30), call.told)
+        for net in (other, control):
+            net.close()
+
+    def test_a_flood_of_strangers(self) -> None:
+        """10,000 datagrams a second for five seconds, and all pictures are exact."""
+        program = PROGRAM if HAS_PROGRAM else self.stand_in
+        port = free_port()
+        ends = ("--port", port, "--format", "sub-qcif", "--camera", self.video(160), "--screen", "none", "--wait", 300)
+        call = self.start(*ends, program=program)
+        wait_for_port(port)
+        sent = flood(port, 5.0, 10_000)
+        self.assertEqual(call.ended().status, 0, call.told)
+        self.assertEqual((call.shown("exact"), call.shown("held")), (160, 0), call.told)
+        self.assertGreater(sent, 20_000)
+        self.assertGreater(call.dropped("of strangers"), sent // 4)
+
+    def test_another_format_or_clock_is_told(self) -> None:
+        for words, told in (
+            (("--format", "sub-qcif"), "the other side sends sub-qcif in the standard clock, and this call is qcif in the standard clock"),
+            (("--format", "qcif", "--clock", "custom"), "the other side sends qcif in the custom clock, and this call is qcif in the standard clock"),
+        ):
+            if "custom" in words and not HAS_PROGRAM:
+                continue
+            program = PROGRAM if HAS_PROGRAM else self.stand_in
+            port, video = free_port(), self.video(40, words[1])
+            camera = self.start("--port", port, "--with", "127.0.0.2", "--one-way", "camera", "--camera", video, *words, program=program)
+            ends = ("--at", "127.0.0.2", "--with", "127.0.0.1", "--one-way", "screen", "--screen", "none", "--seconds", 2.5)
+            screen = self.start("--port", port, *ends, program=program)
+            self.assertEqual([call.ended().status for call in (camera, screen)], [0, 0])
+            self.assertEqual(screen.told.count(told), 1, screen.told)
+            self.assertEqual(screen.shown("shown"), 0)
+            self.assertGreater(screen.dropped("other format or clock"), 0)
+
+    def test_a_full_disk(self) -> None:
+        """The recording ends and the call goes on; a screen that can't be written ends it."""
+        small = {"preexec_fn": lambda: resource.setrlimit(resource.RLIMIT_FSIZE, (200_000, 200_000))}
+        ends = ("--format", "sub-qcif", "--camera", self.video(60))
+        call = self.run_call(*ends, "--screen", "none", "--record", self.room / "call", **small)
+        self.assertEqual((call.status, call.shown("shown")), (1, 60), call.told)
+        self.assertIn("the recording ends here: File too large; the call goes on\n", call.told)
+        call = self.run_call(*ends, "--screen", self.room / "out.y4m", **small)
+        self.assertEqual(call.status, 1)
+        self.assertIn(f"{self.room / 'out.y4m'}: it can't be written: File too large\n", call.told)
+
+    def test_bad_words_are_refused(self) -> None:
+        video = self.video(2)
+        taken = bound(0)
+        port = taken.getsockname()[1]
+        none = self.room / "none"
+        ends = ("--camera", video, "--screen", "none", "--format", "sub-qcif")
+        for words, told in (
+            ((*ends, "--port", port), f"127.0.0.1: port {port}: it is taken"),
+            ((*ends, "--with", "host.invalid"), "host.invalid: port 5004: no such host: .*"),
+            ((*ends, "--with", "192.0.2.7"), "--with: 192.0.2.7: it isn't reached from 127.0.0.1: give --at and this machine's address"),
+            ((*ends, "--at", "192.0.2.66", "--with", "192.0.2.7"), "192.0.2.66: port 5004: Cannot assign requested address"),
+            ((*ends, "--wait", 200, "--lead", 3), "--lead: 3: it can't hold --wait 200, for which 7 is the least"),
+            ((*ends, "--loss", 0.9), "--loss: 0.9: bursts of 1 are too short for so much loss"),
+            ((*ends, "--one-way", "screen"), "--one-way: screen: it needs --with and the other machine"),
+            ((*ends, "--program", none), f"{none}: no program: rt ci proves and builds it"),
+            (("--camera", none, "--screen", "none"), f"{none}: no camera: there is no such file that can be read"),
+            (("--camera", "/dev/video99", "--screen", "none"), "/dev/video99: no camera: is one plugged in.*"),
+            (("--camera", none.with_suffix(".y4m"), "--screen", "none"), f"{none}.y4m: No such file or directory"),
+            ((*ends[:4], "--format", "qcif"), f"{video}: the head: 128 x 96, and the call is qcif, 176 x 144"),
+            ((*ends, "--screen", "window"), "--screen: window: there is no display here, so --screen takes a Y4M file, - or none"),
+            ((*ends, "--screen", none / "x.y4m"), f"{none}/x.y4m: No such file or directory"),
+        ):
+            own = () if "--program" in words else ("--program", self.stand_in)
+            call = Call([*words, *own], env={"PATH": os.environ["PATH"]}).ended()
+            self.assertEqual(call.status, 1, (words, call.told))
+            self.assertRegex(call.told, f"^{told}\n$")
+        taken.close()
+
+    def test_nobody_there(self) -> None:
+        """A party that isn't there: that is told, and the call ends as asked."""
+        ends = ("--format", "sub-qcif", "--camera", self.video(20), "--screen", "none", "--with", "127.0.0.3")
+        call = self.run_call(*ends)
+        self.assertEqual((call.status, call.count("sent", "sent")), (0, 20), call.told)
+        self.assertIn("127.0.0.3: nobody is there yet\n", call.told)
+
+    def test_a_screen_that_is_closed_ends_the_call(self) -> None:
+        read, write = os.pipe()
+        ends = ("--port", free_port(), "--format", "sub-qcif", "--camera", self.video(600), "--screen", "-")
+        call = self.start(*ends, out=write)
+        os.close(write)
+        self.assertTrue(os.read(read, 1_000).startswith(b"YUV4MPEG2 W128 H96 F30000:1001 "))
+        os.close(read)
+        call.ended(15)
+        self.assertEqual(call.status, 0, call.told)
+
+    def test_a_camera_that_pauses(self) -> None:
+        """For as long as temporal references alone can't bridge; no picture is held for it."""
+        video = self.video(50).read_bytes()
+        head, frames = video.split(b"\n", 1)
+        size = len(frames) // 50
+        call = self.start("--port", free_port(), "--format", "sub-qcif", "--camera", "-", "--screen", "none", given=subprocess.PIPE)
+        camera = call.process.stdin
+        assert camera
+        camera.write(head + b"\n")
+        for number in range(50):
+            time.sleep(4 if number == 25 else 1 / 30)
+            camera.write(frames[number * size : (number + 1) * size])
+            camera.flush()
+        camera.close()
+        call.process.stdin = None
+        self.assertEqual(call.ended().status, 0, call.told)
+        self.assertGreater(call.shown("exact"), 40, call.told)
+        self.assertEqual((call.shown("held"), call.dropped("anew")), (0, 0), call.told)
+
+    def test_video_that_comes_in(self) -> None:
+        """On the standard input, from a pipe; frames that pile up are left out."""
+        video = self.video(60)
+        with video.open("rb") as file:
+            give = subprocess.Popen(["cat"], stdin=file, stdout=subprocess.PIPE)
+        call = self.run_call("--format", "sub-qcif", "--camera", "-", "--screen", "none", given=give.stdout)
+        give.wait()
+        self.assertEqual(call.status, 0, call.told)
+        self.assertEqual(call.count("sent", "sent") + call.count("left out", "sent"), 60, call.told)
