@@ -171,11 +171,11 @@ class Room(unittest.TestCase):
 
 
 def packet(sequence: int, picture: int, has_marker: bool = False) -> bytes:
-    """RTP, the payload header of RFC 4629 and the start of a picture header."""
+    """RTP, the payload header of RFC 4629 and the start of a picture header in sub-QCIF."""
     head = bytes([0x80, 96 | has_marker << 7]) + (sequence % 65536).to_bytes(2, "big")
-    bits = 0b100000 << 10 | (picture & 255) << 2 | 0b10
+    bits = 0b100000 << 58 | (picture & 255) << 50 | 0b10 << 48 | 0b111 << 42 | 1 << 39 | 1 << 36
     time = (3003 * picture).to_bytes(4, "big")
-    return head + time + b"H263" + b"\4\0" + bits.to_bytes(2, "big") + bytes(6)
+    return head + time + b"H263" + b"\4\0" + bits.to_bytes(8, "big")
 
 
 def message(is_ack: bool, picture: int) -> bytes:
