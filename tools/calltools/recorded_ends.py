@@ -7,18 +7,14 @@ from typing import Any, Optional, Sequence
 
 from . import logs, report, rtp
 from .errors import BadInput
+from .messages import read_message
+from .numbers import nearest
+from .picture_start import picture_start
 from .recorded import Record, Timed, entries_of, pictures_of, video_of
 
 _SEQUENCES, _STAMPS = 1 << 16, 1 << 32
-_ACK = 3
 # `recv` without --lead.
 _LEAD = 3
-
-
-def nearest(guess: int, reference: int, period: int) -> int:
-    """The number next to `guess` that is this reference modulo the period."""
-    half = period // 2
-    return guess + (reference - guess + half) % period - half
 
 
 @dataclass(frozen=True)
@@ -107,7 +103,7 @@ class Said:
 
     @property
     def is_ack(self) -> bool:
-        return self.body[0] >> 6 == _ACK
+        return read_message(self.body).is_ack
 
 
 @dataclass(frozen=True)
@@ -165,11 +161,11 @@ def _came(entries: list[Timed]) -> list[CamePacket]:
         header = rtp.rtp_header(body) if timed.entry.letter == logs.PACKET else None
         if header is None:
             continue
-        last = found[-1] if found else None
+        last, start = found[-1] if found else None, picture_start(body)
         packet = CamePacket(
             sequence=nearest(last.sequence if last else 0, header.sequence, _SEQUENCES),
             stamp=nearest(last.stamp if last else 0, header.timestamp, _STAMPS),
-            reference=temporal_reference(body),
+            reference=start.reference if start else None,
             has_marker=bool(body[1] >> 7),
             size=len(body),
             played=played,
@@ -177,15 +173,6 @@ def _came(entries: list[Timed]) -> list[CamePacket]:
         )
         found.append(packet)
     return found
-
-
-def temporal_reference(packet: bytes) -> Optional[int]:
-    """The low 8 bits of TR in the packet's picture header, or None where it has none."""
-    payload = packet[rtp.HEADER_BYTES :]
-    if len(payload) < 5:
-        return None
-    header = payload[3 if payload[0] >> 1 & 1 else 2 :]
-    return (header[0] & 3) << 6 | header[1] >> 2
 
 
 def _said(record: Record, run: dict[str, Any], played: list[Optional[float]]) -> list[Said]:
@@ -199,6 +186,6 @@ def _said(record: Record, run: dict[str, Any], played: list[Optional[float]]) ->
             plays = number
         while timed.time is not None and plays < len(played) and (played[plays] or 0) <= timed.time:
             plays += 1
-        number_by_tr = int.from_bytes(body[:3], "big") >> 11 & record.numbers - 1
-        found.append(Said(body, nearest(plays, number_by_tr, record.numbers), timed.time))
+        number_of = nearest(plays, read_message(body).reference, record.numbers)
+        found.append(Said(body, number_of, timed.time))
     return found
