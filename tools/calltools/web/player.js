@@ -55,7 +55,7 @@ class Player {
     const { width, height } = this.videos[name];
     const pen = this.figures[name].querySelector("canvas").getContext("2d");
     const image = pen.createImageData(width, height);
-    paint(samples, width, height, image);
+    paint(samples, width, height, image.data);
     pen.putImageData(image, 0, 0);
   }
 
