@@ -10,6 +10,7 @@ from typing import Any, Optional
 from .bad_network import BadLink, BadNetwork
 from .cameras import camera_of
 from .errors import BadInput
+from .live_end import CallContext
 from .live_settings import Settings
 from .loop import Loop
 from .parties import Party
@@ -84,9 +85,8 @@ class LiveCall:
         return channel
 
     def _party(self, media: Channel, control: Channel) -> Party:
-        return Party(
-            self.loop, self._settings, self._recorder, self.tally, media, control, self.say
-        )
+        context = CallContext(self.loop, self._settings, self._recorder, self.tally, self.say)
+        return Party(context, media, control)
 
     def _with(self, other: Address) -> Party:
         (host, port), (at, own) = other, self._asked.at

@@ -4,14 +4,11 @@ from typing import Callable, Optional
 
 from .cameras import Camera
 from .errors import BadInput
-from .live_settings import Settings
-from .loop import Loop
-from .recording import Recorder
+from .live_end import CallContext
 from .receiving import Receiving
 from .rtcp import Feedback, bye_bytes, feedback_bytes, read_rtcp
 from .screens import Screen
 from .sending import Sending
-from .tally import Tally
 from .udp import Channel
 from .y4m import Frame
 
@@ -22,19 +19,8 @@ _BYES = 3
 class Party:
     """Packets go over `media` and messages over `control`, each to the other party and back."""
 
-    def __init__(
-        self,
-        loop: Loop,
-        settings: Settings,
-        recorder: Recorder,
-        tally: Tally,
-        media: Channel,
-        control: Channel,
-        say: Callable[[str], None],
-    ) -> None:
-        self._loop, self._settings, self._recorder = loop, settings, recorder
-        self._tally, self._say = tally, say
-        self._media, self._control = media, control
+    def __init__(self, context: CallContext, media: Channel, control: Channel) -> None:
+        self._context, self._media, self._control = context, media, control
         media.on_datagram, control.on_datagram = self._packet, self._rtcp
         self.camera: Optional[Camera] = None
         self.screen: Optional[Screen] = None
@@ -46,7 +32,7 @@ class Party:
 
     def add_camera(self, camera: Camera) -> None:
         """What the party sends."""
-        sending = Sending(self._loop, self._settings, self._recorder, self._tally, self._say)
+        sending = Sending(self._context)
         sending.on_packet = self._media.send
         sending.on_over = self._over
         sending.on_fault = self._fault
@@ -55,7 +41,7 @@ class Party:
 
     def add_screen(self, screen: Screen) -> None:
         """What shows what the other party sends."""
-        receiving = Receiving(self._loop, self._settings, self._recorder, self._tally, self._say)
+        receiving = Receiving(self._context)
         receiving.on_frame = self._show
         receiving.on_feedback = self._feedback
         receiving.on_over = self._over
@@ -115,13 +101,13 @@ class Party:
 
     def _show(self, frame: Frame) -> None:
         assert self.screen
-        self.screen.show(frame, self._loop.now())
+        self.screen.show(frame, self._context.loop.now())
 
     def _packet(self, data: bytes) -> None:
         if self.receiving:
             self.receiving.packet(data)
         else:
-            self._tally.dropped["not asked for"] += 1
+            self._drop("not asked for")
 
     def _feedback(self, feedback: Feedback) -> None:
         self._control.send(feedback_bytes(feedback))
@@ -133,4 +119,7 @@ class Party:
         elif packet and not isinstance(packet, Feedback) and self.receiving:
             self.receiving.bye(packet)
         else:
-            self._tally.dropped["malformed" if not packet else "not asked for"] += 1
+            self._drop("not asked for" if packet else "malformed")
+
+    def _drop(self, cause: str) -> None:
+        self._context.tally.dropped[cause] += 1
