@@ -19,7 +19,7 @@ from .y4m_pipe import FrameCutter
 # Pictures that are open before the first one that came, for packets out of order at the start.
 _BEFORE = 2
 # Another SSRC is taken when the present one has been silent for this many seconds.
-SILENT = 0.5
+_SILENT = 0.5
 # After this many seconds of silence the end begins anew: numbers can't be told any more.
 _LOST = 30.0
 # After this many packets in a row, over this many seconds, of pictures that were played, too.
@@ -182,11 +182,6 @@ class Receiving(LiveEnd):
         run.program.on_end = lambda: self._ended(run.program)
         return run
 
-    @property
-    def process(self) -> int:
-        """The number of the program's process."""
-        return self._run.program.number
-
     def packet(self, data: bytes) -> None:
         """A datagram came from the other side."""
         now = self._loop.now()
@@ -231,7 +226,7 @@ class Receiving(LiveEnd):
             if source in self._stale:
                 self._tally.dropped["stale"] += 1
                 return False
-            if self._source is not None and now - self.last < SILENT:
+            if self._source is not None and now - self.last < _SILENT:
                 self._tally.dropped["other source"] += 1
                 return False
             if self._source is not None:

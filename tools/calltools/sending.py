@@ -143,11 +143,6 @@ class Sending(LiveEnd):
         """The SSRC of the present run."""
         return self._run.source
 
-    @property
-    def process(self) -> int:
-        """The number of the program's process."""
-        return self._run.program.number
-
     def frame(self, samples: bytes) -> bool:
         """A frame came from the camera; answers whether it was taken."""
         if self._is_ending:
