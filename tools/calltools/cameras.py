@@ -10,6 +10,7 @@ from . import ffmpeg
 from .errors import BadInput
 from .live_settings import Settings
 from .loop import Call, Loop, Timer
+from .piped import end_process
 from .pipes import Source, widen
 from .y4m import Frame, Y4mReader
 from .y4m_pipe import FrameCutter
@@ -109,8 +110,7 @@ class PipeCamera(Camera):
         if self._source:
             self._source.close()
         if self._process:
-            self._process.terminate()
-            self._process.wait()
+            end_process(self._process)
 
     def _came(self, data: bytes) -> None:
         try:

@@ -9,13 +9,13 @@ from . import ffmpeg
 from .errors import BadInput
 from .live_settings import Settings
 from .loop import Call, Loop
+from .piped import PATIENCE, end_process
 from .pipes import Feed, widen
 from .y4m import Frame, head_bytes
 
 WINDOW = "window"
 # How many frames may wait before a window, and before a program that writes a file.
 _WINDOW_AHEAD, _FILE_AHEAD = 3, 300
-_PATIENCE = 5.0
 # One of them tells a window where to be.
 _DISPLAYS = ("DISPLAY", "WAYLAND_DISPLAY", "SDL_VIDEODRIVER")
 
@@ -100,22 +100,21 @@ class PipeScreen(Screen):
         self._feed.put(_frame_bytes(frame))
 
     def finish(self) -> None:
-        self._feed.drain(_PATIENCE)
+        self._feed.drain(PATIENCE)
         if not self._process:
             return
         try:
-            self._process.wait(_PATIENCE)
+            self._process.wait(PATIENCE)
         except subprocess.TimeoutExpired:
-            self._process.terminate()
-            self._process.wait()
+            end_process(self._process)
 
     def _broke(self) -> None:
         status = 0
         if self._process:
             try:
-                status = self._process.wait(_PATIENCE)
+                status = self._process.wait(PATIENCE)
             except subprocess.TimeoutExpired:
-                self._process.terminate()
+                end_process(self._process)
         if status:
             self.on_fault(BadInput(self._name, "the screen", f"it ended with status {status}"))
         else:
