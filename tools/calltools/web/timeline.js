@@ -240,10 +240,10 @@ class Timeline {
   drawSquares(place) {
     const { sender, receiver } = this.squaresAt(place);
     const mark = this.way.marks[place];
-    const letter = mark ? MARKS[mark].letter : "";
-    const isIntra = this.way.references[place] === -1;
+    const intra = this.way.references[place] === -1 ? "I" : "";
+    const letter = mark ? MARKS[mark].letter : this.hasWays ? "" : intra;
     const [pen, ink, side] = [this.pen, this.ink, this.side];
-    if (this.hasWays) drawMark(pen, ink, null, sender, this.top, side, isIntra ? "I" : "");
+    if (this.hasWays) drawMark(pen, ink, null, sender, this.top, side, intra);
     if (receiver !== null) drawMark(pen, ink, mark, receiver, this.bottom, side, letter);
   }
 
