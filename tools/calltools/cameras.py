@@ -16,7 +16,7 @@ from .y4m import Frame, Y4mReader
 from .y4m_pipe import FrameCutter
 
 DEVICE = "/dev/video0"
-# Two frames of a file lie so much of a picture's time apart at least.
+# The least time between two frames of a file, in pictures.
 _LEAST = 0.75
 
 
