@@ -10,13 +10,12 @@ from . import ffmpeg
 from .errors import BadInput
 from .live_settings import Settings
 from .loop import Call, Loop, Timer
-from .piped import end_process
 from .pipes import Source, widen
 from .y4m import Frame, Y4mReader
 from .y4m_pipe import FrameCutter
 
 DEVICE = "/dev/video0"
-# Two frames of a file lie so much of a picture's time apart at least.
+# The least time between two frames of a file, in pictures.
 _LEAST = 0.75
 
 
@@ -107,10 +106,12 @@ class PipeCamera(Camera):
         return file
 
     def stop(self) -> None:
+        if self._process:
+            # Asked to end it would still write, and complain.
+            self._process.kill()
+            self._process.wait()
         if self._source:
             self._source.close()
-        if self._process:
-            end_process(self._process)
 
     def _came(self, data: bytes) -> None:
         try:
