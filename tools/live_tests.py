@@ -409,9 +409,13 @@ class CallsTest(unittest.TestCase):
     @needs_ffmpeg
     def test_ffmpeg_is_camera_and_screen(self) -> None:
         screen = self.room / "out.mp4"
-        call = self.run_call("--camera", "test", "--screen", screen, "--seconds", 2)
+        call = self.run_call("--camera", "test", "--screen", screen, "--seconds", 3)
         self.assertEqual(call.status, 0, call.told)
-        self.assertGreater(call.shown("exact"), 20)
+        frames = call.shown("exact")
+        self.assertGreater(frames, 20)
+        call = self.run_call("--camera", screen, "--screen", "none")
+        self.assertEqual(call.status, 0, call.told)
+        self.assertGreater(call.shown("exact"), frames / 2)
         words = ["ffprobe", "-v", "error", "-show_entries", "stream=width,height", "-of", "csv=p=0", str(screen)]
         self.assertEqual(subprocess.run(words, capture_output=True, text=True).stdout.strip(), "176,144")
 

@@ -6,8 +6,11 @@ import importlib.machinery
 import importlib.util
 import io
 import json
+import os
 import random
 import re
+import socket
+import subprocess
 import tempfile
 import unittest
 import zlib
@@ -17,12 +20,14 @@ from pathlib import Path
 from types import ModuleType
 from typing import Any, Optional, Sequence
 
-from calltools import errors, lanes, logs, made, recorded, recorded_ways, report
+from calltools import errors, lanes, logs, made, program, recorded, recorded_ways, report
 from calltools import stored, traced, wavelet, way, y4m
 
 TOOLS = Path(__file__).resolve().parent
 EXAMPLES = TOOLS.parent / "examples"
 VIDEO = EXAMPLES / "video.y4m"
+LIVE_CALL = TOOLS / "live_call"
+PROGRAM = Path(os.environ.get("H263RPS_PROGRAM", program.OWN))
 BURST = EXAMPLES / "expected" / "burst.txt"
 TRACE = EXAMPLES / "burst.trace"
 SMALL = y4m.Size(*y4m.FORMATS["sub-qcif"])
@@ -38,6 +43,12 @@ def tool() -> ModuleType:
     module = importlib.util.module_from_spec(spec)
     loader.exec_module(module)
     return module
+
+
+def free_port() -> int:
+    with socket.socket(socket.AF_INET, socket.SOCK_DGRAM) as found:
+        found.bind(("127.0.0.1", 0))
+        return found.getsockname()[1]
 
 
 def frames(path: Path = VIDEO) -> list[bytes]:
@@ -160,11 +171,11 @@ class Room(unittest.TestCase):
 
 
 def packet(sequence: int, picture: int, has_marker: bool = False) -> bytes:
-    """RTP, the payload header of RFC 4629 and the start of a picture header."""
+    """RTP, the payload header of RFC 4629 and the start of a picture header in sub-QCIF."""
     head = bytes([0x80, 96 | has_marker << 7]) + (sequence % 65536).to_bytes(2, "big")
-    bits = 0b100000 << 10 | (picture & 255) << 2 | 0b10
+    bits = 0b100000 << 58 | (picture & 255) << 50 | 0b10 << 48 | 0b111 << 42 | 1 << 39 | 1 << 36
     time = (3003 * picture).to_bytes(4, "big")
-    return head + time + b"H263" + b"\4\0" + bits.to_bytes(2, "big") + bytes(6)
+    return head + time + b"H263" + b"\4\0" + bits.to_bytes(8, "big")
 
 
 def message(is_ack: bool, picture: int) -> bytes:
@@ -248,6 +259,12 @@ def whole_folder(path: Path) -> Folder:
 
 
 class PageTest(Room):
+    def test_the_tool_has_help(self) -> None:
+        words = [str(TOOLS / "page_of_call"), "--help"]
+        run = subprocess.run(words, capture_output=True, text=True)
+        self.assertEqual((run.returncode, run.stderr), (0, ""))
+        self.assertIn("usage: page_of_call", run.stdout)
+
     def test_the_page_is_whole_and_alone(self) -> None:
         """Each element is ended, each id is one, and nothing is named that lies outside."""
         text = self.burst_page("--title", "A <b>call</b> & more</script>").read_text()
@@ -407,6 +424,25 @@ class RecordedTest(Room):
         network = "5 % lost in bursts of 2, 30 ms of delay, nothing for 0.5 s from 2 s on"
         self.assertIn(network, page.read_text())
         self.assertEqual(samples_of(call_of(page)["ways"][0]["shown_video"]), shown)
+
+    @unittest.skipUnless(LIVE_CALL.exists() and os.access(PROGRAM, os.X_OK), "no live call here")
+    def test_a_live_call_is_told(self) -> None:
+        """What became of its packets is what `recv` counted."""
+        folder = self.room / "call"
+        words = ["--program", PROGRAM, "--camera", VIDEO, "--screen", "none", "--record", folder]
+        network = ["--loss", 0.2, "--burst", 2, "--delay", 20, "--duplicate", 0.2, "--quiet"]
+        asked = [str(word) for word in (LIVE_CALL, *words, *network, "--port", free_port())]
+        subprocess.run(asked, check=True, capture_output=True, timeout=60)
+        (found,) = recorded_ways.ways_of(recorded.read_record(folder))
+        lines = (folder / "recv.txt").read_text().splitlines()
+        self.assertEqual([f"{p.number} {p.mark}" for p in found.pictures], lines[:-1])
+        counts = dict(re.findall(r"(\w+) (\d+)", lines[-1]))
+        fates = Counter(packet.fate for packet in found.packets)
+        for fate, word in (("taken",) * 2, ("late",) * 2, ("early",) * 2, ("again", "repeat")):
+            self.assertEqual(fates[fate], int(counts[word]), fate)
+        sent = len({(packet.picture, packet.sent) for packet in found.packets})
+        self.assertEqual(fates["lost"] + fates["taken"] + fates["late"] + fates["early"], sent)
+        self.assertIn("20 % lost in bursts of 2, 20 % twice", self.page(folder).read_text())
 
     def test_clocks_of_two_machines_are_put_together(self) -> None:
         """So that the quickest packet takes as long as the quickest message."""

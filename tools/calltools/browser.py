@@ -8,11 +8,12 @@ import select
 import shutil
 import signal
 import tempfile
+import time
 from pathlib import Path
 from typing import Any, Optional
 
-# Seconds for an answer.
-_PATIENCE = 60
+# Seconds for an answer, and for the end.
+_PATIENCE, _LEAVE = 60, 10
 _NAMES = ("chromium", "chromium-browser", "google-chrome")
 _FLAGS = (
     "--headless=new",
@@ -70,9 +71,18 @@ class _Program:
         return json.loads(message)
 
     def end(self) -> None:
-        """Ends it, with the processes that it started."""
-        os.killpg(self._process, signal.SIGKILL)
-        os.waitpid(self._process, 0)
+        """Ends it, with the processes that it started: by its own leave, else by force."""
+        try:
+            self.send({"id": 0, "method": "Browser.close"})
+        except BrokenPipeError:
+            pass
+        ends = time.monotonic() + _LEAVE
+        while not os.waitpid(self._process, os.WNOHANG)[0]:
+            if time.monotonic() > ends:
+                os.killpg(self._process, signal.SIGKILL)
+                os.waitpid(self._process, 0)
+                break
+            time.sleep(0.02)
         os.close(self._to)
         os.close(self._from)
         shutil.rmtree(self._room, ignore_errors=True)

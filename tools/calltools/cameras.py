@@ -15,7 +15,7 @@ from .y4m import Frame, Y4mReader
 from .y4m_pipe import FrameCutter
 
 DEVICE = "/dev/video0"
-# Two frames of a file lie so much of a picture's time apart at least.
+# The least time between two frames of a file, in pictures.
 _LEAST = 0.75
 
 
@@ -106,11 +106,12 @@ class PipeCamera(Camera):
         return file
 
     def stop(self) -> None:
+        if self._process:
+            # Asked to end it would still write, and complain.
+            self._process.kill()
+            self._process.wait()
         if self._source:
             self._source.close()
-        if self._process:
-            self._process.terminate()
-            self._process.wait()
 
     def _came(self, data: bytes) -> None:
         try:

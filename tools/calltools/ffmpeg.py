@@ -23,7 +23,7 @@ def _source(name: str, size: Size, rate: Fraction) -> list[str]:
         told = f"testsrc2=size={size.width}x{size.height}:rate={rate}"
         return ["-re", "-f", "lavfi", "-i", told]
     if name.startswith("/dev/video"):
-        return ["-f", "v4l2", "-i", name]
+        return ["-fflags", "nobuffer", "-f", "v4l2", "-i", name]
     return ["-re", "-i", f"file:{name}"]
 
 
@@ -35,7 +35,7 @@ def camera_words(name: str, size: Size, rate: Fraction) -> list[str]:
         f"fps={rate},scale={size.width}:{size.height}:force_original_aspect_ratio=increase,"
         f"crop={size.width}:{size.height},format=yuv420p"
     )
-    own = [_found("ffmpeg", without), *_QUIET, "-fflags", "nobuffer", *_source(name, size, rate)]
+    own = [_found("ffmpeg", without), *_QUIET, *_source(name, size, rate)]
     return [*own, "-an", "-vf", fit, "-f", "yuv4mpegpipe", "-"]
 
 

@@ -7,19 +7,21 @@ from datetime import datetime, timezone
 from pathlib import Path
 from typing import Any, Optional
 
-from .bad_network import BadLink, BadNetwork
+from .bad_network import BadNetwork
+from .call_network import CallNetwork
 from .cameras import camera_of
 from .errors import BadInput
+from .live_end import CallContext
 from .live_settings import Settings
 from .loop import Loop
 from .parties import Party
 from .recording import Recorder
 from .screens import screen_of
 from .tally import Recent, StatusLine, Tally, counts
-from .udp import Address, Channel
+from .udp import Address
 
 LOOPBACK = "127.0.0.1"
-# What is on its way when a camera ends is waited for so much longer than it takes, in seconds.
+# What is on its way when a camera ends is waited for this much longer than it takes, in seconds.
 _MORE = 0.2
 # How long the ends may take to finish.
 _PATIENCE = 10.0
@@ -53,10 +55,12 @@ class LiveCall:
         self._began = self.loop.now()
         self._recorder = Recorder(asked.record, self._began, self._facts())
         self._recorder.on_fault = self._recording_failed
-        self._channels: list[Channel] = []
+        self._network = CallNetwork(self.loop, asked.at, asked.other, asked.network)
+        self._line = StatusLine(bool(asked.camera), bool(asked.screen))
         self.fault: Optional[BadInput] = None
         self._is_ending = self._is_over = False
-        self.parties = self._both_alone() if asked.other is None else [self._with(asked.other)]
+        context = CallContext(self.loop, self._settings, self._recorder, self.tally, self.say)
+        self.parties = [Party(context, line) for line in self._network.lines]
         for party in self.parties:
             party.on_end, party.on_fault = self.end, self._failed
         self._add_ends()
@@ -77,39 +81,6 @@ class LiveCall:
             "target": settings.target,
             "network": vars(asked.network) if asked.other is None else None,
         }
-
-    def _channel(self, at: Address, to: Optional[Address] = None) -> Channel:
-        channel = Channel(self.loop, at, to)
-        self._channels.append(channel)
-        return channel
-
-    def _party(self, media: Channel, control: Channel) -> Party:
-        return Party(
-            self.loop, self._settings, self._recorder, self.tally, media, control, self.say
-        )
-
-    def _with(self, other: Address) -> Party:
-        (host, port), (at, own) = other, self._asked.at
-        return self._party(
-            self._channel((at, own), (host, port)), self._channel((at, own + 1), (host, port + 1))
-        )
-
-    def _both_alone(self) -> list[Party]:
-        # The party with the camera, the network, and the party with the screen at the ports told.
-        host, port = self._asked.at
-        near, far = [], []
-        for name, own in (("packets", port), ("messages", port + 1)):
-            ends = [self._channel((host, 0)) for _ in range(3)]
-            ends.append(self._channel((host, own)))
-            for one, other in ((ends[0], ends[1]), (ends[2], ends[3])):
-                one.connect(other.address)
-                other.connect(one.address)
-            for one, other, way in ((ends[1], ends[2], "forth"), (ends[2], ends[1], "back")):
-                link = BadLink(self.loop, self._asked.network, f"{name} {way}", other.send)
-                one.on_datagram = link.take
-            near.append(ends[0])
-            far.append(ends[3])
-        return [self._party(*near), self._party(*far)]
 
     def _add_ends(self) -> None:
         # What can be refused comes first, so that no program was started in vain.
@@ -133,7 +104,6 @@ class LiveCall:
                 party.camera.start()
         if self._asked.seconds is not None:
             self.loop.at(self._began + self._asked.seconds, self.end)
-        self._line = StatusLine(bool(self._asked.camera), bool(self._asked.screen))
         if not self._asked.is_quiet:
             self.say(self._first_line())
             self.loop.at(self._began + 1, self._tell)
@@ -157,9 +127,9 @@ class LiveCall:
         )
 
     def _tell_if_nobody_is_there(self) -> None:
-        party = self.parties[-1]
-        if self._asked.other and not party.bytes_in:
-            what = "nobody is there yet" if party.unreached else "nothing has come from there yet"
+        line = self._network.lines[-1]
+        if self._asked.other and not line.bytes_in:
+            what = "nobody is there yet" if line.unreached else "nothing has come from there yet"
             self.say(f"{self._asked.other[0]}: {what}")
 
     def end(self, why: str = "") -> None:
@@ -180,14 +150,13 @@ class LiveCall:
     def _stop(self) -> None:
         for party in self.parties:
             party.stop()
-        self._until = self.loop.now() + _PATIENCE
-        self._watch()
+        self._watch(self.loop.now() + _PATIENCE)
 
-    def _watch(self) -> None:
-        is_late = self.loop.now() > self._until
-        self._is_over |= is_late or all(party.is_over for party in self.parties)
+    def _watch(self, until: float) -> None:
+        now = self.loop.now()
+        self._is_over |= now > until or all(party.is_over for party in self.parties)
         if not self._is_over:
-            self.loop.at(self.loop.now() + 0.01, self._watch)
+            self.loop.at(now + 0.01, lambda: self._watch(until))
 
     def _failed(self, fault: BadInput) -> None:
         self.fault = self.fault or fault
@@ -198,18 +167,20 @@ class LiveCall:
 
     def _count_datagrams(self) -> None:
         dropped = self.tally.dropped
-        dropped["of strangers"] = sum(channel.strangers for channel in self._channels)
-        dropped["too long"] = sum(channel.long for channel in self._channels)
-        # Alone, the party with the camera: out are the packets, in the messages.
-        self.tally.bytes_out = self.parties[0].bytes_out
-        self.tally.bytes_in = self.parties[0].bytes_in
+        dropped["of strangers"] = self._network.strangers
+        dropped["too long"] = self._network.long
+        # Alone, those of the party with the camera: out are the packets, in the messages.
+        line = self._network.lines[0]
+        self.tally.bytes_out, self.tally.bytes_in = line.bytes_out, line.bytes_in
 
     def _tell(self) -> None:
         self._count_datagrams()
-        second = self.loop.now() - self._began
-        sending = self.parties[0].sending
+        now = self.loop.now()
+        second = now - self._began
+        sending, receiving = self.parties[0].sending, self.parties[-1].receiving
         recent = sending.recent if sending else Recent()
-        self.say(self._line.line(second, self.tally, recent))
+        silent = now - max(receiving.last, self._began) if receiving else 0.0
+        self.say(self._line.line(second, self.tally, recent, silent))
         if not self._is_ending:
             self.loop.at(self._began + round(second) + 1, self._tell)
 
@@ -226,8 +197,7 @@ class LiveCall:
         processor = round(used.ru_utime + used.ru_stime, 3)
         facts = {"seconds": seconds, "processor_seconds": processor, **self.tally.facts()}
         self._recorder.finish(facts)
-        for channel in self._channels:
-            channel.close()
+        self._network.close()
         for line in counts(self.tally, bool(self._asked.camera), bool(self._asked.screen)):
             self.say(line)
         if self._recorder.fault and not self.fault:

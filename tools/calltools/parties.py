@@ -2,17 +2,14 @@
 
 from typing import Callable, Optional
 
+from .call_network import Line
 from .cameras import Camera
 from .errors import BadInput
-from .live_settings import Settings
-from .loop import Loop
-from .recording import Recorder
+from .live_end import CallContext
 from .receiving import Receiving
 from .rtcp import Feedback, bye_bytes, feedback_bytes, read_rtcp
 from .screens import Screen
 from .sending import Sending
-from .tally import Tally
-from .udp import Channel
 from .y4m import Frame
 
 # How often the end of a stream is said, since a datagram may be lost.
@@ -20,22 +17,11 @@ _BYES = 3
 
 
 class Party:
-    """Packets go over `media` and messages over `control`, each to the other party and back."""
+    """What goes over a line to the other party, and what comes from there."""
 
-    def __init__(
-        self,
-        loop: Loop,
-        settings: Settings,
-        recorder: Recorder,
-        tally: Tally,
-        media: Channel,
-        control: Channel,
-        say: Callable[[str], None],
-    ) -> None:
-        self._loop, self._settings, self._recorder = loop, settings, recorder
-        self._tally, self._say = tally, say
-        self._media, self._control = media, control
-        media.on_datagram, control.on_datagram = self._packet, self._rtcp
+    def __init__(self, context: CallContext, line: Line) -> None:
+        self._context, self._line = context, line
+        line.media.on_datagram, line.control.on_datagram = self._packet, self._rtcp
         self.camera: Optional[Camera] = None
         self.screen: Optional[Screen] = None
         self.sending: Optional[Sending] = None
@@ -46,8 +32,8 @@ class Party:
 
     def add_camera(self, camera: Camera) -> None:
         """What the party sends."""
-        sending = Sending(self._loop, self._settings, self._recorder, self._tally, self._say)
-        sending.on_packet = self._media.send
+        sending = Sending(self._context)
+        sending.on_packet = self._line.media.send
         sending.on_over = self._over
         sending.on_fault = self._fault
         camera.on_frame, camera.on_end, camera.on_fault = sending.frame, self._end, self._fault
@@ -55,7 +41,7 @@ class Party:
 
     def add_screen(self, screen: Screen) -> None:
         """What shows what the other party sends."""
-        receiving = Receiving(self._loop, self._settings, self._recorder, self._tally, self._say)
+        receiving = Receiving(self._context)
         receiving.on_frame = self._show
         receiving.on_feedback = self._feedback
         receiving.on_over = self._over
@@ -69,7 +55,7 @@ class Party:
         if self.camera and self.sending:
             self.camera.stop()
             for _ in range(_BYES):
-                self._control.send(bye_bytes(self.sending.source))
+                self._line.control.send(bye_bytes(self.sending.source))
 
     def stop(self) -> None:
         """Both ends finish; the receiving one plays what it has."""
@@ -82,21 +68,6 @@ class Party:
     def is_over(self) -> bool:
         """Whether the ends that were stopped have finished."""
         return not self._left
-
-    @property
-    def bytes_out(self) -> int:
-        """Bytes of the datagrams that went to the other party."""
-        return self._media.bytes_out + self._control.bytes_out
-
-    @property
-    def bytes_in(self) -> int:
-        """Bytes of the datagrams that came from there."""
-        return self._media.bytes_in + self._control.bytes_in
-
-    @property
-    def unreached(self) -> int:
-        """How often the system said that nobody is there."""
-        return self._media.unreached + self._control.unreached
 
     def _over(self) -> None:
         self._left -= 1
@@ -115,16 +86,16 @@ class Party:
 
     def _show(self, frame: Frame) -> None:
         assert self.screen
-        self.screen.show(frame, self._loop.now())
+        self.screen.show(frame, self._context.loop.now())
 
     def _packet(self, data: bytes) -> None:
         if self.receiving:
             self.receiving.packet(data)
         else:
-            self._tally.dropped["not asked for"] += 1
+            self._drop("not asked for")
 
     def _feedback(self, feedback: Feedback) -> None:
-        self._control.send(feedback_bytes(feedback))
+        self._line.control.send(feedback_bytes(feedback))
 
     def _rtcp(self, data: bytes) -> None:
         packet = read_rtcp(data)
@@ -133,4 +104,7 @@ class Party:
         elif packet and not isinstance(packet, Feedback) and self.receiving:
             self.receiving.bye(packet)
         else:
-            self._tally.dropped["malformed" if not packet else "not asked for"] += 1
+            self._drop("not asked for" if packet else "malformed")
+
+    def _drop(self, cause: str) -> None:
+        self._context.tally.dropped[cause] += 1

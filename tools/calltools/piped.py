@@ -8,8 +8,18 @@ from typing import Callable, Optional
 from .loop import Call, Loop
 from .pipes import Cutter, Feed, Source, entry_size, line_size, widen
 
-# How long an end may take to finish after its log has ended, in seconds.
+# How long a process may take to end, in seconds.
 PATIENCE = 5.0
+
+
+def end_process(process: "subprocess.Popen[bytes]") -> None:
+    """Asks a process to end, and then ends it."""
+    process.terminate()
+    try:
+        process.wait(PATIENCE)
+    except subprocess.TimeoutExpired:
+        process.kill()
+        process.wait()
 
 
 class Piped:
@@ -94,11 +104,6 @@ class Piped:
     @property
     def is_over(self) -> bool:
         return self._is_over
-
-    @property
-    def number(self) -> int:
-        """The process's number."""
-        return self._process.pid
 
     def kill(self) -> None:
         """Ends the program at once; its pipes then end by themselves."""

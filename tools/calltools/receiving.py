@@ -5,25 +5,21 @@ from collections import deque
 from typing import Callable, Optional
 
 from . import logs
-from .errors import BadInput
-from .live_settings import Settings
-from .loop import Call, Loop, Timer
+from .live_end import CallContext, LiveEnd
+from .loop import Call, Timer
 from .numbers import Numbers
 from .picture_start import PictureStart, picture_start
 from .piped import Piped
 from .playout import Playout
-from .recording import Recorder
 from .rtcp import Bye, Feedback
 from .rtp import OWN_SOURCE, RtpHeader, renumbered, rtp_header
-from .sending import DEATHS, SOON
-from .tally import Tally
 from .y4m import Frame
 from .y4m_pipe import FrameCutter
 
 # Pictures that are open before the first one that came, for packets out of order at the start.
 _BEFORE = 2
 # Another SSRC is taken when the present one has been silent for this many seconds.
-SILENT = 0.5
+_SILENT = 0.5
 # After this many seconds of silence the end begins anew: numbers can't be told any more.
 _LOST = 30.0
 # After this many packets in a row, over this many seconds, of pictures that were played, too.
@@ -37,12 +33,13 @@ _MOST_ENTRIES, _LEFT = 1 << 24, 1_024
 class ReceivingRun:
     """One run of `recv`, for one SSRC."""
 
-    def __init__(self, loop: Loop, settings: Settings, recorder: Recorder, tally: Tally) -> None:
-        self._loop, self._settings, self._tally = loop, settings, tally
+    def __init__(self, context: CallContext) -> None:
+        loop, settings = context.loop, context.settings
+        self._loop, self._settings, self._tally = loop, settings, context.tally
         self._facts: dict[str, object] = {
             "options": settings.recv_options(), "source": None, "skipped": 0, "first": 0
         }
-        self._record = recorder.run("recv", self._facts)
+        self._record = context.recorder.run("recv", self._facts)
         self.program = Piped(loop, settings.program, "recv", "rww", settings.recv_options())
         log, out, wire = self.program.files
         self._log = self.program.feed(log)
@@ -161,44 +158,29 @@ class ReceivingRun:
             self.on_message(entry[3:])
 
 
-class Receiving:
+class Receiving(LiveEnd):
     """The receiving end: which packets count, and a new run of `recv` where one is needed."""
 
-    def __init__(
-        self,
-        loop: Loop,
-        settings: Settings,
-        recorder: Recorder,
-        tally: Tally,
-        say: Callable[[str], None],
-    ) -> None:
-        self._loop, self._settings, self._recorder = loop, settings, recorder
-        self._tally, self._say = tally, say
+    command = "recv"
+
+    def __init__(self, context: CallContext) -> None:
+        super().__init__(context)
         self.on_feedback: Callable[[Feedback], None] = lambda _: None
         self.on_frame: Callable[[Frame], None] = lambda _: None
-        self.on_over: Call = lambda: None
         self.on_hung_up: Call = lambda: None
-        self.on_fault: Callable[[BadInput], None] = lambda _: None
         self._source: Optional[int] = None
         self._own_source = random.getrandbits(32)
         self._stale: deque[int] = deque(maxlen=16)
         self._told: set[tuple[str, str]] = set()
         self.last = 0.0
-        self._deaths = 0
-        self._is_ending = False
         self._run = self._begun()
 
     def _begun(self) -> ReceivingRun:
-        run = ReceivingRun(self._loop, self._settings, self._recorder, self._tally)
+        run = ReceivingRun(self._context)
         run.on_message = lambda body: self._message(run, body)
         run.on_frame = lambda frame: self.on_frame(frame)
-        run.program.on_end = lambda: self._ended(run)
+        run.program.on_end = lambda: self._ended(run.program)
         return run
-
-    @property
-    def process(self) -> int:
-        """The number of the program's process."""
-        return self._run.program.number
 
     def packet(self, data: bytes) -> None:
         """A datagram came from the other side."""
@@ -217,7 +199,7 @@ class Receiving:
         """The other side says that its stream ends."""
         if bye.source == self._source:
             self.on_hung_up()
-        else:
+        elif self._source is not None:
             self._tally.dropped["other source"] += 1
 
     def end(self) -> None:
@@ -232,7 +214,7 @@ class Receiving:
         theirs, own = (start.format, start.clock), (self._settings.format, self._settings.clock)
         if theirs != own and theirs not in self._told:
             self._told.add(theirs)
-            self._say(
+            self._context.say(
                 f"the other side sends {theirs[0]} in the {theirs[1]} clock, and this call is "
                 f"{own[0]} in the {own[1]} clock: give both the same --format and --clock"
             )
@@ -244,7 +226,7 @@ class Receiving:
             if source in self._stale:
                 self._tally.dropped["stale"] += 1
                 return False
-            if self._source is not None and now - self.last < SILENT:
+            if self._source is not None and now - self.last < _SILENT:
                 self._tally.dropped["other source"] += 1
                 return False
             if self._source is not None:
@@ -267,17 +249,3 @@ class Receiving:
         if run is self._run and self._source is not None:
             self._tally.messages_out += 1
             self.on_feedback(Feedback(self._own_source, self._source, body))
-
-    def _ended(self, run: ReceivingRun) -> None:
-        if self._is_ending:
-            self.on_over()
-            return
-        is_soon = self._loop.now() - run.program.began < SOON
-        self._deaths = self._deaths + 1 if is_soon else 0
-        status = run.program.status
-        if self._deaths == DEATHS:
-            why = f"it ended {DEATHS} times with status {status}"
-            self.on_fault(BadInput(str(self._settings.program), "recv", why))
-            return
-        self._say(f"recv ended with status {status}; it is begun anew")
-        self._begin_anew()

@@ -10,6 +10,7 @@ from typing import Any, Optional, Sequence
 from . import logs, report
 from .errors import BadInput
 from .frames import frames_of
+from .picture_start import PERIODS
 from .way import format_of
 from .y4m import FORMATS, Size
 
@@ -50,7 +51,7 @@ class Record:
     @property
     def numbers(self) -> int:
         """How many numbers temporal references tell apart."""
-        return 1024 if self.told.get("clock") == "custom" else 256
+        return PERIODS["custom" if self.told.get("clock") == "custom" else "standard"]
 
 
 def read_record(folder: Path) -> Record:

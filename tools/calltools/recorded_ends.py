@@ -7,18 +7,14 @@ from typing import Any, Optional, Sequence
 
 from . import logs, report, rtp
 from .errors import BadInput
+from .messages import read_message
+from .numbers import nearest
+from .picture_start import picture_start
 from .recorded import Record, Timed, entries_of, pictures_of, video_of
 
 _SEQUENCES, _STAMPS = 1 << 16, 1 << 32
-_ACK = 3
 # `recv` without --lead.
 _LEAD = 3
-
-
-def nearest(rest: int, modulus: int, to: int) -> int:
-    """The number with this rest that is nearest to another number."""
-    half = modulus // 2
-    return to + (rest - to + half) % modulus - half
 
 
 @dataclass(frozen=True)
@@ -107,7 +103,7 @@ class Said:
 
     @property
     def is_ack(self) -> bool:
-        return self.body[0] >> 6 == _ACK
+        return read_message(self.body).is_ack
 
 
 @dataclass(frozen=True)
@@ -158,38 +154,25 @@ def _lead_of(record: Record, place: int) -> int:
 
 def _came(entries: list[Timed]) -> list[CamePacket]:
     found: list[CamePacket] = []
-    played, sequence, stamp = 0, None, None
+    played = 0
     for timed in entries:
         body = timed.entry.body
         played += timed.entry.letter == logs.PLAY
         header = rtp.rtp_header(body) if timed.entry.letter == logs.PACKET else None
         if header is None:
             continue
-        sequence = nearest(
-            header.sequence, _SEQUENCES, header.sequence if sequence is None else sequence
+        last, start = found[-1] if found else None, picture_start(body)
+        packet = CamePacket(
+            sequence=nearest(last.sequence if last else 0, header.sequence, _SEQUENCES),
+            stamp=nearest(last.stamp if last else 0, header.timestamp, _STAMPS),
+            reference=start.reference if start else None,
+            has_marker=bool(body[1] >> 7),
+            size=len(body),
+            played=played,
+            time=timed.time,
         )
-        stamp = nearest(header.timestamp, _STAMPS, header.timestamp if stamp is None else stamp)
-        found.append(
-            CamePacket(
-                sequence,
-                stamp,
-                temporal_reference(body),
-                bool(body[1] >> 7),
-                len(body),
-                played,
-                timed.time,
-            )
-        )
+        found.append(packet)
     return found
-
-
-def temporal_reference(packet: bytes) -> Optional[int]:
-    """The low 8 bits of TR in the packet's picture header, or None where it has none."""
-    payload = packet[rtp.HEADER_BYTES :]
-    if len(payload) < 5:
-        return None
-    header = payload[3 if payload[0] >> 1 & 1 else 2 :]
-    return (header[0] & 3) << 6 | header[1] >> 2
 
 
 def _said(record: Record, run: dict[str, Any], played: list[Optional[float]]) -> list[Said]:
@@ -203,6 +186,6 @@ def _said(record: Record, run: dict[str, Any], played: list[Optional[float]]) ->
             plays = number
         while timed.time is not None and plays < len(played) and (played[plays] or 0) <= timed.time:
             plays += 1
-        number_by_tr = int.from_bytes(body[:3], "big") >> 11 & record.numbers - 1
-        found.append(Said(body, nearest(number_by_tr, record.numbers, plays), timed.time))
+        number_of = nearest(plays, read_message(body).reference, record.numbers)
+        found.append(Said(body, number_of, timed.time))
     return found

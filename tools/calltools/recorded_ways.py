@@ -4,10 +4,10 @@ from dataclasses import replace
 from typing import Iterator, Optional, Sequence
 
 from . import way
+from .numbers import nearest
 from .recorded import Record
-from .recorded_ends import CamePacket, Receiver, Sender, nearest, receiver_of, sender_of
+from .recorded_ends import CamePacket, Receiver, Sender, receiver_of, sender_of
 
-_TEMPORAL = 256
 _SECOND = 90_000
 
 
@@ -85,7 +85,7 @@ class _Joined:
         count = len(self.sender.packets)
         last = self._joined_at()
         for packet in self.receiver.packets:
-            last = nearest(packet.sequence - self.sender.first_sequence, 1 << 16, last)
+            last = nearest(last, packet.sequence - self.sender.first_sequence, 1 << 16)
             if 0 <= last < count:
                 yield last, packet
 
@@ -198,7 +198,7 @@ class _CameOnly:
 
     def _number(self, packet: CamePacket) -> int:
         reference = packet.played if packet.reference is None else packet.reference
-        return nearest(reference % _TEMPORAL, _TEMPORAL, packet.played)
+        return nearest(packet.played, reference, self.record.numbers)
 
     def _sent(self, packet: CamePacket) -> float:
         return packet.stamp / _SECOND + self.start

@@ -65,12 +65,15 @@ class Recorder:
         if folder:
             folder.mkdir(parents=True, exist_ok=True)
             self._write_facts()
+        if self.fault:
+            raise self.fault
 
     def run(self, end: str, facts: dict[str, Any]) -> RunRecord:
         """A new run of `send` or `recv`; `facts` may be filled later on."""
         self._facts[end].append(facts)
         run = RunRecord(self, end, len(self._facts[end]), facts)
         self._runs.append(run)
+        self._write_facts()
         return run
 
     def finish(self, counts: dict[str, Any]) -> None:
@@ -78,12 +81,12 @@ class Recorder:
         for run in self._runs:
             run.close()
         self._facts["counts"] = counts
-        if self._folder and not self.fault:
-            self.guarded(self._write_facts)
+        self._write_facts()
 
     def _write_facts(self) -> None:
-        assert self._folder
-        (self._folder / "call.json").write_text(json.dumps(self._facts, indent=1) + "\n")
+        if self._folder and not self.fault:
+            path, text = self._folder / "call.json", json.dumps(self._facts, indent=1) + "\n"
+            self.guarded(lambda: path.write_text(text))
 
     def open(self, files: dict[str, BinaryIO], key: str, name: str) -> None:
         """Opens a file of the folder, if there is one."""

@@ -9,12 +9,13 @@ from . import ffmpeg
 from .errors import BadInput
 from .live_settings import Settings
 from .loop import Call, Loop
+from .piped import PATIENCE, end_process
 from .pipes import Feed, widen
 from .y4m import Frame, head_bytes
 
+WINDOW = "window"
 # How many frames may wait before a window, and before a program that writes a file.
 _WINDOW_AHEAD, _FILE_AHEAD = 3, 300
-_PATIENCE = 5.0
 # One of them tells a window where to be.
 _DISPLAYS = ("DISPLAY", "WAYLAND_DISPLAY", "SDL_VIDEODRIVER")
 
@@ -63,9 +64,11 @@ class PipeScreen(Screen):
     """A program that shows or writes Y4M, or whatever reads the standard output. It is never
     waited for: frames that it has no room for are left out."""
 
-    def __init__(self, loop: Loop, settings: Settings, words: list[str], is_window: bool) -> None:
+    def __init__(self, loop: Loop, settings: Settings, name: str, words: list[str]) -> None:
         """Without words it is the standard output."""
         super().__init__()
+        self._name = name
+        is_window = name == WINDOW
         self._process: Optional[subprocess.Popen[bytes]] = None
         self._is_window, self._period = is_window, settings.period
         self._last = 0.0
@@ -97,25 +100,23 @@ class PipeScreen(Screen):
         self._feed.put(_frame_bytes(frame))
 
     def finish(self) -> None:
-        self._feed.drain(_PATIENCE)
+        self._feed.drain(PATIENCE)
         if not self._process:
             return
         try:
-            self._process.wait(_PATIENCE)
+            self._process.wait(PATIENCE)
         except subprocess.TimeoutExpired:
-            self._process.terminate()
-            self._process.wait()
+            end_process(self._process)
 
     def _broke(self) -> None:
         status = 0
         if self._process:
             try:
-                status = self._process.wait(_PATIENCE)
+                status = self._process.wait(PATIENCE)
             except subprocess.TimeoutExpired:
-                self._process.terminate()
+                end_process(self._process)
         if status:
-            told = "is there a display?" if self._is_window else "it says why"
-            self.on_fault(BadInput("the screen", f"it ended with status {status}", told))
+            self.on_fault(BadInput(self._name, "the screen", f"it ended with status {status}"))
         else:
             self.on_gone()
 
@@ -124,17 +125,17 @@ def screen_of(loop: Loop, settings: Settings, name: str, title: str) -> Screen:
     """`window`, a Y4M file, a file that ffmpeg writes, `-`, or `none`."""
     if name == "none":
         return Screen()
-    if name == "window":
+    if name == WINDOW:
         if not any(map(os.environ.get, _DISPLAYS)):
             told = "there is no display here, so --screen takes a Y4M file, - or none"
-            raise BadInput("--screen", "window", told)
-        return PipeScreen(loop, settings, ffmpeg.window_words(settings.size, title), is_window=True)
+            raise BadInput("--screen", WINDOW, told)
+        return PipeScreen(loop, settings, name, ffmpeg.window_words(settings.size, title))
     if name == "-":
         if stat.S_ISFIFO(os.fstat(1).st_mode):
-            return PipeScreen(loop, settings, [], is_window=False)
+            return PipeScreen(loop, settings, name, [])
         if os.isatty(1):
             raise BadInput("--screen", "-", "the standard output is a terminal")
         return FileScreen(settings, os.fdopen(os.dup(1), "wb"), "the standard output")
     if name.endswith(".y4m"):
         return FileScreen(settings, open(name, "wb"), name)
-    return PipeScreen(loop, settings, ffmpeg.file_words(name), is_window=False)
+    return PipeScreen(loop, settings, name, ffmpeg.file_words(name))

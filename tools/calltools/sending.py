@@ -4,17 +4,14 @@ import random
 from typing import Callable
 
 from . import logs
-from .errors import BadInput
-from .live_settings import Settings
-from .loop import Call, Loop
+from .live_end import CallContext, LiveEnd
 from .messages import read_message
 from .numbers import nearest
 from .picture_start import PERIODS
 from .piped import Piped
-from .recording import Recorder
 from .rtcp import Feedback
 from .rtp import CLOCK, TICKS_A_PICTURE, renumbered, rtp_header
-from .tally import Recent, Tally
+from .tally import Recent
 from .y4m import head_bytes
 
 # This many pictures may be captured and not coded yet; a further frame is left out.
@@ -23,8 +20,6 @@ _BEHIND = 4
 _KEPT = 100
 # Bytes that may wait in the log of `send`; a message that comes then is dropped.
 _MOST_WAITING = 1 << 16
-# An end that dies this soon, this many times in a row, isn't begun anew.
-SOON, DEATHS = 1.0, 3
 # That a run is nearly full is told this many seconds before.
 _NOTICE = 60
 
@@ -33,12 +28,12 @@ class SendingRun:
     """One run of `send`, with an SSRC, a first sequence number and a first time of its own
     (RFC 3550, 5.1)."""
 
-    def __init__(
-        self, loop: Loop, settings: Settings, recorder: Recorder, tally: Tally, recent: Recent
-    ) -> None:
-        self._loop, self._settings, self._tally, self._recent = loop, settings, tally, recent
+    def __init__(self, context: CallContext, recent: Recent) -> None:
+        loop, settings = context.loop, context.settings
+        self._loop, self._settings = loop, settings
+        self._tally, self._recent = context.tally, recent
         self.source, self._first_sequence, self._first_time = map(random.getrandbits, (32, 16, 32))
-        self._record = recorder.run("send", self._facts())
+        self._record = context.recorder.run("send", self._facts())
         self.program = Piped(loop, settings.program, "send", "rrw", settings.send_options())
         video, log, wire = self.program.files
         self._video, self._log = self.program.feed(video), self.program.feed(log)
@@ -125,42 +120,28 @@ class SendingRun:
             self._recent.reference(int(words[0]) - int(words[2]) if is_inter else None)
 
 
-class Sending:
+class Sending(LiveEnd):
     """The sending end, begun anew where its program dies or has coded as much as it may."""
 
-    def __init__(
-        self,
-        loop: Loop,
-        settings: Settings,
-        recorder: Recorder,
-        tally: Tally,
-        say: Callable[[str], None],
-    ) -> None:
-        self._loop, self._settings, self._recorder = loop, settings, recorder
-        self._tally, self._say = tally, say
+    command = "send"
+
+    def __init__(self, context: CallContext) -> None:
+        super().__init__(context)
         self.recent = Recent()
         self.on_packet: Callable[[bytes], None] = lambda _: None
-        self.on_over: Call = lambda: None
-        self.on_fault: Callable[[BadInput], None] = lambda _: None
-        self._deaths = 0
-        self._is_ending = self._is_told = False
+        self._is_told = False
         self._run = self._begun()
 
     def _begun(self) -> SendingRun:
-        run = SendingRun(self._loop, self._settings, self._recorder, self._tally, self.recent)
+        run = SendingRun(self._context, self.recent)
         run.on_packet = lambda packet: self.on_packet(packet)
-        run.program.on_end = lambda: self._ended(run)
+        run.program.on_end = lambda: self._ended(run.program)
         return run
 
     @property
     def source(self) -> int:
         """The SSRC of the present run."""
         return self._run.source
-
-    @property
-    def process(self) -> int:
-        """The number of the program's process."""
-        return self._run.program.number
 
     def frame(self, samples: bytes) -> bool:
         """A frame came from the camera; answers whether it was taken."""
@@ -194,7 +175,8 @@ class Sending:
         left = (most - self._run.captured) * self._settings.period
         if left <= _NOTICE and not self._is_told:
             self._is_told = True
-            self._say(f"in {left:.0f} s, after {most:,} pictures, the sending end begins anew")
+            told = f"in {left:.0f} s, after {most:,} pictures, the sending end begins anew"
+            self._context.say(told)
 
     def _begin_anew(self) -> None:
         self._tally.begun_anew += 1
@@ -202,17 +184,3 @@ class Sending:
         old.program.on_end = lambda: None
         old.end()
         self._run = self._begun()
-
-    def _ended(self, run: SendingRun) -> None:
-        if self._is_ending:
-            self.on_over()
-            return
-        is_soon = self._loop.now() - run.program.began < SOON
-        self._deaths = self._deaths + 1 if is_soon else 0
-        status = run.program.status
-        if self._deaths == DEATHS:
-            why = f"it ended {DEATHS} times with status {status}"
-            self.on_fault(BadInput(str(self._settings.program), "send", why))
-            return
-        self._say(f"send ended with status {status}; it is begun anew")
-        self._begin_anew()

@@ -7,6 +7,9 @@ from typing import Any, Optional
 
 from .report import MARKS
 
+# A silence this long is told, in seconds.
+_SILENT = 2.0
+
 
 @dataclass
 class Tally:
@@ -67,7 +70,8 @@ class StatusLine:
         self._has_camera, self._has_screen = has_camera, has_screen
         self._out = self._in = 0
 
-    def line(self, second: float, tally: Tally, recent: Recent) -> str:
+    def line(self, second: float, tally: Tally, recent: Recent, silent: float) -> str:
+        """`silent` is since when nothing came for the screen, in seconds."""
         parts = [f"{second:.0f} s"]
         rate_out, rate_in = tally.bytes_out - self._out, tally.bytes_in - self._in
         self._out, self._in = tally.bytes_out, tally.bytes_in
@@ -77,6 +81,8 @@ class StatusLine:
             marks = " ".join(f"{mark} {tally.marks[mark]}" for mark in MARKS)
             parts.append(f"shown {tally.shown} {marks}")
         parts.append(f"{rate_out:,} B/s out {rate_in:,} B/s in")
+        if self._has_screen and silent >= _SILENT:
+            parts.append(f"silent {silent:.0f} s")
         dropped = sum(tally.dropped.values())
         if dropped:
             parts.append(f"dropped {dropped}")

@@ -77,7 +77,8 @@ class Channel:
         for net in (self._net, others):
             net.setsockopt(socket.SOL_SOCKET, socket.SO_REUSEADDR, 0)
         self._others = others
-        self._loop.on_readable(others.fileno(), self._drop)
+        self._drop(self._net)  # what came before may be from anyone
+        self._loop.on_readable(others.fileno(), lambda: self._drop(others))
 
     def send(self, data: bytes) -> None:
         """A datagram goes out, or is lost where the network takes none now."""
@@ -101,11 +102,10 @@ class Channel:
             else:
                 self.on_datagram(data)
 
-    def _drop(self) -> None:
-        assert self._others
+    def _drop(self, net: socket.socket) -> None:
         for _ in range(_AT_ONCE):
             try:
-                self._others.recv(1)
+                net.recv(1)
             except OSError:
                 return
             self.strangers += 1

@@ -65,7 +65,7 @@ class Way:
         return self.pictures[0].number
 
     def section(self, start: int, count: int) -> "Way":
-        """The way of so many pictures, from place `start` on; of those that each video has."""
+        """The way of this many pictures from place `start` on, as far as each video has them."""
         count = min(
             [count, *(len(video) - start for video in (self.captured, self.shown) if video)]
         )

@@ -166,7 +166,8 @@ function signsOf(ways, colours) {
     if (!has("marks", (one) => one === mark)) continue;
     signs.push([word, (pen) => drawMark(pen, colours, mark, 14, 10, 18, letter)]);
   }
-  if (has("references", (one) => one === -1) && has("packets", () => true)) {
+  const hasSender = has("packets", () => true) || has("marks", (one) => one === null);
+  if (hasSender && has("references", (one) => one === -1)) {
     signs.push(["intra", (pen) => drawMark(pen, colours, null, 14, 10, 18, "I")]);
   }
   for (const [fate, word] of Object.entries(FATES)) {

@@ -18,8 +18,11 @@ class Player {
     this.videos = {};
     for (const name of ["captured", "shown"]) {
       const told = this.way[`${name}_video`];
-      if (told) this.videos[name] = new StoredVideo(told);
       this.figures[name].hidden = !told;
+      if (!told) continue;
+      this.videos[name] = new StoredVideo(told);
+      const { width, height } = told;
+      Object.assign(this.figures[name].querySelector("canvas"), { width, height });
     }
   }
 
@@ -50,14 +53,9 @@ class Player {
 
   paint(name, samples) {
     const { width, height } = this.videos[name];
-    const canvas = this.figures[name].querySelector("canvas");
-    if (canvas.width !== width || canvas.height !== height) {
-      canvas.width = width;
-      canvas.height = height;
-    }
-    const pen = canvas.getContext("2d");
+    const pen = this.figures[name].querySelector("canvas").getContext("2d");
     const image = pen.createImageData(width, height);
-    paint(samples, width, height, image);
+    paint(samples, width, height, image.data);
     pen.putImageData(image, 0, 0);
   }
 

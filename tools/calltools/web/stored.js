@@ -22,14 +22,14 @@ async function inflated(bytes) {
 function unpacked(data, count, length) {
   const pictures = [];
   const isChange = data[0] === 1;
-  let bit = 8;
+  let bits = 1;
   let value = 1 + (count * length) / 8;
   for (let number = 0; number < count; number++) {
-    const picture = new Uint8Array(length);
-    const before = isChange && number ? pictures[number - 1] : null;
-    for (let at = 0; at < length; at++, bit++) {
-      const isThere = (data[bit >> 3] >> (bit & 7)) & 1;
-      picture[at] = (isThere ? data[value++] : 0) + (before ? before[at] : 0);
+    const picture = isChange && number ? pictures[number - 1].slice() : new Uint8Array(length);
+    for (let at = 0; at < length; at += 8) {
+      for (let here = data[bits++], place = at; here; here >>= 1, place++) {
+        if (here & 1) picture[place] += data[value++];
+      }
     }
     pictures.push(picture);
   }
@@ -163,23 +163,21 @@ class StoredVideo {
   }
 }
 
-/* Colours by ITU-R BT.601, Y from 16 to 235. */
-function paint(samples, width, height, image) {
+/* Colours by ITU-R BT.601, Y from 16 to 235, as rows of red, green, blue and opaque. */
+function paint(samples, width, height, colours) {
   const half = width / 2;
   const cb = width * height;
   const cr = cb + cb / 4;
-  let to = 0;
-  for (let y = 0; y < height; y++) {
-    for (let x = 0; x < width; x++) {
-      const colour = (y >> 1) * half + (x >> 1);
-      const luma = 1.164 * (samples[y * width + x] - 16);
-      const blue = samples[cb + colour] - MIDDLE;
-      const red = samples[cr + colour] - MIDDLE;
-      image.data[to] = luma + 1.596 * red;
-      image.data[to + 1] = luma - 0.392 * blue - 0.813 * red;
-      image.data[to + 2] = luma + 2.017 * blue;
-      image.data[to + 3] = 255;
-      to += 4;
+  for (let y = 0, at = 0, to = 0; y < height; y++) {
+    const row = (y >> 1) * half;
+    for (let x = 0; x < width; x++, at++, to += 4) {
+      const luma = 1.164 * (samples[at] - 16);
+      const blue = samples[cb + row + (x >> 1)] - MIDDLE;
+      const red = samples[cr + row + (x >> 1)] - MIDDLE;
+      colours[to] = luma + 1.596 * red;
+      colours[to + 1] = luma - 0.392 * blue - 0.813 * red;
+      colours[to + 2] = luma + 2.017 * blue;
+      colours[to + 3] = 255;
     }
   }
 }

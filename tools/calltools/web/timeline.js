@@ -1,9 +1,10 @@
 /* The lines of time: the whole call as bars, and what is around one picture. */
 
 const SQUARE = 20;
-const ARCS = 74;
+const ARCS = 88;
 const LADDER = 116;
 const NUMBERS = 22;
+const TIMES = [0.1, 0.2, 0.5, 1, 2, 5, 10];
 const ZOOMS = [6, 9, 14, 22, 34, 52, 80];
 /* How long a packet or message is drawn to take, in pictures, where nothing tells. */
 const USUAL_WAY = 0.5;
@@ -129,6 +130,7 @@ class Timeline {
     for (let place = first; place <= last; place++) {
       if (place !== this.place) others.push(place);
     }
+    this.drawTimes();
     this.drawRails();
     pen.globalAlpha = 0.5;
     this.drawArcs(first, false);
@@ -154,6 +156,24 @@ class Timeline {
     }
   }
 
+  /* Upright lines at round times. */
+  drawTimes() {
+    const second = this.step / this.way.period;
+    const every = TIMES.find((time) => time * second >= 90) || TIMES[TIMES.length - 1];
+    const start = this.middle - this.width / 2 / second;
+    this.pen.font = `400 11px ${FONT}`;
+    this.pen.textAlign = "left";
+    this.pen.textBaseline = "top";
+    for (let count = Math.ceil(start / every); this.x(count * every) < this.width; count++) {
+      if (count < 0) continue;
+      const x = this.x(count * every);
+      this.pen.strokeStyle = this.ink.rule;
+      drawLine(this.pen, [x, 0], [x, this.bottom + SQUARE / 2], 1, []);
+      this.pen.fillStyle = this.ink.quiet;
+      this.pen.fillText(`${+(count * every).toFixed(1)} s`, x + 4, 3);
+    }
+  }
+
   /* An arc from each picture to its reference, also from pictures on the right of what is seen. */
   drawArcs(first, isHere) {
     const { references, marks } = this.way;
@@ -174,7 +194,7 @@ class Timeline {
     this.pen.strokeStyle = isHere ? this.ink.ink : this.ink.quiet;
     this.pen.lineWidth = isHere ? 2.2 : 1.1;
     this.pen.beginPath();
-    const tall = Math.min(across, ARCS - 14);
+    const tall = Math.min(across, ARCS - 28);
     this.pen.ellipse((start + end) / 2, base, across, tall, 0, 0, Math.PI, true);
     this.pen.stroke();
     if (!isHere) return;
@@ -220,10 +240,10 @@ class Timeline {
   drawSquares(place) {
     const { sender, receiver } = this.squaresAt(place);
     const mark = this.way.marks[place];
-    const letter = mark ? MARKS[mark].letter : "";
-    const isIntra = this.way.references[place] === -1;
+    const intra = this.way.references[place] === -1 ? "I" : "";
+    const letter = mark ? MARKS[mark].letter : this.hasWays ? "" : intra;
     const [pen, ink, side] = [this.pen, this.ink, this.side];
-    if (this.hasWays) drawMark(pen, ink, null, sender, this.top, side, isIntra ? "I" : "");
+    if (this.hasWays) drawMark(pen, ink, null, sender, this.top, side, intra);
     if (receiver !== null) drawMark(pen, ink, mark, receiver, this.bottom, side, letter);
   }
 

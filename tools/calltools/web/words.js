@@ -64,11 +64,7 @@ function storedWords(way) {
   const both = [["captured", way.captured_video], ["shown", way.shown_video]];
   const videos = both.filter(([, video]) => video);
   if (!videos.length) return "";
-  if (!videos[0][1].steps) return "This page holds the pictures exactly, sample by sample.";
+  if (!videos[0][1].steps) return "Stored exactly, sample by sample.";
   const psnr = videos.map(([name, video]) => `${name} ${video.psnr} dB`).join(", ");
-  return (
-    "This page holds the pictures at reduced precision, so that it stays small " +
-    `(PSNR of Y against the real ones: ${psnr}). Marks, references and the quality named at each ` +
-    "picture are those of the real ones."
-  );
+  return `Stored at reduced precision (PSNR of Y: ${psnr}). Marks and quality are the real ones.`;
 }
