@@ -62,7 +62,7 @@ fn files_of_the_host(rt: HostRuntime) -> Result<(), Fail> {
         onto_itself
     );
     let mut desk = HostDesk::new(rt.clone()?);
-    assert!(rt; holds(&mut desk, "in.y4m", &[HEAD_LINE, FRAME_LINE, PICTURE])?);
+    assert!(rt; holds(&mut desk, "in.y4m", &[HEAD, FRAME, PICTURE])?);
     let mut desk = HostDesk::new(rt.clone()?);
     let missing = Status::OpenFault { role: Role::Video };
     assert_eq!(rt;
