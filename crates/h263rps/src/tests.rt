@@ -9,8 +9,8 @@ use loss_trace::TraceFault;
 use std::process::Abort;
 use std::test::Fail;
 use test_fixtures::desks::{
-    BLANK, Case, Differs, EXACT, FRAME, HEAD, HELD, NOTHING, Parts, SHOWN_HEAD, USAGE, desk_of,
-    difference, joined,
+    BLANK, Case, Differs, EXACT, FRAME, HEAD, HELD, NEVER, NOTHING, Parts, SHOWN_HEAD, USAGE,
+    desk_of, difference, joined,
 };
 use y4m::Y4mFault;
 
@@ -84,25 +84,31 @@ fn one_flat_picture(rt: HostRuntime) -> Result<(), Fail> {
     Ok(())
 }
 
+const BLACK: &[u8] = &[0; 18_432];
+
+const GREY: &[u8] = &[128; 18_432];
+
+const WHITE: &[u8] = &[255; 18_432];
+
+const DARKEST: &[u8] = &[1; 18_432];
+
+const BRIGHTEST: &[u8] = &[254; 18_432];
+
 // INTRADC is from 1 to 254.
+const THREE: Case<'static> = Case {
+    video: &[HEAD, FRAME, BLACK, FRAME, GREY, FRAME, WHITE],
+    pictures: &[SHOWN_HEAD, EXACT, DARKEST, EXACT, GREY, EXACT, BRIGHTEST],
+    report: &[
+        ONE_LINE,
+        b"1 exact intra\n2 exact intra\n",
+        b"played 3 sent 3 exact 3 patched 0 held 0\n",
+    ],
+    ..BLANK
+};
+
 #[test]
 fn three_flat_pictures(rt: HostRuntime) -> Result<(), Fail> {
-    let black: &[u8] = &[0; 18_432];
-    let grey: &[u8] = &[128; 18_432];
-    let white: &[u8] = &[255; 18_432];
-    let darkest: &[u8] = &[1; 18_432];
-    let brightest: &[u8] = &[254; 18_432];
-    let case = Case {
-        video: &[HEAD, FRAME, black, FRAME, grey, FRAME, white],
-        pictures: &[SHOWN_HEAD, EXACT, darkest, EXACT, grey, EXACT, brightest],
-        report: &[
-            ONE_LINE,
-            b"1 exact intra\n2 exact intra\n",
-            b"played 3 sent 3 exact 3 patched 0 held 0\n",
-        ],
-        ..BLANK
-    };
-    check(&rt, rt.alloc(), CALL, 4096, &case)?;
+    check(&rt, rt.alloc(), CALL, 4096, &THREE)?;
     Ok(())
 }
 
@@ -273,32 +279,51 @@ fn sent(alloc: Global, video: Parts, log: &[u8]) -> Result<Vec<u8>, OutOfMemory>
     Ok(joined(alloc, &[desk.text(Role::Wire)])?)
 }
 
+// Runs the words over a log.
+fn check_log(
+    rt: &impl Abort,
+    alloc: Global,
+    words: &[&str],
+    log: &[u8],
+    pictures: Parts,
+    wire: Parts,
+    report: Parts,
+) -> Result<(), OutOfMemory> {
+    let case = Case {
+        video: NOTHING,
+        events: &[log],
+        failing: NEVER,
+        ends: Status::Ok,
+        pictures,
+        wire,
+        report,
+    };
+    check(rt, alloc, words, 4096, &case)
+}
+
+const ACK: Parts<'static> = &[b"B\0\x03\xC0\x04\x00"];
+
+const NACK: Parts<'static> = &[b"B\0\x03\x80\x04\x00"];
+
+const HELD_SHOWN: Parts<'static> = &[SHOWN_HEAD, HELD, GREY];
+
+const TAKEN: Parts<'static> = &[
+    b"0 exact\n",
+    b"played 1 exact 1 patched 0 held 0 taken 1 late 0 early 0 repeat 0 refused 0\n",
+];
+
+const REFUSED: Parts<'static> = &[
+    b"0 held\n",
+    b"played 1 exact 0 patched 0 held 1 taken 0 late 0 early 0 repeat 0 refused 1\n",
+];
+
 // What is sent by one program and received by another is shown exactly, and acknowledged; by the
 // other clock it is refused.
 fn check_received(rt: &impl Abort, alloc: Global) -> Result<(), OutOfMemory> {
-    let wire = sent(alloc, ONE, b"S\0\0")?;
-    let taken = Case {
-        events: &[wire.as_slice(), b"P\0\0"],
-        pictures: SHOWN,
-        wire: &[b"B\0\x03\xC0\x04\x00"],
-        report: &[
-            b"0 exact\n",
-            b"played 1 exact 1 patched 0 held 0 taken 1 late 0 early 0 repeat 0 refused 0\n",
-        ],
-        ..BLANK
-    };
-    check(rt, alloc, RECV, 4096, &taken)?;
-    let grey: &[u8] = &[128; 18_432];
-    let refused = Case {
-        pictures: &[SHOWN_HEAD, HELD, grey],
-        wire: &[b"B\0\x03\x80\x04\x00"],
-        report: &[
-            b"0 held\n",
-            b"played 1 exact 0 patched 0 held 1 taken 0 late 0 early 0 repeat 0 refused 1\n",
-        ],
-        ..taken
-    };
-    check(rt, alloc, CUSTOM, 4096, &refused)
+    let mut log = sent(alloc, ONE, b"S\0\0")?;
+    log.extend_from_slice(b"P\0\0")?;
+    check_log(rt, alloc, RECV, &log, SHOWN, ACK, TAKEN)?;
+    check_log(rt, alloc, CUSTOM, &log, HELD_SHOWN, NACK, REFUSED)
 }
 
 #[test]
@@ -377,12 +402,7 @@ const MEASURED: &[u8] = b"0 342 242\n1 31 173\npictures 2 greatest 242 over 1 re
 // What a sender writes is measured.
 fn check_measured(rt: &impl Abort, alloc: Global) -> Result<(), OutOfMemory> {
     let wire = sent(alloc, TWO_FLAT, ACKNOWLEDGED)?;
-    let case = Case {
-        events: &[wire.as_slice()],
-        report: &[MEASURED],
-        ..BLANK
-    };
-    check(rt, alloc, RATE, 4096, &case)
+    check_log(rt, alloc, RATE, &wire, NOTHING, NOTHING, &[MEASURED])
 }
 
 #[test]
