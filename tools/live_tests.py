@@ -18,7 +18,7 @@ from typing import Any, Callable, Optional, Sequence
 from unittest import mock
 
 from calltools import bad_network, errors, live_settings, logs, loop, messages, numbers, pipes
-from calltools import picture_start, playout, program, rtcp, rtp, udp, y4m, y4m_pipe
+from calltools import picture_start, playout, program, rtcp, rtp, stand_in, udp, y4m, y4m_pipe
 
 TOOLS = Path(__file__).resolve().parent
 EXAMPLES = TOOLS.parent / "examples"
@@ -566,6 +566,23 @@ class CallsTest(unittest.TestCase):
         self.assertGreater(call.dropped("malformed"), 100, call.told)
         for net in (other, control):
             net.close()
+
+    def test_numbers_that_go_back(self) -> None:
+        """Where all that comes is of pictures that were played, the receiving end joins anew."""
+        port, other_port = free_port(), free_port()
+        ends = ("--with", "127.0.0.1", "--port", port, "--other-port", other_port, "--one-way", "screen")
+        call = self.start(*ends, "--format", "sub-qcif", "--screen", "none", "--seconds", 6)
+        other = bound(other_port)
+        wait_for_port(port)
+        for count, number in enumerate([*range(40), *range(60)]):
+            packet = stand_in.packet(number, "sub-qcif")
+            time_of = rtp.TICKS_A_PICTURE * count
+            other.sendto(rtp.renumbered(packet, count, time_of, 7), ("127.0.0.1", port))
+            time.sleep(1 / 30)
+        self.assertEqual(call.ended().status, 0, call.told)
+        self.assertIn("ends begun anew 1\n", call.told)
+        self.assertGreater(call.shown("exact"), 60, call.told)
+        other.close()
 
     def test_what_a_camera_sends(self) -> None:
         """The test is the other party: an SSRC, sequence numbers and times of its own, the times

@@ -43,7 +43,8 @@ def _line(file: BinaryIO) -> bytes:
     return line
 
 
-def _packet(number: int, format: str) -> bytes:
+def packet(number: int, format: str) -> bytes:
+    """The packet of a picture."""
     # Start, TR, PTYPE, UFEP 1, the format, and zeros; after them a picture of no bytes.
     bits = 0b100000 << 58 | (number & 255) << 50 | 0b10 << 48 | 0b111 << 42 | 1 << 39
     bits |= _FORMATS[format] << 36
@@ -70,7 +71,7 @@ def send(video: BinaryIO, log: BinaryIO, wire: int) -> None:
         _line(video)
         if len(_exactly(video, y4m.Size(*size).bytes)) < y4m.Size(*size).bytes:
             sys.exit(5)
-        _write(wire, logs.entry_bytes(logs.PACKET, _packet(count, format)))
+        _write(wire, logs.entry_bytes(logs.PACKET, packet(count, format)))
         print(count, "intra", flush=True)
         count += 1
     print(f"sent {count} packets {count} noted {noted} old 0 refused 0", flush=True)
