@@ -442,7 +442,8 @@ class CallsTest(unittest.TestCase):
             self.assertEqual(call.status, 0, call.told)
             self.assertGreater(call.shown("exact"), 15, call.told)
             self.assert_played_again(self.room / own, self.stand_in)
-            head = (self.room / f"{own}.y4m").open("rb").readline()
+            with (self.room / f"{own}.y4m").open("rb") as video:
+            head = video.readline()
             self.assertIn(b" F15:1 ", head)
 
     @unittest.skipUnless(os.geteuid() == 0 and shutil.which("ip"), "not root, or ip isn't there")
