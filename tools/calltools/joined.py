@@ -39,11 +39,17 @@ class Call:
 
 
 def read_trace(path: Path) -> list[str]:
-    """The lines of a trace, each in the grammar."""
-    lines = path.read_text(encoding="ascii").splitlines()
+    """The lines of a trace, each in the grammar, and each of a picture that was sent by then."""
+    lines = path.read_text(encoding="ascii", errors="replace").splitlines()
+    sent = played = 0
     for number, line in enumerate(lines, 1):
         if not LINE.fullmatch(line):
             raise BadInput(str(path), f"line {number}", "it says no event")
+        sent += line == "S"
+        played += line == "P"
+        picture = int(line[2:].split(".")[0]) if line.startswith("D") else played - 1
+        if picture >= sent:
+            raise BadInput(str(path), f"line {number}", f"picture {picture} isn't sent yet")
     return lines
 
 
