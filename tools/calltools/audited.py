@@ -1,4 +1,5 @@
-"""The log of an audit: each packet that a sender sent, and before it the messages that had come back by then."""
+"""The log of an audit: each packet that a sender sent, and before it the messages that had come
+back by then."""
 
 from dataclasses import dataclass
 from typing import Iterable, Optional, Sequence
@@ -12,7 +13,8 @@ from .wire import packets_of_pictures
 
 @dataclass(frozen=True)
 class Ends:
-    """What `send` was given and what it wrote: the entries of its LOG and of its WIRE, and their names."""
+    """What `send` was given and what it wrote: the entries of its LOG and of its WIRE, and the
+    names of both."""
 
     log: Sequence[logs.Entry]
     wire: Sequence[logs.Entry]
@@ -33,7 +35,8 @@ def entries_of_ends(ends: Ends) -> list[logs.Entry]:
             entries += [logs.Entry(logs.PACKET, packet) for packet in packets]
             captures += 1
         else:
-            raise BadInput(ends.log_path, f"entry {number}", f"{entry.letter} is of no sender's log")
+            why = f"{entry.letter} is of no sender's log"
+            raise BadInput(ends.log_path, f"entry {number}", why)
     if captures < len(pictures):
         why = f"it is of {len(pictures)} pictures, and {ends.log_path} has {captures} captures"
         raise BadInput(ends.wire_path, "its packets", why)
@@ -63,9 +66,12 @@ def _stream(datagram: Optional[Datagram], ports: Ports) -> Optional[Stream]:
     return Stream(datagram.source[0], header.source)
 
 
-def stream_in(found: Sequence[Optional[Datagram]], ports: Ports, source: Optional[int], path: str) -> Stream:
+def stream_in(
+    found: Sequence[Optional[Datagram]], ports: Ports, source: Optional[int], path: str
+) -> Stream:
     """The only stream of a capture, or the one with this SSRC."""
-    streams = {stream for it in found if (stream := _stream(it, ports)) and source in (None, stream.source)}
+    streams = {stream for datagram in found if (stream := _stream(datagram, ports))}
+    streams = {stream for stream in streams if source in (None, stream.source)}
     place = f"port {ports.packets}"
     if not streams:
         which = "" if source is None else f" with SSRC {source:#x}"
@@ -86,8 +92,10 @@ def _message(datagram: Datagram, stream: Stream, ports: Ports) -> Optional[bytes
     return said.message if isinstance(said, rtcp.Feedback) and said.about == stream.source else None
 
 
-def entries_of_capture(found: Sequence[Optional[Datagram]], ports: Ports, stream: Stream) -> list[logs.Entry]:
-    """The log of an audit by a capture, in its order. Packets get the SSRC that the program takes."""
+def entries_of_capture(
+    found: Sequence[Optional[Datagram]], ports: Ports, stream: Stream
+) -> list[logs.Entry]:
+    """The log of an audit by a capture, in its order. Packets get the program's SSRC."""
     entries: list[logs.Entry] = []
     for datagram in found:
         if not datagram:

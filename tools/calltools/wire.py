@@ -7,7 +7,8 @@ from .errors import BadInput
 
 
 def packets_of_pictures(entries: Iterable[logs.Entry], path: str) -> list[list[bytes]]:
-    """The packets of a WIRE by pictures: a picture's packets follow one another and have one timestamp."""
+    """The packets of a WIRE by pictures: those of one picture follow one another and have one
+    timestamp."""
     pictures: list[list[bytes]] = []
     last = None
     for number, entry in enumerate(entries):
