@@ -8,6 +8,7 @@ from . import logs, rtcp, rtp
 from .errors import BadInput
 from .pcap import Datagram
 from .picture_start import PictureStart, picture_start
+from .streams import Stream, stream_of
 from .wire import packets_of_pictures
 
 
@@ -43,48 +44,9 @@ def entries_of_ends(ends: Ends) -> list[logs.Entry]:
     return entries
 
 
-@dataclass(frozen=True)
-class Ports:
-    """The ports to which packets and messages go."""
-
-    packets: int
-    messages: int
-
-
-@dataclass(frozen=True)
-class Stream:
-    """The packets of one sender, on the network."""
-
-    host: str
-    source: int
-
-
-def _stream(datagram: Optional[Datagram], ports: Ports) -> Optional[Stream]:
-    header = rtp.rtp_header(datagram.body) if datagram else None
-    if not datagram or not header or datagram.target[1] != ports.packets:
-        return None
-    return Stream(datagram.source[0], header.source)
-
-
-def stream_in(
-    found: Sequence[Optional[Datagram]], ports: Ports, source: Optional[int], path: str
-) -> Stream:
-    """The only stream of a capture, or the one with this SSRC."""
-    streams = {stream for datagram in found if (stream := _stream(datagram, ports))}
-    streams = {stream for stream in streams if source in (None, stream.source)}
-    place = f"port {ports.packets}"
-    if not streams:
-        which = "" if source is None else f" with SSRC {source:#x}"
-        raise BadInput(path, place, f"no RTP packet{which} was captured")
-    if len(streams) > 1:
-        told = ", ".join(sorted(f"{it.source:#x} of {it.host}" for it in streams))
-        raise BadInput(path, place, f"it has the streams {told}: --ssrc chooses one")
-    return streams.pop()
-
-
-def _message(datagram: Datagram, stream: Stream, ports: Ports) -> Optional[bytes]:
+def _message(datagram: Datagram, stream: Stream, port: int) -> Optional[bytes]:
     # Plain, as `pcap_of_log` writes it, or RTCP about this stream, as in a live call.
-    if datagram.target != (stream.host, ports.messages):
+    if datagram.target != (stream.host, port):
         return None
     if not rtcp.is_rtcp(datagram.body):
         return datagram.body
@@ -93,16 +55,16 @@ def _message(datagram: Datagram, stream: Stream, ports: Ports) -> Optional[bytes
 
 
 def entries_of_capture(
-    found: Sequence[Optional[Datagram]], ports: Ports, stream: Stream
+    found: Sequence[Optional[Datagram]], stream: Stream, message_port: int
 ) -> list[logs.Entry]:
     """The log of an audit by a capture, in its order. Packets get the program's SSRC."""
     entries: list[logs.Entry] = []
     for datagram in found:
         if not datagram:
             continue
-        if _stream(datagram, ports) == stream:
+        if stream_of(datagram, stream.port) == stream:
             entries.append(logs.Entry(logs.PACKET, rtp.with_source(datagram.body, rtp.OWN_SOURCE)))
-        elif (message := _message(datagram, stream, ports)) is not None:
+        elif (message := _message(datagram, stream, message_port)) is not None:
             entries.append(logs.Entry(logs.MESSAGE, message))
     return entries
 
