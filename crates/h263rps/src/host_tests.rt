@@ -6,7 +6,7 @@ ghost use Rattle.h263_outside.specs.declared.desk.Role.TheVariants.{Video, Pictu
 use super::*;
 use h263_outside::{Desk, Failed, Role, Unattached, read_full, write_all};
 use std::test::Fail;
-use test_fixtures::desks::{EXACT, FRAME, HEAD, SHOWN_HEAD};
+use test_desks::{EXACT, FRAME, HEAD, SHOWN_HEAD};
 
 const PICTURE: &[u8] = &[100; 18_432];
 

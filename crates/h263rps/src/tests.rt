@@ -8,7 +8,7 @@ use h263_outside::{MemoryDesk, OutOfMemory, Role};
 use loss_trace::TraceFault;
 use std::process::Abort;
 use std::test::Fail;
-use test_fixtures::desks::{
+use test_desks::{
     BLANK, Case, Differs, EXACT, FRAME, HEAD, HELD, NEVER, NOTHING, Parts, SHOWN_HEAD, USAGE,
     desk_of, difference, joined,
 };

@@ -4,7 +4,7 @@ use h263_planes::PictureMut;
 use h263_types::Format;
 use make_input::frame;
 use std::alloc::Global;
-use test_fixtures::desks::{FRAME, HEAD, SHOWN_HEAD};
+use test_desks::{FRAME, HEAD, SHOWN_HEAD};
 
 // The head of a camera's video in QCIF, with tags that tell more than is asked for.
 const CAMERA_HEAD: &[u8] =

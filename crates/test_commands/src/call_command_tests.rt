@@ -16,7 +16,7 @@ use sender_end::Sender;
 use std::alloc::Global;
 use std::process::Abort;
 use std::test::Fail;
-use test_fixtures::desks::{
+use test_desks::{
     Case, Differs, EXACT, FRAME, HEAD, HELD, NEVER, NOTHING, Parts, SHOWN_HEAD, joined, run,
 };
 use y4m::{Y4mFault, Y4mReader};

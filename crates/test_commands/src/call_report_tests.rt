@@ -7,7 +7,7 @@ use h263_types::Mark;
 use loss_trace::TraceFault;
 use loss_trace::TraceFault::{BadLine, Far, NotSaid, NotSent, PlayBeforeSend};
 use std::process::Abort;
-use test_fixtures::desks::USAGE;
+use test_desks::USAGE;
 use y4m::Y4mFault;
 use y4m::Y4mFault::{Colour, Interlaced, NotY4m, ShortFrame, Size};
 

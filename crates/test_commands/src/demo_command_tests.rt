@@ -9,7 +9,7 @@ use h263_types::{Clock, Format, Params};
 use std::alloc::Global;
 use std::process::Abort;
 use std::test::Fail;
-use test_fixtures::desks::{Case, NEVER, NOTHING, run};
+use test_desks::{Case, NEVER, NOTHING, run};
 
 // Compares the report of a call: no other line is written, and no picture.
 fn check_demo(

@@ -8,7 +8,7 @@ use h263_outside::{Desk, OutOfMemory, Role};
 use std::alloc::Global;
 use std::process::Abort;
 use std::test::Fail;
-use test_fixtures::desks::{NEVER, reading, writing};
+use test_desks::{NEVER, reading, writing};
 
 // What `next` answers: the byte where an entry begins and the entry, or none.
 type Answer = Result<Option<(u64, Entry)>, LogStop>;

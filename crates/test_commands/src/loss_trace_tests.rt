@@ -8,7 +8,7 @@ use loss_trace::{BadLine, Event, TraceReader, TraceStop, line};
 use std::alloc::Global;
 use std::process::Abort;
 use std::test::Fail;
-use test_fixtures::desks::{NEVER, reading};
+use test_desks::{NEVER, reading};
 
 const SPELLED: [(&[u8], Event); 10] = [
     (b"", Event::Nothing),

@@ -11,7 +11,7 @@ use h263_types::{Format, Mark};
 use std::alloc::Global;
 use std::process::Abort;
 use std::test::Fail;
-use test_fixtures::desks::{HEAD, NEVER, reading, repeated, writing};
+use test_desks::{HEAD, NEVER, reading, repeated, writing};
 use y4m::Y4mFault::{Colour, Interlaced, NotY4m, ShortFrame, Size, TooMany};
 use y4m::{MAX_FRAMES, VideoStop, Y4mFault, Y4mReader, write_frame, write_head};
 

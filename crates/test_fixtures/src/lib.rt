@@ -1,5 +1,4 @@
-//! What tests of several crates share. Nothing of it is shipped.
+//! What tests of several crates of the codec share. Nothing of it is shipped.
 #![tactic(auto)]
 
 pub mod codec;
-pub mod desks;

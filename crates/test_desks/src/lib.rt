@@ -1,5 +1,7 @@
 //! Texts that are joined, and desks in memory: with a role attached, and with a command run over
-//! them.
+//! them. Nothing of it is shipped.
+#![tactic(auto)]
+
 ghost use Rattle.std.specs.Prelude.{◌≡◌, ◌∷◌, [], ◌<◌, false, true, IsTrue, IfOk};
 ghost use Rattle.h263_outside.specs.Desk.{Outside, IsInput, NoneAttached, with_role};
 ghost use Rattle.h263_outside.specs.Memory.{memory_outside};
