@@ -17,6 +17,8 @@
 #[cfg(test)]
 mod call_rings_tests;
 #[cfg(test)]
+mod duplex_call_tests;
+#[cfg(test)]
 mod joined_ends;
 #[cfg(test)]
 mod make_input_tests;

@@ -1,0 +1,4 @@
+pub mod NearEach
+pub mod Refusing
+pub mod LastFour
+pub mod Last

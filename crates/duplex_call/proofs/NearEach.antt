@@ -1,0 +1,90 @@
+-- In a near call of two parties the events of each party, with the messages that are brought to it, are
+-- near by its own ideal call.
+use Rattle.std.proofs.Common.{◌≡◌, ℕ, zero, suc, ◌+◌, ◌-◌, ◌<◌, ◌≤◌, refl, sym, ap, ◌∙◌, subst, arith, inl, inr, ◌⊎◌, Option, Some, None, List, [], ◌∷◌, ◌++◌, length, length-append}
+use Rattle.std.specs.Prelude.{slice_get, slice_index_or, get_or, nat_lt, if◌then◌else◌, true, false, Bool}
+use Rattle.std.specs.Option.{option_map_or}
+use Rattle.std.proofs.lemmas.Option.{slice_get_cases}
+use Rattle.call_model.specs.Coding.{Rules, Message, Coding, pictures_of}
+use Rattle.call_model.specs.CodedPictures.{Coded}
+use Rattle.call_model.specs.IdealCall.{Event, Send, Deliver, Play, Back, Call, MayHappen, about, encoded, ideal, AllMayHappen}
+use Rattle.call_model.specs.LaterFrames.{LaterFrames}
+use Rattle.duplex_call.specs.declared.line.Party.{Party}
+use Rattle.duplex_call.specs.declared.line.Party.TheVariants.{A, B}
+use Rattle.duplex_call.specs.Duplex.{other, Lettered, WayRun, WayRuns, way, with_way, WayCoding, call_of, brought, brings, with_shot, event_after, ways_after, MayBeBrought, MayHappenOf, AllMayHappenOf}
+
+module _ {Frame Style Mb Picture Fault MessageFault : Type 0}
+    (later : (coding : Coding Frame Style Mb Picture Fault MessageFault) (rules : Rules) → LaterFrames coding rules) where
+  module _ (coding : Coding Frame Style Mb Picture Fault MessageFault) (rules : Rules) (pace : List ℕ → ℕ) where
+    -- no more pictures are coded than there are frames
+    within : (frames : List Frame) (past : List Event) → AllMayHappen coding rules pace frames past → length (ideal coding rules pace frames past).coded ≤ length frames
+    within frames [] near = omega arith
+    within frames (Send ∷ past) near = go (encoded coding rules pace frames (ideal coding rules pace frames past)) near.0.0
+      where
+        go : (o : Option (Coded Style Mb Picture)) → length (ideal coding rules pace frames past).coded < length frames → length ((ideal coding rules pace frames past).coded ++ option_map_or (λ (x : Coded Style Mb Picture). x ∷ []) o []) ≤ length frames
+        go None lt = simp length-append (omega (arith, lt))
+        go (Some x) lt = simp length-append (omega (arith, lt))
+    within frames (Deliver n j ∷ past) near = within frames past near.1
+    within frames (Play ∷ past) near = within frames past near.1
+    within frames (Back k ∷ past) near = within frames past near.1
+
+    -- the next picture is sent, with the frame that is captured for it
+    near_sent : (frames more : List Frame) (past : List Event) → AllMayHappen coding rules pace frames past
+        → length (ideal coding rules pace frames past).coded < length (frames ++ more)
+        → length (ideal coding rules pace frames past).coded < (ideal coding rules pace frames past).played + rules.half
+        → AllMayHappen coding rules pace (frames ++ more) (Send ∷ past)
+    near_sent frames more past near some few =
+        let both = later coding rules pace frames more past near in
+        let here : MayHappen rules (length (frames ++ more)) (ideal coding rules pace frames past) Send = (some, few) in
+        (subst (λ (c : Call Style Mb Picture). MayHappen rules (length (frames ++ more)) c Send) (sym both.0) here, both.1)
+
+  module _ {Shot : Type 0} (side : Party → WayCoding Shot Frame Style Mb Picture Fault MessageFault) where
+    -- each event of the party is near by its own ideal call
+    abbrev pub AreNear : Party → WayRun Frame → Type 0
+    AreNear x w = AllMayHappen (side x).coding (side x).rules (side x).pace w.frames w.past
+
+    -- messages that are brought back change neither the counts nor what was said
+    near_brought : (x : Party) (w : WayRun Frame) (ks : List ℕ) → AreNear x w → MayBeBrought side x w ks → AreNear x (record w { past = brought ks w.past })
+    near_brought x w [] near heard = near
+    near_brought x w (k ∷ ks) near heard = near_brought x (record w { past = Back k ∷ w.past }) ks (heard.0, near) (still ks heard.1)
+      where
+        still : (ks : List ℕ) → MayBeBrought side x w ks → MayBeBrought side x (record w { past = Back k ∷ w.past }) ks
+        still [] heard = heard
+        still (l ∷ ks) heard = (heard.0, still ks heard.1)
+
+    none_brought : (x : Party) (w : WayRun Frame) (held : Bool) (ks : List ℕ) → AreNear x w → MayBeBrought side x w ks → AreNear x (record w { past = brought (if held then ks else []) w.past })
+    none_brought x w true ks near heard = near_brought x w ks near heard
+    none_brought x w false ks near heard = near
+
+    sent : (x : Party) (w : WayRun Frame) (frame : Frame) → AreNear x w → length (call_of side x w).coded < (call_of side x w).played + (side x).rules.half
+        → AllMayHappen (side x).coding (side x).rules (side x).pace (w.frames ++ frame ∷ []) (Send ∷ w.past)
+    sent x w frame near here =
+        let few = within (side x).coding (side x).rules (side x).pace w.frames w.past near in
+        let size = length-append w.frames (frame ∷ []) in
+        near_sent (side x).coding (side x).rules (side x).pace w.frames (frame ∷ []) w.past near (omega (arith, few, size)) here
+
+    pub step_shot : (x : Party) (shot : Shot) (left : ℕ) (ways : WayRuns Frame) → ((y : Party) → AreNear y (way y ways)) → MayHappenOf side left x Send ways → (y : Party) → AreNear y (way y (with_shot side x shot ways))
+    step_shot A shot left ways near here A = sent A ways.a _ (near A) here.1
+    step_shot A shot left ways near here B = near B
+    step_shot B shot left ways near here A = near A
+    step_shot B shot left ways near here B = sent B ways.b _ (near B) here.1
+
+    pub step : (shots : Party → List Shot) (x : Party) (e : Event) (ways : WayRuns Frame) → ((y : Party) → AreNear y (way y ways)) → MayHappenOf side (length (shots x)) x e ways → (y : Party) → AreNear y (way y (event_after side shots x e ways))
+    step shots x Send ways near here y = go (slice_get (shots x) (length (way x ways).frames))
+      where
+        go : (o : Option Shot) → AreNear y (way y (option_map_or (λ shot. with_shot side x shot ways) o ways))
+        go None = near y
+        go (Some shot) = step_shot x shot (length (shots x)) ways near here y
+    step shots A (Deliver n j) ways near here A = (here.0, near A)
+    step shots A (Deliver n j) ways near here B = none_brought B ways.b _ _ (near B) here.1
+    step shots B (Deliver n j) ways near here A = none_brought A ways.a _ _ (near A) here.1
+    step shots B (Deliver n j) ways near here B = (here.0, near B)
+    step shots A Play ways near here A = (here, near A)
+    step shots A Play ways near here B = near B
+    step shots B Play ways near here A = near A
+    step shots B Play ways near here B = (here, near B)
+    step shots x (Back k) ways near here y = absurd here
+
+    pub near_each : (shots : Party → List Shot) (past : List Lettered) → AllMayHappenOf side shots past → (x : Party) → AreNear x (way x (ways_after side shots past))
+    near_each shots [] near A = near
+    near_each shots [] near B = near
+    near_each shots (e ∷ past) near x = step shots e.party e.event (ways_after side shots past) (near_each shots past near.1) near.0 x

@@ -1,0 +1,7 @@
+pub mod Lines
+pub mod Waiting
+pub mod Counting
+pub mod Duplex
+pub mod FourStores
+pub mod Refused
+pub mod Rows

@@ -1,0 +1,100 @@
+-- A call of two parties over pictures of two samples.
+use Rattle.std.specs.Prelude.{ℕ, Bool, List, [], ◌∷◌, ◌++◌, map, replicate, reverse, Option}
+use Rattle.call_model.specs.Coding.{Mark, Message}
+use Rattle.call_model.specs.IdealCall.{Event, Send, Deliver, Play, Back}
+use Rattle.call_model.specs.Refusals.{Refusal}
+use Rattle.call_model.specs.SmallCoding.{Two, SmallStyle, SmallMb, SmallFault, small}
+use Rattle.call_model.specs.Worked.{flat, marks, references, rules_of, steady}
+use Rattle.duplex_call.specs.declared.line.Party.{Party}
+use Rattle.duplex_call.specs.declared.line.Party.TheVariants.{A, B}
+use Rattle.duplex_call.specs.Duplex.{Lettered, WayCoding, WayRun, WayRuns, way, call_of, said_of, ways_after}
+use Rattle.duplex_call.specs.FourStores.{ends_of}
+use Rattle.duplex_call.specs.Refused.{passed, refusal_of}
+
+abbrev pub small_side : Party → WayCoding Two Two SmallStyle SmallMb Two SmallFault SmallFault
+small_side x = record {
+  coding = small;
+  rules = rules_of 16 3;
+  pace = steady;
+  carrying = λ shot messages. shot;
+}
+
+abbrev pub row_shots : Party → List Two
+row_shots x = flat 100 ∷ flat 100 ∷ []
+
+abbrev pub at : Party → Event → Lettered
+at x e = record { party = x; event = e }
+
+-- both packets of a picture are delivered
+abbrev pub whole : Party → ℕ → List Lettered
+whole x n = at x (Deliver n 0) ∷ at x (Deliver n 1) ∷ []
+
+-- a S / a D 0.* / b S / b D 0.* / a S / a D 1.* / a P / a P / b P
+abbrev pub row : List Lettered
+row =
+    at A Send ∷ whole A 0 ++ at B Send ∷ whole B 0 ++ at A Send ∷ whole A 1
+    ++ at A Play ∷ at A Play ∷ at B Play ∷ []
+
+abbrev pub row_ways : WayRuns Two
+row_ways = ways_after small_side row_shots (reverse row)
+
+abbrev pub row_passes : Bool
+row_passes = passed small_side row_shots (reverse row)
+
+abbrev pub row_references : Party → List (Option ℕ)
+row_references x = references (call_of small_side x (way x row_ways)).coded
+
+abbrev pub row_marks : Party → List Mark
+row_marks x = marks (call_of small_side x (way x row_ways)).plays
+
+abbrev pub row_ends_references : Party → List (Option ℕ)
+row_ends_references x = references (ends_of small_side x (way x row_ways)).sender.coded
+
+abbrev pub row_ends_marks : Party → List Mark
+row_ends_marks x = marks (ends_of small_side x (way x row_ways)).plays
+
+-- ---- more calls, of a's pictures whole one after the other, and of messages that ride in b's headers
+
+-- this many pictures of a party are there
+abbrev pub shots_of : ℕ → Party → List Two
+shots_of count x = replicate count (flat 100)
+
+-- a's next picture is sent, lost, and played
+abbrev pub lost : List Lettered
+lost = at A Send ∷ at A Play ∷ []
+
+-- five pictures of a are told to be lost before b captures its first picture, and one more before its
+-- second
+abbrev pub five_row : List Lettered
+five_row = lost ++ lost ++ lost ++ lost ++ lost ++ at B Send ∷ lost ++ at B Send ∷ []
+
+abbrev pub five_ways : WayRuns Two
+five_ways = ways_after small_side (shots_of 6) (reverse five_row)
+
+-- a's picture n is sent, and both its packets are delivered
+abbrev pub seen : ℕ → List Lettered
+seen n = at A Send ∷ whole A n
+
+-- a delivery at a place without a packet, after which a's first acknowledgement still waits
+abbrev pub no_packet_row : List Lettered
+no_packet_row = seen 0 ++ at B Send ∷ at B (Deliver 0 9) ∷ []
+
+abbrev pub no_packet_ways : WayRuns Two
+no_packet_ways = ways_after small_side row_shots (reverse no_packet_row)
+
+-- with half a period of three pictures
+abbrev pub narrow_side : Party → WayCoding Two Two SmallStyle SmallMb Two SmallFault SmallFault
+narrow_side x = record {
+  coding = small;
+  rules = record { slots = 16; lead = 3; half = 3; chain = 131; mbs = 2; flags = 0 };
+  pace = steady;
+  carrying = λ shot messages. shot;
+}
+
+-- b's picture carries the acknowledgement of a's picture 0, and a has sent three pictures since it began
+abbrev pub far_row : List Lettered
+far_row = seen 0 ++ at B Send ∷ at A Send ∷ at A Send ∷ []
+
+abbrev pub far_refusal : ℕ → Option Refusal
+far_refusal place =
+    refusal_of narrow_side 3 B (Deliver 0 place) (ways_after narrow_side (shots_of 3) (reverse far_row))

@@ -1,0 +1,34 @@
+//! The laws of a call of two parties. Each is the contract of a function that does nothing.
+ghost use Rattle.std.specs.Prelude.{List};
+ghost use Rattle.duplex_call.specs.declared.line.Party.{Party};
+ghost use Rattle.duplex_call.specs.Duplex.{AllMayHappenOf, Lettered, WayCoding, way, ways_after};
+ghost use Rattle.duplex_call.specs.FourStores.{Follows, IsWayCoding, LastFourAre};
+ghost use Rattle.duplex_call.specs.Refused.{NoneWhereItMayHappenOf};
+
+use call_model::laws as call_model_laws;
+
+/// Where each event may happen, the four ends do what the two ideal calls say: both stores of each
+/// way agree with its call.
+pub fn four_stores<Shot, Frame, Style, Mb, Picture, Fault, MessageFault>()
+    ensures { (side : Party → WayCoding Shot Frame Style Mb Picture Fault MessageFault)
+        (shots : Party → List Shot) (past : List Lettered) → ((x : Party) → IsWayCoding (side x))
+        → AllMayHappenOf side shots past
+        → (x : Party) → Follows side x (way x (ways_after side shots past)) }
+{
+    call_model_laws::later_frames::<Frame, Style, Mb, Picture, Fault, MessageFault>();
+    call_model_laws::two_stores::<Frame, Style, Mb, Picture, Fault, MessageFault>();
+}
+
+/// An event has no refusal exactly where it is in place and near, by the counts of its own way and,
+/// for the messages that a delivery brings, by those of the other.
+pub fn two_way_refusals<Shot, Frame, Style, Mb, Picture, Fault, MessageFault>()
+    ensures { (side : Party → WayCoding Shot Frame Style Mb Picture Fault MessageFault)
+        → NoneWhereItMayHappenOf side }
+{
+    call_model_laws::refusals::<Frame, Style, Mb, Picture, Fault, MessageFault>();
+}
+
+/// A header carries the last four messages, at most, that were said since the capture before.
+pub fn last_four_messages()
+    ensures { LastFourAre }
+{}
