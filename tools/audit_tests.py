@@ -1,29 +1,19 @@
 """Tests of `audit_log`: by the two ends' files, by captures, and by a recorded folder."""
 
 import contextlib
-import importlib.machinery
-import importlib.util
 import io
 import json
 import struct
 import tempfile
 import unittest
 from pathlib import Path
-from types import ModuleType
 
 from calltools import errors, logs, pcap, rtcp, rtp
+from tool_modules import TOOLS, tool
 
-TOOLS = Path(__file__).resolve().parent
 # Calls of an independent program: the sender's log, and the packets that it writes.
 CALLS = TOOLS.parent / "crates" / "test_calls" / "data"
 SENDER, RECEIVER = "192.0.2.1", "192.0.2.2"
-
-
-def tool(name: str) -> ModuleType:
-    loader = importlib.machinery.SourceFileLoader(name, str(TOOLS / name))
-    module = importlib.util.module_from_spec(importlib.util.spec_from_loader(name, loader))
-    loader.exec_module(module)
-    return module
 
 
 def entries_of(path: Path) -> list[logs.Entry]:
