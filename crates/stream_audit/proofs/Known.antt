@@ -1,6 +1,6 @@
 -- Known numbers are of pictures that were begun: a stream is the run of a sender that captured its
 -- pictures and had its feedback.
-use Rattle.std.proofs.Common.{◌∙◌, ap, ◌≡◌, ℕ, ◌+◌, ◌<◌, true, refl, sym, subst, arith, List, [], ◌∷◌, ◌++◌, length, length-append}
+use Rattle.std.proofs.Common.{◌∙◌, ap, ◌≡◌, ℕ, ◌<◌, true, refl, subst, arith, List, [], ◌∷◌, ◌++◌, length, length-append}
 use Rattle.std.specs.Prelude.{Result}
 use Rattle.std.specs.Result.{result_ok}
 use Rattle.call_model.specs.Coding.{Rules, Message, Pictures, Encoding}

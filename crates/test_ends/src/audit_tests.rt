@@ -3,6 +3,8 @@
 ghost use Rattle.std.specs.Prelude.{◌≡◌, ◌≤◌, ◌<◌, IfOk, length};
 ghost use Rattle.h263_types.specs.Params.{IsParams};
 ghost use Rattle.h263_types.specs.declared.format.Format.TheVariants.{Cif};
+ghost use Rattle.h263_types.specs.declared.clock.Clock.TheVariants.{Custom};
+ghost use Rattle.back_messages.specs.Text.{IsMessage};
 ghost use Rattle.sender_end.specs.Stands.{IsReady};
 
 use back_messages::{Message, write};
@@ -173,14 +175,34 @@ fn hear(audit: &mut Audit, bytes: &[u8]) {
     }
 }
 
-fn told(audit: &mut Audit, message: Message) {
-    let tr_is_small = match message {
-        Message::Ack { tr, marks: _ } => tr < 1024,
-        Message::Nack { tr, rtr, marks: _ } => tr < 1024 && rtr < 1024,
+// Temporal references have ten bits at most, flags fourteen.
+fn ack(tr: u16, flags: Option<u16>) -> Message
+    ensures { IsMessage Custom result }
+{
+    let marks = match flags {
+        Some(flags) => Some(flags % 16384),
+        None => None,
     };
-    if tr_is_small {
-        audit.feedback(write(&message).text());
+    Message::Ack {
+        tr: tr % 1024,
+        marks,
     }
+}
+
+fn nack(tr: u16, rtr: u16) -> Message
+    ensures { IsMessage Custom result }
+{
+    Message::Nack {
+        tr: tr % 1024,
+        rtr: rtr % 1024,
+        marks: None,
+    }
+}
+
+fn tell(audit: &mut Audit, message: &Message)
+    requires { IsMessage Custom message.now }
+{
+    audit.feedback(write(message).text());
 }
 
 impl Packets {
@@ -229,13 +251,7 @@ impl Packets {
         'pictures: for i in 0..count {
             let tr = from.saturating_add(i);
             let before = tr.saturating_sub(1);
-            told(
-                audit,
-                Message::Ack {
-                    tr: before,
-                    marks: None,
-                },
-            );
+            tell(audit, &ack(before, None));
             self.predicted(alloc, audit, tr, before)?;
         }
         Ok(())
@@ -271,17 +287,15 @@ impl Source {
                 Ok(())
             }
             Entry::Ack(tr) => {
-                told(audit, Message::Ack { tr, marks: None });
+                tell(audit, &ack(tr, None));
                 Ok(())
             }
             Entry::Flags(tr, flags) => {
-                let marks = Some(flags % 16384);
-                told(audit, Message::Ack { tr, marks });
+                tell(audit, &ack(tr, Some(flags)));
                 Ok(())
             }
             Entry::Nack(tr, rtr) => {
-                let marks = None;
-                told(audit, Message::Nack { tr, rtr, marks });
+                tell(audit, &nack(tr, rtr));
                 Ok(())
             }
             Entry::Feedback(bytes) => {
