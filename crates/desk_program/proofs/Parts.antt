@@ -148,16 +148,16 @@ tells_both first second new inputs told = λ r input. told r input ∙ ap (λ (l
 
 -- ---- ends
 
--- an end that takes nothing more
-pub ends_at : (status : Status) (texts inputs : Role → List ℕ) (old new : Outside) → Tells new inputs → Gains texts old.written new.written → EndsBy (record { status = status; taken = λ _. Some 0; texts = texts }) status inputs old new
-ends_at status texts inputs old new told gains = record {
+-- an end that takes this much of each input
+pub ends_at : (status : Status) (taken : Role → ℕ) (texts inputs : Role → List ℕ) (old new : Outside) → Tells new (behind inputs taken) → Gains texts old.written new.written → EndsBy (record { status = status; taken = λ r. Some (taken r); texts = texts }) status inputs old new
+ends_at status taken texts inputs old new told gains = record {
   known = refl;
-  left = λ r input k said. told r input ∙ ap (λ (n : ℕ). Some (drop n (inputs r))) (none k (cc said));
+  left = λ r input k said. told r input ∙ ap (λ (n : ℕ). Some (drop n (inputs r))) (same (taken r) k (cc said));
   written = gains;
 }
   where
-    none : (k : ℕ) → 0 ≡ k → 0 ≡ 0 + k
-    none k is = omega (arith, is)
+    same : (n k : ℕ) → n ≡ k → n ≡ 0 + k
+    same n k is = omega (arith, is)
 
 -- a refusal
 pub refuses : (status : Status) (inputs : Role → List ℕ) (old new : Outside) → new.written ≡ old.written → EndsBy (refusal status) status inputs old new

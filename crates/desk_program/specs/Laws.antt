@@ -39,10 +39,10 @@ pub record TurnLaws : Type 0 where
   -- one read after the other
   pub both_reads : (first second : Role → ℕ) (new : Outside) (inputs : Role → List ℕ) →
       Tells new (behind (behind inputs first) second) → Tells new (behind inputs (and_of first second))
-  -- an end that takes nothing more, and writes its texts
-  pub at_end : (status : Status) (texts : Role → List ℕ) (inputs : Role → List ℕ) (old new : Outside) →
-      Tells new inputs → Gains texts old.written new.written
-      → EndsBy (record { status = status; taken = λ _. Some 0; texts = texts }) status inputs old new
+  -- an end that takes this much of each input, and writes its texts
+  pub ends : (status : Status) (taken : Role → ℕ) (texts inputs : Role → List ℕ) (old new : Outside) →
+      Tells new (behind inputs taken) → Gains texts old.written new.written
+      → EndsBy (record { status = status; taken = λ r. Some (taken r); texts = texts }) status inputs old new
   -- a refusal says nothing of what it takes, and writes nothing
   pub refuses : (status : Status) (inputs : Role → List ℕ) (old new : Outside) →
       new.written ≡ old.written → EndsBy (refusal status) status inputs old new

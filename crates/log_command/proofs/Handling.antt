@@ -17,7 +17,7 @@ use Rattle.call_report.specs.Status.{log_stop, phase}
 use Rattle.desk_program.specs.Run.{Step, behind, refusal}
 use Rattle.desk_program.specs.Run.Step.{Goes, Ends}
 use Rattle.desk_program.specs.Ends.{Tells, Gains, GainsFronts, Ended, GivesUp, Went, step_texts}
-use Rattle.desk_program.specs.Texts.{of}
+use Rattle.desk_program.specs.Texts.{no_bytes, of}
 use Rattle.desk_program.specs.Laws.{TurnLaws}
 use Rattle.log_command.specs.Log.{LogRules, LogState, all_read, entry_turn, log_step, refused_log, step_in}
 use Rattle.log_command.proofs.Entries.{StaysWhole, entry_next, log_part, none_next}
@@ -56,7 +56,7 @@ module _ {State : Type 0} (does : LogRules State) (laws : TurnLaws) (s : LogStat
     last = all_read does s;
     is = end_is none;
     by =
-        laws.at_end Fine (does.end_text s.mind) inputs old new
+        laws.ends Fine no_bytes (does.end_text s.mind) inputs old new
         (laws.none_read Events old new inputs told none (ap (λ (l : Role → Option (List ℕ)). l Events) still ∙ gone) (λ r other. ap (λ (l : Role → Option (List ℕ)). l r) still ∙ others r other))
         (subst (λ (w : Role → Option (List ℕ)). Gains (does.end_text s.mind) w new.written) same gains);
   }

@@ -23,7 +23,7 @@ use Rattle.call_report.specs.Status.{phase, log_stop}
 use Rattle.desk_program.specs.Run.{End, Step, behind, refusal}
 use Rattle.desk_program.specs.Run.Step.{Ends}
 use Rattle.desk_program.specs.Ends.{Tells, Gains, GainsFronts, IsPart, Ended, GivesUp, step_turns, step_texts}
-use Rattle.desk_program.specs.Texts.{no_texts, on, of, and_of}
+use Rattle.desk_program.specs.Texts.{no_bytes, no_texts, on, of, and_of}
 use Rattle.desk_program.specs.Laws.{TurnLaws}
 use Rattle.send_command.specs.Tally.{count_text}
 use Rattle.send_command.specs.Send.{SendState, captured, capture_texts, most_entries, frame_step, capture_step, entry_step, all_read, log_step, send_step}
@@ -131,7 +131,7 @@ module _ (laws : TurnLaws) (cut : CutBehind) (s : SendState) (inputs : Role → 
       last = all_read s.tally;
       is = end_is;
       by =
-          laws.at_end Fine (on Report (count_text s.tally)) inputs old new
+          laws.ends Fine no_bytes (on Report (count_text s.tally)) inputs old new
           (laws.none_read Events old new inputs told e.0 (ap (λ (l : Role → Option (List ℕ)). l Events) still ∙ e.1) (λ r other. ap (λ (l : Role → Option (List ℕ)). l r) still ∙ others r other))
           (subst (λ (w : Role → Option (List ℕ)). Gains (on Report (count_text s.tally)) w new.written) same g);
     }

@@ -19,8 +19,8 @@ use Rattle.event_logs.specs.declared.fault.LogFault.TheVariants.{NoFrame}
 use Rattle.call_report.specs.declared.status.Status.TheVariants.{VideoRefused, LogRefused}
 use Rattle.call_report.specs.Status.{phase, video_stop}
 use Rattle.desk_program.specs.Run.{Step, behind, refusal}
-use Rattle.desk_program.specs.Ends.{Tells, Gains, GainsFronts, holds, IsPart, Went, Ended, GivesUp, step_turns, step_texts}
-use Rattle.desk_program.specs.Texts.{of, and_of}
+use Rattle.desk_program.specs.Ends.{Tells, Gains, GainsFronts, holds, IsPart, Went, Ended, EndsBy, GivesUp, step_turns, step_texts}
+use Rattle.desk_program.specs.Texts.{no_texts, of, and_of}
 use Rattle.desk_program.specs.Laws.{TurnLaws}
 use Rattle.send_command.specs.Send.{SendState, captured, capture_texts, after_capture, frame_step, capture_step, no_frame}
 use Rattle.send_command.specs.Stands.{HasTaken}
@@ -92,24 +92,11 @@ module _ (laws : TurnLaws) (cut : CutFrames) (s : SendState) (inputs : Role → 
   frame_missing place is e = record {
     last = no_frame s.at;
     is = ap (capture_step s) e.0;
-    by = record {
-      known = ap (λ (n : ℕ). LogRefused (NoFrame n)) is;
-      left = λ r input k said. left_at r input ∙ ap (λ (n : ℕ). Some (drop n (inputs r))) (sum_is _ k (cc said));
-      written = laws.no_text before.written mid.written (same ∙ taken.written);
-    };
+    by =
+        subst (λ (n : ℕ). EndsBy (no_frame s.at) (LogRefused (NoFrame n)) inputs before mid) (sym is)
+        (laws.ends (LogRefused (NoFrame s.at)) (of Events 3) no_texts inputs before mid
+        (laws.none_read Video old mid (behind inputs (of Events 3)) taken.left e.0 e.1 others) (laws.no_text before.written mid.written (same ∙ taken.written)));
   }
-    where
-      sum_is : (n k : ℕ) → n ≡ k → n ≡ 0 + k
-      sum_is n k is = omega (arith, is)
-
-      left_at : (r : Role) → IsInput r → mid.left r ≡ Some (behind inputs (of Events 3) r)
-      left_at Video input = e.1 ∙ ap (λ (l : List ℕ). Some l) (sym e.0)
-      left_at Events input = others Events (λ same. cc) ∙ taken.left Events refl
-      left_at Video2 input = others Video2 (λ same. cc) ∙ taken.left Video2 refl
-      left_at Pictures input = absurd (cc input)
-      left_at Wire input = absurd (cc input)
-      left_at Report input = absurd (cc input)
-      left_at Pictures2 input = absurd (cc input)
 
   -- after a frame
   module _ (e : FrameGives (Ok true) reader (inputs Video) out after (mid.left Video)) (new : Outside) (texts : Role → List ℕ) (text_is : texts ≡ capture_texts s.target s.params (captured s.params.format out) s.entries) where

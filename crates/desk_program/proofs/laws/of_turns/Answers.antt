@@ -13,6 +13,6 @@ returns c = record {
   one_read = tells_one;
   none_read = tells_end;
   both_reads = tells_both;
-  at_end = ends_at;
+  ends = ends_at;
   refuses = refuses;
 }
