@@ -443,8 +443,7 @@ class CallsTest(unittest.TestCase):
             self.assertGreater(call.shown("exact"), 15, call.told)
             self.assert_played_again(self.room / own, self.stand_in)
             with (self.room / f"{own}.y4m").open("rb") as video:
-            head = video.readline()
-            self.assertIn(b" F15:1 ", head)
+                self.assertIn(b" F15:1 ", video.readline())
 
     @unittest.skipUnless(os.geteuid() == 0 and shutil.which("ip"), "not root, or ip isn't there")
     def test_a_call_between_two_hosts(self) -> None:

@@ -2,8 +2,6 @@
 
 import contextlib
 import html.parser
-import importlib.machinery
-import importlib.util
 import io
 import json
 import os
@@ -17,13 +15,12 @@ import zlib
 from base64 import b64decode
 from collections import Counter
 from pathlib import Path
-from types import ModuleType
 from typing import Any, Optional, Sequence
 
 from calltools import errors, lanes, logs, made, program, recorded, recorded_ways, report
 from calltools import stored, traced, wavelet, way, y4m
+from tool_modules import TOOLS, tool
 
-TOOLS = Path(__file__).resolve().parent
 EXAMPLES = TOOLS.parent / "examples"
 VIDEO = EXAMPLES / "video.y4m"
 LIVE_CALL = TOOLS / "live_call"
@@ -34,15 +31,6 @@ SMALL = y4m.Size(*y4m.FORMATS["sub-qcif"])
 PERIOD = 1001 / 30000
 WITHOUT_END = ("meta", "link", "br", "input", "path")
 OUTSIDE = r"(?i)https?:|//[a-z]|url\(|@import|\bfetch\(|XMLHttpRequest|import\("
-
-
-def tool() -> ModuleType:
-    loader = importlib.machinery.SourceFileLoader("page_of_call", str(TOOLS / "page_of_call"))
-    spec = importlib.util.spec_from_loader("page_of_call", loader)
-    assert spec
-    module = importlib.util.module_from_spec(spec)
-    loader.exec_module(module)
-    return module
 
 
 def free_port() -> int:
@@ -154,7 +142,7 @@ class Room(unittest.TestCase):
         """What the tool makes."""
         page = self.room / name
         with contextlib.redirect_stderr(io.StringIO()) as told:
-            tool().main([str(words[0]), str(page), *map(str, words[1:])])
+            tool("page_of_call").main([str(words[0]), str(page), *map(str, words[1:])])
         self.said = told.getvalue()
         return page
 

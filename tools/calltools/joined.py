@@ -5,10 +5,11 @@ from dataclasses import dataclass, replace
 from pathlib import Path
 from typing import Optional
 
-from . import logs, rtp
+from . import logs
 from .errors import BadInput
 from .report import Picture, Report, read_report
 from .trace import LINE
+from .wire import packets_of_pictures
 
 # The options that each of the two commands takes; the receiver's format is that of the video.
 SEND_OPTIONS = ("quant", "keep", "radius", "limit", "slots", "lead", "clock")
@@ -38,11 +39,17 @@ class Call:
 
 
 def read_trace(path: Path) -> list[str]:
-    """The lines of a trace, each in the grammar."""
-    lines = path.read_text(encoding="ascii").splitlines()
+    """The lines of a trace, each in the grammar, and each of a picture that was sent by then."""
+    lines = path.read_text(encoding="ascii", errors="replace").splitlines()
+    sent = played = 0
     for number, line in enumerate(lines, 1):
         if not LINE.fullmatch(line):
             raise BadInput(str(path), f"line {number}", "it says no event")
+        sent += line == "S"
+        played += line == "P"
+        picture = int(line[2:].split(".")[0]) if line.startswith("D") else played - 1
+        if picture >= sent:
+            raise BadInput(str(path), f"line {number}", f"picture {picture} isn't sent yet")
     return lines
 
 
@@ -145,18 +152,8 @@ def _receive(call: Call, trace: list[str], sent: Optional[Path] = None) -> list[
 
 
 def _packets_of_pictures(path: Path) -> list[list[bytes]]:
-    # A picture's packets follow one another, and have its timestamp.
-    pictures: list[list[bytes]] = []
-    last = None
     with open(path, "rb") as file:
-        for entry in logs.read_log(file, str(path)):
-            header = rtp.rtp_header(entry.body)
-            assert header
-            if header.timestamp != last:
-                pictures.append([])
-            last = header.timestamp
-            pictures[-1].append(entry.body)
-    return pictures
+        return packets_of_pictures(logs.read_log(file, str(path)), str(path))
 
 
 def _write_log(path: Path, entries: list[logs.Entry]) -> None:

@@ -39,8 +39,8 @@ class Numbers:
             self._first_stamp, self._sequence = timestamp, sequence
             self.newest = reference
         newest_stamp = self._first_stamp + self._stamp
-        stamp = self._stamp + _signed(timestamp - newest_stamp, 32)
-        ahead = _signed(sequence - self._sequence, 16)
+        stamp = self._stamp + signed(timestamp - newest_stamp, 32)
+        ahead = signed(sequence - self._sequence, 16)
         number = nearest(self._guess(stamp, ahead), reference, self._period)
         if number >= self.newest:
             self.newest, self._stamp = number, stamp
@@ -54,7 +54,7 @@ class Numbers:
         return self.newest + min(round(silence * self._rate), max(ahead, 0))
 
 
-def _signed(difference: int, bits: int) -> int:
-    # The least difference modulo 2^bits.
+def signed(difference: int, bits: int) -> int:
+    """The least number that is this one modulo 2^bits."""
     half = 1 << bits - 1
     return (difference + half) % (1 << bits) - half

@@ -17,6 +17,8 @@ _RAW_IP = 101
 # Bytes before the IP header by the type of the link: BSD loopback, Ethernet, raw IP, Linux cooked (both versions).
 _BEFORE_IP = {0: 4, 1: 14, _RAW_IP: 0, 113: 16, 276: 20}
 MOST_UDP = 65_507
+# Of a pcapng block, by its kind: an interface, an enhanced packet.
+_LEAST_BODY = {1: 8, 6: 20}
 
 
 @dataclass(frozen=True)
@@ -83,6 +85,8 @@ def _pcapng_frames(file: BinaryIO, path: str) -> Iterator[_Frame]:
         if size < done + 4 or size % 4:
             raise BadInput(path, f"byte {file.tell()}", "a block has a wrong size")
         body = _taken(file, path, size - done)[:-4]
+        if len(body) < _LEAST_BODY.get(kind, 0):
+            raise BadInput(path, f"byte {file.tell()}", "a block has a wrong size")
         if kind == 1:
             links.append((struct.unpack_from(order + "H", body)[0], _parts_of_a_second(order, body[8:])))
         elif kind == 6:
@@ -96,7 +100,7 @@ def _pcapng_frames(file: BinaryIO, path: str) -> Iterator[_Frame]:
 
 def _parts_of_a_second(order: str, options: bytes) -> int:
     # Option 9 of an interface is the unit of its times; without it they are microseconds.
-    while len(options) >= 4:
+    while len(options) > 4:
         code, size = struct.unpack_from(order + "HH", options)
         if code == 9 and size == 1:
             unit = options[4]

@@ -55,6 +55,11 @@ def bye_bytes(source: int) -> bytes:
     return struct.pack(">BBHI", _VERSION | 1, _BYE, 1, source)
 
 
+def is_rtcp(data: bytes) -> bool:
+    """Whether the bytes look like RTCP: its version, and a type from 192 to 223 (RFC 5761, 4)."""
+    return len(data) >= 4 and data[0] >> 6 == 2 and 192 <= data[1] <= 223
+
+
 def read_rtcp(data: bytes) -> Optional[Union[Feedback, Bye]]:
     """The packet's message or end, or None where it is neither, or isn't whole."""
     if len(data) < 8 or len(data) != 4 + 4 * int.from_bytes(data[2:4], "big"):

@@ -38,6 +38,11 @@ def renumbered(packet: bytes, sequence: int, timestamp: int, source: int) -> byt
     return packet[:2] + numbers + packet[HEADER_BYTES:]
 
 
+def with_source(packet: bytes, source: int) -> bytes:
+    """The packet with another SSRC."""
+    return packet[: HEADER_BYTES - 4] + struct.pack(">I", source) + packet[HEADER_BYTES:]
+
+
 def payload_of(packet: bytes) -> Optional[bytes]:
     """What stands between the header and the padding, or None where they don't fit the packet."""
     start = HEADER_BYTES + 4 * (packet[0] & 15)

@@ -89,6 +89,15 @@ class Y4mReader:
             yield Frame(tuple(tags), samples)
 
 
+def format_of(size: Size, path: str) -> str:
+    """The format's name of a video of this size; one of another size is refused."""
+    for name, (width, height) in FORMATS.items():
+        if size == Size(width, height):
+            return name
+    told = f"{size.width} x {size.height} is none of the three formats"
+    raise BadInput(path, "the head", told)
+
+
 # Frames a second of the program's videos.
 RATE = Fraction(30_000, 1_001)
 
