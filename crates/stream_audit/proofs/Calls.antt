@@ -135,4 +135,3 @@ header_is {Style} h number reference half a b c =
 pub header_of_is : {Style Mb P : Type 0} (rules : Rules) (n : ℕ) (x : Coded Style Mb P) → header_of rules n x ≡ (let g : Header Style = record { number = n % period rules; reference = option_map (λ m. m % period rules) x.reference; half = rules.half; style = x.style } in g)
 unfolding header_of
 header_of_is rules n x = refl
-

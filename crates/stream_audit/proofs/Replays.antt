@@ -18,7 +18,6 @@ use Rattle.stream_audit.specs.Sound.{IsSound, IsSoundAfter}
 use Rattle.stream_audit.specs.Replay.{MessageAbout, Replay, item_at, said_to, CameInTime, after_bytes, said_at_play, replay, MayHappenIn, AllMayHappenIn, NoneIsRefused, ExactWhereAllCame, ReadsInPeriod}
 use Rattle.stream_audit.proofs.Lists.{length_map, slice_get_push}
 use Rattle.stream_audit.proofs.Streams.{item_next, split_next, pictures_more, picture_here, sound_before, sound_at}
-
 use Rattle.stream_audit.proofs.Calls.{CallLaws, told_of, map_two, coded_of, source, packets, call, IsOf, At, says, no_count, told_by_play, slices_are, is_full_from, exact_where_full, header_is, header_of_is}
 
 module _ {Style Mb P Fault MessageFault : Type 0} (decoding : Decoding Style Mb P Fault) (read : List ℕ → Result Message MessageFault) (rules : Rules) (in_period : ReadsInPeriod decoding rules) (laws : CallLaws decoding rules) (stream : List (Item Style Mb)) (sound : IsSound decoding read rules stream) where
@@ -58,8 +57,7 @@ module _ {Style Mb P Fault MessageFault : Type 0} (decoding : Decoding Style Mb 
           let r = behind.reference rest header in
           let there : nearest_below rules (length (cl past).coded) rest ≡ Some r.0 = ap (λ (k : ℕ). nearest_below rules k rest) (sym at.pictures) ∙ r.1 in
           let same : Some r.0 ≡ Some m = sym there ∙ is in
-          let equal : r.0 ≡ m = cc in
-          (
+          let equal : r.0 ≡ m = cc in (
             omega (arith, r.2, equal, at.pictures),
             subst (λ (ks : List ℕ). is_among ks m ≡ true) at.known (subst (λ (k : ℕ). is_among (known_of read rules at.done) k ≡ true) equal r.3),
           )
@@ -92,9 +90,9 @@ module _ {Style Mb P Fault MessageFault : Type 0} (decoding : Decoding Style Mb 
           let got = behind.2.packets j part here in
           let reference : option_map (λ m. m % period rules) x.reference ≡ p.header.reference =
           ap (λ (o : Option ℕ). option_map (λ m. m % period rules) o) is_of.reference
-              ∙ reference_again n p.header.reference
-              (λ rest is. in_period part.bytes part.piece rest got.0 (ap (λ (h : Header Style). h.half) got.1 ∙ behind.2.half) (ap (λ (h : Header Style). h.reference) got.1 ∙ is))
-              (λ rest is. let r = behind.2.reference rest is in (r.0, ap (λ (k : ℕ). nearest_below rules k rest) (sym behind.1) ∙ r.1)) in
+          ∙ reference_again n p.header.reference
+          (λ rest is. in_period part.bytes part.piece rest got.0 (ap (λ (h : Header Style). h.half) got.1 ∙ behind.2.half) (ap (λ (h : Header Style). h.reference) got.1 ∙ is))
+          (λ rest is. let r = behind.2.reference rest is in (r.0, ap (λ (k : ℕ). nearest_below rules k rest) (sym behind.1) ∙ r.1)) in
           let number : p.header.number ≡ n % period rules = behind.2.number ∙ ap (λ (k : ℕ). k % period rules) behind.1 in
           let whole = header_is p.header (n % period rules) (option_map (λ m. m % period rules) x.reference) rules.half number reference behind.2.half in
           let styled : p.header ≡ header_of rules n x =
@@ -242,9 +240,9 @@ module _ {Style Mb P Fault MessageFault : Type 0} (decoding : Decoding Style Mb 
           let answer : heard decoding rules (rp past).receiver (decoding.read bytes) ≡ delivery_answer rules (cl past) n j = ap (λ (r : ReceiverRun Style Mb P). heard decoding rules r (decoding.read bytes)) at.receiver ∙ (follows_at past at).answers n j bytes near' sound' e in
           let said' : (rp past).said ++ said_to n (heard decoding rules (rp past).receiver (decoding.read bytes)) ≡ map (told_of rules) (cl (Deliver n j ∷ past)).said =
           ap (λ (h : Heard Fault). (rp past).said ++ said_to n h) answer
-              ∙ ap (λ (l : List MessageAbout). (rp past).said ++ l) (says Fault rules (cl past) n j (omega (arith, slice_get_within (packets_in stream n) j bytes e, slices_sent past at n near'.0)))
-              ∙ ap (λ (l : List MessageAbout). l ++ map (told_of rules) (if delivery_counts rules (cl past) n j && is_full (cl past).coded (with_arrival (cl past).arrivals n j) n then Got n (full_flags rules (cl past).coded (with_arrival (cl past).arrivals n j) n) ∷ [] else [])) at.said
-              ∙ map_two (told_of rules) (cl past).said _ in
+          ∙ ap (λ (l : List MessageAbout). (rp past).said ++ l) (says Fault rules (cl past) n j (omega (arith, slice_get_within (packets_in stream n) j bytes e, slices_sent past at n near'.0)))
+          ∙ ap (λ (l : List MessageAbout). l ++ map (told_of rules) (if delivery_counts rules (cl past) n j && is_full (cl past).coded (with_arrival (cl past).arrivals n j) n then Got n (full_flags rules (cl past).coded (with_arrival (cl past).arrivals n j) n) ∷ [] else [])) at.said
+          ∙ map_two (told_of rules) (cl past).said _ in
           delivered_as (after_bytes decoding read rules stream (rp past) n bytes) (replay_is (Some bytes) e) refl refl
           (ap (after_packet decoding rules bytes) at.receiver ∙ sym (received_is (Some bytes) e)) said'
 
@@ -253,7 +251,7 @@ module _ {Style Mb P Fault MessageFault : Type 0} (decoding : Decoding Style Mb 
           let counts : delivery_counts rules (cl past) n j ≡ false = no_count rules (cl past) n j (omega (arith, far, slices_sent past at n near'.0)) in
           let same : (cl (Deliver n j ∷ past)).said ≡ (cl past).said =
           ap (λ (b : Bool). (cl past).said ++ (if b && is_full (cl past).coded (with_arrival (cl past).arrivals n j) n then Got n (full_flags rules (cl past).coded (with_arrival (cl past).arrivals n j) n) ∷ [] else [])) counts
-              ∙ append-nil (cl past).said in
+          ∙ append-nil (cl past).said in
           delivered_as (rp past) (replay_is None e) refl refl (at.receiver ∙ sym (received_is None e)) (at.said ∙ ap (map (told_of rules)) (sym same))
 
   play : (past : List Event) → At decoding read rules stream past → MayHappenIn decoding read rules stream (rp past) Play → At decoding read rules stream (Play ∷ past)
@@ -303,8 +301,8 @@ module _ {Style Mb P Fault MessageFault : Type 0} (decoding : Decoding Style Mb 
           let reads : read near.1 ≡ Ok (travelling rules note) = near.4 ∙ ap (λ (t : MessageAbout). let r : Result Message MessageFault = Ok t.message in r) (sym told) in
           let made : known_by_feedback rules (pictures_in at.done) (result_ok (read near.1)) ≡ told_full note =
           ap (λ (r : Result Message MessageFault). known_by_feedback rules (pictures_in at.done) (result_ok r)) reads
-              ∙ ap (λ (n : ℕ). known_by_feedback rules n (Some (travelling rules note))) at.pictures
-              ∙ ap (λ (o : Option (List ℕ)). option_map_or (λ numbers. numbers) o []) learned in
+          ∙ ap (λ (n : ℕ). known_by_feedback rules n (Some (travelling rules note))) at.pictures
+          ∙ ap (λ (o : Option (List ℕ)). option_map_or (λ numbers. numbers) o []) learned in
           let known' : (cl (Back k ∷ past)).known ≡ told_full note ++ (cl past).known = ap (λ (o : Option NumberedMessage). option_map_or told_full o [] ++ (cl past).known) there in
           record {
             near = ((note, there, close), at.near);
@@ -377,7 +375,7 @@ module _ {Style Mb P Fault MessageFault : Type 0} (decoding : Decoding Style Mb 
       let slices = slices_sent past at (cl past).played near' in
       let full : is_full (cl past).coded (cl past).arrivals (cl past).played ≡ true =
       is_full_from laws.below (cl past).coded (cl past).arrivals (cl past).played near'
-          (λ j lt. let fits : j < length (packets_in stream (cl past).played) = omega (arith, slices) in (laws.arrived src past (cl past).played j).1 (delivered past near.1 (cl past).played j fits (each j fits))) in
+      (λ j lt. let fits : j < length (packets_in stream (cl past).played) = omega (arith, slices) in (laws.arrived src past (cl past).played j).1 (delivered past near.1 (cl past).played j fits (each j fits))) in
       ap (played_mark decoding rules) at.receiver
       ∙ ap (λ (s : Shown P). s.mark) ((follows_at past at).plays near').0
       ∙ exact_where_full decoding.pictures (cl past).coded (cl past).arrivals (cl past).plays (cl past).played full

@@ -7,14 +7,16 @@ ghost use Rattle.h263_types.specs.declared.clock.Clock.TheVariants.{Custom};
 ghost use Rattle.back_messages.specs.Text.{IsMessage};
 ghost use Rattle.sender_end.specs.Stands.{IsReady};
 
+use self::Entry::{
+    Ack, Feedback, First, Flags, Follow, Intra, Nack, OtherClock, OtherQuant, Packet, Predicted,
+    Second,
+};
+use self::Is::{No, Yes};
 use back_messages::{Message, write};
 use h263_outside::OutOfMemory;
 use h263_planes::PictureRef;
 use h263_types::{Clock, FixedPace, Format, Params};
 use sender_end::Sender;
-use self::Entry::{Ack, Feedback, First, Flags, Follow, Intra, Nack, OtherClock, OtherQuant};
-use self::Entry::{Packet, Predicted, Second};
-use self::Is::{No, Yes};
 use std::alloc::Global;
 use std::process::Abort;
 use std::test::Fail;
@@ -352,14 +354,38 @@ const AT_THE_FIRST: [Case; 9] = [
 // The same of a log's last ones, after two pictures.
 const AT_THE_LAST: [Case; 9] = [
     (&[Intra(0), Ack(0), Predicted(1, 0)], Yes(2)),
-    (&[Intra(0), Ack(0), Predicted(1, 0), Packet(&[0x80])], No(1, Rule::Packet)),
-    (&[Intra(0), Ack(0), Predicted(1, 0), OtherClock], No(1, Rule::Packet)),
-    (&[Intra(0), Ack(0), Predicted(1, 0), Intra(3)], No(2, Rule::Number)),
-    (&[Intra(0), Ack(0), Intra(1), OtherQuant(1)], No(1, Rule::Header)),
-    (&[Intra(0), Ack(0), Predicted(1, 0), Predicted(1, 0)], No(1, Rule::Overlap)),
-    (&[Intra(0), Ack(0), Predicted(1, 0), First(2)], No(2, Rule::Gap)),
-    (&[Intra(0), Ack(0), Predicted(1, 0), Predicted(2, 1)], No(2, Rule::Reference)),
-    (&[Intra(0), Ack(0), Intra(1), Intra(2), Predicted(3, 0)], No(3, Rule::Reference)),
+    (
+        &[Intra(0), Ack(0), Predicted(1, 0), Packet(&[0x80])],
+        No(1, Rule::Packet),
+    ),
+    (
+        &[Intra(0), Ack(0), Predicted(1, 0), OtherClock],
+        No(1, Rule::Packet),
+    ),
+    (
+        &[Intra(0), Ack(0), Predicted(1, 0), Intra(3)],
+        No(2, Rule::Number),
+    ),
+    (
+        &[Intra(0), Ack(0), Intra(1), OtherQuant(1)],
+        No(1, Rule::Header),
+    ),
+    (
+        &[Intra(0), Ack(0), Predicted(1, 0), Predicted(1, 0)],
+        No(1, Rule::Overlap),
+    ),
+    (
+        &[Intra(0), Ack(0), Predicted(1, 0), First(2)],
+        No(2, Rule::Gap),
+    ),
+    (
+        &[Intra(0), Ack(0), Predicted(1, 0), Predicted(2, 1)],
+        No(2, Rule::Reference),
+    ),
+    (
+        &[Intra(0), Ack(0), Intra(1), Intra(2), Predicted(3, 0)],
+        No(3, Rule::Reference),
+    ),
 ];
 
 // Two rules are broken at once, and one after the other: the first of them in its order, and of
@@ -374,7 +400,10 @@ const TWO_AT_ONCE: [Case; 12] = [
     (&[Intra(0), Second(0), OtherQuant(0)], No(0, Rule::Overlap)),
     (&[Intra(0), Intra(2), Packet(&[])], No(1, Rule::Number)),
     (&[Intra(0), Packet(&[]), Intra(2)], No(0, Rule::Packet)),
-    (&[Intra(0), Predicted(1, 0), Packet(&[])], No(1, Rule::Reference)),
+    (
+        &[Intra(0), Predicted(1, 0), Packet(&[])],
+        No(1, Rule::Reference),
+    ),
     (&[Second(0), Second(0), Intra(5)], No(0, Rule::Overlap)),
     (&[Second(0), Intra(5), Second(5)], No(0, Rule::Gap)),
 ];
@@ -387,14 +416,32 @@ const FEEDBACK: [Case; 14] = [
     (&[Intra(0), Ack(0), Intra(1), Predicted(2, 0)], Yes(3)),
     (&[Intra(0), Predicted(1, 0), Ack(0)], No(1, Rule::Reference)),
     (&[Ack(0), Intra(0), Predicted(1, 0)], No(1, Rule::Reference)),
-    (&[Intra(0), Ack(1), Intra(1), Predicted(2, 1)], No(2, Rule::Reference)),
-    (&[Intra(0), Feedback(&[0xC0, 0x04]), Predicted(1, 0)], No(1, Rule::Reference)),
-    (&[Intra(0), Feedback(&[0xC0, 0x04, 0x01]), Predicted(1, 0)], No(1, Rule::Reference)),
-    (&[Intra(0), Feedback(&[0xC0, 0x04, 0x00]), Predicted(1, 0)], Yes(2)),
-    (&[Intra(0), Nack(0, 0), Predicted(1, 0)], No(1, Rule::Reference)),
+    (
+        &[Intra(0), Ack(1), Intra(1), Predicted(2, 1)],
+        No(2, Rule::Reference),
+    ),
+    (
+        &[Intra(0), Feedback(&[0xC0, 0x04]), Predicted(1, 0)],
+        No(1, Rule::Reference),
+    ),
+    (
+        &[Intra(0), Feedback(&[0xC0, 0x04, 0x01]), Predicted(1, 0)],
+        No(1, Rule::Reference),
+    ),
+    (
+        &[Intra(0), Feedback(&[0xC0, 0x04, 0x00]), Predicted(1, 0)],
+        Yes(2),
+    ),
+    (
+        &[Intra(0), Nack(0, 0), Predicted(1, 0)],
+        No(1, Rule::Reference),
+    ),
     (&[Intra(0), Intra(1), Nack(1, 0), Predicted(2, 0)], Yes(3)),
     (&[Intra(0), Intra(1), Nack(0, 1), Predicted(2, 1)], Yes(3)),
-    (&[Intra(0), Intra(1), Nack(1, 2), Intra(2), Predicted(3, 2)], No(3, Rule::Reference)),
+    (
+        &[Intra(0), Intra(1), Nack(1, 2), Intra(2), Predicted(3, 2)],
+        No(3, Rule::Reference),
+    ),
     (&[Feedback(&[]), Intra(0), Feedback(&[1, 2, 3, 4])], Yes(1)),
 ];
 
@@ -422,10 +469,28 @@ fn by_the_custom_clock(rt: HostRuntime) -> Result<(), Fail> {
 fn flags_of_later_pictures(rt: HostRuntime) -> Result<(), Fail> {
     let cases: [Case; 5] = [
         (&[Intra(0), Intra(1), Flags(0, 1), Predicted(2, 1)], Yes(3)),
-        (&[Intra(0), Intra(1), Flags(0, 2), Predicted(2, 1)], No(2, Rule::Reference)),
-        (&[Intra(0), Flags(0, 1), Intra(1), Predicted(2, 1)], No(2, Rule::Reference)),
-        (&[Intra(0), Flags(0, 16383), Intra(1), Predicted(2, 0)], Yes(3)),
-        (&[Intra(0), Intra(1), Intra(2), Flags(0, 16383), Predicted(3, 2)], Yes(4)),
+        (
+            &[Intra(0), Intra(1), Flags(0, 2), Predicted(2, 1)],
+            No(2, Rule::Reference),
+        ),
+        (
+            &[Intra(0), Flags(0, 1), Intra(1), Predicted(2, 1)],
+            No(2, Rule::Reference),
+        ),
+        (
+            &[Intra(0), Flags(0, 16383), Intra(1), Predicted(2, 0)],
+            Yes(3),
+        ),
+        (
+            &[
+                Intra(0),
+                Intra(1),
+                Intra(2),
+                Flags(0, 16383),
+                Predicted(3, 2),
+            ],
+            Yes(4),
+        ),
     ];
     assert_verdicts(&rt, rt.alloc(), Clock::Standard, &cases)?;
     assert_verdicts(&rt, rt.alloc(), Clock::Custom, &cases)?;
@@ -436,12 +501,33 @@ fn flags_of_later_pictures(rt: HostRuntime) -> Result<(), Fail> {
 #[test]
 fn round_the_period(rt: HostRuntime) -> Result<(), Fail> {
     let cases: [Case; 6] = [
-        (&[Intra(0), Follow(1, 255), Ack(255), Predicted(0, 255)], Yes(257)),
-        (&[Intra(0), Follow(1, 255), Predicted(0, 255)], No(256, Rule::Reference)),
-        (&[Intra(0), Follow(1, 255), Ack(255), Predicted(0, 0)], No(256, Rule::Reference)),
+        (
+            &[Intra(0), Follow(1, 255), Ack(255), Predicted(0, 255)],
+            Yes(257),
+        ),
+        (
+            &[Intra(0), Follow(1, 255), Predicted(0, 255)],
+            No(256, Rule::Reference),
+        ),
+        (
+            &[Intra(0), Follow(1, 255), Ack(255), Predicted(0, 0)],
+            No(256, Rule::Reference),
+        ),
         (&[Intra(0), Follow(1, 255), Intra(1)], No(256, Rule::Number)),
-        (&[Intra(0), Follow(1, 255), Intra(255)], No(255, Rule::Header)),
-        (&[Intra(0), Follow(1, 255), Ack(254), Intra(0), Predicted(1, 255)], No(257, Rule::Reference)),
+        (
+            &[Intra(0), Follow(1, 255), Intra(255)],
+            No(255, Rule::Header),
+        ),
+        (
+            &[
+                Intra(0),
+                Follow(1, 255),
+                Ack(254),
+                Intra(0),
+                Predicted(1, 255),
+            ],
+            No(257, Rule::Reference),
+        ),
     ];
     assert_verdicts(&rt, rt.alloc(), Clock::Standard, &cases)?;
     Ok(())
@@ -452,9 +538,18 @@ fn round_the_period(rt: HostRuntime) -> Result<(), Fail> {
 fn round_the_custom_period(rt: HostRuntime) -> Result<(), Fail> {
     let cases: [Case; 4] = [
         (&[Intra(0), Follow(1, 256), Intra(1)], No(257, Rule::Number)),
-        (&[Intra(0), Follow(1, 1023), Ack(1023), Predicted(0, 1023)], Yes(1025)),
-        (&[Intra(0), Follow(1, 1023), Ack(1023), Predicted(0, 0)], No(1024, Rule::Reference)),
-        (&[Intra(0), Follow(1, 1023), Intra(1)], No(1024, Rule::Number)),
+        (
+            &[Intra(0), Follow(1, 1023), Ack(1023), Predicted(0, 1023)],
+            Yes(1025),
+        ),
+        (
+            &[Intra(0), Follow(1, 1023), Ack(1023), Predicted(0, 0)],
+            No(1024, Rule::Reference),
+        ),
+        (
+            &[Intra(0), Follow(1, 1023), Intra(1)],
+            No(1024, Rule::Number),
+        ),
     ];
     assert_verdicts(&rt, rt.alloc(), Clock::Custom, &cases)?;
     Ok(())
@@ -464,8 +559,20 @@ fn round_the_custom_period(rt: HostRuntime) -> Result<(), Fail> {
 #[test]
 fn old_feedback(rt: HostRuntime) -> Result<(), Fail> {
     let cases: [Case; 2] = [
-        (&[Intra(0), Follow(1, 128), Ack(1), Predicted(129, 128)], No(129, Rule::Reference)),
-        (&[Intra(0), Follow(1, 128), Ack(0), Ack(128), Predicted(129, 128)], Yes(130)),
+        (
+            &[Intra(0), Follow(1, 128), Ack(1), Predicted(129, 128)],
+            No(129, Rule::Reference),
+        ),
+        (
+            &[
+                Intra(0),
+                Follow(1, 128),
+                Ack(0),
+                Ack(128),
+                Predicted(129, 128),
+            ],
+            Yes(130),
+        ),
     ];
     assert_verdicts(&rt, rt.alloc(), Clock::Standard, &cases)?;
     Ok(())
