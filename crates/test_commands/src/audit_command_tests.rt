@@ -71,60 +71,62 @@ fn bad(at: u64) -> Status {
     }
 }
 
+// Two flat pictures and parts of them, with and without the feedback of the first.
+const VERDICTS: &[Row<'static>] = &[
+    (SOUND, NEVER, Status::Ok, b"yes pictures 2\n"),
+    (
+        &[OF_342, FLAT, OF_31, SKIPPED],
+        NEVER,
+        Status::Ok,
+        b"no 1 reference\n",
+    ),
+    (
+        &[OF_342, FLAT, OF_31, SKIPPED, ACK],
+        NEVER,
+        Status::Ok,
+        b"no 1 reference\n",
+    ),
+    (
+        &[OF_342, FLAT, NACK, OF_31, SKIPPED],
+        NEVER,
+        Status::Ok,
+        b"no 1 reference\n",
+    ),
+    (&[OF_31, SKIPPED], NEVER, Status::Ok, b"no 0 number\n"),
+    (
+        &[OF_342, FLAT, OF_342, FLAT],
+        NEVER,
+        Status::Ok,
+        b"no 0 overlap\n",
+    ),
+    (&[], NEVER, Status::Ok, b"yes pictures 0\n"),
+    (&[ACK], NEVER, Status::Ok, b"yes pictures 0\n"),
+    (&[OF_102, LATER], NEVER, Status::Ok, b"no 0 gap\n"),
+    (
+        &[OF_102, LATER, OF_342, FLAT],
+        NEVER,
+        Status::Ok,
+        b"no 0 header\n",
+    ),
+    (
+        &[OF_102, LATER, OF_31, SKIPPED],
+        NEVER,
+        Status::Ok,
+        b"no 0 gap\n",
+    ),
+    (
+        &[OF_342, FLAT, b"K\x00\x00"],
+        NEVER,
+        Status::Ok,
+        b"no 0 packet\n",
+    ),
+];
+
 #[test]
 fn verdicts_on_two_flat_pictures(rt: HostRuntime) -> Result<(), Fail> {
-    let table: &[Row] = &[
-        (SOUND, NEVER, Status::Ok, b"yes pictures 2\n"),
-        (
-            &[OF_342, FLAT, OF_31, SKIPPED],
-            NEVER,
-            Status::Ok,
-            b"no 1 reference\n",
-        ),
-        (
-            &[OF_342, FLAT, OF_31, SKIPPED, ACK],
-            NEVER,
-            Status::Ok,
-            b"no 1 reference\n",
-        ),
-        (
-            &[OF_342, FLAT, NACK, OF_31, SKIPPED],
-            NEVER,
-            Status::Ok,
-            b"no 1 reference\n",
-        ),
-        (&[OF_31, SKIPPED], NEVER, Status::Ok, b"no 0 number\n"),
-        (
-            &[OF_342, FLAT, OF_342, FLAT],
-            NEVER,
-            Status::Ok,
-            b"no 0 overlap\n",
-        ),
-        (&[], NEVER, Status::Ok, b"yes pictures 0\n"),
-        (&[ACK], NEVER, Status::Ok, b"yes pictures 0\n"),
-        (&[OF_102, LATER], NEVER, Status::Ok, b"no 0 gap\n"),
-        (
-            &[OF_102, LATER, OF_342, FLAT],
-            NEVER,
-            Status::Ok,
-            b"no 0 header\n",
-        ),
-        (
-            &[OF_102, LATER, OF_31, SKIPPED],
-            NEVER,
-            Status::Ok,
-            b"no 0 gap\n",
-        ),
-        (
-            &[OF_342, FLAT, b"K\x00\x00"],
-            NEVER,
-            Status::Ok,
-            b"no 0 packet\n",
-        ),
-    ];
     let params = Params::of(Format::SubQcif);
-    check_audits(&rt, rt.alloc(), &params, 1, table)?;
-    check_audits(&rt, rt.alloc(), &params, 4096, table)?;
+    check_audits(&rt, rt.alloc(), &params, 1, VERDICTS)?;
+    check_audits(&rt, rt.alloc(), &params, 4096, VERDICTS)?;
     Ok(())
 }
 
