@@ -16,7 +16,7 @@ use Rattle.call_model.specs.TwoStores.{travelling}
 use Rattle.stream_audit.specs.Stream.{Part, StreamPicture, Item, Picture, Feedback, pictures_in, picture_in, packets_of, packets_in, known_of}
 use Rattle.stream_audit.specs.Sound.{IsSound, IsSoundAfter}
 use Rattle.stream_audit.specs.Replay.{MessageAbout, Replay, item_at, said_to, CameInTime, after_bytes, said_at_play, replay, MayHappenIn, AllMayHappenIn, NoneIsRefused, ExactWhereAllCame, ReadsInPeriod}
-use Rattle.stream_audit.proofs.Lists.{length_map, slice_get_push}
+use Rattle.stream_audit.proofs.Lists.{length_map, not_none, slice_get_push}
 use Rattle.stream_audit.proofs.Streams.{item_next, split_next, pictures_more, picture_here, sound_before, sound_at}
 use Rattle.stream_audit.proofs.Calls.{CallLaws, told_of, map_two, coded_of, source, packets, call, IsOf, At, says, no_count, told_by_play, slices_are, is_full_from, exact_where_full, header_is, header_of_is}
 
@@ -49,10 +49,7 @@ module _ {Style Mb P Fault MessageFault : Type 0} (decoding : Decoding Style Mb 
   }
     where
       named : (m : ℕ) (o : Option ℕ) → p.header.reference ≡ o → option_and_then (nearest_below rules (length (cl past).coded)) o ≡ Some m → (length (cl past).coded ≤ m + window rules) × (is_among (cl past).known m ≡ true)
-      named m None header is = absurd (differ is)
-        where
-          differ : None ≡ Some m → ⊥
-          differ e = cc
+      named m None header is = absurd (not_none m (sym is))
       named m (Some rest) header is =
           let r = behind.reference rest header in
           let there : nearest_below rules (length (cl past).coded) rest ≡ Some r.0 = ap (λ (k : ℕ). nearest_below rules k rest) (sym at.pictures) ∙ r.1 in
@@ -112,23 +109,17 @@ module _ {Style Mb P Fault MessageFault : Type 0} (decoding : Decoding Style Mb 
                 )
             | inr h ↦
                 let none : None ≡ Some slice = sym (slice_at ∙ ap (λ (o : Option (Part Style Mb)). option_map (λ part. part.piece.slice) o) h.1) ∙ e in
-                absurd (differ none)
+                absurd (not_none slice (sym none))
           ]
-        where
-          differ : None ≡ Some slice → ⊥
-          differ e = cc
 
       no_other : slice_get x.slices j ≡ None → slice_get (packets_in stream n) j ≡ None
       no_other e =
           elim (slice_get_cases p.parts j).1 [
             | inl h ↦
                 let some : Some h.0.piece.slice ≡ None = sym (slice_at ∙ ap (λ (o : Option (Part Style Mb)). option_map (λ part. part.piece.slice) o) h.2) ∙ e in
-                absurd (differ h.0.piece.slice some)
+                absurd (not_none h.0.piece.slice some)
             | inr h ↦ bytes_at ∙ ap (λ (o : Option (Part Style Mb)). option_map (λ part. part.bytes) o) h.1
           ]
-        where
-          differ : (s : Slice Mb) → Some s ≡ None → ⊥
-          differ s e = cc
 
   -- a picture that was sent has as many slices as packets
   slices_sent : (past : List Event) → At decoding read rules stream past → (n : ℕ) → n < length (cl past).coded → length (slices_at (cl past).coded n) ≡ length (packets_in stream n)
@@ -281,11 +272,8 @@ module _ {Style Mb P Fault MessageFault : Type 0} (decoding : Decoding Style Mb 
 
   back : (past : List Event) (k : ℕ) → At decoding read rules stream past → MayHappenIn decoding read rules stream (rp past) (Back k) → At decoding read rules stream (Back k ∷ past)
   back past k at near =
-      elim (slice_get_cases (cl past).said k).1 [ inl h ↦ of_note h.0 h.2 | inr h ↦ absurd (differ (sym (told_there ∙ ap (option_map (told_of rules)) h.1) ∙ near.2)) ]
+      elim (slice_get_cases (cl past).said k).1 [ inl h ↦ of_note h.0 h.2 | inr h ↦ absurd (not_none near.0 (sym (sym (told_there ∙ ap (option_map (told_of rules)) h.1) ∙ near.2))) ]
     where
-      differ : None ≡ Some near.0 → ⊥
-      differ e = cc
-
       told_there : slice_get (rp past).said k ≡ option_map (told_of rules) (slice_get (cl past).said k)
       told_there = ap (λ (l : List MessageAbout). slice_get l k) at.said ∙ slice_get-map (told_of rules) (cl past).said k
 
