@@ -1,0 +1,16 @@
+pub mod Zeros
+pub mod Kept
+pub mod Words
+pub mod Blocks
+pub mod Macroblocks
+pub mod Messages
+pub mod Headers
+pub mod Slices
+pub mod Splits
+pub mod Growing
+pub mod Orders
+pub mod AnyOrder
+pub mod Made
+pub mod Slots
+pub mod InSlots
+pub mod Windows

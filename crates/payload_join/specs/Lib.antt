@@ -1,0 +1,11 @@
+pub mod Packet
+pub mod Split
+pub mod Unit
+pub mod Outgoing
+pub mod Run
+pub mod Laws
+pub mod Parts
+pub mod Places
+pub mod Ring
+pub mod Units
+pub mod Joining

@@ -1,0 +1,11 @@
+//! Packets of one slice from packets that follow on others, or that have several slices (RFC 4629).
+#![tactic(auto)]
+
+pub mod laws;
+mod parts;
+mod ring;
+mod took;
+mod units;
+
+pub use parts::{Parts, read_parts};
+pub use took::Took;

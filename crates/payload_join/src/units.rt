@@ -1,0 +1,102 @@
+//! Whole units among the packets that are held, from the newest packet outwards.
+ghost use Rattle.std.specs.Prelude.{◌≡◌, ℕ, ◌+◌, ◌^◌, ◌*◌, ◌<◌, ◌≤◌, length, true, IsNone, IfSome};
+ghost use Rattle.h263_types.specs.declared.format.Format.{Format};
+ghost use Rattle.payload_join.specs.Unit.{begins_one, unit_at};
+ghost use Rattle.payload_join.specs.Outgoing.{coded_from};
+ghost use Rattle.payload_join.specs.Places.{place_at, window};
+ghost use Rattle.payload_join.specs.Units.{IsBefore, IsWholeIf, out_made, unit_left};
+
+use crate::ring::PacketRing;
+
+// More coded bytes than these are not given.
+const MOST: u32 = 65_400;
+
+// A whole unit: the number of its first packet, and how many follow.
+#[derive(Clone, Copy)]
+pub(crate) struct Span {
+    pub(crate) number: u32,
+    pub(crate) follow: u32,
+}
+
+// The unit that the packets before a number are in: its first packet, where all after that follow
+// on. `low` is the least number that may be held.
+pub(crate) fn start_before(ring: &PacketRing, low: u32, number: u32) -> Option<u32>
+    requires { low ≤ number }
+    ensures some { IfSome result (IsBefore ring.now.packets low number) }
+    ensures none { IsNone result → (x : ℕ) → IsBefore ring.now.packets low number x → ⊥ }
+{
+    'back: for back in 0..number - low {
+        let at = number - 1 - back;
+        if ring.begins(at) {
+            return Some(at);
+        }
+        if !ring.follows(at) {
+            return None;
+        }
+    }
+    None
+}
+
+// How many packets follow in the whole unit that a packet begins, if there is one. `last` is the
+// greatest number.
+pub(crate) fn unit_from(ring: &PacketRing, first: u32, last: u32) -> Option<u32>
+    requires order { first ≤ last }
+    requires few { last < first + 64 }
+    requires fits { last < 2 ^ 31 }
+    ensures exact { result ≡ unit_at (window ring.now.packets last) first }
+{
+    if !ring.begins(first) {
+        return None;
+    }
+    'next: for follow in 0..last - first {
+        if ring.is_marked(first + follow) || ring.begins(first + follow + 1) {
+            return Some(follow);
+        }
+        if !ring.follows(first + follow + 1) {
+            return None;
+        }
+    }
+    if ring.is_marked(last) {
+        return Some(last - first);
+    }
+    None
+}
+
+// How many coded bytes so many packets have.
+fn coded_len(ring: &PacketRing, number: u32, count: u32) -> u32
+    requires few { count ≤ 64 }
+    requires fits { number + count < 2 ^ 32 }
+    ensures { result ≡ length (coded_from (place_at ring.now.packets) number count) }
+{
+    let mut len = 0;
+    'packets: for k in 0..count {
+        len += ring.coded_len(number + k);
+    }
+    len
+}
+
+// The unit that a packet begins, where it is whole, the packet of a number made it so, and it is
+// short enough to be given.
+pub(crate) fn made_by(ring: &PacketRing, number: u32, first: u32, last: u32) -> Option<Span>
+    requires order { first ≤ number }
+    requires upto { number ≤ last }
+    requires few { last < first + 64 }
+    requires fits { last < 2 ^ 31 }
+    ensures out { (format : Format) → unit_left format ring.now.packets result
+        ≡ out_made format (window ring.now.packets last) number first
+          (unit_at (window ring.now.packets last) first) }
+    ensures whole { IsWholeIf ring.now.packets result }
+{
+    let follow = unit_from(ring, first, last)?;
+    let end = first + follow;
+    if number > end && (number > end + 1 || ring.is_marked(end)) {
+        return None;
+    }
+    if coded_len(ring, first, follow + 1) > MOST {
+        return None;
+    }
+    Some(Span {
+        number: first,
+        follow,
+    })
+}
