@@ -21,7 +21,7 @@ Grows before now = (n : ℕ) (p : Packet) → before n ≡ Some p → now n ≡ 
 
 -- ---- tests
 
-each_at : (n : ℕ) (test : ℕ → Bool) (j : ℕ) → each_below n test ≡ true → j < n → test j ≡ true
+pub each_at : (n : ℕ) (test : ℕ → Bool) (j : ℕ) → each_below n test ≡ true → j < n → test j ≡ true
 unfolding each_below
 each_at zero test j e lt = absurd (omega arith)
 each_at (suc n) test j e lt =

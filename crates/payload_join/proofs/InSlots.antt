@@ -1,15 +1,16 @@
 -- The packets in the slots of a ring.
 use Rattle.std.proofs.Common.{mod-lt, ◌≡◌, ℕ, zero, suc, ◌+◌, ◌-◌, ◌%◌, ◌<◌, ◌≤◌, List, Bool, true, false, [], ◌∷◌, ◌++◌, length, take, drop, get_or, set, Option, Some, None, refl, sym, ap, ◌∙◌, subst, arith, inl, inr, length-set, get_or-set_other, get_or-set_same}
-use Rattle.std.specs.Prelude.{replicate, nat_eq}
-use Rattle.std.proofs.lemmas.Bool.{cases_lt, cases_eq}
-use Rattle.std.proofs.lemmas.List.{take-append-le, drop-append-le, length-drop, get_or_past, set_past, length-replicate, get_or-replicate}
+use Rattle.std.specs.Prelude.{replicate, nat_eq, nat_le, nat_lt, is_some, if◌then◌else◌}
+use Rattle.std.proofs.lemmas.Bool.{cases_lt, cases_eq, lt-leb, le-ltb}
+use Rattle.std.proofs.lemmas.List.{take-append-le, drop-append-le, length-take-le, length-drop, get_or_past, set_past, length-replicate, get_or-replicate, get_or_default}
 use Rattle.h263_region.specs.Slots.{Slots, bytes_in, IsOut, count_of}
 use Rattle.payload_join.specs.declared.parts.Parts.{Parts}
+use Rattle.payload_join.specs.declared.took.Took.TheVariants as tooks
 use Rattle.payload_join.specs.Packet.{Packet, bytes_between, extra_of}
 use Rattle.payload_join.specs.Parts.{packet_of, IsInside}
-use Rattle.payload_join.specs.Places.{Packets, place_at, put_at, forgotten, left_at, passed, top_after, holding}
+use Rattle.payload_join.specs.Places.{Packets, place_at, put_at, forgotten, left_at, passed, top_after, holding, reach, judged}
 use Rattle.payload_join.specs.Ring.{in_slot, packets_of, room_of, IsHeld, IsPlaced, IsPlacedIf, IsRing}
-use Rattle.payload_join.proofs.Slots.{with_slot, out_inside}
+use Rattle.payload_join.proofs.Slots.{with_slot, out_inside, put_length}
 
 -- the ring as its parts say
 abbrev pub seen : Option ℕ → Slots → List ℕ → List (Option Parts) → Packets
@@ -102,32 +103,54 @@ placed_left parts None sequence placed = placed
 placed_left parts (Some top) sequence placed = placed_forgotten parts (top + 1) (passed top sequence) placed
 
 pub is_placed : (bytes : List ℕ) (p : Parts) → IsInside bytes p → IsPlaced p
-is_placed bytes p h = record { few = h.few; extra = h.extra; order = h.order; end = let a = h.end in let b = h.short in omega arith }
+is_placed bytes p h = record { few = h.few; bits = h.bits; extra = h.extra; order = h.order; end = let a = h.end in let b = h.short in omega arith }
+
+pub wrote_same : (region : Slots) (slots : List ℕ) (parts : List (Option Parts)) (k j : ℕ) (ws : List ℕ) → IsRing region slots parts → k < 65 → j < 65 → (j ≡ k → ⊥)
+    → bytes_in (with_slot region (get_or slots k 0) ws) (get_or slots j 0) ≡ bytes_in region (get_or slots j 0)
+wrote_same region slots parts k j ws r lk lj ne =
+    let c = r.count in
+    get_or-set_other region.bytes (get_or slots k 0) (get_or slots j 0) ws [] (λ e. ne (r.held.once j k (omega arith) (omega arith) e))
+
+pub wrote_here : (region : Slots) (slots : List ℕ) (parts : List (Option Parts)) (k : ℕ) (ws : List ℕ) → IsRing region slots parts → k < 65
+    → bytes_in (with_slot region (get_or slots k 0) ws) (get_or slots k 0) ≡ ws
+wrote_here region slots parts k ws r lk =
+    let c = r.count in let w = r.whole in
+    let o : get_or slots k 0 < length region.outs = out_inside region (get_or slots k 0) (r.held.out k (omega arith)) in
+    get_or-set_same region.bytes (get_or slots k 0) ws [] (omega arith)
 
 -- bytes were written into a slot
-pub ring_wrote : (region : Slots) (slots : List ℕ) (parts : List (Option Parts)) (slot : ℕ) (ws : List ℕ) → IsRing region slots parts → IsRing (with_slot region slot ws) slots parts
-ring_wrote region slots parts slot ws r =
+pub ring_wrote : (region : Slots) (slots : List ℕ) (parts : List (Option Parts)) (k : ℕ) (ws : List ℕ) → IsRing region slots parts → k < 65 → length ws ≡ 65535 → IsRing (with_slot region (get_or slots k 0) ws) slots parts
+ring_wrote region slots parts k ws r lk long =
     record {
       held = record { out = r.held.out; once = r.held.once; all = r.held.all };
       count = r.count;
       size = r.size;
-      whole = length-set region.bytes slot ws ∙ r.whole;
+      whole = length-set region.bytes (get_or slots k 0) ws ∙ r.whole;
+      sized = λ j lj. elim (cases_eq j k) [
+        | inl e ↦ ap (λ (i : ℕ). length {A = ℕ} (bytes_in (with_slot region (get_or slots k 0) ws) (get_or slots i 0))) e ∙ ap (length {A = ℕ}) (wrote_here region slots parts k ws r lk) ∙ long
+        | inr ne ↦ ap (length {A = ℕ}) (wrote_same region slots parts k j ws r lk lj ne) ∙ r.sized j lj
+      ];
       places = r.places;
       placed = r.placed;
     }
 
 -- a packet is held
-pub ring_held : (region : Slots) (slots : List ℕ) (parts : List (Option Parts)) (slot : ℕ) (ws : List ℕ) (top : Option ℕ) (sequence : ℕ) (p : Parts) → IsRing region slots parts → IsPlaced p
-    → IsRing (with_slot region slot ws) slots (set (left_at top parts sequence) (sequence % 64) (Some p))
-ring_held region slots parts slot ws top sequence p r is =
-    let w = ring_wrote region slots parts slot ws r in
+pub ring_held : (region : Slots) (slots : List ℕ) (parts : List (Option Parts)) (bytes : List ℕ) (top : Option ℕ) (sequence : ℕ) (p : Parts) → IsRing region slots parts → IsInside bytes p
+    → IsRing (with_slot region (get_or slots (sequence % 64) 0) (put_at (bytes_in region (get_or slots (sequence % 64) 0)) 0 bytes)) slots (set (left_at top parts sequence) (sequence % 64) (Some p))
+ring_held region slots parts bytes top sequence p r is =
+    let k : ℕ = sequence % 64 in
+    let old : List ℕ = bytes_in region (get_or slots k 0) in
+    let long : length old ≡ 65535 = r.sized k (omega arith) in
+    let short = is.short in
+    let w = ring_wrote region slots parts k (put_at old 0 bytes) r (omega arith) (put_length old 0 bytes (omega arith) ∙ long) in
     record {
       held = w.held;
       count = w.count;
       size = w.size;
       whole = w.whole;
+      sized = w.sized;
       places = length-set (left_at top parts sequence) (sequence % 64) (Some p) ∙ many_left top parts sequence ∙ r.places;
-      placed = λ j. placed_set (left_at top parts sequence) (sequence % 64) j (Some p) (placed_left parts top sequence r.placed) is;
+      placed = λ j. placed_set (left_at top parts sequence) (sequence % 64) j (Some p) (placed_left parts top sequence r.placed) (is_placed bytes p is);
     }
 
 -- ---- the packets then
@@ -152,19 +175,6 @@ packet_front bytes rest p h =
       extra = extra_of p.plen p.pebit (e i);
       coded = f i;
     }
-
-pub wrote_same : (region : Slots) (slots : List ℕ) (parts : List (Option Parts)) (k j : ℕ) (ws : List ℕ) → IsRing region slots parts → k < 65 → j < 65 → (j ≡ k → ⊥)
-    → bytes_in (with_slot region (get_or slots k 0) ws) (get_or slots j 0) ≡ bytes_in region (get_or slots j 0)
-wrote_same region slots parts k j ws r lk lj ne =
-    let c = r.count in
-    get_or-set_other region.bytes (get_or slots k 0) (get_or slots j 0) ws [] (λ e. ne (r.held.once j k (omega arith) (omega arith) e))
-
-pub wrote_here : (region : Slots) (slots : List ℕ) (parts : List (Option Parts)) (k : ℕ) (ws : List ℕ) → IsRing region slots parts → k < 65
-    → bytes_in (with_slot region (get_or slots k 0) ws) (get_or slots k 0) ≡ ws
-wrote_here region slots parts k ws r lk =
-    let c = r.count in let w = r.whole in
-    let o : get_or slots k 0 < length region.outs = out_inside region (get_or slots k 0) (r.held.out k (omega arith)) in
-    get_or-set_same region.bytes (get_or slots k 0) ws [] (omega arith)
 
 -- so the packet is held, and the others are forgotten
 pub held_is : (region : Slots) (slots : List ℕ) (parts : List (Option Parts)) (top : Option ℕ) (bytes : List ℕ) (sequence : ℕ) (p : Parts) → IsRing region slots parts → IsInside bytes p
@@ -197,3 +207,64 @@ pub none_placed : (n j : ℕ) → IsPlacedIf (get_or (replicate n None) j None)
 none_placed zero j = tt
 none_placed (suc n) zero = tt
 none_placed (suc n) (suc j) = none_placed n j
+
+-- the slot of a place
+pub slot_is : (region : Slots) (slots : List ℕ) (parts : List (Option Parts)) (number slot : ℕ) → IsRing region slots parts → slot ≡ get_or slots (number % 64) slot → slot ≡ get_or slots (number % 64) 0
+slot_is region slots parts number slot r e =
+    let c = r.count in
+    let less : number % 64 < 64 = omega arith in
+    e ∙ get_or_default slots (number % 64) slot 0 (omega arith)
+
+-- the packet of a number, by the parts that were read
+read_is : (region : Slots) (slots : List ℕ) (parts : List (Option Parts)) (number : ℕ) (o : Option Parts) → IsRing region slots parts → o ≡ get_or parts (number % 64) o
+    → place_at (packets_of region slots parts) number ≡ in_slot (bytes_in region (get_or slots (number % 64) 0)) o
+read_is region slots parts number o r e =
+    let k : ℕ = number % 64 in
+    let c = r.count in let pl = r.places in
+    let less : k < 64 = omega arith in
+    packet_is region slots parts k (omega arith) (omega arith)
+    ∙ ap (in_slot (bytes_in region (get_or slots k 0))) (get_or_default parts k None o (omega arith) ∙ sym e)
+
+pub seen_at : (region : Slots) (slots : List ℕ) (parts : List (Option Parts)) (number : ℕ) (r o : Option Parts) {top : Option ℕ} {packets : Packets} → IsRing region slots parts → r ≡ get_or parts (number % 64) r → r ≡ o
+    → seen top region slots parts ≡ packets → in_slot (bytes_in region (get_or slots (number % 64) 0)) o ≡ place_at packets.packets number
+seen_at region slots parts number r o ring e is view =
+    ap (in_slot (bytes_in region (get_or slots (number % 64) 0))) (sym is)
+    ∙ sym (read_is region slots parts number r ring e)
+    ∙ (λ i. place_at (view i).packets number)
+
+-- whether it is held
+pub some_seen : (region : Slots) (slots : List ℕ) (parts : List (Option Parts)) (number : ℕ) (o : Option Parts) → IsRing region slots parts → o ≡ get_or parts (number % 64) o
+    → is_some (place_at (packets_of region slots parts) number) ≡ is_some o
+some_seen region slots parts number o ring e = ap (λ (q : Option Packet). is_some q) (read_is region slots parts number o ring e) ∙ same (bytes_in region (get_or slots (number % 64) 0)) o
+  where
+    same : (bytes : List ℕ) (o : Option Parts) → is_some (in_slot bytes o) ≡ is_some o
+    same bytes None = refl
+    same bytes (Some p) = refl
+
+-- how many coded bytes it has: they lie in its slot
+pub coded_is : (region : Slots) (slots : List ℕ) (parts : List (Option Parts)) (number : ℕ) (r : Option Parts) (p : Parts) → IsRing region slots parts → r ≡ get_or parts (number % 64) r → r ≡ Some p
+    → p.to - p.coded_from ≡ length (bytes_between (bytes_in region (get_or slots (number % 64) 0)) p.coded_from p.to)
+coded_is region slots parts number r p ring e is =
+    let k : ℕ = number % 64 in
+    let pl = ring.places in
+    let bytes : List ℕ = bytes_in region (get_or slots k 0) in
+    let at : get_or parts k None ≡ Some p = get_or_default parts k None r (omega arith) ∙ sym e ∙ is in
+    let placed : IsPlaced p = subst IsPlacedIf at (ring.placed k) in
+    let order = placed.order in let end = placed.end in
+    let long : length bytes ≡ 65535 = ring.sized k (omega arith) in
+    let left : length (drop p.coded_from bytes) ≡ length bytes - p.coded_from = length-drop p.coded_from bytes in
+    sym (length-take-le (p.to - p.coded_from) (drop p.coded_from bytes) (omega arith))
+
+-- the answers that hang on what is held
+judged_upto : (packets : List (Option Packet)) (top sequence r : ℕ) → r ≡ reach top sequence → 32768 < r + 64 → r ≤ 32768
+    → judged (Some top) packets sequence ≡ (if is_some (place_at packets sequence) then tooks.Again else tooks.Held)
+judged_upto packets top sequence r e young upto =
+    let a : nat_le (reach top sequence + 64) 32768 ≡ false = lt-leb (reach top sequence + 64) 32768 (omega arith) in
+    let b : nat_lt 32768 (reach top sequence) ≡ false = le-ltb 32768 (reach top sequence) (omega arith) in
+    rw (a, b) refl
+
+pub judged_again : (packets : List (Option Packet)) (top sequence r : ℕ) → r ≡ reach top sequence → 32768 < r + 64 → r ≤ 32768 → is_some (place_at packets sequence) ≡ true → judged (Some top) packets sequence ≡ tooks.Again
+judged_again packets top sequence r e young upto held = judged_upto packets top sequence r e young upto ∙ (rw held refl)
+
+pub judged_fresh : (packets : List (Option Packet)) (top sequence r : ℕ) → r ≡ reach top sequence → 32768 < r + 64 → r ≤ 32768 → is_some (place_at packets sequence) ≡ false → judged (Some top) packets sequence ≡ tooks.Held
+judged_fresh packets top sequence r e young upto held = judged_upto packets top sequence r e young upto ∙ (rw held refl)

@@ -10,7 +10,11 @@ pub mod Splits
 pub mod Growing
 pub mod Orders
 pub mod AnyOrder
+pub mod Following
 pub mod Made
+pub mod Cuts
+pub mod Fronts
+pub mod Taken
 pub mod Slots
 pub mod InSlots
 pub mod Windows

@@ -59,20 +59,6 @@ same_unit at bt y k same next u =
 was_not : (before now : At) (n last y k : ℕ) → IsStep before now n last → last < y + 64 → y ≤ n → IsUnit now y k → is_made now n y k ≡ true → unit_at before y ≡ None
 was_not before now n last y k step inside le u made = at (unit_at before y) refl
   where
-    at : (o : Option ℕ) → unit_at before y ≡ o → o ≡ None
-    at None is = refl
-    at (Some j) is =
-        let v = unit_laws.only before y j is in
-        let grown : IsUnit now y j = same_unit before now y j (λ i less. sym (step.same (y + i) (omega arith) (λ e. in_it before n y j i step.fresh v less e))) (next v) v in
-        let e : j ≡ k = one_unit now y j k grown u in
-        absurd (apart (subst (λ (i : ℕ). IsUnit before y i) e v))
-      where
-        next : IsUnit before y j → marked_at before (y + j) ≡ false → before (y + (j + 1)) ≡ now (y + (j + 1))
-        next v m = sym (step.same (y + (j + 1)) (omega arith) (λ e. elim v.ends [
-          | inl marked ↦ let f : true ≡ false = sym marked ∙ m in absurd cc
-          | inr b ↦ held_is before n (y + (j + 1)) step.fresh (inl b.1) e
-        ]))
-
     apart : IsUnit before y k → ⊥
     apart v =
         elim (cases_lt (y + k) n) [
@@ -80,7 +66,7 @@ was_not before now n last y k step inside le u made = at (unit_at before y) refl
           | inl past ↦
               let a : nat_le n (y + k) ≡ false = lt-leb n (y + k) past in
               let same : now (y + k) ≡ before (y + k) = step.same (y + k) (omega arith) (λ e. absurd (omega arith)) in
-              let b : (nat_eq n (y + k + 1) && not (marked_at now (y + k))) ≡ true = (sym (rw a refl) ∙ made) in
+              let b : (nat_eq n (y + k + 1) && not (marked_at now (y + k))) ≡ true = (let e : is_made now n y k ≡ (nat_eq n (y + k + 1) && not (marked_at now (y + k))) = rw a refl in sym e ∙ made) in
               ended v same b
         ]
       where
@@ -95,6 +81,20 @@ was_not before now n last y k step inside le u made = at (unit_at before y) refl
                 | inr begun ↦ held_is before n (y + (k + 1)) step.fresh (inl begun.1) (omega arith)
               ]
             ]
+
+    at : (o : Option ℕ) → unit_at before y ≡ o → o ≡ None
+    at None is = refl
+    at (Some j) is =
+        let v = unit_laws.only before y j is in
+        let grown : IsUnit now y j = same_unit before now y j (λ i less. sym (step.same (y + i) (omega arith) (λ e. in_it before n y j i step.fresh v less e))) (next v) v in
+        let e : j ≡ k = one_unit now y j k grown u in
+        absurd (apart (subst (λ (i : ℕ). IsUnit before y i) e v))
+      where
+        next : IsUnit before y j → marked_at before (y + j) ≡ false → before (y + (j + 1)) ≡ now (y + (j + 1))
+        next v m = sym (step.same (y + (j + 1)) (omega arith) (λ e. elim v.ends [
+          | inl marked ↦ let f : true ≡ false = sym marked ∙ m in absurd cc
+          | inr b ↦ held_is before n (y + (j + 1)) step.fresh (inl b.1) e
+        ]))
 
 -- it was whole
 was : (before now : At) (n last y k : ℕ) → IsStep before now n last → last < y + 64 → k < 64 → IsUnit now y k → (n < y) ⊎ ((y + k < n) × ((n ≡ y + k + 1) → marked_at now (y + k) ≡ true)) → unit_at before y ≡ Some k

@@ -1,10 +1,11 @@
 -- Slots of a region that a ring holds: one is given back, and one is written.
 use Rattle.std.proofs.Common.{◌≡◌, ℕ, ◌+◌, ◌-◌, ◌<◌, ◌≤◌, List, Bool, true, false, true≢false, [], ◌∷◌, ◌++◌, length, take, drop, get_or, set, nat_eq, refl, sym, ap, ◌∙◌, subst, arith, inl, inr, length-append, length-set, get_or-set_other, get_or-set_same}
+use Rattle.std.specs.Prelude.{replicate}
 use Rattle.std.proofs.Math.ListN.{get_or-eq_default}
 use Rattle.std.proofs.lemmas.Bool.{cases_lt, eq-eqb}
-use Rattle.std.proofs.lemmas.List.{get_or_append_left, length-take-le, length-drop}
+use Rattle.std.proofs.lemmas.List.{get_or_append_left, length-take-le, length-drop, get_or-replicate, length-replicate}
 use Rattle.std.proofs.Math.Seq.{get_or-append_seam}
-use Rattle.h263_region.specs.Slots.{Slots, bytes_in, with_bytes, with_out, out_of, IsOut}
+use Rattle.h263_region.specs.Slots.{Slots, bytes_in, with_bytes, with_out, out_of, IsOut, zeros}
 use Rattle.payload_join.specs.Places.{put_at}
 use Rattle.payload_join.specs.Ring.{IsHeld}
 
@@ -41,3 +42,7 @@ put_length xs at ws le =
     let c : length (put_at xs at ws) ≡ length (take at xs) + length (ws ++ drop (at + length ws) xs) = length-append (take at xs) (ws ++ drop (at + length ws) xs) in
     let d : length (ws ++ drop (at + length ws) xs) ≡ length ws + length (drop (at + length ws) xs) = length-append ws (drop (at + length ws) xs) in
     omega arith
+
+-- the bytes of a slot of zeros
+pub zeros_sized : (count size slot : ℕ) → slot < count → length (bytes_in (zeros count size) slot) ≡ size
+zeros_sized count size slot lt = ap (length {A = ℕ}) (get_or-replicate count slot (replicate size 0) [] lt) ∙ length-replicate size 0

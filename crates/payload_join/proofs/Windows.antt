@@ -46,7 +46,8 @@ judged_some packets s sequence t x is shows w at place =
       | inr old ↦
           let a : nat_le (r + 64) 32768 ≡ true = le-leb (r + 64) 32768 old in
           let b : nat_le (x + 64) t ≡ true = le-leb (x + 64) t (omega arith) in
-          (rw a refl) ∙ sym (old_is s.top s.held x (old_some s t x is ∙ b))
+          let left : judged (Some (t % 65536)) packets sequence ≡ tooks.Old = rw a refl in
+          left ∙ sym (old_is s.top s.held x (old_some s t x is ∙ b))
       | inl young ↦
           let a : nat_le (r + 64) 32768 ≡ false = lt-leb (r + 64) 32768 young in
           let b : nat_le (x + 64) t ≡ false = lt-leb (x + 64) t (omega arith) in
@@ -55,11 +56,13 @@ judged_some packets s sequence t x is shows w at place =
             | inl above ↦
                 let c : nat_lt 32768 r ≡ true = lt-ltb 32768 r above in
                 let none : packet_at s.held x ≡ None = w.over t x is (omega arith) in
-                (rw (a, c) refl) ∙ sym (right ∙ (rw none refl))
+                let left : judged (Some (t % 65536)) packets sequence ≡ tooks.Held = rw (a, c) refl in
+                left ∙ sym (right ∙ (rw none refl))
             | inr upto ↦
                 let c : nat_lt 32768 r ≡ false = le-ltb 32768 r upto in
                 let same : place_at packets sequence ≡ packet_at s.held x = ap (λ (k : ℕ). get_or packets k None) (sym place) ∙ shows.packet t x is (omega arith) (omega arith) in
-                (rw (a, c) refl) ∙ ap (λ (o : Option Packet). cond (is_some o) tooks.Again tooks.Held) same ∙ sym right
+                let left : judged (Some (t % 65536)) packets sequence ≡ cond (is_some (place_at packets sequence)) tooks.Again tooks.Held = rw (a, c) refl in
+                left ∙ ap (λ (o : Option Packet). cond (is_some o) tooks.Again tooks.Held) same ∙ sym right
           ]
     ]
 
@@ -118,6 +121,10 @@ left_shows packets s sequence t x n is shows w long at le lt =
           forgotten_same packets (t % 65536 + 1) c n (λ j less e. absurd (omega arith)) ∙ shows.packet t n is upto (omega arith)
     ]
 
+pub upto_top : (o : Option ℕ) (x : ℕ) → x ≤ top_with o x
+upto_top None x = omega arith
+upto_top (Some t) x = omega arith
+
 -- one more packet is held
 record IsMore (top : Option ℕ) (packets : List (Option Packet)) (s : Joined) (sequence x : ℕ) : Type 0 where
   place : x % 64 ≡ sequence % 64
@@ -157,8 +164,12 @@ more_is top packets s sequence shows w small long young = at s.top refl
         last_is : (t x : ℕ) → 65536 ≤ t → x ≡ t - 32768 + reach (t % 65536) sequence → x % 65536 ≡ sequence → top_after (Some (t % 65536)) sequence ≡ max t x % 65536
         last_is t x big at same =
             elim (cases_lt 32768 (reach (t % 65536) sequence)) [
-              | inl above ↦ (rw (lt-ltb 32768 (reach (t % 65536) sequence) above) refl) ∙ sym same ∙ (let m : x ≡ max t x = omega arith in ap (λ (k : ℕ). k % 65536) m)
-              | inr upto ↦ (rw (le-ltb 32768 (reach (t % 65536) sequence) upto) refl) ∙ (let m : t ≡ max t x = omega arith in ap (λ (k : ℕ). k % 65536) m)
+              | inl above ↦
+                  let left : top_after (Some (t % 65536)) sequence ≡ sequence = rw (lt-ltb 32768 (reach (t % 65536) sequence) above) refl in
+                  left ∙ sym same ∙ (let m : x ≡ max t x = omega arith in ap (λ (k : ℕ). k % 65536) m)
+              | inr upto ↦
+                  let left : top_after (Some (t % 65536)) sequence ≡ t % 65536 = rw (le-ltb 32768 (reach (t % 65536) sequence) upto) refl in
+                  left ∙ (let m : t ≡ max t x = omega arith in ap (λ (k : ℕ). k % 65536) m)
             ]
 
     at : (o : Option ℕ) → s.top ≡ o → IsMore top packets s sequence (number_of s.top sequence)
@@ -188,7 +199,7 @@ holds top packets s sequence p shows w small long held =
     let many : length (left_at top packets sequence) ≡ length packets = many_left top packets sequence in
     let k : ℕ = sequence % 64 in
     let place_is = m.place in
-    let x_upto : x ≤ last = upto s.top x in
+    let x_upto : x ≤ last = upto_top s.top x in
     let young = m.young in
     record {
       top_is = m.last;
@@ -208,10 +219,6 @@ holds top packets s sequence p shows w small long held =
           ];
       nothing = λ e. absurd (no_some last (sym e));
     }
-  where
-    upto : (o : Option ℕ) (x : ℕ) → x ≤ top_with o x
-    upto None x = omega arith
-    upto (Some t) x = omega arith
 
 -- ---- whatever was taken
 
@@ -233,15 +240,11 @@ window_with s sequence p w =
       under = λ t n e le. let same : last ≡ t = some_same last t e in gone last n (one_held x p ∷ s.held) (omega (arith, same));
       over = λ t n e lt.
           let same : last ≡ t = some_same last t e in
-          let a = upto s.top x in
+          let a = upto_top s.top x in
           kept_at last n (one_held x p ∷ s.held) (omega (arith, same)) ∙ (rw (ne_eqb x n (λ f. absurd (omega (arith, same, f)))) (none_over n (omega (arith, same))));
       nothing = λ e. absurd (no_some last (sym e));
     }
   where
-    upto : (o : Option ℕ) (x : ℕ) → x ≤ top_with o x
-    upto None x = omega arith
-    upto (Some t) x = omega arith
-
     none_over : (n : ℕ) → top_with s.top (number_of s.top sequence) < n → packet_at s.held n ≡ None
     none_over n lt = at s.top refl
       where
@@ -264,3 +267,35 @@ pub is_window : (past : List (List ℕ)) → IsWindow (joined_by past)
 unfolding joined_by packet_at
 is_window [] = record { big = λ t e. absurd (no_some t e); under = λ t n e le. refl; over = λ t n e lt. refl; nothing = λ e n. refl }
 is_window (bytes ∷ past) = window_behind (joined_by past) (packet_in bytes) (is_window past)
+
+-- ---- a packet that is held, as a whole
+
+pub record IsHolding (top : Option ℕ) (packets : List (Option Packet)) (s : Joined) (sequence x : ℕ) (p : Packet) : Type 0 where
+  pub big : 65536 ≤ top_with s.top x
+  pub last : top_after top sequence ≡ top_with s.top x % 65536
+  pub rest : x % 65536 ≡ sequence
+  pub upto : x ≤ top_with s.top x
+  pub young : top_with s.top x < x + 64
+  pub window : IsWindow (with_packet s x p)
+  pub shows : Shows (Some (top_after top sequence)) (set (left_at top packets sequence) (sequence % 64) (Some p)) (with_packet s x p)
+
+rest_is : (s : Joined) (sequence : ℕ) → IsWindow s → sequence < 65536 → number_of s.top sequence % 65536 ≡ sequence
+rest_is s sequence w small = at s.top refl
+  where
+    at : (o : Option ℕ) → s.top ≡ o → number_of s.top sequence % 65536 ≡ sequence
+    at None is = ap (λ (o : Option ℕ). number_of o sequence % 65536) is ∙ omega arith
+    at (Some t) is = let big = w.big t is in ap (λ (o : Option ℕ). number_of o sequence % 65536) is ∙ omega arith
+
+pub holding_is : (top : Option ℕ) (packets : List (Option Packet)) (s : Joined) (sequence : ℕ) (p : Packet) → Shows top packets s → IsWindow s → sequence < 65536 → length packets ≡ 64
+    → took_as s (number_of s.top sequence) ≡ tooks.Held → IsHolding top packets s sequence (number_of s.top sequence) p
+holding_is top packets s sequence p shows w small long held =
+    let m = more_is top packets s sequence shows w small long (young_of s (number_of s.top sequence) held) in
+    record {
+      big = big_with s sequence w;
+      last = some_same (top_after top sequence) (top_with s.top (number_of s.top sequence) % 65536) m.last;
+      rest = rest_is s sequence w small;
+      upto = upto_top s.top (number_of s.top sequence);
+      young = m.young;
+      window = window_with s sequence p w;
+      shows = holds top packets s sequence p shows w small long held;
+    }

@@ -8,4 +8,5 @@ pub mod Parts
 pub mod Places
 pub mod Ring
 pub mod Units
+pub mod Fronts
 pub mod Joining

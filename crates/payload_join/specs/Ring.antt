@@ -8,6 +8,7 @@ use Rattle.h263_region.specs.Slots.{Slots, bytes_in, out_of, count_of, IsOut}
 use Rattle.payload_join.specs.declared.parts.Parts.{Parts}
 use Rattle.payload_join.specs.Packet.{Packet}
 use Rattle.payload_join.specs.Parts.{packet_of}
+use Rattle.payload_join.specs.Outgoing.{no_extra}
 use Rattle.payload_join.specs.Places.{Packets}
 
 -- the packet in a slot
@@ -24,6 +25,24 @@ packets_of region (slot ∷ slots) (p ∷ parts) = in_slot (bytes_in region slot
 abbrev pub room_of : Slots → List ℕ → List ℕ
 room_of region slots = bytes_in region (slice_index slots 64)
 
+-- what was read of a packet
+pub record Describes (q : Parts) (p : Packet) : Type 0 where
+  pub sequence : p.sequence ≡ q.sequence
+  pub timestamp : p.timestamp ≡ q.timestamp
+  pub plen : length p.extra.bytes ≡ q.plen
+  pub pebit : 0 < q.plen → p.extra.pebit ≡ q.pebit
+  pub none : q.plen ≡ 0 → p.extra ≡ no_extra
+  pub few : q.plen < 64
+  pub bits : q.pebit < 8
+
+abbrev pub IsSeen : Option Parts → Option Packet → Type 0
+IsSeen None o = o ≡ None
+IsSeen (Some q) o = (p : Packet) × (o ≡ Some p) × Describes q p
+
+abbrev pub extra_one : Option Packet → List ℕ
+extra_one None = []
+extra_one (Some p) = p.extra.bytes
+
 -- these are all slots that are out, each once
 pub record IsHeld (region : Slots) (slots : List ℕ) : Type 0 where
   pub out : (k : ℕ) → k < length slots → IsOut region (slice_index slots k)
@@ -33,6 +52,7 @@ pub record IsHeld (region : Slots) (slots : List ℕ) : Type 0 where
 -- the parts of a packet lie in a slot
 pub record IsPlaced (p : Parts) : Type 0 where
   pub few : p.plen < 64
+  pub bits : p.pebit < 8
   pub extra : p.coded_from ≡ p.extra_from + p.plen
   pub order : p.coded_from ≤ p.to
   pub end : p.to ≤ 65535
@@ -47,6 +67,7 @@ pub record IsRing (region : Slots) (slots : List ℕ) (parts : List (Option Part
   pub count : length slots ≡ 65
   pub size : region.size ≡ 65535
   pub whole : length region.bytes ≡ count_of region
+  pub sized : (k : ℕ) → k < 65 → length (bytes_in region (slice_index slots k)) ≡ 65535
   pub places : length parts ≡ 64
   pub placed : (k : ℕ) → IsPlacedIf (slice_index_or parts k None)
 

@@ -1,5 +1,5 @@
 -- Whole units among the packets by their places, and what goes out of them.
-use Rattle.std.specs.Prelude.{◌≡◌, ℕ, ◌+◌, ◌^◌, ◌<◌, ◌≤◌, nat_le, nat_eq, ◌&&◌, ◌||◌, not, Bool, true, List, [], ◌++◌, length, Option, Some, None, is_some, if◌then◌else◌}
+use Rattle.std.specs.Prelude.{◌≡◌, ℕ, ◌⊎◌, ◌+◌, ◌-◌, ◌%◌, ◌^◌, ◌<◌, ◌≤◌, nat_le, nat_eq, ◌&&◌, ◌||◌, not, Bool, true, List, [], ◌++◌, length, Option, Some, None, is_some, if◌then◌else◌}
 use Rattle.h263_types.specs.declared.format.Format.{Format}
 use Rattle.payload_join.specs.declared.units.Span.{Span}
 use Rattle.payload_join.specs.Packet.{Packet}
@@ -38,3 +38,14 @@ pub record IsWhole (packets : List (Option Packet)) (u : Span) : Type 0 where
 abbrev pub IsWholeIf : List (Option Packet) → Option Span → Type 0
 IsWholeIf packets None = Unit {0}
 IsWholeIf packets (Some u) = IsWhole packets u
+
+-- the numbers that the code counts by: the last 16 bits of the greatest one, and 65,536
+abbrev pub number_by : ℕ → ℕ → ℕ
+number_by last sequence = last - (last - sequence) % 65536
+
+-- what goes out of the unit that the packets before packet n are in, if there is one
+abbrev pub IsFirst : Format → List (Option Packet) → ℕ → ℕ → Option Span → Type 0
+IsFirst format packets last n u =
+    ((x : ℕ) × IsBefore packets (last - 63) n x
+    × (unit_left format packets u ≡ out_made format (window packets last) n x (unit_at (window packets last) x)))
+    ⊎ (((x : ℕ) → IsBefore packets (last - 63) n x → ⊥) × (unit_left format packets u ≡ []))

@@ -1,10 +1,10 @@
 //! What stands in front of the coded bytes of an outgoing packet.
-ghost use Rattle.std.specs.Prelude.{◌≡◌, ℕ, ◌+◌, ◌-◌, ◌*◌, ◌/◌, ◌^◌, ◌<◌, ◌≤◌, ◌++◌, length, take, OnSome, IfSome};
-ghost use Rattle.h263_bits.specs.Written.{to_byte};
+ghost use Rattle.std.specs.Prelude.{◌≡◌, ℕ, ◌+◌, ◌-◌, ◌*◌, ◌/◌, ◌^◌, ◌<◌, ◌≤◌, ◌++◌, length, take, IfSome};
+ghost use Rattle.h263_bits.specs.Bits.{bits_of, fields};
+ghost use Rattle.h263_payload.specs.Written.{opening_fields};
 ghost use Rattle.payload_join.specs.Packet.{Extra};
 ghost use Rattle.payload_join.specs.Outgoing.{padded_bytes};
-ghost use Rattle.payload_join.specs.Giving.{front_bytes, front_by, header_end};
-ghost use Rattle.payload_join.specs.declared.front.Front.{Front};
+ghost use Rattle.payload_join.specs.Fronts.{front_bytes, front_by, header_end};
 
 use h263_bits::{BitReader, laws as h263_bits_laws};
 use h263_types::Format;
@@ -19,7 +19,7 @@ pub(crate) struct Front {
 
 // The front with an extra header, which has no bytes where there is none (RFC 3550, 5.1, RFC 4629,
 // 5.1).
-pub(crate) fn front(sequence: u16, timestamp: u32, extra: &[u8], pebit: u32) -> Front
+pub(crate) fn front_with(sequence: u16, timestamp: u32, extra: &[u8], pebit: u32) -> Front
     requires few { length extra.now < 64 }
     requires pebit { pebit < 8 }
     ensures bytes { front_bytes result
@@ -67,6 +67,14 @@ pub(crate) fn find_end(coded: &[u8], format: Format) -> Option<u32>
     }
 }
 
+// A byte whose last bits are cleared.
+fn padded(byte: u8, padding: u32) -> u8
+    requires { padding < 8 }
+    ensures { result ≡ byte / 2 ^ padding * 2 ^ padding }
+{
+    byte >> padding << padding
+}
+
 // The front with the first so many bits of the coded bytes, padded with zero bits.
 pub(crate) fn padded_front(sequence: u16, timestamp: u32, coded: &[u8], bits: u32) -> Front
     requires short { bits ≤ 504 }
@@ -77,11 +85,11 @@ pub(crate) fn padded_front(sequence: u16, timestamp: u32, coded: &[u8], bits: u3
 {
     let whole = (bits / 8) as usize;
     let padding = (8 - bits % 8) % 8;
+    if padding == 0 {
+        return front_with(sequence, timestamp, &coded[..whole], 0);
+    }
     let mut extra = [0; 63];
     extra[..whole].copy_from_slice(&coded[..whole]);
-    if padding == 0 {
-        return front(sequence, timestamp, &extra[..whole], 0);
-    }
-    extra[whole] = coded[whole] >> padding << padding;
-    front(sequence, timestamp, &extra[..whole + 1], padding)
+    extra[whole] = padded(coded[whole], padding);
+    front_with(sequence, timestamp, &extra[..whole + 1], padding)
 }

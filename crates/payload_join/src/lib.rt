@@ -1,9 +1,11 @@
 //! Packets of one slice from packets that follow on others, or that have several slices (RFC 4629).
 #![tactic(auto)]
 
+mod front;
 pub mod laws;
 mod parts;
 mod ring;
+mod split;
 mod took;
 mod units;
 

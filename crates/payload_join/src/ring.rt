@@ -1,6 +1,6 @@
 //! The packets that are held, each at the place of its number, and the room of an outgoing packet,
 //! all in one region of memory.
-ghost use Rattle.std.specs.Prelude.{◌≡◌, ℕ, ◌+◌, ◌-◌, ◌%◌, ◌<◌, ◌≤◌, [], List, Bool, length, vec_len, slice_set, slice_index, IfOk};
+ghost use Rattle.std.specs.Prelude.{◌≡◌, ◌≢◌, ℕ, ◌+◌, ◌-◌, ◌%◌, ◌^◌, ◌<◌, ◌≤◌, [], List, Bool, length, vec_len, slice_set, slice_index, Some, IfOk};
 ghost use Rattle.std.specs.Vec.{vec_capacity};
 ghost use Rattle.h263_region.specs.Slots.{count_of, out_of, bytes_in, IsOut};
 ghost use Rattle.payload_join.specs.Unit.{begins_one, follows_one, is_marked};
@@ -8,7 +8,7 @@ ghost use Rattle.payload_join.specs.Outgoing.{coded_one};
 ghost use Rattle.payload_join.specs.Packet.{bytes_between};
 ghost use Rattle.payload_join.specs.Parts.{IsInside, packet_of};
 ghost use Rattle.payload_join.specs.Places.{place_at, put_at, reach, judged, forgotten, passed, top_after, left_at, holding};
-ghost use Rattle.payload_join.specs.Ring.{IsHeld, IsEmptyRing};
+ghost use Rattle.payload_join.specs.Ring.{IsHeld, IsEmptyRing, IsSeen, extra_one};
 
 use crate::parts::Parts;
 use crate::took::Took;
@@ -142,6 +142,72 @@ impl PacketRing {
         }
     }
 
+    // What was read of it.
+    pub(crate) fn seen(&self, number: u32) -> Option<Parts>
+        ensures { IsSeen result (place_at self.now.packets number) }
+    {
+        self.parts[(number % 64) as usize]
+    }
+
+    // Its extra picture header.
+    pub(crate) fn extra(&self, number: u32) -> &[u8]
+        ensures { result.now ≡ extra_one (place_at self.now.packets number) }
+    {
+        let place = (number % 64) as usize;
+        match self.parts[place] {
+            Some(parts) => {
+                let bytes = self.region.bytes(&self.slots[place]);
+                &bytes[parts.extra_from as usize..parts.coded_from as usize]
+            }
+            None => &[],
+        }
+    }
+
+    // The greatest number, by its last 16 bits.
+    pub(crate) fn last(&self) -> u32
+        ensures exact { (top : ℕ) → self.now.top ≡ Some top → result ≡ top + 65536 }
+        ensures least { 65536 ≤ result }
+        ensures most { result < 131072 }
+    {
+        match self.top {
+            Some(top) => top as u32 + 65_536,
+            None => 65_536,
+        }
+    }
+
+    // The room.
+    pub(crate) fn room(&self) -> &[u8]
+        ensures value { result.now ≡ self.now.room }
+        ensures size { length result.now ≡ 65535 }
+    {
+        self.region.bytes(&self.slots[64])
+    }
+
+    // Writes bytes into the room.
+    pub(crate) fn write(&mut self, at: usize, bytes: &[u8])
+        requires { at + length bytes.now ≤ 65535 }
+        ensures { self.new ≡ record self.old { room = put_at self.old.room at bytes.now } }
+    {
+        put(&mut self.region, &self.slots[64], at, bytes);
+    }
+
+    // Copies the coded bytes of the packet of a number into the room, and answers where they end.
+    pub(crate) fn copy_coded(&mut self, number: u32, at: usize) -> usize
+        requires { at + length (coded_one (place_at self.old.packets number)) ≤ 65535 }
+        ensures room { let coded = coded_one (place_at self.old.packets number) in
+            self.new ≡ record self.old { room = put_at self.old.room at coded } }
+        ensures end { result ≡ at + length (coded_one (place_at self.old.packets number)) }
+    {
+        let place = (number % 64) as usize;
+        let Some(parts) = self.parts[place] else {
+            return at;
+        };
+        let from = parts.coded_from as usize;
+        let to = parts.to as usize;
+        copy(&mut self.region, &self.slots[place], from, to, &self.slots[64], at);
+        at + (to - from)
+    }
+
     // Gives all slots and the memory back.
     pub(crate) fn finish(self) {
         let PacketRing {
@@ -216,6 +282,23 @@ fn put(region: &mut Region, slot: &Slot, at: usize, bytes: &[u8])
 {
     let room = region.bytes_mut(slot);
     room[at..at + bytes.len()].copy_from_slice(bytes);
+}
+
+// Copies a part of a slot into another one.
+fn copy(region: &mut Region, read: &Slot, from: usize, to: usize, write: &Slot, at: usize)
+    requires read { IsOut region.old read.now }
+    requires write { IsOut region.old write.now }
+    requires differ { read.now ≢ write.now }
+    requires order { from ≤ to }
+    requires inside { to ≤ region.old.size }
+    requires room { at + (to - from) ≤ region.old.size }
+    ensures { region.new ≡ record region.old {
+      bytes = slice_set region.old.bytes write.now
+          (put_at (bytes_in region.old write.now) at (bytes_between (bytes_in region.old read.now) from to))
+    } }
+{
+    let (source, room) = region.two(read, write);
+    room[at..at + (to - from)].copy_from_slice(&source[from..to]);
 }
 
 // Claims all slots of a region of which none is out.

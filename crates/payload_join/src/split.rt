@@ -1,14 +1,21 @@
 //! Where coded bytes are cut into parts.
-ghost use Rattle.std.specs.Prelude.{◌≡◌, ◌+◌, ◌<◌, [], ◌∷◌, length, take, drop, slice_index, IsNone, IfSome};
-ghost use Rattle.payload_join.specs.Split.{starts, split_of};
+ghost use Rattle.std.specs.Prelude.{◌≡◌, ◌+◌, ◌<◌, [], ◌∷◌, length, take, drop, IsNone, IfSome};
+ghost use Rattle.payload_join.specs.Split.{is_cut, split_of, starts};
 
-// Whether two bytes of zeros and a byte of at least 128 stand at a place.
+// Whether these are two bytes of zeros and a byte of at least 128.
+fn are_start(a: u8, b: u8, c: u8) -> bool
+    ensures { result ≡ starts a b c }
+{
+    a == 0 && b == 0 && c >= 128
+}
+
+// Whether they stand at a place.
+#[tactic(auto, using(crate::proofs::Cuts::cut_is))]
 fn is_cut(bytes: &[u8], at: usize) -> bool
     requires { at + 2 < length bytes.now }
-    ensures { result ≡ starts (slice_index bytes.now at) (slice_index bytes.now (at + 1))
-        (slice_index bytes.now (at + 2)) }
+    ensures { result ≡ is_cut (drop at bytes.now) }
 {
-    bytes[at] == 0 && bytes[at + 1] == 0 && bytes[at + 2] >= 128
+    are_start(bytes[at], bytes[at + 1], bytes[at + 2])
 }
 
 // Where the first part ends, if there are several: the next one begins two bytes after that.

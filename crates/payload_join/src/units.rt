@@ -1,7 +1,7 @@
 //! Whole units among the packets that are held, from the newest packet outwards.
-ghost use Rattle.std.specs.Prelude.{◌≡◌, ℕ, ◌+◌, ◌^◌, ◌*◌, ◌<◌, ◌≤◌, length, true, IsNone, IfSome};
+ghost use Rattle.std.specs.Prelude.{◌≡◌, ℕ, ◌+◌, ◌^◌, ◌*◌, ◌<◌, ◌≤◌, length, true, not, nat_le, nat_eq, ◌||◌, ◌&&◌, IsNone, IfSome};
 ghost use Rattle.h263_types.specs.declared.format.Format.{Format};
-ghost use Rattle.payload_join.specs.Unit.{begins_one, unit_at};
+ghost use Rattle.payload_join.specs.Unit.{begins_one, is_marked, unit_at};
 ghost use Rattle.payload_join.specs.Outgoing.{coded_from};
 ghost use Rattle.payload_join.specs.Places.{place_at, window};
 ghost use Rattle.payload_join.specs.Units.{IsBefore, IsWholeIf, out_made, unit_left};
@@ -44,12 +44,16 @@ pub(crate) fn unit_from(ring: &PacketRing, first: u32, last: u32) -> Option<u32>
     requires few { last < first + 64 }
     requires fits { last < 2 ^ 31 }
     ensures exact { result ≡ unit_at (window ring.now.packets last) first }
+    ensures upto { IfSome result (λ follow. first + follow ≤ last) }
 {
     if !ring.begins(first) {
         return None;
     }
     'next: for follow in 0..last - first {
-        if ring.is_marked(first + follow) || ring.begins(first + follow + 1) {
+        if ring.is_marked(first + follow) {
+            return Some(follow);
+        }
+        if ring.begins(first + follow + 1) {
             return Some(follow);
         }
         if !ring.follows(first + follow + 1) {
@@ -75,6 +79,22 @@ fn coded_len(ring: &PacketRing, number: u32, count: u32) -> u32
     len
 }
 
+// Whether the packet of a number makes a unit whole whose last packet is that of `end`: it is in
+// it, or begins the next one where there is no marker.
+fn makes(ring: &PacketRing, number: u32, end: u32) -> bool
+    requires { end < 2 ^ 31 }
+    ensures { result ≡ (nat_le number end
+        || (nat_eq number (end + 1) && not (is_marked (place_at ring.now.packets end)))) }
+{
+    if number <= end {
+        return true;
+    }
+    if number != end + 1 {
+        return false;
+    }
+    !ring.is_marked(end)
+}
+
 // The unit that a packet begins, where it is whole, the packet of a number made it so, and it is
 // short enough to be given.
 pub(crate) fn made_by(ring: &PacketRing, number: u32, first: u32, last: u32) -> Option<Span>
@@ -89,7 +109,7 @@ pub(crate) fn made_by(ring: &PacketRing, number: u32, first: u32, last: u32) -> 
 {
     let follow = unit_from(ring, first, last)?;
     let end = first + follow;
-    if number > end && (number > end + 1 || ring.is_marked(end)) {
+    if !makes(ring, number, end) {
         return None;
     }
     if coded_len(ring, first, follow + 1) > MOST {
