@@ -169,7 +169,7 @@ at_grows before now x k grows e =
     let u = unit_grows before now x k grows (unit_is before x k l.0) in
     least_of 64 0 k (is_unit now x) (unit_of now x k u) (λ j t. one_unit now x j k (unit_is now x j t) u) (omega arith) (omega (arith, l.2))
 
-coded_same : (before now : At) (x count : ℕ) → ((j : ℕ) → j < count → now (x + j) ≡ before (x + j)) → coded_from now x count ≡ coded_from before x count
+pub coded_same : (before now : At) (x count : ℕ) → ((j : ℕ) → j < count → now (x + j) ≡ before (x + j)) → coded_from now x count ≡ coded_from before x count
 unfolding coded_from
 coded_same before now x zero same = refl
 coded_same before now x (suc count) same =

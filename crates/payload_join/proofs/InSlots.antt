@@ -1,16 +1,16 @@
 -- The packets in the slots of a ring.
 use Rattle.std.proofs.Common.{mod-lt, ◌≡◌, ℕ, zero, suc, ◌+◌, ◌-◌, ◌%◌, ◌<◌, ◌≤◌, List, Bool, true, false, [], ◌∷◌, ◌++◌, length, take, drop, get_or, set, Option, Some, None, refl, sym, ap, ◌∙◌, subst, arith, inl, inr, length-set, get_or-set_other, get_or-set_same}
 use Rattle.std.specs.Prelude.{replicate, nat_eq, nat_le, nat_lt, is_some, if◌then◌else◌}
-use Rattle.std.proofs.lemmas.Bool.{cases_lt, cases_eq, lt-leb, le-ltb}
+use Rattle.std.proofs.lemmas.Bool.{cases_lt, cases_eq, lt-leb, le-ltb, lt-ltb}
 use Rattle.std.proofs.lemmas.List.{take-append-le, drop-append-le, length-take-le, length-drop, get_or_past, set_past, length-replicate, get_or-replicate, get_or_default}
-use Rattle.h263_region.specs.Slots.{Slots, bytes_in, IsOut, count_of}
+use Rattle.h263_region.specs.Slots.{Slots, bytes_in, IsOut, count_of, zeros}
 use Rattle.payload_join.specs.declared.parts.Parts.{Parts}
 use Rattle.payload_join.specs.declared.took.Took.TheVariants as tooks
 use Rattle.payload_join.specs.Packet.{Packet, bytes_between, extra_of}
 use Rattle.payload_join.specs.Parts.{packet_of, IsInside}
 use Rattle.payload_join.specs.Places.{Packets, place_at, put_at, forgotten, left_at, passed, top_after, holding, reach, judged}
-use Rattle.payload_join.specs.Ring.{in_slot, packets_of, room_of, IsHeld, IsPlaced, IsPlacedIf, IsRing}
-use Rattle.payload_join.proofs.Slots.{with_slot, out_inside, put_length}
+use Rattle.payload_join.specs.Ring.{in_slot, packets_of, room_of, IsHeld, IsPlaced, IsPlacedIf, IsRing, Describes, IsSeen}
+use Rattle.payload_join.proofs.Slots.{with_slot, out_inside, put_length, zeros_sized}
 
 -- the ring as its parts say
 abbrev pub seen : Option ℕ → Slots → List ℕ → List (Option Parts) → Packets
@@ -241,19 +241,69 @@ some_seen region slots parts number o ring e = ap (λ (q : Option Packet). is_so
     same bytes None = refl
     same bytes (Some p) = refl
 
--- how many coded bytes it has: they lie in its slot
+-- what was read of it lies in its slot
+pub placed_at : (region : Slots) (slots : List ℕ) (parts : List (Option Parts)) (number : ℕ) (r : Option Parts) (p : Parts) → IsRing region slots parts → r ≡ get_or parts (number % 64) r → r ≡ Some p → IsPlaced p
+placed_at region slots parts number r p ring e is =
+    let k : ℕ = number % 64 in
+    let pl = ring.places in
+    let at : get_or parts k None ≡ Some p = get_or_default parts k None r (omega arith) ∙ sym e ∙ is in
+    subst IsPlacedIf at (ring.placed k)
+
+-- how many bytes lie between two places of a slot
+between_len : (bytes : List ℕ) (from to : ℕ) → length bytes ≡ 65535 → from ≤ to → to ≤ 65535 → to - from ≡ length (bytes_between bytes from to)
+between_len bytes from to long order end =
+    let left : length (drop from bytes) ≡ length bytes - from = length-drop from bytes in
+    sym (length-take-le (to - from) (drop from bytes) (omega arith))
+
 pub coded_is : (region : Slots) (slots : List ℕ) (parts : List (Option Parts)) (number : ℕ) (r : Option Parts) (p : Parts) → IsRing region slots parts → r ≡ get_or parts (number % 64) r → r ≡ Some p
     → p.to - p.coded_from ≡ length (bytes_between (bytes_in region (get_or slots (number % 64) 0)) p.coded_from p.to)
 coded_is region slots parts number r p ring e is =
-    let k : ℕ = number % 64 in
-    let pl = ring.places in
-    let bytes : List ℕ = bytes_in region (get_or slots k 0) in
-    let at : get_or parts k None ≡ Some p = get_or_default parts k None r (omega arith) ∙ sym e ∙ is in
-    let placed : IsPlaced p = subst IsPlacedIf at (ring.placed k) in
-    let order = placed.order in let end = placed.end in
-    let long : length bytes ≡ 65535 = ring.sized k (omega arith) in
-    let left : length (drop p.coded_from bytes) ≡ length bytes - p.coded_from = length-drop p.coded_from bytes in
-    sym (length-take-le (p.to - p.coded_from) (drop p.coded_from bytes) (omega arith))
+    let placed = placed_at region slots parts number r p ring e is in
+    between_len (bytes_in region (get_or slots (number % 64) 0)) p.coded_from p.to (ring.sized (number % 64) (omega arith)) placed.order placed.end
+
+pub described : (region : Slots) (slots : List ℕ) (parts : List (Option Parts)) (number : ℕ) (r : Option Parts) (p : Parts) → IsRing region slots parts → r ≡ get_or parts (number % 64) r → r ≡ Some p
+    → Describes p (packet_of (bytes_in region (get_or slots (number % 64) 0)) p)
+described region slots parts number r p ring e is =
+    let placed = placed_at region slots parts number r p ring e is in
+    let extra = placed.extra in let order = placed.order in let end = placed.end in
+    record {
+      sequence = refl;
+      timestamp = refl;
+      plen = sym (between_len (bytes_in region (get_or slots (number % 64) 0)) p.extra_from p.coded_from (ring.sized (number % 64) (omega arith)) (omega arith) (omega arith)) ∙ omega arith;
+      pebit = λ some. rw (lt-ltb 0 p.plen some) refl;
+      few = placed.few;
+      bits = placed.bits;
+    }
+
+pub seen_is : (region : Slots) (slots : List ℕ) (parts : List (Option Parts)) (number : ℕ) (r : Option Parts) (top : Option ℕ) (packets : Packets) → IsRing region slots parts → r ≡ get_or parts (number % 64) r → seen top region slots parts ≡ packets → IsSeen r (place_at packets.packets number)
+seen_is region slots parts number r top packets ring e view = at r refl
+  where
+    at : (o : Option Parts) → r ≡ o → IsSeen o (place_at packets.packets number)
+    at None is = sym (seen_at region slots parts number r None ring e is view)
+    at (Some q) is = (packet_of (bytes_in region (get_or slots (number % 64) 0)) q, sym (seen_at region slots parts number r (Some q) ring e is view), described region slots parts number r q ring e is)
+
+-- ---- the room
+
+-- its slot
+pub last_is : (region : Slots) (slots : List ℕ) (parts : List (Option Parts)) (slot : ℕ) → IsRing region slots parts → slot ≡ get_or slots 64 slot → slot ≡ get_or slots 64 0
+last_is region slots parts slot r e = let c = r.count in e ∙ get_or_default slots 64 slot 0 (omega arith)
+
+pub room_ring : (region : Slots) (slots : List ℕ) (parts : List (Option Parts)) (at : ℕ) (ws : List ℕ) → IsRing region slots parts → at + length ws ≤ 65535
+    → IsRing (with_slot region (get_or slots 64 0) (put_at (bytes_in region (get_or slots 64 0)) at ws)) slots parts
+room_ring region slots parts at ws r le =
+    let old : List ℕ = bytes_in region (get_or slots 64 0) in
+    let long : length old ≡ 65535 = r.sized 64 (omega arith) in
+    ring_wrote region slots parts 64 (put_at old at ws) r (omega arith) (put_length old at ws (omega arith) ∙ long)
+
+pub room_seen : (top : Option ℕ) (region : Slots) (slots : List ℕ) (parts : List (Option Parts)) (at : ℕ) (ws : List ℕ) → IsRing region slots parts
+    → seen top (with_slot region (get_or slots 64 0) (put_at (bytes_in region (get_or slots 64 0)) at ws)) slots parts
+    ≡ record (seen top region slots parts) { room = put_at (room_of region slots) at ws }
+room_seen top region slots parts at ws r =
+    let pl = r.places in
+    let new : List ℕ = put_at (bytes_in region (get_or slots 64 0)) at ws in
+    let packets = packets_same region (with_slot region (get_or slots 64 0) new) slots parts (λ j lt. wrote_same region slots parts 64 j new r (omega arith) (omega arith) (λ e. absurd (omega arith))) in
+    let room = wrote_here region slots parts 64 new r (omega arith) in
+    λ i. record { top = top; packets = packets i; room = room i }
 
 -- the answers that hang on what is held
 judged_upto : (packets : List (Option Packet)) (top sequence r : ℕ) → r ≡ reach top sequence → 32768 < r + 64 → r ≤ 32768
@@ -268,3 +318,31 @@ judged_again packets top sequence r e young upto held = judged_upto packets top 
 
 pub judged_fresh : (packets : List (Option Packet)) (top sequence r : ℕ) → r ≡ reach top sequence → 32768 < r + 64 → r ≤ 32768 → is_some (place_at packets sequence) ≡ false → judged (Some top) packets sequence ≡ tooks.Held
 judged_fresh packets top sequence r e young upto held = judged_upto packets top sequence r e young upto ∙ (rw held refl)
+
+-- ---- a region whose slots were all claimed
+
+-- over variables, so that nothing is computed of so many zeros
+claimed : (n m : ℕ) (before region : Slots) (slots : List ℕ) → before ≡ zeros n m → IsHeld region slots → length slots ≡ count_of before → region.size ≡ before.size → region.bytes ≡ before.bytes → count_of region ≡ count_of before
+    → (parts : List (Option Parts)) → parts ≡ replicate 64 None → n ≡ 65 → m ≡ 65535 → IsRing region slots parts
+claimed n m before region slots z held all size bytes count parts none n_is m_is =
+    let many : count_of before ≡ n = ap count_of z ∙ length-replicate n false in
+    let wide : before.size ≡ m = ap (λ (s : Slots). s.size) z in
+    let long : length before.bytes ≡ n = ap (λ (s : Slots). length s.bytes) z ∙ length-replicate n (replicate m 0) in
+    let long' : length region.bytes ≡ length before.bytes = ap (length {A = List ℕ}) bytes in
+    let nothing : Option Parts = None in
+    record {
+      held = held;
+      count = omega arith;
+      size = omega arith;
+      whole = omega arith;
+      sized = λ k lt.
+          let o : get_or slots k 0 < length region.outs = out_inside region (get_or slots k 0) (held.out k (omega arith)) in
+          ap (λ (b : List (List ℕ)). length {A = ℕ} (get_or b (get_or slots k 0) [])) (bytes ∙ ap (λ (s : Slots). s.bytes) z)
+          ∙ zeros_sized n m (get_or slots k 0) (omega arith) ∙ m_is;
+      places = ap (length {A = Option Parts}) none ∙ length-replicate 64 nothing;
+      placed = λ k. subst (λ (l : List (Option Parts)). IsPlacedIf (get_or l k None)) (sym none) (none_placed 64 k);
+    }
+
+pub ring_claimed : (before region : Slots) (slots : List ℕ) → before ≡ zeros 65 65535 → IsHeld region slots → length slots ≡ count_of before → region.size ≡ before.size → region.bytes ≡ before.bytes → count_of region ≡ count_of before
+    → (parts : List (Option Parts)) → parts ≡ replicate 64 None → IsRing region slots parts
+ring_claimed before region slots z held all size bytes count parts none = claimed 65 65535 before region slots z held all size bytes count parts none refl refl

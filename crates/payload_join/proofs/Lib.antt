@@ -13,7 +13,10 @@ pub mod AnyOrder
 pub mod Following
 pub mod Made
 pub mod Cuts
+pub mod Between
 pub mod Fronts
+pub mod Rooms
+pub mod Parted
 pub mod Taken
 pub mod Slots
 pub mod InSlots

@@ -3,7 +3,7 @@ use Rattle.std.proofs.Common.{◌≡◌, ℕ, ◌+◌, ◌-◌, ◌<◌, ◌≤�
 use Rattle.std.specs.Prelude.{replicate}
 use Rattle.std.proofs.Math.ListN.{get_or-eq_default}
 use Rattle.std.proofs.lemmas.Bool.{cases_lt, eq-eqb}
-use Rattle.std.proofs.lemmas.List.{get_or_append_left, length-take-le, length-drop, get_or-replicate, length-replicate}
+use Rattle.std.proofs.lemmas.List.{get_or_append_left, length-take-le, length-drop, get_or-replicate, length-replicate, take-append-drop}
 use Rattle.std.proofs.Math.Seq.{get_or-append_seam}
 use Rattle.h263_region.specs.Slots.{Slots, bytes_in, with_bytes, with_out, out_of, IsOut, zeros}
 use Rattle.payload_join.specs.Places.{put_at}
@@ -46,3 +46,7 @@ put_length xs at ws le =
 -- the bytes of a slot of zeros
 pub zeros_sized : (count size slot : ℕ) → slot < count → length (bytes_in (zeros count size) slot) ≡ size
 zeros_sized count size slot lt = ap (length {A = ℕ}) (get_or-replicate count slot (replicate size 0) [] lt) ∙ length-replicate size 0
+
+-- no bytes are written
+pub put_none : (xs : List ℕ) (at : ℕ) → put_at xs at [] ≡ xs
+put_none xs at = let e : at + 0 ≡ at = omega arith in ap (λ (k : ℕ). take at xs ++ drop k xs) e ∙ take-append-drop at xs

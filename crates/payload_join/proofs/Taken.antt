@@ -168,7 +168,7 @@ goes_out format top packets s sequence p u v shows w small long held first secon
     } in
     let step : IsStep (packet_at s.held) (packet_at (with_packet s x p).held) (n + d) t = record {
       fresh = ap (packet_at s.held) n_is ∙ fresh_of s x held;
-      same = λ m lt ne. kept_at t m (one_held x p ∷ s.held) lt ∙ (rw (ne_eqb x m (λ e. ne (n_is ∙ e ))) refl);
+      same = λ m lt ne. kept_at t m (one_held x p ∷ s.held) lt ∙ (rw (ne_eqb x m (λ e. ne (sym (n_is ∙ e)))) refl);
       low = omega arith;
       upto = omega arith;
       young = omega arith;

@@ -9,4 +9,8 @@ pub mod Places
 pub mod Ring
 pub mod Units
 pub mod Fronts
+pub mod Giving
+pub mod Left
 pub mod Joining
+pub mod Keeping
+pub mod Ends

@@ -59,12 +59,12 @@ top_after None sequence = sequence
 top_after (Some top) sequence = if nat_lt 32768 (reach top sequence) then sequence else top
 
 -- a packet is held
+abbrev pub holding_at : Option ℕ → List (Option Packet) → ℕ → Packet → List (Option Packet)
+holding_at top packets sequence p = slice_set (left_at top packets sequence) (sequence % 64) (Some p)
+
 abbrev pub holding : Packets → ℕ → Packet → Packets
 holding r sequence p =
-    record r {
-      top = Some (top_after r.top sequence);
-      packets = slice_set (left_at r.top r.packets sequence) (sequence % 64) (Some p);
-    }
+    record r { top = Some (top_after r.top sequence); packets = holding_at r.top r.packets sequence p }
 
 -- ---- what they stand for
 

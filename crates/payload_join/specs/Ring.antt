@@ -8,7 +8,6 @@ use Rattle.h263_region.specs.Slots.{Slots, bytes_in, out_of, count_of, IsOut}
 use Rattle.payload_join.specs.declared.parts.Parts.{Parts}
 use Rattle.payload_join.specs.Packet.{Packet}
 use Rattle.payload_join.specs.Parts.{packet_of}
-use Rattle.payload_join.specs.Outgoing.{no_extra}
 use Rattle.payload_join.specs.Places.{Packets}
 
 -- the packet in a slot
@@ -31,7 +30,6 @@ pub record Describes (q : Parts) (p : Packet) : Type 0 where
   pub timestamp : p.timestamp ≡ q.timestamp
   pub plen : length p.extra.bytes ≡ q.plen
   pub pebit : 0 < q.plen → p.extra.pebit ≡ q.pebit
-  pub none : q.plen ≡ 0 → p.extra ≡ no_extra
   pub few : q.plen < 64
   pub bits : q.pebit < 8
 

@@ -2,7 +2,7 @@
 ghost use Rattle.std.specs.Prelude.{◌≡◌, ℕ, ◌+◌, ◌-◌, ◌*◌, ◌/◌, ◌^◌, ◌<◌, ◌≤◌, ◌++◌, length, take, IfSome};
 ghost use Rattle.h263_bits.specs.Bits.{bits_of, fields};
 ghost use Rattle.h263_payload.specs.Written.{opening_fields};
-ghost use Rattle.payload_join.specs.Packet.{Extra};
+ghost use Rattle.payload_join.specs.Places.{put_at};
 ghost use Rattle.payload_join.specs.Outgoing.{padded_bytes};
 ghost use Rattle.payload_join.specs.Fronts.{front_bytes, front_by, header_end};
 
@@ -16,6 +16,12 @@ pub(crate) struct Front {
     pub(crate) bytes: [u8; 77],
     pub(crate) len: usize,
 }
+
+// A front of no bytes.
+pub(crate) const EMPTY: Front = Front {
+    bytes: [0; 77],
+    len: 0,
+};
 
 // The front with an extra header, which has no bytes where there is none (RFC 3550, 5.1, RFC 4629,
 // 5.1).
@@ -31,13 +37,21 @@ pub(crate) fn front_with(sequence: u16, timestamp: u32, extra: &[u8], pebit: u32
     let rtp = rtp_header::write(false, sequence, timestamp);
     let opening = opening(plen as u32, pebit);
     let mut bytes = [0; 77];
-    bytes[..12].copy_from_slice(&rtp);
-    bytes[12..14].copy_from_slice(&opening);
-    bytes[14..14 + plen].copy_from_slice(extra);
+    set_part(&mut bytes, 0, &rtp);
+    set_part(&mut bytes, 12, &opening);
+    set_part(&mut bytes, 14, extra);
     Front {
         bytes,
         len: 14 + plen,
     }
+}
+
+// Writes bytes from a place on.
+fn set_part(bytes: &mut [u8], at: usize, part: &[u8])
+    requires { at + length part.now ≤ length bytes.old }
+    ensures { bytes.new ≡ put_at bytes.old at part.now }
+{
+    bytes[at..at + part.len()].copy_from_slice(part);
 }
 
 // RR 0, P 1, V 0, PLEN and PEBIT.
@@ -89,7 +103,7 @@ pub(crate) fn padded_front(sequence: u16, timestamp: u32, coded: &[u8], bits: u3
         return front_with(sequence, timestamp, &coded[..whole], 0);
     }
     let mut extra = [0; 63];
-    extra[..whole].copy_from_slice(&coded[..whole]);
+    set_part(&mut extra, 0, &coded[..whole]);
     extra[whole] = padded(coded[whole], padding);
     front_with(sequence, timestamp, &extra[..whole + 1], padding)
 }

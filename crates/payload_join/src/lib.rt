@@ -2,6 +2,8 @@
 #![tactic(auto)]
 
 mod front;
+mod giving;
+mod joiner;
 pub mod laws;
 mod parts;
 mod ring;
@@ -9,5 +11,6 @@ mod split;
 mod took;
 mod units;
 
+pub use joiner::Joiner;
 pub use parts::{Parts, read_parts};
 pub use took::Took;

@@ -1,8 +1,9 @@
 //! The packets that are held, each at the place of its number, and the room of an outgoing packet,
 //! all in one region of memory.
-ghost use Rattle.std.specs.Prelude.{◌≡◌, ◌≢◌, ℕ, ◌+◌, ◌-◌, ◌%◌, ◌^◌, ◌<◌, ◌≤◌, [], List, Bool, length, vec_len, slice_set, slice_index, Some, IfOk};
+ghost use Rattle.std.specs.Prelude.{◌≡◌, ◌≢◌, ℕ, ◌+◌, ◌-◌, ◌%◌, ◌^◌, ◌<◌, ◌≤◌, [], length, slice_set, true, IfOk};
 ghost use Rattle.std.specs.Vec.{vec_capacity};
 ghost use Rattle.h263_region.specs.Slots.{count_of, out_of, bytes_in, IsOut};
+ghost use Rattle.payload_join.specs.Run.{is_held};
 ghost use Rattle.payload_join.specs.Unit.{begins_one, follows_one, is_marked};
 ghost use Rattle.payload_join.specs.Outgoing.{coded_one};
 ghost use Rattle.payload_join.specs.Packet.{bytes_between};
@@ -49,7 +50,7 @@ impl PacketRing {
     pub(crate) fn start(alloc: Global) -> Result<PacketRing, OutOfMemory>
         ensures { IfOk result IsEmptyRing }
     {
-        let parts = vec![in alloc; None; 64]?;
+        let parts = Vec::from_array(alloc, [None; 64])?;
         let mut slots = Vec::with_capacity(alloc, 65)?;
         match Region::make(alloc, 65, SIZE) {
             Ok(mut region) => {
@@ -70,7 +71,10 @@ impl PacketRing {
 
     // What becomes of a packet that can be read.
     pub(crate) fn judge(&self, sequence: u16) -> Took
-        ensures { result ≡ judged self.now.top self.now.packets sequence }
+        ensures answer { result ≡ judged self.now.top self.now.packets sequence }
+        ensures near { is_held result ≡ true
+            → (top_after self.now.top sequence + 65536 - sequence) % 65536 < 64 }
+        ensures many { length self.now.packets ≡ 64 }
     {
         let Some(top) = self.top else {
             return Took::Held;
@@ -89,16 +93,20 @@ impl PacketRing {
     }
 
     // A packet is held, and those that lie 64 and more below the greatest number are forgotten.
-    pub(crate) fn hold(&mut self, bytes: &[u8], parts: Parts)
+    // The greatest number is answered.
+    pub(crate) fn hold(&mut self, bytes: &[u8], parts: Parts) -> u16
         requires { IsInside bytes.now parts }
-        ensures { self.new ≡ holding self.old parts.sequence (packet_of bytes.now parts) }
+        ensures holds { self.new ≡ holding self.old parts.sequence (packet_of bytes.now parts) }
+        ensures top { result ≡ top_after self.old.top parts.sequence }
     {
         let sequence = parts.sequence;
         let place = (sequence % 64) as usize;
         forget(&mut self.parts, self.top, sequence);
         self.parts[place] = Some(parts);
         put(&mut self.region, &self.slots[place], 0, bytes);
-        self.top = Some(greatest(self.top, sequence));
+        let top = greatest(self.top, sequence);
+        self.top = Some(top);
+        top
     }
 
     // Whether the packet of a number is held, and begins a unit.
@@ -163,18 +171,6 @@ impl PacketRing {
         }
     }
 
-    // The greatest number, by its last 16 bits.
-    pub(crate) fn last(&self) -> u32
-        ensures exact { (top : ℕ) → self.now.top ≡ Some top → result ≡ top + 65536 }
-        ensures least { 65536 ≤ result }
-        ensures most { result < 131072 }
-    {
-        match self.top {
-            Some(top) => top as u32 + 65_536,
-            None => 65_536,
-        }
-    }
-
     // The room.
     pub(crate) fn room(&self) -> &[u8]
         ensures value { result.now ≡ self.now.room }
@@ -199,8 +195,9 @@ impl PacketRing {
         ensures end { result ≡ at + length (coded_one (place_at self.old.packets number)) }
     {
         let place = (number % 64) as usize;
-        let Some(parts) = self.parts[place] else {
-            return at;
+        let parts = match self.parts[place] {
+            Some(parts) => parts,
+            None => return at,
         };
         let from = parts.coded_from as usize;
         let to = parts.to as usize;

@@ -1,10 +1,11 @@
 //! Whole units among the packets that are held, from the newest packet outwards.
-ghost use Rattle.std.specs.Prelude.{◌≡◌, ℕ, ◌+◌, ◌^◌, ◌*◌, ◌<◌, ◌≤◌, length, true, not, nat_le, nat_eq, ◌||◌, ◌&&◌, IsNone, IfSome};
+ghost use Rattle.std.specs.Prelude.{◌≡◌, ℕ, ◌+◌, ◌-◌, ◌%◌, ◌^◌, ◌*◌, ◌<◌, ◌≤◌, ◌++◌, List, Option, None, length, true, not, nat_le, nat_eq, ◌||◌, ◌&&◌, IsNone, IfSome};
 ghost use Rattle.h263_types.specs.declared.format.Format.{Format};
+ghost use Rattle.payload_join.specs.Packet.{Packet};
 ghost use Rattle.payload_join.specs.Unit.{begins_one, is_marked, unit_at};
 ghost use Rattle.payload_join.specs.Outgoing.{coded_from};
 ghost use Rattle.payload_join.specs.Places.{place_at, window};
-ghost use Rattle.payload_join.specs.Units.{IsBefore, IsWholeIf, out_made, unit_left};
+ghost use Rattle.payload_join.specs.Units.{IsBefore, IsFirst, IsSecond, IsWholeIf, number_by, out_made, unit_left};
 
 use crate::ring::PacketRing;
 
@@ -119,4 +120,62 @@ pub(crate) fn made_by(ring: &PacketRing, number: u32, first: u32, last: u32) -> 
         number: first,
         follow,
     })
+}
+
+// The unit that the packets before a number are in, if its packet made it whole.
+fn first_made(ring: &PacketRing, number: u32, last: u32) -> Option<Span>
+    requires upto { number ≤ last }
+    requires few { last < number + 64 }
+    requires low { 65536 ≤ last }
+    requires fits { last < 2 ^ 31 }
+    ensures out { (format : Format) → IsFirst format ring.now.packets last number result }
+    ensures whole { IsWholeIf ring.now.packets result }
+{
+    match start_before(ring, last - 63, number) {
+        Some(first) => made_by(ring, number, first, last),
+        None => None,
+    }
+}
+
+// The units that a packet made whole, in order: the one that the packets before it are in, and the
+// one that it begins.
+#[derive(Clone, Copy)]
+pub(crate) struct Made {
+    pub(crate) first: Option<Span>,
+    pub(crate) second: Option<Span>,
+}
+
+// What the packet of a sequence number made whole. `top` is the greatest number's.
+pub(crate) fn made_with(ring: &PacketRing, top: u16, sequence: u16) -> Made
+    requires { (top + 65536 - sequence) % 65536 < 64 }
+    ensures first { (format : Format) → IsFirst format ring.now.packets (top + 65536)
+        (number_by (top + 65536) sequence) result.first }
+    ensures second { (format : Format) → IsSecond format ring.now.packets (top + 65536)
+        (number_by (top + 65536) sequence) result.second }
+    ensures first_whole { IsWholeIf ring.now.packets result.first }
+    ensures second_whole { IsWholeIf ring.now.packets result.second }
+{
+    let last = top as u32 + 65_536;
+    let number = last - (last - sequence as u32) % 65_536;
+    Made {
+        first: first_made(ring, number, last),
+        second: made_by(ring, number, number, last),
+    }
+}
+
+// The first of two units, if there is one; it is taken out.
+pub(crate) fn take_first(first: &mut Option<Span>, second: &mut Option<Span>) -> Option<Span>
+    ensures out { (format : Format) (packets : List (Option Packet))
+        → unit_left format packets first.old ++ unit_left format packets second.old
+        ≡ unit_left format packets result
+          ++ (unit_left format packets first.new ++ unit_left format packets second.new) }
+    ensures whole { (packets : List (Option Packet))
+        → IsWholeIf packets first.old → IsWholeIf packets second.old
+        → IsWholeIf packets result × IsWholeIf packets first.new × IsWholeIf packets second.new }
+    ensures none { IsNone result → (first.new ≡ None) × (second.new ≡ None) }
+{
+    if first.is_some() {
+        return first.take();
+    }
+    second.take()
 }

@@ -1,19 +1,14 @@
-use Rattle.std.proofs.Common.{rules, ◌≡◌, ℕ, ◌+◌, ◌^◌, ◌*◌, ◌<◌, ◌≤◌, length, true, IsNone, IfSome, ◌-◌, ◌/◌, ◌%◌, Bool, false, nat_eq, nat_lt, List, [], ◌∷◌, ◌++◌, slice_index_or, slice_set, bit_and, bit_or, Fits, w8, w32, w64, Bor, MutBor}
-use Rattle.h263_types.specs.declared.format.Format.{Format}
-use Rattle.payload_join.specs.Unit.{begins_one, unit_at}
-use Rattle.payload_join.specs.Outgoing.{coded_from}
-use Rattle.payload_join.specs.Places.{place_at, window}
-use Rattle.payload_join.specs.Units.{IsBefore, IsWholeIf, out_made, unit_left}
+use Rattle.std.proofs.Common.{sym, ◌∙◌}
+use Rattle.payload_join.proofs.Following.{is_before, not_before, none_before}
 use Rattle.payload_join.proofs.units.start_before.Goals as goal
 
--- src/units.rt:31:13
 pub returns-then-begins-clause-some : goal.returns-then-begins-clause-some
-returns-then-begins-clause-some c = ?
+returns-then-begins-clause-some c =
+    is_before c.args.ring.now.packets c.args.low c.args.number c.back.back c.back-test.true c.back.invariant (sym c.begins.ensures ∙ c.if-begins.true)
 
--- src/units.rt:34:13
 pub returns-then-not-follows-clause-none : goal.returns-then-not-follows-clause-none
-returns-then-not-follows-clause-none c = ?
+returns-then-not-follows-clause-none c e =
+    not_before c.args.ring.now.packets c.args.low c.args.number c.back.back c.back-test.true c.back.invariant (sym c.begins.ensures ∙ c.if-begins.false) (sym c.follows.ensures ∙ c.if-not-follows.true)
 
--- src/units.rt:23:1
 pub returns-clause-none : goal.returns-clause-none
-returns-clause-none c = ?
+returns-clause-none c e = none_before c.args.ring.now.packets c.args.low c.args.number c.back.back c.back-test.false c.back.invariant

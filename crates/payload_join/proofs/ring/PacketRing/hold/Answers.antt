@@ -24,8 +24,8 @@ invariant_of-self c =
     (subst (λ (l : List (Option Parts)). IsRing (with_slot s.region (get_or s.slots.items (sequence % 64) 0) (put_at (bytes_in s.region (get_or s.slots.items (sequence % 64) 0)) 0 bytes)) s.slots.items (set l (sequence % 64) (Some c.args.parts))) (sym kept)
     (ring_held s.region s.slots.items items bytes s.top sequence c.args.parts c.self.invariant c.requires)))
 
-pub returns : goal.returns
-returns c =
+pub returns-clause-holds : goal.returns-clause-holds
+returns-clause-holds c =
     let s = c.self.inside in let sequence = c.args.parts.sequence in let bytes = c.args.bytes.now in
     let items = s.parts.items in
     let slot = c.index.result.now in
@@ -34,9 +34,9 @@ returns c =
     let long = ap (length {A = Option Parts}) left ∙ many_left s.top items sequence ∙ sym s.parts.ok.0 in
     let kept = with_items_is s.parts c.forget.new.parts long ∙ left in
     let is_slot = slot_is s.region s.slots.items items sequence slot c.self.invariant c.index.ensures in
-    let written : seen (Some c.greatest.result) c.put.new.region s.slots.items (set (with_items s.parts c.forget.new.parts).items (sequence % 64) (Some p))
+    let written : seen (Some c.greatest-top.result) c.put.new.region s.slots.items (set (with_items s.parts c.forget.new.parts).items (sequence % 64) (Some p))
         ≡ seen (Some (top_after s.top sequence)) (with_slot s.region slot (put_at (bytes_in s.region slot) 0 bytes)) s.slots.items (set (left_at s.top items sequence) (sequence % 64) (Some p)) =
-        λ i. seen (Some (c.greatest.ensures i)) (c.put.ensures i) s.slots.items (set (kept i) (sequence % 64) (Some p)) in
+        λ i. seen (Some (c.greatest-top.ensures i)) (c.put.ensures i) s.slots.items (set (kept i) (sequence % 64) (Some p)) in
     written
     ∙ ap (λ (k : ℕ). seen (Some (top_after s.top sequence)) (with_slot s.region k (put_at (bytes_in s.region k) 0 bytes)) s.slots.items (set (left_at s.top items sequence) (sequence % 64) (Some p))) is_slot
     ∙ held_is s.region s.slots.items items s.top bytes sequence p c.self.invariant c.requires

@@ -1,24 +1,25 @@
 use Rattle.std.proofs.Common.{ℕ, Option, Some, ap, sym, ◌∙◌}
 use Rattle.payload_join.specs.Places.{Packets, judged, reach}
+use Rattle.payload_join.specs.Ring.{packets_of}
 use Rattle.payload_join.proofs.InSlots.{seen_at, judged_again, judged_fresh, some_seen}
 use Rattle.payload_join.proofs.ring.PacketRing.judge.Goals as goal
 
-pub returns-then-is_some : goal.returns-then-is_some
-returns-then-is_some c =
+pub returns-then-is_some-clause-answer : goal.returns-then-is_some-clause-answer
+returns-then-is_some-clause-answer c =
     let s = c.self.inside in let sequence = c.args.sequence in
     sym (
     ap (λ (t : Packets). judged t.top t.packets sequence) (sym c.self.view_is)
-    ∙ ap (λ (o : Option ℕ). judged o _ sequence) c.in-Some.is
-    ∙ judged_again _ c.in-Some.top sequence c.reach-reach.result c.reach-reach.ensures.exact c.if-reach-le32768.false c.if-reach-gt32768.false
+    ∙ ap (λ (o : Option ℕ). judged o (packets_of s.region s.slots.items s.parts.items) sequence) c.in-Some.is
+    ∙ judged_again (packets_of s.region s.slots.items s.parts.items) c.in-Some.top sequence c.reach-reach.result c.reach-reach.ensures.exact c.if-reach-le32768.false c.if-reach-gt32768.false
     (some_seen s.region s.slots.items s.parts.items sequence c.index.result.now c.self.invariant c.index.ensures ∙ sym c.is_some.ensures ∙ c.if-is_some.true)
     )
 
-pub returns : goal.returns
-returns c =
+pub returns-clause-answer : goal.returns-clause-answer
+returns-clause-answer c =
     let s = c.self.inside in let sequence = c.args.sequence in
     sym (
     ap (λ (t : Packets). judged t.top t.packets sequence) (sym c.self.view_is)
-    ∙ ap (λ (o : Option ℕ). judged o _ sequence) c.in-Some.is
-    ∙ judged_fresh _ c.in-Some.top sequence c.reach-reach.result c.reach-reach.ensures.exact c.if-reach-le32768.false c.if-reach-gt32768.false
+    ∙ ap (λ (o : Option ℕ). judged o (packets_of s.region s.slots.items s.parts.items) sequence) c.in-Some.is
+    ∙ judged_fresh (packets_of s.region s.slots.items s.parts.items) c.in-Some.top sequence c.reach-reach.result c.reach-reach.ensures.exact c.if-reach-le32768.false c.if-reach-gt32768.false
     (some_seen s.region s.slots.items s.parts.items sequence c.index.result.now c.self.invariant c.index.ensures ∙ sym c.is_some.ensures ∙ c.if-is_some.false)
     )
