@@ -1,5 +1,5 @@
 -- The bytes of a front.
-use Rattle.std.proofs.Common.{◌≡◌, ℕ, zero, suc, ◌+◌, ◌*◌, ◌/◌, ◌%◌, ◌^◌, ◌<◌, ◌≤◌, Bool, true, false, List, [], ◌∷◌, ◌++◌, length, take, drop, get_or, refl, sym, ap, ◌∙◌, subst, arith, append_assoc}
+use Rattle.std.proofs.Common.{◌≡◌, ℕ, zero, suc, ◌+◌, ◌-◌, ◌*◌, ◌/◌, ◌%◌, ◌^◌, ◌<◌, ◌≤◌, Bool, true, false, List, [], ◌∷◌, ◌++◌, length, take, drop, get_or, refl, sym, ap, ◌∙◌, subst, arith, append_assoc}
 use Rattle.std.specs.Prelude.{◌&&◌, nat_le, Option, Some, None, Result, Ok, Err}
 use Rattle.std.proofs.lemmas.Bool.{and_parts, le-leb, lt-leb}
 use Rattle.std.proofs.lemmas.List.{take_at, drop_at, take_all, length-append}
@@ -80,29 +80,34 @@ both_fit (x ∷ xs) ys a b zero = a 0
 both_fit (x ∷ xs) ys a b (suc k) = both_fit xs ys (λ j. a (suc j)) b k
 
 -- twelve bytes, two and an extra header, written one after the other
-pub front_is : ((n value : ℕ) → value < 2 ^ n → number (spelled n value) ≡ value) → ((n value : ℕ) → length (spelled n value) ≡ n)
-    → (zeros rtp opening extra : List ℕ) (sequence timestamp pebit : ℕ) → length zeros ≡ 77 → length rtp ≡ 12 → length opening ≡ 2 → length extra < 64
-    → ((k : ℕ) → get_or rtp k 0 < 2 ^ 8) → ((k : ℕ) → get_or opening k 0 < 2 ^ 8)
-    → bits_of rtp ≡ fields (rtp_fields false sequence timestamp) → bits_of opening ≡ fields (opening_fields (length extra) pebit)
-    → take (14 + length extra) (put_at (put_at (put_at zeros 0 rtp) 12 opening) 14 extra) ≡ front_by sequence timestamp (record { bytes = extra; pebit = pebit })
-front_is again many zeros rtp opening extra sequence timestamp pebit l0 l1 l2 few f1 f2 is_rtp is_opening =
+pub written_is : (zeros rtp opening extra : List ℕ) → length zeros ≡ 77 → length rtp ≡ 12 → length opening ≡ 2 → length extra < 64
+    → take (14 + length extra) (put_at (put_at (put_at zeros 0 rtp) 12 opening) 14 extra) ≡ (rtp ++ opening) ++ extra
+written_is zeros rtp opening extra l0 l1 l2 few =
     let a : List ℕ = put_at zeros 0 rtp in
     let b : List ℕ = put_at a 12 opening in
     let la : length a ≡ 77 = put_length zeros 0 rtp (omega arith) ∙ l0 in
     let lb : length b ≡ 77 = put_length a 12 opening (omega arith) ∙ la in
     let first : take 12 a ≡ rtp = (let e : 12 ≡ 0 + length rtp = omega arith in ap (λ (k : ℕ). take k a) e) ∙ take_put zeros rtp 0 (omega arith) in
     let second : take 14 b ≡ rtp ++ opening = (let e : 14 ≡ 12 + length opening = omega arith in ap (λ (k : ℕ). take k b) e) ∙ take_put a opening 12 (omega arith) ∙ ap (λ (l : List ℕ). l ++ opening) first in
+    take_put b extra 14 (omega arith) ∙ ap (λ (l : List ℕ). l ++ extra) second
+
+pub front_is : ((n value : ℕ) → value < 2 ^ n → number (spelled n value) ≡ value) → ((n value : ℕ) → length (spelled n value) ≡ n)
+    → (rtp opening extra : List ℕ) (sequence timestamp pebit : ℕ) → length rtp ≡ 12 → length opening ≡ 2
+    → ((k : ℕ) → get_or rtp k 0 < 2 ^ 8) → ((k : ℕ) → get_or opening k 0 < 2 ^ 8)
+    → bits_of rtp ≡ fields (rtp_fields false sequence timestamp) → bits_of opening ≡ fields (opening_fields (length extra) pebit)
+    → (rtp ++ opening) ++ extra ≡ front_by sequence timestamp (record { bytes = extra; pebit = pebit })
+front_is again many rtp opening extra sequence timestamp pebit l1 l2 f1 f2 is_rtp is_opening =
     let heads : bytes_in 14 (fields (rtp_fields false sequence timestamp) ++ fields (opening_fields (length extra) pebit)) ≡ rtp ++ opening =
         (λ i. bytes_in 14 (sym is_rtp i ++ sym is_opening i))
         ∙ ap (bytes_in 14) (sym (bits_of-append rtp opening))
         ∙ (let e : 14 ≡ length (rtp ++ opening) = omega (arith, length-append rtp opening) in ap (λ (k : ℕ). bytes_in k (bits_of (rtp ++ opening))) e)
         ∙ bytes_again again many (rtp ++ opening) (both_fit rtp opening f1 f2) in
-    take_put b extra 14 (omega arith) ∙ ap (λ (l : List ℕ). l ++ extra) (second ∙ sym heads)
+    ap (λ (l : List ℕ). l ++ extra) (sym heads)
 
 -- ---- where a picture header ends
 
 from_start : (coded : List ℕ) → ((bytes : List ℕ) → length (bits_of bytes) ≡ 8 * length bytes) → bits_between coded 0 (8 * length coded) ≡ from_byte 0 coded
-from_start coded whole = ap (λ (l : List Bool). record { at = 0; bits = l }) (take_all (8 * length coded) (bits_of coded) (omega (arith, whole coded)))
+from_start coded whole = ap (λ (l : List Bool). record { at = 0; bits = l }) (take_all (8 * length coded - 0) (bits_of coded) (omega (arith, whole coded)))
 
 read_from : (format : Format) (coded : List ℕ) {b : Bits} {r : Result (Header × Bits) Fault} → ((bytes : List ℕ) → length (bits_of bytes) ≡ 8 * length bytes) → b ≡ bits_between coded 0 (8 * length coded)
     → reading (header format) b ≡ r → r ≡ reading (header format) (from_byte 0 coded)

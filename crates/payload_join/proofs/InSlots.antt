@@ -282,6 +282,12 @@ seen_is region slots parts number r top packets ring e view = at r refl
     at None is = sym (seen_at region slots parts number r None ring e is view)
     at (Some q) is = (packet_of (bytes_in region (get_or slots (number % 64) 0)) q, sym (seen_at region slots parts number r (Some q) ring e is view), described region slots parts number r q ring e is)
 
+-- there is a place for each rest
+pub many_places : (region : Slots) (slots : List ℕ) (parts : List (Option Parts)) (top : Option ℕ) (packets : Packets) → IsRing region slots parts → seen top region slots parts ≡ packets → length packets.packets ≡ 64
+many_places region slots parts top packets ring view =
+    let c = ring.count in let pl = ring.places in
+    ap (λ (t : Packets). length t.packets) (sym view) ∙ many_packets region slots parts (omega arith) ∙ ring.places
+
 -- ---- the room
 
 -- its slot

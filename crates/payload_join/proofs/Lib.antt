@@ -18,6 +18,8 @@ pub mod Fronts
 pub mod Rooms
 pub mod Parted
 pub mod Taken
+pub mod Taking
+pub mod Advance
 pub mod Slots
 pub mod InSlots
 pub mod Windows

@@ -1,5 +1,5 @@
 //! What stands in front of the coded bytes of an outgoing packet.
-ghost use Rattle.std.specs.Prelude.{◌≡◌, ℕ, ◌+◌, ◌-◌, ◌*◌, ◌/◌, ◌^◌, ◌<◌, ◌≤◌, ◌++◌, length, take, IfSome};
+ghost use Rattle.std.specs.Prelude.{◌≡◌, ℕ, ◌+◌, ◌-◌, ◌*◌, ◌/◌, ◌^◌, ◌<◌, ◌≤◌, ◌++◌, length, slice_index, take, IfSome};
 ghost use Rattle.h263_bits.specs.Bits.{bits_of, fields};
 ghost use Rattle.h263_payload.specs.Written.{opening_fields};
 ghost use Rattle.payload_join.specs.Places.{put_at};
@@ -37,9 +37,7 @@ pub(crate) fn front_with(sequence: u16, timestamp: u32, extra: &[u8], pebit: u32
     let rtp = rtp_header::write(false, sequence, timestamp);
     let opening = opening(plen as u32, pebit);
     let mut bytes = [0; 77];
-    set_part(&mut bytes, 0, &rtp);
-    set_part(&mut bytes, 12, &opening);
-    set_part(&mut bytes, 14, extra);
+    write_front(&mut bytes, &rtp, &opening, extra);
     Front {
         bytes,
         len: 14 + plen,
@@ -52,6 +50,21 @@ fn set_part(bytes: &mut [u8], at: usize, part: &[u8])
     ensures { bytes.new ≡ put_at bytes.old at part.now }
 {
     bytes[at..at + part.len()].copy_from_slice(part);
+}
+
+// Writes the three parts of a front one after the other.
+fn write_front(bytes: &mut [u8], rtp: &[u8], opening: &[u8], extra: &[u8])
+    requires bytes { length bytes.old ≡ 77 }
+    requires rtp { length rtp.now ≡ 12 }
+    requires opening { length opening.now ≡ 2 }
+    requires few { length extra.now < 64 }
+    ensures text { take (14 + length extra.now) bytes.new ≡ (rtp.now ++ opening.now) ++ extra.now }
+    ensures rtp { (k : ℕ) → slice_index rtp.now k < 256 }
+    ensures opening { (k : ℕ) → slice_index opening.now k < 256 }
+{
+    set_part(bytes, 0, rtp);
+    set_part(bytes, 12, opening);
+    set_part(bytes, 14, extra);
 }
 
 // RR 0, P 1, V 0, PLEN and PEBIT.

@@ -66,14 +66,18 @@ pub(crate) fn build(ring: &mut PacketRing, giving: &mut Giving) -> (usize, usize
     let end = part_end(ring.room(), giving);
     let from = giving.at - giving.front.len;
     ring.write(from, &giving.front.bytes[..giving.front.len]);
-    let Some(len) = end else {
-        giving.is_left = false;
-        return (from, giving.to);
-    };
-    let to = giving.at + len;
-    giving.at = to + 2;
-    giving.front = giving.other;
-    (from, to)
+    match end {
+        Some(len) => {
+            let to = giving.at + len;
+            giving.at = to + 2;
+            giving.front = giving.other;
+            (from, to)
+        }
+        None => {
+            giving.is_left = false;
+            (from, giving.to)
+        }
+    }
 }
 
 // The coded bytes of so many packets are copied into the room, up to the place that is answered.
@@ -173,7 +177,10 @@ fn fronts(ring: &PacketRing, number: u32, to: usize, format: Format) -> Giving
         return Giving::all(to, true, each, each);
     }
     let plain = front_with(first.sequence, first.timestamp, &[], 0);
-    if !begins_picture(coded) || first_cut(coded).is_none() {
+    if !begins_picture(coded) {
+        return Giving::all(to, true, plain, plain);
+    }
+    if first_cut(coded).is_none() {
         return Giving::all(to, true, plain, plain);
     }
     match find_end(coded, format) {
