@@ -19,7 +19,6 @@ pub mod Rooms
 pub mod Parted
 pub mod Taken
 pub mod Taking
-pub mod Advance
 pub mod Slots
 pub mod InSlots
 pub mod Windows

@@ -1,6 +1,6 @@
 -- What goes out of a unit, by the fronts of its parts.
 use Rattle.std.proofs.Common.{◌≡◌, ◌⊎◌, inl, inr, ℕ, ◌+◌, ◌-◌, ◌*◌, ◌<◌, ◌≤◌, Bool, true, false, cond, List, [], ◌∷◌, ◌++◌, length, take, drop, Option, Some, None, Result, Ok, Err, refl, sym, ap, subst, ◌∙◌, arith}
-use Rattle.std.specs.Prelude.{map, nat_lt, nat_le, ◌==◌, is_none, is_some, IfSome}
+use Rattle.std.specs.Prelude.{map, nat_lt, nat_le, ◌==◌, is_some, IfSome}
 use Rattle.std.proofs.lemmas.List.{length-take}
 use Rattle.std.proofs.lemmas.Bool.{cases_Bool, lt-ltb, le-ltb}
 use Rattle.h263_bits.specs.declared.fault.Fault.{Fault}
@@ -16,7 +16,7 @@ use Rattle.payload_join.specs.Packet.{Packet, Extra, bytes_between}
 use Rattle.payload_join.specs.Split.{starts, onto, split_of}
 use Rattle.payload_join.specs.Outgoing.{no_extra, front_of, outgoing, padded_bytes, copied, header_of, begins_picture, each_out, picture_out, begun_out, unit_out, out_by}
 use Rattle.payload_join.specs.Fronts.{front_bytes, front_by, end_as, header_end}
-use Rattle.payload_join.specs.Ring.{Describes, IsSeen, extra_one}
+use Rattle.payload_join.specs.Ring.{Describes, extra_one}
 use Rattle.payload_join.specs.Giving.{fronted}
 
 each_is : (p : Packet) (first other : Extra) (parts : List (List ℕ)) → each_out p first other parts ≡ fronted (front_of p first) (front_of p other) parts
@@ -123,24 +123,20 @@ with_no_header format p coded part rest le none begins cut ends =
 pub short_between : (room : List ℕ) (to : ℕ) → to ≤ 65477 → length (bytes_between room 77 to) ≤ 65400
 short_between room to le = omega (arith, length-take (to - 77) (drop 77 room))
 
-pub none_test : (r : Option ℕ) → is_none r ≡ true → is_some r ≡ false
-none_test None e = refl
-none_test (Some at) e = absurd cc
-
 -- the first part, and what is split after it
 abbrev pub IsCut : List ℕ → Type 0
 IsCut coded = (part : List ℕ) × (rest : List ℕ) × (split_of coded ≡ part ∷ split_of rest)
 
-pub cut_found : (coded : List ℕ) (r : Option ℕ) → is_none r ≡ false → IfSome r (λ at. split_of coded ≡ take at coded ∷ split_of (drop (at + 2) coded)) → IsCut coded
+pub cut_found : (coded : List ℕ) (r : Option ℕ) → is_some r ≡ true → IfSome r (λ at. split_of coded ≡ take at coded ∷ split_of (drop (at + 2) coded)) → IsCut coded
 cut_found coded None e some = absurd cc
 cut_found coded (Some at) e some = (take at coded, drop (at + 2) coded, some)
 
 front_same : (q : Parts) (p : Packet) (extra : Extra) → Describes q p → front_by q.sequence q.timestamp extra ≡ front_of p extra
 front_same q p extra d = λ i. front_by (sym d.sequence i) (sym d.timestamp i) extra
 
-pub by_extra : (format : Format) (coded : List ℕ) (o : Option Packet) (q : Parts) (front : Front) {extra : List ℕ} → IsSeen (Some q) o → length coded ≤ 65400 → 0 < q.plen → extra ≡ extra_one o
+pub by_extra : (format : Format) (coded : List ℕ) (o : Option Packet) (q : Parts) (front : Front) {extra : List ℕ} → (p : Packet) → o ≡ Some p → Describes q p → length coded ≤ 65400 → 0 < q.plen → extra ≡ extra_one o
     → front_bytes front ≡ front_by q.sequence q.timestamp (record { bytes = extra; pebit = q.pebit }) → fronted (front_bytes front) (front_bytes front) (split_of coded) ≡ out_by format coded o
-by_extra format coded o q front {extra} (p, is, d) le some extra_is front_is =
+by_extra format coded o q front {extra} p is d le some extra_is front_is =
     let bytes : extra ≡ p.extra.bytes = extra_is ∙ ap extra_one is in
     let pebit = d.pebit some in
     let whole : front_bytes front ≡ front_of p p.extra = front_is ∙ (λ i. front_by q.sequence q.timestamp (record { bytes = bytes i; pebit = sym pebit i })) ∙ front_same q p p.extra d in
@@ -150,30 +146,30 @@ by_extra format coded o q front {extra} (p, is, d) le some extra_is front_is =
 plain_is : (q : Parts) (p : Packet) (front : Front) → Describes q p → front_bytes front ≡ front_by q.sequence q.timestamp (record { bytes = []; pebit = 0 }) → front_bytes front ≡ front_of p no_extra
 plain_is q p front d e = e ∙ front_same q p no_extra d
 
-pub by_none : (format : Format) (coded : List ℕ) (o : Option Packet) (q : Parts) (front : Front) → IsSeen (Some q) o → length coded ≤ 65400 → q.plen ≤ 0 → front_bytes front ≡ front_by q.sequence q.timestamp (record { bytes = []; pebit = 0 })
+pub by_none : (format : Format) (coded : List ℕ) (o : Option Packet) (q : Parts) (front : Front) → (p : Packet) → o ≡ Some p → Describes q p → length coded ≤ 65400 → q.plen ≤ 0 → front_bytes front ≡ front_by q.sequence q.timestamp (record { bytes = []; pebit = 0 })
     → begins_picture coded ≡ false → fronted (front_bytes front) (front_bytes front) (split_of coded) ≡ out_by format coded o
-by_none format coded o q front (p, is, d) le none front_is begins =
+by_none format coded o q front p is d le none front_is begins =
     let whole = plain_is q p front d front_is in let plen = d.plen in
     (λ i. fronted (whole i) (whole i) (split_of coded)) ∙ sym (with_none format p coded le (omega arith) begins) ∙ ap (out_by format coded) (sym is)
 
-pub by_one : (format : Format) (coded : List ℕ) (o : Option Packet) (q : Parts) (front : Front) {now : List ℕ} → IsSeen (Some q) o → length coded ≤ 65400 → q.plen ≤ 0 → front_bytes front ≡ front_by q.sequence q.timestamp (record { bytes = []; pebit = 0 })
+pub by_one : (format : Format) (coded : List ℕ) (o : Option Packet) (q : Parts) (front : Front) {now : List ℕ} → (p : Packet) → o ≡ Some p → Describes q p → length coded ≤ 65400 → q.plen ≤ 0 → front_bytes front ≡ front_by q.sequence q.timestamp (record { bytes = []; pebit = 0 })
     → begins_picture coded ≡ true → now ≡ coded → split_of now ≡ now ∷ [] → fronted (front_bytes front) (front_bytes front) (split_of coded) ≡ out_by format coded o
-by_one format coded o q front (p, is, d) le none front_is begins same one =
+by_one format coded o q front p is d le none front_is begins same one =
     let whole = plain_is q p front d front_is in let plen = d.plen in
     let one' = subst (λ (l : List ℕ). split_of l ≡ l ∷ []) same one in
     (λ i. fronted (whole i) (whole i) (split_of coded)) ∙ sym (with_one format p coded le (omega arith) begins one') ∙ ap (out_by format coded) (sym is)
 
-pub by_header : (format : Format) (coded : List ℕ) (o : Option Packet) (q : Parts) (front other : Front) (bits : ℕ) {now : List ℕ} → IsSeen (Some q) o → length coded ≤ 65400 → q.plen ≤ 0 → front_bytes front ≡ front_by q.sequence q.timestamp (record { bytes = []; pebit = 0 })
+pub by_header : (format : Format) (coded : List ℕ) (o : Option Packet) (q : Parts) (front other : Front) (bits : ℕ) {now : List ℕ} → (p : Packet) → o ≡ Some p → Describes q p → length coded ≤ 65400 → q.plen ≤ 0 → front_bytes front ≡ front_by q.sequence q.timestamp (record { bytes = []; pebit = 0 })
     → begins_picture coded ≡ true → now ≡ coded → IsCut now → Some bits ≡ header_end format now → front_bytes other ≡ front_by q.sequence q.timestamp (padded_bytes bits now) → fronted (front_bytes front) (front_bytes other) (split_of coded) ≡ out_by format coded o
-by_header format coded o q front other bits {now} (p, is, d) le none front_is begins same cut ends other_is =
+by_header format coded o q front other bits {now} p is d le none front_is begins same cut ends other_is =
     let whole = plain_is q p front d front_is in let plen = d.plen in
     let others : front_bytes other ≡ front_of p (padded_bytes bits coded) = other_is ∙ ap (λ (l : List ℕ). front_by q.sequence q.timestamp (padded_bytes bits l)) same ∙ front_same q p (padded_bytes bits coded) d in
     let cut' : split_of coded ≡ cut.0 ∷ split_of cut.1 = ap split_of (sym same) ∙ cut.2 in
     (λ i. fronted (whole i) (others i) (split_of coded)) ∙ sym (with_header format p coded cut.0 cut.1 bits le (omega arith) begins cut' (ends ∙ ap (header_end format) same)) ∙ ap (out_by format coded) (sym is)
 
-pub by_no_header : (format : Format) (coded : List ℕ) (o : Option Packet) (q : Parts) (front : Front) {now : List ℕ} → IsSeen (Some q) o → length coded ≤ 65400 → q.plen ≤ 0 → front_bytes front ≡ front_by q.sequence q.timestamp (record { bytes = []; pebit = 0 })
+pub by_no_header : (format : Format) (coded : List ℕ) (o : Option Packet) (q : Parts) (front : Front) {now : List ℕ} → (p : Packet) → o ≡ Some p → Describes q p → length coded ≤ 65400 → q.plen ≤ 0 → front_bytes front ≡ front_by q.sequence q.timestamp (record { bytes = []; pebit = 0 })
     → begins_picture coded ≡ true → now ≡ coded → IsCut now → None ≡ header_end format now → (front_bytes front ++ coded) ∷ [] ≡ out_by format coded o
-by_no_header format coded o q front (p, is, d) le none front_is begins same cut ends =
+by_no_header format coded o q front p is d le none front_is begins same cut ends =
     let whole = plain_is q p front d front_is in let plen = d.plen in
     let cut' : split_of coded ≡ cut.0 ∷ split_of cut.1 = ap split_of (sym same) ∙ cut.2 in
     (λ i. (whole i ++ coded) ∷ []) ∙ sym (with_no_header format p coded cut.0 cut.1 le (omega arith) begins cut' (ends ∙ ap (header_end format) same)) ∙ ap (out_by format coded) (sym is)

@@ -1,15 +1,29 @@
 -- A packet is considered: its answer, what stands then, and what is left.
-use Rattle.std.proofs.Common.{◌≡◌, ℕ, ◌+◌, ◌%◌, ◌<◌, Bool, true, false, List, [], ◌∷◌, ◌++◌, length, set, Option, Some, Result, Ok, Err, refl, sym, ap, subst, ◌∙◌}
+use Rattle.std.proofs.Common.{◌≡◌, ℕ, ◌+◌, ◌%◌, ◌<◌, Bool, true, false, List, [], ◌∷◌, ◌++◌, length, get_or, Option, Some, None, Result, Ok, Err, refl, sym, ap, subst, ◌∙◌, arith}
+use Rattle.std.specs.Prelude.{replicate}
+use Rattle.std.proofs.lemmas.List.{get_or-replicate}
 use Rattle.h263_bits.specs.declared.fault.Fault.{Fault}
 use Rattle.h263_types.specs.declared.format.Format.{Format}
 use Rattle.payload_join.specs.declared.took.Took.{Took}
 use Rattle.payload_join.specs.declared.took.Took.TheVariants as tooks
 use Rattle.payload_join.specs.Packet.{Packet, packet_in}
+use Rattle.payload_join.specs.Unit.{packet_at}
 use Rattle.payload_join.specs.Run.{Joined, number_of, took_as, took, is_held, with_packet, made, behind_as, behind, given_as, given, joined_by, took_next, given_next}
 use Rattle.payload_join.specs.Places.{judged, left_at, top_after, holding_at, Shows}
 use Rattle.payload_join.specs.Units.{HasMade}
+use Rattle.payload_join.proofs.AnyOrder.{no_some}
 use Rattle.payload_join.proofs.Windows.{IsWindow, is_window, judged_is, holds}
 use Rattle.payload_join.proofs.Taken.{goes_out}
+
+-- a ring that is empty
+pub shows_nothing : (top : Option ℕ) (packets : List (Option Packet)) → top ≡ None → packets ≡ replicate 64 None → Shows top packets (joined_by [])
+unfolding joined_by packet_at
+shows_nothing top packets e f =
+    record {
+      top_is = e;
+      packet = λ t n g le lt. absurd (no_some t g);
+      nothing = λ g n. ap (λ (l : List (Option Packet)). get_or l (n % 64) None) f ∙ get_or-replicate 64 (n % 64) None None (omega arith);
+    }
 
 -- ---- a packet that can't be read
 
