@@ -22,7 +22,7 @@ shows_nothing top packets e f =
     record {
       top_is = e;
       packet = λ t n g le lt. absurd (no_some t g);
-      nothing = λ g n. ap (λ (l : List (Option Packet)). get_or l (n % 64) None) f ∙ get_or-replicate 64 (n % 64) None None (omega arith);
+      nothing = λ g n. let nothing : Option Packet = None in ap (λ (l : List (Option Packet)). get_or l (n % 64) None) f ∙ get_or-replicate 64 (n % 64) nothing nothing (omega arith);
     }
 
 -- ---- a packet that can't be read
