@@ -11,7 +11,7 @@ use Rattle.h263_types.specs.declared.format.Format.{Format}
 use Rattle.payload_join.specs.declared.took.Took.TheVariants as tooks
 use Rattle.payload_join.specs.Packet.{Packet, packet_in}
 use Rattle.payload_join.specs.Unit.{Held, packet_at}
-use Rattle.payload_join.specs.Run.{Joined, nothing_held, near, number_of, is_old, top_with, took_as, took, kept_from, with_packet, made_from, made, behind_as, behind, given_as, given, joined_by, join_run}
+use Rattle.payload_join.specs.Run.{Joined, nothing_held, near, number_of, is_old, top_with, took_as, took, kept_from, with_packet, made_from, made, held_after_as, held_after, given_as, given, joined_by, join_run}
 use Rattle.payload_join.specs.Laws.{sequence_of, sequence_in, IsAmong, IsAnyOrder}
 use Rattle.payload_join.proofs.Growing.{At, Grows, nothing, more_out}
 use Rattle.payload_join.proofs.Orders.{empty_from, window_same, near_is}
@@ -98,9 +98,9 @@ record IsNext (low : ℕ) (s : Joined) (z : List ℕ) (p : Packet) (x : ℕ) : T
 held_is : (low : ℕ) (s : Joined) (z : List ℕ) (p : Packet) (x : ℕ) → IsNext low s z p x → took s (Ok p) ≡ tooks.Held
 held_is low s z p x n = ap (took_as s) n.number ∙ (rw (n.young, n.fresh) refl)
 
-state_is : (low : ℕ) (s : Joined) (z : List ℕ) (p : Packet) (x : ℕ) → IsNext low s z p x → behind s (packet_in z) ≡ with_packet s x p
+state_is : (low : ℕ) (s : Joined) (z : List ℕ) (p : Packet) (x : ℕ) → IsNext low s z p x → held_after s (packet_in z) ≡ with_packet s x p
 state_is low s z p x n =
-    ap (behind s) n.read ∙ ap (behind_as s p) (held_is low s z p x n) ∙ ap (λ (k : ℕ). with_packet s k p) n.number
+    ap (held_after s) n.read ∙ ap (held_after_as s p) (held_is low s z p x n) ∙ ap (λ (k : ℕ). with_packet s k p) n.number
 
 given_is : (format : Format) (low : ℕ) (s : Joined) (z : List ℕ) (p : Packet) (x : ℕ) → IsNext low s z p x → given format s (packet_in z) ≡ made format s.held (with_packet s x p)
 given_is format low s z p x n =
@@ -292,9 +292,9 @@ differ_in n [] b all listed e = listed
 differ_in n (z ∷ zs) b all (inl same) e = eqb-false n (sequence_of z) all.0 (sym e ∙ ap sequence_of (sym same))
 differ_in n (z ∷ zs) b all (inr later) e = differ_in n zs b all.1 later e
 
-distinct_behind : (z : List ℕ) (zs : List (List ℕ)) → IsDistinct nat_eq (map sequence_of (z ∷ zs)) → IsDistinct nat_eq (map sequence_of zs)
+distinct_rest : (z : List ℕ) (zs : List (List ℕ)) → IsDistinct nat_eq (map sequence_of (z ∷ zs)) → IsDistinct nat_eq (map sequence_of zs)
 unfolding IsDistinct
-distinct_behind z zs h = h.1
+distinct_rest z zs h = h.1
 
 distinct_here : (z : List ℕ) (zs : List (List ℕ)) → IsDistinct nat_eq (map sequence_of (z ∷ zs)) → (b : List ℕ) → IsIn b zs → sequence_of b ≡ sequence_of z → ⊥
 unfolding IsDistinct
@@ -314,7 +314,7 @@ all_ran format low [] first a e high among distinct =
     record { ran = one_step format low [] first a.packet (low + a.place) (omega arith) (nothing_ran format low) n; top = _; top_is = step_top low [] first a.packet (low + a.place) n }
 all_ran format low (z ∷ xs) first a e high among distinct =
     let zs = xs ++ first ∷ [] in
-    let rest = all_ran format low xs first a e high (λ b l. among b (inr l)) (distinct_behind z zs distinct) in
+    let rest = all_ran format low xs first a e high (λ b l. among b (inr l)) (distinct_rest z zs distinct) in
     let m = among z (inl refl) in
     let n = later_next low zs (joined_by zs) rest.top z rest.ran.run rest.top_is high m (λ b l. among b (inr l)) (distinct_here z zs distinct) in
     record { ran = one_step format low zs z m.packet (low + m.place) (omega arith) rest.ran n; top = _; top_is = step_top low zs z m.packet (low + m.place) n }

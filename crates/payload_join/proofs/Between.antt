@@ -11,7 +11,7 @@ take_over (w ∷ ws) rest m =
     let e : suc (length ws) + m ≡ suc (length ws + m) = omega arith in
     ap (λ (k : ℕ). take k (w ∷ (ws ++ rest))) e ∙ ap (λ (l : List ℕ). w ∷ l) (take_over ws rest m)
 
--- the front, and what stands behind it
+-- the front, and what stands after it
 pub between_put : (room front : List ℕ) (p to : ℕ) → p + length front ≤ to → to ≤ length room
     → bytes_between (put_at room p front) p to ≡ front ++ bytes_between room (p + length front) to
 between_put room front p to order end =
@@ -21,7 +21,7 @@ between_put room front p to order end =
     ∙ ap (λ (k : ℕ). take k (front ++ drop (p + length front) room)) e
     ∙ take_over front (drop (p + length front) room) (to - (p + length front))
 
--- nothing changes behind it
+-- nothing changes after it
 pub between_after : (room front : List ℕ) (p from to : ℕ) → p + length front ≤ from → p + length front ≤ length room → bytes_between (put_at room p front) from to ≡ bytes_between room from to
 between_after room front p from to order end =
     let l : length (take p room) ≡ p = length-take-le p room (omega arith) in
@@ -47,7 +47,7 @@ between_grown room ws from at order end =
     let l : length (take at room) ≡ at = length-take-le at room (omega arith) in
     let rest : List ℕ = ws ++ drop (at + length ws) room in
     let front : drop from (take at room) ≡ bytes_between room from at =
-        (let e : at ≡ from + (at - from) = omega arith in ap (λ (k : ℕ). drop from (take k room)) e) ∙ drop-take from (at - from) room in
+    (let e : at ≡ from + (at - from) = omega arith in ap (λ (k : ℕ). drop from (take k room)) e) ∙ drop-take from (at - from) room in
     let d : length (drop from room) ≡ length room - from = length-drop from room in
     let many : length (bytes_between room from at) ≡ at - from = length-take-le (at - from) (drop from room) (omega arith) in
     let e : at + length ws - from ≡ length (bytes_between room from at) + length ws = omega arith in

@@ -12,7 +12,7 @@ cut_is xs at lt =
     let b = drop_more xs (at + 1) 0 (omega arith) in
     let c = drop_more xs (at + 1 + 1) 0 (omega arith) in
     let all : drop at xs ≡ get_or xs at 0 ∷ get_or xs (at + 1) 0 ∷ get_or xs (at + 1 + 1) 0 ∷ drop (at + 1 + 1 + 1) xs =
-        a ∙ ap (λ (l : List ℕ). get_or xs at 0 ∷ l) (b ∙ ap (λ (l : List ℕ). get_or xs (at + 1) 0 ∷ l) c) in
+    a ∙ ap (λ (l : List ℕ). get_or xs at 0 ∷ l) (b ∙ ap (λ (l : List ℕ). get_or xs (at + 1) 0 ∷ l) c) in
     sym (ap is_cut all ∙ ap (λ (k : ℕ). starts (get_or xs at 0) (get_or xs (at + 1) 0) (get_or xs k 0)) e)
 
 -- there are too few bytes for a cut

@@ -98,10 +98,10 @@ pub front_is : ((n value : ℕ) → value < 2 ^ n → number (spelled n value) �
     → (rtp ++ opening) ++ extra ≡ front_by sequence timestamp (record { bytes = extra; pebit = pebit })
 front_is again many rtp opening extra sequence timestamp pebit l1 l2 f1 f2 is_rtp is_opening =
     let heads : bytes_in 14 (fields (rtp_fields false sequence timestamp) ++ fields (opening_fields (length extra) pebit)) ≡ rtp ++ opening =
-        (λ i. bytes_in 14 (sym is_rtp i ++ sym is_opening i))
-        ∙ ap (bytes_in 14) (sym (bits_of-append rtp opening))
-        ∙ (let e : 14 ≡ length (rtp ++ opening) = omega (arith, length-append rtp opening) in ap (λ (k : ℕ). bytes_in k (bits_of (rtp ++ opening))) e)
-        ∙ bytes_again again many (rtp ++ opening) (both_fit rtp opening f1 f2) in
+    (λ i. bytes_in 14 (sym is_rtp i ++ sym is_opening i))
+    ∙ ap (bytes_in 14) (sym (bits_of-append rtp opening))
+    ∙ (let e : 14 ≡ length (rtp ++ opening) = omega (arith, length-append rtp opening) in ap (λ (k : ℕ). bytes_in k (bits_of (rtp ++ opening))) e)
+    ∙ bytes_again again many (rtp ++ opening) (both_fit rtp opening f1 f2) in
     ap (λ (l : List ℕ). l ++ extra) (sym heads)
 
 -- ---- where a picture header ends

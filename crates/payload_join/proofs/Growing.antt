@@ -244,7 +244,7 @@ more_out format before now x (suc count) grows =
     subst (λ (first : List (List ℕ)). IsPermutation (first ++ made_from format nothing now (x + 1) count) ((a ++ ads) ++ (b ++ bs))) (sym (one_more format before now x grows))
     (IsPermutation-trans _ ((a ++ b) ++ (ads ++ bs)) _ (IsPermutation-append_right (a ++ b) _ (ads ++ bs) rest) (crossed a b ads bs))
 
--- a unit of fewer than 64 packets behind its first is found
+-- a unit of fewer than 64 packets after its first is found
 pub unit_laws : UnitLaws
 unit_laws = record {
   exact = λ at x k. (unit_is at x k, unit_of at x k);

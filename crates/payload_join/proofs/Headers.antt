@@ -1,4 +1,4 @@
--- Zero bits in a row in the texts of picture headers: at most nine at the end. In front there may be fifteen, since the
+-- Zero bits in a row in the texts of picture headers: at most nine at the end. Before it there may be fifteen, since the
 -- first bit is 1.
 use Rattle.std.proofs.Common.{◌≡◌, ℕ, ◌≤◌, true, cond, List, [], length, refl, arith}
 use Rattle.std.specs.Prelude.{Option, Some, None, ◌==◌}
@@ -148,26 +148,26 @@ bci_keeps =
     (keeps_done 1 0 (λ _. 0) (omega arith)))
 
 -- a message, or the end
-abbrev behind_next : Option Message → ℕ
-behind_next None = 0
-behind_next (Some m) = 10
+abbrev after_next_bit : Option Message → ℕ
+after_next_bit None = 0
+after_next_bit (Some m) = 10
 
-next_keeps : (clock : Clock) (used : ℕ) → Keeps (next_message clock used) 10 behind_next
+next_keeps : (clock : Clock) (used : ℕ) → Keeps (next_message clock used) 10 after_next_bit
 unfolding next_message
 next_keeps clock used =
-    keeps_element bci (has_room used) _ 10 (λ _. 0) behind_next bci_keeps (λ more.
-    keeps_either (more == 0) (done None) _ 0 behind_next (keeps_done None 0 behind_next (omega arith))
-    (keeps_part (message clock) any _ 0 (λ _. 10) behind_next (message_keeps clock) (λ m. keeps_done (Some m) 10 behind_next (omega arith))))
+    keeps_element bci (has_room used) _ 10 (λ _. 0) after_next_bit bci_keeps (λ more.
+    keeps_either (more == 0) (done None) _ 0 after_next_bit (keeps_done None 0 after_next_bit (omega arith))
+    (keeps_part (message clock) any _ 0 (λ _. 10) after_next_bit (message_keeps clock) (λ m. keeps_done (Some m) 10 after_next_bit (omega arith))))
 
-next_left : (messages : List Message) (next : Option Message) → behind_next next ≤ turn_to 10 (λ _. 0) (after_message messages next)
+next_left : (messages : List Message) (next : Option Message) → after_next_bit next ≤ turn_to 10 (λ _. 0) (after_message messages next)
 next_left messages None = omega arith
 next_left messages (Some m) = omega arith
 
 back_turn_keeps : (clock : Clock) (messages : List Message) → Keeps (back_turn clock messages) 10 (turn_to 10 (λ _. 0))
 unfolding back_turn
 back_turn_keeps clock messages =
-    keeps_part (next_message clock (length messages)) any _ 10 behind_next (turn_to 10 (λ _. 0)) (next_keeps clock (length messages)) (λ next.
-    keeps_done (after_message messages next) (behind_next next) (turn_to 10 (λ _. 0)) (next_left messages next))
+    keeps_part (next_message clock (length messages)) any _ 10 after_next_bit (turn_to 10 (λ _. 0)) (next_keeps clock (length messages)) (λ next.
+    keeps_done (after_message messages next) (after_next_bit next) (turn_to 10 (λ _. 0)) (next_left messages next))
 
 back_keeps : (clock : Clock) → Keeps (back clock) 10 (λ _. 0)
 unfolding back

@@ -161,7 +161,7 @@ between_front bytes rest from to order end =
     let l : length (drop from bytes) ≡ length bytes - from = length-drop from bytes in
     ap (take (to - from)) d ∙ take-append-le (to - from) (drop from bytes) rest (omega arith)
 
--- what stands behind a packet in its slot is no part of it
+-- what stands after a packet in its slot is no part of it
 packet_front : (bytes rest : List ℕ) (p : Parts) → IsInside bytes p → packet_of (bytes ++ rest) p ≡ packet_of bytes p
 packet_front bytes rest p h =
     let a = h.extra in let b = h.order in let c = h.end in
@@ -191,8 +191,8 @@ held_is region slots parts top bytes sequence p r h =
     let there : bytes_in new slot ≡ bytes ++ drop (length bytes) (bytes_in region slot) = wrote_here region slots parts k ws r (omega arith) ∙ (let z : 0 + length bytes ≡ length bytes = omega arith in ap (λ (n : ℕ). bytes ++ drop n (bytes_in region slot)) z) in
     let packet : in_slot (bytes_in new slot) (Some p) ≡ Some (packet_of bytes p) = ap (λ (b : List ℕ). in_slot b (Some p)) there ∙ ap (λ (q : Packet). Some q) (packet_front bytes (drop (length bytes) (bytes_in region slot)) p h) in
     let packets : packets_of new slots (set (left_at top parts sequence) k (Some p)) ≡ set (left_at top (packets_of region slots parts) sequence) k (Some (packet_of bytes p)) =
-        packet_changed region new slots (left_at top parts sequence) k (Some p) (omega arith) (omega arith) (λ j lj ne. wrote_same region slots parts k j ws r (omega arith) (omega arith) ne)
-        ∙ (λ i. set (left_are region slots parts top sequence pl (omega arith) i) k (packet i)) in
+    packet_changed region new slots (left_at top parts sequence) k (Some p) (omega arith) (omega arith) (λ j lj ne. wrote_same region slots parts k j ws r (omega arith) (omega arith) ne)
+    ∙ (λ i. set (left_are region slots parts top sequence pl (omega arith) i) k (packet i)) in
     let room : room_of new slots ≡ room_of region slots = wrote_same region slots parts k 64 ws r (omega arith) (omega arith) (λ e. absurd (omega arith)) in
     λ i. record { top = Some (top_after top sequence); packets = packets i; room = room i }
 

@@ -21,7 +21,7 @@ pub record IsStep (before now : At) (n last : ℕ) : Type 0 where
   pub upto : n ≤ last
   pub young : last < n + 64
 
--- packet x begins a unit, and all behind it up to a number follow on
+-- packet x begins a unit, and all after it up to a number follow on
 pub record IsFrom (at : At) (low n x : ℕ) : Type 0 where
   pub from : low ≤ x
   pub below : x < n
@@ -215,8 +215,8 @@ made_two format before now n last x step first =
     let b = step.low in let c = step.upto in let d = step.young in let f = first.from in let g = first.below in
     let e : 64 ≡ a + suc (a' + suc (last - n)) = omega arith in
     let apart : (y : ℕ) → last - 63 ≤ y → y < n → (y ≡ x → ⊥) → made_one format now y (unit_at now y) (unit_at before y) ≡ [] =
-        λ y from lt ne. one_made format before now n last y step (omega arith) (omega arith)
-        ∙ one_apart format now (last - 63) n y from lt (λ h. ne (one_from now (last - 63) n y x h first)) in
+    λ y from lt ne. one_made format before now n last y step (omega arith) (omega arith)
+    ∙ one_apart format now (last - 63) n y from lt (λ h. ne (one_from now (last - 63) n y x h first)) in
     ap (made_from format before now (last - 63)) e
     ∙ one_only format before now (last - 63) a (a' + suc (last - n)) x (omega arith) (λ j lt. apart (last - 63 + j) (omega arith) (omega arith) (λ h. absurd (omega arith)))
     ∙ (λ i. one_made format before now n last x step (omega arith) (omega arith) i

@@ -34,13 +34,13 @@ built_cut g room p len left splits at order end cut =
     let coded : List ℕ = bytes_between room g.at g.to in
     let new : List ℕ = put_at room p f in
     let rest : drop (len + 2) coded ≡ bytes_between new (g.at + len + 2) g.to =
-        between_drop room g.at g.to (len + 2) (omega arith)
-        ∙ (let e : g.at + (len + 2) ≡ g.at + len + 2 = omega arith in ap (λ (k : ℕ). bytes_between room k g.to) e)
-        ∙ sym (between_after room f p (g.at + len + 2) g.to (omega arith) (omega arith)) in
+    between_drop room g.at g.to (len + 2) (omega arith)
+    ∙ (let e : g.at + (len + 2) ≡ g.at + len + 2 = omega arith in ap (λ (k : ℕ). bytes_between room k g.to) e)
+    ∙ sym (between_after room f p (g.at + len + 2) g.to (omega arith) (omega arith)) in
     let part : f ++ take len coded ≡ bytes_between new p (g.at + len) =
-        ap (λ (l : List ℕ). f ++ l) (between_take room g.at g.to len (omega arith))
-        ∙ ap (λ (k : ℕ). f ++ bytes_between room k (g.at + len)) (sym at)
-        ∙ sym (between_put room f p (g.at + len) (omega arith) (omega arith)) in
+    ap (λ (l : List ℕ). f ++ l) (between_take room g.at g.to len (omega arith))
+    ∙ ap (λ (k : ℕ). f ++ bytes_between room k (g.at + len)) (sym at)
+    ∙ sym (between_put room f p (g.at + len) (omega arith) (omega arith)) in
     let was : left_in g room ≡ fronted f o (split_of coded) = rw (left, splits) refl in
     let then_left : fronted o o (split_of (bytes_between new (g.at + len + 2) g.to)) ≡ left_in (record g { at = g.at + len + 2; front = g.other }) new = rw (left, splits) refl in
     was

@@ -16,7 +16,7 @@ use Rattle.h263_bits.proofs.SyntaxLaws.{and_both}
 use Rattle.std.proofs.lemmas.Bool.{ltb-true}
 use Rattle.std.specs.List.{list_all}
 use Rattle.payload_join.specs.Laws.{HasZeros, NoStart, IsPart}
-use Rattle.payload_join.proofs.Zeros.{behind_bit, zeros, zeros_then, zeros_add, seen, all_below, is_fine}
+use Rattle.payload_join.proofs.Zeros.{after_bit, zeros, zeros_then, zeros_add, seen, all_below, is_fine}
 use Rattle.payload_join.proofs.Kept.{Keeps, keeps_done, keeps_any, keeps_tried, keeps_part, keeps_less}
 use Rattle.payload_join.proofs.Macroblocks.{mb_keeps}
 use Rattle.payload_join.proofs.Headers.{header_keeps}
@@ -98,20 +98,20 @@ texts_keep a quant before [] text h = rw h (omega arith)
 texts_keep a quant before (m ∷ mbs) text h =
     rw h.2 (zeros_then 6 6 6 h.0 h.1 (mb_keeps a.kind quant (a.reaches (a.first + length before)) (a.predictor before) m h.0 h.3) (texts_keep a (quant_after quant m) (before ++ m ∷ []) mbs h.1 h.4))
 
--- a slice behind its header
-first_keeps : (h : Header) (first quant : ℕ) (mbs : List Mb) (front behind : List Bool) → Spells (head h true) (first, quant) front → AreTexts (around h first) quant [] mbs behind → zeros 9 (front ++ behind) ≤ 6
-first_keeps h first quant mbs front behind opened each =
-    zeros_then 9 6 6 front behind (omega (arith, first_head_keeps h (first, quant) front opened)) (texts_keep (around h first) quant [] mbs behind each)
+-- a slice after its header
+first_keeps : (h : Header) (first quant : ℕ) (mbs : List Mb) (front held_after : List Bool) → Spells (head h true) (first, quant) front → AreTexts (around h first) quant [] mbs held_after → zeros 9 (front ++ held_after) ≤ 6
+first_keeps h first quant mbs front held_after opened each =
+    zeros_then 9 6 6 front held_after (omega (arith, first_head_keeps h (first, quant) front opened)) (texts_keep (around h first) quant [] mbs held_after each)
 
-later_keeps : (h : Header) (first quant : ℕ) (mbs : List Mb) (front behind : List Bool) → Spells (head h false) (first, quant) front → AreTexts (around h first) quant [] mbs behind → zeros 15 (front ++ behind) ≤ 6
-later_keeps h first quant mbs front behind opened each =
-    zeros_then 15 6 6 front behind (omega (arith, later_head_keeps h (first, quant) front opened)) (texts_keep (around h first) quant [] mbs behind each)
+later_keeps : (h : Header) (first quant : ℕ) (mbs : List Mb) (front held_after : List Bool) → Spells (head h false) (first, quant) front → AreTexts (around h first) quant [] mbs held_after → zeros 15 (front ++ held_after) ≤ 6
+later_keeps h first quant mbs front held_after opened each =
+    zeros_then 15 6 6 front held_after (omega (arith, later_head_keeps h (first, quant) front opened)) (texts_keep (around h first) quant [] mbs held_after each)
 
--- sixteen behind the first bit are sixteen
+-- sixteen after the first bit are sixteen
 none_in : (text : List Bool) → zeros 15 text < 16 → HasZeros (drop 1 text) → ⊥
 unfolding zeros
 none_in [] lt h = let e : zeros 15 (h.front ++ (replicate 16 false ++ h.rest)) < 16 = subst (λ (t : List Bool). zeros 15 t < 16) h.parts lt in seen 15 h.front h.rest e
-none_in (b ∷ text) lt h = seen (behind_bit 15 b) h.front h.rest (subst (λ (t : List Bool). zeros (behind_bit 15 b) t < 16) h.parts lt)
+none_in (b ∷ text) lt h = seen (after_bit 15 b) h.front h.rest (subst (λ (t : List Bool). zeros (after_bit 15 b) t < 16) h.parts lt)
 
 -- ---- with padding
 
@@ -130,11 +130,11 @@ whole_slice from h begins first mbs bits is each =
 begun_quiet : (format : Format) (h : Header) (first : ℕ) (mbs : List Mb) (text slice : List Bool) → IsHeaderText format h text → IsSliceText h true first mbs slice → zeros 15 (text ++ slice) ≤ 13
 begun_quiet format h first mbs text slice spelt is =
     zeros_then 15 9 13 text slice (header_keeps format h text spelt)
-    (whole_slice 9 h true first mbs slice is (λ behind each. first_keeps h first is.quant mbs is.front behind is.opened each))
+    (whole_slice 9 h true first mbs slice is (λ held_after each. first_keeps h first is.quant mbs is.front held_after is.opened each))
 
 later_quiet : (h : Header) (first : ℕ) (mbs : List Mb) (slice : List Bool) → IsSliceText h false first mbs slice → zeros 15 slice ≤ 13
 later_quiet h first mbs slice is =
-    whole_slice 15 h false first mbs slice is (λ behind each. later_keeps h first is.quant mbs is.front behind is.opened each)
+    whole_slice 15 h false first mbs slice is (λ held_after each. later_keeps h first is.quant mbs is.front held_after is.opened each)
 
 pub no_starts : NoStart
 no_starts = record {
@@ -142,7 +142,7 @@ no_starts = record {
   later = λ h first mbs slice is. none_in slice (omega (arith, later_quiet h first mbs slice is));
 }
 
--- what is coded of a slice, with the picture header in front of it or without
+-- what is coded of a slice, with the picture header before it or without
 pub part_quiet : (bytes : List ℕ) → IsPart bytes → zeros 15 (bits_of bytes) ≤ 13
 part_quiet bytes (inl p) = rw p.parts (begun_quiet p.format p.header p.first p.mbs p.text p.slice p.spelt p.is)
 part_quiet bytes (inr p) = later_quiet p.header p.first p.mbs (bits_of bytes) p.is

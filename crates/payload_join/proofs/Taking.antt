@@ -8,7 +8,7 @@ use Rattle.payload_join.specs.declared.took.Took.{Took}
 use Rattle.payload_join.specs.declared.took.Took.TheVariants as tooks
 use Rattle.payload_join.specs.Packet.{Packet, packet_in}
 use Rattle.payload_join.specs.Unit.{packet_at}
-use Rattle.payload_join.specs.Run.{Joined, number_of, took_as, took, is_held, with_packet, made, behind_as, behind, given_as, given, joined_by, took_next, given_next}
+use Rattle.payload_join.specs.Run.{Joined, number_of, took_as, took, is_held, with_packet, made, held_after_as, held_after, given_as, given, joined_by, took_next, given_next}
 use Rattle.payload_join.specs.Places.{judged, left_at, top_after, holding_at, Shows}
 use Rattle.payload_join.specs.Units.{HasMade}
 use Rattle.payload_join.proofs.AnyOrder.{no_some}
@@ -32,18 +32,18 @@ refused_answer past bytes fault e = ap (took (joined_by past)) e
 
 pub refused_stands : (top : Option ℕ) (packets : List (Option Packet)) (past : List (List ℕ)) (bytes : List ℕ) (fault : Fault) → Err fault ≡ packet_in bytes → Shows top packets (joined_by past) → Shows top packets (joined_by (bytes ∷ past))
 unfolding joined_by
-refused_stands top packets past bytes fault e shows = subst (Shows top packets) (ap (behind (joined_by past)) e) shows
+refused_stands top packets past bytes fault e shows = subst (Shows top packets) (ap (held_after (joined_by past)) e) shows
 
 pub refused_left : (format : Format) (past : List (List ℕ)) (bytes : List ℕ) (fault : Fault) → Err fault ≡ packet_in bytes → [] ≡ given_next format past bytes
 refused_left format past bytes fault e = ap (given format (joined_by past)) e
 
 -- ---- one that can
 
-behind_not : (s : Joined) (p : Packet) (t : Took) → is_held t ≡ false → s ≡ behind_as s p t
-behind_not s p tooks.Held e = absurd cc
-behind_not s p tooks.Old e = refl
-behind_not s p tooks.Again e = refl
-behind_not s p (tooks.Refused fault) e = refl
+after_not : (s : Joined) (p : Packet) (t : Took) → is_held t ≡ false → s ≡ held_after_as s p t
+after_not s p tooks.Held e = absurd cc
+after_not s p tooks.Old e = refl
+after_not s p tooks.Again e = refl
+after_not s p (tooks.Refused fault) e = refl
 
 given_not : (format : Format) (s : Joined) (p : Packet) (t : Took) → is_held t ≡ false → [] ≡ given_as format s p t
 given_not format s p tooks.Held e = absurd cc
@@ -71,15 +71,15 @@ module _ (top : Option ℕ) (packets : List (Option Packet)) (bytes : List ℕ) 
   pub answered : t ≡ took_next past bytes
   answered = as_is ∙ ap (took (joined_by past)) (sym c.read)
 
-  behind_is : behind_as (joined_by past) p t ≡ behind (joined_by past) (packet_in bytes)
-  behind_is = ap (behind_as (joined_by past) p) as_is ∙ ap (behind (joined_by past)) (sym c.read)
+  after_is : held_after_as (joined_by past) p t ≡ held_after (joined_by past) (packet_in bytes)
+  after_is = ap (held_after_as (joined_by past) p) as_is ∙ ap (held_after (joined_by past)) (sym c.read)
 
   given_is : (format : Format) → given_as format (joined_by past) p t ≡ given_next format past bytes
   given_is format = ap (given_as format (joined_by past) p) as_is ∙ ap (given format (joined_by past)) (sym c.read)
 
   pub not_stands : is_held t ≡ false → Shows top packets (joined_by (bytes ∷ past))
   unfolding joined_by
-  not_stands e = subst (Shows top packets) (behind_not (joined_by past) p t e ∙ behind_is) shows
+  not_stands e = subst (Shows top packets) (after_not (joined_by past) p t e ∙ after_is) shows
 
   pub not_left : (format : Format) → is_held t ≡ false → [] ≡ given_next format past bytes
   not_left format e = given_not format (joined_by past) p t e ∙ given_is format
@@ -90,7 +90,7 @@ module _ (top : Option ℕ) (packets : List (Option Packet)) (bytes : List ℕ) 
   pub held_stands : is_held t ≡ true → Shows (Some (top_after top p.sequence)) (holding_at top packets p.sequence p) (joined_by (bytes ∷ past))
   unfolding joined_by
   held_stands e =
-      subst (Shows (Some (top_after top p.sequence)) (holding_at top packets p.sequence p)) (sym (ap (behind_as (joined_by past) p) (held_as t e)) ∙ behind_is)
+      subst (Shows (Some (top_after top p.sequence)) (holding_at top packets p.sequence p)) (sym (ap (held_after_as (joined_by past) p) (held_as t e)) ∙ after_is)
       (holds top packets (joined_by past) p.sequence p shows (is_window past) c.small c.many (is_taken e))
 
   pub held_left : (format : Format) (left : List (List ℕ)) → is_held t ≡ true → HasMade format top p.sequence (holding_at top packets p.sequence p) left → left ≡ given_next format past bytes

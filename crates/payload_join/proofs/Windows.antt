@@ -7,7 +7,7 @@ use Rattle.payload_join.specs.declared.took.Took.{Took}
 use Rattle.payload_join.specs.declared.took.Took.TheVariants as tooks
 use Rattle.payload_join.specs.Packet.{Packet, packet_in}
 use Rattle.payload_join.specs.Unit.{Held, packet_at}
-use Rattle.payload_join.specs.Run.{Joined, nothing_held, near, number_of, is_old, top_with, took_as, took, kept_from, with_packet, behind_as, behind, joined_by}
+use Rattle.payload_join.specs.Run.{Joined, nothing_held, near, number_of, is_old, top_with, took_as, took, kept_from, with_packet, held_after_as, held_after, joined_by}
 use Rattle.payload_join.specs.Places.{place_at, reach, judged, forgotten, passed, left_at, top_after, rest_of, Shows}
 use Rattle.payload_join.proofs.AnyOrder.{one_held, kept_at, gone, no_some, some_same}
 use Rattle.payload_join.proofs.InSlots.{many_forgotten, many_left}
@@ -252,11 +252,11 @@ window_with s sequence p w =
         at None is = w.nothing is n
         at (Some t) is = let e : top_with s.top (number_of s.top sequence) ≡ max t (number_of s.top sequence) = ap (λ (o : Option ℕ). top_with o (number_of s.top sequence)) is in w.over t n is (omega (arith, e))
 
-window_behind : (s : Joined) (r : Result Packet Fault) → IsWindow s → IsWindow (behind s r)
-window_behind s (Err fault) w = w
-window_behind s (Ok p) w = at (took s (Ok p))
+window_after : (s : Joined) (r : Result Packet Fault) → IsWindow s → IsWindow (held_after s r)
+window_after s (Err fault) w = w
+window_after s (Ok p) w = at (took s (Ok p))
   where
-    at : (t : Took) → IsWindow (behind_as s p t)
+    at : (t : Took) → IsWindow (held_after_as s p t)
     at tooks.Held = window_with s p.sequence p w
     at tooks.Old = w
     at tooks.Again = w
@@ -266,7 +266,7 @@ window_behind s (Ok p) w = at (took s (Ok p))
 pub is_window : (past : List (List ℕ)) → IsWindow (joined_by past)
 unfolding joined_by packet_at
 is_window [] = record { big = λ t e. absurd (no_some t e); under = λ t n e le. refl; over = λ t n e lt. refl; nothing = λ e n. refl }
-is_window (bytes ∷ past) = window_behind (joined_by past) (packet_in bytes) (is_window past)
+is_window (bytes ∷ past) = window_after (joined_by past) (packet_in bytes) (is_window past)
 
 -- ---- a packet that is held, as a whole
 

@@ -49,7 +49,7 @@ abbrev behind_word : Option Event → ℕ
 behind_word (Some e) = 5
 behind_word None = 0
 
--- each LEVEL of an escape behind LAST and RUN
+-- each LEVEL of an escape after LAST and RUN
 levels_tried : all_below 256 (is_fine 8 7 allowed_level (λ _. 6)) ≡ true
 unfolding all_below zeros spelled
 levels_tried = refl

@@ -1,4 +1,4 @@
--- What stands in front of a part, and the picture header that it copies.
+-- What stands before a part, and the picture header that it copies.
 use Rattle.std.specs.Prelude.{ℕ, ◌*◌, nat_le, List, ◌++◌, length, take, false, Option, Some, None, Result, Ok, Err, if◌then◌else◌}
 use Rattle.h263_bits.specs.declared.fault.Fault.{Fault}
 use Rattle.h263_bits.specs.Bits.{fields}
@@ -21,7 +21,8 @@ front_bytes f = take f.len f.bytes
 -- RTP's header, and the payload header with its extra one
 abbrev pub front_by : ℕ → ℕ → Extra → List ℕ
 front_by sequence timestamp extra =
-    bytes_in 14 (fields (rtp_fields false sequence timestamp) ++ fields (opening_fields (length extra.bytes) extra.pebit))
+    bytes_in 14 (fields (rtp_fields false sequence timestamp)
+    ++ fields (opening_fields (length extra.bytes) extra.pebit))
     ++ extra.bytes
 
 -- where the picture header ends that coded bytes begin with, if it takes 63 bytes at most

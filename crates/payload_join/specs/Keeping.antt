@@ -19,7 +19,8 @@ joining_of ring format first second giving from to =
       given = bytes_between ring.room from to;
     }
 
-pub record IsJoiner (ring : Packets) (first second : Option Span) (giving : Giving) (from to : ℕ) : Type 0 where
+pub record IsJoiner (ring : Packets) (first second : Option Span) (giving : Giving) (from to : ℕ)
+    : Type 0 where
   pub giving_is : IsGiving giving
   pub first_is : IsWholeIf ring.packets first
   pub second_is : IsWholeIf ring.packets second

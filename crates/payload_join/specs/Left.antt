@@ -10,4 +10,5 @@ use Rattle.payload_join.specs.Giving.{left_in}
 -- what is left is what is left of the unit in the room, and then what goes out of up to two more
 abbrev pub left_of : Packets → Format → Option Span → Option Span → Giving → List (List ℕ)
 left_of ring format first second giving =
-    left_in giving ring.room ++ (unit_left format ring.packets first ++ unit_left format ring.packets second)
+    left_in giving ring.room
+    ++ (unit_left format ring.packets first ++ unit_left format ring.packets second)

@@ -60,11 +60,15 @@ top_after (Some top) sequence = if nat_lt 32768 (reach top sequence) then sequen
 
 -- a packet is held
 abbrev pub holding_at : Option ℕ → List (Option Packet) → ℕ → Packet → List (Option Packet)
-holding_at top packets sequence p = slice_set (left_at top packets sequence) (sequence % 64) (Some p)
+holding_at top packets sequence p =
+    slice_set (left_at top packets sequence) (sequence % 64) (Some p)
 
 abbrev pub holding : Packets → ℕ → Packet → Packets
 holding r sequence p =
-    record r { top = Some (top_after r.top sequence); packets = holding_at r.top r.packets sequence p }
+    record r {
+      top = Some (top_after r.top sequence);
+      packets = holding_at r.top r.packets sequence p;
+    }
 
 -- ---- what they stand for
 
@@ -75,5 +79,6 @@ rest_of (Some top) = Some (top % 65536)
 -- these are the packets that are held, each at its place
 pub record Shows (top : Option ℕ) (packets : List (Option Packet)) (s : Joined) : Type 0 where
   pub top_is : top ≡ rest_of s.top
-  pub packet : (t n : ℕ) → s.top ≡ Some t → n ≤ t → t < n + 64 → place_at packets n ≡ packet_at s.held n
+  pub packet : (t n : ℕ) → s.top ≡ Some t → n ≤ t → t < n + 64
+      → place_at packets n ≡ packet_at s.held n
   pub nothing : s.top ≡ None → (n : ℕ) → place_at packets n ≡ None

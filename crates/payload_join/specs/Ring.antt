@@ -18,7 +18,8 @@ in_slot bytes (Some p) = Some (packet_of bytes p)
 abbrev pub packets_of : Slots → List ℕ → List (Option Parts) → List (Option Packet)
 packets_of region slots [] = []
 packets_of region [] (p ∷ parts) = []
-packets_of region (slot ∷ slots) (p ∷ parts) = in_slot (bytes_in region slot) p ∷ packets_of region slots parts
+packets_of region (slot ∷ slots) (p ∷ parts) =
+    in_slot (bytes_in region slot) p ∷ packets_of region slots parts
 
 -- the room is the last slot
 abbrev pub room_of : Slots → List ℕ → List ℕ
@@ -44,7 +45,8 @@ extra_one (Some p) = p.extra.bytes
 -- these are all slots that are out, each once
 pub record IsHeld (region : Slots) (slots : List ℕ) : Type 0 where
   pub out : (k : ℕ) → k < length slots → IsOut region (slice_index slots k)
-  pub once : (j k : ℕ) → j < length slots → k < length slots → slice_index slots j ≡ slice_index slots k → j ≡ k
+  pub once : (j k : ℕ) → j < length slots → k < length slots
+      → slice_index slots j ≡ slice_index slots k → j ≡ k
   pub all : out_of region ≡ length slots
 
 -- the parts of a packet lie in a slot

@@ -7,7 +7,7 @@ use Rattle.payload_join.specs.Unit.{begins_one, follows_one, marked_at, unit_at}
 use Rattle.payload_join.specs.Outgoing.{coded_from, outgoing_of}
 use Rattle.payload_join.specs.Places.{place_at, window, top_after}
 
--- packet x begins a unit, and all behind it up to a number follow on
+-- packet x begins a unit, and all after it up to a number follow on
 pub record IsBefore (packets : List (Option Packet)) (low number x : ℕ) : Type 0 where
   pub from : low ≤ x
   pub below : x < number
@@ -47,18 +47,23 @@ number_by last sequence = last - (last - sequence) % 65536
 abbrev pub IsFirst : Format → List (Option Packet) → ℕ → ℕ → Option Span → Type 0
 IsFirst format packets last n u =
     ((x : ℕ) × IsBefore packets (last - 63) n x
-    × (unit_left format packets u ≡ out_made format (window packets last) n x (unit_at (window packets last) x)))
+    × (unit_left format packets u
+    ≡ out_made format (window packets last) n x (unit_at (window packets last) x)))
     ⊎ (((x : ℕ) → IsBefore packets (last - 63) n x → ⊥) × (unit_left format packets u ≡ []))
 
 -- what goes out of the unit that packet n begins
 abbrev pub IsSecond : Format → List (Option Packet) → ℕ → ℕ → Option Span → Type 0
 IsSecond format packets last n u =
-    unit_left format packets u ≡ out_made format (window packets last) n n (unit_at (window packets last) n)
+    unit_left format packets u
+    ≡ out_made format (window packets last) n n (unit_at (window packets last) n)
 
 -- what is left is what goes out of the units that a packet of this sequence number made whole
-pub record HasMade (format : Format) (top : Option ℕ) (sequence : ℕ) (packets : List (Option Packet)) (left : List (List ℕ)) : Type 0 where
+pub record HasMade (format : Format) (top : Option ℕ) (sequence : ℕ)
+    (packets : List (Option Packet)) (left : List (List ℕ)) : Type 0 where
   pub first : Option Span
   pub second : Option Span
   pub left_is : left ≡ unit_left format packets first ++ unit_left format packets second
-  pub first_is : IsFirst format packets (top_after top sequence + 65536) (number_by (top_after top sequence + 65536) sequence) first
-  pub second_is : IsSecond format packets (top_after top sequence + 65536) (number_by (top_after top sequence + 65536) sequence) second
+  pub first_is : IsFirst format packets (top_after top sequence + 65536)
+      (number_by (top_after top sequence + 65536) sequence) first
+  pub second_is : IsSecond format packets (top_after top sequence + 65536)
+      (number_by (top_after top sequence + 65536) sequence) second

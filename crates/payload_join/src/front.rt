@@ -1,4 +1,4 @@
-//! What stands in front of the coded bytes of an outgoing packet.
+//! What stands before the coded bytes of an outgoing packet.
 ghost use Rattle.std.specs.Prelude.{◌≡◌, ℕ, ◌+◌, ◌-◌, ◌*◌, ◌/◌, ◌^◌, ◌<◌, ◌≤◌, ◌++◌, length, slice_index, take, IfSome};
 ghost use Rattle.h263_bits.specs.Bits.{bits_of, fields};
 ghost use Rattle.h263_payload.specs.Written.{opening_fields};

@@ -28,7 +28,7 @@ pub(crate) struct Giving {
     // Where in the room they are, without those that were given.
     pub(crate) at: usize,
     pub(crate) to: usize,
-    // What stands in front of the next part, and of each after that.
+    // What stands before the next part, and of each after that.
     pub(crate) front: Front,
     pub(crate) other: Front,
 }
@@ -118,7 +118,12 @@ impl Giving {
     // All of a unit is left, whose coded bytes lie in the room up to a place.
     fn all(to: usize, splits: bool, front: Front, other: Front) -> Giving
         ensures { result ≡ record {
-          is_left = true; splits = splits; at = 77; to = to; front = front; other = other
+          is_left = true;
+          splits = splits;
+          at = 77;
+          to = to;
+          front = front;
+          other = other;
         } }
     {
         Giving {
@@ -173,7 +178,12 @@ fn fronts(ring: &PacketRing, number: u32, to: usize, format: Format) -> Giving
     };
     let coded = &ring.room()[START..to];
     if first.plen > 0 {
-        let each = front_with(first.sequence, first.timestamp, ring.extra(number), first.pebit);
+        let each = front_with(
+            first.sequence,
+            first.timestamp,
+            ring.extra(number),
+            first.pebit,
+        );
         return Giving::all(to, true, each, each);
     }
     let plain = front_with(first.sequence, first.timestamp, &[], 0);

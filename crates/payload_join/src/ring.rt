@@ -201,7 +201,14 @@ impl PacketRing {
         };
         let from = parts.coded_from as usize;
         let to = parts.to as usize;
-        copy(&mut self.region, &self.slots[place], from, to, &self.slots[64], at);
+        copy(
+            &mut self.region,
+            &self.slots[place],
+            from,
+            to,
+            &self.slots[64],
+            at,
+        );
         at + (to - from)
     }
 
@@ -274,7 +281,7 @@ fn put(region: &mut Region, slot: &Slot, at: usize, bytes: &[u8])
     requires out { IsOut region.old slot.now }
     requires room { at + length bytes.now ≤ region.old.size }
     ensures { region.new ≡ record region.old {
-      bytes = slice_set region.old.bytes slot.now (put_at (bytes_in region.old slot.now) at bytes.now)
+      bytes = slice_set region.old.bytes slot.now (put_at (bytes_in region.old slot.now) at bytes.now);
     } }
 {
     let room = region.bytes_mut(slot);
@@ -291,7 +298,7 @@ fn copy(region: &mut Region, read: &Slot, from: usize, to: usize, write: &Slot, 
     requires room { at + (to - from) ≤ region.old.size }
     ensures { region.new ≡ record region.old {
       bytes = slice_set region.old.bytes write.now
-          (put_at (bytes_in region.old write.now) at (bytes_between (bytes_in region.old read.now) from to))
+          (put_at (bytes_in region.old write.now) at (bytes_between (bytes_in region.old read.now) from to));
     } }
 {
     let (source, room) = region.two(read, write);

@@ -105,7 +105,7 @@ pub(crate) fn made_by(ring: &PacketRing, number: u32, first: u32, last: u32) -> 
     requires fits { last < 2 ^ 31 }
     ensures out { (format : Format) → unit_left format ring.now.packets result
         ≡ out_made format (window ring.now.packets last) number first
-          (unit_at (window ring.now.packets last) first) }
+        (unit_at (window ring.now.packets last) first) }
     ensures whole { IsWholeIf ring.now.packets result }
 {
     let follow = unit_from(ring, first, last)?;
@@ -168,7 +168,7 @@ pub(crate) fn take_first(first: &mut Option<Span>, second: &mut Option<Span>) ->
     ensures out { (format : Format) (packets : List (Option Packet))
         → unit_left format packets first.old ++ unit_left format packets second.old
         ≡ unit_left format packets result
-          ++ (unit_left format packets first.new ++ unit_left format packets second.new) }
+        ++ (unit_left format packets first.new ++ unit_left format packets second.new) }
     ensures whole { (packets : List (Option Packet))
         → IsWholeIf packets first.old → IsWholeIf packets second.old
         → IsWholeIf packets result × IsWholeIf packets first.new × IsWholeIf packets second.new }

@@ -1,5 +1,5 @@
 //! Packets that are joined, byte for byte, over public calls.
-ghost use Rattle.std.specs.Prelude.{◌≡◌, [], length, ◌+◌, ◌≤◌};
+ghost use Rattle.std.specs.Prelude.{◌≡◌, []};
 
 use crate::packet_cutter_tests::cut_even;
 use h263_bits::FaultKind;
@@ -14,7 +14,7 @@ const FOLLOWING: [u8; 14] = [
     0x80, 0xE0, 0x00, 0x01, 0x00, 0x00, 0x00, 0x00, 0x48, 0x32, 0x36, 0x33, 0x00, 0x00,
 ];
 
-// A packet that begins a unit and has no coded bytes.
+// A packet that begins a unit, without coded bytes.
 const BEGINNING: [u8; 14] = [
     0x80, 0x60, 0x00, 0x00, 0x00, 0x00, 0x00, 0x00, 0x48, 0x32, 0x36, 0x33, 0x04, 0x00,
 ];
@@ -33,6 +33,16 @@ fn drained(joiner: &mut Joiner, out: &mut [u8]) -> usize
         used = end;
     }
     used
+}
+
+// What becomes of a packet; what goes out with it is dropped.
+fn taken(joiner: &mut Joiner, bytes: &[u8]) -> Took
+    requires { joiner.old.left ≡ [] }
+    ensures { joiner.new.left ≡ [] }
+{
+    let took = joiner.take(bytes, Format::Cif);
+    drained(joiner, &mut []);
+    took
 }
 
 // The second part of a picture comes first, and each part twice: one packet goes out.
@@ -80,5 +90,65 @@ fn two_slices_of_a_packet(rt: HostRuntime) -> Result<(), Fail> {
     assert_eq!(rt; (both.len(), took, all), (2653, Took::Held, 1396 + 1278));
     assert_eq!(rt; &out[12..1396], &cutter.packet(0)[12..]);
     assert_eq!(rt; &out[1408..2674], &cutter.packet(1)[12..]);
+    Ok(())
+}
+
+// What can't be read is refused with its first fault, and changes nothing.
+#[test]
+fn packets_that_are_refused(rt: HostRuntime) -> Result<(), Fail> {
+    // The byte after V, and an extra header of one byte, that pass the end.
+    let mut redundant = BEGINNING;
+    redundant[12] = 0x06;
+    let mut extra = BEGINNING;
+    extra[13] = 0x08;
+    let mut joiner = Joiner::start(rt.alloc())?;
+    let short = taken(&mut joiner, &BEGINNING[..11]);
+    let cut = taken(&mut joiner, &BEGINNING[..13]);
+    let v = taken(&mut joiner, &redundant);
+    let plen = taken(&mut joiner, &extra);
+    let held = taken(&mut joiner, &BEGINNING);
+    joiner.finish();
+    assert_eq!(rt; short, Took::Refused(FaultKind::Short.at(88)));
+    assert_eq!(rt; cut, Took::Refused(FaultKind::Ended.at(96)));
+    assert_eq!(rt; v, Took::Refused(FaultKind::Ended.at(120)));
+    assert_eq!(rt; plen, Took::Refused(FaultKind::Ended.at(112)));
+    assert_eq!(rt; held, Took::Held);
+    Ok(())
+}
+
+// The packet of a sequence number.
+fn numbered(sequence: u16) -> [u8; 14] {
+    let mut bytes = BEGINNING;
+    bytes[2] = (sequence / 256) as u8;
+    bytes[3] = (sequence % 256) as u8;
+    bytes
+}
+
+// Both ends of the window, round 65,535: 63 numbers below the greatest are held, and the 64th is
+// old, also where it was held before.
+#[test]
+fn ends_of_the_window(rt: HostRuntime) -> Result<(), Fail> {
+    let rows = [
+        (0, Took::Held),
+        (65_473, Took::Held),
+        (65_472, Took::Old),
+        (65_473, Took::Again),
+        (64, Took::Held),
+        (0, Took::Old),
+        (1, Took::Held),
+        (1, Took::Again),
+        (32_832, Took::Old),
+        (32_831, Took::Held),
+        (64, Took::Old),
+    ];
+    let mut right: u32 = 0;
+    let mut joiner = Joiner::start(rt.alloc())?;
+    'rows: for (sequence, want) in rows {
+        if taken(&mut joiner, &numbered(sequence)) == want {
+            right = right.saturating_add(1);
+        }
+    }
+    joiner.finish();
+    assert_eq!(rt; right, 11);
     Ok(())
 }

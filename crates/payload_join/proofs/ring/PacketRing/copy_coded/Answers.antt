@@ -25,7 +25,7 @@ pub copy-requires-clause-room : goal.copy-requires-clause-room
 copy-requires-clause-room c =
     let s = c.self.inside in let p = c.in-Some.parts in let size = c.self.invariant.size in let room = c.requires in
     let long = coded_is s.region s.slots.items s.parts.items c.args.number c.index.result.now p c.self.invariant c.index.ensures c.in-Some.is
-        ∙ ap (λ q. length {A = ℕ} (coded_one q)) (seen_at s.region s.slots.items s.parts.items c.args.number c.index.result.now (Some p) c.self.invariant c.index.ensures c.in-Some.is c.self.view_is) in
+    ∙ ap (λ q. length {A = ℕ} (coded_one q)) (seen_at s.region s.slots.items s.parts.items c.args.number c.index.result.now (Some p) c.self.invariant c.index.ensures c.in-Some.is c.self.view_is) in
     omega arith
 
 pub overflow_sub-result : goal.overflow_sub-result
@@ -41,7 +41,7 @@ invariant_of-self c =
     let packet = seen_at s.region s.slots.items s.parts.items c.args.number c.index.result.now (Some p) c.self.invariant c.index.ensures c.in-Some.is c.self.view_is in
     let coded = ap (λ (k : ℕ). bytes_between (bytes_in s.region k) p.coded_from p.to) read ∙ ap coded_one packet in
     let new = c.copy.ensures
-        ∙ (λ i. with_slot s.region (last i) (put_at (bytes_in s.region (last i)) at (coded i))) in
+    ∙ (λ i. with_slot s.region (last i) (put_at (bytes_in s.region (last i)) at (coded i))) in
     subst (λ (t : Slots). IsRing t s.slots.items s.parts.items) (sym new)
     (room_ring s.region s.slots.items s.parts.items at (coded_one (place_at c.args.self.now.packets c.args.number)) c.self.invariant c.requires)
 
@@ -54,7 +54,7 @@ returns-clause-room c =
     let packet = seen_at s.region s.slots.items s.parts.items c.args.number c.index.result.now (Some p) c.self.invariant c.index.ensures c.in-Some.is c.self.view_is in
     let coded = ap (λ (k : ℕ). bytes_between (bytes_in s.region k) p.coded_from p.to) read ∙ ap coded_one packet in
     let new = c.copy.ensures
-        ∙ (λ i. with_slot s.region (last i) (put_at (bytes_in s.region (last i)) at (coded i))) in
+    ∙ (λ i. with_slot s.region (last i) (put_at (bytes_in s.region (last i)) at (coded i))) in
     ap (λ (t : Slots). seen s.top t s.slots.items s.parts.items) new
     ∙ room_seen s.top s.region s.slots.items s.parts.items at all c.self.invariant
     ∙ ap (λ (t : Packets). record t { room = put_at t.room at all }) c.self.view_is

@@ -35,8 +35,8 @@ returns-clause-holds c =
     let kept = with_items_is s.parts c.forget.new.parts long ∙ left in
     let is_slot = slot_is s.region s.slots.items items sequence slot c.self.invariant c.index.ensures in
     let written : seen (Some c.greatest-top.result) c.put.new.region s.slots.items (set (with_items s.parts c.forget.new.parts).items (sequence % 64) (Some p))
-        ≡ seen (Some (top_after s.top sequence)) (with_slot s.region slot (put_at (bytes_in s.region slot) 0 bytes)) s.slots.items (set (left_at s.top items sequence) (sequence % 64) (Some p)) =
-        λ i. seen (Some (c.greatest-top.ensures i)) (c.put.ensures i) s.slots.items (set (kept i) (sequence % 64) (Some p)) in
+    ≡ seen (Some (top_after s.top sequence)) (with_slot s.region slot (put_at (bytes_in s.region slot) 0 bytes)) s.slots.items (set (left_at s.top items sequence) (sequence % 64) (Some p)) =
+    λ i. seen (Some (c.greatest-top.ensures i)) (c.put.ensures i) s.slots.items (set (kept i) (sequence % 64) (Some p)) in
     written
     ∙ ap (λ (k : ℕ). seen (Some (top_after s.top sequence)) (with_slot s.region k (put_at (bytes_in s.region k) 0 bytes)) s.slots.items (set (left_at s.top items sequence) (sequence % 64) (Some p))) is_slot
     ∙ held_is s.region s.slots.items items s.top bytes sequence p c.self.invariant c.requires
