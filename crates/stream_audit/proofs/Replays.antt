@@ -42,8 +42,8 @@ module _ {Style Mb P Fault MessageFault : Type 0} (decoding : Decoding Style Mb 
   -- ---- a picture that is sent is sound
 
   sound_send : (past : List Event) (at : At decoding read rules stream past) (p : StreamPicture Style Mb) → IsSoundAfter decoding read rules at.done p → IsSoundPicture decoding.pictures rules (cl past) (coded_of decoding read rules stream (length (cl past).coded) (cl past).coded p)
-  sound_send past at p behind = record {
-    covers = behind.covers;
+  sound_send past at p placed = record {
+    covers = placed.covers;
     picture = refl;
     reference = λ m is. named m p.header.reference refl is;
   }
@@ -51,7 +51,7 @@ module _ {Style Mb P Fault MessageFault : Type 0} (decoding : Decoding Style Mb 
       named : (m : ℕ) (o : Option ℕ) → p.header.reference ≡ o → option_and_then (nearest_below rules (length (cl past).coded)) o ≡ Some m → (length (cl past).coded ≤ m + window rules) × (is_among (cl past).known m ≡ true)
       named m None header is = absurd (not_none m (sym is))
       named m (Some rest) header is =
-          let r = behind.reference rest header in
+          let r = placed.reference rest header in
           let there : nearest_below rules (length (cl past).coded) rest ≡ Some r.0 = ap (λ (k : ℕ). nearest_below rules k rest) (sym at.pictures) ∙ r.1 in
           let same : Some r.0 ≡ Some m = sym there ∙ is in
           let equal : r.0 ≡ m = cc in (
@@ -73,8 +73,8 @@ module _ {Style Mb P Fault MessageFault : Type 0} (decoding : Decoding Style Mb 
       p : StreamPicture Style Mb
       p = is_of.picture
 
-      behind : (behind : List (Item Style Mb)) × (pictures_in behind ≡ n) × IsSoundAfter decoding read rules behind p
-      behind = sound_at decoding read rules stream n p sound is_of.there
+      placed : (placed : List (Item Style Mb)) × (pictures_in placed ≡ n) × IsSoundAfter decoding read rules placed p
+      placed = sound_at decoding read rules stream n p sound is_of.there
 
       bytes_at : slice_get (packets_in stream n) j ≡ option_map (λ part. part.bytes) (slice_get p.parts j)
       bytes_at = ap (λ (o : Option (StreamPicture Style Mb)). slice_get (option_map_or packets_of o []) j) is_of.there ∙ slice_get-map (λ (part : Part Style Mb). part.bytes) p.parts j
@@ -84,14 +84,14 @@ module _ {Style Mb P Fault MessageFault : Type 0} (decoding : Decoding Style Mb 
 
       of_part : (part : Part Style Mb) → slice_get p.parts j ≡ Some part → decoding.read part.bytes ≡ Ok (record { header = header_of rules n x; slice = part.piece.slice })
       of_part part here =
-          let got = behind.2.packets j part here in
+          let got = placed.2.packets j part here in
           let reference : option_map (λ m. m % period rules) x.reference ≡ p.header.reference =
           ap (λ (o : Option ℕ). option_map (λ m. m % period rules) o) is_of.reference
           ∙ reference_again n p.header.reference
-          (λ rest is. in_period part.bytes part.piece rest got.0 (ap (λ (h : Header Style). h.half) got.1 ∙ behind.2.half) (ap (λ (h : Header Style). h.reference) got.1 ∙ is))
-          (λ rest is. let r = behind.2.reference rest is in (r.0, ap (λ (k : ℕ). nearest_below rules k rest) (sym behind.1) ∙ r.1)) in
-          let number : p.header.number ≡ n % period rules = behind.2.number ∙ ap (λ (k : ℕ). k % period rules) behind.1 in
-          let whole = header_is p.header (n % period rules) (option_map (λ m. m % period rules) x.reference) rules.half number reference behind.2.half in
+          (λ rest is. in_period part.bytes part.piece rest got.0 (ap (λ (h : Header Style). h.half) got.1 ∙ placed.2.half) (ap (λ (h : Header Style). h.reference) got.1 ∙ is))
+          (λ rest is. let r = placed.2.reference rest is in (r.0, ap (λ (k : ℕ). nearest_below rules k rest) (sym placed.1) ∙ r.1)) in
+          let number : p.header.number ≡ n % period rules = placed.2.number ∙ ap (λ (k : ℕ). k % period rules) placed.1 in
+          let whole = header_is p.header (n % period rules) (option_map (λ m. m % period rules) x.reference) rules.half number reference placed.2.half in
           let styled : p.header ≡ header_of rules n x =
           whole ∙ ap (λ (s : Style). let g : Header Style = record { number = n % period rules; reference = option_map (λ m. m % period rules) x.reference; half = rules.half; style = s } in g) (sym is_of.style) ∙ sym (header_of_is rules n x) in
           got.0 ∙ ap (λ (h : Header Style). let r : Result (Piece Style Mb) Fault = Ok (record { header = h; slice = part.piece.slice }) in r) (got.1 ∙ styled)

@@ -1,6 +1,6 @@
 //! Audits of logs: each rule is broken by itself and beside another one, in both orders; feedback
 //! is refused, old, lying or of a picture to come. By both clocks.
-ghost use Rattle.std.specs.Prelude.{◌≡◌, ◌≤◌, ◌<◌, IfOk, length};
+ghost use Rattle.std.specs.Prelude.{◌≡◌, ◌≤◌, length};
 ghost use Rattle.h263_types.specs.Params.{IsParams};
 ghost use Rattle.h263_planes.specs.Lent.{picture};
 ghost use Rattle.h263_types.specs.declared.clock.Clock.TheVariants.{Custom};
