@@ -8,7 +8,7 @@ pub loop-status-init : goal.loop-status-init
 loop-status-init g c = record {
   plays = λ run inputs start p. p;
   ends = λ final p. p;
-  stays = λ k. k;
+  stays = λ first k. k;
   ready = c.requires;
   source = refl;
   rest = record { attached = refl; name = refl; faults = record { attach = omega arith; read = omega arith; write = omega arith }; loans = refl };
@@ -28,7 +28,7 @@ loop-status-preserved g c =
           let p = c.loop-status.invariant.ends final before in
           let w = gave said.field-0 true (m.step p.state p.rest) (m.stands c.turn.new.self) m.reads (m.reads p.state) p.rest (outside c.loop-status.desk) (outside c.turn.new.desk) said.field-0-test (said.ensures.gives p.state p.rest p.kept p.told) in
           state_on m.step m.reads final (outside c.loop-status.desk) (outside c.turn.new.desk) _ _ p (m.stands c.turn.new.self) (m.more c.turn.new.self) (fell said.field-0 _ _ said.field-0-test said.ensures.falls) w;
-      stays = λ k. said.ensures.stays c.args.machine.now (c.loop-status.invariant.stays k);
+      stays = λ first k. said.ensures.stays first (c.loop-status.invariant.stays first k);
       ready = on_going said.field-0 (m.ready c.turn.new.self (outside c.turn.new.desk).attached) said.field-0-test said.ensures.ready;
       source = on_going said.field-0 _ said.field-0-test said.ensures.source ∙ c.loop-status.invariant.source;
       rest = roles_on (outside c.args.desk.now) (outside c.loop-status.desk) (outside c.turn.new.desk) c.loop-status.invariant.rest said.ensures.rest;
