@@ -1,5 +1,5 @@
 -- A packet is considered: its answer, what stands then, and what is left.
-use Rattle.std.proofs.Common.{◌≡◌, ℕ, ◌+◌, ◌%◌, ◌<◌, Bool, true, false, List, [], ◌∷◌, ◌++◌, length, get_or, Option, Some, None, Result, Ok, Err, refl, sym, ap, subst, ◌∙◌, arith}
+use Rattle.std.proofs.Common.{◌≡◌, ℕ, ◌%◌, ◌<◌, true, false, List, [], ◌∷◌, length, get_or, Option, Some, None, Ok, Err, refl, sym, ap, subst, ◌∙◌, arith}
 use Rattle.std.specs.Prelude.{replicate}
 use Rattle.std.proofs.lemmas.List.{get_or-replicate}
 use Rattle.h263_bits.specs.declared.fault.Fault.{Fault}
@@ -8,12 +8,12 @@ use Rattle.payload_join.specs.declared.took.Took.{Took}
 use Rattle.payload_join.specs.declared.took.Took.TheVariants as tooks
 use Rattle.payload_join.specs.Packet.{Packet, packet_in}
 use Rattle.payload_join.specs.Unit.{packet_at}
-use Rattle.payload_join.specs.Run.{Joined, number_of, took_as, took, is_held, with_packet, made, held_after_as, held_after, given_as, given, joined_by, took_next, given_next}
-use Rattle.payload_join.specs.Places.{judged, left_at, top_after, holding_at, Shows}
+use Rattle.payload_join.specs.Run.{Joined, number_of, took_as, took, is_held, held_after_as, held_after, given_as, given, joined_by, took_next, given_next}
+use Rattle.payload_join.specs.Places.{judged, top_after, holding_at, Shows}
 use Rattle.payload_join.specs.Units.{HasMade}
 use Rattle.payload_join.specs.Joining.{Joining}
 use Rattle.payload_join.proofs.AnyOrder.{no_some}
-use Rattle.payload_join.proofs.Windows.{IsWindow, is_window, judged_is, holds}
+use Rattle.payload_join.proofs.Windows.{is_window, judged_is, holds}
 use Rattle.payload_join.proofs.Taken.{goes_out}
 
 -- a ring that is empty

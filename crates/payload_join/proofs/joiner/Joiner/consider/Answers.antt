@@ -1,10 +1,9 @@
-use Rattle.std.proofs.Common.{◌≡◌, length, sym, ap, subst, ◌∙◌, arith, Option, Some, List, ◌∷◌, ℕ}
+use Rattle.std.proofs.Common.{sym, subst, ◌∙◌, arith, Option, Some, List, ◌∷◌, ℕ}
 use Rattle.payload_join.specs.Packet.{Packet}
 use Rattle.payload_join.specs.Parts.{packet_of}
-use Rattle.payload_join.specs.Places.{judged, top_after, holding_at, Shows}
+use Rattle.payload_join.specs.Places.{top_after, Shows}
 use Rattle.payload_join.specs.Run.{joined_by}
 use Rattle.payload_join.specs.Units.{HasMade}
-use Rattle.payload_join.specs.Joining.{Joining}
 use Rattle.payload_join.proofs.Taking.{considered, answered, not_stands, not_left, held_stands, held_left}
 use Rattle.payload_join.proofs.joiner.Joiner.consider.Goals as goal
 
