@@ -1,10 +1,9 @@
 -- Units among the packets by their places, as the loops find them.
 use Rattle.std.proofs.Common.{◌≡◌, ◌⊎◌, inl, inr, ℕ, zero, suc, ◌+◌, ◌-◌, ◌^◌, ◌<◌, ◌≤◌, Bool, true, false, cond, List, [], ◌++◌, length, Option, Some, None, refl, sym, ap, subst, ◌∙◌, arith, append_assoc, length-append}
-use Rattle.std.specs.Prelude.{nat_le, nat_lt, nat_eq, ◌&&◌, ◌||◌, not, is_some}
+use Rattle.std.specs.Prelude.{nat_le, nat_eq, ◌&&◌, ◌||◌, not, is_some}
 use Rattle.std.proofs.lemmas.Bool.{cases_lt, le-leb, lt-leb, lt-ltb}
 use Rattle.std.proofs.lemmas.List.{append-nil}
 use Rattle.h263_types.specs.declared.format.Format.{Format}
-use Rattle.payload_join.specs.declared.units.Span.{Span}
 use Rattle.payload_join.specs.Packet.{Packet}
 use Rattle.payload_join.specs.Unit.{begins_one, follows_one, is_marked, begins_at, follows_at, marked_at, IsUnit, unit_at}
 use Rattle.payload_join.specs.Outgoing.{coded_one, coded_from, unit_out, out_by, outgoing_of}

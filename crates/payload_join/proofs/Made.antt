@@ -1,11 +1,10 @@
 -- What one more packet makes whole, as the code finds it: the unit that the packets before it are in, and the one that it
 -- begins.
 use Rattle.std.proofs.Common.{◌≡◌, ◌⊎◌, inl, inr, ℕ, zero, suc, ◌+◌, ◌-◌, ◌<◌, ◌≤◌, Bool, true, false, cond, List, [], ◌++◌, Option, Some, None, refl, sym, ap, subst, ◌∙◌, arith}
-use Rattle.std.specs.Prelude.{nat_le, nat_eq, ◌&&◌, ◌||◌, not}
+use Rattle.std.specs.Prelude.{nat_le, nat_eq, ◌&&◌, not}
 use Rattle.std.proofs.lemmas.Bool.{cases_lt, cases_eq, cases_Bool, le-leb, lt-leb, eq-eqb, ne_eqb}
 use Rattle.std.proofs.lemmas.List.{append-nil}
 use Rattle.h263_types.specs.declared.format.Format.{Format}
-use Rattle.payload_join.specs.Packet.{Packet}
 use Rattle.payload_join.specs.Unit.{begins_one, follows_one, is_marked, begins_at, follows_at, marked_at, IsUnit, unit_at}
 use Rattle.payload_join.specs.Outgoing.{outgoing_of}
 use Rattle.payload_join.specs.Run.{made_one, made_from}

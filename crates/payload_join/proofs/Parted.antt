@@ -1,8 +1,8 @@
 -- What goes out of a unit, by the fronts of its parts.
-use Rattle.std.proofs.Common.{◌≡◌, ◌⊎◌, inl, inr, ℕ, ◌+◌, ◌-◌, ◌*◌, ◌<◌, ◌≤◌, Bool, true, false, cond, List, [], ◌∷◌, ◌++◌, length, take, drop, Option, Some, None, Result, Ok, Err, refl, sym, ap, subst, ◌∙◌, arith}
-use Rattle.std.specs.Prelude.{map, nat_lt, nat_le, ◌==◌, is_some, IfSome}
+use Rattle.std.proofs.Common.{◌≡◌, ℕ, ◌+◌, ◌-◌, ◌*◌, ◌<◌, ◌≤◌, Bool, true, false, cond, List, [], ◌∷◌, ◌++◌, length, take, drop, Option, Some, None, Result, Ok, Err, refl, sym, ap, subst, ◌∙◌, arith}
+use Rattle.std.specs.Prelude.{nat_lt, nat_le, is_some, IfSome}
 use Rattle.std.proofs.lemmas.List.{length-take}
-use Rattle.std.proofs.lemmas.Bool.{cases_Bool, lt-ltb, le-ltb}
+use Rattle.std.proofs.lemmas.Bool.{lt-ltb, le-ltb}
 use Rattle.h263_bits.specs.declared.fault.Fault.{Fault}
 use Rattle.h263_bits.specs.Reading.{Bits}
 use Rattle.h263_bits.specs.Syntax.{reading}
@@ -14,7 +14,7 @@ use Rattle.payload_join.specs.declared.front.Front.{Front}
 use Rattle.payload_join.specs.declared.parts.Parts.{Parts}
 use Rattle.payload_join.specs.Packet.{Packet, Extra, bytes_between}
 use Rattle.payload_join.specs.Split.{starts, onto, split_of}
-use Rattle.payload_join.specs.Outgoing.{no_extra, front_of, outgoing, padded_bytes, copied, header_of, begins_picture, each_out, picture_out, begun_out, unit_out, out_by}
+use Rattle.payload_join.specs.Outgoing.{no_extra, front_of, padded_bytes, copied, header_of, begins_picture, each_out, picture_out, begun_out, unit_out, out_by}
 use Rattle.payload_join.specs.Fronts.{front_bytes, front_by, end_as, header_end}
 use Rattle.payload_join.specs.Ring.{Describes, extra_one}
 use Rattle.payload_join.specs.Giving.{fronted}

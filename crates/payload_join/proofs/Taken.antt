@@ -1,19 +1,19 @@
 -- What a packet that is held makes whole, as the code finds it by the last 16 bits of the numbers.
-use Rattle.std.proofs.Common.{◌≡◌, ◌⊎◌, inl, inr, ℕ, zero, suc, ◌+◌, ◌-◌, ◌*◌, ◌/◌, ◌%◌, ◌<◌, ◌≤◌, Bool, true, false, cond, List, [], ◌∷◌, ◌++◌, length, get_or, set, Option, Some, None, refl, sym, ap, subst, ◌∙◌, arith}
-use Rattle.std.specs.Prelude.{nat_le, nat_eq, ◌==◌, ◌&&◌, ◌||◌, not, is_some}
+use Rattle.std.proofs.Common.{◌≡◌, inl, inr, ℕ, zero, suc, ◌+◌, ◌-◌, ◌*◌, ◌/◌, ◌%◌, ◌<◌, ◌≤◌, Bool, true, false, cond, List, [], ◌∷◌, ◌++◌, length, get_or, set, Option, Some, None, refl, sym, ap, ◌∙◌, arith}
+use Rattle.std.specs.Prelude.{nat_le, nat_eq, ◌&&◌, ◌||◌, not}
 use Rattle.std.proofs.lemmas.Bool.{cases_lt, cases_eq, le-leb, lt-leb, eq-eqb, ne_eqb}
 use Rattle.h263_types.specs.declared.format.Format.{Format}
 use Rattle.payload_join.specs.declared.took.Took.TheVariants as tooks
 use Rattle.payload_join.specs.declared.units.Span.{Span}
 use Rattle.payload_join.specs.Packet.{Packet}
-use Rattle.payload_join.specs.Unit.{packet_at, begins_one, follows_one, is_marked, begins_at, follows_at, marked_at, each_below, least_from, is_unit, unit_at}
+use Rattle.payload_join.specs.Unit.{packet_at, begins_one, follows_one, is_marked, each_below, least_from, is_unit, unit_at}
 use Rattle.payload_join.specs.Outgoing.{coded_one, coded_from, out_by, outgoing_of}
-use Rattle.payload_join.specs.Run.{Joined, number_of, top_with, took_as, kept_from, with_packet, is_old, made_from, made}
-use Rattle.payload_join.specs.Places.{place_at, window, left_at, top_after, Shows}
+use Rattle.payload_join.specs.Run.{Joined, number_of, top_with, took_as, with_packet, is_old, made_from, made}
+use Rattle.payload_join.specs.Places.{window, left_at, top_after, Shows}
 use Rattle.payload_join.specs.Units.{IsBefore, is_made, out_made, unit_left, number_by, IsFirst}
 use Rattle.payload_join.proofs.Growing.{At}
-use Rattle.payload_join.proofs.AnyOrder.{one_held, kept_at, some_same}
-use Rattle.payload_join.proofs.Windows.{IsWindow, IsHolding, holding_is}
+use Rattle.payload_join.proofs.AnyOrder.{one_held, kept_at}
+use Rattle.payload_join.proofs.Windows.{IsWindow, holding_is}
 use Rattle.payload_join.proofs.Following.{inside, outside}
 use Rattle.payload_join.proofs.Made.{IsStep, IsFrom, made_alone, made_two}
 

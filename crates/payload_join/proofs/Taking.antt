@@ -1,5 +1,5 @@
 -- A packet is considered: its answer, what stands then, and what is left.
-use Rattle.std.proofs.Common.{◌≡◌, ℕ, ◌+◌, ◌%◌, ◌<◌, Bool, true, false, List, [], ◌∷◌, ◌++◌, length, get_or, Option, Some, None, Result, Ok, Err, refl, sym, ap, subst, ◌∙◌, arith}
+use Rattle.std.proofs.Common.{◌≡◌, ℕ, ◌%◌, ◌<◌, true, false, List, [], ◌∷◌, length, get_or, Option, Some, None, Ok, Err, refl, sym, ap, subst, ◌∙◌, arith}
 use Rattle.std.specs.Prelude.{replicate}
 use Rattle.std.proofs.lemmas.List.{get_or-replicate}
 use Rattle.h263_bits.specs.declared.fault.Fault.{Fault}
@@ -8,11 +8,12 @@ use Rattle.payload_join.specs.declared.took.Took.{Took}
 use Rattle.payload_join.specs.declared.took.Took.TheVariants as tooks
 use Rattle.payload_join.specs.Packet.{Packet, packet_in}
 use Rattle.payload_join.specs.Unit.{packet_at}
-use Rattle.payload_join.specs.Run.{Joined, number_of, took_as, took, is_held, with_packet, made, held_after_as, held_after, given_as, given, joined_by, took_next, given_next}
-use Rattle.payload_join.specs.Places.{judged, left_at, top_after, holding_at, Shows}
+use Rattle.payload_join.specs.Run.{Joined, number_of, took_as, took, is_held, held_after_as, held_after, given_as, given, joined_by, took_next, given_next}
+use Rattle.payload_join.specs.Places.{judged, top_after, holding_at, Shows}
 use Rattle.payload_join.specs.Units.{HasMade}
+use Rattle.payload_join.specs.Joining.{Joining}
 use Rattle.payload_join.proofs.AnyOrder.{no_some}
-use Rattle.payload_join.proofs.Windows.{IsWindow, is_window, judged_is, holds}
+use Rattle.payload_join.proofs.Windows.{is_window, judged_is, holds}
 use Rattle.payload_join.proofs.Taken.{goes_out}
 
 -- a ring that is empty
@@ -63,6 +64,14 @@ pub record IsConsidered (top : Option ℕ) (packets : List (Option Packet)) (byt
   pub small : p.sequence < 65536
   pub many : length packets ≡ 64
   pub answer : t ≡ judged top packets p.sequence
+
+pub considered : (v j : Joining) (bytes : List ℕ) (p : Packet) (t : Took) → v ≡ j → packet_in bytes ≡ Ok p → p.sequence < 65536 → t ≡ judged v.top v.packets p.sequence → length v.packets ≡ 64 → IsConsidered j.top j.packets bytes p t
+considered v j bytes p t view read small answer many = record {
+  read = read;
+  small = small;
+  many = ap (λ (k : Joining). length k.packets) (sym view) ∙ many;
+  answer = answer ∙ ap (λ (k : Joining). judged k.top k.packets p.sequence) view;
+}
 
 module _ (top : Option ℕ) (packets : List (Option Packet)) (bytes : List ℕ) (p : Packet) (t : Took) (c : IsConsidered top packets bytes p t) (past : List (List ℕ)) (shows : Shows top packets (joined_by past)) where
   as_is : t ≡ took (joined_by past) (Ok p)

@@ -1,5 +1,5 @@
 -- The packets by their places are those that are held: before and after one more.
-use Rattle.std.proofs.Common.{◌≡◌, ◌⊎◌, inl, inr, ℕ, zero, suc, ◌+◌, ◌-◌, ◌%◌, ◌<◌, ◌≤◌, Bool, true, false, cond, List, [], ◌∷◌, length, get_or, set, Option, Some, None, Result, Ok, Err, refl, sym, ap, subst, ◌∙◌, arith, length-set, get_or-set_same, get_or-set_other}
+use Rattle.std.proofs.Common.{◌≡◌, inl, inr, ℕ, zero, suc, ◌+◌, ◌-◌, ◌%◌, ◌<◌, ◌≤◌, Bool, true, false, cond, List, [], ◌∷◌, length, get_or, set, Option, Some, None, Result, Ok, Err, refl, sym, ap, subst, ◌∙◌, arith, get_or-set_same, get_or-set_other}
 use Rattle.std.specs.Prelude.{nat_le, nat_lt, max, min, ◌==◌, is_some}
 use Rattle.std.proofs.lemmas.Bool.{cases_lt, cases_eq, le-leb, lt-leb, lt-ltb, le-ltb, eq-eqb, ne_eqb}
 use Rattle.h263_bits.specs.declared.fault.Fault.{Fault}
@@ -7,7 +7,7 @@ use Rattle.payload_join.specs.declared.took.Took.{Took}
 use Rattle.payload_join.specs.declared.took.Took.TheVariants as tooks
 use Rattle.payload_join.specs.Packet.{Packet, packet_in}
 use Rattle.payload_join.specs.Unit.{Held, packet_at}
-use Rattle.payload_join.specs.Run.{Joined, nothing_held, near, number_of, is_old, top_with, took_as, took, kept_from, with_packet, held_after_as, held_after, joined_by}
+use Rattle.payload_join.specs.Run.{Joined, near, number_of, is_old, top_with, took_as, took, kept_from, with_packet, held_after_as, held_after, joined_by}
 use Rattle.payload_join.specs.Places.{place_at, reach, judged, forgotten, passed, left_at, top_after, rest_of, Shows}
 use Rattle.payload_join.proofs.AnyOrder.{one_held, kept_at, gone, no_some, some_same}
 use Rattle.payload_join.proofs.InSlots.{many_forgotten, many_left}

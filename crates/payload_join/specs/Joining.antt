@@ -1,5 +1,5 @@
 -- What a joiner is: the packets that it holds, and what is left to be given.
-use Rattle.std.specs.Prelude.{◌≡◌, ℕ, Bool, true, false, List, [], ◌∷◌, Option}
+use Rattle.std.specs.Prelude.{ℕ, Bool, true, false, List, [], ◌∷◌, Option}
 use Rattle.payload_join.specs.Packet.{Packet}
 use Rattle.payload_join.specs.Run.{joined_by}
 use Rattle.payload_join.specs.Places.{Shows}

@@ -1,8 +1,3 @@
-use Rattle.std.proofs.Common.{◌≡◌, ◌*◌, ℕ, Option, Some, None, Result, Ok, Err, length, sym, ap, ◌∙◌}
-use Rattle.std.proofs.lemmas.Bool.{le-leb, lt-leb}
-use Rattle.h263_bits.specs.Syntax.{reading}
-use Rattle.picture_header.specs.Text.{header}
-use Rattle.payload_join.specs.Fronts.{end_as, header_end}
 use Rattle.payload_join.proofs.Fronts.{ends_within, ends_past, ends_with_fault}
 use Rattle.payload_join.proofs.front.find_end.Goals as goal
 

@@ -1,4 +1,4 @@
-use Rattle.std.proofs.Common.{◌≡◌, ℕ, List, length, take, ap, ◌+◌, ◌∙◌, arith}
+use Rattle.std.proofs.Common.{◌≡◌, ℕ, List, length, take, ap, ◌+◌, ◌∙◌}
 use Rattle.payload_join.specs.Places.{put_at}
 use Rattle.payload_join.proofs.Fronts.{written_is}
 use Rattle.payload_join.proofs.front.write_front.Goals as goal

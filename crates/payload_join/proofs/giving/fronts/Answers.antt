@@ -1,4 +1,4 @@
-use Rattle.std.proofs.Common.{◌≡◌, ◌≤◌, ℕ, List, Some, length, ap, sym, ◌∙◌, arith}
+use Rattle.std.proofs.Common.{Some, ap, sym, ◌∙◌}
 use Rattle.std.specs.Prelude.{not}
 use Rattle.payload_join.specs.Packet.{bytes_between}
 use Rattle.payload_join.specs.Outgoing.{begins_picture}

@@ -1,7 +1,7 @@
-use Rattle.std.proofs.Common.{◌≡◌, ℕ, ◌+◌, ◌++◌, List, Option, length, refl, sym, ap, ◌∙◌, arith}
+use Rattle.std.proofs.Common.{ℕ, ◌+◌, ◌++◌, List, Option, length, refl, sym, ap, ◌∙◌, arith}
 use Rattle.payload_join.specs.Packet.{Packet, bytes_between}
 use Rattle.payload_join.specs.Outgoing.{coded_one, coded_from}
-use Rattle.payload_join.specs.Places.{Packets, place_at, put_at}
+use Rattle.payload_join.specs.Places.{Packets, place_at}
 use Rattle.payload_join.proofs.Slots.{put_length}
 use Rattle.payload_join.proofs.Between.{between_grown}
 use Rattle.payload_join.proofs.Following.{coded_more, more_len, coded_within}

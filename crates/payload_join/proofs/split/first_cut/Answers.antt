@@ -1,5 +1,4 @@
-use Rattle.std.proofs.Common.{◌≡◌, false, drop, sym, ◌∙◌, arith}
-use Rattle.payload_join.specs.Split.{is_cut}
+use Rattle.std.proofs.Common.{sym, ◌∙◌, arith}
 use Rattle.payload_join.proofs.Cuts.{none_left, uncut, first_cut}
 use Rattle.payload_join.proofs.split.first_cut.Goals as goal
 

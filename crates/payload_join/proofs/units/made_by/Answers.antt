@@ -1,7 +1,7 @@
 use Rattle.std.proofs.Common.{◌≡◌, ◌+◌, ◌≤◌, Some, sym, ◌∙◌, arith}
 use Rattle.payload_join.specs.Unit.{unit_at}
 use Rattle.payload_join.specs.Places.{window}
-use Rattle.payload_join.proofs.Following.{out_none, out_not, out_long, out_whole, is_whole}
+use Rattle.payload_join.proofs.Following.{out_not, out_long, out_whole, is_whole}
 use Rattle.payload_join.proofs.units.made_by.Goals as goal
 
 pub overflow_add-end : goal.overflow_add-end

@@ -1,7 +1,6 @@
 use Rattle.std.proofs.Common.{◌≡◌}
-use Rattle.std.specs.Prelude.{Result, Err}
-use Rattle.h263_bits.specs.declared.fault.Fault.{Fault}
-use Rattle.payload_join.specs.Packet.{Packet, packet_in}
+use Rattle.std.specs.Prelude.{Err}
+use Rattle.payload_join.specs.Packet.{packet_in}
 use Rattle.payload_join.proofs.Taking.{refused_stands}
 use Rattle.payload_join.proofs.joiner.Joiner.take.Goals as goal
 

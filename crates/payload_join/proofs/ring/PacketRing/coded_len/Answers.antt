@@ -1,6 +1,5 @@
-use Rattle.std.proofs.Common.{ℕ, List, Some, None, ap, length, ◌∙◌}
+use Rattle.std.proofs.Common.{ℕ, Some, None, ap, length, ◌∙◌}
 use Rattle.payload_join.specs.Outgoing.{coded_one}
-use Rattle.payload_join.specs.Ring.{in_slot}
 use Rattle.payload_join.proofs.InSlots.{seen_at, coded_is}
 use Rattle.payload_join.proofs.ring.PacketRing.coded_len.Goals as goal
 

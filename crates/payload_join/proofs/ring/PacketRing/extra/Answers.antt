@@ -1,4 +1,4 @@
-use Rattle.std.proofs.Common.{ℕ, ◌-◌, Some, None, ap, take, drop, sym, ◌∙◌}
+use Rattle.std.proofs.Common.{◌-◌, Some, None, ap, take, drop, ◌∙◌}
 use Rattle.h263_region.specs.Slots.{bytes_in}
 use Rattle.payload_join.specs.Ring.{extra_one}
 use Rattle.payload_join.proofs.InSlots.{seen_at, slot_is}

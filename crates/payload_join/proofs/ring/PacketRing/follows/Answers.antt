@@ -1,4 +1,4 @@
-use Rattle.std.proofs.Common.{Some, None, ap, sym, ◌∙◌}
+use Rattle.std.proofs.Common.{Some, None, ap}
 use Rattle.payload_join.specs.Unit.{follows_one}
 use Rattle.payload_join.proofs.InSlots.{seen_at}
 use Rattle.payload_join.proofs.ring.PacketRing.follows.Goals as goal

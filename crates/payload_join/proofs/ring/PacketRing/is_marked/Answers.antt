@@ -1,4 +1,4 @@
-use Rattle.std.proofs.Common.{Some, None, ap, sym, ◌∙◌}
+use Rattle.std.proofs.Common.{Some, None, ap}
 use Rattle.payload_join.specs.Unit.{is_marked}
 use Rattle.payload_join.proofs.InSlots.{seen_at}
 use Rattle.payload_join.proofs.ring.PacketRing.is_marked.Goals as goal

@@ -1,7 +1,7 @@
-use Rattle.std.proofs.Common.{ℕ, Option, Some, ap, sym, ◌∙◌}
-use Rattle.payload_join.specs.Places.{Packets, judged, reach}
+use Rattle.std.proofs.Common.{ℕ, Option, ap, sym, ◌∙◌}
+use Rattle.payload_join.specs.Places.{Packets, judged}
 use Rattle.payload_join.specs.Ring.{packets_of}
-use Rattle.payload_join.proofs.InSlots.{seen_at, judged_again, judged_fresh, some_seen, many_places}
+use Rattle.payload_join.proofs.InSlots.{judged_again, judged_fresh, some_seen, many_places}
 use Rattle.payload_join.proofs.ring.PacketRing.judge.Goals as goal
 
 pub returns-then-is_some-clause-answer : goal.returns-then-is_some-clause-answer

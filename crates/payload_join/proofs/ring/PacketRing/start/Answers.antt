@@ -1,8 +1,7 @@
-use Rattle.std.proofs.Common.{◌≡◌, ◌<◌, ℕ, List, Option, None, false, length, get_or, refl, sym, ap, subst, ◌∙◌, arith}
+use Rattle.std.proofs.Common.{◌≡◌, None, false, length, refl, ap, ◌∙◌, arith}
 use Rattle.std.specs.Prelude.{replicate}
 use Rattle.std.proofs.lemmas.List.{length-replicate}
-use Rattle.h263_region.specs.Slots.{Slots, zeros, count_of, bytes_in}
-use Rattle.payload_join.specs.declared.parts.Parts.{Parts}
+use Rattle.h263_region.specs.Slots.{zeros, count_of}
 use Rattle.payload_join.specs.Ring.{packets_of}
 use Rattle.payload_join.proofs.InSlots.{none_are, ring_claimed}
 use Rattle.payload_join.proofs.ring.PacketRing.start.Goals as goal

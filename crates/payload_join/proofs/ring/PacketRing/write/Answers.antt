@@ -1,4 +1,4 @@
-use Rattle.std.proofs.Common.{◌≡◌, sym, ap, subst, ◌∙◌}
+use Rattle.std.proofs.Common.{sym, ap, subst, ◌∙◌}
 use Rattle.h263_region.specs.Slots.{Slots, bytes_in}
 use Rattle.payload_join.specs.Places.{Packets, put_at}
 use Rattle.payload_join.specs.Ring.{IsRing}
