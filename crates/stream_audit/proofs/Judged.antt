@@ -21,6 +21,7 @@ use Rattle.stream_audit.specs.State.{Fits, Keeps, Spells}
 use Rattle.stream_audit.specs.Stream.{Item, Part, Picture, begun_by, StreamPicture, is_of, last_picture, with_packet, with_part}
 use Rattle.stream_audit.specs.Verdict.{broken_at, broken_by, broken_next, broken_within, present}
 use Rattle.stream_audit.proofs.Headers.{same_header_is}
+use Rattle.stream_audit.proofs.Lists.{not_none}
 
 half_tells : (a b : Clock) → half_of a ≡ half_of b → a ≡ b
 half_tells Standard Standard e = refl
@@ -97,8 +98,5 @@ module _ (k : Kept) (items : List (Item Style Mb)) (part : Part Style Mb) (piece
   one_header lawful p none =
       elim (cases_Bool (call.same_header (decoding k.params.format) p.header part.piece.header)) [
         | inl same ↦ sym (same_header_is (decoding k.params.format) (rules_of k.params) lawful p.header part.piece.header same)
-        | inr other ↦ absurd (differ (none ∙ rw other refl))
+        | inr other ↦ absurd (not_none rule.Header (sym (none ∙ rw other refl)))
       ]
-    where
-      differ : None ≡ Some rule.Header → ⊥
-      differ e = cc

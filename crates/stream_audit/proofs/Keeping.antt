@@ -33,7 +33,7 @@ use Rattle.stream_audit.specs.State.{IsLast, IsTakenOf, Keeps, Spells}
 use Rattle.stream_audit.specs.Stream.{Item, Feedback, StreamPicture, last_picture, pictures_in, known_of}
 use Rattle.stream_audit.specs.Verdict.{broken_within, has, last_is_whole, may_refer}
 use Rattle.stream_audit.specs.Verdict as rules_for
-use Rattle.stream_audit.proofs.Lists.{all_below_same, any_append}
+use Rattle.stream_audit.proofs.Lists.{all_below_same, any_append, not_none}
 use Rattle.stream_audit.proofs.Headers.{header_self, same_header_is}
 
 not_both : (b : Bool) → b ≡ true → not b ≡ true → ⊥
@@ -97,10 +97,7 @@ whole_is k items keeps p is =
 -- the last picture, if its number is kept
 last_is : (k : Kept) (items : List (Item Style Mb)) → Keeps k items → (o : Option (StreamPicture Style Mb)) → last_picture items ≡ o → k.tr ≡ None → o ≡ None
 last_is k items keeps None is none = refl
-last_is k items keeps (Some p) is none = absurd (differ (sym (keeps.tr ∙ ap (option_map (λ (x : StreamPicture Style Mb). x.header.number)) is) ∙ none))
-  where
-    differ : Some p.header.number ≡ None → ⊥
-    differ e = cc
+last_is k items keeps (Some p) is none = absurd (not_none p.header.number (sym (keeps.tr ∙ ap (option_map (λ (x : StreamPicture Style Mb). x.header.number)) is) ∙ none))
 
 -- the next picture of a stream of n may have the reference that is named
 abbrev pub referred : call.Rules → List ℕ → ℕ → Option ℕ → Bool
@@ -143,10 +140,7 @@ pub whole_where : (k : Kept) (items : List (Item Style Mb)) (keeps : Keeps k ite
 whole_where k items keeps tr there = go (last_picture items) refl
   where
     go : (o : Option (StreamPicture Style Mb)) → last_picture items ≡ o → is_whole k.params.format keeps.taken (k.pictures - 1) ≡ last_is_whole (rules_of k.params) items
-    go None is = absurd (differ (sym (keeps.tr ∙ ap (option_map (λ (x : StreamPicture Style Mb). x.header.number)) is) ∙ there))
-      where
-        differ : None ≡ Some tr → ⊥
-        differ e = cc
+    go None is = absurd (not_none tr (sym (sym (keeps.tr ∙ ap (option_map (λ (x : StreamPicture Style Mb). x.header.number)) is) ∙ there)))
     go (Some p) is = whole_is k items keeps p is
 
 pub whole_none : (k : Kept) (items : List (Item Style Mb)) → Keeps k items → k.tr ≡ None → true ≡ last_is_whole (rules_of k.params) items

@@ -22,24 +22,19 @@ use Rattle.call_decoding.specs.Rules.{rules_of}
 use Rattle.call_decoding.specs.Styles.{Style}
 use Rattle.receiver_end.specs.Decoding.{decoding, with_piece, piece_of}
 use Rattle.stream_audit.specs.Replay.{ReadsInPeriod}
+use Rattle.stream_audit.proofs.Lists.{not_none}
 
 low_from : (clock : Clock) (v : ℕ) → allowed_low clock v ≡ None → v < period_of clock
 low_from clock v e =
     elim (cases_Bool (leb (period_of clock) v)) [
-      | inl high ↦ absurd (differ faults.HighBits (sym (rw high refl) ∙ e))
+      | inl high ↦ absurd (not_none faults.HighBits (sym (rw high refl) ∙ e))
       | inr low ↦ leb-false (period_of clock) v low
     ]
-  where
-    differ : (k : FaultKind) → Some k ≡ None → ⊥
-    differ k e = cc
 
 -- what the reference's field allows
 named : (clock : Clock) (kind : Kind) (trp : Option ℕ) (bits : List Bool) → Spells (reference clock kind) trp bits → (rest : ℕ) → trp ≡ Some rest → rest < period_of clock
 unfolding Spells reference
-named clock kinds.I trp bits spells rest is = let none : trp ≡ None = spells.5.0 in absurd (differ (sym none ∙ is))
-  where
-    differ : None ≡ Some rest → ⊥
-    differ e = cc
+named clock kinds.I trp bits spells rest is = let none : trp ≡ None = spells.5.0 in absurd (not_none rest (sym (sym none ∙ is)))
 named clock kinds.P trp bits spells rest is =
     let v = spells.5.0 in
     let some : trp ≡ Some v = spells.5.5.0 in

@@ -16,7 +16,7 @@ use Rattle.call_model.specs.TwoStores.{travelling}
 use Rattle.stream_audit.specs.Stream.{Part, StreamPicture, Item, Picture, Feedback, pictures_in, picture_in, packets_of, packets_in, known_of}
 use Rattle.stream_audit.specs.Sound.{IsSound, IsSoundAfter}
 use Rattle.stream_audit.specs.Replay.{MessageAbout, Replay, item_at, said_to, CameInTime, after_bytes, said_at_play, replay, MayHappenIn, AllMayHappenIn, NoneIsRefused, ExactWhereAllCame, ReadsInPeriod}
-use Rattle.stream_audit.proofs.Lists.{length_map, slice_get_push}
+use Rattle.stream_audit.proofs.Lists.{length_map, not_none, slice_get_push}
 use Rattle.stream_audit.proofs.Streams.{item_next, split_next, pictures_more, picture_here, sound_before, sound_at}
 use Rattle.stream_audit.proofs.Calls.{CallLaws, told_of, map_two, coded_of, source, packets, call, IsOf, At, says, no_count, told_by_play, slices_are, is_full_from, exact_where_full, header_is, header_of_is}
 
@@ -42,19 +42,16 @@ module _ {Style Mb P Fault MessageFault : Type 0} (decoding : Decoding Style Mb 
   -- ---- a picture that is sent is sound
 
   sound_send : (past : List Event) (at : At decoding read rules stream past) (p : StreamPicture Style Mb) → IsSoundAfter decoding read rules at.done p → IsSoundPicture decoding.pictures rules (cl past) (coded_of decoding read rules stream (length (cl past).coded) (cl past).coded p)
-  sound_send past at p behind = record {
-    covers = behind.covers;
+  sound_send past at p placed = record {
+    covers = placed.covers;
     picture = refl;
     reference = λ m is. named m p.header.reference refl is;
   }
     where
       named : (m : ℕ) (o : Option ℕ) → p.header.reference ≡ o → option_and_then (nearest_below rules (length (cl past).coded)) o ≡ Some m → (length (cl past).coded ≤ m + window rules) × (is_among (cl past).known m ≡ true)
-      named m None header is = absurd (differ is)
-        where
-          differ : None ≡ Some m → ⊥
-          differ e = cc
+      named m None header is = absurd (not_none m (sym is))
       named m (Some rest) header is =
-          let r = behind.reference rest header in
+          let r = placed.reference rest header in
           let there : nearest_below rules (length (cl past).coded) rest ≡ Some r.0 = ap (λ (k : ℕ). nearest_below rules k rest) (sym at.pictures) ∙ r.1 in
           let same : Some r.0 ≡ Some m = sym there ∙ is in
           let equal : r.0 ≡ m = cc in (
@@ -76,8 +73,8 @@ module _ {Style Mb P Fault MessageFault : Type 0} (decoding : Decoding Style Mb 
       p : StreamPicture Style Mb
       p = is_of.picture
 
-      behind : (behind : List (Item Style Mb)) × (pictures_in behind ≡ n) × IsSoundAfter decoding read rules behind p
-      behind = sound_at decoding read rules stream n p sound is_of.there
+      placed : (placed : List (Item Style Mb)) × (pictures_in placed ≡ n) × IsSoundAfter decoding read rules placed p
+      placed = sound_at decoding read rules stream n p sound is_of.there
 
       bytes_at : slice_get (packets_in stream n) j ≡ option_map (λ part. part.bytes) (slice_get p.parts j)
       bytes_at = ap (λ (o : Option (StreamPicture Style Mb)). slice_get (option_map_or packets_of o []) j) is_of.there ∙ slice_get-map (λ (part : Part Style Mb). part.bytes) p.parts j
@@ -87,14 +84,14 @@ module _ {Style Mb P Fault MessageFault : Type 0} (decoding : Decoding Style Mb 
 
       of_part : (part : Part Style Mb) → slice_get p.parts j ≡ Some part → decoding.read part.bytes ≡ Ok (record { header = header_of rules n x; slice = part.piece.slice })
       of_part part here =
-          let got = behind.2.packets j part here in
+          let got = placed.2.packets j part here in
           let reference : option_map (λ m. m % period rules) x.reference ≡ p.header.reference =
           ap (λ (o : Option ℕ). option_map (λ m. m % period rules) o) is_of.reference
           ∙ reference_again n p.header.reference
-          (λ rest is. in_period part.bytes part.piece rest got.0 (ap (λ (h : Header Style). h.half) got.1 ∙ behind.2.half) (ap (λ (h : Header Style). h.reference) got.1 ∙ is))
-          (λ rest is. let r = behind.2.reference rest is in (r.0, ap (λ (k : ℕ). nearest_below rules k rest) (sym behind.1) ∙ r.1)) in
-          let number : p.header.number ≡ n % period rules = behind.2.number ∙ ap (λ (k : ℕ). k % period rules) behind.1 in
-          let whole = header_is p.header (n % period rules) (option_map (λ m. m % period rules) x.reference) rules.half number reference behind.2.half in
+          (λ rest is. in_period part.bytes part.piece rest got.0 (ap (λ (h : Header Style). h.half) got.1 ∙ placed.2.half) (ap (λ (h : Header Style). h.reference) got.1 ∙ is))
+          (λ rest is. let r = placed.2.reference rest is in (r.0, ap (λ (k : ℕ). nearest_below rules k rest) (sym placed.1) ∙ r.1)) in
+          let number : p.header.number ≡ n % period rules = placed.2.number ∙ ap (λ (k : ℕ). k % period rules) placed.1 in
+          let whole = header_is p.header (n % period rules) (option_map (λ m. m % period rules) x.reference) rules.half number reference placed.2.half in
           let styled : p.header ≡ header_of rules n x =
           whole ∙ ap (λ (s : Style). let g : Header Style = record { number = n % period rules; reference = option_map (λ m. m % period rules) x.reference; half = rules.half; style = s } in g) (sym is_of.style) ∙ sym (header_of_is rules n x) in
           got.0 ∙ ap (λ (h : Header Style). let r : Result (Piece Style Mb) Fault = Ok (record { header = h; slice = part.piece.slice }) in r) (got.1 ∙ styled)
@@ -112,23 +109,17 @@ module _ {Style Mb P Fault MessageFault : Type 0} (decoding : Decoding Style Mb 
                 )
             | inr h ↦
                 let none : None ≡ Some slice = sym (slice_at ∙ ap (λ (o : Option (Part Style Mb)). option_map (λ part. part.piece.slice) o) h.1) ∙ e in
-                absurd (differ none)
+                absurd (not_none slice (sym none))
           ]
-        where
-          differ : None ≡ Some slice → ⊥
-          differ e = cc
 
       no_other : slice_get x.slices j ≡ None → slice_get (packets_in stream n) j ≡ None
       no_other e =
           elim (slice_get_cases p.parts j).1 [
             | inl h ↦
                 let some : Some h.0.piece.slice ≡ None = sym (slice_at ∙ ap (λ (o : Option (Part Style Mb)). option_map (λ part. part.piece.slice) o) h.2) ∙ e in
-                absurd (differ h.0.piece.slice some)
+                absurd (not_none h.0.piece.slice some)
             | inr h ↦ bytes_at ∙ ap (λ (o : Option (Part Style Mb)). option_map (λ part. part.bytes) o) h.1
           ]
-        where
-          differ : (s : Slice Mb) → Some s ≡ None → ⊥
-          differ s e = cc
 
   -- a picture that was sent has as many slices as packets
   slices_sent : (past : List Event) → At decoding read rules stream past → (n : ℕ) → n < length (cl past).coded → length (slices_at (cl past).coded n) ≡ length (packets_in stream n)
@@ -281,11 +272,8 @@ module _ {Style Mb P Fault MessageFault : Type 0} (decoding : Decoding Style Mb 
 
   back : (past : List Event) (k : ℕ) → At decoding read rules stream past → MayHappenIn decoding read rules stream (rp past) (Back k) → At decoding read rules stream (Back k ∷ past)
   back past k at near =
-      elim (slice_get_cases (cl past).said k).1 [ inl h ↦ of_note h.0 h.2 | inr h ↦ absurd (differ (sym (told_there ∙ ap (option_map (told_of rules)) h.1) ∙ near.2)) ]
+      elim (slice_get_cases (cl past).said k).1 [ inl h ↦ of_note h.0 h.2 | inr h ↦ absurd (not_none near.0 (sym (sym (told_there ∙ ap (option_map (told_of rules)) h.1) ∙ near.2))) ]
     where
-      differ : None ≡ Some near.0 → ⊥
-      differ e = cc
-
       told_there : slice_get (rp past).said k ≡ option_map (told_of rules) (slice_get (cl past).said k)
       told_there = ap (λ (l : List MessageAbout). slice_get l k) at.said ∙ slice_get-map (told_of rules) (cl past).said k
 

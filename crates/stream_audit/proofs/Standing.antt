@@ -13,12 +13,10 @@ use Rattle.stream_audit.specs.Logs.{broken_by_on, broken_in_on, first_broken_on,
 use Rattle.stream_audit.specs.State.{IsJudged, Keeps, Stands}
 use Rattle.stream_audit.specs.Stream.{Feedback, Fed, LogEntry, Sent, with_bytes}
 use Rattle.stream_audit.specs.Verdict.{broken_at, first_of}
+use Rattle.stream_audit.proofs.Lists.{not_none}
 
 pub none_left : (b : Broken) (o : Option Broken) → o ≡ Some b → o ≡ None → ⊥
-none_left b o e f = differ (sym e ∙ f)
-  where
-    differ : Some b ≡ None → ⊥
-    differ e = cc
+none_left b o e f = not_none b (sym e ∙ f)
 
 -- after a broken rule nothing changes
 pub stays_broken : (k : Kept) (past : List LogEntry) (e : LogEntry) (b : Broken) → k.broken ≡ Some b → Stands k past → Stands k (e ∷ past)

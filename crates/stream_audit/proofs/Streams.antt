@@ -6,6 +6,7 @@ use Rattle.call_model.specs.Coding.{Rules, Message, Decoding}
 use Rattle.stream_audit.specs.Stream.{Item, Picture, Feedback, StreamPicture, pictures_in, picture_in}
 use Rattle.stream_audit.specs.Replay.{item_at}
 use Rattle.stream_audit.specs.Sound.{IsSound, IsSoundAfter}
+use Rattle.stream_audit.proofs.Lists.{not_none}
 
 module _ {Style Mb : Type 0} where
   item_past : (items : List (Item Style Mb)) (k : ℕ) → length items ≤ k → item_at items k ≡ None
@@ -16,10 +17,7 @@ module _ {Style Mb : Type 0} where
 
   -- the item after these is the last of those that follow them
   pub item_next : (more done : List (Item Style Mb)) (x : Item Style Mb) → item_at (more ++ done) (length done) ≡ Some x → (before : List (Item Style Mb)) × (more ≡ before ++ x ∷ [])
-  item_next [] done x e = let none = item_past done (length done) (omega arith) in absurd (differ (sym none ∙ e))
-    where
-      differ : None ≡ Some x → ⊥
-      differ e = cc
+  item_next [] done x e = let none = item_past done (length done) (omega arith) in absurd (not_none x (sym (sym none ∙ e)))
   item_next (y ∷ []) done x e =
       let same : eqb (length done) (length done) ≡ true = eq-eqb (length done) (length done) refl in
       let is : Some y ≡ Some x = sym (ap (λ (b : Bool). if b then Some y else item_at done (length done)) same) ∙ e in
@@ -61,10 +59,7 @@ module _ {Style Mb P Fault MessageFault : Type 0} (decoding : Decoding Style Mb 
 
   -- each picture of a sound stream is sound after those before it
   pub sound_at : (items : List (Item Style Mb)) (n : ℕ) (p : StreamPicture Style Mb) → IsSound decoding read rules items → picture_in items n ≡ Some p → (before : List (Item Style Mb)) × (pictures_in before ≡ n) × IsSoundAfter decoding read rules before p
-  sound_at [] n p sound e = absurd (differ e)
-    where
-      differ : None ≡ Some p → ⊥
-      differ e = cc
+  sound_at [] n p sound e = absurd (not_none p (sym e))
   sound_at (Picture q ∷ items) n p sound e =
       elim (cases_eq (pictures_in items) n) [
         | inl is ↦

@@ -19,7 +19,7 @@ use Rattle.stream_audit.specs.declared.verdict.Broken.{Broken}
 use Rattle.stream_audit.specs.Verdict.{has, is_whole, last_is_whole, present, has_reference, broken_within, broken_next, broken_by, broken_in, first_of, first_broken, verdict_by, verdict_of, broken_at, may_refer}
 use Rattle.stream_audit.specs.Sound.{IsSound, IsReadable, AllReadable}
 use Rattle.stream_audit.proofs.Headers.{same_header_is}
-use Rattle.stream_audit.proofs.Lists.{slice_get_push}
+use Rattle.stream_audit.proofs.Lists.{not_none, slice_get_push}
 
 -- ---- slices
 
@@ -128,11 +128,8 @@ module _ {Style Mb P Fault MessageFault : Type 0} (decoding : Decoding Style Mb 
                 (h.0, h.2, (let equal : h.0.piece.slice ≡ slice = cc in equal))
             | inr h ↦
                 let none : None ≡ Some slice = sym (slice_get-map (λ (part : Part Style Mb). part.piece.slice) p.parts j ∙ ap (option_map (λ (part : Part Style Mb). part.piece.slice)) h.1) ∙ e in
-                absurd (differ none)
+                absurd (not_none slice (sym none))
           ]
-        where
-          differ : None ≡ Some slice → ⊥
-          differ e = cc
 
   pub whole_is_sound : (items : List (Item Style Mb)) → IsClean items → last_is_whole rules items ≡ true → IsSound decoding read rules items
   whole_is_sound [] clean whole = tt
@@ -148,14 +145,11 @@ module _ {Style Mb P Fault MessageFault : Type 0} (decoding : Decoding Style Mb 
       elim (cases_Bool (same_header decoding p.header part.piece.header)) [
         | inl same ↦ elim (cases_Bool (none_in part.piece.slice (has p))) [
           | inl none ↦ fresh (sym (same_header_is decoding rules lawful p.header part.piece.header same)) none
-          | inr some ↦ absurd (differ rule.Overlap (sym (rw (same, some) refl) ∙ unbroken))
+          | inr some ↦ absurd (not_none rule.Overlap (sym (rw (same, some) refl) ∙ unbroken))
         ]
-        | inr other ↦ absurd (differ rule.Header (sym (rw other refl) ∙ unbroken))
+        | inr other ↦ absurd (not_none rule.Header (sym (rw other refl) ∙ unbroken))
       ]
     where
-      differ : (r : Rule) → Some r ≡ None → ⊥
-      differ r e = cc
-
       fresh : part.piece.header ≡ p.header → none_in part.piece.slice (has p) ≡ true → IsGoing items (with_more p part)
       fresh header none = record {
         number = going.number;
@@ -193,19 +187,16 @@ module _ {Style Mb P Fault MessageFault : Type 0} (decoding : Decoding Style Mb 
   next_of : (items : List (Item Style Mb)) (part : Part Style Mb) → decoding.read part.bytes ≡ Ok part.piece → part.piece.header.half ≡ rules.half → IsClean items → broken_next decoding read rules items part.piece ≡ None → IsClean (Picture (begun_by part) ∷ items)
   next_of items part reads half clean unbroken =
       elim (cases_Bool (last_is_whole rules items)) [
-        | inr gap ↦ absurd (differ (broken_at (present items) rule.Gap) (sym (rw gap refl) ∙ unbroken))
+        | inr gap ↦ absurd (not_none (broken_at (present items) rule.Gap) (sym (rw gap refl) ∙ unbroken))
         | inl whole ↦ elim (cases_Bool (eqb part.piece.header.number (pictures_in items % period rules))) [
-          | inr wrong ↦ absurd (differ (broken_at (pictures_in items) rule.Number) (sym (rw (whole, wrong) refl) ∙ unbroken))
+          | inr wrong ↦ absurd (not_none (broken_at (pictures_in items) rule.Number) (sym (rw (whole, wrong) refl) ∙ unbroken))
           | inl right ↦ elim (cases_Bool (has_reference decoding read rules items part.piece.header)) [
-            | inr none ↦ absurd (differ (broken_at (pictures_in items) rule.Reference) (sym (rw (whole, right, none) refl) ∙ unbroken))
+            | inr none ↦ absurd (not_none (broken_at (pictures_in items) rule.Reference) (sym (rw (whole, right, none) refl) ∙ unbroken))
             | inl there ↦ (begun (eqb-true _ _ right) there, whole_is_sound items clean whole)
           ]
         ]
       ]
     where
-      differ : (b : Broken) → Some b ≡ None → ⊥
-      differ b e = cc
-
       one : (x : Part Style Mb) (j : ℕ) → slice_get (part ∷ []) j ≡ Some x → (j ≡ 0) × (x ≡ part)
       one x zero e = (refl, cc)
       one x (suc j) e = cc
@@ -236,7 +227,7 @@ module _ {Style Mb P Fault MessageFault : Type 0} (decoding : Decoding Style Mb 
   clean_packet items bytes (Err fault) reads clean unbroken = clean
   clean_packet items bytes (Ok piece) reads clean unbroken =
       elim (cases_Bool (eqb piece.header.half rules.half)) [
-        | inr other ↦ absurd (differ (broken_at (present items) rule.Packet) (sym (rw other refl) ∙ unbroken))
+        | inr other ↦ absurd (not_none (broken_at (present items) rule.Packet) (sym (rw other refl) ∙ unbroken))
         | inl half ↦ elim (cases_Bool (is_of (last_picture items) piece)) [
           | inl own ↦
               let unbroken' : option_map (broken_at (present items)) (broken_within decoding read rules (last_picture items) piece) ≡ None = sym (rw (half, own) refl) ∙ unbroken in
@@ -247,19 +238,13 @@ module _ {Style Mb P Fault MessageFault : Type 0} (decoding : Decoding Style Mb 
         ]
       ]
     where
-      differ : (b : Broken) → Some b ≡ None → ⊥
-      differ b e = cc
-
       within : (o : Option Rule) → option_map (broken_at (present items)) o ≡ None → o ≡ None
       within None e = refl
-      within (Some r) e = absurd (differ (broken_at (present items) r) e)
+      within (Some r) e = absurd (not_none (broken_at (present items) r) e)
 
   both_none : (a b : Option Broken) → first_of a b ≡ None → (a ≡ None) × (b ≡ None)
   both_none None b e = (refl, e)
-  both_none (Some x) b e = absurd (differ e)
-    where
-      differ : Some x ≡ None → ⊥
-      differ e = cc
+  both_none (Some x) b e = absurd (not_none x e)
 
   clean_log : (past : List LogEntry) → first_broken decoding read rules past ≡ None → IsClean (stream_of decoding past)
   clean_log [] unbroken = tt
@@ -269,18 +254,12 @@ module _ {Style Mb P Fault MessageFault : Type 0} (decoding : Decoding Style Mb 
       clean_packet (stream_of decoding past) bytes (decoding.read bytes) refl (clean_log past both.0) both.1
 
   readable_packet : (items : List (Item Style Mb)) (bytes : List ℕ) (r : Result (Piece Style Mb) Fault) → decoding.read bytes ≡ r → broken_by decoding read rules items r ≡ None → IsReadable decoding rules bytes
-  readable_packet items bytes (Err fault) reads unbroken = absurd (differ (broken_at (present items) rule.Packet) unbroken)
-    where
-      differ : (b : Broken) → Some b ≡ None → ⊥
-      differ b e = cc
+  readable_packet items bytes (Err fault) reads unbroken = absurd (not_none (broken_at (present items) rule.Packet) unbroken)
   readable_packet items bytes (Ok piece) reads unbroken =
       elim (cases_Bool (eqb piece.header.half rules.half)) [
-        | inr other ↦ absurd (differ (broken_at (present items) rule.Packet) (sym (rw other refl) ∙ unbroken))
+        | inr other ↦ absurd (not_none (broken_at (present items) rule.Packet) (sym (rw other refl) ∙ unbroken))
         | inl half ↦ (piece, reads, eqb-true _ _ half)
       ]
-    where
-      differ : (b : Broken) → Some b ≡ None → ⊥
-      differ b e = cc
 
   readable_log : (past : List LogEntry) → first_broken decoding read rules past ≡ None → AllReadable decoding rules past
   readable_log [] unbroken = tt

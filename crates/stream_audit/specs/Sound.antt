@@ -45,4 +45,5 @@ module _ {Style Mb P Fault MessageFault : Type 0} (decoding : Decoding Style Mb 
   -- pictures, is sound
   abbrev pub YesIsSound : Type 0
   YesIsSound = (past : List LogEntry) (count : ℕ) → (verdict_of decoding read rules past ≡ Yes count)
-      ↔ (AllReadable decoding rules past × (pictures_in (stream_of decoding past) ≡ count) × IsSound (stream_of decoding past))
+      ↔ (AllReadable decoding rules past
+      × (pictures_in (stream_of decoding past) ≡ count) × IsSound (stream_of decoding past))

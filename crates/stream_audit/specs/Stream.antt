@@ -81,7 +81,8 @@ module _ {Style Mb : Type 0} where
       if is_of (last_picture items) part.piece then with_part items part else Picture (begun_by part) ∷ items
 
   -- the numbers that the feedback has made known (H.263, Annex N): what is refused or old makes none
-  abbrev pub known_of : {MessageFault : Type 0} → (List ℕ → Result Message MessageFault) → Rules → List (Item Style Mb) → List ℕ
+  abbrev pub known_of : {MessageFault : Type 0}
+      → (List ℕ → Result Message MessageFault) → Rules → List (Item Style Mb) → List ℕ
   known_of read rules [] = []
   known_of read rules (Picture p ∷ items) = known_of read rules items
   known_of read rules (Feedback bytes ∷ items) =
@@ -89,7 +90,8 @@ module _ {Style Mb : Type 0} where
 
 module _ {Style Mb P Fault : Type 0} (decoding : Decoding Style Mb P Fault) where
   -- the stream after the bytes of a packet. Bytes that are no packet are passed over
-  abbrev pub with_bytes : List (Item Style Mb) → List ℕ → Result (Piece Style Mb) Fault → List (Item Style Mb)
+  abbrev pub with_bytes : List (Item Style Mb)
+      → List ℕ → Result (Piece Style Mb) Fault → List (Item Style Mb)
   with_bytes items bytes (Ok piece) = with_packet items (record { bytes = bytes; piece = piece })
   with_bytes items bytes (Err fault) = items
 

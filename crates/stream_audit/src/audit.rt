@@ -7,7 +7,6 @@ use crate::verdict::{Broken, Rule, Verdict};
 use h263_outside::OutOfMemory;
 use h263_types::{Mb, Params};
 use packet_collector::read_packet;
-use receiver_end::laws as receiver_end_laws;
 use std::alloc::Global;
 use std::marker::Model;
 
@@ -50,8 +49,8 @@ impl Audit {
         Ok(Audit { kept, mbs })
     }
 
-    /// Takes the bytes of a packet. At most 16,777,216 pictures are begun: a log has no more
-    /// entries, and each begins one at most.
+    /// Takes the bytes of a packet, which begins a picture at most. A log has at most 16,777,216
+    /// entries, and so no more pictures. After a broken rule nothing more is kept.
     pub fn packet(&mut self, bytes: &[u8])
         requires { self.old.pictures < 2 ^ 24 }
         ensures params { self.new.params ≡ self.old.params }
@@ -59,7 +58,6 @@ impl Audit {
         ensures stands { (past : List LogEntry) → Stands self.old past
             → Stands self.new (Sent bytes.now ∷ past) }
     {
-        receiver_end_laws::is_decoding();
         if let Some(_) = self.kept.broken {
             return;
         }

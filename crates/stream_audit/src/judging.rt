@@ -126,8 +126,8 @@ impl Kept {
         None
     }
 
-    /// Whether the next picture may have the reference that its header names, if it names one.
-    pub fn has_reference(&self, header: &Header) -> bool
+    // Whether the next picture may have the reference that its header names, if it names one.
+    fn has_reference(&self, header: &Header) -> bool
         requires { Fits self.now }
         ensures { (items : Stream) → Keeps self.now items → result
             ≡ has_reference (decoding self.now.params.format) (read_message self.now.params.clock)

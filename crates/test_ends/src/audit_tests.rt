@@ -1,8 +1,8 @@
 //! Audits of logs: each rule is broken by itself and beside another one, in both orders; feedback
 //! is refused, old, lying or of a picture to come. By both clocks.
-ghost use Rattle.std.specs.Prelude.{◌≡◌, ◌≤◌, ◌<◌, IfOk, length};
+ghost use Rattle.std.specs.Prelude.{◌≡◌, ◌≤◌, length};
 ghost use Rattle.h263_types.specs.Params.{IsParams};
-ghost use Rattle.h263_types.specs.declared.format.Format.TheVariants.{Cif};
+ghost use Rattle.h263_planes.specs.Lent.{picture};
 ghost use Rattle.h263_types.specs.declared.clock.Clock.TheVariants.{Custom};
 ghost use Rattle.back_messages.specs.Text.{IsMessage};
 ghost use Rattle.sender_end.specs.Stands.{IsReady};
@@ -76,8 +76,7 @@ struct Source {
 
 // A window of two pictures.
 fn params_by(clock: Clock) -> Params
-    ensures range { IsParams result }
-    ensures format { result.format ≡ Cif }
+    ensures { IsParams result }
 {
     Params {
         slots: 4,
@@ -92,9 +91,10 @@ fn coded_by(
     alloc: Global,
     clock: Clock,
     sender: &mut Sender<FixedPace>,
+    frame: PictureRef<'_>,
 ) -> Result<Packets, OutOfMemory>
     requires ready { IsReady sender.old.state }
-    requires format { sender.old.state.params.format ≡ Cif }
+    requires frame { (picture frame).format ≡ sender.old.state.params.format }
     requires new { sender.old.state.sent ≡ 0 }
 {
     let mut packets = Packets {
@@ -103,8 +103,6 @@ fn coded_by(
         second: Vec::new(alloc),
         predicted: Vec::new(alloc),
     };
-    let samples = vec![in alloc; 100; Format::Cif.size() as usize]?;
-    let frame = PictureRef::new(Format::Cif, samples.as_slice());
     if sender.code(frame, &[]).packets == 2 {
         packets.first = Vec::from_slice(alloc, sender.packet(0))?;
         packets.second = Vec::from_slice(alloc, sender.packet(1))?;
@@ -117,8 +115,11 @@ fn coded_by(
 }
 
 fn packets_by(alloc: Global, clock: Clock) -> Result<Packets, OutOfMemory> {
-    let mut sender = Sender::start(alloc, &params_by(clock), FixedPace { quant: 8 })?;
-    let packets = coded_by(alloc, clock, &mut sender);
+    let params = params_by(clock);
+    let samples = vec![in alloc; 100; params.format.size() as usize]?;
+    let frame = PictureRef::new(params.format, samples.as_slice());
+    let mut sender = Sender::start(alloc, &params, FixedPace { quant: 8 })?;
+    let packets = coded_by(alloc, clock, &mut sender, frame);
     sender.finish();
     packets
 }
