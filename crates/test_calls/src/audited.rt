@@ -36,10 +36,7 @@ enum Change {
     Twice,
     // This byte of it is set. Byte 0 of its packet is byte 3; the picture header begins at byte 17,
     // and its temporal reference ends in byte 18.
-    With {
-        at: usize,
-        byte: u8,
-    },
+    With { at: usize, byte: u8 },
 }
 
 // An audit of a changed call: the number of the entry, its change, and the line.
