@@ -15,7 +15,10 @@ use Rattle.call_decoding.specs.Styles.{Style}
 use Rattle.call_encoding.specs.Encoding.{encoding}
 use Rattle.call_encoding.specs.Frames.{Frame, style_with}
 use Rattle.sender_end.specs.Headers.{numbered}
-use Rattle.sender_end.specs.Stands.{next}
+
+-- the next picture of a sender
+abbrev pub next : Params → (List ℕ → ℕ) → Frame → Sender Picture → Coded Style Mb Picture
+next p pace frame s = next_by_kept (pictures p.format) (encoding p) (rules_of p) pace frame s
 
 -- the rule of references for picture n, by what a sender keeps
 abbrev pub reference_at : Params → Sender Picture → ℕ → Option ℕ
