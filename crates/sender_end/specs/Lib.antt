@@ -2,5 +2,5 @@ pub mod Headers
 pub mod Coding
 pub mod Selecting
 pub mod State
-pub mod Ready
+pub mod Parts
 pub mod Stands

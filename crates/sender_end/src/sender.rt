@@ -46,23 +46,13 @@ pub struct Sender<P: Pace> {
 }
 
 impl<P: Pace> Model for Sender<P> {
-    ghost use Rattle.packet_cutter.specs.Cutting.{packets_of, sequence_of};
     ghost use Rattle.sender_end.specs.State.{SenderState};
 
     ghost Value = { SenderState P };
 
-    ghost use Rattle.sender_end.specs.Ready.{IsReady};
+    ghost use Rattle.sender_end.specs.Parts.{IsReady, state_of};
 
-    ghost view = { λ s. record {
-        pace = s.pace;
-        params = s.params;
-        sent = s.sent;
-        sequence = sequence_of s.cutter;
-        packets = packets_of s.cutter;
-        sizes = s.sizes.items;
-        selector = s.selector;
-        store = s.store;
-    } };
+    ghost view = { λ s. state_of s };
 
     ghost invariant = { λ s. IsReady s };
 }
