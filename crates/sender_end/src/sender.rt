@@ -137,12 +137,12 @@ impl<P: Pace> Sender<P> {
         }
     }
 
-    /// Packet i of the picture that was coded last.
+    /// Packet i of the picture that was coded last, of at most `limit` bytes.
     pub fn packet(&self, i: u32) -> &[u8]
         requires { i < length self.now.packets }
         ensures value { result.now ≡ slice_index_or self.now.packets i [] }
         ensures limit { length result.now ≤ self.now.params.limit }
-        ensures few { self.now.params.limit ≤ 9000 }
+        ensures small { length result.now ≤ 9000 }
         ensures stands { (entries : List (SenderEntry Frame))
             → Stands (P.quant_of self.now.pace) self.now entries
             → result.now

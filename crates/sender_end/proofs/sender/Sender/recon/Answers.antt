@@ -21,25 +21,17 @@ last_is : {P : Type 0} (state : SenderState P) (pace : List ℕ → ℕ) (entrie
     → slots_of state.store ≡ state.params.slots → 0 < state.params.slots → 0 < state.sent
     → Some (picture_in state.store (slot_of state.store (state.sent - 1))) ≡ picture_at (run_of state.params pace entries).coded (state.sent - 1)
 last_is state pace entries stood held room some =
-    by_place (slice_get_cases (run_of state.params pace entries).coded (state.sent - 1)).1
-  where
-    all : state.sent ≡ length (run_of state.params pace entries).coded
-    all = sym stood.seen.sent ∙ stood.stands.sent
-
-    by_place : ((x : Coded Style Mb Picture) × (state.sent - 1 < length (run_of state.params pace entries).coded)
-        × (slice_get (run_of state.params pace entries).coded (state.sent - 1) ≡ Some x) × (get_or (run_of state.params pace entries).coded (state.sent - 1) x ≡ x))
-        ⊎ ((length (run_of state.params pace entries).coded ≤ state.sent - 1) × (slice_get (run_of state.params pace entries).coded (state.sent - 1) ≡ None))
-        → Some (picture_in state.store (slot_of state.store (state.sent - 1))) ≡ picture_at (run_of state.params pace entries).coded (state.sent - 1)
-    by_place (inl (x, below, is, same)) =
-        let m = state.sent - 1 in
-        let shown : picture_in state.store (slot_of state.store m) ≡ x.picture =
-        ap (λ (l : ℕ). picture_in state.store (m % l)) held
-        ∙ sym (stood.seen.picture (m % state.params.slots) (mod-lt m room))
-        ∙ stood.stands.kept m x (below, omega (arith, all, some, room)) is
-        in
-        ap (λ (p : Picture). let o : Option Picture = Some p in o) shown
-        ∙ sym (ap (λ (o : Option (Coded Style Mb Picture)). option_map (λ (y : Coded Style Mb Picture). y.picture) o) is)
-    by_place (inr (past, none)) = absurd (omega (arith, past, all, some))
+    let m = state.sent - 1 in
+    let all : state.sent ≡ length (run_of state.params pace entries).coded = sym stood.seen.sent ∙ stood.stands.sent in
+    elim (slice_get_cases (run_of state.params pace entries).coded m).1 [
+      | inl at ↦
+          ap (λ (p : Picture). let o : Option Picture = Some p in o)
+          (ap (λ (l : ℕ). picture_in state.store (m % l)) held
+          ∙ sym (stood.seen.picture (m % state.params.slots) (mod-lt m room))
+          ∙ stood.stands.kept m at.0 (at.1, omega (arith, all, some, room)) at.2)
+          ∙ sym (ap (λ (o : Option (Coded Style Mb Picture)). option_map (λ (y : Coded Style Mb Picture). y.picture) o) at.2)
+      | inr past ↦ absurd (omega (arith, past.0, all, some))
+    ]
 
 if_some : {A : Type 0} (Q : A → Type 0) (o : Option A) (x : A) → o ≡ Some x → IfSome o Q → Q x
 if_some Q None x is holds = absurd (cc is)
