@@ -4,8 +4,6 @@ ghost use Rattle.std.specs.Prelude.{◌≡◌, ◌+◌, ◌^◌, ◌<◌, ◌≤
 ghost use Rattle.h263_types.specs.Params.{IsParams};
 ghost use Rattle.h263_types.specs.Sizes.{size_of_picture};
 ghost use Rattle.h263_planes.specs.Lent.{picture};
-ghost use Rattle.packet_cutter.specs.Cutting.{packets_of};
-ghost use Rattle.sender_end.specs.Stands.{IsReady};
 
 use crate::coding::Coder;
 use crate::times::Stop;
@@ -77,9 +75,8 @@ struct Ends {
 impl Ends {
     fn start(alloc: Global, params: &Params) -> Result<Ends, OutOfMemory>
         requires { IsParams params.now }
-        ensures ready { IfOk result (λ ends. IsReady ends.sender.state) }
-        ensures params { IfOk result (λ ends. ends.sender.state.params ≡ params.now) }
-        ensures sent { IfOk result (λ ends. ends.sender.state.sent ≡ 0) }
+        ensures params { IfOk result (λ ends. ends.sender.params ≡ params.now) }
+        ensures sent { IfOk result (λ ends. ends.sender.sent ≡ 0) }
         ensures played { IfOk result (λ ends. ends.receiver.played ≡ 0) }
     {
         let pace = FixedPace {
@@ -103,14 +100,11 @@ impl Ends {
 
     // Sends, receives and plays a frame; the message goes back.
     fn pass(&mut self, alloc: Global, frame: PictureRef<'_>) -> Result<Passed, OutOfMemory>
-        requires ready { IsReady self.old.sender.state }
-        requires left { self.old.sender.state.sent < 1048576 }
+        requires left { self.old.sender.sent < 1048576 }
         requires few { self.old.receiver.played < 2 ^ 20 }
-        requires frame { (picture frame).format ≡ self.old.sender.state.params.format }
-        ensures ready { IsReady self.new.sender.state }
-        ensures params { self.new.sender.state.params ≡ self.old.sender.state.params }
-        ensures sent { IfOk result (λ _. self.new.sender.state.sent
-            ≡ self.old.sender.state.sent + 1) }
+        requires frame { (picture frame).format ≡ self.old.sender.params.format }
+        ensures params { self.new.sender.params ≡ self.old.sender.params }
+        ensures sent { IfOk result (λ _. self.new.sender.sent ≡ self.old.sender.sent + 1) }
         ensures played { IfOk result (λ _. self.new.receiver.played
             ≡ self.old.receiver.played + 1) }
     {
@@ -131,7 +125,7 @@ fn deliver(
     receiver: &mut Receiver,
     count: u32,
 ) -> Result<Passed, OutOfMemory>
-    requires { count ≡ length (packets_of sender.now.state.cutter) }
+    requires { count ≡ length sender.now.packets }
     ensures { receiver.new.played ≡ receiver.old.played }
 {
     let mut packets = Vec::new(alloc);
@@ -154,10 +148,9 @@ fn pass_all(
     frames: u32,
     samples: &mut [u8],
 ) -> Result<Vec<Passed>, OutOfMemory>
-    requires ready { IsReady ends.old.sender.state }
-    requires format { video.format ≡ ends.old.sender.state.params.format }
+    requires format { video.format ≡ ends.old.sender.params.format }
     requires frames { frames ≤ 100000 }
-    requires sent { ends.old.sender.state.sent ≡ 0 }
+    requires sent { ends.old.sender.sent ≡ 0 }
     requires played { ends.old.receiver.played ≡ 0 }
     requires size { length samples.old ≡ size_of_picture video.format }
     ensures { length samples.new ≡ length samples.old }

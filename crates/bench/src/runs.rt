@@ -3,7 +3,6 @@ ghost use Rattle.std.specs.Prelude.{◌≡◌, ◌+◌, ◌<◌, ◌≤◌, IfOk
 ghost use Rattle.h263_types.specs.Params.{IsParams};
 ghost use Rattle.h263_types.specs.Sizes.{size_of_picture};
 ghost use Rattle.h263_planes.specs.Lent.{picture};
-ghost use Rattle.sender_end.specs.Stands.{IsReady};
 
 use crate::coding::{CHAIN, Coder};
 use crate::reading::Reader;
@@ -26,12 +25,10 @@ fn send_frame(
     said: Option<MessageBytes>,
     sum: &mut u64,
 ) -> io::Result<()>
-    requires ready { IsReady sender.old.state }
-    requires left { sender.old.state.sent < 1048576 }
-    requires frame { (picture frame).format ≡ sender.old.state.params.format }
-    ensures ready { IsReady sender.new.state }
-    ensures params { sender.new.state.params ≡ sender.old.state.params }
-    ensures sent { IfOk result (λ _. sender.new.state.sent ≡ sender.old.state.sent + 1) }
+    requires left { sender.old.sent < 1048576 }
+    requires frame { (picture frame).format ≡ sender.old.params.format }
+    ensures params { sender.new.params ≡ sender.old.params }
+    ensures sent { IfOk result (λ _. sender.new.sent ≡ sender.old.sent + 1) }
 {
     let begin = Instant::now(rt)?;
     sender.code(frame, &[]);
@@ -51,9 +48,8 @@ fn send_frames(
     samples: &mut [u8],
     sum: &mut u64,
 ) -> io::Result<()>
-    requires ready { IsReady sender.old.state }
-    requires sent { sender.old.state.sent ≡ 0 }
-    requires format { video.format ≡ sender.old.state.params.format }
+    requires sent { sender.old.sent ≡ 0 }
+    requires format { video.format ≡ sender.old.params.format }
     requires frames { recorded.now.frames ≤ 100000 }
     requires size { length samples.old ≡ size_of_picture video.format }
 {

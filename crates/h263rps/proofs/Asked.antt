@@ -16,7 +16,7 @@ use Rattle.desk_program.specs.Ends.{HasCause}
 use Rattle.desk_program.specs.Attached.{AreAttached}
 use Rattle.desk_program.specs.Lines.{Finishes}
 use Rattle.desk_program.specs.Promises.{IsSettled, IsNotUsage}
-use Rattle.h263rps.specs.Output.{word_stop, command_of, roles_of, source_of, run_of, output_from, order_from, source_from}
+use Rattle.h263rps.specs.Output.{word_stop, command_of, roles_of, source_of, run_of, output_of, order_from, source_from}
 use Rattle.h263rps.specs.Promises.{IsRunOf, IsRun}
 use Rattle.h263rps.proofs.Promised.{some_since, nothing_done, report_unopened, words_unread, usage_told, since_attached}
 
@@ -39,7 +39,7 @@ as_run a c e rightly result old new run words = record {
 -- Usage was told, since there is no command
 pub usage_run : (mid new : Outside) → AreAttached ((Report, []) ∷ []) mid → OnlyWrites mid new → (result : Status) → Finishes Usage result mid new → IsRun None result mid new
 usage_run mid new are rest result told = record {
-  run = usage_told (output_from None) None mid new are rest (λ inputs. refl) result told;
+  run = usage_told (output_of None) None mid new are rest (λ inputs. refl) result told;
   usage = λ u. refl;
   no_command = λ n. ends told;
   refused = λ inputs tells fault r. absurd (not_refused told fault r);
@@ -66,8 +66,8 @@ begins_with_report (Some a) = refl
 -- there was no memory for them
 pub unread_run : (o : Option Asked) (mid new : Outside) → AreAttached ((Report, []) ∷ []) mid → OnlyWrites mid new → (result : Status) → Finishes OutOfMemory result mid new → IsRun o result mid new
 unread_run o mid new are rest result told = record {
-  run = subst (λ (order : List (Role × Text)). IsRunOf (output_from o) order (source_from o) result mid new) (begins_with_report o)
-      (words_unread (output_from o) (rest_of o) (source_from o) mid new are rest result told);
+  run = subst (λ (order : List (Role × Text)). IsRunOf (output_of o) order (source_from o) result mid new) (begins_with_report o)
+      (words_unread (output_of o) (rest_of o) (source_from o) mid new are rest result told);
   usage = λ u. absurd (not_usage told u);
   no_command = λ n. ends told;
   refused = λ inputs tells fault r. absurd (not_refused told fault r);
@@ -88,8 +88,8 @@ unread_run o mid new are rest result told = record {
 -- nothing was done, for want of memory
 pub starved_run : (o : Option Asked) (old new : Outside) → NoneAttached new.attached → new.written ≡ old.written → IsRun o OutOfMemory old new
 starved_run o old new none same = record {
-  run = subst (λ (order : List (Role × Text)). IsRunOf (output_from o) order (source_from o) OutOfMemory old new) (begins_with_report o)
-      (nothing_done (output_from o) (rest_of o) (source_from o) old new none same);
+  run = subst (λ (order : List (Role × Text)). IsRunOf (output_of o) order (source_from o) OutOfMemory old new) (begins_with_report o)
+      (nothing_done (output_of o) (rest_of o) (source_from o) old new none same);
   usage = λ u. absurd (cc u);
   no_command = λ n. inr (inl refl);
   refused = λ inputs told fault r. absurd (cc r);
@@ -97,8 +97,8 @@ starved_run o old new none same = record {
 
 unopened_run : (o : Option Asked) (old new : Outside) → NoneAttached new.attached → new.written ≡ old.written → Rose old.faults.attach new.faults.attach → IsRun o (OpenFault Report) old new
 unopened_run o old new none same rose = record {
-  run = subst (λ (order : List (Role × Text)). IsRunOf (output_from o) order (source_from o) (OpenFault Report) old new) (begins_with_report o)
-      (report_unopened (output_from o) (rest_of o) (source_from o) old new none same rose);
+  run = subst (λ (order : List (Role × Text)). IsRunOf (output_of o) order (source_from o) (OpenFault Report) old new) (begins_with_report o)
+      (report_unopened (output_of o) (rest_of o) (source_from o) old new none same rose);
   usage = λ u. absurd (cc u);
   no_command = λ n. inr (inr (inl rose));
   refused = λ inputs told fault r. absurd (cc r);
@@ -124,7 +124,7 @@ report_alone old mid none attached named = record { roles = λ r. ap (λ (f : Ro
 -- the same from before the report was attached
 pub run_since : (o : Option Asked) (old mid new : Outside) (result : Status) → OnlyAttaches old mid → IsRun o result mid new → IsRun o result old new
 run_since o old mid new result attaches run = record {
-  run = since_attached (output_from o) (order_from o) (source_from o) old mid new attaches result run.run;
+  run = since_attached (output_of o) (order_from o) (source_from o) old mid new attaches result run.run;
   usage = run.usage;
   no_command = λ n. ends (run.no_command n);
   refused = λ inputs told fault r. run.refused inputs (λ role input. ap (λ (l : Role → Option (List ℕ)). l role) attaches.left ∙ told role input) fault r;

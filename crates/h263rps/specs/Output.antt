@@ -1,5 +1,7 @@
 -- What the program makes of its words and of its inputs.
 use Rattle.std.specs.Prelude.{ℕ, Bool, true, false, not, List, [], ◌∷◌, Option, Some, None}
+use Rattle.std.specs.declared.io.ErrorKind.{ErrorKind}
+use Rattle.std.specs.declared.io.ErrorKind.TheVariants as kinds
 use Rattle.h263_outside.specs.declared.desk.Role.{Role}
 use Rattle.h263_outside.specs.declared.desk.Role.TheVariants.{Video, Events, Pictures, Wire, Report}
 use Rattle.h263_types.specs.declared.params.Params.{Params}
@@ -34,6 +36,11 @@ command_of words = asked words
 abbrev pub word_stop : WordStop → Status
 word_stop stops.OutOfMemory = OutOfMemory
 word_stop stops.Usage = Usage
+
+-- how a run ends whose words the host didn't give: there was no memory for them, or one is no text
+abbrev pub unread_words : ErrorKind → Status
+unread_words kinds.OutOfMemory = OutOfMemory
+unread_words _ = Usage
 
 -- ---- the roles
 
@@ -108,10 +115,8 @@ run_of (Rate target bucket) inputs =
     run_from (rate_begin (bucket_of target bucket) inputs) rate_step 16777216 inputs
 run_of (Audit params) inputs = run_from (audit_begin params inputs) audit_step 16777216 inputs
 
-abbrev pub output_from : Option Asked → (Role → List ℕ) → Run
-output_from None inputs = no_command
-output_from (Some a) inputs = run_of a.command inputs
-
--- what the words give where the inputs hold these bytes: texts turn by turn, and a status
-abbrev pub output_of : List Text → (Role → List ℕ) → Run
-output_of words inputs = output_from (command_of words) inputs
+-- what a command gives where the inputs hold these bytes: texts turn by turn, and a status. Where
+-- none was asked for it is Usage.
+abbrev pub output_of : Option Asked → (Role → List ℕ) → Run
+output_of None inputs = no_command
+output_of (Some a) inputs = run_of a.command inputs

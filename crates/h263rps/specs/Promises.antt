@@ -8,13 +8,13 @@ use Rattle.y4m.specs.declared.fault.Y4mFault.{Y4mFault}
 use Rattle.y4m.specs.Video.{video_fault}
 use Rattle.call_report.specs.declared.status.Status.{Status}
 use Rattle.call_report.specs.declared.status.Status.TheVariants.{OutOfMemory, Usage, VideoRefused}
-use Rattle.call_report.specs.Status.{phase, before_reading}
+use Rattle.call_report.specs.Status.{code_of, phase, before_reading}
 use Rattle.command_words.specs.Asked.{Asked}
 use Rattle.desk_program.specs.Run.{Run, text_of}
 use Rattle.desk_program.specs.Ends.{Tells, Gains, HasCause, IsReadOut}
 use Rattle.desk_program.specs.Attached.{AttachedAt}
 use Rattle.desk_program.specs.Lines.{end_text}
-use Rattle.h263rps.specs.Output.{output_from, order_from, source_from}
+use Rattle.h263rps.specs.Output.{output_of, order_from, source_from}
 use Rattle.desk_program.specs.Promises.{IsSettled, IsStopped, HasStatus, HasTexts, ReportIn, TakesInput}
 
 -- a prefix of each text was written; where the report is attached, it has whole lines and that of the
@@ -50,7 +50,7 @@ pub record IsRunOf (output : (Role → List ℕ) → Run) (order : List (Role ×
 
 -- what is promised of a run with these words, of which a command was asked or not
 pub record IsRun (asked : Option Asked) (result : Status) (old new : Outside) : Type 0 where
-  pub run : IsRunOf (output_from asked) (order_from asked) (source_from asked) result old new
+  pub run : IsRunOf (output_of asked) (order_from asked) (source_from asked) result old new
   -- the words are no command where Usage comes, whatever the desk tells; where they are none Usage
   -- comes, or want of memory, or a fault of the desk
   pub usage : result ≡ Usage → asked ≡ None
@@ -58,3 +58,9 @@ pub record IsRun (asked : Option Asked) (result : Status) (old new : Outside) : 
   -- a refused video has that fault, and no earlier one
   pub refused : (inputs : Role → List ℕ) → Tells old inputs → (fault : Y4mFault) → result ≡ VideoRefused fault
       → video_fault (inputs Video) ≡ Some fault
+
+-- the exit status is that of a run with these words
+pub record IsExit (asked : Option Asked) (code : ℕ) (old new : Outside) : Type 0 where
+  pub result : Status
+  pub code_is : code ≡ code_of result
+  pub run : IsRun asked result old new

@@ -1,22 +1,22 @@
 -- A capture by a sender whose pace begins with the parameters' quantiser.
 use Rattle.std.proofs.Common.{◌≡◌, ℕ, List, ◌∷◌, length, Option, sym, ap, ◌∙◌, subst}
 use Rattle.h263_types.specs.declared.params.Params.{Params}
-use Rattle.packet_cutter.specs.Cutting.{packets_of}
 use Rattle.call_model.specs.Sending.{SenderEntry, Capture}
 use Rattle.call_encoding.specs.Frames.{Frame}
-use Rattle.sender_end.specs.declared.state.State.{State}
-use Rattle.sender_end.specs.declared.state.Coded.{Coded}
+use Rattle.sender_end.specs.declared.answers.Coded.{Coded}
+use Rattle.sender_end.specs.State.{SenderState}
 use Rattle.sender_end.specs.Stands.{Stands, Describes, run_of, next_after, last_packets}
+use Rattle.send_command.specs.declared.pace.SendPace.{SendPace}
 use Rattle.send_command.specs.Pace.{pace_of, quant_behind}
 use Rattle.send_command.specs.Stands.{IsCaptured}
 
 -- the packets of a sender are those of its entries' last picture
-packets_are : (t : Option ℕ) (p : Params) (state : State) (entries : List (SenderEntry Frame)) → state.params ≡ p → Stands (pace_of t p) state entries → packets_of state.cutter ≡ last_packets p (pace_of t p) entries
+packets_are : (t : Option ℕ) (p : Params) (state : SenderState SendPace) (entries : List (SenderEntry Frame)) → state.params ≡ p → Stands (pace_of t p) state entries → state.packets ≡ last_packets p (pace_of t p) entries
 packets_are t p state entries same st =
     sym st.seen.packets ∙ st.stands.packets ∙ ap (λ (q : Params). last_packets q (pace_of t p) entries) same
 
 -- a capture by a sender whose pace has the parameters' quantiser as its first
-pub is_captured : (t : Option ℕ) (p : Params) (quant : ℕ) (frame : Frame) (entries : List (SenderEntry Frame)) (new : State) (answer : Coded) → quant ≡ p.quant → new.params ≡ p
+pub is_captured : (t : Option ℕ) (p : Params) (quant : ℕ) (frame : Frame) (entries : List (SenderEntry Frame)) (new : SenderState SendPace) (answer : Coded) → quant ≡ p.quant → new.params ≡ p
     → Stands (quant_behind t quant) new (Capture frame ∷ entries)
     → Describes (length (run_of p (quant_behind t quant) entries).coded) (next_after p (quant_behind t quant) frame entries) answer
     → IsCaptured t frame p entries new answer

@@ -16,19 +16,19 @@ use Rattle.event_logs.specs.Entry.{begun, bytes_of, entry_in, reach, reach_of}
 use Rattle.event_logs.specs.Reader.{EntryGives, Moves}
 use Rattle.event_logs.specs.declared.reader.LogReader.{LogReader}
 use Rattle.y4m.specs.declared.reader.Y4mReader.{Y4mReader}
-use Rattle.packet_cutter.specs.Cutting.{packets_of}
 use Rattle.call_model.specs.Sending.{Capture, Feedback, Reply, feedback_answer}
 use Rattle.call_decoding.specs.Rules.{rules_of}
 use Rattle.call_encoding.specs.Frames.{Frame}
 use Rattle.call_encoding.specs.Messages.{read_message}
-use Rattle.sender_end.specs.declared.state.State.{State}
-use Rattle.sender_end.specs.declared.state.Coded.{Coded}
+use Rattle.sender_end.specs.declared.answers.Coded.{Coded}
+use Rattle.sender_end.specs.State.{SenderState}
 use Rattle.sender_end.specs.Stands.{Stands, run_of, last_packets}
 use Rattle.desk_program.specs.Run.{behind}
 use Rattle.desk_program.specs.Ends.{Tells, Went}
 use Rattle.desk_program.specs.Texts.{no_texts, of}
 use Rattle.desk_program.specs.Laws.{TurnLaws}
 use Rattle.send_command.specs.declared.machine.Send.{Send}
+use Rattle.send_command.specs.declared.pace.SendPace.{SendPace}
 use Rattle.send_command.specs.Tally.{with_picture, with_reply}
 use Rattle.send_command.specs.Pace.{pace_of, target_of}
 use Rattle.send_command.specs.Send.{SendState, picture_texts, capture_texts, after_capture, after_feedback, entry_step, send_step}
@@ -40,13 +40,13 @@ use Rattle.send_command.proofs.Framing.{IsVideoAt}
 
 -- of a machine that stood at a state before the entry that was read last
 module _ (m : Send) (s : SendState) (size : ℕ) (stood : StoodBefore m s size) where
-  pub params_are : s.params ≡ m.sender.state.params
+  pub params_are : s.params ≡ m.sender.params
   params_are = ap (λ (x : SendState). x.params) stood.is
 
   pub target_is : s.target ≡ target_of m.sender.pace
   target_is = ap (λ (x : SendState). x.target) stood.is
 
-  pub video_at : m.sender.state.params.format ≡ m.video.format → IsVideoAt s m.video
+  pub video_at : m.sender.params.format ≡ m.video.format → IsVideoAt s m.video
   video_at format = record {
     format = ap (λ (x : SendState). x.params.format) stood.is ∙ format;
     at_is = ap (λ (x : SendState). x.video_at) stood.is;
@@ -54,23 +54,23 @@ module _ (m : Send) (s : SendState) (size : ℕ) (stood : StoodBefore m s size) 
   }
 
   -- the sender of a machine stands for its entries
-  pub stood_for : Stands (pace_of (target_of m.sender.pace) m.sender.state.params) m.sender.state s.entries
-  stood_for = subst (λ (x : SendState). Stands (pace_of x.target x.params) m.sender.state s.entries) stood.is stood.sender
+  pub stood_for : Stands (pace_of (target_of m.sender.pace) m.sender.params) m.sender s.entries
+  stood_for = subst (λ (x : SendState). Stands (pace_of x.target x.params) m.sender s.entries) stood.is stood.sender
 
   -- the texts of a capture
-  pub texts_are : (frame : Frame) (out : Frame) (new : State) (answer : Coded) → frame ≡ out → IsCaptured (target_of m.sender.pace) frame m.sender.state.params s.entries new answer
-      → picture_texts (packets_of new.cutter) answer.number answer.reference ≡ capture_texts s.target s.params out s.entries
+  pub texts_are : (frame : Frame) (out : Frame) (new : SenderState SendPace) (answer : Coded) → frame ≡ out → IsCaptured (target_of m.sender.pace) frame m.sender.params s.entries new answer
+      → picture_texts new.packets answer.number answer.reference ≡ capture_texts s.target s.params out s.entries
   texts_are frame out new answer same cap =
       (λ i. picture_texts (cap.packets i) (cap.number_is i) (cap.reference i))
       ∙ (λ i. capture_texts (sym target_is i) (sym params_are i) (same i) s.entries)
 
   -- the state after a capture
-  pub keeps_capture : (new : Send) (frame out : Frame) (answer : Coded) (size_of_frame : ℕ) (inputs : Role → List ℕ) → size ≡ 3 → frame ≡ out → IsCaptured (target_of m.sender.pace) frame m.sender.state.params s.entries new.sender.state answer
-      → answer.packets ≡ length (packets_of new.sender.state.cutter) → new.sender.state.params ≡ m.sender.state.params → new.sender.pace ≡ m.sender.pace → new.log ≡ m.log → new.tally ≡ with_picture answer.packets m.tally
+  pub keeps_capture : (new : Send) (frame out : Frame) (answer : Coded) (size_of_frame : ℕ) (inputs : Role → List ℕ) → size ≡ 3 → frame ≡ out → IsCaptured (target_of m.sender.pace) frame m.sender.params s.entries new.sender answer
+      → answer.packets ≡ length new.sender.packets → new.sender.params ≡ m.sender.params → new.sender.pace ≡ m.sender.pace → new.log ≡ m.log → new.tally ≡ with_picture answer.packets m.tally
       → new.video.at ≡ s.video_at + size_of_frame → new.video.more + 1 ≡ m.video.more
       → SendStands new (after_capture s size_of_frame out) inputs
   keeps_capture new frame out answer n inputs three same cap count params pace log tally place more =
-      let p = m.sender.state.params in
+      let p = m.sender.params in
       let old : s.tally ≡ m.tally = ap (λ (x : SendState). x.tally) stood.is in
       let counted : length (last_packets s.params (pace_of s.target s.params) (Capture out ∷ s.entries)) ≡ answer.packets =
       (λ i. length (last_packets (params_are i) (pace_of (target_is i) (params_are i)) (Capture (sym same i) ∷ s.entries)))
@@ -79,15 +79,15 @@ module _ (m : Send) (s : SendState) (size : ℕ) (stood : StoodBefore m s size) 
       let tally_is : with_picture (length (last_packets s.params (pace_of s.target s.params) (Capture out ∷ s.entries))) s.tally ≡ new.tally =
       (λ i. with_picture (counted i) (old i)) ∙ sym tally
       in
-      let params_is : s.params ≡ new.sender.state.params = params_are ∙ sym params in
+      let params_is : s.params ≡ new.sender.params = params_are ∙ sym params in
       let goal_is : s.target ≡ target_of new.sender.pace = target_is ∙ ap target_of (sym pace) in
       let fewer : s.more ≡ m.video.more = ap (λ (x : SendState). x.more) stood.is in
       let more_is : s.more - 1 ≡ new.video.more = omega (arith, more, fewer) in
       let at_is : s.at + 3 ≡ new.log.at = ap (λ (k : ℕ). s.at + k) (sym three) ∙ ap (λ (x : SendState). x.at) stood.is ∙ ap (λ (l : LogReader). l.at) (sym log) in
       let read_is : s.read + 1 ≡ new.log.entries = ap (λ (x : SendState). x.read) stood.is ∙ ap (λ (l : LogReader). l.entries) (sym log) in
-      let sender : Stands (pace_of s.target s.params) new.sender.state (Capture out ∷ s.entries) =
-      subst (λ (f : Frame). Stands (pace_of s.target s.params) new.sender.state (Capture f ∷ s.entries)) same
-      (subst (λ (x : SendState). Stands (pace_of x.target x.params) new.sender.state (Capture frame ∷ s.entries)) (sym stood.is) cap.stands)
+      let sender : Stands (pace_of s.target s.params) new.sender (Capture out ∷ s.entries) =
+      subst (λ (f : Frame). Stands (pace_of s.target s.params) new.sender (Capture f ∷ s.entries)) same
+      (subst (λ (x : SendState). Stands (pace_of x.target x.params) new.sender (Capture frame ∷ s.entries)) (sym stood.is) cap.stands)
       in
       record {
         is = λ i. record {
@@ -105,16 +105,16 @@ module _ (m : Send) (s : SendState) (size : ℕ) (stood : StoodBefore m s size) 
 
 -- the state after feedback
 pub keeps_feedback : (m : Send) (s : SendState) (len : ℕ) (bytes : List ℕ) (stood : StoodBefore m s (3 + len)) (new : Send) (reply : Reply MessageFault) (inputs : Role → List ℕ) → length bytes ≡ len
-    → Stands (pace_of (target_of m.sender.pace) m.sender.state.params) new.sender.state (Feedback bytes ∷ s.entries)
-    → reply ≡ feedback_answer (rules_of m.sender.state.params) (length (run_of m.sender.state.params (pace_of (target_of m.sender.pace) m.sender.state.params) s.entries).coded) (read_message m.sender.state.params.clock bytes)
-    → new.sender.state.params ≡ m.sender.state.params → new.sender.pace ≡ m.sender.pace → new.log ≡ m.log → new.tally ≡ with_reply reply m.tally → new.video ≡ m.video
+    → Stands (pace_of (target_of m.sender.pace) m.sender.params) new.sender (Feedback bytes ∷ s.entries)
+    → reply ≡ feedback_answer (rules_of m.sender.params) (length (run_of m.sender.params (pace_of (target_of m.sender.pace) m.sender.params) s.entries).coded) (read_message m.sender.params.clock bytes)
+    → new.sender.params ≡ m.sender.params → new.sender.pace ≡ m.sender.pace → new.log ≡ m.log → new.tally ≡ with_reply reply m.tally → new.video ≡ m.video
     → SendStands new (after_feedback s bytes) inputs
 keeps_feedback m s len bytes stood new reply inputs long stands answer params pace log tally video =
-    let params_is : s.params ≡ new.sender.state.params = params_are m s (3 + len) stood ∙ sym params in
+    let params_is : s.params ≡ new.sender.params = params_are m s (3 + len) stood ∙ sym params in
     let was : target_of m.sender.pace ≡ s.target = sym (target_is m s (3 + len) stood) in
     let goal_is : s.target ≡ target_of new.sender.pace = sym was ∙ ap target_of (sym pace) in
     let old : s.tally ≡ m.tally = ap (λ (x : SendState). x.tally) stood.is in
-    let back : m.sender.state.params ≡ s.params = sym (params_are m s (3 + len) stood) in
+    let back : m.sender.params ≡ s.params = sym (params_are m s (3 + len) stood) in
     let answer_is : feedback_answer (rules_of s.params) (length (run_of s.params (pace_of s.target s.params) s.entries).coded) (read_message s.params.clock bytes) ≡ reply =
     (λ i. feedback_answer (rules_of (sym back i)) (length (run_of (sym back i) (pace_of (sym was i) (sym back i)) s.entries).coded) (read_message (sym back i).clock bytes)) ∙ sym answer
     in
@@ -136,7 +136,7 @@ keeps_feedback m s len bytes stood new reply inputs long stands answer params pa
         video_at = place_is i;
         more = more_is i;
       };
-      sender = subst (λ (x : SendState). Stands (pace_of x.target x.params) new.sender.state (Feedback bytes ∷ s.entries)) (sym stood.is) stands;
+      sender = subst (λ (x : SendState). Stands (pace_of x.target x.params) new.sender (Feedback bytes ∷ s.entries)) (sym stood.is) stands;
     }
 
 -- ---- before an entry is read, and after it
@@ -216,7 +216,6 @@ fit_behind m log bytes old now fit side long attached = record {
   events = ap (λ (f : Role → Bool). f Events) attached ∙ fit.events;
   wire = ap (λ (f : Role → Bool). f Wire) attached ∙ fit.wire;
   report = ap (λ (f : Role → Bool). f Report) attached ∙ fit.report;
-  sender = fit.sender;
   format = fit.format;
   pace = fit.pace;
   frame = fit.frame;

@@ -8,16 +8,16 @@ use Rattle.h263_types.specs.Params.{IsParams}
 use Rattle.h263_types.specs.Sizes.{size_of_picture}
 use Rattle.y4m.specs.Video.{most_frames}
 use Rattle.event_logs.specs.declared.entry.Side.TheVariants as sides
-use Rattle.packet_cutter.specs.Cutting.{packets_of}
 use Rattle.call_model.specs.Sending.{SenderEntry, Capture}
 use Rattle.call_encoding.specs.Frames.{Frame}
-use Rattle.sender_end.specs.declared.state.State.{State}
-use Rattle.sender_end.specs.declared.state.Coded.{Coded}
-use Rattle.sender_end.specs.Stands.{IsReady, Stands, run_of, next_after, last_packets}
+use Rattle.sender_end.specs.declared.answers.Coded.{Coded}
+use Rattle.sender_end.specs.State.{SenderState}
+use Rattle.sender_end.specs.Stands.{Stands, run_of, next_after, last_packets}
 use Rattle.desk_program.specs.Run.{behind}
 use Rattle.desk_program.specs.Ends.{Tells}
 use Rattle.desk_program.specs.Texts.{of}
 use Rattle.send_command.specs.declared.machine.Send.{Send}
+use Rattle.send_command.specs.declared.pace.SendPace.{SendPace}
 use Rattle.send_command.specs.declared.pace.Sending.{Sending}
 use Rattle.send_command.specs.Pace.{first_of, pace_of, target_of}
 use Rattle.send_command.specs.Tally.{IsOf}
@@ -37,7 +37,7 @@ pub record CanSend (setup : Sending) (attached : Role → Bool) : Type 0 where
 abbrev pub state_of : Send → List (SenderEntry Frame) → SendState
 state_of m entries =
     record {
-      params = m.sender.state.params;
+      params = m.sender.params;
       target = target_of m.sender.pace;
       entries = entries;
       tally = m.tally;
@@ -50,7 +50,7 @@ state_of m entries =
 -- the machine keeps this state in mind: its sender stands for the entries
 pub record SendStands (m : Send) (s : SendState) (inputs : Role → List ℕ) : Type 0 where
   pub is : s ≡ state_of m s.entries
-  pub sender : Stands (pace_of s.target s.params) m.sender.state s.entries
+  pub sender : Stands (pace_of s.target s.params) m.sender s.entries
 
 -- the roles are attached, the parts fit each other, and as many frames may still come as pictures
 -- may still be sent
@@ -59,13 +59,12 @@ pub record IsFit (m : Send) (attached : Role → Bool) : Type 0 where
   pub events : attached Events ≡ true
   pub wire : attached Wire ≡ true
   pub report : attached Report ≡ true
-  pub sender : IsReady m.sender.state
-  pub format : m.sender.state.params.format ≡ m.video.format
-  pub pace : first_of m.sender.pace ≡ m.sender.state.params.quant
+  pub format : m.sender.params.format ≡ m.video.format
+  pub pace : first_of m.sender.pace ≡ m.sender.params.quant
   pub frame : length m.frame.items ≡ size_of_picture m.video.format
   pub bytes : length m.bytes.items ≡ 65535
   pub side : m.log.side ≡ sides.Send
-  pub count : m.video.more + m.sender.state.sent ≡ most_frames
+  pub count : m.video.more + m.sender.sent ≡ most_frames
 
 -- the machine may take a turn
 pub record SendReady (m : Send) (attached : Role → Bool) : Type 0 where
@@ -81,7 +80,7 @@ pub record IsAtEntry (m : Send) (attached : Role → Bool) : Type 0 where
 -- this was the state before the entry of this many bytes that was read last
 pub record StoodBefore (m : Send) (s : SendState) (size : ℕ) : Type 0 where
   pub is : record s { at = s.at + size; read = s.read + 1 } ≡ state_of m s.entries
-  pub sender : Stands (pace_of s.target s.params) m.sender.state s.entries
+  pub sender : Stands (pace_of s.target s.params) m.sender s.entries
 
 -- since then this many bytes of the log were taken, and nothing was written
 pub record HasTaken (size : ℕ) (inputs : Role → List ℕ) (old new : Outside) : Type 0 where
@@ -91,8 +90,8 @@ pub record HasTaken (size : ℕ) (inputs : Role → List ℕ) (old new : Outside
 -- the sender has captured a frame after these entries: it stands for the longer list, its packets
 -- are those of the picture, and the answer tells its number and its reference
 pub record IsCaptured (target : Option ℕ) (frame : Frame) (p : Params)
-    (entries : List (SenderEntry Frame)) (new : State) (answer : Coded) : Type 0 where
+    (entries : List (SenderEntry Frame)) (new : SenderState SendPace) (answer : Coded) : Type 0 where
   pub stands : Stands (pace_of target p) new (Capture frame ∷ entries)
-  pub packets : packets_of new.cutter ≡ last_packets p (pace_of target p) (Capture frame ∷ entries)
+  pub packets : new.packets ≡ last_packets p (pace_of target p) (Capture frame ∷ entries)
   pub number_is : answer.number ≡ length (run_of p (pace_of target p) entries).coded
   pub reference : answer.reference ≡ (next_after p (pace_of target p) frame entries).reference

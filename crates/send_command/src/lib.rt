@@ -17,5 +17,6 @@ mod pace;
 mod tally;
 
 pub use machine::Send;
-pub use pace::{SendPace, Sending};
-pub use tally::Tally;
+use pace::SendPace;
+pub use pace::Sending;
+use tally::Tally;

@@ -35,7 +35,6 @@ impl Send {
     ghost use Rattle.desk_program.specs.Ends.{GivesUp, HasCause, IsStop, KeepsRoles, Went};
     ghost use Rattle.desk_program.specs.Ends.{start_status};
     ghost use Rattle.call_report.specs.Status.{phase};
-    ghost use Rattle.sender_end.specs.Stands.{IsReady};
     ghost use Rattle.send_command.specs.Pace.{first_of};
     ghost use Rattle.send_command.specs.Send.{SendState, capture_step, after_feedback};
     ghost use Rattle.send_command.specs.Stands.{HasTaken, IsAtEntry, IsFit, SendReady, SendStands};
@@ -78,8 +77,7 @@ impl Send {
     // Takes the feedback that was read last, of this many bytes.
     fn take_feedback(&mut self, len: u32)
         requires bytes { length self.old.bytes.items ≡ 65535 }
-        requires ready { IsReady self.old.sender.state }
-        requires pace { first_of self.old.sender.pace ≡ self.old.sender.state.params.quant }
+        requires pace { first_of self.old.sender.pace ≡ self.old.sender.params.quant }
         requires few { self.old.log.entries ≤ 16777216 }
         requires some { 0 < self.old.log.entries }
         requires tally { IsOf (self.old.log.entries - 1) self.old.tally }

@@ -1,9 +1,10 @@
 //! The sender of a call by itself: captures are coded into packets, and feedback tells which
 //! pictures the other end has (H.263, Annex N).
 //!
-//! `specs/Stands` says for which entries a sender stands: `sender_run` of `call_model` is what it
-//! has coded and knows. A [`Sender`] answers [`Coded`] to a frame and [`Feedback`] to a message;
-//! its [`Pace`](h263_types::Pace) gives the quantiser.
+//! Contracts see a sender as the record of `specs/State`. `specs/Stands` says for which entries it
+//! stands: `sender_run` of `call_model` is what it has coded and knows. A [`Sender`] answers
+//! [`Coded`] to a frame and [`Feedback`] to a message; its [`Pace`](h263_types::Pace) gives the
+//! quantiser.
 //!
 //! ```rust
 //! sender.code(frame, &[]);
@@ -14,9 +15,11 @@
 //! ```
 #![tactic(auto)]
 
+mod answers;
 mod coding;
 mod headers;
+mod next;
 mod sender;
-mod state;
 
-pub use sender::{Coded, Feedback, Sender};
+pub use answers::{Coded, Feedback};
+pub use sender::Sender;

@@ -1,8 +1,6 @@
 //! Calls by hand: each test is a script of what is done and what comes of it.
 ghost use Rattle.std.specs.Prelude.{◌≡◌, IfOk, length};
 ghost use Rattle.h263_types.specs.Params.{IsParams};
-ghost use Rattle.packet_cutter.specs.Cutting.{packets_of};
-ghost use Rattle.sender_end.specs.Stands.{IsReady};
 
 use back_messages::MessageBytes;
 use h263_outside::OutOfMemory;
@@ -52,8 +50,7 @@ struct Ends {
 impl Ends {
     fn start(alloc: Global, params: &Params) -> Result<Ends, OutOfMemory>
         requires { IsParams params.now }
-        ensures ready { IfOk result (λ ends. IsReady ends.sender.state) }
-        ensures format { IfOk result (λ ends. ends.format ≡ ends.sender.state.params.format) }
+        ensures format { IfOk result (λ ends. ends.format ≡ ends.sender.params.format) }
     {
         let pace = FixedPace {
             quant: params.quant,
@@ -88,7 +85,7 @@ impl Ends {
 
     // Adds the packets of the last picture.
     fn send(&mut self, alloc: Global, count: u32) -> Result<(), OutOfMemory>
-        requires { count ≡ length (packets_of self.old.sender.state.cutter) }
+        requires { count ≡ length self.old.sender.packets }
         ensures sender { self.new.sender ≡ self.old.sender }
         ensures format { self.new.format ≡ self.old.format }
     {
@@ -101,10 +98,8 @@ impl Ends {
 
     // The next picture: its reference. No call here is long.
     fn code(&mut self, alloc: Global, value: u8) -> Result<Option<u32>, OutOfMemory>
-        requires ready { IsReady self.old.sender.state }
-        requires format { self.old.format ≡ self.old.sender.state.params.format }
-        ensures ready { IsReady self.new.sender.state }
-        ensures format { self.new.format ≡ self.new.sender.state.params.format }
+        requires format { self.old.format ≡ self.old.sender.params.format }
+        ensures format { self.new.format ≡ self.new.sender.params.format }
     {
         if self.sender.sent() >= 1000 {
             return Ok(None);
@@ -188,10 +183,8 @@ impl Ends {
     }
 
     fn back(&mut self, message: usize) -> Option<Feedback>
-        requires ready { IsReady self.old.sender.state }
-        requires format { self.old.format ≡ self.old.sender.state.params.format }
-        ensures ready { IsReady self.new.sender.state }
-        ensures format { self.new.format ≡ self.new.sender.state.params.format }
+        requires format { self.old.format ≡ self.old.sender.params.format }
+        ensures format { self.new.format ≡ self.new.sender.params.format }
     {
         match self.messages.get(message) {
             None => None,
@@ -206,10 +199,8 @@ impl Ends {
 
     // Whether the next picture, of which nothing comes, is held.
     fn lose_one(&mut self, alloc: Global) -> Result<bool, OutOfMemory>
-        requires ready { IsReady self.old.sender.state }
-        requires format { self.old.format ≡ self.old.sender.state.params.format }
-        ensures ready { IsReady self.new.sender.state }
-        ensures format { self.new.format ≡ self.new.sender.state.params.format }
+        requires format { self.old.format ≡ self.old.sender.params.format }
+        ensures format { self.new.format ≡ self.new.sender.params.format }
     {
         self.code(alloc, 100)?;
         let Some(said) = self.asks(Mark::Held) else {
@@ -221,10 +212,8 @@ impl Ends {
 
     // Whether the next picture refers to the one before it, is exact, and its message is noted.
     fn follow_one(&mut self, alloc: Global) -> Result<bool, OutOfMemory>
-        requires ready { IsReady self.old.sender.state }
-        requires format { self.old.format ≡ self.old.sender.state.params.format }
-        ensures ready { IsReady self.new.sender.state }
-        ensures format { self.new.format ≡ self.new.sender.state.params.format }
+        requires format { self.old.format ≡ self.old.sender.params.format }
+        ensures format { self.new.format ≡ self.new.sender.params.format }
     {
         let sent = self.sender.sent();
         if self.code(alloc, 100)? != sent.checked_sub(1) {
@@ -240,10 +229,8 @@ impl Ends {
     }
 
     fn lose(&mut self, alloc: Global, times: u32) -> Result<bool, OutOfMemory>
-        requires ready { IsReady self.old.sender.state }
-        requires format { self.old.format ≡ self.old.sender.state.params.format }
-        ensures ready { IsReady self.new.sender.state }
-        ensures format { self.new.format ≡ self.new.sender.state.params.format }
+        requires format { self.old.format ≡ self.old.sender.params.format }
+        ensures format { self.new.format ≡ self.new.sender.params.format }
     {
         'times: for _time in 0..times {
             if !self.lose_one(alloc)? {
@@ -254,10 +241,8 @@ impl Ends {
     }
 
     fn follow(&mut self, alloc: Global, times: u32) -> Result<bool, OutOfMemory>
-        requires ready { IsReady self.old.sender.state }
-        requires format { self.old.format ≡ self.old.sender.state.params.format }
-        ensures ready { IsReady self.new.sender.state }
-        ensures format { self.new.format ≡ self.new.sender.state.params.format }
+        requires format { self.old.format ≡ self.old.sender.params.format }
+        ensures format { self.new.format ≡ self.new.sender.params.format }
     {
         'times: for _time in 0..times {
             if !self.follow_one(alloc)? {
@@ -276,10 +261,8 @@ impl Ends {
 
     // Whether a step comes out so.
     fn step(&mut self, alloc: Global, step: Step) -> Result<bool, OutOfMemory>
-        requires ready { IsReady self.old.sender.state }
-        requires format { self.old.format ≡ self.old.sender.state.params.format }
-        ensures ready { IsReady self.new.sender.state }
-        ensures format { self.new.format ≡ self.new.sender.state.params.format }
+        requires format { self.old.format ≡ self.old.sender.params.format }
+        ensures format { self.new.format ≡ self.new.sender.params.format }
     {
         match step {
             Step::Code(value, reference) => Ok(self.code(alloc, value)? == reference),
@@ -297,8 +280,7 @@ impl Ends {
 
     // How many steps come out so, up to the first that doesn't.
     fn steps(&mut self, alloc: Global, steps: &[Step]) -> Result<usize, OutOfMemory>
-        requires ready { IsReady self.old.sender.state }
-        requires format { self.old.format ≡ self.old.sender.state.params.format }
+        requires format { self.old.format ≡ self.old.sender.params.format }
     {
         'steps: for (i, step) in steps.iter().enumerate() {
             if !self.step(alloc, *step)? {

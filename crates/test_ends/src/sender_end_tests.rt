@@ -3,8 +3,6 @@ ghost use Rattle.std.specs.Prelude.{◌≡◌, ◌+◌, ◌<◌, ◌≤◌, leng
 ghost use Rattle.h263_types.specs.Params.{IsParams};
 ghost use Rattle.h263_types.specs.declared.format.Format.TheVariants.{SubQcif};
 ghost use Rattle.h263_planes.specs.Lent.{picture};
-ghost use Rattle.packet_cutter.specs.Cutting.{packets_of};
-ghost use Rattle.sender_end.specs.Stands.{IsReady};
 
 use back_messages::{Message, MessageFault, write};
 use h263_outside::OutOfMemory;
@@ -29,9 +27,8 @@ enum Step {
 
 fn sender_of(alloc: Global, params: &Params) -> Result<Sender<FixedPace>, OutOfMemory>
     requires { IsParams params.now }
-    ensures ready { IfOk result (λ sender. IsReady sender.state) }
-    ensures params { IfOk result (λ sender. sender.state.params ≡ params.now) }
-    ensures sent { IfOk result (λ sender. sender.state.sent ≡ 0) }
+    ensures params { IfOk result (λ sender. sender.params ≡ params.now) }
+    ensures sent { IfOk result (λ sender. sender.sent ≡ 0) }
 {
     Sender::start(
         alloc,
@@ -44,12 +41,10 @@ fn sender_of(alloc: Global, params: &Params) -> Result<Sender<FixedPace>, OutOfM
 
 // Whether the sender answers so.
 fn answers(sender: &mut Sender<FixedPace>, step: Step, frame: PictureRef<'_>) -> bool
-    requires ready { IsReady sender.old.state }
-    requires frame { (picture frame).format ≡ sender.old.state.params.format }
-    requires left { sender.old.state.sent < 1048576 }
-    ensures ready { IsReady sender.new.state }
-    ensures params { sender.new.state.params ≡ sender.old.state.params }
-    ensures sent { sender.new.state.sent ≤ sender.old.state.sent + 1 }
+    requires frame { (picture frame).format ≡ sender.old.params.format }
+    requires left { sender.old.sent < 1048576 }
+    ensures params { sender.new.params ≡ sender.old.params }
+    ensures sent { sender.new.sent ≤ sender.old.sent + 1 }
 {
     match step {
         Step::Code(reference) => sender.code(frame, &[]).reference == reference,
@@ -193,7 +188,7 @@ fn chain_ends(rt: HostRuntime) -> Result<(), Fail> {
 
 // Whether the picture that was coded last has this packet alone.
 fn has_only<P: Pace>(sender: &Sender<P>, count: u32, bytes: &[u8]) -> bool
-    requires { count ≡ length (packets_of sender.now.state.cutter) }
+    requires { count ≡ length sender.now.packets }
 {
     if count == 1 {
         sender.packet(0) == bytes

@@ -1,13 +1,11 @@
 use Rattle.std.proofs.Common.{◌≡◌, length}
 use Rattle.h263_types.specs.Sizes.{size_of_picture}
-use Rattle.sender_end.specs.Stands.{IsReady}
 use Rattle.bench.proofs.runs.send_frames.Given as goal
 
 -- each frame was coded
 abbrev pub invariant-frames : goal.invariant-frames
 invariant-frames l = record {
-  ready : IsReady l.sender.state;
-  sent : l.sender.state.sent ≡ l.number;
-  format : l.video.format ≡ l.sender.state.params.format;
+  sent : l.sender.sent ≡ l.number;
+  format : l.video.format ≡ l.sender.params.format;
   size : length l.samples ≡ size_of_picture l.video.format;
 }

@@ -1,4 +1,4 @@
-use Rattle.std.proofs.Common.{ℕ, [], sym, subst, arith}
+use Rattle.std.proofs.Common.{ℕ, [], sym, subst}
 use Rattle.h263_planes.specs.Lent.{picture}
 use Rattle.sender_end.specs.Stands.{Stands}
 use Rattle.send_command.specs.Pace.{first_of, quant_behind, target_of}
@@ -10,11 +10,6 @@ returns-clause-captured c entries stands =
     let old = c.args.sender.now in
     let t = target_of old.pace in
     let quant = first_of old.pace in
-    let st : Stands (quant_behind t quant) old.state entries = subst (λ (q : ℕ). Stands (quant_behind t q) old.state entries) (sym c.requires.pace) stands in
-    is_captured t old.state.params quant (record { picture = picture c.args.frame; messages = [] }) entries c.code.new.self.state c.code.result c.requires.pace c.code.ensures.params
+    let st : Stands (quant_behind t quant) old entries = subst (λ (q : ℕ). Stands (quant_behind t q) old entries) (sym c.requires.pace) stands in
+    is_captured t old.params quant (record { picture = picture c.args.frame; messages = [] }) entries c.code.new.self c.code.result c.requires.pace c.code.ensures.params
     (c.code.ensures.stands entries st) (c.code.ensures.tells entries st)
-
-pub returns-clause-small : goal.returns-clause-small
-returns-clause-small c k d below =
-    let ready = c.code.ensures.ready in
-    omega (arith, ready.small k d below, ready.params.limit_high)

@@ -1,7 +1,6 @@
 use Rattle.std.proofs.Common.{take}
 use Rattle.h263_outside.specs.Desk.{OnlyWrites}
 use Rattle.h263_outside.specs.declared.desk.Role.TheVariants.{Wire}
-use Rattle.packet_cutter.specs.Cutting.{packets_of}
 use Rattle.desk_program.specs.Ends.{Gains}
 use Rattle.desk_program.specs.Texts.{on}
 use Rattle.send_command.specs.Send.{packets_text}
@@ -12,6 +11,6 @@ abbrev pub invariant-loop-i : goal.invariant-loop-i
 invariant-loop-i g l =
     let outside = g.D.Desk.outside in
     record {
-      written : Gains (on Wire (packets_text (take l.i (packets_of l.sender.state.cutter)))) (outside l.fn.desk).written (outside l.desk).written;
+      written : Gains (on Wire (packets_text (take l.i l.sender.packets))) (outside l.fn.desk).written (outside l.desk).written;
       rest : OnlyWrites (outside l.fn.desk) (outside l.desk);
     }

@@ -19,7 +19,7 @@ returns-clause-tally c =
 pub returns-clause-stands : goal.returns-clause-stands
 returns-clause-stands c s inputs short stood =
     let m = c.args.self.now in
-    let p = m.sender.state.params in
+    let p = m.sender.params in
     let t = target_of m.sender.pace in
     let len = c.args.len in
     let bytes = take len m.bytes.items in
@@ -28,12 +28,12 @@ returns-clause-stands c s inputs short stood =
     let count : c.min-len.result ≡ len = omega (arith, c.min-len.ensures, c.len.ensures, m.bytes.ok.0, c.requires.bytes, short) in
     let bytes_are : take c.min-len.result c.deref.result.now ≡ bytes = (λ i. take (count i) (c.deref.ensures.value i)) in
     let long : length bytes ≡ len = length-take-le len m.bytes.items (omega (arith, short, c.requires.bytes)) in
-    let st : Stands (quant_behind t (first_of m.sender.pace)) m.sender.state s.entries =
-    subst (λ (q : ℕ). Stands (quant_behind t q) m.sender.state s.entries) (sym c.requires.pace) (stood_for m s (3 + len) stood)
+    let st : Stands (quant_behind t (first_of m.sender.pace)) m.sender s.entries =
+    subst (λ (q : ℕ). Stands (quant_behind t q) m.sender s.entries) (sym c.requires.pace) (stood_for m s (3 + len) stood)
     in
-    let after : Stands (pace_of t p) heard.new.self.state (Feedback bytes ∷ s.entries) =
-    subst (λ (l : List ℕ). Stands (pace_of t p) heard.new.self.state (Feedback l ∷ s.entries)) bytes_are
-    (subst (λ (q : ℕ). Stands (quant_behind t q) heard.new.self.state (Feedback (take c.min-len.result c.deref.result.now) ∷ s.entries)) c.requires.pace (heard.ensures.stands s.entries st))
+    let after : Stands (pace_of t p) heard.new.self (Feedback bytes ∷ s.entries) =
+    subst (λ (l : List ℕ). Stands (pace_of t p) heard.new.self (Feedback l ∷ s.entries)) bytes_are
+    (subst (λ (q : ℕ). Stands (quant_behind t q) heard.new.self (Feedback (take c.min-len.result c.deref.result.now) ∷ s.entries)) c.requires.pace (heard.ensures.stands s.entries st))
     in
     let answer : reply_of heard.result ≡ feedback_answer (rules_of p) (length (run_of p (pace_of t p) s.entries).coded) (read_message p.clock bytes) =
     heard.ensures.answer s.entries st
@@ -50,7 +50,6 @@ returns-clause-fit c attached fit =
       events = fit.events;
       wire = fit.wire;
       report = fit.report;
-      sender = heard.ensures.ready;
       format = ap (λ (q : Params). q.format) heard.ensures.params ∙ fit.format;
       pace = ap first_of heard.ensures.pace ∙ fit.pace ∙ ap (λ (q : Params). q.quant) (sym heard.ensures.params);
       frame = fit.frame;

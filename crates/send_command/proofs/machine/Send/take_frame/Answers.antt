@@ -5,7 +5,6 @@ use Rattle.h263_outside.specs.declared.desk.Role.TheVariants.{Video, Events, Wir
 use Rattle.h263_types.specs.declared.params.Params.{Params}
 use Rattle.h263_planes.specs.Lent.{picture}
 use Rattle.y4m.specs.Frame.{frame_size}
-use Rattle.packet_cutter.specs.Cutting.{packets_of}
 use Rattle.call_report.specs.Status.{phase, video_stop}
 use Rattle.call_encoding.specs.Frames.{Frame}
 use Rattle.desk_program.specs.Run.{behind}
@@ -42,7 +41,7 @@ pub returns-clause-ok : goal.returns-clause-ok
 returns-clause-ok g c = λ before s inputs stood taken.
     let outside = g.D.Desk.outside in
     let m = c.args.self.now in
-    let p = m.sender.state.params in
+    let p = m.sender.params in
     let out = c.frame.new.out in
     let coded = c.capture-coded in
     let new : Send = record { video = c.frame.new.self; log = m.log; sender = coded.new.sender; tally = c.picture.new.self; frame = with_items m.frame out; bytes = m.bytes } in
@@ -56,8 +55,8 @@ returns-clause-ok g c = λ before s inputs stood taken.
     let same : frame ≡ captured s.params.format out =
     (λ i. record { picture = c.new-frame.ensures.picture i; messages = [] }) ∙ (λ i. captured (format_is i) (bytes_are i))
     in
-    let texts = picture_texts (packets_of coded.new.sender.state.cutter) coded.result.number coded.result.reference in
-    let text_is = texts_are m s 3 stood frame (captured s.params.format out) coded.new.sender.state coded.result same cap in
+    let texts = picture_texts coded.new.sender.packets coded.result.number coded.result.reference in
+    let text_is = texts_are m s 3 stood frame (captured s.params.format out) coded.new.sender coded.result same cap in
     let place = place_is c.of_turns.ensures c.cut_behind.ensures.frame s inputs before (outside c.args.desk.now) (outside c.frame.new.desk) taken c.frame.ensures.others c.frame.ensures.rest.written m.video c.frame.new.self at out e (outside c.put_picture.new.desk) texts text_is in
     let size = frame_size s.params.format (inputs Video) in
     let kept : SendStands new _ (behind inputs (and_of (of Events 3) (of Video size))) =
@@ -83,8 +82,8 @@ returns-clause-err g c = λ before s inputs stood place taken.
     let same : frame ≡ captured s.params.format out =
     (λ i. record { picture = c.new-frame.ensures.picture i; messages = [] }) ∙ (λ i. captured (format_is i) (bytes_are i))
     in
-    let texts = picture_texts (packets_of coded.new.sender.state.cutter) coded.result.number coded.result.reference in
-    let text_is = texts_are m s 3 stood frame (captured s.params.format out) coded.new.sender.state coded.result same cap in
+    let texts = picture_texts coded.new.sender.packets coded.result.number coded.result.reference in
+    let text_is = texts_are m s 3 stood frame (captured s.params.format out) coded.new.sender coded.result same cap in
     if_cut _ (λ status. GivesUp (phase status) status (capture_step s (inputs Video)) true inputs before (outside c.put_picture.new.desk)) c.put_picture.result c.put_picture.ensures.kind c.put_picture.ensures.err
     (capture_cut c.of_turns.ensures c.cut_behind.ensures.frame s inputs before (outside c.args.desk.now) (outside c.frame.new.desk) taken c.frame.ensures.others c.frame.ensures.rest.written m.video c.frame.new.self at out e (outside c.put_picture.new.desk) texts text_is)
 
@@ -96,7 +95,7 @@ returns-clause-ready g c =
     let coded = c.capture-coded in
     let moves = moved c.in_ok-frame.field-0 true m.video c.frame.new.self c.if-not-branch.false c.in_ok-frame.ensures.moves in
     let attached = c.put_picture.ensures.rest.attached ∙ c.frame.ensures.rest.attached in
-    let format : coded.new.sender.state.params.format ≡ c.frame.new.self.format =
+    let format : coded.new.sender.params.format ≡ c.frame.new.self.format =
     ap (λ (q : Params). q.format) coded.ensures.params ∙ fit.format ∙ sym moves.0
     in
     on_ok _ c.put_picture.result
@@ -106,13 +105,12 @@ returns-clause-ready g c =
         events = ap (λ (f : Role → Bool). f Events) attached ∙ fit.events;
         wire = ap (λ (f : Role → Bool). f Wire) attached ∙ fit.wire;
         report = ap (λ (f : Role → Bool). f Report) attached ∙ fit.report;
-        sender = coded.ensures.ready;
         format = format;
         pace = ap first_of coded.ensures.pace ∙ fit.pace ∙ ap (λ (q : Params). q.quant) (sym coded.ensures.params);
         frame = whole_still m.frame c.frame.new.out _ m.video.format c.frame.new.self.format fit.frame c.frame.auto.out c.deref_mut.ensures.len moves.0;
         bytes = fit.bytes;
         side = fit.side;
-        count = one_less c.frame.new.self.more m.video.more m.sender.state.sent coded.new.sender.state.sent fit.count moves.1 coded.ensures.sent;
+        count = one_less c.frame.new.self.more m.video.more m.sender.sent coded.new.sender.sent fit.count moves.1 coded.ensures.sent;
       };
       tally = one_picture_more m.log.entries coded.result.packets m.tally c.picture.new.self c.requires.some c.requires.tally (omega arith) c.picture.ensures;
     })

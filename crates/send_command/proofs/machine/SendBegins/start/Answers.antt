@@ -35,7 +35,7 @@ returns-clause-goes g c = λ inputs told.
     let p = setup.params in
     let reader = c.in_ok-video.video in
     let started = c.in_ok-sender.ensures in
-    let state = c.in_ok-sender.sender.state in
+    let state = c.in_ok-sender.sender in
     let new : Send = record { video = reader; log = c.new.result; sender = c.in_ok-sender.sender; tally = c.new-2.result; frame = c.in_ok-frame.frame; bytes = c.in_ok-bytes.bytes } in
     let e = c.in_ok-video.ensures.gives (inputs Video) (told Video refl) in
     let params_is : record p { format = reader.format } ≡ state.params =
@@ -77,7 +77,6 @@ returns-clause-ready g c =
         events = ap (λ (f : Role → Bool). f Events) attached ∙ c.requires.events;
         wire = ap (λ (f : Role → Bool). f Wire) attached ∙ c.requires.wire;
         report = ap (λ (f : Role → Bool). f Report) attached ∙ c.requires.report;
-        sender = started.ready;
         format = ap (λ (q : Params). q.format) started.params ∙ c.format.ensures;
         pace = ap first_of started.pace ∙ c.choose-pace.ensures.first ∙ ap (λ (q : Params). q.quant) (sym started.params);
         frame = omega (arith, c.in_ok-frame.ensures.len, c.in_ok-frame.frame.ok.0, c.size.ensures, ap size_of_picture c.format.ensures);
