@@ -18,7 +18,7 @@ use Rattle.desk_program.specs.Run.{Step, Turn, behind}
 use Rattle.desk_program.specs.Ends.{Tells, holds, IsPart, Went, Ended, GivesUp, step_turns}
 use Rattle.desk_program.specs.Texts.{no_texts, of, and_of}
 use Rattle.desk_program.specs.Laws.{TurnLaws}
-use Rattle.call_command.specs.Both.{bare}
+use Rattle.one_way.specs.Both.{bare}
 use Rattle.call_command.specs.Call.{CallState, after_line, capture_step, captured_step, line_size, may_read, refused_line, with_frame}
 use Rattle.call_command.specs.Laws.{VideoLaws}
 use Rattle.call_command.specs.Standing.{HasTaken}

@@ -9,42 +9,17 @@ use Rattle.sender_end.specs.Stands as sender_end
 use Rattle.sender_end.specs.Stands.{IsReady}
 use Rattle.receiver_end.specs.State as receiver_end
 use Rattle.call_command.specs.declared.call.Begun.{Begun}
-use Rattle.call_command.specs.declared.lent.World.{World}
+use Rattle.call_command.specs.declared.world.World.{World}
 use Rattle.call_command.specs.declared.terms.Terms.{Terms}
-use Rattle.call_command.specs.Call.{CallState, first_state, most_turns, steady, talk_step}
-use Rattle.call_command.specs.Standing.{CallOpens, EndsStand, Parts, PartsReady, PartsStand}
-
--- what stays for the whole call: what is asked for, and what is lent, by name
-pub record Names : Type 0 where
-  pub terms : Terms
-  pub video : ℕ
-  pub sender : ℕ
-  pub receiver : ℕ
-
-abbrev pub names_of : World → Names
-names_of m =
-    record {
-      terms = m.terms;
-      video = m.video.ghost_name;
-      sender = m.sender.ghost_name;
-      receiver = m.receiver.ghost_name;
-    }
-
-abbrev pub parts_of_world : World → Parts
-parts_of_world m =
-    record {
-      terms = m.terms;
-      video = m.video.now;
-      sender = m.sender.now.state;
-      receiver = m.receiver.now;
-      carrier = m.carrier.now;
-    }
+use Rattle.one_way.specs.Both.{steady}
+use Rattle.call_command.specs.Call.{CallState, first_state, most_turns, talk_step}
+use Rattle.call_command.specs.Standing.{CallOpens, EndsStand, PartsReady, PartsStand, parts_of}
 
 abbrev pub WorldStands : World → CallState → (Role → List ℕ) → Type 0
-WorldStands m s inputs = PartsStand (parts_of_world m) s inputs
+WorldStands m s inputs = PartsStand (parts_of m) s inputs
 
 abbrev pub WorldReady : World → (Role → Bool) → Type 0
-WorldReady m attached = PartsReady (parts_of_world m) m.sender.now.pace.quant attached
+WorldReady m attached = PartsReady (parts_of m) attached
 
 abbrev pub WorldKeeps : World → CallState → Type 0
 WorldKeeps m s = EndsStand m.terms m.sender.now.state m.receiver.now s

@@ -7,7 +7,8 @@ ghost use Rattle.desk_program.specs.Ends.{start_status};
 ghost use Rattle.sender_end.specs.Stands.{IsReady};
 ghost use Rattle.sender_end.specs.Stands as sender_end;
 ghost use Rattle.receiver_end.specs.State as receiver_end;
-ghost use Rattle.call_command.specs.Call.{call_begin, may_read, steady};
+ghost use Rattle.one_way.specs.Both.{steady};
+ghost use Rattle.call_command.specs.Call.{call_begin, may_read};
 ghost use Rattle.call_command.specs.Converse.{IsFirst, MayConverse};
 ghost use Rattle.call_command.specs.Standing.{CallOpens};
 

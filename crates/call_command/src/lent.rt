@@ -9,38 +9,29 @@ ghost use Rattle.desk_program.specs.UnderWay.{IsUnderWay};
 ghost use Rattle.sender_end.specs.Stands.{IsReady};
 ghost use Rattle.sender_end.specs.Stands as sender_end;
 ghost use Rattle.receiver_end.specs.State as receiver_end;
-ghost use Rattle.call_command.specs.Call.{call_step, may_read, most_turns, steady};
+ghost use Rattle.one_way.specs.Both.{steady};
+ghost use Rattle.call_command.specs.Call.{call_step, may_read, most_turns};
 ghost use Rattle.call_command.specs.Converse.{IsFirst, talk_end, talk_of};
 ghost use Rattle.call_command.specs.Standing.{CallOpens, EndsStand, source_of};
 
 use crate::mind::{run_laws, turn_laws};
-use crate::turning::take_turn;
-use crate::{Carrier, Terms, laws};
+use crate::{Terms, carrier::Carrier, laws, world::World};
 use call_report::Status;
 use desk_program::{Turns, take_turns};
 use h263_outside::Desk;
 use h263_types::{FixedPace, Params};
+use one_way::laws as one_way_laws;
 use receiver_end::Receiver;
 use sender_end::Sender;
 use std::alloc::Global;
 use y4m::Y4mReader;
 
-// The machine of a call whose ends and video are lent.
-#[derive(Drop)]
-struct World<'a> {
-    terms: Terms,
-    video: &'a mut Y4mReader,
-    sender: &'a mut Sender<FixedPace>,
-    receiver: &'a mut Receiver,
-    carrier: &'a mut Carrier,
-}
-
 impl<'a> Turns for World<'a> {
     ghost use Rattle.std.specs.Prelude.{Some};
     ghost use Rattle.call_command.specs.Call.{CallState, may_read, most_turns, talk_step};
-    ghost use Rattle.call_command.specs.Converse.{Names, WorldKeeps, WorldReady, WorldStands};
-    ghost use Rattle.call_command.specs.Converse.{names_of, no_begin};
-    ghost use Rattle.call_command.specs.Standing.{CallOpens, more_of, source_of};
+    ghost use Rattle.call_command.specs.Converse.{WorldKeeps, WorldReady, WorldStands, no_begin};
+    ghost use Rattle.call_command.specs.Standing.{CallOpens, more_of, parts_of, source_of};
+    ghost use Rattle.call_command.specs.Turning.{Names, names_of};
 
     type Setup = Terms;
 
@@ -62,7 +53,7 @@ impl<'a> Turns for World<'a> {
 
     ghost most = { λ t. most_turns t.plain };
 
-    ghost more = { λ m. more_of m.terms m.video.now m.carrier.now };
+    ghost more = { λ m. more_of (parts_of m) };
 
     ghost opens = { CallOpens };
 
@@ -78,14 +69,11 @@ impl<'a> Turns for World<'a> {
     }
 
     fn turn<D: Desk>(&mut self, desk: &mut D) -> Result<bool, Status> {
-        take_turn(
-            desk,
-            &self.terms,
-            self.video,
-            self.sender,
-            self.receiver,
-            self.carrier,
-        )
+        if self.terms.plain {
+            self.frame_turn(desk)
+        } else {
+            self.line_turn(desk)
+        }
     }
 
     fn finish(self) {}
@@ -137,6 +125,7 @@ pub fn converse<D: Desk>(
         → receiver_end.Stands receiver.old before → Tells (D.outside desk.old) inputs
         → IsReadOut result (Some (source_of (record { params = params.now; plain = plain })))
         (D.outside desk.new) }
+    ensures pace { sender.new.pace ≡ sender.old.pace }
     ensures later { IsLater result }
     ensures cause { HasCause result (D.outside desk.old).faults (D.outside desk.new).faults }
     ensures rest { KeepsRoles (D.outside desk.old) (D.outside desk.new) }
@@ -144,18 +133,19 @@ pub fn converse<D: Desk>(
     turn_laws();
     run_laws();
     laws::talks_agree();
+    one_way_laws::of_the_way();
     let terms = Terms {
         params: *params,
         plain,
     };
     match Carrier::start(alloc, &terms) {
-        Ok(mut carrier) => {
+        Ok(carrier) => {
             let mut world = World {
                 terms,
                 video,
                 sender,
                 receiver,
-                carrier: &mut carrier,
+                carrier,
             };
             take_turns(desk, &mut world)
         }

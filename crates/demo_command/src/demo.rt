@@ -1,21 +1,22 @@
 //! The machine of a call on made input.
-use crate::line::take_line;
 use crate::mind::turn_laws;
 use crate::{DemoTerms, laws};
-use call_command::{Both, Carrier, laws as call_command_laws, tell_counts};
+use call_command::{Both, tell_counts};
 use call_report::Status;
 use desk_program::{Acts, Turns, act_by_turns};
 use h263_outside::Desk;
 use make_input::TraceMaker;
+use one_way::{Network, laws as one_way_laws};
 use std::alloc::Global;
 
 /// The machine of a call on made input: what it was asked for, the lines of its trace that are
-/// left, both ends, and what carries the call between them. It must be finished.
+/// left, both ends, the network between them, and room for a frame. It must be finished.
 pub struct Demo {
-    terms: DemoTerms,
-    lines: TraceMaker,
-    both: Both,
-    carrier: Carrier,
+    pub(crate) terms: DemoTerms,
+    pub(crate) lines: TraceMaker,
+    pub(crate) both: Both,
+    pub(crate) network: Network,
+    pub(crate) frame: Vec<u8>,
 }
 
 impl Turns for Demo {
@@ -56,36 +57,36 @@ impl Turns for Demo {
 
     fn start<D: Desk>(alloc: Global, setup: &DemoTerms, _: &mut D) -> Result<Demo, Status> {
         turn_laws();
-        let carrier = Carrier::start(alloc, &setup.call())?;
-        let both = Both::start(alloc, &setup.params)?;
+        one_way_laws::of_the_way();
+        let params = setup.params;
+        let network = Network::start(alloc, &params, params.clock.period())?;
+        let frame = vec![in alloc; 0; params.format.size() as usize]?;
+        let both = Both::start(alloc, &params)?;
         Ok(Demo {
             terms: *setup,
             lines: TraceMaker::new(setup.seed, setup.frames),
             both,
-            carrier,
+            network,
+            frame,
         })
     }
 
     fn turn<D: Desk>(&mut self, desk: &mut D) -> Result<bool, Status> {
         turn_laws();
-        call_command_laws::ends_run();
-        call_command_laws::ends_agree();
-        call_command_laws::of_near_events();
+        one_way_laws::of_the_way();
+        one_way_laws::ends_agree();
         laws::of_made_input();
         let Some(event) = self.lines.next() else {
-            tell_counts(desk, &self.both.sender, &self.both.receiver, &self.carrier)?;
+            tell_counts(
+                desk,
+                &self.network.way,
+                &self.both.sender,
+                &self.both.receiver,
+            )?;
             return Ok(false);
         };
-        match take_line(
-            event,
-            &self.terms,
-            &mut self.both.sender,
-            &mut self.both.receiver,
-            &mut self.carrier,
-        ) {
-            Ok(()) => Ok(true),
-            Err(fault) => Err(Status::TraceRefused { fault }),
-        }
+        self.take_line(event);
+        Ok(true)
     }
 
     fn finish(self) {
@@ -93,7 +94,8 @@ impl Turns for Demo {
             terms: _,
             lines: _,
             both,
-            carrier: _,
+            network: _,
+            frame: _,
         } = self;
         both.finish();
     }

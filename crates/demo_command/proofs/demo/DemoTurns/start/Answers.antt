@@ -1,6 +1,9 @@
-use Rattle.std.proofs.Common.{refl, sym}
-use Rattle.demo_command.specs.Demo.{first_state, silent_turn}
-use Rattle.demo_command.proofs.Beginning.{first_in_place, first_said, nothing_done, nothing_said, ready_first}
+use Rattle.std.proofs.Common.{◌≡◌, ℕ, [], length, refl, rules, sym, subst}
+use Rattle.h263_types.specs.Sizes.{size_of_picture}
+use Rattle.one_way.specs.Way.{IsNewNetwork}
+use Rattle.demo_command.specs.declared.demo.Demo.{Demo}
+use Rattle.demo_command.specs.Demo.{first_state, made_video, silent_turn}
+use Rattle.demo_command.proofs.Beginning.{first_in_place, first_plays, first_said, ready_first}
 use Rattle.demo_command.proofs.demo.DemoTurns.start.Goals as goal
 
 pub returns-clause-gives : goal.returns-clause-gives
@@ -9,6 +12,7 @@ returns-clause-gives g c = λ inputs told.
     let t = c.args.setup.now in
     let both = c.in_ok-both.both in
     let ends = c.in_ok-both.ensures in
+    let network = c.in_ok-network.network in
     record {
       next = first_state t;
       turn = silent_turn;
@@ -18,7 +22,7 @@ returns-clause-gives g c = λ inputs told.
         terms = refl;
         lines = sym c.new.ensures;
         ahead = refl;
-        done = nothing_done t c.call.result c.in_ok-carrier.carrier c.call.ensures c.in_ok-carrier.ensures both.sender.state both.receiver ends.sender_params ends.sends ends.receiver_params ends.receives;
+        done = (c.of_the_way.ensures t.params).first c.period.result network both.sender.state both.receiver [] (made_video t) c.in_ok-network.ensures ends.sender_params ends.sends ends.receiver_params ends.receives;
       };
       whole = refl;
       left = c.turn_laws.ensures.no_byte (outside c.args.arg3.now) (outside c.args.arg3.now) inputs refl told;
@@ -29,11 +33,14 @@ pub returns-clause-ready : goal.returns-clause-ready
 returns-clause-ready g c =
     let t = c.args.setup.now in
     let both = c.in_ok-both.both in
-    let carrier = c.in_ok-carrier.carrier in
     let ends = c.in_ok-both.ensures in
+    let m : Demo = record { terms = t; lines = c.new.result; both = both; network = c.in_ok-network.network; frame = c.in_ok-frame.frame } in
+    let new = subst (λ (n : ℕ). IsNewNetwork t.params n m.network) c.period.ensures c.in_ok-network.ensures in
+    let long : length m.frame.items ≡ size_of_picture t.params.format = search rules in
     record {
       opens = c.requires;
-      ends = ready_first t c.call.result carrier c.call.ensures c.in_ok-carrier.ensures both.sender.state both.receiver ends.sender_params ends.sends both.sender.pace.quant c.requires.params ends.ready ends.quant ends.sent ends.played;
+      ends = ready_first m c.requires.params new long ends.sender_params ends.ready ends.sends ends.quant ends.sent ends.played;
       in_place = first_in_place t both.sender.state.sent _ c.requires.frames ends.sent c.new.ensures;
-      said = first_said t _ _ c.requires.frames (nothing_said t c.call.result carrier c.call.ensures c.in_ok-carrier.ensures) c.new.ensures;
+      said = first_said t _ _ c.requires.frames new.said c.new.ensures;
+      plays = first_plays t _ _ c.requires.frames ends.played c.new.ensures;
     }
