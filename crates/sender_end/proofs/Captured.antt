@@ -8,14 +8,27 @@ use Rattle.call_model.specs.Coding.{reconstruction}
 use Rattle.call_model.specs.CodedPictures.{Coded, reference_for}
 use Rattle.call_model.specs.Sending.{header_of}
 use Rattle.call_model.specs.Stands.{Sender}
-use Rattle.call_model.specs.SenderStanding.{next_by_kept, reference_by_kept}
+use Rattle.call_model.specs.SenderStanding.{IsAfterCapture, next_by_kept, reference_by_kept}
 use Rattle.call_decoding.specs.Rules.{rules_of}
 use Rattle.call_decoding.specs.Samples.{pictures}
 use Rattle.call_decoding.specs.Styles.{Style}
 use Rattle.call_encoding.specs.Encoding.{encoding}
 use Rattle.call_encoding.specs.Frames.{Frame, style_with}
+use Rattle.sender_end.specs.declared.answers.Coded.{Coded as Answer}
 use Rattle.sender_end.specs.Headers.{numbered}
-use Rattle.sender_end.specs.Stands.{next}
+use Rattle.sender_end.specs.Stands.{Describes, IsSeen}
+use Rattle.sender_end.specs.State.{SenderState}
+
+-- the next picture of a sender
+abbrev pub next : Params → (List ℕ → ℕ) → Frame → Sender Picture → Coded Style Mb Picture
+next p pace frame s = next_by_kept (pictures p.format) (encoding p) (rules_of p) pace frame s
+
+-- this picture was coded, with this answer
+pub record IsCodedNext {P : Type 0} (p : Params) (pace : List ℕ → ℕ) (frame : Frame) (s : Sender Picture) (new : SenderState P) (answer : Answer) : Type 0 where
+  pub t : Sender Picture
+  pub seen : IsSeen new t
+  pub after : IsAfterCapture (pictures p.format) (encoding p) (rules_of p) s t (next p pace frame s)
+  pub tells : Describes s.sent (next p pace frame s) answer
 
 -- the rule of references for picture n, by what a sender keeps
 abbrev pub reference_at : Params → Sender Picture → ℕ → Option ℕ

@@ -3,3 +3,4 @@ pub mod Numbering
 pub mod Keeping
 pub mod Storing
 pub mod Captured
+pub mod Noted

@@ -1,4 +1,6 @@
 pub mod Headers
 pub mod Coding
 pub mod Selecting
+pub mod State
+pub mod Parts
 pub mod Stands

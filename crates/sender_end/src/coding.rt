@@ -12,9 +12,11 @@ ghost use Rattle.picture_recon.specs.Samples.{reconstruction};
 ghost use Rattle.packet_cutter.specs.Cutting.{format_of, limit_of, packets_of, sequence_of};
 ghost use Rattle.packet_cutter.specs.Packets.{ArePacketsOf};
 ghost use Rattle.picture_store.specs.Pictures.{IsKept, works_of};
+ghost use Rattle.call_model.specs.SenderStanding.{with_size};
 ghost use Rattle.call_model.specs.Sending.{bytes_in};
 ghost use Rattle.sender_end.specs.Coding.{HasKept, IsCodedInto, kept_picture};
 
+use arrayvec::ArrayVec;
 use h263_planes::{PictureMut, PictureRef};
 use h263_types::Params;
 use packet_cutter::Cutter;
@@ -110,4 +112,14 @@ pub fn size_of(cutter: &Cutter) -> u32
         size += cutter.packet(i).len() as u32;
     }
     size
+}
+
+/// One size more: the oldest one goes where there are 16.
+pub fn push_size(sizes: &mut ArrayVec<u32, 16>, size: u32)
+    ensures { sizes.new.items ≡ with_size sizes.old.items size }
+{
+    if sizes.is_full() {
+        sizes.remove(0);
+    }
+    sizes.push(size);
 }

@@ -14,9 +14,11 @@
 //! ```
 #![tactic(auto)]
 
+mod answers;
 mod coding;
 mod headers;
+mod next;
 mod sender;
-mod state;
 
-pub use sender::{Coded, Feedback, Sender};
+pub use answers::{Coded, Feedback};
+pub use sender::Sender;

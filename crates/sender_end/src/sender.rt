@@ -1,11 +1,10 @@
 //! The sender of a call.
-ghost use Rattle.std.specs.Prelude.{◌≡◌, ◌+◌, ◌-◌, ◌<◌, ◌≤◌, ℕ, false, Some, List, [], ◌∷◌, length};
-ghost use Rattle.std.specs.Prelude.{slice_index_or, IfOk};
+ghost use Rattle.std.specs.Prelude.{◌≡◌, ◌+◌, ◌-◌, ◌<◌, ◌≤◌, false, Some, List, [], ◌∷◌, length};
+ghost use Rattle.std.specs.Prelude.{slice_index_or, All, IfOk};
 ghost use Rattle.h263_types.specs.Params.{IsParams};
 ghost use Rattle.h263_planes.specs.Lent.{picture};
 ghost use Rattle.h263_planes.specs.Samples.{IsPicture};
 ghost use Rattle.picture_header.specs.Ranges.{AreMessages};
-ghost use Rattle.packet_cutter.specs.Cutting.{packets_of};
 ghost use Rattle.call_model.specs.CodedPictures.{picture_at};
 ghost use Rattle.call_model.specs.Sending as call;
 ghost use Rattle.call_model.specs.Sending.{SenderEntry, Capture, feedback_answer};
@@ -14,128 +13,211 @@ ghost use Rattle.call_decoding.specs.Rules.{rules_of};
 ghost use Rattle.call_encoding.specs.Frames.{Frame};
 ghost use Rattle.call_encoding.specs.Messages.{read_message};
 
-use crate::state::State;
-pub use crate::state::{Coded, Feedback};
-use back_messages::Message;
+use crate::answers::{Coded, Feedback};
+use crate::coding::{code_in_store, push_size, size_of};
+use crate::headers::header_of;
+use crate::next::{Next, next_from};
+use arrayvec::ArrayVec;
+use back_messages::{Message, MessageFault, read};
+use call_decoding::{Pictured, Styled, laws as call_decoding_laws};
+use call_encoding::{Framed, laws as call_encoding_laws};
+use call_model::laws as call_model_laws;
 use h263_outside::OutOfMemory;
 use h263_planes::PictureRef;
-use h263_types::{Pace, Params};
+use h263_types::{Mb, Pace, Params};
+use packet_cutter::Cutter;
+use picture_store::PictureStore;
+use reference_selector::Selector;
 use std::alloc::Global;
+use std::marker::Model;
 
 /// A sender, whose quantisers a pace chooses. It has all its memory from the start. It has no
 /// `Drop`: it must be finished.
 pub struct Sender<P: Pace> {
     pace: P,
-    state: State,
+    params: Params,
+    sent: u32,
+    cutter: Cutter,
+    selector: Selector,
+    // The bytes of the last pictures, oldest first.
+    sizes: ArrayVec<u32, 16>,
+    // The pictures of the last `slots` numbers, and one that is coded.
+    store: PictureStore,
+}
+
+impl<P: Pace> Model for Sender<P> {
+    ghost use Rattle.sender_end.specs.State.{SenderState};
+
+    ghost Value = { SenderState P };
+
+    ghost use Rattle.sender_end.specs.Parts.{IsReady, state_of};
+
+    ghost view = { λ s. state_of s };
+
+    ghost invariant = { λ s. IsReady s };
 }
 
 impl<P: Pace> Sender<P> {
-    ghost use Rattle.sender_end.specs.Stands.{IsReady, Stands, Describes, last_packets, next_after};
+    ghost use Rattle.sender_end.specs.Stands.{Describes, Stands, last_packets, next_after};
     ghost use Rattle.sender_end.specs.Stands.{reply_of, run_of};
 
     /// A sender before its first picture.
     pub fn start(alloc: Global, params: &Params, pace: P) -> Result<Sender<P>, OutOfMemory>
         requires { IsParams params.now }
-        ensures ready { IfOk result (λ sender. IsReady sender.state) }
-        ensures params { IfOk result (λ sender. sender.state.params ≡ params.now) }
-        ensures sent { IfOk result (λ sender. sender.state.sent ≡ 0) }
+        ensures params { IfOk result (λ sender. sender.params ≡ params.now) }
+        ensures sent { IfOk result (λ sender. sender.sent ≡ 0) }
         ensures pace { IfOk result (λ sender. sender.pace ≡ pace) }
-        ensures stands { IfOk result (λ sender. Stands (P.quant_of sender.pace) sender.state []) }
+        ensures stands { IfOk result (λ sender. Stands (P.quant_of sender.pace) sender []) }
     {
-        let state = State::start(alloc, params)?;
-        Ok(Sender { pace, state })
+        call_model_laws::sender_stands::<Framed, Styled, Mb, Pictured, MessageFault>();
+        call_decoding_laws::are_rules();
+        let cutter = Cutter::start(alloc, params)?;
+        let store = PictureStore::start(alloc, params.format, params.slots, 1)?;
+        Ok(Sender {
+            pace,
+            params: *params,
+            sent: 0,
+            cutter,
+            selector: Selector::start(params),
+            sizes: ArrayVec::new(),
+            store,
+        })
     }
 
     /// Codes the next picture, of this frame, with at most four messages about pictures of the
     /// other direction in its header. Fewer than 1,048,576 pictures were coded.
     pub fn code(&mut self, frame: PictureRef<'_>, back: &[Message]) -> Coded
-        requires ready { IsReady self.old.state }
-        requires frame { (picture frame).format ≡ self.old.state.params.format }
+        requires frame { (picture frame).format ≡ self.old.params.format }
         requires few { length back.now ≤ 4 }
-        requires back { AreMessages self.old.state.params.clock back.now }
-        requires left { self.old.state.sent < 1048576 }
-        ensures ready { IsReady self.new.state }
-        ensures params { self.new.state.params ≡ self.old.state.params }
-        ensures sent { self.new.state.sent ≡ self.old.state.sent + 1 }
-        ensures count { result.packets ≡ length (packets_of self.new.state.cutter) }
+        requires back { AreMessages self.old.params.clock back.now }
+        requires left { self.old.sent < 1048576 }
+        ensures params { self.new.params ≡ self.old.params }
+        ensures sent { self.new.sent ≡ self.old.sent + 1 }
         ensures pace { self.new.pace ≡ self.old.pace }
+        ensures count { result.packets ≡ length self.new.packets }
+        ensures limit { All (λ packet. length packet ≤ self.new.params.limit) self.new.packets }
         ensures stands { (entries : List (SenderEntry Frame))
-            → Stands (P.quant_of self.old.pace) self.old.state entries
-            → Stands (P.quant_of self.old.pace) self.new.state
+            → Stands (P.quant_of self.old.pace) self.old entries
+            → Stands (P.quant_of self.old.pace) self.new
             (Capture (record { picture = picture frame.entry; messages = back.now }) ∷ entries) }
         ensures tells { (entries : List (SenderEntry Frame))
-            → Stands (P.quant_of self.old.pace) self.old.state entries
-            → Describes (length (run_of self.old.state.params (P.quant_of self.old.pace) entries).coded)
-            (next_after self.old.state.params (P.quant_of self.old.pace)
+            → Stands (P.quant_of self.old.pace) self.old entries
+            → Describes (length (run_of self.old.params (P.quant_of self.old.pace) entries).coded)
+            (next_after self.old.params (P.quant_of self.old.pace)
             (record { picture = picture frame.entry; messages = back.now }) entries) result }
     {
-        let quant = self.pace.quant(self.state.sizes());
-        self.state.capture(frame, back, quant)
+        call_model_laws::sender_stands::<Framed, Styled, Mb, Pictured, MessageFault>();
+        call_model_laws::searches();
+        call_encoding_laws::is_encoding();
+        call_encoding_laws::written_packets();
+        call_encoding_laws::of_the_call();
+        call_decoding_laws::are_pictures();
+        call_decoding_laws::are_rules();
+        let quant = self.pace.quant(self.sizes.as_slice());
+        let number = self.sent;
+        let Next { reference, depth } = next_from(&self.selector, number);
+        let header = header_of(&self.params, number, reference, depth, quant, back);
+        code_in_store(
+            &mut self.store,
+            &mut self.cutter,
+            &self.params,
+            frame,
+            reference,
+            number,
+            &header,
+        );
+        self.store.keep(number, 0);
+        self.selector.coded(number, depth);
+        push_size(&mut self.sizes, size_of(&self.cutter));
+        self.sent = number + 1;
+        Coded {
+            number,
+            reference,
+            packets: self.cutter.count(),
+        }
     }
 
     /// Packet i of the picture that was coded last.
     pub fn packet(&self, i: u32) -> &[u8]
-        requires { i < length (packets_of self.now.state.cutter) }
-        ensures value { result.now ≡ slice_index_or (packets_of self.now.state.cutter) i [] }
+        requires { i < length self.now.packets }
+        ensures value { result.now ≡ slice_index_or self.now.packets i [] }
+        ensures limit { length result.now ≤ self.now.params.limit }
+        ensures few { self.now.params.limit ≤ 9000 }
         ensures stands { (entries : List (SenderEntry Frame))
-            → Stands (P.quant_of self.now.pace) self.now.state entries
+            → Stands (P.quant_of self.now.pace) self.now entries
             → result.now
-            ≡ slice_index_or
-            (last_packets self.now.state.params (P.quant_of self.now.pace) entries) i [] }
+            ≡ slice_index_or (last_packets self.now.params (P.quant_of self.now.pace) entries) i [] }
     {
-        self.state.packet(i)
+        self.cutter.packet(i)
     }
 
     /// What a decoder makes of the picture that was coded last. One was coded.
     pub fn recon(&self) -> PictureRef<'_>
-        requires ready { IsReady self.now.state }
-        requires some { 0 < self.now.state.sent }
+        requires { 0 < self.now.sent }
         ensures stands { (entries : List (SenderEntry Frame))
-            → Stands (P.quant_of self.now.pace) self.now.state entries
+            → Stands (P.quant_of self.now.pace) self.now entries
             → Some (picture result)
-            ≡ picture_at (run_of self.now.state.params (P.quant_of self.now.pace) entries).coded
-            (self.now.state.sent - 1) }
-        ensures format { (picture result).format ≡ self.now.state.params.format }
+            ≡ picture_at (run_of self.now.params (P.quant_of self.now.pace) entries).coded
+            (self.now.sent - 1) }
+        ensures format { (picture result).format ≡ self.now.params.format }
         ensures whole { IsPicture (picture result) }
     {
-        self.state.recon()
+        self.store.view(self.sent - 1).unwrap()
     }
 
     /// How many pictures were coded.
     pub fn sent(&self) -> u32
-        ensures value { result ≡ self.now.state.sent }
+        ensures value { result ≡ self.now.sent }
         ensures stands { (entries : List (SenderEntry Frame))
-            → Stands (P.quant_of self.now.pace) self.now.state entries
-            → result ≡ length
-            (run_of self.now.state.params (P.quant_of self.now.pace) entries).coded }
+            → Stands (P.quant_of self.now.pace) self.now entries
+            → result
+            ≡ length (run_of self.now.params (P.quant_of self.now.pace) entries).coded }
     {
-        self.state.sent()
+        self.sent
     }
 
-    /// Takes feedback: the bytes of a message of the other end. Where it is old or no message
-    /// nothing changes.
+    /// Takes feedback: the bytes of a message of the other end. The packets of the last picture
+    /// stay. Where it is old or no message nothing changes.
     pub fn feedback(&mut self, bytes: &[u8]) -> Feedback
-        requires ready { IsReady self.old.state }
-        ensures ready { IsReady self.new.state }
-        ensures params { self.new.state.params ≡ self.old.state.params }
-        ensures sent { self.new.state.sent ≡ self.old.state.sent }
+        ensures params { self.new.params ≡ self.old.params }
+        ensures sent { self.new.sent ≡ self.old.sent }
         ensures pace { self.new.pace ≡ self.old.pace }
+        ensures packets { self.new.packets ≡ self.old.packets }
         ensures same { is_noted (reply_of result) ≡ false → self.new ≡ self.old }
         ensures stands { (entries : List (SenderEntry Frame))
-            → Stands (P.quant_of self.old.pace) self.old.state entries
-            → Stands (P.quant_of self.old.pace) self.new.state (call.Feedback bytes.now ∷ entries) }
+            → Stands (P.quant_of self.old.pace) self.old entries
+            → Stands (P.quant_of self.old.pace) self.new (call.Feedback bytes.now ∷ entries) }
         ensures answer { (entries : List (SenderEntry Frame))
-            → Stands (P.quant_of self.old.pace) self.old.state entries
-            → reply_of result ≡ feedback_answer (rules_of self.old.state.params)
-            (length (run_of self.old.state.params (P.quant_of self.old.pace) entries).coded)
-            (read_message self.old.state.params.clock bytes.now) }
+            → Stands (P.quant_of self.old.pace) self.old entries
+            → reply_of result ≡ feedback_answer (rules_of self.old.params)
+            (length (run_of self.old.params (P.quant_of self.old.pace) entries).coded)
+            (read_message self.old.params.clock bytes.now) }
     {
-        self.state.feedback(bytes)
+        call_model_laws::sender_stands::<Framed, Styled, Mb, Pictured, MessageFault>();
+        call_decoding_laws::are_rules();
+        match read(bytes, self.params.clock) {
+            Err(fault) => Feedback::Refused(fault),
+            Ok(message) => {
+                if self.selector.note(&message, self.sent) {
+                    Feedback::Noted
+                } else {
+                    Feedback::Old
+                }
+            }
+        }
     }
 
     /// Gives all memory back.
     pub fn finish(self) {
-        let Sender { pace: _, state } = self;
-        state.finish();
+        let Sender {
+            pace: _,
+            params: _,
+            sent: _,
+            cutter: _,
+            selector: _,
+            sizes: _,
+            store,
+        } = self;
+        store.finish();
     }
 }

@@ -2,7 +2,7 @@ use Rattle.std.proofs.Common.{◌≡◌, ℕ, ◌+◌, ◌<◌, ◌≤◌, Bool,
 use Rattle.call_model.specs.Coding.{Rules, window}
 use Rattle.reference_selector.specs.Stands.{SelectorStands}
 use Rattle.sender_end.proofs.Choosing.{reference_parts}
-use Rattle.sender_end.proofs.state.next_from.Goals as goal
+use Rattle.sender_end.proofs.next.next_from.Goals as goal
 
 -- what is known of the reference that was found
 parts : (c : goal.After-depth) → (rules : Rules) (depth : ℕ → ℕ) (known : ℕ → Bool) → SelectorStands rules c.args.pictures.now c.args.number depth known

@@ -1,0 +1,20 @@
+-- A sender as its contracts see it.
+use Rattle.std.specs.Prelude.{ℕ, List}
+use Rattle.h263_types.specs.declared.params.Params.{Params}
+use Rattle.picture_store.specs.Pictures.{Pictures}
+use Rattle.reference_selector.specs.declared.Selector.{Selector}
+
+pub record SenderState (P : Type 0) : Type 0 where
+  pub pace : P
+  pub params : Params
+  -- how many pictures were coded
+  pub sent : ℕ
+  -- the sequence number of the next packet, and the packets of the last picture: none before the
+  -- first
+  pub sequence : ℕ
+  pub packets : List (List ℕ)
+  -- the bytes of the last pictures, oldest first
+  pub sizes : List ℕ
+  -- what is known of the last pictures, and the pictures themselves
+  pub selector : Selector
+  pub store : Pictures

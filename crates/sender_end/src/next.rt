@@ -1,0 +1,43 @@
+//! The reference of the next picture.
+ghost use Rattle.std.specs.Prelude.{◌≡◌, ◌+◌, ◌<◌, ◌≤◌, ℕ, Bool, IfSome};
+ghost use Rattle.std.specs.Option.{option_map_or};
+ghost use Rattle.reference_selector.specs.Stands.{SelectorStands};
+ghost use Rattle.call_model.specs.Coding.{Rules};
+ghost use Rattle.call_model.specs.CodedPictures.{reference_for};
+ghost use Rattle.sender_end.specs.Selecting.{IsSelecting};
+
+use call_model::laws as call_model_laws;
+use reference_selector::Selector;
+
+/// The reference of the next picture, and its depth.
+#[derive(Clone, Copy)]
+pub struct Next {
+    pub reference: Option<u32>,
+    pub depth: u8,
+}
+
+/// The reference of picture `number`, the next one, by the pictures that are known, and its depth.
+pub fn next_from(pictures: &Selector, number: u32) -> Next
+    requires { IsSelecting pictures.now number }
+    ensures reference { (rules : Rules) (depth : ℕ → ℕ) (known : ℕ → Bool)
+        → SelectorStands rules pictures.now number depth known
+        → result.reference ≡ reference_for rules depth known number }
+    ensures depth { (rules : Rules) (depth : ℕ → ℕ) (known : ℕ → Bool)
+        → SelectorStands rules pictures.now number depth known
+        → result.depth ≡ option_map_or (λ m. depth m + 1) result.reference 0 }
+    ensures recent { (rules : Rules) (depth : ℕ → ℕ) (known : ℕ → Bool)
+        → SelectorStands rules pictures.now number depth known
+        → IfSome result.reference (λ m. (m < number) × (number ≤ m + rules.slots)) }
+{
+    call_model_laws::searches();
+    match pictures.choose(number) {
+        None => Next {
+            reference: None,
+            depth: 0,
+        },
+        Some(m) => Next {
+            reference: Some(m),
+            depth: pictures.depth(m) + 1,
+        },
+    }
+}
