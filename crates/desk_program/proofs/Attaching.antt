@@ -11,7 +11,7 @@ use Rattle.h263_outside.specs.declared.desk.Role.{Role}
 use Rattle.h263_outside.specs.declared.desk.Role.TheVariants.{Video, Events, Pictures, Wire, Report, Video2, Pictures2}
 use Rattle.call_report.specs.declared.status.Status.{Status}
 use Rattle.call_report.specs.declared.status.Status.TheVariants.{OutOfMemory, OpenFault}
-use Rattle.call_report.specs.Status.{Phase, phase}
+use Rattle.call_report.specs.Status.{Phase}
 use Rattle.call_report.specs.Status.Phase.{finished, refused, unread, unwritten, starved, unasked, unopened}
 use Rattle.desk_program.specs.Attached.{names, are_free, AreAttached, SomeAttached, AttachedAt, AttachedIn}
 use Rattle.desk_program.specs.Ends.{start_status, ComesAtOpening, ComesLater}

@@ -1,14 +1,13 @@
 -- Texts and counts, role by role: one write after another, one read after another.
-use Rattle.std.proofs.Common.{if◌then◌else◌, ◌≡◌, ◌≢◌, ℕ, Bool, true, false, List, [], ◌++◌, drop, Option, Some, refl, sym, ap, ◌∙◌, append_assoc}
+use Rattle.std.proofs.Common.{if◌then◌else◌, ◌≡◌, ◌≢◌, ℕ, Bool, true, false, List, [], ◌++◌, drop, Option, Some, refl, sym, ap, ◌∙◌, append_assoc, ◌+◌, arith}
 use Rattle.std.proofs.lemmas.List.{drop-drop}
 use Rattle.h263_outside.specs.Desk.{Outside, IsInput, is_role, appended, GainsFront}
 use Rattle.h263_outside.specs.Gains.{gained}
 use Rattle.h263_outside.specs.declared.desk.Role.{Role}
 use Rattle.h263_outside.specs.declared.desk.Role.TheVariants.{Video, Events, Pictures, Wire, Report, Video2, Pictures2}
 use Rattle.call_report.specs.declared.status.Status.{Status}
-use Rattle.desk_program.specs.Run.{Step, behind, refusal}
-use Rattle.desk_program.specs.Run.Step.{Ends}
-use Rattle.desk_program.specs.Ends.{Tells, Gains, GainsFronts, Ended}
+use Rattle.desk_program.specs.Run.{behind, refusal}
+use Rattle.desk_program.specs.Ends.{Tells, Gains, GainsFronts, EndsBy}
 use Rattle.desk_program.proofs.Gained.{gained-nil, gained-gained}
 use Rattle.desk_program.specs.Texts.{no_texts, on, then_also, no_bytes, of, and_of}
 
@@ -137,16 +136,32 @@ tells_one role n old new inputs told lost others = λ r input. at r input (is_ro
     at r input true is = ap new.left (sym (is_same role r is)) ∙ lost ∙ (λ i. Some (drop (if sym is i then n else 0) (inputs (is_same role r is i))))
     at r input false is = others r (apart role r is) ∙ told r input ∙ ap (λ (t : Bool). Some (drop (if t then n else 0) (inputs r))) (sym is)
 
+pub tells_end : (role : Role) (old new : Outside) (inputs : Role → List ℕ) → Tells old inputs → inputs role ≡ [] → new.left role ≡ Some [] → ((r : Role) → r ≢ role → new.left r ≡ old.left r) → Tells new inputs
+tells_end role old new inputs told none gone others = λ r input. at r input (is_role role r) refl
+  where
+    at : (r : Role) → IsInput r → (t : Bool) → is_role role r ≡ t → new.left r ≡ Some (inputs r)
+    at r input true is = ap new.left (sym (is_same role r is)) ∙ gone ∙ ap (λ (l : List ℕ). Some l) (sym none ∙ ap inputs (is_same role r is))
+    at r input false is = others r (apart role r is) ∙ told r input
+
 pub tells_both : (first second : Role → ℕ) (new : Outside) (inputs : Role → List ℕ) → Tells new (behind (behind inputs first) second) → Tells new (behind inputs (and_of first second))
 tells_both first second new inputs told = λ r input. told r input ∙ ap (λ (l : List ℕ). Some l) (drop-drop (second r) (first r) (inputs r))
 
--- ---- the answers of a turn
+-- ---- ends
 
--- a turn that refuses
-pub refuses : {State : Type 0} (step : Step State) (status : Status) (inputs : Role → List ℕ) (old new : Outside) → step ≡ Ends (refusal status) → new.written ≡ old.written → Ended step status inputs old new
-refuses step status inputs old new is same = record {
-  last = refusal status;
-  is = is;
+-- an end that takes this much of each input
+pub ends_at : (status : Status) (taken : Role → ℕ) (texts inputs : Role → List ℕ) (old new : Outside) → Tells new (behind inputs taken) → Gains texts old.written new.written → EndsBy (record { status = status; taken = λ r. Some (taken r); texts = texts }) status inputs old new
+ends_at status taken texts inputs old new told gains = record {
+  known = refl;
+  left = λ r input k said. told r input ∙ ap (λ (n : ℕ). Some (drop n (inputs r))) (same (taken r) k (cc said));
+  written = gains;
+}
+  where
+    same : (n k : ℕ) → n ≡ k → n ≡ 0 + k
+    same n k is = omega (arith, is)
+
+-- a refusal
+pub refuses : (status : Status) (inputs : Role → List ℕ) (old new : Outside) → new.written ≡ old.written → EndsBy (refusal status) status inputs old new
+refuses status inputs old new same = record {
   known = refl;
   left = λ r input k said. absurd (cc said);
   written = gains_none old.written new.written same;

@@ -12,7 +12,7 @@ use Rattle.call_report.specs.Status.Phase.{finished, refused, unread, unwritten,
 use Rattle.desk_program.specs.Run.{Turn, End, Step, Run, run_of, run_from, end_state, follow_state, follow, silence, behind, texts_of, text_of, taken_of, IsWholeTurn}
 use Rattle.desk_program.specs.Run.Step.{Goes, Ends}
 use Rattle.desk_program.specs.Ends.{Tells, Gains, GainsFronts, IsPart, KeepsRoles, Went, Ended, Lost, TurnGives, GivesUp, step_texts, step_turns, IsExactly, IsSoFar, IsWholeOnly, EndedIn, HasEnded, silent, Falls, OnGoing, OnEnd, OnceSettled, OnSettled, ComesAtOpening, ComesAtStop, ComesLater, ReadOutIn}
-use Rattle.desk_program.specs.UnderWay.{IsUnderWay, EndsIn}
+use Rattle.desk_program.specs.UnderWay.{IsUnderWay, EndsIn, LeftIn}
 use Rattle.desk_program.proofs.Gained.{gained-nil, gained-gained, front_behind}
 
 -- ---- lists of turns
@@ -101,10 +101,10 @@ module _ {State : Type 0} (x : Step State) (cont : State → (Role → ℕ) → 
       let turns : p.done ≡ run.turns = sym (append-nil p.done) ∙ ap (λ (y : Run). p.done ++ y.turns) (sym is) ∙ p.turns in
       let last : e.last ≡ run.last = ap (λ (y : Run). y.last) (sym is) ∙ p.last in
       record {
-        known = e.known ∙ ap (λ (y : End). y.status) last;
-        written = λ r. gains_more (e.last.texts r) r (e.written r) ∙ (λ i. gained (start r) (texts_of (turns i) r ++ (last i).texts r)) ∙ ap (λ (l : List ℕ). gained (start r) l) (sym (append-nil (text_of run r)));
+        known = e.by.known ∙ ap (λ (y : End). y.status) last;
+        written = λ r. gains_more (e.last.texts r) r (e.by.written r) ∙ (λ i. gained (start r) (texts_of (turns i) r ++ (last i).texts r)) ∙ ap (λ (l : List ℕ). gained (start r) l) (sym (append-nil (text_of run r)));
         left = λ r input k said.
-            e.left r input k (ap (λ (y : End). y.taken r) last ∙ said)
+            e.by.left r input k (ap (λ (y : End). y.taken r) last ∙ said)
             ∙ ap (λ (l : List ℕ). Some l) (ap (λ (n : ℕ). drop n (p.rest r)) (zero-add k) ∙ place_at k r ∙ ap (λ (l : List Turn). drop (taken_of l r + k) (inputs r)) turns);
       }
 
@@ -304,17 +304,24 @@ module _ {State : Type 0} (step : State → (Role → List ℕ) → Step State) 
     ends = sym (ap (λ (n : ℕ). end_state step n p.state p.rest) (sym less ∙ add-one fewer) ∙ state_goes step fewer p.state p.rest w.next w.turn w.is) ∙ p.ends;
   }
 
-  pub state_last : (status : Status) (keeps : State → Type 0) → Ended (step p.state p.rest) status p.rest old new → keeps p.state → keeps final
-  state_last status keeps e kept = subst keeps (sym (state_ends step more p.state p.rest e.last e.is) ∙ p.ends) kept
+  -- what the machine leaves that stood at the last state
+  module _ {Machine : Type 0} (stood : Machine → State → (Role → List ℕ) → Type 0) (leaves : Machine → Machine → Type 0) (last after : Machine) (k : stood last p.state p.rest) where
+    pub left_last : (status : Status) → Ended (step p.state p.rest) status p.rest old new → leaves last after → LeftIn stood leaves final after
+    left_last status e left = record {
+      last = last;
+      rest = p.rest;
+      stood = subst (λ (s : State). stood last s p.rest) (sym (state_ends step more p.state p.rest e.last e.is) ∙ p.ends) k;
+      left = left;
+    }
 
-  pub state_err : (phase : Phase) (status : Status) (keeps : State → Type 0) → GivesUp phase status (step p.state p.rest) (reads p.state) p.rest old new → OnceSettled phase (keeps p.state) → OnceSettled phase (keeps final)
-  state_err finished status keeps e kept = absurd e
-  state_err refused status keeps e kept = state_last status keeps e kept
-  state_err unread status keeps e kept = tt
-  state_err unwritten status keeps e kept = tt
-  state_err starved status keeps e kept = tt
-  state_err unasked status keeps e kept = tt
-  state_err (unopened role) status keeps e kept = tt
+    pub left_err : (phase : Phase) (status : Status) → GivesUp phase status (step p.state p.rest) (reads p.state) p.rest old new → OnceSettled phase (leaves last after) → OnceSettled phase (LeftIn stood leaves final after)
+    left_err finished status e left = absurd e
+    left_err refused status e left = left_last status e left
+    left_err unread status e left = tt
+    left_err unwritten status e left = tt
+    left_err starved status e left = tt
+    left_err unasked status e left = tt
+    left_err (unopened role) status e left = tt
 
 pub on_settled : (b : Bool) (P : Type 0) → b ≡ false → OnSettled (Ok b) P → P
 on_settled b P is h = subst (λ (x : Bool). OnSettled (Ok x) P) is h

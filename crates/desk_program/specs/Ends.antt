@@ -103,14 +103,19 @@ pub record Went {State : Type 0} (step : Step State) (stands : State → (Role �
   pub left : Tells new (behind inputs turn.taken)
   pub written : Gains turn.texts old.written new.written
 
--- it has ended with this status
+-- this end has come: its status, and what it takes and writes
+pub record EndsBy (last : End)
+    (status : Status) (inputs : Role → List ℕ) (old new : Outside) : Type 0 where
+  pub known : status ≡ last.status
+  pub left : LeavesBehind last.taken inputs (λ _. 0) new
+  pub written : Gains last.texts old.written new.written
+
+-- the machine has ended with this status
 pub record Ended {State : Type 0} (step : Step State)
     (status : Status) (inputs : Role → List ℕ) (old new : Outside) : Type 0 where
   pub last : End
   pub is : step ≡ Ends last
-  pub known : status ≡ last.status
-  pub left : LeavesBehind last.taken inputs (λ _. 0) new
-  pub written : Gains last.texts old.written new.written
+  pub by : EndsBy last status inputs old new
 
 -- the text of a step
 abbrev pub step_texts : {State : Type 0} → Step State → Role → List ℕ

@@ -1,18 +1,16 @@
--- How the reads and writes of one turn add up, how a turn that refuses is answered, and how runs
--- begin.
-use Rattle.std.specs.Prelude.{ℕ, ◌≡◌, ◌≢◌, Bool, true, List, Option, Some, drop}
+-- How the reads and writes of one turn add up, what a refusal comes to, and how runs begin.
+use Rattle.std.specs.Prelude.{ℕ, ◌≡◌, ◌≢◌, Bool, true, List, [], Option, Some, drop}
 use Rattle.h263_outside.specs.Desk.{Outside, appended, GainsFront}
 use Rattle.h263_outside.specs.declared.desk.Role.{Role}
 use Rattle.call_report.specs.declared.status.Status.{Status}
 use Rattle.call_report.specs.declared.status.Status.TheVariants.{OutOfMemory}
 use Rattle.call_report.specs.Status.{phase}
 use Rattle.desk_program.specs.Run.{Run, Step, behind, refusal, run_from}
-use Rattle.desk_program.specs.Run.Step.{Ends}
-use Rattle.desk_program.specs.Ends.{Tells, Gains, GainsFronts, Ended, GivesUp, HasEnded, Went, silent}
+use Rattle.desk_program.specs.Ends.{Tells, Gains, GainsFronts, EndsBy, GivesUp, HasEnded, Went, silent}
 use Rattle.desk_program.specs.UnderWay.{IsUnderWay}
 use Rattle.desk_program.specs.Texts.{no_texts, on, then_also, no_bytes, of, and_of}
 
-pub record TurnLaws (State : Type 0) : Type 0 where
+pub record TurnLaws : Type 0 where
   -- one write is a text on that output and none on the others, and so is a prefix of it
   pub one_text : (role : Role) (bytes : List ℕ) (old new : Role → Option (List ℕ)) →
       new ≡ appended old role bytes → Gains (on role bytes) old new
@@ -34,20 +32,34 @@ pub record TurnLaws (State : Type 0) : Type 0 where
   pub one_read : (role : Role) (n : ℕ) (old new : Outside) (inputs : Role → List ℕ) →
       Tells old inputs → new.left role ≡ Some (drop n (inputs role))
       → ((r : Role) → r ≢ role → new.left r ≡ old.left r) → Tells new (behind inputs (of role n))
+  -- a read at the end of an input found nothing
+  pub none_read : (role : Role) (old new : Outside) (inputs : Role → List ℕ) →
+      Tells old inputs → inputs role ≡ [] → new.left role ≡ Some []
+      → ((r : Role) → r ≢ role → new.left r ≡ old.left r) → Tells new inputs
   -- one read after the other
   pub both_reads : (first second : Role → ℕ) (new : Outside) (inputs : Role → List ℕ) →
       Tells new (behind (behind inputs first) second) → Tells new (behind inputs (and_of first second))
-  -- a turn that refuses
-  pub refuses : (step : Step State) (status : Status) (inputs : Role → List ℕ) (old new : Outside) →
-      step ≡ Ends (refusal status) → new.written ≡ old.written → Ended step status inputs old new
+  -- an end that takes this much of each input, and writes its texts
+  pub ends : (status : Status) (taken : Role → ℕ) (texts inputs : Role → List ℕ) (old new : Outside) →
+      Tells new (behind inputs taken) → Gains texts old.written new.written
+      → EndsBy (record { status = status; taken = λ r. Some (taken r); texts = texts }) status inputs old new
+  -- a refusal says nothing of what it takes, and writes nothing
+  pub refuses : (status : Status) (inputs : Role → List ℕ) (old new : Outside) →
+      new.written ≡ old.written → EndsBy (refusal status) status inputs old new
 
 -- where a run begins, just one state is kept in mind
 abbrev pub IsFrom : {State : Type 0} → State → State → (Role → List ℕ) → Type 0
 IsFrom from s rest = s ≡ from
 
-pub record RunLaws (State : Type 0) : Type 0 where
-  -- after a start that goes on to some state the run is under way
-  pub begins : (from : State) (first : Step State) (step : State → (Role → List ℕ) → Step State)
+-- of a machine, by what it keeps in mind and by how many events may still come
+pub record RunLaws {Machine State : Type 0}
+    (stands : Machine → State → (Role → List ℕ) → Type 0) (more : Machine → ℕ) : Type 0 where
+  -- a start that goes on has the run under way: with a machine, or from just one state
+  pub begins : (machine : Machine) (first : Step State) (step : State → (Role → List ℕ) → Step State)
+      (reads : State → Bool) (most : ℕ) (inputs : Role → List ℕ) (old new : Outside)
+      → more machine ≡ most → Went first (stands machine) reads true inputs old new
+      → IsUnderWay step reads (run_from first step most inputs) inputs old.written (stands machine) (more machine) new
+  pub begins_from : (from : State) (first : Step State) (step : State → (Role → List ℕ) → Step State)
       (reads : State → Bool) (most : ℕ) (inputs : Role → List ℕ) (old new : Outside)
       → Went first (IsFrom from) reads true inputs old new
       → IsUnderWay step reads (run_from first step most inputs) inputs old.written (IsFrom from) most new

@@ -29,3 +29,11 @@ pub record EndsIn {State : Type 0} (step : State → (Role → List ℕ) → Ste
   pub kept : stands state rest
   pub told : Tells now rest
   pub ends : end_state step more state rest ≡ final
+
+-- what a machine has left that stood at this state before its last turn
+pub record LeftIn {Machine State : Type 0} (stands : Machine → State → (Role → List ℕ) → Type 0)
+    (leaves : Machine → Machine → Type 0) (final : State) (new : Machine) : Type 0 where
+  pub last : Machine
+  pub rest : Role → List ℕ
+  pub stood : stands last final rest
+  pub left : leaves last new

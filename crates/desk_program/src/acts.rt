@@ -1,17 +1,17 @@
 //! What a command does between its roles and its last line.
 ghost use Rattle.std.specs.Prelude.{ℕ, Bool, List, Option};
 ghost use Rattle.h263_outside.specs.declared.desk.Role.{Role};
-ghost use Rattle.desk_program.specs.Run.{Run, run_from};
+ghost use Rattle.desk_program.specs.Run.{Run};
 ghost use Rattle.desk_program.specs.Ends.{HasCause, HasEnded, IsLater, IsReadOut, KeepsRoles};
 ghost use Rattle.desk_program.specs.Ends.{Tells, silent};
 
-use crate::{Turns, take_turns};
+use crate::{Begins, take_turns};
 use call_report::Status;
 use h263_outside::Desk;
 use std::alloc::Global;
 
-/// A command whose roles are attached. A machine acts by its turns ([`act_by_turns`]); a command
-/// that has a loop of its own acts by that.
+/// A command whose roles are attached. A machine that begins by itself acts by its turns; a
+/// command whose machine is made of lent parts says how it acts.
 pub trait Acts {
     /// What the words ask for.
     type Setup;
@@ -38,24 +38,23 @@ pub trait Acts {
         ensures rest { KeepsRoles (D.outside desk.old) (D.outside desk.new) };
 }
 
-/// Starts a machine and lets it take its turns.
-pub fn act_by_turns<D: Desk, M: Turns>(alloc: Global, setup: &M::Setup, desk: &mut D) -> Status
-    requires { M.opens setup.now (D.outside desk.old).attached }
-    ensures gives { (inputs : Role → List ℕ) → Tells (D.outside desk.old) inputs
-        → HasEnded (run_from (M.begin setup.now inputs) M.step (M.most setup.now) inputs) silent
-        result inputs (D.outside desk.old).written (D.outside desk.new) }
-    ensures whole_input { (inputs : Role → List ℕ) → Tells (D.outside desk.old) inputs
-        → IsReadOut result (M.source setup.now) (D.outside desk.new) }
-    ensures later { IsLater result }
-    ensures cause { HasCause result (D.outside desk.old).faults (D.outside desk.new).faults }
-    ensures rest { KeepsRoles (D.outside desk.old) (D.outside desk.new) }
-{
-    match M::start(alloc, setup, desk) {
-        Ok(mut machine) => {
-            let status = take_turns(desk, &mut machine);
-            machine.finish();
-            status
+impl<B: Begins> Acts for B {
+    type Setup = B::Setup;
+
+    ghost run = { B.run };
+
+    ghost opens = { B.opens };
+
+    ghost source = { B.source };
+
+    fn act<D: Desk>(alloc: Global, setup: &B::Setup, desk: &mut D) -> Status {
+        match B::start(alloc, setup, desk) {
+            Ok(mut machine) => {
+                let status = take_turns(desk, &mut machine);
+                B::finish(machine);
+                status
+            }
+            Err(status) => status,
         }
-        Err(status) => status,
     }
 }

@@ -1,8 +1,9 @@
 //! One loop for every command: a machine takes one event after another, over any desk.
 //!
-//! A command is a type with [`Turns`]: it says in definitions what it does next, and how a machine
-//! in memory does that over a [`Desk`](h263_outside::Desk). [`perform`] attaches its roles and runs
-//! it. What a run as a whole writes, takes and answers follows here, once for all commands.
+//! A machine is a type with [`Turns`]: it says in definitions what it does next, and how it does
+//! that in memory, over a [`Desk`](h263_outside::Desk). A command with [`Begins`] starts a machine by
+//! what the words ask for. [`perform`] attaches its roles and runs it. What a run as a whole writes,
+//! takes and answers follows here, once for all commands.
 //!
 //! ```rust
 //! attach_all(desk, &[(Role::Report, "")])?;
@@ -13,6 +14,7 @@
 
 mod acts;
 mod attach;
+mod begins;
 mod command;
 pub mod laws;
 mod lines;
@@ -20,8 +22,9 @@ mod play;
 mod turns;
 mod write;
 
-pub use acts::{Acts, act_by_turns};
+pub use acts::Acts;
 pub use attach::{attach_all, attach_role};
+pub use begins::Begins;
 pub use command::perform;
 pub use lines::finish;
 pub use play::take_turns;

@@ -1,9 +1,9 @@
 //! The loop.
-ghost use Rattle.std.specs.Prelude.{◌≡◌, ℕ, List, Option};
+ghost use Rattle.std.specs.Prelude.{ℕ, List, Option};
 ghost use Rattle.h263_outside.specs.declared.desk.Role.{Role};
 ghost use Rattle.desk_program.specs.Run.{Run, run_of};
 ghost use Rattle.desk_program.specs.Ends.{HasEnded, silent, HasCause, IsLater, IsReadOut, AfterAll, KeepsRoles};
-ghost use Rattle.desk_program.specs.UnderWay.{IsUnderWay, EndsIn};
+ghost use Rattle.desk_program.specs.UnderWay.{IsUnderWay, EndsIn, LeftIn};
 
 use crate::Turns;
 use call_report::Status;
@@ -18,9 +18,10 @@ pub fn take_turns<D: Desk, M: Turns>(desk: &mut D, machine: &mut M) -> Status
     ensures whole_input { (run : Run) (inputs : Role → List ℕ) (start : Role → Option (List ℕ))
         → IsUnderWay M.step M.reads run inputs start (M.stands machine.old) (M.more machine.old)
         (D.outside desk.old) → IsReadOut result (M.reading machine.old) (D.outside desk.new) }
-    ensures keeps { (final : M.State) → EndsIn M.step final (M.stands machine.old)
-        (M.more machine.old) (D.outside desk.old) → AfterAll result (M.keeps machine.new final) }
-    ensures loan { M.loan machine.new ≡ M.loan machine.old }
+    ensures leaves { (final : M.State) → EndsIn M.step final (M.stands machine.old)
+        (M.more machine.old) (D.outside desk.old)
+        → AfterAll result (LeftIn M.stands M.leaves final machine.new) }
+    ensures stays { (first : M) → M.stays first machine.old → M.stays first machine.new }
     ensures later { IsLater result }
     ensures cause { HasCause result (D.outside desk.old).faults (D.outside desk.new).faults }
     ensures rest { KeepsRoles (D.outside desk.old) (D.outside desk.new) }

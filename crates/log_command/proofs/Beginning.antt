@@ -6,12 +6,12 @@ use Rattle.call_report.specs.Status.{Phase, phase}
 use Rattle.call_report.specs.Status.Phase.{finished, refused, unread, unwritten, starved, unasked, unopened}
 use Rattle.call_report.specs.declared.status.Status.{Status}
 use Rattle.desk_program.specs.Run.{behind}
-use Rattle.desk_program.specs.Ends.{ComesAtStop, Gains, GivesUp, IsStop, StartGives, Tells, Went}
+use Rattle.desk_program.specs.Ends.{ComesAtStop, Gains, GivesUp, IsStop, Tells, Went}
 use Rattle.desk_program.specs.Laws.{TurnLaws}
 use Rattle.desk_program.specs.Texts.{no_bytes}
 use Rattle.log_command.specs.Log.{LogState, StopsAtHead, log_begin}
 
-pub begun : {State Any : Type 0} (laws : TurnLaws Any) (first : State) (head : Role → List ℕ) (stands : LogState State → (Role → List ℕ) → Type 0) (inputs : Role → List ℕ) (old new : Outside)
+pub begun : {State : Type 0} (laws : TurnLaws) (first : State) (head : Role → List ℕ) (stands : LogState State → (Role → List ℕ) → Type 0) (inputs : Role → List ℕ) (old new : Outside)
     → Tells old inputs → new.left ≡ old.left → Gains head old.written new.written → stands (record { mind = first; at = 0; entries = 0 }) (behind inputs no_bytes)
     → Went (log_begin first head) stands (λ _. true) true inputs old new
 begun laws first head stands inputs old new told same gains kept = record {
@@ -44,13 +44,15 @@ comes_at_stop starved head old new stops = tt
 comes_at_stop unasked head old new stops = absurd stops
 comes_at_stop (unopened role) head old new stops = absurd stops
 
-module _ {Machine : Type 0} (status : Status) (head : Role → List ℕ) (old new : Outside) (stops : StopsAtHead (phase status) head old.written new.written) where
-  pub start_stops : {State : Type 0} (r : Result Machine Status) (first : State) (stands : Machine → LogState State → (Role → List ℕ) → Type 0) (inputs : Role → List ℕ)
-      → IsErrAnd r (λ x. x ≡ status) → StartGives r (log_begin first head) stands (λ _. true) inputs old new
-  start_stops (Ok machine) first stands inputs is = absurd is
-  start_stops (Err x) first stands inputs is =
-      subst (λ (s : Status). GivesUp (phase s) s (log_begin first head) true inputs old new) (sym is) (gives_up (phase status) status first head inputs old new stops)
+-- a start that gives up
+module _ (status : Status) (head : Role → List ℕ) (old new : Outside) (stops : StopsAtHead (phase status) head old.written new.written) where
+  pub first_stops : {State : Type 0} (first : State) (inputs : Role → List ℕ) → GivesUp (phase status) status (log_begin first head) true inputs old new
+  first_stops first inputs = gives_up (phase status) status first head inputs old new stops
 
-  pub is_stop : (r : Result Machine Status) → IsErrAnd r (λ x. x ≡ status) → IfErr r IsStop
-  is_stop (Ok machine) is = absurd is
-  is_stop (Err x) is = subst IsStop (sym is) (comes_at_stop (phase status) head old new stops)
+  pub is_stop : IsStop status
+  is_stop = comes_at_stop (phase status) head old new stops
+
+-- what its status comes to, by the answer
+pub by_answer : {Machine : Type 0} (r : Result Machine Status) (status : Status) (P : Status → Type 0) → IsErrAnd r (λ x. x ≡ status) → P status → IfErr r P
+by_answer (Ok machine) status P is p = absurd is
+by_answer (Err x) status P is p = subst P (sym is) p

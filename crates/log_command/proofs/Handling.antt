@@ -1,8 +1,8 @@
 -- One turn over a log, by what the reader and the command say.
-use Rattle.std.proofs.Common.{◌≡◌, ◌≢◌, ℕ, ◌+◌, true, List, [], take, drop, Option, Some, None, Err, refl, sym, ap, ◌∙◌, subst, arith}
-use Rattle.h263_outside.specs.Desk.{Outside, IsInput}
+use Rattle.std.proofs.Common.{◌≡◌, ◌≢◌, ℕ, true, List, [], take, drop, Option, Some, None, Err, refl, sym, ap, ◌∙◌, subst, arith}
+use Rattle.h263_outside.specs.Desk.{Outside}
 use Rattle.h263_outside.specs.declared.desk.Role.{Role}
-use Rattle.h263_outside.specs.declared.desk.Role.TheVariants.{Video, Events, Pictures, Wire, Report, Video2, Pictures2}
+use Rattle.h263_outside.specs.declared.desk.Role.TheVariants.{Events}
 use Rattle.event_logs.specs.declared.entry.Side.{Side}
 use Rattle.event_logs.specs.declared.entry.Side.TheVariants.{Recv as OfReceiver}
 use Rattle.event_logs.specs.declared.fault.LogFault.TheVariants.{BadRecord, TooMany}
@@ -17,21 +17,15 @@ use Rattle.call_report.specs.Status.{log_stop, phase}
 use Rattle.desk_program.specs.Run.{Step, behind, refusal}
 use Rattle.desk_program.specs.Run.Step.{Goes, Ends}
 use Rattle.desk_program.specs.Ends.{Tells, Gains, GainsFronts, Ended, GivesUp, Went, step_texts}
-use Rattle.desk_program.specs.Texts.{of}
+use Rattle.desk_program.specs.Texts.{no_bytes, of}
 use Rattle.desk_program.specs.Laws.{TurnLaws}
 use Rattle.log_command.specs.Log.{LogRules, LogState, all_read, entry_turn, log_step, refused_log, step_in}
 use Rattle.log_command.proofs.Entries.{StaysWhole, entry_next, log_part, none_next}
 
-module _ {State Any : Type 0} (does : LogRules State) (laws : TurnLaws Any) (s : LogState State) (inputs : Role → List ℕ) (old mid : Outside) (told : Tells old inputs) (others : (r : Role) → r ≢ Events → mid.left r ≡ old.left r) (same : mid.written ≡ old.written) where
+module _ {State : Type 0} (does : LogRules State) (laws : TurnLaws) (s : LogState State) (inputs : Role → List ℕ) (old mid : Outside) (told : Tells old inputs) (others : (r : Role) → r ≢ Events → mid.left r ≡ old.left r) (same : mid.written ≡ old.written) where
   -- the log is refused
   pub refuses : (status : Status) → log_step does s inputs ≡ Ends (refusal status) → Ended (log_step does s inputs) status inputs old mid
-  refuses status is = record {
-    last = refusal status;
-    is = is;
-    known = refl;
-    left = λ r input k said. absurd (cc said);
-    written = laws.no_text old.written mid.written same;
-  }
+  refuses status is = record { last = refusal status; is = is; by = laws.refuses status inputs old mid same }
 
   -- the reader has stopped
   pub stops : StaysWhole → (reader after : LogReader) (buf : List ℕ) (stop : LogStop) → reader.side ≡ OfReceiver → s.at ≡ reader.at → s.entries ≡ reader.entries
@@ -61,22 +55,11 @@ module _ {State Any : Type 0} (does : LogRules State) (laws : TurnLaws Any) (s :
   ends new none gone still gains = record {
     last = all_read does s;
     is = end_is none;
-    known = refl;
-    left = λ r input k said. ap (λ (l : Role → Option (List ℕ)). l r) still ∙ left_at r input ∙ ap (λ (n : ℕ). Some (drop n (inputs r))) (zero_is k (cc said));
-    written = subst (λ (w : Role → Option (List ℕ)). Gains (does.end_text s.mind) w new.written) same gains;
+    by =
+        laws.ends Fine no_bytes (does.end_text s.mind) inputs old new
+        (laws.none_read Events old new inputs told none (ap (λ (l : Role → Option (List ℕ)). l Events) still ∙ gone) (λ r other. ap (λ (l : Role → Option (List ℕ)). l r) still ∙ others r other))
+        (subst (λ (w : Role → Option (List ℕ)). Gains (does.end_text s.mind) w new.written) same gains);
   }
-    where
-      zero_is : (k : ℕ) → 0 ≡ k → 0 ≡ 0 + k
-      zero_is k is = omega (arith, is)
-
-      left_at : (r : Role) → IsInput r → mid.left r ≡ Some (inputs r)
-      left_at Video input = others Video (λ e. cc) ∙ told Video input
-      left_at Events input = gone ∙ ap (λ (l : List ℕ). Some l) (sym none)
-      left_at Pictures input = absurd (cc input)
-      left_at Wire input = absurd (cc input)
-      left_at Report input = absurd (cc input)
-      left_at Video2 input = others Video2 (λ e. cc) ∙ told Video2 input
-      left_at Pictures2 input = absurd (cc input)
 
   pub end_cut : (new : Outside) → inputs Events ≡ []
       → GainsFronts (does.end_text s.mind) mid.written new.written → GainsFronts (step_texts (log_step does s inputs)) old.written new.written

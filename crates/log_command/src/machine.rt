@@ -1,7 +1,7 @@
 //! The machine.
 use crate::LogCommand;
 use call_report::Status;
-use desk_program::{Acts, Turns, act_by_turns, laws as desk_program_laws};
+use desk_program::{Begins, Turns, laws as desk_program_laws};
 use event_logs::{Entry, LogFault, LogReader, Side, laws as event_logs_laws};
 use h263_outside::{Desk, laws as outside_laws};
 use std::alloc::Global;
@@ -22,13 +22,9 @@ pub struct LogMachine<C> {
 impl<C: LogCommand> Turns for LogMachine<C> {
     ghost use Rattle.std.specs.Prelude.{◌-◌, true, Some};
     ghost use Rattle.h263_outside.specs.declared.desk.Role.TheVariants.{Events};
-    ghost use Rattle.log_command.specs.Log.{LogState, LogOpens, LogReady, LogStands, log_begin, log_step};
-
-    type Setup = C::Setup;
+    ghost use Rattle.log_command.specs.Log.{LogReady, LogStands, LogState, log_step};
 
     ghost State = { LogState C.State };
-
-    ghost begin = { λ setup _. log_begin (C.first setup) (C.head setup) };
 
     ghost step = { log_step C.rules };
 
@@ -36,40 +32,14 @@ impl<C: LogCommand> Turns for LogMachine<C> {
 
     ghost stands = { LogStands C.stands };
 
-    ghost keeps = { λ _ _. Unit {0} };
-
-    ghost Loan = { Unit {0} };
-
-    ghost loan = { λ _. tt };
-
-    ghost most = { λ _. 16777216 };
-
     ghost more = { λ m. 16777216 - m.reader.entries };
-
-    ghost opens = { λ setup. LogOpens (C.opens setup) };
 
     ghost ready = { LogReady C.ready };
 
-    ghost source = { λ _. Some Events };
-
     ghost reading = { λ _. Some Events };
 
-    fn start<D: Desk>(
-        alloc: Global,
-        setup: &C::Setup,
-        desk: &mut D,
-    ) -> Result<LogMachine<C>, Status> {
-        desk_program_laws::of_turns::<()>();
-        let buffer = vec![in alloc; 0; MAX_BYTES]?;
-        Ok(LogMachine {
-            command: C::start(alloc, setup, desk)?,
-            reader: LogReader::new(Side::Recv),
-            buffer,
-        })
-    }
-
     fn turn<D: Desk>(&mut self, desk: &mut D) -> Result<bool, Status> {
-        desk_program_laws::of_turns::<()>();
+        desk_program_laws::of_turns();
         event_logs_laws::cut_behind();
         outside_laws::calls();
         let Some((at, entry)) = self.reader.next(desk, &mut self.buffer)? else {
@@ -97,23 +67,16 @@ impl<C: LogCommand> Turns for LogMachine<C> {
             }
         }
     }
-
-    fn finish(self) {
-        let LogMachine {
-            command,
-            reader: _,
-            buffer: _,
-        } = self;
-        command.finish();
-    }
 }
 
-impl<C: LogCommand> Acts for LogMachine<C> {
+impl<C: LogCommand> Begins for LogMachine<C> {
     ghost use Rattle.std.specs.Prelude.{Some};
     ghost use Rattle.h263_outside.specs.declared.desk.Role.TheVariants.{Events};
     ghost use Rattle.log_command.specs.Log.{LogOpens, log_run};
 
     type Setup = C::Setup;
+
+    type Machine = LogMachine<C>;
 
     ghost run = { λ setup. log_run C.rules (C.first setup) (C.head setup) };
 
@@ -121,7 +84,27 @@ impl<C: LogCommand> Acts for LogMachine<C> {
 
     ghost source = { λ _. Some Events };
 
-    fn act<D: Desk>(alloc: Global, setup: &C::Setup, desk: &mut D) -> Status {
-        act_by_turns::<D, LogMachine<C>>(alloc, setup, desk)
+    fn start<D: Desk>(
+        alloc: Global,
+        setup: &C::Setup,
+        desk: &mut D,
+    ) -> Result<LogMachine<C>, Status> {
+        desk_program_laws::of_turns();
+        desk_program_laws::of_runs::<LogMachine<C>>();
+        let buffer = vec![in alloc; 0; MAX_BYTES]?;
+        Ok(LogMachine {
+            command: C::start(alloc, setup, desk)?,
+            reader: LogReader::new(Side::Recv),
+            buffer,
+        })
+    }
+
+    fn finish(machine: LogMachine<C>) {
+        let LogMachine {
+            command,
+            reader: _,
+            buffer: _,
+        } = machine;
+        command.finish();
     }
 }

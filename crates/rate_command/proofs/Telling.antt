@@ -14,7 +14,7 @@ pub on_err : {T E : Type 0} {P : Type 0} (r : Result T E) → P → OnErr r P
 on_err (Ok x) p = tt
 on_err (Err e) p = p
 
-module _ {Any : Type 0} (laws : TurnLaws Any) (t : Totals) where
+module _ (laws : TurnLaws) (t : Totals) where
   pub cut_last : (old a : Role → Option (List ℕ)) → GainsFronts (last_text t.last) old a → GainsFronts (closing_text t) old a
   cut_last old a p = laws.front_of_first (last_text t.last) (on Report (totals_line t)) old a p
 

@@ -49,7 +49,7 @@ impl LogCommand for Metering {
     ghost ready = { RateReady };
 
     fn start<D: Desk>(_alloc: Global, setup: &Bucket, _desk: &mut D) -> Result<Metering, Status> {
-        desk_program_laws::of_turns::<()>();
+        desk_program_laws::of_turns();
         Ok(Metering {
             meter: Meter::new(setup.target, setup.bucket),
             plays: 0,
@@ -67,7 +67,7 @@ impl LogCommand for Metering {
     }
 
     fn play<D: Desk>(&mut self, _desk: &mut D) -> Result<(), Status> {
-        desk_program_laws::of_turns::<()>();
+        desk_program_laws::of_turns();
         self.plays += 1;
         Ok(())
     }
@@ -75,7 +75,7 @@ impl LogCommand for Metering {
     // The line of the last picture, if there is one, and that of the whole log.
     fn close<D: Desk>(&self, desk: &mut D) -> Result<(), Status> {
         outside_laws::calls();
-        desk_program_laws::of_turns::<()>();
+        desk_program_laws::of_turns();
         let totals = self.meter.close();
         tell_last(desk, totals.last)?;
         put_text(desk, &totals_text(&totals))

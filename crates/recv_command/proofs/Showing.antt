@@ -17,7 +17,7 @@ pub on_err : {T E : Type 0} {P : Type 0} (r : Result T E) → P → OnErr r P
 on_err (Ok x) p = tt
 on_err (Err e) p = p
 
-module _ {Any : Type 0} (laws : TurnLaws Any) (number : ℕ) (mark : Mark) (picture : Picture) (message : Option Message) where
+module _ (laws : TurnLaws) (number : ℕ) (mark : Mark) (picture : Picture) (message : Option Message) where
   pub cut_picture : (old a : Role → Option (List ℕ)) → GainsFronts (on Pictures (frame_text mark picture)) old a → GainsFronts (shown_text number mark picture message) old a
   cut_picture old a p =
       laws.front_of_first (on Pictures (frame_text mark picture)) (then_also (on Report (picture_text number (Some mark) None None)) (back_text message)) old a p

@@ -51,7 +51,7 @@ pub fn say<D: Desk>(desk: &mut D, said: Option<MessageBytes>) -> Result<(), Stat
     ensures rest { OnlyWrites (D.outside desk.old) (D.outside desk.new) }
 {
     coded_call_laws::said_bytes();
-    desk_program_laws::of_turns::<()>();
+    desk_program_laws::of_turns();
     match said {
         Some(said) => {
             let text = said.text();
@@ -85,7 +85,7 @@ pub fn show<D: Desk>(
     ensures rest { OnlyWrites (D.outside desk.old) (D.outside desk.new) }
 {
     outside_laws::calls();
-    desk_program_laws::of_turns::<()>();
+    desk_program_laws::of_turns();
     put_picture(desk, played.mark, picture)?;
     put_line(desk, &picture_line(number, Some(played.mark), None, None))?;
     say(desk, played.message)

@@ -7,7 +7,7 @@ use Rattle.call_report.specs.declared.status.Status.{Status}
 use Rattle.call_report.specs.declared.status.Status.TheVariants.{WriteFault}
 use Rattle.call_report.specs.Status.{phase}
 use Rattle.desk_program.specs.Run.{Step}
-use Rattle.desk_program.specs.Ends.{GainsFronts, StartGives, TurnGives, GivesUp, step_texts}
+use Rattle.desk_program.specs.Ends.{GainsFronts, TurnGives, GivesUp, step_texts}
 use Rattle.send_command.specs.Send.{SendState}
 
 -- what holds anyway holds after an error
@@ -42,12 +42,6 @@ pub turn_err : (r : Result Bool Status) (s : Status) (step : Step SendState) (af
     → IsErrAnd r (λ x. x ≡ s) → GivesUp (phase s) s step true inputs old new → TurnGives r step after (λ _. true) true inputs old new
 turn_err (Ok b) s step after inputs old new gave gives = absurd gave
 turn_err (Err x) s step after inputs old new gave gives = subst (λ (x : Status). GivesUp (phase x) x step true inputs old new) (sym gave) gives
-
--- a start that gives up with a status
-pub start_err : {M : Type 0} (r : Result M Status) (s : Status) (step : Step SendState) (stands : M → SendState → (Role → List ℕ) → Type 0) (inputs : Role → List ℕ) (old new : Outside)
-    → IsErrAnd r (λ x. x ≡ s) → GivesUp (phase s) s step true inputs old new → StartGives r step stands (λ _. true) inputs old new
-start_err (Ok b) s step stands inputs old new gave gives = absurd gave
-start_err (Err x) s step stands inputs old new gave gives = subst (λ (x : Status). GivesUp (phase x) x step true inputs old new) (sym gave) gives
 
 -- a turn whose write failed
 pub turn_cut : (r : Result Bool Status) (s : Status) (step : Step SendState) (after : SendState → (Role → List ℕ) → Type 0) (inputs : Role → List ℕ) (old new : Outside)

@@ -1,10 +1,10 @@
 -- A turn by what the reader of the log says.
-use Rattle.std.proofs.Common.{◌≡◌, ◌≢◌, ◌⊎◌, inl, inr, ℕ, ◌+◌, ◌<◌, ◌≤◌, Bool, true, false, List, [], ◌∷◌, length, take, drop, Option, None, Some, Result, Ok, Err, refl, sym, ap, ◌∙◌, subst, arith}
+use Rattle.std.proofs.Common.{◌≡◌, ◌≢◌, ◌⊎◌, inl, inr, ℕ, ◌+◌, ◌<◌, ◌≤◌, Bool, true, false, List, [], ◌∷◌, length, take, Option, None, Some, Result, Ok, Err, refl, sym, ap, ◌∙◌, subst, arith}
 use Rattle.std.specs.Prelude.{nat_lt, if◌then◌else◌}
 use Rattle.std.proofs.lemmas.Bool.{lt-ltb, le-ltb}
-use Rattle.h263_outside.specs.Desk.{Outside, IsInput}
+use Rattle.h263_outside.specs.Desk.{Outside}
 use Rattle.h263_outside.specs.declared.desk.Role.{Role}
-use Rattle.h263_outside.specs.declared.desk.Role.TheVariants.{Video, Events, Pictures, Wire, Report, Video2, Pictures2}
+use Rattle.h263_outside.specs.declared.desk.Role.TheVariants.{Video, Events, Report}
 use Rattle.y4m.specs.declared.fault.Y4mFault.{Y4mFault}
 use Rattle.y4m.specs.Frame.{next_frame}
 use Rattle.event_logs.specs.declared.entry.Side.{Side}
@@ -17,12 +17,13 @@ use Rattle.event_logs.specs.declared.fault.LogStop.TheVariants as stops
 use Rattle.event_logs.specs.declared.reader.LogReader.{LogReader}
 use Rattle.event_logs.specs.Entry.{entry_in, bytes_of}
 use Rattle.event_logs.specs.Reader.{EntryGives, Moves}
+use Rattle.call_report.specs.declared.status.Status.{Status}
 use Rattle.call_report.specs.declared.status.Status.TheVariants.{Ok as Fine, LogRefused}
 use Rattle.call_report.specs.Status.{phase, log_stop}
 use Rattle.desk_program.specs.Run.{End, Step, behind, refusal}
 use Rattle.desk_program.specs.Run.Step.{Ends}
 use Rattle.desk_program.specs.Ends.{Tells, Gains, GainsFronts, IsPart, Ended, GivesUp, step_turns, step_texts}
-use Rattle.desk_program.specs.Texts.{no_texts, on, of, and_of}
+use Rattle.desk_program.specs.Texts.{no_bytes, no_texts, on, of, and_of}
 use Rattle.desk_program.specs.Laws.{TurnLaws}
 use Rattle.send_command.specs.Tally.{count_text}
 use Rattle.send_command.specs.Send.{SendState, captured, capture_texts, most_entries, frame_step, capture_step, entry_step, all_read, log_step, send_step}
@@ -90,10 +91,13 @@ pub record IsReadAt (s : SendState) (reader : LogReader) : Type 0 where
   pub at_is : s.at ≡ reader.at
   pub read_is : s.read ≡ reader.entries
 
-module _ (laws : TurnLaws SendState) (cut : CutBehind) (s : SendState) (inputs : Role → List ℕ) (old mid : Outside) (told : Tells old inputs) (others : (r : Role) → r ≢ Events → mid.left r ≡ old.left r) (same : mid.written ≡ old.written) (reader after : LogReader) (at : IsReadAt s reader) (bytes : List ℕ) where
+module _ (laws : TurnLaws) (cut : CutBehind) (s : SendState) (inputs : Role → List ℕ) (old mid : Outside) (told : Tells old inputs) (others : (r : Role) → r ≢ Events → mid.left r ≡ old.left r) (same : mid.written ≡ old.written) (reader after : LogReader) (at : IsReadAt s reader) (bytes : List ℕ) where
   -- the reader of a sender's log
   sent_in : (text : List ℕ) (e : Option Entry) → entry_in reader.side text ≡ e → entry_in sides.Send text ≡ e
   sent_in text e is = ap (λ (side : Side). entry_in side text) (sym at.side_is) ∙ is
+
+  refused : (status : Status) → send_step s inputs ≡ no_step (refusal status) → Ended (send_step s inputs) status inputs old mid
+  refused status is = record { last = refusal status; is = is; by = laws.refuses status inputs old mid same }
 
   pub log_stops : (stop : LogStop) → EntryGives (Err stop) reader (inputs Events) bytes (mid.left Events) → Moves (Err stop) reader after → GivesUp (phase (log_stop stop)) (log_stop stop) (send_step s inputs) true inputs old mid
   log_stops stops.Read e moves = record {
@@ -104,13 +108,13 @@ module _ (laws : TurnLaws SendState) (cut : CutBehind) (s : SendState) (inputs :
     written = same;
   }
   log_stops (stops.BadRecord place) e moves =
-      laws.refuses _ (LogRefused (BadRecord place)) inputs old mid
+      refused (LogRefused (BadRecord place))
       (entry_is s inputs (inputs Events) None e.0 (omega (arith, moves.0, at.read_is)) (sent_in (inputs Events) None e.1)
-      ∙ ap (λ (n : ℕ). no_step (refusal (LogRefused (BadRecord n)))) (at.at_is ∙ sym moves.1)) same
+      ∙ ap (λ (n : ℕ). no_step (refusal (LogRefused (BadRecord n)))) (at.at_is ∙ sym moves.1))
   log_stops (stops.TooMany place) e moves =
-      laws.refuses _ (LogRefused (TooMany place)) inputs old mid
+      refused (LogRefused (TooMany place))
       (many_is s inputs (inputs Events) e.0 (at.read_is ∙ moves.0)
-      ∙ ap (λ (n : ℕ). no_step (refusal (LogRefused (TooMany n)))) (at.at_is ∙ sym moves.1)) same
+      ∙ ap (λ (n : ℕ). no_step (refusal (LogRefused (TooMany n)))) (at.at_is ∙ sym moves.1))
 
   -- at the end of the log
   module _ (e : EntryGives (Ok None) reader (inputs Events) bytes (mid.left Events)) (new : Outside) where
@@ -126,22 +130,11 @@ module _ (laws : TurnLaws SendState) (cut : CutBehind) (s : SendState) (inputs :
     log_ends still g = record {
       last = all_read s.tally;
       is = end_is;
-      known = refl;
-      left = λ r input k said. ap (λ (l : Role → Option (List ℕ)). l r) still ∙ left_at r input ∙ ap (λ (n : ℕ). Some (drop n (inputs r))) (zero_is k (cc said));
-      written = subst (λ (w : Role → Option (List ℕ)). Gains (on Report (count_text s.tally)) w new.written) same g;
+      by =
+          laws.ends Fine no_bytes (on Report (count_text s.tally)) inputs old new
+          (laws.none_read Events old new inputs told e.0 (ap (λ (l : Role → Option (List ℕ)). l Events) still ∙ e.1) (λ r other. ap (λ (l : Role → Option (List ℕ)). l r) still ∙ others r other))
+          (subst (λ (w : Role → Option (List ℕ)). Gains (on Report (count_text s.tally)) w new.written) same g);
     }
-      where
-        zero_is : (k : ℕ) → 0 ≡ k → 0 ≡ 0 + k
-        zero_is k is = omega (arith, is)
-
-        left_at : (r : Role) → IsInput r → mid.left r ≡ Some (inputs r)
-        left_at Video input = others Video (λ same. cc) ∙ told Video refl
-        left_at Events input = e.1 ∙ ap (λ (l : List ℕ). Some l) (sym e.0)
-        left_at Video2 input = others Video2 (λ same. cc) ∙ told Video2 refl
-        left_at Pictures input = absurd (cc input)
-        left_at Wire input = absurd (cc input)
-        left_at Report input = absurd (cc input)
-        left_at Pictures2 input = absurd (cc input)
 
   -- after an entry
   module _ (found : ℕ × Entry) (e : EntryGives (Ok (Some found)) reader (inputs Events) bytes (mid.left Events)) (few : reader.entries < 16777216) where

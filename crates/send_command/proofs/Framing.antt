@@ -18,9 +18,9 @@ use Rattle.y4m.specs.Reader.{FrameGives, Moves}
 use Rattle.event_logs.specs.declared.fault.LogFault.TheVariants.{NoFrame}
 use Rattle.call_report.specs.declared.status.Status.TheVariants.{VideoRefused, LogRefused}
 use Rattle.call_report.specs.Status.{phase, video_stop}
-use Rattle.desk_program.specs.Run.{Step, behind}
-use Rattle.desk_program.specs.Ends.{Tells, Gains, GainsFronts, holds, IsPart, Went, Ended, GivesUp, step_turns, step_texts}
-use Rattle.desk_program.specs.Texts.{of, and_of}
+use Rattle.desk_program.specs.Run.{Step, behind, refusal}
+use Rattle.desk_program.specs.Ends.{Tells, Gains, GainsFronts, holds, IsPart, Went, Ended, EndsBy, GivesUp, step_turns, step_texts}
+use Rattle.desk_program.specs.Texts.{no_texts, of, and_of}
 use Rattle.desk_program.specs.Laws.{TurnLaws}
 use Rattle.send_command.specs.Send.{SendState, captured, capture_texts, after_capture, frame_step, capture_step, no_frame}
 use Rattle.send_command.specs.Stands.{HasTaken}
@@ -65,7 +65,7 @@ pub record IsVideoAt (s : SendState) (reader : Y4mReader) : Type 0 where
   pub at_is : s.video_at ≡ reader.at
   pub more_is : s.more ≡ reader.more
 
-module _ (laws : TurnLaws SendState) (cut : CutFrames) (s : SendState) (inputs : Role → List ℕ) (before old mid : Outside) (taken : HasTaken 3 inputs before old) (others : (r : Role) → r ≢ Video → mid.left r ≡ old.left r) (same : mid.written ≡ old.written) (reader after : Y4mReader) (at : IsVideoAt s reader) (out : List ℕ) where
+module _ (laws : TurnLaws) (cut : CutFrames) (s : SendState) (inputs : Role → List ℕ) (before old mid : Outside) (taken : HasTaken 3 inputs before old) (others : (r : Role) → r ≢ Video → mid.left r ≡ old.left r) (same : mid.written ≡ old.written) (reader after : Y4mReader) (at : IsVideoAt s reader) (out : List ℕ) where
   video_told : (k : ℕ) → mid.left Video ≡ Some (drop k (inputs Video)) → Tells mid (behind inputs (and_of (of Events 3) (of Video k)))
   video_told k gone = laws.both_reads (of Events 3) (of Video k) mid inputs (laws.one_read Video k old mid (behind inputs (of Events 3)) taken.left gone others)
 
@@ -82,28 +82,21 @@ module _ (laws : TurnLaws SendState) (cut : CutFrames) (s : SendState) (inputs :
     written = same ∙ taken.written;
   }
   frame_stops (Refused fault) e =
-      laws.refuses _ (VideoRefused fault) inputs before mid (video_next s (inputs Video) (Err fault) e.0 (next_at (Err fault) e.1)) (same ∙ taken.written)
+      record {
+        last = refusal (VideoRefused fault);
+        is = video_next s (inputs Video) (Err fault) e.0 (next_at (Err fault) e.1);
+        by = laws.refuses (VideoRefused fault) inputs before mid (same ∙ taken.written);
+      }
 
   pub frame_missing : (place : ℕ) → place ≡ s.at → FrameGives (Ok false) reader (inputs Video) out after (mid.left Video) → Ended (capture_step s (inputs Video)) (LogRefused (NoFrame place)) inputs before mid
   frame_missing place is e = record {
     last = no_frame s.at;
     is = ap (capture_step s) e.0;
-    known = ap (λ (n : ℕ). LogRefused (NoFrame n)) is;
-    left = λ r input k said. left_at r input ∙ ap (λ (n : ℕ). Some (drop n (inputs r))) (sum_is _ k (cc said));
-    written = laws.no_text before.written mid.written (same ∙ taken.written);
+    by =
+        subst (λ (n : ℕ). EndsBy (no_frame s.at) (LogRefused (NoFrame n)) inputs before mid) (sym is)
+        (laws.ends (LogRefused (NoFrame s.at)) (of Events 3) no_texts inputs before mid
+        (laws.none_read Video old mid (behind inputs (of Events 3)) taken.left e.0 e.1 others) (laws.no_text before.written mid.written (same ∙ taken.written)));
   }
-    where
-      sum_is : (n k : ℕ) → n ≡ k → n ≡ 0 + k
-      sum_is n k is = omega (arith, is)
-
-      left_at : (r : Role) → IsInput r → mid.left r ≡ Some (behind inputs (of Events 3) r)
-      left_at Video input = e.1 ∙ ap (λ (l : List ℕ). Some l) (sym e.0)
-      left_at Events input = others Events (λ same. cc) ∙ taken.left Events refl
-      left_at Video2 input = others Video2 (λ same. cc) ∙ taken.left Video2 refl
-      left_at Pictures input = absurd (cc input)
-      left_at Wire input = absurd (cc input)
-      left_at Report input = absurd (cc input)
-      left_at Pictures2 input = absurd (cc input)
 
   -- after a frame
   module _ (e : FrameGives (Ok true) reader (inputs Video) out after (mid.left Video)) (new : Outside) (texts : Role → List ℕ) (text_is : texts ≡ capture_texts s.target s.params (captured s.params.format out) s.entries) where

@@ -193,7 +193,7 @@ entry_whole side text entry is = at_test (nat_lt (length text) (reach side text)
         let far : reach side text ≡ 3 + bytes_of entry = ap reach_of began in
         enough (bytes_of entry) text (omega (arith, far, ltb-false (length text) (reach side text) same))
 
-pub is_behind : (laws : TurnLaws SendState) (cut : CutBehind) (m : Send) (s : SendState) (inputs : Role → List ℕ) (stands : SendStands m s inputs) (old mid : Outside) (told : Tells old inputs) (others : (r : Role) → r ≢ Events → mid.left r ≡ old.left r) (same : mid.written ≡ old.written)
+pub is_behind : (laws : TurnLaws) (cut : CutBehind) (m : Send) (s : SendState) (inputs : Role → List ℕ) (stands : SendStands m s inputs) (old mid : Outside) (told : Tells old inputs) (others : (r : Role) → r ≢ Events → mid.left r ≡ old.left r) (same : mid.written ≡ old.written)
     (side : m.log.side ≡ sides.Send) (log : LogReader) (bytes : Vec ℕ Global) (buf : List ℕ) (place : ℕ) (entry : Entry)
     → EntryGives (Ok (Some (place, entry))) m.log (inputs Events) buf (mid.left Events) → Moves (Ok (Some (place, entry))) m.log log
     → IsBehind m s inputs old mid log bytes buf place entry
@@ -229,7 +229,7 @@ pub few_bytes : (len : ℕ) (buf bytes : List ℕ) → take len buf ≡ bytes �
 few_bytes len buf bytes is whole long = omega (arith, whole, long, ap (λ (l : List ℕ). length l) is, length-take len buf)
 
 -- feedback is taken
-pub takes_feedback : (laws : TurnLaws SendState) (s : SendState) (inputs : Role → List ℕ) (old mid : Outside) (len : ℕ) → send_step s inputs ≡ entry_step s inputs (Some (Back len)) → Tells mid (behind inputs (of Events (3 + len))) → mid.written ≡ old.written
+pub takes_feedback : (laws : TurnLaws) (s : SendState) (inputs : Role → List ℕ) (old mid : Outside) (len : ℕ) → send_step s inputs ≡ entry_step s inputs (Some (Back len)) → Tells mid (behind inputs (of Events (3 + len))) → mid.written ≡ old.written
     → (stands : SendState → (Role → List ℕ) → Type 0) → stands (after_feedback s (take len (drop 3 (inputs Events)))) (behind inputs (of Events (3 + len)))
     → Went (send_step s inputs) stands (λ _. true) true inputs old mid
 takes_feedback laws s inputs old mid len is left same stands kept = record {

@@ -1,5 +1,5 @@
 -- A video that is refused has that fault.
-use Rattle.std.proofs.Common.{◌≡◌, ℕ, zero, suc, ◌+◌, ◌-◌, ◌<◌, Bool, true, false, List, [], ◌∷◌, length, drop, Option, Some, None, Result, Ok, Err, refl, sym, ap, ◌∙◌, subst, arith, nat_lt, if◌then◌else◌}
+use Rattle.std.proofs.Common.{◌≡◌, ℕ, zero, suc, ◌+◌, ◌-◌, Bool, true, false, List, [], ◌∷◌, drop, Option, Some, None, Result, Ok, Err, refl, sym, ap, ◌∙◌, arith, nat_lt}
 use Rattle.h263_outside.specs.declared.desk.Role.{Role}
 use Rattle.h263_outside.specs.declared.desk.Role.TheVariants.{Video, Events}
 use Rattle.h263_types.specs.declared.format.Format.{Format}
@@ -7,12 +7,11 @@ use Rattle.y4m.specs.declared.fault.Y4mFault.{Y4mFault}
 use Rattle.y4m.specs.Frame.{next_frame, frame_size}
 use Rattle.y4m.specs.Head.{head_of, head_size}
 use Rattle.y4m.specs.Laws.{FrameLaws}
-use Rattle.y4m.specs.Video.{fault_of, fault_behind, video_fault, behind_frame}
+use Rattle.y4m.specs.Video.{fault_of, fault_behind, video_fault}
 use Rattle.event_logs.specs.declared.entry.Side.TheVariants as sides
 use Rattle.event_logs.specs.declared.entry.Entry.{Entry}
 use Rattle.event_logs.specs.declared.entry.Entry.TheVariants as log_entry
 use Rattle.event_logs.specs.Entry.{entry_in}
-use Rattle.call_report.specs.declared.status.Status.{Status}
 use Rattle.call_report.specs.declared.status.Status.TheVariants.{VideoRefused}
 use Rattle.desk_program.specs.Run.{Run, behind, follow, run_of, run_from, silence}
 use Rattle.desk_program.specs.Texts.{of, and_of}

@@ -12,7 +12,7 @@ use Rattle.y4m.specs.Head.{head_of, head_size}
 use Rattle.y4m.specs.Reader.{HeadGives}
 use Rattle.call_report.specs.declared.status.Status.TheVariants.{VideoRefused}
 use Rattle.call_report.specs.Status.{phase, video_stop}
-use Rattle.desk_program.specs.Run.{behind}
+use Rattle.desk_program.specs.Run.{behind, refusal}
 use Rattle.desk_program.specs.Ends.{Tells, IsPart, Went, GivesUp, step_turns}
 use Rattle.desk_program.specs.Texts.{no_texts, of}
 use Rattle.desk_program.specs.Laws.{TurnLaws}
@@ -27,7 +27,7 @@ head_part : CutHeads → (setup : Sending) (video : List ℕ) (k : ℕ) (r : Res
 head_part cut setup video k (Ok f) is lost = no_frame_held (record { taken = of Video (head_size video); whole = true; texts = no_texts }) (of Video k) (λ whole. not_an_err _ f (cut video f k is whole).0 lost)
 head_part cut setup video k (Err fault) is lost = tt
 
-module _ (laws : TurnLaws SendState) (setup : Sending) (inputs : Role → List ℕ) (old mid : Outside) (told : Tells old inputs) (others : (r : Role) → r ≢ Video → mid.left r ≡ old.left r) (same : mid.written ≡ old.written) where
+module _ (laws : TurnLaws) (setup : Sending) (inputs : Role → List ℕ) (old mid : Outside) (told : Tells old inputs) (others : (r : Role) → r ≢ Video → mid.left r ≡ old.left r) (same : mid.written ≡ old.written) where
   pub head_stops : CutHeads → (stop : VideoStop) → HeadGives (Err stop) (inputs Video) (mid.left Video) → GivesUp (phase (video_stop stop)) (video_stop stop) (send_begin setup inputs) true inputs old mid
   head_stops cut Read e = record {
     part = of Video e.0;
@@ -36,7 +36,11 @@ module _ (laws : TurnLaws SendState) (setup : Sending) (inputs : Role → List �
     left = laws.one_read Video e.0 old mid inputs told e.1 others;
     written = same;
   }
-  head_stops cut (Refused fault) e = laws.refuses _ (VideoRefused fault) inputs old mid (ap (head_step setup (head_size (inputs Video))) e) same
+  head_stops cut (Refused fault) e = record {
+    last = refusal (VideoRefused fault);
+    is = ap (head_step setup (head_size (inputs Video))) e;
+    by = laws.refuses (VideoRefused fault) inputs old mid same;
+  }
 
   pub head_goes : (reader : Y4mReader) (stands : SendState → (Role → List ℕ) → Type 0) → HeadGives (Ok reader) (inputs Video) (mid.left Video) → stands (first_state setup reader.format (head_size (inputs Video))) (behind inputs (of Video (head_size (inputs Video)))) → Went (send_begin setup inputs) stands (λ _. true) true inputs old mid
   head_goes reader stands e kept = record {

@@ -10,7 +10,7 @@ use Rattle.event_logs.specs.Text.{entry_text}
 use Rattle.desk_program.specs.Ends.{Gains, GainsFronts}
 use Rattle.desk_program.specs.Laws.{TurnLaws}
 use Rattle.desk_program.specs.Texts.{on, then_also}
-use Rattle.send_command.specs.Send.{SendState, packets_text}
+use Rattle.send_command.specs.Send.{packets_text}
 
 text_of_both : (a b : List (List ℕ)) → packets_text (a ++ b) ≡ packets_text a ++ packets_text b
 text_of_both [] b = refl
@@ -31,7 +31,7 @@ next_text packets i packet below is =
     ∙ ap (λ (p : List ℕ). packets_text (take i packets ++ p ∷ [])) is
     ∙ ap packets_text (sym (take_more packets i [] below))
 
-module _ (laws : TurnLaws SendState) (packets : List (List ℕ)) (old mid new : Role → Option (List ℕ)) (i : ℕ) (packet : List ℕ) (below : i < length packets) (is : packet ≡ slice_index_or packets i []) (so_far : Gains (on Wire (packets_text (take i packets))) old mid) where
+module _ (laws : TurnLaws) (packets : List (List ℕ)) (old mid new : Role → Option (List ℕ)) (i : ℕ) (packet : List ℕ) (below : i < length packets) (is : packet ≡ slice_index_or packets i []) (so_far : Gains (on Wire (packets_text (take i packets))) old mid) where
   pub wire_cut : GainsFronts (on Wire (entry_text 75 packet)) mid new → GainsFronts (on Wire (packets_text packets)) old new
   wire_cut g = λ r. subst (λ (t : List ℕ). Front t (old r) (new r)) (whole r) (fronts r)
     where

@@ -15,9 +15,8 @@ ghost use Rattle.send_command.specs.Send.{packets_text, picture_texts};
 ghost use Rattle.send_command.specs.Stands.{IsCaptured};
 
 use crate::SendPace;
-use crate::mind::turn_laws;
 use call_report::{Status, picture_line};
-use desk_program::{put_entry, put_line};
+use desk_program::{laws as desk_program_laws, put_entry, put_line};
 use h263_outside::{Desk, laws as outside_laws};
 use h263_planes::PictureRef;
 use sender_end::{Coded, Sender};
@@ -60,7 +59,7 @@ fn put_packets<D: Desk>(desk: &mut D, sender: &Sender<SendPace>, count: u32) -> 
     ensures rest { OnlyWrites (D.outside desk.old) (D.outside desk.new) }
 {
     outside_laws::calls();
-    turn_laws();
+    desk_program_laws::of_turns();
     for i in 0..count {
         put_entry(desk, b'K', sender.packet(i))?;
     }
@@ -89,7 +88,7 @@ pub fn put_picture<D: Desk>(
     ensures rest { OnlyWrites (D.outside desk.old) (D.outside desk.new) }
 {
     outside_laws::calls();
-    turn_laws();
+    desk_program_laws::of_turns();
     put_packets(desk, sender, coded.packets)?;
     put_line(
         desk,

@@ -13,7 +13,6 @@
 mod capture;
 pub mod laws;
 mod machine;
-mod mind;
 mod pace;
 mod tally;
 

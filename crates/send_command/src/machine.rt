@@ -6,10 +6,9 @@ ghost use Rattle.h263_outside.specs.declared.desk.Role.{Role};
 ghost use Rattle.h263_outside.specs.declared.desk.Role.TheVariants.{Video};
 
 use crate::capture::{capture, put_picture};
-use crate::mind::turn_laws;
 use crate::{SendPace, Sending, Tally};
 use call_report::Status;
-use desk_program::{Acts, Turns, act_by_turns, put_line};
+use desk_program::{Begins, Turns, laws as desk_program_laws, put_line};
 use event_logs::{Entry, LogFault, LogReader, Side};
 use h263_outside::{Desk, laws as outside_laws};
 use h263_planes::PictureRef;
@@ -62,7 +61,7 @@ impl Send {
             (D.outside desk.old).faults (D.outside desk.new).faults }
         ensures rest { KeepsRoles (D.outside desk.old) (D.outside desk.new) }
     {
-        turn_laws();
+        desk_program_laws::of_turns();
         outside_laws::calls();
         y4m::laws::cut_behind();
         if !self.video.frame(desk, &mut self.frame)? {
@@ -98,16 +97,12 @@ impl Send {
 }
 
 impl Turns for Send {
-    ghost use Rattle.std.specs.Prelude.{◌≡◌, ◌-◌, true, Some};
+    ghost use Rattle.std.specs.Prelude.{◌-◌, true, Some};
     ghost use Rattle.h263_outside.specs.declared.desk.Role.TheVariants.{Events};
-    ghost use Rattle.send_command.specs.Send.{SendState, most_entries, send_begin, send_step};
-    ghost use Rattle.send_command.specs.Stands.{CanSend, SendReady, SendStands};
-
-    type Setup = Sending;
+    ghost use Rattle.send_command.specs.Send.{SendState, most_entries, send_step};
+    ghost use Rattle.send_command.specs.Stands.{SendReady, SendStands};
 
     ghost State = { SendState };
-
-    ghost begin = { send_begin };
 
     ghost step = { send_step };
 
@@ -115,48 +110,14 @@ impl Turns for Send {
 
     ghost stands = { SendStands };
 
-    ghost keeps = { λ _ _. Unit {0} };
-
-    ghost Loan = { Unit {0} };
-
-    ghost loan = { λ _. tt };
-
-    ghost most = { λ _. most_entries };
-
     ghost more = { λ m. most_entries - m.log.entries };
-
-    ghost opens = { CanSend };
 
     ghost ready = { SendReady };
 
-    ghost source = { λ _. Some Events };
-
     ghost reading = { λ _. Some Events };
 
-    fn start<D: Desk>(alloc: Global, setup: &Sending, desk: &mut D) -> Result<Send, Status> {
-        turn_laws();
-        y4m::laws::cut_behind();
-        let video = Y4mReader::head(desk)?;
-        let params = Params {
-            format: video.format(),
-            ..setup.params
-        };
-        let frame = vec![in alloc; 0; params.format.size() as usize]?;
-        let bytes = vec![in alloc; 0; MAX_BYTES]?;
-        let pace = SendPace::choose(setup.target, params.quant);
-        let sender = Sender::start(alloc, &params, pace)?;
-        Ok(Send {
-            video,
-            log: LogReader::new(Side::Send),
-            sender,
-            tally: Tally::new(),
-            frame,
-            bytes,
-        })
-    }
-
     fn turn<D: Desk>(&mut self, desk: &mut D) -> Result<bool, Status> {
-        turn_laws();
+        desk_program_laws::of_turns();
         outside_laws::calls();
         event_logs::laws::cut_behind();
         let Some((at, entry)) = self.log.next(desk, &mut self.bytes)? else {
@@ -177,21 +138,9 @@ impl Turns for Send {
             }),
         }
     }
-
-    fn finish(self) {
-        let Send {
-            video: _,
-            log: _,
-            sender,
-            tally: _,
-            frame: _,
-            bytes: _,
-        } = self;
-        sender.finish();
-    }
 }
 
-impl Acts for Send {
+impl Begins for Send {
     ghost use Rattle.std.specs.Prelude.{Some};
     ghost use Rattle.h263_outside.specs.declared.desk.Role.TheVariants.{Events};
     ghost use Rattle.desk_program.specs.Run.{run_from};
@@ -200,6 +149,8 @@ impl Acts for Send {
 
     type Setup = Sending;
 
+    type Machine = Send;
+
     ghost run = { λ setup inputs. run_from (send_begin setup inputs) send_step most_entries
         inputs };
 
@@ -207,7 +158,38 @@ impl Acts for Send {
 
     ghost source = { λ _. Some Events };
 
-    fn act<D: Desk>(alloc: Global, setup: &Sending, desk: &mut D) -> Status {
-        act_by_turns::<D, Send>(alloc, setup, desk)
+    fn start<D: Desk>(alloc: Global, setup: &Sending, desk: &mut D) -> Result<Send, Status> {
+        desk_program_laws::of_turns();
+        desk_program_laws::of_runs::<Send>();
+        y4m::laws::cut_behind();
+        let video = Y4mReader::head(desk)?;
+        let params = Params {
+            format: video.format(),
+            ..setup.params
+        };
+        let frame = vec![in alloc; 0; params.format.size() as usize]?;
+        let bytes = vec![in alloc; 0; MAX_BYTES]?;
+        let pace = SendPace::choose(setup.target, params.quant);
+        let sender = Sender::start(alloc, &params, pace)?;
+        Ok(Send {
+            video,
+            log: LogReader::new(Side::Send),
+            sender,
+            tally: Tally::new(),
+            frame,
+            bytes,
+        })
+    }
+
+    fn finish(machine: Send) {
+        let Send {
+            video: _,
+            log: _,
+            sender,
+            tally: _,
+            frame: _,
+            bytes: _,
+        } = machine;
+        sender.finish();
     }
 }

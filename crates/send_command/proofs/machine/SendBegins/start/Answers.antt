@@ -1,27 +1,35 @@
-use Rattle.std.proofs.Common.{◌≡◌, ℕ, Bool, [], Option, refl, sym, ap, ◌∙◌, subst, arith}
+use Rattle.std.proofs.Common.{◌≡◌, ℕ, ◌-◌, true, Bool, [], Option, refl, sym, ap, ◌∙◌, subst, arith}
 use Rattle.h263_outside.specs.declared.desk.Role.{Role}
 use Rattle.h263_outside.specs.declared.desk.Role.TheVariants.{Video, Events, Wire, Report}
 use Rattle.h263_types.specs.declared.params.Params.{Params}
 use Rattle.h263_types.specs.Sizes.{size_of_picture}
+use Rattle.call_report.specs.declared.status.Status.{Status}
 use Rattle.call_report.specs.Status.{video_stop}
+use Rattle.desk_program.specs.Run.{run_from}
+use Rattle.desk_program.specs.Ends.{HasEnded, silent}
 use Rattle.sender_end.specs.Stands.{Stands}
 use Rattle.send_command.specs.declared.machine.Send.{Send}
 use Rattle.send_command.specs.Pace.{first_of, quant_behind, target_of}
+use Rattle.send_command.specs.Send.{most_entries, send_begin, send_step}
 use Rattle.send_command.specs.Stands.{SendStands}
 use Rattle.send_command.specs.Tally.{IsOf, no_counts}
-use Rattle.send_command.proofs.Answering.{start_err}
+use Rattle.send_command.proofs.Answering.{if_err}
 use Rattle.send_command.proofs.Starting.{head_stops, head_goes}
-use Rattle.send_command.proofs.machine.SendTurns.start.Goals as goal
+use Rattle.send_command.proofs.machine.SendBegins.start.Goals as goal
 
-pub returns-in_err-video-clause-gives : goal.returns-in_err-video-clause-gives
-returns-in_err-video-clause-gives g c = λ inputs told.
-    let outside = g.D.Desk.outside in
+pub returns-in_err-video-clause-ends : goal.returns-in_err-video-clause-ends
+returns-in_err-video-clause-ends g c = λ inputs told.
+    let old = g.D.Desk.outside c.args.desk.now in
+    let new = g.D.Desk.outside c.head.new.desk in
+    let setup = c.args.setup.now in
     let stop = c.in_err-video.field-0.0 in
-    start_err c.from_residual.result (video_stop stop) _ _ inputs (outside c.args.desk.now) (outside c.head.new.desk) c.from_residual.ensures.1
-    (head_stops c.turn_laws.ensures c.args.setup.now inputs (outside c.args.desk.now) (outside c.head.new.desk) told c.head.ensures.others c.head.ensures.rest.written c.cut_behind.ensures.head stop (c.in_err-video.ensures.gives (inputs Video) (told Video refl)))
+    let first = send_begin setup inputs in
+    if_err (λ (s : Status). HasEnded (run_from first send_step most_entries inputs) silent s inputs old.written new) c.from_residual.result (video_stop stop) c.from_residual.ensures.1
+    (c.of_runs.ensures.gives_up first send_step most_entries inputs old new (video_stop stop)
+    (head_stops c.of_turns.ensures setup inputs old new told c.head.ensures.others c.head.ensures.rest.written c.cut_behind.ensures.head stop (c.in_err-video.ensures.gives (inputs Video) (told Video refl))))
 
-pub returns-clause-gives : goal.returns-clause-gives
-returns-clause-gives g c = λ inputs told.
+pub returns-clause-goes : goal.returns-clause-goes
+returns-clause-goes g c = λ inputs told.
     let outside = g.D.Desk.outside in
     let setup = c.args.setup.now in
     let p = setup.params in
@@ -40,7 +48,8 @@ returns-clause-gives g c = λ inputs told.
     subst (λ (t : Option ℕ). Stands (quant_behind t p.quant) state []) target_is
     (subst (λ (q : ℕ). Stands (quant_behind (target_of pace) q) state []) first_is started.stands)
     in
-    head_goes c.turn_laws.ensures setup inputs (outside c.args.desk.now) (outside c.head.new.desk) told c.head.ensures.others c.head.ensures.rest.written reader (SendStands new) e
+    c.of_runs.ensures.begins new (send_begin setup inputs) send_step (λ _. true) most_entries inputs (outside c.args.desk.now) (outside c.head.new.desk) (ap (λ (n : ℕ). most_entries - n) c.new.ensures.entries)
+    (head_goes c.of_turns.ensures setup inputs (outside c.args.desk.now) (outside c.head.new.desk) told c.head.ensures.others c.head.ensures.rest.written reader (SendStands new) e
     (record {
       is = λ i. record {
         params = params_is i;
@@ -53,7 +62,7 @@ returns-clause-gives g c = λ inputs told.
         more = sym c.in_ok-video.ensures.more i;
       };
       sender = sender;
-    })
+    }))
 
 none_of : (n : ℕ) → IsOf n no_counts
 none_of n = record { sent = omega arith; packets = omega arith; noted = omega arith; outdated = omega arith; refused = omega arith }
