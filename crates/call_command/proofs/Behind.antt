@@ -29,11 +29,10 @@ use Rattle.call_encoding.specs.Frames.{Frame}
 use Rattle.coded_call.specs.Coding.{coding}
 use Rattle.h263_types.specs.declared.blocks.Mb.{Mb}
 use Rattle.h263_planes.specs.Picture.{Picture}
-use Rattle.sender_end.specs.declared.state.State.{State}
 use Rattle.receiver_end.specs.declared.kept.Kept.{Kept}
 use Rattle.receiver_end.specs.State as receiver_end
 use Rattle.one_way.specs.declared.refusals.Refusal.{Refusal as Told}
-use Rattle.one_way.specs.Both.{bare, both_after, steady}
+use Rattle.one_way.specs.Both.{State, bare, both_after, steady}
 use Rattle.one_way.specs.Laws.{WayLaws}
 use Rattle.one_way.specs.Refused.{IsAllowed, refusal_after}
 use Rattle.one_way.specs.Seen.{in_both}
@@ -100,7 +99,7 @@ module _ (x : Parts) (s : CallState) (inputs : Role → List ℕ) (k : StoodBefo
 
   -- ---- a refused event
 
-  module _ (laws : TurnLaws CallState) (before mid : Outside) (taken : HasTaken inputs before mid) (told : Told) (line : ℕ) (number : line ≡ s.lines + 1) (fault : TraceFault) (fault_is : fault ≡ fault_at line told) where
+  module _ (laws : TurnLaws) (before mid : Outside) (taken : HasTaken inputs before mid) (told : Told) (line : ℕ) (number : line ≡ s.lines + 1) (fault : TraceFault) (fault_is : fault ≡ fault_at line told) where
     event_refused : (e : Event) (step : Step CallState) → IsAllowed (Err told) e (refusal_after p s.before s.frames s.past e)
         → Ended (unless s trace e (refusal_at by_ends s e) step) (TraceRefused fault) inputs before mid
     event_refused e step refused =
@@ -154,9 +153,9 @@ module _ (x : Parts) (s : CallState) (inputs : Role → List ℕ) (k : StoodBefo
 
   -- ---- an event that takes no frame
 
-  module _ (sender : State) (quant : ℕ) (receiver : Kept) (carrier : Carrier) (trace_same : carrier.trace ≡ x.carrier.trace) (sent_same : sender.sent ≡ x.sender.sent) where
+  module _ (sender : State) (receiver : Kept) (carrier : Carrier) (trace_same : carrier.trace ≡ x.carrier.trace) (sent_same : sender.sent ≡ x.sender.sent) where
     abbrev y : Parts
-    y = record { terms = x.terms; video = x.video; sender = sender; quant = quant; receiver = receiver; carrier = carrier }
+    y = record { terms = x.terms; video = x.video; sender = sender; receiver = receiver; carrier = carrier }
 
     pub stands_event : (events : List Event) → ((later : List Frame) → HasDone y s.before (s.frames ++ later) events)
         → PartsStand y (after_line (record s { past = events }) trace) (behind inputs taken_line)
@@ -174,7 +173,7 @@ module _ (x : Parts) (s : CallState) (inputs : Role → List ℕ) (k : StoodBefo
         read_to : TraceReader → List Event → CallState
         read_to reader events = record (state_of x s.before s.frames events) { lines = reader.lines; ended = reader.ended }
 
-    pub event_goes : TurnLaws CallState → (before mid : Outside) → HasTaken inputs before mid → (event : Line) (events : List Event)
+    pub event_goes : TurnLaws → (before mid : Outside) → HasTaken inputs before mid → (event : Line) (events : List Event)
         → event_step by_ends s inputs trace event ≡ Goes (after_line (record s { past = events }) trace) (line_turn trace no_texts)
         → ((later : List Frame) → HasDone y s.before (s.frames ++ later) events)
         → Went (event_step by_ends s inputs trace event) (PartsStand y) may_read true inputs before mid
@@ -195,12 +194,12 @@ module _ (x : Parts) (s : CallState) (inputs : Role → List ℕ) (k : StoodBefo
 
   -- ---- the frame that the line asks for was sent
 
-  module _ (out : List ℕ) (video : Y4mReader) (sender : State) (quant : ℕ) (carrier : Carrier) (trace_same : carrier.trace ≡ x.carrier.trace) where
+  module _ (out : List ℕ) (video : Y4mReader) (sender : State) (carrier : Carrier) (trace_same : carrier.trace ≡ x.carrier.trace) where
     abbrev f : Frame
     f = bare (picture_of s.params.format out)
 
     abbrev sent_parts : Parts
-    sent_parts = record { terms = x.terms; video = video; sender = sender; quant = quant; receiver = x.receiver; carrier = carrier }
+    sent_parts = record { terms = x.terms; video = video; sender = sender; receiver = x.receiver; carrier = carrier }
 
     pub stands_sent : (size : ℕ) → video.at ≡ s.at + size → video.more + 1 ≡ s.more → sender.sent ≡ x.sender.sent + 1
         → ((later : List Frame) → HasDone sent_parts s.before (s.frames ++ f ∷ later) (Send ∷ s.past))
@@ -292,7 +291,7 @@ asks_frame x y line event r mid new is t none = subst (λ (e : Line). TakesLine 
       subst (λ (step : Step CallState). TurnGives r step (PartsStand (parts_of y)) may_read true inputs old new) (sym (capture_is (parts_of x) s inputs b.stood (none old s inputs b)))
       (t.gives old s inputs (asked old s inputs b));
   whole = λ old s inputs b. t.whole old s inputs (asked old s inputs b);
-  keeps = λ old s inputs b. t.keeps old s inputs (asked old s inputs b);
+  keeps = t.keeps;
   lasts = t.lasts;
   falls = t.falls;
   ready = t.ready;

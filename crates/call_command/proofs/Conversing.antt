@@ -3,13 +3,15 @@ use Rattle.std.proofs.Common.{◌≡◌, ℕ, ◌-◌, Bool, true, false, List, 
 use Rattle.h263_outside.specs.Desk.{Outside}
 use Rattle.h263_outside.specs.declared.desk.Role.{Role}
 use Rattle.call_report.specs.declared.status.Status.{Status}
+use Rattle.call_report.specs.Status.{Phase, phase}
+use Rattle.call_report.specs.Status.Phase.{finished, refused, unread, unwritten, starved, unasked, unopened}
 use Rattle.call_model.specs.Receiving.{ReceiverEntry}
-use Rattle.desk_program.specs.Ends.{AfterAll, Tells}
+use Rattle.desk_program.specs.Ends.{AfterAll, OnceSettled, Tells}
 use Rattle.desk_program.specs.Laws.{TurnLaws}
 use Rattle.desk_program.specs.Run.{Run, end_state, run_of}
-use Rattle.desk_program.specs.UnderWay.{EndsIn, IsUnderWay}
+use Rattle.desk_program.specs.UnderWay.{EndsIn, IsUnderWay, LeftIn}
 use Rattle.h263_types.specs.declared.params.Params.{Params}
-use Rattle.sender_end.specs.declared.state.State.{State}
+use Rattle.one_way.specs.Both.{State}
 use Rattle.sender_end.specs.Stands as sender_end
 use Rattle.receiver_end.specs.State as receiver_end
 use Rattle.receiver_end.specs.declared.kept.Kept.{Kept}
@@ -18,14 +20,16 @@ use Rattle.call_command.specs.declared.terms.Terms.{Terms}
 use Rattle.one_way.specs.Both.{steady}
 use Rattle.one_way.specs.Laws.{WayLaws}
 use Rattle.call_command.specs.Call.{CallState, call_step, first_state, may_read, most_turns, talk_step}
-use Rattle.call_command.specs.Converse.{IsFirst, WorldStands, talk_end, talk_of}
+use Rattle.call_command.specs.Converse.{IsFirst, WorldStands, WorldStays, talk_end, talk_of}
 use Rattle.call_command.specs.Laws.{TalkIsTheCall}
 use Rattle.call_command.specs.Standing.{EndsStand, IsFresh, more_of, parts_of}
+use Rattle.call_command.specs.Turning.{LeavesEnds, names_of}
+use Rattle.call_command.proofs.Counting.{ends_stand}
 use Rattle.call_command.proofs.Starting.{stands_first}
 
 -- its parts stand
 pub lent_first : (w : World) (before : List ReceiverEntry) (inputs : Role → List ℕ) → WayLaws w.terms.params → IsFresh w.terms w.carrier
-    → w.sender.now.state.params ≡ w.terms.params → sender_end.Stands (steady w.terms.params) w.sender.now.state [] → w.sender.now.state.sent ≡ 0
+    → w.sender.now.params ≡ w.terms.params → sender_end.Stands (steady w.terms.params) w.sender.now [] → w.sender.now.sent ≡ 0
     → w.video.now.more ≡ 1048576 → w.receiver.now.params ≡ w.terms.params → w.receiver.now.played ≡ 0 → receiver_end.Stands w.receiver.now before
     → WorldStands w (first_state w.terms before w.video.now.at) inputs
 lent_first w before inputs laws fresh sender_params sends sent more receiver_params played receives =
@@ -73,7 +77,7 @@ module _ (w : World) (before : List ReceiverEntry) (inputs : Role → List ℕ) 
   more_is : more_of (parts_of w) ≡ most_turns w.terms.plain
   more_is = most_is w lines more
 
-  pub under_way : TurnLaws CallState
+  pub under_way : TurnLaws
       → IsUnderWay talk_step may_read (talk_of w.terms before w.video.now.at inputs) inputs now.written (WorldStands w) (more_of (parts_of w)) now
   under_way laws = record {
     done = [];
@@ -97,7 +101,31 @@ module _ (w : World) (before : List ReceiverEntry) (inputs : Role → List ℕ) 
     ends = ap (λ (n : ℕ). end_state talk_step n first inputs) more_is;
   }
 
--- what was lent stands as the machine's parts do
+-- what is so after `Ok` and a refusal, by what else is
+after_all : (status : Status) (P Q : Type 0) → (P → Q) → AfterAll status P → AfterAll status Q
+after_all status P Q leads p = by_phase (phase status) p
+  where
+    by_phase : (ph : Phase) → OnceSettled ph P → OnceSettled ph Q
+    by_phase finished p = leads p
+    by_phase refused p = leads p
+    by_phase unread p = tt
+    by_phase unwritten p = tt
+    by_phase starved p = tt
+    by_phase unasked p = tt
+    by_phase (unopened role) p = tt
+
+-- the ends of the machine stand where it stood before its last turn
+pub left_standing : (status : Status) (s : CallState) (w : World) → AfterAll status (LeftIn WorldStands LeavesEnds s w) → AfterAll status (EndsStand w.terms w.sender.now w.receiver.now s)
+left_standing status s w = after_all status (LeftIn WorldStands LeavesEnds s w) (EndsStand w.terms w.sender.now w.receiver.now s) ends
+  where
+    ends : LeftIn WorldStands LeavesEnds s w → EndsStand w.terms w.sender.now w.receiver.now s
+    ends l = l.left s (ends_stand (parts_of l.last) s l.rest l.stood)
+
+-- what stays of a machine, by what it was itself
+pub stays_itself : {old new : World} → ((first : World) → WorldStays first old → WorldStays first new) → names_of new ≡ names_of old
+stays_itself {old} {new} stays = (stays old (record { names = refl })).names
+
+-- and so does what was lent
 pub lent_stand : (status : Status) (s : CallState) (t u : Terms) (sender their_sender : State) (receiver their_receiver : Kept)
     → u ≡ t → their_sender ≡ sender → their_receiver ≡ receiver
     → AfterAll status (EndsStand u their_sender their_receiver s) → AfterAll status (EndsStand t sender receiver s)

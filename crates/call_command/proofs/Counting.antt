@@ -22,7 +22,7 @@ use Rattle.one_way.specs.Laws.{WayLaws}
 use Rattle.call_command.specs.declared.world.World.{World}
 use Rattle.call_command.specs.Call.{CallState, by_ends, may_read, talk_step, trace_step, video_step}
 use Rattle.call_command.specs.Standing.{EndsStand, HasDone, Parts, PartsReady, PartsStand, more_of, parts_of, source_of, state_of}
-use Rattle.call_command.specs.Turning.{IsBegun, IsTurn, TakesTurn, names_of}
+use Rattle.call_command.specs.Turning.{IsBegun, IsTurn, LeavesEnds, TakesTurn, names_of}
 
 -- ---- which step it is
 
@@ -157,13 +157,13 @@ module _ (x y : World) (mid new : Outside) (Begins : Outside → CallState → (
   pub gave_up : (r : Result Bool Status) (status : Status) → IsErrAnd r (λ z. z ≡ status) → names_of y ≡ names_of x
       → IsStop status → HasCause status mid.faults new.faults → KeepsRoles mid new
       → ((old : Outside) (s : CallState) (inputs : Role → List ℕ) → Begins old s inputs → GivesUp (phase status) status (step s inputs) (reads s) inputs old new)
-      → ((old : Outside) (s : CallState) (inputs : Role → List ℕ) → Begins old s inputs → EndsStand y.terms y.sender.now.state y.receiver.now s)
+      → LeavesEnds x y
       → IsTurn x y r mid new Begins step reads more
   gave_up (Ok b) status is names stop cause rest gives keeps = absurd is
   gave_up (Err z) status is names stop cause rest gives keeps = subst (λ (w : Status). IsTurn x y (Err w) mid new Begins step reads more) (sym is) (record {
     gives = gives;
     whole = λ old s inputs k. tt;
-    keeps = λ old s inputs k. once (phase status) _ (keeps old s inputs k);
+    keeps = once (phase status) (LeavesEnds x y) keeps;
     lasts = names;
     falls = tt;
     ready = tt;
@@ -182,7 +182,7 @@ module _ (x y : World) (mid new : Outside) (Begins : Outside → CallState → (
       subst (λ (w : Status). IsTurn x y (Err w) mid new Begins step reads more) (sym (is ∙ kind)) (record {
         gives = gives;
         whole = λ old s inputs k. tt;
-        keeps = λ old s inputs k. tt;
+        keeps = tt;
         lasts = names;
         falls = tt;
         ready = tt;
@@ -198,7 +198,7 @@ module _ (x y : World) (mid new : Outside) (Begins : Outside → CallState → (
   goes_on names falls ready rest gives = record {
     gives = gives;
     whole = λ old s inputs k. tt;
-    keeps = λ old s inputs k. tt;
+    keeps = tt;
     lasts = names;
     falls = falls;
     ready = ready;
@@ -211,7 +211,7 @@ module _ (x y : World) (mid new : Outside) (Begins : Outside → CallState → (
   pub is_over : names_of y ≡ names_of x → KeepsRoles mid new
       → ((old : Outside) (s : CallState) (inputs : Role → List ℕ) → Begins old s inputs → Ended (step s inputs) Fine inputs old new)
       → ((old : Outside) (s : CallState) (inputs : Role → List ℕ) → Begins old s inputs → new.left (source_of x.terms) ≡ Some [])
-      → ((old : Outside) (s : CallState) (inputs : Role → List ℕ) → Begins old s inputs → EndsStand y.terms y.sender.now.state y.receiver.now s)
+      → LeavesEnds x y
       → IsTurn x y (Ok false) mid new Begins step reads more
   is_over names rest gives whole keeps = record {
     gives = gives;
@@ -236,12 +236,12 @@ module _ (x y : World) (old new : Outside) where
   pub turn_gave_up : (r : Result Bool Status) (status : Status) → IsErrAnd r (λ z. z ≡ status) → names_of y ≡ names_of x
       → IsStop status → HasCause status old.faults new.faults → KeepsRoles old new
       → ((s : CallState) (inputs : Role → List ℕ) → PartsStand (parts_of x) s inputs → Tells old inputs → GivesUp (phase status) status (talk_step s inputs) (may_read s) inputs old new)
-      → ((s : CallState) (inputs : Role → List ℕ) → PartsStand (parts_of x) s inputs → EndsStand y.terms y.sender.now.state y.receiver.now s)
+      → LeavesEnds x y
       → TakesTurn x y r old new
   turn_gave_up r status is names stop cause rest gives keeps =
       gave_up x y old new _ _ _ _ r status is names stop cause rest
       (begun (parts_of x) old (λ o s inputs. GivesUp (phase status) status (talk_step s inputs) (may_read s) inputs o new) gives)
-      (λ o s inputs b. keeps s inputs b.stands)
+      keeps
 
   pub turn_was_cut : (r : Result Bool Status) (status : Status) → IsErrAnd r (λ z. z ≡ status) → names_of y ≡ names_of x
       → status ≡ WriteFault → Rose old.faults.write new.faults.write → KeepsRoles old new
@@ -254,13 +254,13 @@ module _ (x y : World) (old new : Outside) where
   pub turn_is_over : names_of y ≡ names_of x → KeepsRoles old new
       → ((s : CallState) (inputs : Role → List ℕ) → PartsStand (parts_of x) s inputs → Tells old inputs → Ended (talk_step s inputs) Fine inputs old new)
       → ((s : CallState) (inputs : Role → List ℕ) → PartsStand (parts_of x) s inputs → Tells old inputs → new.left (source_of x.terms) ≡ Some [])
-      → ((s : CallState) (inputs : Role → List ℕ) → PartsStand (parts_of x) s inputs → EndsStand y.terms y.sender.now.state y.receiver.now s)
+      → LeavesEnds x y
       → TakesTurn x y (Ok false) old new
   turn_is_over names rest gives whole keeps =
       is_over x y old new _ _ _ _ names rest
       (begun (parts_of x) old (λ o s inputs. Ended (talk_step s inputs) Fine inputs o new) gives)
       (λ o s inputs b. whole s inputs b.stands b.told)
-      (λ o s inputs b. keeps s inputs b.stands)
+      keeps
 
   pub turn_goes_on : names_of y ≡ names_of x → more_of (parts_of y) + 1 ≡ more_of (parts_of x) → PartsReady (parts_of y) new.attached → KeepsRoles old new
       → ((s : CallState) (inputs : Role → List ℕ) → PartsStand (parts_of x) s inputs → Tells old inputs → Went (talk_step s inputs) (PartsStand (parts_of y)) may_read (may_read s) inputs old new)

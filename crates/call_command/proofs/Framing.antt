@@ -21,10 +21,9 @@ use Rattle.call_decoding.specs.Rules.{rules_of}
 use Rattle.call_decoding.specs.Styles.{Style}
 use Rattle.call_encoding.specs.Frames.{Frame}
 use Rattle.coded_call.specs.Coding.{coding}
-use Rattle.sender_end.specs.declared.state.State.{State}
 use Rattle.receiver_end.specs.declared.kept.Kept.{Kept}
 use Rattle.receiver_end.specs.State as receiver_end
-use Rattle.one_way.specs.Both.{bare, both_after, next_of, steady}
+use Rattle.one_way.specs.Both.{State, bare, both_after, next_of, steady}
 use Rattle.one_way.specs.Laws.{EventLaws, WayLaws}
 use Rattle.one_way.specs.Network.{IsAmongLast}
 use Rattle.one_way.specs.Seen.{in_both}
@@ -103,11 +102,11 @@ module _ (x : Parts) (laws : WayLaws x.terms.params) (events : EventLaws x.terms
       let shown : played ≡ length s.frames = same ∙ level ∙ k.sent in
       λ i. play_texts (in_both (both [] (passed_on (number i) (count_of [] (number i)) s.past))) (shown i)
 
-  pub stands_after : (video : Y4mReader) (sender : State) (quant : ℕ) (receiver : Kept) (carrier : Carrier) (n size : ℕ) (rest : Role → List ℕ) → n ≡ x.sender.sent
+  pub stands_after : (video : Y4mReader) (sender : State) (receiver : Kept) (carrier : Carrier) (n size : ℕ) (rest : Role → List ℕ) → n ≡ x.sender.sent
       → ((later : List Frame) → HoldsNetwork p carrier.network sender receiver s.before (all later) (passed_on n (count_of later n) s.past))
       → carrier.trace ≡ x.carrier.trace → sender.sent ≡ x.sender.sent + 1 → video.at ≡ x.video.at + size → video.more + 1 ≡ x.video.more → rest Events ≡ inputs Events
-      → PartsStand (record { terms = x.terms; video = video; sender = sender; quant = quant; receiver = receiver; carrier = carrier }) (record then { at = x.video.at + size; more = x.video.more - 1 }) rest
-  stands_after video sender quant receiver carrier n size rest number holds same sent place fewer still = record {
+      → PartsStand (record { terms = x.terms; video = video; sender = sender; receiver = receiver; carrier = carrier }) (record then { at = x.video.at + size; more = x.video.more - 1 }) rest
+  stands_after video sender receiver carrier n size rest number holds same sent place fewer still = record {
     is = let less : x.video.more - 1 ≡ video.more = omega (arith, fewer) in
         λ i. record {
           params = x.terms.params;

@@ -20,8 +20,8 @@ use Rattle.call_report.specs.declared.status.Status.TheVariants.{Ok as Fine, Tra
 use Rattle.call_report.specs.Status.{phase, trace_stop}
 use Rattle.desk_program.specs.Run.{End, Step, behind}
 use Rattle.desk_program.specs.Run.Step.{Goes, Ends}
-use Rattle.desk_program.specs.Ends.{Tells, Gains, GainsFronts, Went, Ended, GivesUp, step_texts}
-use Rattle.desk_program.specs.Texts.{no_texts, of, on}
+use Rattle.desk_program.specs.Ends.{Tells, Gains, GainsFronts, Went, Ended, EndsBy, GivesUp, step_texts}
+use Rattle.desk_program.specs.Texts.{no_bytes, no_texts, of, on}
 use Rattle.desk_program.specs.Laws.{TurnLaws}
 use Rattle.call_command.specs.Call.{CallState, after_line, all_played, bad_line, by_ends, event_step, line_size, line_step, line_turn, may_read, refused_line, trace_step}
 use Rattle.one_way.specs.Counts.{call_text}
@@ -87,7 +87,7 @@ many_is s inputs (b ∷ trace) some many =
 abbrev step_of : End → Step CallState
 step_of last = Ends last
 
-module _ (laws : TurnLaws CallState) (s : CallState) (inputs : Role → List ℕ) (before mid : Outside) (taken : HasTaken inputs before mid) where
+module _ (laws : TurnLaws) (s : CallState) (inputs : Role → List ℕ) (before mid : Outside) (taken : HasTaken inputs before mid) where
   abbrev trace : List ℕ
   trace = inputs Events
 
@@ -97,16 +97,9 @@ module _ (laws : TurnLaws CallState) (s : CallState) (inputs : Role → List ℕ
   line_refused status fault step status_is is = record {
     last = refused_line trace fault;
     is = is;
-    known = status_is;
-    left = λ r input k said. taken.left r input ∙ ap (λ (n : ℕ). Some (drop n (inputs r))) (same k (of Events (line_size trace) r) said);
-    written = laws.no_text before.written mid.written taken.written;
+    by = subst (λ (z : Status). EndsBy (refused_line trace fault) z inputs before mid) (sym status_is)
+        (laws.ends (TraceRefused fault) (of Events (line_size trace)) no_texts inputs before mid taken.left (laws.no_text before.written mid.written taken.written));
   }
-    where
-      some_same : (a b : ℕ) → Some a ≡ Some b → a ≡ b
-      some_same a b is = cc is
-
-      same : (k n : ℕ) → Some n ≡ Some k → n ≡ 0 + k
-      same k n said = omega (arith, some_same n k said)
 
   -- one that is done goes on
   pub line_goes : (next : CallState) (step : Step CallState) (stands : CallState → (Role → List ℕ) → Type 0)
@@ -130,7 +123,7 @@ pub record IsReadAt (s : CallState) (reader : TraceReader) : Type 0 where
   pub lines_are : s.lines ≡ reader.lines
   pub ended_is : s.ended ≡ reader.ended
 
-module _ (laws : TurnLaws CallState) (s : CallState) (inputs : Role → List ℕ) (old mid : Outside) (told : Tells old inputs) (others : (r : Role) → r ≢ Events → mid.left r ≡ old.left r) (same : mid.written ≡ old.written) (reader after : TraceReader) (at : IsReadAt s reader) where
+module _ (laws : TurnLaws) (s : CallState) (inputs : Role → List ℕ) (old mid : Outside) (told : Tells old inputs) (others : (r : Role) → r ≢ Events → mid.left r ≡ old.left r) (same : mid.written ≡ old.written) (reader after : TraceReader) (at : IsReadAt s reader) where
   going : reader.ended ≡ false → may_read s ≡ true
   going is = ap not (at.ended_is ∙ is)
 
@@ -139,9 +132,7 @@ module _ (laws : TurnLaws CallState) (s : CallState) (inputs : Role → List ℕ
   bad_ends fault step is = record {
     last = bad_line fault;
     is = is;
-    known = refl;
-    left = left_at;
-    written = laws.no_text old.written mid.written same;
+    by = record { known = refl; left = left_at; written = laws.no_text old.written mid.written same };
   }
     where
       zero_is : (k : ℕ) → 0 ≡ k → 0 ≡ 0 + k
@@ -209,32 +200,19 @@ module _ (laws : TurnLaws CallState) (s : CallState) (inputs : Role → List ℕ
     end_is : trace_step by_ends s inputs (inputs Events) ≡ step_of (all_played (by_ends s))
     end_is = ap (trace_step by_ends s inputs) nothing
 
-    left_at : (r : Role) → IsInput r → new.left r ≡ Some (inputs r)
-    left_at r input = ap (λ (l : Role → Option (List ℕ)). l r) still ∙ go r input
-      where
-        go : (r : Role) → IsInput r → mid.left r ≡ Some (inputs r)
-        go Video input = others Video (λ same. cc) ∙ told Video input
-        go Events input = e.0
-        go Video2 input = others Video2 (λ same. cc) ∙ told Video2 input
-        go Pictures input = absurd (cc input)
-        go Wire input = absurd (cc input)
-        go Report input = absurd (cc input)
-        go Pictures2 input = absurd (cc input)
+    told_still : Tells new inputs
+    told_still r input = ap (λ (l : Role → Option (List ℕ)). l r) still ∙ laws.none_read Events old mid inputs told nothing (e.0 ∙ ap (λ (l : List ℕ). Some l) nothing) others r input
 
     pub read_out : new.left Events ≡ Some []
-    read_out = left_at Events refl ∙ ap (λ (l : List ℕ). Some l) nothing
+    read_out = told_still Events refl ∙ ap (λ (l : List ℕ). Some l) nothing
 
     pub trace_ends : (text : List ℕ) → text ≡ call_text (by_ends s) → Gains (on Report text) mid.written new.written → Ended (trace_step by_ends s inputs (inputs Events)) Fine inputs old new
     trace_ends text is gains = record {
       last = all_played (by_ends s);
       is = end_is;
-      known = refl;
-      left = λ r input k said. left_at r input ∙ ap (λ (n : ℕ). Some (drop n (inputs r))) (zero_is k (cc said));
-      written = subst (λ (w : Role → Option (List ℕ)). Gains (on Report (call_text (by_ends s))) w new.written) same (subst (λ (l : List ℕ). Gains (on Report l) mid.written new.written) is gains);
+      by = laws.ends Fine no_bytes (on Report (call_text (by_ends s))) inputs old new told_still
+          (subst (λ (w : Role → Option (List ℕ)). Gains (on Report (call_text (by_ends s))) w new.written) same (subst (λ (l : List ℕ). Gains (on Report l) mid.written new.written) is gains));
     }
-      where
-        zero_is : (k : ℕ) → 0 ≡ k → 0 ≡ 0 + k
-        zero_is k is = omega (arith, is)
 
     pub trace_cut : (text : List ℕ) → text ≡ call_text (by_ends s) → GainsFronts (on Report text) mid.written new.written → GainsFronts (step_texts (trace_step by_ends s inputs (inputs Events))) old.written new.written
     trace_cut text is gains =

@@ -7,7 +7,7 @@ use Rattle.h263_types.specs.declared.format.Format.TheVariants.{SubQcif, Qcif, C
 use Rattle.y4m.specs.declared.reader.Y4mReader.{Y4mReader}
 use Rattle.call_rings.specs.Keeping.{period_of}
 use Rattle.call_rings.specs.Messages.{said_of}
-use Rattle.sender_end.specs.declared.state.State.{State}
+use Rattle.one_way.specs.Both.{State}
 use Rattle.receiver_end.specs.declared.kept.Kept.{Kept}
 use Rattle.one_way.specs.declared.tally.Tally.{Tally}
 use Rattle.one_way.specs.declared.way.Way.{Way}
@@ -32,9 +32,9 @@ pub plain_keeps : (t : Terms) (n : ℕ) → n ≡ pictures_kept t → t.plain �
 plain_keeps t n is plain = is ∙ ap (λ (b : Bool). if b then 1 else clocks.period_of t.params.clock) plain
 
 -- the marks that are counted don't matter to the next picture
-pub can_still : (way : Way) (tally : Tally) (sender : State) (quant : ℕ) → CanSend way sender quant → CanSend (record way { tally = tally }) sender quant
-can_still way tally sender quant can = record {
-  ready = can.ready;
+pub can_still : (way : Way) (tally : Tally) (sender : State) → CanSend way sender → CanSend (record way { tally = tally }) sender
+can_still way tally sender can = record {
+  in_range = can.in_range;
   standing = can.standing;
   quant_is = can.quant_is;
   room = can.room;
@@ -44,15 +44,15 @@ can_still way tally sender quant can = record {
 }
 
 module _ (x : Parts) (old new : Role → Bool) (r : PartsReady x old) (attached : new ≡ old) where
-  pub ready_so : (video : Y4mReader) (sender : State) (quant : ℕ) (receiver : Kept) (carrier : Carrier)
-      → video.format ≡ x.video.format → sender.params ≡ x.sender.params → CanSend carrier.network.way sender quant
+  pub ready_so : (video : Y4mReader) (sender : State) (receiver : Kept) (carrier : Carrier)
+      → video.format ≡ x.video.format → sender.params ≡ x.sender.params → CanSend carrier.network.way sender
       → period_of carrier.network.way.packets ≡ period_of x.carrier.network.way.packets
       → sender.sent + video.more ≡ 1048576 → receiver.played ≤ sender.sent → (x.terms.plain ≡ true → receiver.played ≡ sender.sent)
       → length carrier.frame.items ≡ size_of_picture x.terms.params.format → (x.terms.plain ≡ true → carrier.trace.ended ≡ false)
       → total_of carrier.network.way.tally ≡ receiver.played
       → said_of carrier.network.messages ≤ 400 * (carrier.trace.lines + sender.sent)
-      → PartsReady (record { terms = x.terms; video = video; sender = sender; quant = quant; receiver = receiver; carrier = carrier }) new
-  ready_so video sender quant receiver carrier format params can period sent played level frame unread counted said = record {
+      → PartsReady (record { terms = x.terms; video = video; sender = sender; receiver = receiver; carrier = carrier }) new
+  ready_so video sender receiver carrier format params can period sent played level frame unread counted said = record {
     opens = subst (CallOpens x.terms) (sym attached) r.opens;
     format = format ∙ r.format;
     frame = frame;

@@ -53,9 +53,9 @@ module _ (x : Parts) (fresh : IsFresh x.terms x.carrier) (laws : WayLaws x.terms
 
 -- they are ready
 pub ready_first : (x : Parts) (attached : Role → Bool) → CallOpens x.terms attached → IsFresh x.terms x.carrier → x.video.format ≡ x.terms.params.format → x.sender.params ≡ x.terms.params
-    → sender_end.IsReady x.sender → sender_end.Stands (steady x.terms.params) x.sender [] → x.quant ≡ x.terms.params.quant → x.sender.sent ≡ 0 → x.video.more ≡ 1048576 → x.receiver.played ≡ 0
+    → sender_end.Stands (steady x.terms.params) x.sender [] → x.sender.pace.quant ≡ x.terms.params.quant → x.sender.sent ≡ 0 → x.video.more ≡ 1048576 → x.receiver.played ≡ 0
     → PartsReady x attached
-ready_first x attached opens fresh format sender_params ready sends quant sent more played =
+ready_first x attached opens fresh format sender_params sends quant sent more played =
     let way = fresh.network_is.way_is in
     let params = sym sender_params in
     record {
@@ -64,7 +64,7 @@ ready_first x attached opens fresh format sender_params ready sends quant sent m
       frame = fresh.frame;
       sender_params = sender_params;
       can = record {
-        ready = ready;
+        in_range = subst IsParams params opens.params;
         standing = subst (λ (p : Params). IsStanding (steady p) x.sender) params (record { entries = []; stands = sends });
         quant_is = quant ∙ ap (λ (p : Params). p.quant) params;
         room = way.room ∙ ap (λ (p : Params). 1200 * mbs_of p.format) params;

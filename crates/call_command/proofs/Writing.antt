@@ -25,7 +25,7 @@ pub on_err : {T E P : Type 0} (r : Result T E) → P → OnErr r P
 on_err (Ok x) p = tt
 on_err (Err e) p = p
 
-module _ (turns : TurnLaws CallState) (number : ℕ) (mark : Mark) (reference : Option ℕ) (picture : Picture) (old mid : Role → Option (List ℕ)) where
+module _ (turns : TurnLaws) (number : ℕ) (mark : Mark) (reference : Option ℕ) (picture : Picture) (old mid : Role → Option (List ℕ)) where
   abbrev line : List ℕ
   line = picture_text number (Some mark) (Some reference) None
 

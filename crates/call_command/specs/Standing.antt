@@ -19,10 +19,9 @@ use Rattle.call_rings.specs.Messages.{said_of}
 use Rattle.call_model.specs.IdealCall.{Event}
 use Rattle.call_model.specs.Receiving.{ReceiverEntry}
 use Rattle.call_encoding.specs.Frames.{Frame}
-use Rattle.sender_end.specs.declared.state.State.{State}
 use Rattle.receiver_end.specs.declared.kept.Kept.{Kept}
 use Rattle.receiver_end.specs.State as receiver_end
-use Rattle.one_way.specs.Both.{AreJoined, steady}
+use Rattle.one_way.specs.Both.{AreJoined, State, steady}
 use Rattle.one_way.specs.Counts.{total_of}
 use Rattle.one_way.specs.Way.{CanSend, HoldsNetwork, IsNewNetwork}
 use Rattle.call_command.specs.declared.terms.Terms.{Terms}
@@ -42,7 +41,6 @@ pub record Parts : Type 0 where
   pub terms : Terms
   pub video : Y4mReader
   pub sender : State
-  pub quant : ℕ
   pub receiver : Kept
   pub carrier : Carrier
 
@@ -52,8 +50,7 @@ parts_of m =
     record {
       terms = m.terms;
       video = m.video.now;
-      sender = m.sender.now.state;
-      quant = m.sender.now.pace.quant;
+      sender = m.sender.now;
       receiver = m.receiver.now;
       carrier = m.carrier;
     }
@@ -117,7 +114,7 @@ pub record PartsReady (x : Parts) (attached : Role → Bool) : Type 0 where
   pub format : x.video.format ≡ x.terms.params.format
   pub frame : length x.carrier.frame.items ≡ size_of_picture x.terms.params.format
   pub sender_params : x.sender.params ≡ x.terms.params
-  pub can : CanSend x.carrier.network.way x.sender x.quant
+  pub can : CanSend x.carrier.network.way x.sender
   pub period : ring.period_of x.carrier.network.way.packets ≡ pictures_kept x.terms
   pub sent : x.sender.sent + x.video.more ≡ 1048576
   pub played : x.receiver.played ≤ x.sender.sent

@@ -36,6 +36,10 @@ names_of m =
       pace = m.sender.now.pace;
     }
 
+-- both ends stand for what they stood for
+abbrev pub LeavesEnds : World → World → Type 0
+LeavesEnds x y = (s : CallState) → EndsStand x.terms x.sender.now x.receiver.now s → EndsStand y.terms y.sender.now y.receiver.now s
+
 -- ---- a turn
 
 -- What a turn does from one world to another, by what it answers. `Begins` says at which states and
@@ -50,8 +54,7 @@ pub record IsTurn (x y : World) (result : Result Bool Status) (mid new : Outside
   pub whole : (old : Outside) (s : CallState) (inputs : Role → List ℕ) → Begins old s inputs
       → OnEnd result (new.left (source_of x.terms) ≡ Some [])
   -- at the end, and where it refuses, both ends stand for what they had done before it
-  pub keeps : (old : Outside) (s : CallState) (inputs : Role → List ℕ) → Begins old s inputs
-      → OnSettled result (EndsStand y.terms y.sender.now.state y.receiver.now s)
+  pub keeps : OnSettled result (LeavesEnds x y)
   pub lasts : names_of y ≡ names_of x
   pub falls : Falls result more (more_of (parts_of y))
   pub ready : OnGoing result (PartsReady (parts_of y) new.attached)

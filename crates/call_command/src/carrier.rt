@@ -41,4 +41,6 @@ impl Carrier {
             frame: vec![in alloc; 0; terms.params.format.size() as usize]?,
         })
     }
+    /// After the last event.
+    pub fn finish(self) {}
 }

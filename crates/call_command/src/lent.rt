@@ -6,7 +6,6 @@ ghost use Rattle.desk_program.specs.Ends.{AfterAll, HasCause, HasEnded, IsLater,
 ghost use Rattle.desk_program.specs.Ends.{KeepsRoles, Tells, silent};
 ghost use Rattle.desk_program.specs.Run.{Run};
 ghost use Rattle.desk_program.specs.UnderWay.{IsUnderWay};
-ghost use Rattle.sender_end.specs.Stands.{IsReady};
 ghost use Rattle.sender_end.specs.Stands as sender_end;
 ghost use Rattle.receiver_end.specs.State as receiver_end;
 ghost use Rattle.one_way.specs.Both.{steady};
@@ -14,10 +13,9 @@ ghost use Rattle.call_command.specs.Call.{call_step, may_read, most_turns};
 ghost use Rattle.call_command.specs.Converse.{IsFirst, talk_end, talk_of};
 ghost use Rattle.call_command.specs.Standing.{CallOpens, EndsStand, source_of};
 
-use crate::mind::{run_laws, turn_laws};
 use crate::{Terms, carrier::Carrier, laws, world::World};
 use call_report::Status;
-use desk_program::{Turns, take_turns};
+use desk_program::{Turns, laws as desk_program_laws, take_turns};
 use h263_outside::Desk;
 use h263_types::{FixedPace, Params};
 use one_way::laws as one_way_laws;
@@ -28,16 +26,12 @@ use y4m::Y4mReader;
 
 impl<'a> Turns for World<'a> {
     ghost use Rattle.std.specs.Prelude.{Some};
-    ghost use Rattle.call_command.specs.Call.{CallState, may_read, most_turns, talk_step};
-    ghost use Rattle.call_command.specs.Converse.{WorldKeeps, WorldReady, WorldStands, no_begin};
-    ghost use Rattle.call_command.specs.Standing.{CallOpens, more_of, parts_of, source_of};
-    ghost use Rattle.call_command.specs.Turning.{Names, names_of};
-
-    type Setup = Terms;
+    ghost use Rattle.call_command.specs.Call.{CallState, may_read, talk_step};
+    ghost use Rattle.call_command.specs.Converse.{WorldReady, WorldStands, WorldStays};
+    ghost use Rattle.call_command.specs.Standing.{more_of, parts_of, source_of};
+    ghost use Rattle.call_command.specs.Turning.{LeavesEnds};
 
     ghost State = { CallState };
-
-    ghost begin = { no_begin };
 
     ghost step = { talk_step };
 
@@ -45,28 +39,15 @@ impl<'a> Turns for World<'a> {
 
     ghost stands = { WorldStands };
 
-    ghost keeps = { WorldKeeps };
-
-    ghost Loan = { Names };
-
-    ghost loan = { names_of };
-
-    ghost most = { λ t. most_turns t.plain };
-
     ghost more = { λ m. more_of (parts_of m) };
-
-    ghost opens = { CallOpens };
 
     ghost ready = { WorldReady };
 
-    ghost source = { λ t. Some (source_of t) };
-
     ghost reading = { λ m. Some (source_of m.terms) };
 
-    // It is made of what is lent, and never started.
-    fn start<D: Desk>(_: Global, _: &Terms, _: &mut D) -> Result<World<'a>, Status> {
-        Err(Status::OutOfMemory)
-    }
+    ghost stays = { WorldStays };
+
+    ghost leaves = { LeavesEnds };
 
     fn turn<D: Desk>(&mut self, desk: &mut D) -> Result<bool, Status> {
         if self.terms.plain {
@@ -75,8 +56,6 @@ impl<'a> Turns for World<'a> {
             self.line_turn(desk)
         }
     }
-
-    fn finish(self) {}
 }
 
 /// Takes the events of the trace, or of the plain trace, one after the other, writes the pictures
@@ -99,12 +78,11 @@ pub fn converse<D: Desk>(
         (D.outside desk.old).attached }
     requires format { video.old.format ≡ params.now.format }
     requires frames { video.old.more ≡ 1048576 }
-    requires ready { IsReady sender.old.state }
-    requires sender_params { sender.old.state.params ≡ params.now }
+    requires sender_params { sender.old.params ≡ params.now }
     requires receiver_params { receiver.old.params ≡ params.now }
     requires quant { sender.old.pace.quant ≡ params.now.quant }
-    requires sent { sender.old.state.sent ≡ 0 }
-    requires sends { sender_end.Stands (steady params.now) sender.old.state [] }
+    requires sent { sender.old.sent ≡ 0 }
+    requires sends { sender_end.Stands (steady params.now) sender.old [] }
     requires played { receiver.old.played ≡ 0 }
     ensures gives { (before : List ReceiverEntry) (inputs : Role → List ℕ)
         → receiver_end.Stands receiver.old before → Tells (D.outside desk.old) inputs
@@ -119,7 +97,7 @@ pub fn converse<D: Desk>(
     ensures stands { (before : List ReceiverEntry) (inputs : Role → List ℕ)
         → receiver_end.Stands receiver.old before → Tells (D.outside desk.old) inputs
         → AfterAll result (EndsStand (record { params = params.now; plain = plain })
-        sender.new.state receiver.new
+        sender.new receiver.new
         (talk_end (record { params = params.now; plain = plain }) before video.old.at inputs)) }
     ensures whole_input { (before : List ReceiverEntry) (inputs : Role → List ℕ)
         → receiver_end.Stands receiver.old before → Tells (D.outside desk.old) inputs
@@ -130,8 +108,8 @@ pub fn converse<D: Desk>(
     ensures cause { HasCause result (D.outside desk.old).faults (D.outside desk.new).faults }
     ensures rest { KeepsRoles (D.outside desk.old) (D.outside desk.new) }
 {
-    turn_laws();
-    run_laws();
+    desk_program_laws::of_turns();
+    desk_program_laws::of_runs::<World>();
     laws::talks_agree();
     one_way_laws::of_the_way();
     let terms = Terms {
@@ -147,7 +125,16 @@ pub fn converse<D: Desk>(
                 receiver,
                 carrier,
             };
-            take_turns(desk, &mut world)
+            let status = take_turns(desk, &mut world);
+            let World {
+                terms: _,
+                video: _,
+                sender: _,
+                receiver: _,
+                carrier,
+            } = world;
+            carrier.finish();
+            status
         }
         Err(_) => Status::OutOfMemory,
     }

@@ -17,7 +17,6 @@ mod call;
 mod carrier;
 mod lent;
 pub mod laws;
-mod mind;
 mod show;
 mod terms;
 mod world;

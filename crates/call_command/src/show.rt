@@ -9,20 +9,18 @@ ghost use Rattle.call_model.specs.IdealCall.{Event, Play};
 ghost use Rattle.call_model.specs.Receiving.{ReceiverEntry};
 ghost use Rattle.call_encoding.specs.Frames.{Frame};
 ghost use Rattle.call_rings.specs.Messages.{said_of};
-ghost use Rattle.sender_end.specs.declared.state.State.{State};
 ghost use Rattle.receiver_end.specs.State as receiver_end;
 ghost use Rattle.desk_program.specs.Ends.{Gains, GainsFronts};
 ghost use Rattle.desk_program.specs.Texts.{on};
-ghost use Rattle.one_way.specs.Both.{both_after, steady};
+ghost use Rattle.one_way.specs.Both.{State, both_after, steady};
 ghost use Rattle.one_way.specs.Counts.{counts_of, total_of};
 ghost use Rattle.one_way.specs.Seen.{in_both};
 ghost use Rattle.one_way.specs.Way.{HoldsNetwork, MayHappenNow};
 ghost use Rattle.call_command.specs.Call.{play_texts};
 ghost use Rattle.call_command.specs.Standing.{row_texts};
 
-use crate::mind::turn_laws;
 use call_report::{Status, picture_line};
-use desk_program::{put_line, put_picture};
+use desk_program::{laws as desk_program_laws, put_line, put_picture};
 use h263_outside::{Desk, laws as outside_laws};
 use h263_planes::PictureRef;
 use h263_types::{FixedPace, Mark};
@@ -52,7 +50,7 @@ fn show<D: Desk>(
     ensures rest { OnlyWrites (D.outside desk.old) (D.outside desk.new) }
 {
     outside_laws::calls();
-    turn_laws();
+    desk_program_laws::of_turns();
     put_picture(desk, mark, picture)?;
     let line = picture_line(number, Some(mark), Some(reference), None);
     put_line(desk, &line)
@@ -116,10 +114,10 @@ pub fn tell_counts<D: Desk>(
 ) -> Result<(), Status>
     requires { (D.outside desk.old).attached Report ≡ true }
     ensures ok { OnOk result (Gains (on Report (counts_of way.now.tally
-        receiver.now.played sender.now.state.sent))
+        receiver.now.played sender.now.sent))
         (D.outside desk.old).written (D.outside desk.new).written) }
     ensures err { OnErr result (GainsFronts (on Report (counts_of way.now.tally
-        receiver.now.played sender.now.state.sent))
+        receiver.now.played sender.now.sent))
         (D.outside desk.old).written (D.outside desk.new).written) }
     ensures kind { IfErr result (λ status. status ≡ Status.WriteFault) }
     ensures cause { OnErr result (Rose (D.outside desk.old).faults.write

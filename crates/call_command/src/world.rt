@@ -9,10 +9,10 @@ ghost use Rattle.receiver_end.specs.State as receiver_end;
 ghost use Rattle.one_way.specs.Refused.{refusal_after};
 ghost use Rattle.call_command.specs.Refused.{fault_at};
 
-use crate::mind::turn_laws;
 use crate::show::{play_next, tell_counts};
 use crate::{Terms, carrier::Carrier, laws};
 use call_report::Status;
+use desk_program::laws as desk_program_laws;
 use h263_outside::{Desk, laws as outside_laws};
 use h263_planes::PictureRef;
 use h263_types::FixedPace;
@@ -25,7 +25,6 @@ use sender_end::Sender;
 use y4m::Y4mReader;
 
 /// The machine of a call whose ends and video are lent.
-#[derive(Drop)]
 pub struct World<'a> {
     pub terms: Terms,
     pub video: &'a mut Y4mReader,
@@ -58,7 +57,7 @@ impl<'a> World<'a> {
         requires plain { self.old.terms.plain ≡ true }
         ensures { TakesTurn self.old self.new result (D.outside desk.old) (D.outside desk.new) }
     {
-        turn_laws();
+        desk_program_laws::of_turns();
         outside_laws::calls();
         laws::of_the_video();
         one_way_laws::of_the_way();
@@ -83,7 +82,7 @@ impl<'a> World<'a> {
         requires recorded { self.old.terms.plain ≡ false }
         ensures { TakesTurn self.old self.new result (D.outside desk.old) (D.outside desk.new) }
     {
-        turn_laws();
+        desk_program_laws::of_turns();
         outside_laws::calls();
         one_way_laws::of_the_way();
         let Some((line, event)) = self.carrier.trace.next(desk)? else {
@@ -106,7 +105,7 @@ impl<'a> World<'a> {
         ensures { TakesLine self.old self.new line event result
             (D.outside desk.old) (D.outside desk.new) }
     {
-        turn_laws();
+        desk_program_laws::of_turns();
         outside_laws::calls();
         one_way_laws::later_frames();
         one_way_laws::of_the_way();
@@ -140,10 +139,10 @@ impl<'a> World<'a> {
     // Why the event of a line is not done, if it isn't.
     fn check(&self, event: Event) -> Result<(), Refusal>
         requires params { IsParams self.now.terms.params }
-        requires few { self.now.sender.now.state.sent ≤ 1048576 }
-        requires played { self.now.receiver.now.played ≤ self.now.sender.now.state.sent }
+        requires few { self.now.sender.now.sent ≤ 1048576 }
+        requires played { self.now.receiver.now.played ≤ self.now.sender.now.sent }
         ensures ahead { IsAhead result event
-            self.now.receiver.now.played self.now.sender.now.state.sent }
+            self.now.receiver.now.played self.now.sender.now.sent }
         ensures refusal { (before : List ReceiverEntry) (frames : List Frame) (past : List Happens)
             → (receiver_end.run_of self.now.terms.params before).played ≡ 0
             → HasDone (parts_of self.now) before frames past
@@ -171,7 +170,7 @@ impl<'a> World<'a> {
         ensures { TakesFrame self.old self.new line result
             (D.outside desk.old) (D.outside desk.new) }
     {
-        turn_laws();
+        desk_program_laws::of_turns();
         outside_laws::calls();
         laws::of_the_video();
         one_way_laws::later_frames();

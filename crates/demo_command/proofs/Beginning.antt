@@ -15,10 +15,10 @@ use Rattle.demo_command.specs.Machine.{AreInPlace, LineReady}
 use Rattle.demo_command.proofs.Lines.{made_in_place, made_lines_few}
 
 pub ready_first : (m : Demo) → IsParams m.terms.params → IsNewNetwork m.terms.params (clocks.period_of m.terms.params.clock) m.network
-    → length m.frame.items ≡ size_of_picture m.terms.params.format → m.both.sender.state.params ≡ m.terms.params → sender_end.IsReady m.both.sender.state
-    → sender_end.Stands (steady m.terms.params) m.both.sender.state [] → m.both.sender.pace.quant ≡ m.terms.params.quant
-    → m.both.sender.state.sent ≡ 0 → m.both.receiver.played ≡ 0 → LineReady m
-ready_first m in_range new frame sender_params ready sends quant sent played =
+    → length m.frame.items ≡ size_of_picture m.terms.params.format → m.both.sender.params ≡ m.terms.params
+    → sender_end.Stands (steady m.terms.params) m.both.sender [] → m.both.sender.pace.quant ≡ m.terms.params.quant
+    → m.both.sender.sent ≡ 0 → m.both.receiver.played ≡ 0 → LineReady m
+ready_first m in_range new frame sender_params sends quant sent played =
     let way = new.way_is in
     let params = sym sender_params in
     record {
@@ -26,8 +26,8 @@ ready_first m in_range new frame sender_params ready sends quant sent played =
       frame = frame;
       sender_params = sender_params;
       can = record {
-        ready = ready;
-        standing = subst (λ (p : Params). IsStanding (steady p) m.both.sender.state) params (record { entries = []; stands = sends });
+        in_range = subst IsParams params in_range;
+        standing = subst (λ (p : Params). IsStanding (steady p) m.both.sender) params (record { entries = []; stands = sends });
         quant_is = quant ∙ ap (λ (p : Params). p.quant) params;
         room = way.room ∙ ap (λ (p : Params). 1200 * mbs_of p.format) params;
         most = way.most ∙ ap (λ (p : Params). mbs_of p.format) params;

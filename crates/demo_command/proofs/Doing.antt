@@ -51,11 +51,11 @@ may_now t near_laws paced past e near = ((near_laws.near (steady t.params) (made
 
 -- the line of the counts
 pub counts_are : (m : Demo) → WayLaws m.terms.params → (past : List Event) → HasDone m past → ShowTheSame m.terms.params (made_video m.terms) past
-    → counts_of m.network.way.tally m.both.receiver.played m.both.sender.state.sent ≡ call_text (in_call (made_call m.terms past))
+    → counts_of m.network.way.tally m.both.receiver.played m.both.sender.sent ≡ call_text (in_call (made_call m.terms past))
 counts_are m laws past h same =
     let way = h.way_holds in
-    let played = laws.played m.both.sender.state m.both.receiver [] (made_video m.terms) past way.joined in
-    let sent = laws.sent m.both.sender.state m.both.receiver [] (made_video m.terms) past way.joined in
+    let played = laws.played m.both.sender m.both.receiver [] (made_video m.terms) past way.joined in
+    let sent = laws.sent m.both.sender m.both.receiver [] (made_video m.terms) past way.joined in
     (λ i. counts_text (played i) (sent i) (way.tally.exact i) (way.tally.patched i) (way.tally.held i)) ∙ ap call_text same
 
 -- ---- all packets of a picture

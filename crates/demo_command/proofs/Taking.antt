@@ -12,7 +12,7 @@ use Rattle.desk_program.specs.Run.{End, Step}
 use Rattle.desk_program.specs.Run.Step.{Ends}
 use Rattle.desk_program.specs.Ends.{Tells, Gains, GainsFronts, Ended, GivesUp, TurnGives, Went, step_texts}
 use Rattle.desk_program.specs.Laws.{TurnLaws}
-use Rattle.desk_program.specs.Texts.{on}
+use Rattle.desk_program.specs.Texts.{no_bytes, on}
 use Rattle.std.specs.Result.{IsErrAnd}
 use Rattle.make_input.specs.declared.trace.TraceMaker.{TraceMaker}
 use Rattle.make_input.specs.Left.{lines_left}
@@ -91,20 +91,13 @@ module _ (m : Demo) (s : DemoState) (inputs : Role → List ℕ) (k : DemoStands
         subst (λ (step : Step DemoState). GainsFronts (step_texts step) old.written new.written) (sym end_is)
         (subst (λ (l : List ℕ). GainsFronts (on Report l) old.written new.written) text_is fronts)
 
-    pub end_told : Tells old inputs → new.left ≡ old.left → Gains (on Report text) old.written new.written → Ended (demo_step s inputs) Fine inputs old new
-    end_told tells still gains = record {
+    pub end_told : (laws : TurnLaws) → Tells old inputs → new.left ≡ old.left → Gains (on Report text) old.written new.written → Ended (demo_step s inputs) Fine inputs old new
+    end_told laws tells still gains = record {
       last = all_done s;
       is = end_is;
-      known = refl;
-      left = λ r input n said. ap (λ (left : Role → Option (List ℕ)). left r) still ∙ tells r input ∙ ap (λ (i : ℕ). Some (drop i (inputs r))) (none n said);
-      written = subst (λ (l : List ℕ). Gains (on Report l) old.written new.written) text_is gains;
+      by = laws.ends Fine no_bytes (on Report (call_text (in_call (made_call s.terms s.past)))) inputs old new (laws.no_byte old new inputs still tells)
+          (subst (λ (l : List ℕ). Gains (on Report l) old.written new.written) text_is gains);
     }
-      where
-        same_number : (n : ℕ) → Some 0 ≡ Some n → 0 ≡ n
-        same_number n said = cc said
-
-        none : (n : ℕ) → Some 0 ≡ Some n → 0 ≡ 0 + n
-        none n said = omega (arith, same_number n said)
 
   -- a line
 
@@ -134,7 +127,7 @@ module _ (m : Demo) (s : DemoState) (inputs : Role → List ℕ) (k : DemoStands
         done = subst (λ (l : List Event). HasDone after l) past_is done;
       }
 
-      pub went : TurnLaws DemoState → (old : Outside) → Tells old inputs → Went (demo_step s inputs) (DemoStands after) (λ _. true) true inputs old old
+      pub went : TurnLaws → (old : Outside) → Tells old inputs → Went (demo_step s inputs) (DemoStands after) (λ _. true) true inputs old old
       went laws old tells = record {
         next = next;
         turn = silent_turn;

@@ -39,7 +39,7 @@ IsNearNow t past = AllMayHappen (coding t.params) (rules_of t.params) (steady t.
 
 -- both ends and the network have done these events
 abbrev pub HasDone : Demo → List Event → Type 0
-HasDone m past = HoldsNetwork m.terms.params m.network m.both.sender.state m.both.receiver [] (made_video m.terms) past
+HasDone m past = HoldsNetwork m.terms.params m.network m.both.sender m.both.receiver [] (made_video m.terms) past
 
 -- this many pictures were sent after the line
 abbrev pub sent_after : Line → ℕ → ℕ
@@ -50,10 +50,10 @@ sent_after _ sent = sent
 pub record LineReady (m : Demo) : Type 0 where
   pub params : IsParams m.terms.params
   pub frame : length m.frame.items ≡ size_of_picture m.terms.params.format
-  pub sender_params : m.both.sender.state.params ≡ m.terms.params
-  pub can : CanSend m.network.way m.both.sender.state m.both.sender.pace.quant
+  pub sender_params : m.both.sender.params ≡ m.terms.params
+  pub can : CanSend m.network.way m.both.sender
   pub period : period_of m.network.way.packets ≡ clocks.period_of m.terms.params.clock
-  pub few : m.both.sender.state.sent ≤ 10000
+  pub few : m.both.sender.sent ≤ 10000
   pub counted : total_of m.network.way.tally ≡ m.both.receiver.played
 
 -- ---- the machine
@@ -73,7 +73,7 @@ pub record DemoOpens (t : DemoTerms) (attached : Role → Bool) : Type 0 where
 pub record DemoReady (m : Demo) (attached : Role → Bool) : Type 0 where
   pub opens : DemoOpens m.terms attached
   pub ends : LineReady m
-  pub in_place : AreInPlace 10000 m.both.sender.state.sent (lines_left m.lines)
+  pub in_place : AreInPlace 10000 m.both.sender.sent (lines_left m.lines)
   -- a line makes 400 messages at most, and plays one picture
   pub said : said_of m.network.messages + 400 * length (lines_left m.lines) < 2 ^ 64
   pub plays : m.both.receiver.played + length (lines_left m.lines) ≤ 2 ^ 20

@@ -1,9 +1,8 @@
 //! The machine of a call on made input.
-use crate::mind::turn_laws;
 use crate::{DemoTerms, laws};
 use call_command::{Both, tell_counts};
 use call_report::Status;
-use desk_program::{Acts, Turns, act_by_turns};
+use desk_program::{Begins, Turns, laws as desk_program_laws};
 use h263_outside::Desk;
 use make_input::TraceMaker;
 use one_way::{Network, laws as one_way_laws};
@@ -22,14 +21,10 @@ pub struct Demo {
 impl Turns for Demo {
     ghost use Rattle.std.specs.Prelude.{None, length, true};
     ghost use Rattle.make_input.specs.Left.{lines_left};
-    ghost use Rattle.demo_command.specs.Demo.{DemoState, demo_begin, demo_step, most_turns};
-    ghost use Rattle.demo_command.specs.Machine.{DemoOpens, DemoReady, DemoStands};
-
-    type Setup = DemoTerms;
+    ghost use Rattle.demo_command.specs.Demo.{DemoState, demo_step};
+    ghost use Rattle.demo_command.specs.Machine.{DemoReady, DemoStands};
 
     ghost State = { DemoState };
-
-    ghost begin = { demo_begin };
 
     ghost step = { demo_step };
 
@@ -37,42 +32,14 @@ impl Turns for Demo {
 
     ghost stands = { DemoStands };
 
-    ghost keeps = { λ _ _. Unit {0} };
-
-    ghost Loan = { Unit {0} };
-
-    ghost loan = { λ _. tt };
-
-    ghost most = { most_turns };
-
     ghost more = { λ m. length (lines_left m.lines) };
-
-    ghost opens = { DemoOpens };
 
     ghost ready = { DemoReady };
 
-    ghost source = { λ _. None };
-
     ghost reading = { λ _. None };
 
-    fn start<D: Desk>(alloc: Global, setup: &DemoTerms, _: &mut D) -> Result<Demo, Status> {
-        turn_laws();
-        one_way_laws::of_the_way();
-        let params = setup.params;
-        let network = Network::start(alloc, &params, params.clock.period())?;
-        let frame = vec![in alloc; 0; params.format.size() as usize]?;
-        let both = Both::start(alloc, &params)?;
-        Ok(Demo {
-            terms: *setup,
-            lines: TraceMaker::new(setup.seed, setup.frames),
-            both,
-            network,
-            frame,
-        })
-    }
-
     fn turn<D: Desk>(&mut self, desk: &mut D) -> Result<bool, Status> {
-        turn_laws();
+        desk_program_laws::of_turns();
         one_way_laws::of_the_way();
         one_way_laws::ends_agree();
         laws::of_made_input();
@@ -88,26 +55,17 @@ impl Turns for Demo {
         self.take_line(event);
         Ok(true)
     }
-
-    fn finish(self) {
-        let Demo {
-            terms: _,
-            lines: _,
-            both,
-            network: _,
-            frame: _,
-        } = self;
-        both.finish();
-    }
 }
 
-impl Acts for Demo {
+impl Begins for Demo {
     ghost use Rattle.std.specs.Prelude.{None};
     ghost use Rattle.desk_program.specs.Run.{run_from};
     ghost use Rattle.demo_command.specs.Demo.{demo_begin, demo_step, most_turns};
     ghost use Rattle.demo_command.specs.Machine.{DemoOpens};
 
     type Setup = DemoTerms;
+
+    type Machine = Demo;
 
     ghost run = { λ setup inputs. run_from (demo_begin setup inputs) demo_step (most_turns setup)
         inputs };
@@ -116,7 +74,31 @@ impl Acts for Demo {
 
     ghost source = { λ _. None };
 
-    fn act<D: Desk>(alloc: Global, setup: &DemoTerms, desk: &mut D) -> Status {
-        act_by_turns::<D, Demo>(alloc, setup, desk)
+    fn start<D: Desk>(alloc: Global, setup: &DemoTerms, _: &mut D) -> Result<Demo, Status> {
+        desk_program_laws::of_turns();
+        desk_program_laws::of_runs::<Demo>();
+        one_way_laws::of_the_way();
+        let params = setup.params;
+        let network = Network::start(alloc, &params, params.clock.period())?;
+        let frame = vec![in alloc; 0; params.format.size() as usize]?;
+        let both = Both::start(alloc, &params)?;
+        Ok(Demo {
+            terms: *setup,
+            lines: TraceMaker::new(setup.seed, setup.frames),
+            both,
+            network,
+            frame,
+        })
+    }
+
+    fn finish(machine: Demo) {
+        let Demo {
+            terms: _,
+            lines: _,
+            both,
+            network: _,
+            frame: _,
+        } = machine;
+        both.finish();
     }
 }

@@ -32,11 +32,11 @@ impl Demo {
     // `S`: the next frame is made and sent.
     fn send_made(&mut self)
         requires ready { LineReady self.old }
-        requires left { self.old.both.sender.state.sent < 10000 }
+        requires left { self.old.both.sender.sent < 10000 }
         ensures ready { LineReady self.new }
         ensures terms { self.new.terms ≡ self.old.terms }
         ensures lines { self.new.lines ≡ self.old.lines }
-        ensures sent { self.new.both.sender.state.sent ≡ self.old.both.sender.state.sent + 1 }
+        ensures sent { self.new.both.sender.sent ≡ self.old.both.sender.sent + 1 }
         ensures messages { self.new.network.messages ≡ self.old.network.messages }
         ensures played { self.new.both.receiver.played ≡ self.old.both.receiver.played }
         ensures done { (past : List Happens) → HasDone self.old past
@@ -58,14 +58,14 @@ impl Demo {
     /// Does what a line says. No line of a made trace is refused.
     pub fn take_line(&mut self, event: Event)
         requires ready { LineReady self.old }
-        requires in_place { AreInPlace 10000 self.old.both.sender.state.sent (event ∷ []) }
+        requires in_place { AreInPlace 10000 self.old.both.sender.sent (event ∷ []) }
         requires said { said_of self.old.network.messages + 400 < 2 ^ 64 }
         requires few { self.old.both.receiver.played < 2 ^ 20 }
         ensures ready { LineReady self.new }
         ensures terms { self.new.terms ≡ self.old.terms }
         ensures lines { self.new.lines ≡ self.old.lines }
-        ensures sent { self.new.both.sender.state.sent
-            ≡ sent_after event self.old.both.sender.state.sent }
+        ensures sent { self.new.both.sender.sent
+            ≡ sent_after event self.old.both.sender.sent }
         ensures said { said_of self.new.network.messages
             ≤ said_of self.old.network.messages + 400 }
         ensures played { self.new.both.receiver.played ≤ self.old.both.receiver.played + 1 }

@@ -16,7 +16,7 @@ use Rattle.call_decoding.specs.Rules.{rules_of}
 use Rattle.call_encoding.specs.Frames.{Frame}
 use Rattle.receiver_end.specs.State as receiver_end
 use Rattle.receiver_end.specs.declared.kept.Kept.{Kept}
-use Rattle.sender_end.specs.declared.state.State.{State}
+use Rattle.one_way.specs.Both.{State}
 use Rattle.one_way.specs.declared.network.Network.{Network}
 use Rattle.one_way.specs.Both.{both_after, steady}
 use Rattle.one_way.specs.Laws.{NearLaws}

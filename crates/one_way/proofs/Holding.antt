@@ -24,7 +24,7 @@ use Rattle.receiver_end.specs.Answers.{mark_of}
 use Rattle.receiver_end.specs.Decoding.{decoding}
 use Rattle.receiver_end.specs.State as receiver_end
 use Rattle.receiver_end.specs.declared.kept.Kept.{Kept}
-use Rattle.sender_end.specs.declared.state.State.{State}
+use Rattle.one_way.specs.Both.{State}
 use Rattle.one_way.specs.declared.references.References.{References}
 use Rattle.one_way.specs.declared.tally.Tally.{Tally}
 use Rattle.one_way.specs.declared.way.Way.{Way}
@@ -96,7 +96,7 @@ module _ (p : Params) (way : Way) (sender : State) (receiver : Kept) (before : L
   pub holds_send : EachEndRuns (coding p) (rules_of p) → (new : State) (f : Frame) (packets : PacketRing) (references : References)
       → MayHappenNow p before frames past Send → slice_get frames (length (both past).sender.coded) ≡ Some f
       → AreJoined p (steady p) new receiver frames before (Send ∷ past)
-      → ((pictures : ring.Pictures) → ring.HoldsPackets way.packets pictures → ring.HoldsPackets packets (pictures ++ packets_of new.cutter ∷ []))
+      → ((pictures : ring.Pictures) → ring.HoldsPackets way.packets pictures → ring.HoldsPackets packets (pictures ++ new.packets ∷ []))
       → ((list : List (Option ℕ)) → AreNoted way.references list → length (both past).sender.coded ≡ length list → AreNoted references (list ++ (next_of p (steady p) f (both past)).reference ∷ []))
       → new.sent ≡ sender.sent + 1
       → HoldsWay p (record way { packets = packets; references = references }) new receiver before frames (Send ∷ past)
@@ -106,7 +106,7 @@ module _ (p : Params) (way : Way) (sender : State) (receiver : Kept) (before : L
       let sent = sent_is p runs (steady p) sender receiver frames before past h.joined in
       let coded_is : (both (Send ∷ past)).sender.coded ≡ coded ++ next ∷ [] = coded_sent (coding p) (rules_of p) (steady p) frames (receiver_end.run_of p before) past f at in
       let number : new.sent - 1 ≡ length coded = omega (arith, one_more, sent) in
-      let cut : packets_of new.cutter ≡ call.packets_of (encoding p) (rules_of p) (coded ++ next ∷ []) (length coded) =
+      let cut : new.packets ≡ call.packets_of (encoding p) (rules_of p) (coded ++ next ∷ []) (length coded) =
       packets_are p runs (steady p) new receiver frames before (Send ∷ past) joined
       ∙ (λ i. call.packets_of (encoding p) (rules_of p) (coded_is i) (number i))
       in
@@ -120,6 +120,6 @@ module _ (p : Params) (way : Way) (sender : State) (receiver : Kept) (before : L
         near = (near, h.near);
         tally = h.tally;
         packets = subst (λ (l : List (Coded Style Mb Picture)). HasPackets p packets l) (sym coded_is)
-            (has_one_more p way.packets packets coded next (packets_of new.cutter) h.packets keeps cut);
+            (has_one_more p way.packets packets coded next (new.packets) h.packets keeps cut);
         references = subst (λ (l : List (Coded Style Mb Picture)). HasReferences references l) (sym coded_is) noted;
       }

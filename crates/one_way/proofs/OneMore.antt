@@ -18,8 +18,8 @@ use Rattle.h263_planes.specs.Picture.{Picture}
 use Rattle.call_encoding.specs.Encoding.{encoding}
 use Rattle.call_encoding.specs.Frames.{Frame}
 use Rattle.coded_call.specs.Coding.{coding}
-use Rattle.sender_end.specs.declared.state.Coded.{Coded}
-use Rattle.sender_end.specs.declared.state.State.{State}
+use Rattle.sender_end.specs.declared.answers.Coded.{Coded}
+use Rattle.one_way.specs.Both.{State}
 use Rattle.sender_end.specs.Stands as sender_end
 use Rattle.receiver_end.specs.declared.kept.Kept.{Kept}
 use Rattle.receiver_end.specs.declared.answers.Heard.{Heard}
@@ -69,7 +69,7 @@ module _ (p : Params) (runs : EachEndRuns (coding p) (rules_of p)) (pace : List 
       ∙ ap (λ (run : ReceiverRun Style Mb Picture). run.played) (sym receiver_is)
 
   -- the sender has the packets of its last picture
-  pub packets_are : packets_of sender.cutter ≡ call.packets_of (encoding p) (rules_of p) both.sender.coded (sender.sent - 1)
+  pub packets_are : sender.packets ≡ call.packets_of (encoding p) (rules_of p) both.sender.coded (sender.sent - 1)
   packets_are =
       sym j.sends.seen.packets
       ∙ j.sends.stands.packets
@@ -77,11 +77,11 @@ module _ (p : Params) (runs : EachEndRuns (coding p) (rules_of p)) (pace : List 
       ∙ ap (λ (run : SenderRun Style Mb Picture). call.packets_of (encoding p) (rules_of p) run.coded (length run.coded - 1)) (sym sender_is)
       ∙ ap (λ (k : ℕ). call.packets_of (encoding p) (rules_of p) both.sender.coded (k - 1)) (sym sent_is)
 
-  pub last_packet : (place : ℕ) (bytes : List ℕ) → place < length (packets_of sender.cutter) → bytes ≡ slice_index_or (packets_of sender.cutter) place []
+  pub last_packet : (place : ℕ) (bytes : List ℕ) → place < length (sender.packets) → bytes ≡ slice_index_or (sender.packets) place []
       → slice_get (call.packets_of (encoding p) (rules_of p) both.sender.coded (sender.sent - 1)) place ≡ Some bytes
   last_packet place bytes below is =
       ap (λ (l : List (List ℕ)). slice_get l place) (sym packets_are)
-      ∙ slice_get-get_or (packets_of sender.cutter) place [] below
+      ∙ slice_get-get_or (sender.packets) place [] below
       ∙ ap (λ (b : List ℕ). Some b) (sym is)
 
   -- ---- a picture is sent

@@ -14,10 +14,15 @@ use Rattle.call_decoding.specs.Rules.{rules_of}
 use Rattle.call_decoding.specs.Styles.{Style}
 use Rattle.call_encoding.specs.Frames.{Frame}
 use Rattle.coded_call.specs.Coding.{coding}
-use Rattle.sender_end.specs.declared.state.State.{State}
+use Rattle.h263_types.specs.declared.pace.FixedPace.{FixedPace}
+use Rattle.sender_end.specs.State.{SenderState}
 use Rattle.sender_end.specs.Stands as sender_end
 use Rattle.receiver_end.specs.declared.kept.Kept.{Kept}
 use Rattle.receiver_end.specs.State as receiver_end
+
+-- the sender of a call, as its contracts see it: with one quantiser for all pictures
+abbrev pub State : Type 0
+State = SenderState FixedPace
 
 -- a captured picture whose header carries these messages, and one that carries none
 abbrev pub carrying : Picture → List Message → Frame

@@ -1,7 +1,7 @@
 -- What the laws of the crates below say of a call's two ends.
 use Rattle.std.specs.Prelude.{◌≡◌, ℕ, ◌*◌, ◌≤◌, ◌<◌, List, [], ◌∷◌, ◌++◌, length, slice_get, Some, None}
 use Rattle.one_way.specs.declared.network.Network.{Network}
-use Rattle.one_way.specs.Both.{AreJoined, both_after, next_of, steady}
+use Rattle.one_way.specs.Both.{AreJoined, State, both_after, next_of, steady}
 use Rattle.one_way.specs.Refused.{refusal_after}
 use Rattle.one_way.specs.Trace.{delivered}
 use Rattle.one_way.specs.Way.{HoldsNetwork, IsNewNetwork, MayHappenNow}
@@ -10,7 +10,6 @@ use Rattle.h263_types.specs.Sizes.{mbs_of}
 use Rattle.call_model.specs.Sending.{SenderEntry, packets_of}
 use Rattle.call_rings.specs.Parts.{size_of}
 use Rattle.sender_end.specs.Stands as sender_end
-use Rattle.sender_end.specs.declared.state.State.{State}
 use Rattle.receiver_end.specs.declared.kept.Kept.{Kept}
 use Rattle.receiver_end.specs.State as receiver_end
 use Rattle.h263_planes.specs.Picture.{Picture}

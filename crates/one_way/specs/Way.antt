@@ -11,13 +11,12 @@ use Rattle.call_model.specs.Receiving.{ReceiverEntry}
 use Rattle.call_decoding.specs.Rules.{rules_of}
 use Rattle.call_encoding.specs.Frames.{Frame}
 use Rattle.coded_call.specs.Coding.{coding}
-use Rattle.sender_end.specs.declared.state.State.{State}
-use Rattle.sender_end.specs.Stands.{IsReady}
+use Rattle.h263_types.specs.Params.{IsParams}
 use Rattle.receiver_end.specs.declared.kept.Kept.{Kept}
 use Rattle.receiver_end.specs.State as receiver_end
 use Rattle.one_way.specs.declared.network.Network.{Network}
 use Rattle.one_way.specs.declared.way.Way.{Way}
-use Rattle.one_way.specs.Both.{AreJoined, IsStanding, both_after, steady}
+use Rattle.one_way.specs.Both.{AreJoined, IsStanding, State, both_after, steady}
 use Rattle.one_way.specs.Counts.{AreCounted, total_of}
 use Rattle.one_way.specs.Network.{HasMessages, HasPackets, HasReferences, IsKeeping}
 
@@ -43,10 +42,10 @@ pub record HoldsNetwork (p : Params) (network : Network) (sender : State) (recei
   pub messages_are : HasMessages network.messages (both_after p (steady p) frames before past).said
 
 -- the sender may code a picture with the quantiser of its parameters, and the way has room for it
-pub record CanSend (way : Way) (sender : State) (quant : ℕ) : Type 0 where
-  pub ready : IsReady sender
+pub record CanSend (way : Way) (sender : State) : Type 0 where
+  pub in_range : IsParams sender.params
   pub standing : IsStanding (steady sender.params) sender
-  pub quant_is : quant ≡ sender.params.quant
+  pub quant_is : sender.pace.quant ≡ sender.params.quant
   pub room : room_of way.packets ≡ 1200 * mbs_of sender.params.format
   pub most : most_of way.packets ≡ mbs_of sender.params.format
   pub keeping : IsKeeping way.packets

@@ -11,13 +11,11 @@ ghost use Rattle.call_model.specs.JoinedRun.{SaidMessage};
 ghost use Rattle.call_model.specs.Receiving.{ReceiverEntry, played_mark};
 ghost use Rattle.call_decoding.specs.Rules.{rules_of};
 ghost use Rattle.call_encoding.specs.Frames.{Frame};
-ghost use Rattle.sender_end.specs.declared.state.State.{State};
-ghost use Rattle.sender_end.specs.Stands.{IsReady};
 ghost use Rattle.receiver_end.specs.declared.kept.Kept.{Kept};
 ghost use Rattle.receiver_end.specs.Answers.{mark_of};
 ghost use Rattle.receiver_end.specs.Decoding.{decoding};
 ghost use Rattle.receiver_end.specs.State as receiver_end;
-ghost use Rattle.one_way.specs.Both.{both_after, steady};
+ghost use Rattle.one_way.specs.Both.{State, both_after, steady};
 ghost use Rattle.one_way.specs.Counts.{total_of};
 ghost use Rattle.one_way.specs.Network.{HasMessages, IsAmongLast, told_by};
 ghost use Rattle.one_way.specs.Trace.{delivered};
@@ -139,19 +137,18 @@ impl Network {
     /// Brings message `k` back to the sender. One that has left the ring is about a picture that
     /// isn't near.
     pub fn bring_back(&self, sender: &mut Sender<FixedPace>, k: u32)
-        requires ready { IsReady sender.old.state }
-        ensures params { sender.new.state.params ≡ sender.old.state.params }
-        ensures sent { sender.new.state.sent ≡ sender.old.state.sent }
+        ensures params { sender.new.params ≡ sender.old.params }
+        ensures sent { sender.new.sent ≡ sender.old.sent }
         ensures pace { sender.new.pace ≡ sender.old.pace }
-        ensures ready { CanSend self.now.way sender.old.state sender.old.pace.quant
-            → CanSend self.now.way sender.new.state sender.new.pace.quant }
+        ensures ready { CanSend self.now.way sender.old
+            → CanSend self.now.way sender.new }
         ensures holds { (p : Params) (receiver : Kept) (before : List ReceiverEntry)
             (frames : List Frame) (past : List Event)
             → IsParams p → sender.old.pace.quant ≡ p.quant
             → (receiver_end.run_of p before).played ≡ 0
-            → HoldsNetwork p self.now sender.old.state receiver before frames past
+            → HoldsNetwork p self.now sender.old receiver before frames past
             → MayHappenNow p before frames past (Back k)
-            → HoldsNetwork p self.now sender.new.state receiver before frames (Back k ∷ past) }
+            → HoldsNetwork p self.now sender.new receiver before frames (Back k ∷ past) }
     {
         laws::of_near_events();
         if let Some((_, message)) = self.messages.get(k) {

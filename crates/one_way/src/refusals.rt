@@ -44,7 +44,7 @@ pub fn check_capture(
     requires half { half ≤ 512 }
     ensures { (p : Params) (before : List ReceiverEntry) (frames : List Frame) (past : List Event)
         → half ≡ half_of p.clock
-        → AreJoined p (steady p) sender.now.state receiver.now frames before past
+        → AreJoined p (steady p) sender.now receiver.now frames before past
         → IsAllowed result Send (refusal_after p before frames past Send) }
 {
     laws::of_the_way();
@@ -67,11 +67,11 @@ pub fn check_packet(
     sender: &Sender<FixedPace>,
     receiver: &Receiver,
 ) -> Result<(), Refusal>
-    requires few { sender.now.state.sent ≤ 1048576 }
+    requires few { sender.now.sent ≤ 1048576 }
     requires half { half ≤ 512 }
     ensures { (p : Params) (before : List ReceiverEntry) (frames : List Frame) (past : List Event)
         (place : ℕ) → half ≡ half_of p.clock
-        → AreJoined p (steady p) sender.now.state receiver.now frames before past
+        → AreJoined p (steady p) sender.now receiver.now frames before past
         → IsAllowed result (Deliver number place)
         (refusal_after p before frames past (Deliver number place)) }
 {
@@ -92,9 +92,9 @@ pub fn check_packet(
 
 /// Whether the next picture may be played: it was sent.
 pub fn check_play(sender: &Sender<FixedPace>, receiver: &Receiver) -> Result<(), Refusal>
-    ensures ahead { OnOk result (receiver.now.played < sender.now.state.sent) }
+    ensures ahead { OnOk result (receiver.now.played < sender.now.sent) }
     ensures refusal { (p : Params) (before : List ReceiverEntry) (frames : List Frame) (past : List Event)
-        → AreJoined p (steady p) sender.now.state receiver.now frames before past
+        → AreJoined p (steady p) sender.now receiver.now frames before past
         → IsAllowed result Play (refusal_after p before frames past Play) }
 {
     laws::of_the_way();
@@ -123,7 +123,7 @@ pub fn check_back(
 ) -> Result<(), Refusal>
     ensures { (p : Params) (receiver : Kept) (before : List ReceiverEntry) (frames : List Frame)
         (past : List Event) → IsParams p → half ≡ half_of p.clock → (run_of p before).played ≡ 0
-        → HoldsNetwork p network.now sender.now.state receiver before frames past
+        → HoldsNetwork p network.now sender.now receiver before frames past
         → IsAllowed result (Back message) (refusal_after p before frames past (Back message)) }
 {
     laws::of_the_way();

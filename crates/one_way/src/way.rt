@@ -8,7 +8,6 @@ ghost use Rattle.h263_types.specs.declared.params.Params.{Params};
 ghost use Rattle.h263_types.specs.Params.{IsParams};
 ghost use Rattle.h263_planes.specs.Lent.{picture as lent};
 ghost use Rattle.picture_header.specs.Ranges.{AreMessages};
-ghost use Rattle.packet_cutter.specs.Cutting.{packets_of};
 ghost use Rattle.call_report.specs.View as report;
 ghost use Rattle.call_rings.specs.Keeping.{HoldsPackets, HasSizes, Pictures, begun_of, kept_of};
 ghost use Rattle.call_rings.specs.Keeping.{most_of, period_of, room_of};
@@ -17,13 +16,11 @@ ghost use Rattle.call_model.specs.JoinedRun.{SaidMessage};
 ghost use Rattle.call_model.specs.Receiving.{ReceiverEntry, played_mark};
 ghost use Rattle.call_decoding.specs.Rules.{rules_of};
 ghost use Rattle.call_encoding.specs.Frames.{Frame};
-ghost use Rattle.sender_end.specs.declared.state.State.{State};
-ghost use Rattle.sender_end.specs.Stands.{IsReady};
 ghost use Rattle.receiver_end.specs.declared.kept.Kept.{Kept};
 ghost use Rattle.receiver_end.specs.Answers.{mark_of};
 ghost use Rattle.receiver_end.specs.Decoding.{decoding};
 ghost use Rattle.receiver_end.specs.State as receiver_end;
-ghost use Rattle.one_way.specs.Both.{both_after, carrying, steady};
+ghost use Rattle.one_way.specs.Both.{State, both_after, carrying, steady};
 ghost use Rattle.one_way.specs.Counts.{counts_of, total_of};
 ghost use Rattle.one_way.specs.Network.{AreRoomy, IsAmongLast, IsKeeping, said_in, told_by};
 ghost use Rattle.one_way.specs.Seen.{reference_in};
@@ -52,12 +49,12 @@ pub struct Way {
 
 // Keeps all packets of the picture that was sent last.
 fn keep_packets(packets: &mut PacketRing, sender: &Sender<FixedPace>, count: u32)
-    requires count { count ≡ length (packets_of sender.now.state.cutter) }
+    requires count { count ≡ length sender.now.packets }
     requires keeping { IsKeeping packets.old }
-    requires room { AreRoomy packets.old (packets_of sender.now.state.cutter) }
+    requires room { AreRoomy packets.old sender.now.packets }
     requires few { begun_of packets.old + 1 < 2 ^ 32 }
     ensures kept { (pictures : Pictures) → HoldsPackets packets.old pictures
-        → HoldsPackets packets.new (pictures ++ packets_of sender.now.state.cutter ∷ []) }
+        → HoldsPackets packets.new (pictures ++ sender.now.packets ∷ []) }
     ensures sizes { let ring = packets.old in
         HasSizes packets.new (period_of ring) (room_of ring) (most_of ring) }
     ensures begun { begun_of packets.new ≡ begun_of packets.old + 1 }
@@ -120,27 +117,27 @@ impl Way {
         back: &[Message],
     ) -> Coded
         requires few { length back.now ≤ 4 }
-        requires back { AreMessages sender.old.state.params.clock back.now }
-        requires frame { (lent frame).format ≡ sender.old.state.params.format }
-        requires left { sender.old.state.sent < 1048576 }
-        requires ready { CanSend self.old sender.old.state sender.old.pace.quant }
-        ensures ready { CanSend self.new sender.new.state sender.new.pace.quant }
-        ensures params { sender.new.state.params ≡ sender.old.state.params }
-        ensures sent { sender.new.state.sent ≡ sender.old.state.sent + 1 }
+        requires back { AreMessages sender.old.params.clock back.now }
+        requires frame { (lent frame).format ≡ sender.old.params.format }
+        requires left { sender.old.sent < 1048576 }
+        requires ready { CanSend self.old sender.old }
+        ensures ready { CanSend self.new sender.new }
+        ensures params { sender.new.params ≡ sender.old.params }
+        ensures sent { sender.new.sent ≡ sender.old.sent + 1 }
         ensures pace { sender.new.pace ≡ sender.old.pace }
         ensures kept { period_of self.new.packets ≡ period_of self.old.packets }
         ensures tally { self.new.tally ≡ self.old.tally }
         ensures number { (p : Params) (receiver : Kept) (before : List ReceiverEntry)
             (frames : List Frame) (past : List Event)
-            → HoldsWay p self.old sender.old.state receiver before frames past
-            → result.number ≡ sender.old.state.sent }
+            → HoldsWay p self.old sender.old receiver before frames past
+            → result.number ≡ sender.old.sent }
         ensures holds { (p : Params) (receiver : Kept) (before : List ReceiverEntry)
             (frames : List Frame) (past : List Event)
-            → HoldsWay p self.old sender.old.state receiver before frames past
-            → slice_get frames sender.old.state.sent
+            → HoldsWay p self.old sender.old receiver before frames past
+            → slice_get frames sender.old.sent
             ≡ Some (carrying (lent frame.entry) back.now)
             → MayHappenNow p before frames past Send
-            → HoldsWay p self.new sender.new.state receiver before frames (Send ∷ past) }
+            → HoldsWay p self.new sender.new receiver before frames (Send ∷ past) }
     {
         laws::ends_run();
         laws::of_packets();
@@ -249,19 +246,18 @@ impl Way {
 
 /// Brings a message back to the sender, by its bytes.
 pub fn bring_back(sender: &mut Sender<FixedPace>, bytes: &[u8])
-    requires ready { IsReady sender.old.state }
-    ensures params { sender.new.state.params ≡ sender.old.state.params }
-    ensures sent { sender.new.state.sent ≡ sender.old.state.sent }
+    ensures params { sender.new.params ≡ sender.old.params }
+    ensures sent { sender.new.sent ≡ sender.old.sent }
     ensures pace { sender.new.pace ≡ sender.old.pace }
-    ensures ready { (way : Way) → CanSend way sender.old.state sender.old.pace.quant
-        → CanSend way sender.new.state sender.new.pace.quant }
+    ensures ready { (way : Way) → CanSend way sender.old
+        → CanSend way sender.new }
     ensures holds { (p : Params) (way : Way) (receiver : Kept) (before : List ReceiverEntry)
         (frames : List Frame) (past : List Event) (k : ℕ) (told : SaidMessage)
         → sender.old.pace.quant ≡ p.quant
-        → HoldsWay p way sender.old.state receiver before frames past
+        → HoldsWay p way sender.old receiver before frames past
         → slice_get (both_after p (steady p) frames before past).said k ≡ Some told
         → told.bytes ≡ bytes.now → MayHappenNow p before frames past (Back k)
-        → HoldsWay p way sender.new.state receiver before frames (Back k ∷ past) }
+        → HoldsWay p way sender.new receiver before frames (Back k ∷ past) }
 {
     laws::ends_run();
     sender.feedback(bytes);

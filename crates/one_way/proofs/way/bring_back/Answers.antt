@@ -11,13 +11,12 @@ use Rattle.one_way.proofs.way.bring_back.Goals as goal
 pub returns-clause-ready : goal.returns-clause-ready
 returns-clause-ready c = λ way can.
     let told = c.feedback.ensures in
-    can_send way way c.args.sender.now.state c.feedback.new.self.state c.args.sender.now.pace.quant c.feedback.new.self.pace.quant can (Feedback c.args.bytes.now) told.params
-    (ap (λ (pace : FixedPace). pace.quant) told.pace) told.ready told.stands refl refl can.keeping (can.begun ∙ sym told.sent)
+    can_send way way c.args.sender.now c.feedback.new.self can (Feedback c.args.bytes.now) told.params told.pace told.stands refl refl can.keeping (can.begun ∙ sym told.sent)
 
 pub returns-clause-holds : goal.returns-clause-holds
 returns-clause-holds c = λ p way receiver before frames past k told paced h at same near.
-    let old = c.args.sender.now.state in
-    let new = c.feedback.new.self.state in
+    let old = c.args.sender.now in
+    let new = c.feedback.new.self in
     let entries = sent_in p (steady p) frames before past in
     let stands = stands_so p c.args.sender.now.pace.quant paced old new (Feedback c.args.bytes.now) c.feedback.ensures.stands entries h.joined.sends in
     holds_message p way old receiver before frames past h new k near

@@ -7,7 +7,7 @@ use Rattle.one_way.proofs.way.keep_packets.Goals as goal
 
 pub push-requires : goal.push-requires
 push-requires c =
-    let packets = packets_of c.args.sender.now.state.cutter in
+    let packets = c.args.sender.now.packets in
     let pictures = c.requires.keeping.pictures in
     let ring = c.packets.packets in
     let i = c.packets.place in
@@ -22,7 +22,7 @@ push-requires c =
 
 pub packets-preserved : goal.packets-preserved
 packets-preserved c =
-    let packets = packets_of c.args.sender.now.state.cutter in
+    let packets = c.args.sender.now.packets in
     let i = c.packets.place in
     let below : i < length packets = omega (arith, c.packets-test.true, c.packets.auto.place-end, c.requires.count) in
     let one_more : take (i + 1) packets ≡ take i packets ++ c.packet.result.now ∷ [] =
@@ -40,6 +40,6 @@ packets-preserved c =
 
 pub returns-clause-kept : goal.returns-clause-kept
 returns-clause-kept c = λ pictures keeps.
-    let packets = packets_of c.args.sender.now.state.cutter in
+    let packets = c.args.sender.now.packets in
     let all : length packets ≤ c.packets.place = omega (arith, c.packets-test.false, c.packets.auto.place-end, c.requires.count) in
     subst (λ (l : List (List ℕ)). HoldsPackets c.packets.packets (pictures ++ l ∷ [])) (take_all c.packets.place packets all) (c.packets.invariant.kept pictures keeps)

@@ -1,4 +1,4 @@
-use Rattle.std.proofs.Common.{refl}
+use Rattle.std.proofs.Common.{refl, ◌∙◌}
 use Rattle.call_command.proofs.lent.WorldTurns.turn.Goals as goal
 
 pub returns-then-self-clause-gives : goal.returns-then-self-clause-gives
@@ -9,9 +9,8 @@ pub returns-then-self-clause-whole : goal.returns-then-self-clause-whole
 returns-then-self-clause-whole g c = λ s inputs k told.
     c.frame_turn.ensures.whole (g.D.Desk.outside c.args.desk.now) s inputs (record { stands = k; told = told; same = refl })
 
-pub returns-then-self-clause-keeps : goal.returns-then-self-clause-keeps
-returns-then-self-clause-keeps g c = λ s inputs k told.
-    c.frame_turn.ensures.keeps (g.D.Desk.outside c.args.desk.now) s inputs (record { stands = k; told = told; same = refl })
+pub returns-then-self-clause-stays : goal.returns-then-self-clause-stays
+returns-then-self-clause-stays g c = λ first stays. record { names = c.frame_turn.ensures.lasts ∙ stays.names }
 
 pub returns-else-self-clause-gives : goal.returns-else-self-clause-gives
 returns-else-self-clause-gives g c = λ s inputs k told.
@@ -21,6 +20,5 @@ pub returns-else-self-clause-whole : goal.returns-else-self-clause-whole
 returns-else-self-clause-whole g c = λ s inputs k told.
     c.line_turn.ensures.whole (g.D.Desk.outside c.args.desk.now) s inputs (record { stands = k; told = told; same = refl })
 
-pub returns-else-self-clause-keeps : goal.returns-else-self-clause-keeps
-returns-else-self-clause-keeps g c = λ s inputs k told.
-    c.line_turn.ensures.keeps (g.D.Desk.outside c.args.desk.now) s inputs (record { stands = k; told = told; same = refl })
+pub returns-else-self-clause-stays : goal.returns-else-self-clause-stays
+returns-else-self-clause-stays g c = λ first stays. record { names = c.line_turn.ensures.lasts ∙ stays.names }

@@ -42,10 +42,10 @@ returns-in-Play-clause-refusal c = λ before frames past begun h.
 
 pub returns-in-Play-clause-ahead : goal.returns-in-Play-clause-ahead
 returns-in-Play-clause-ahead c =
-    subst (λ (e : Line). IsAhead c.check_play.result e c.args.self.now.receiver.now.played c.args.self.now.sender.now.state.sent) (sym c.in-Play.is)
+    subst (λ (e : Line). IsAhead c.check_play.result e c.args.self.now.receiver.now.played c.args.self.now.sender.now.sent) (sym c.in-Play.is)
     (by_answer c.check_play.result c.check_play.ensures.ahead)
   where
-    by_answer : (r : Result Unit Refusal) → OnOk r (c.args.self.now.receiver.now.played < c.args.self.now.sender.now.state.sent)
-        → IsAhead r says.Play c.args.self.now.receiver.now.played c.args.self.now.sender.now.state.sent
+    by_answer : (r : Result Unit Refusal) → OnOk r (c.args.self.now.receiver.now.played < c.args.self.now.sender.now.sent)
+        → IsAhead r says.Play c.args.self.now.receiver.now.played c.args.self.now.sender.now.sent
     by_answer (Ok u) ahead = ahead
     by_answer (Err told) ahead = tt

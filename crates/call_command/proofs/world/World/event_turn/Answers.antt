@@ -40,9 +40,9 @@ returns-in-Err g c =
     gave_up m _ old old (IsRead x c.args.line old) (λ s inputs. event_step by_ends s inputs (inputs Events) c.args.event) (λ _. true) (more_of x + 1)
     (Err status) status refl refl tt tt (roles_same old)
     (λ o s inputs b.
-    line_is_refused x s inputs b.stood c.turn_laws.ensures o old b.taken c.in-Err.refusal c.args.line b.number c.fault_at-fault.result c.fault_at-fault.ensures c.args.event
+    line_is_refused x s inputs b.stood c.of_turns.ensures o old b.taken c.in-Err.refusal c.args.line b.number c.fault_at-fault.result c.fault_at-fault.ensures c.args.event
     (c.in-Err.ensures.refusal s.before s.frames s.past b.stood.begun (done_here x s inputs b.stood)))
-    (λ o s inputs b. (done_here x s inputs b.stood).way_holds.joined)
+    (λ s stand. stand)
 
 pub returns-in-Nothing : goal.returns-in-Nothing
 returns-in-Nothing g c =
@@ -51,7 +51,7 @@ returns-in-Nothing g c =
     let x = parts_of m in
     let r = c.requires.ready in
     line_goes_on m _ c.args.line c.args.event says.Nothing old old c.in-Nothing.is refl refl r (roles_same old)
-    (λ o s inputs b. event_goes x s inputs b.stood x.sender x.quant x.receiver x.carrier refl refl c.turn_laws.ensures o old b.taken says.Nothing s.past refl b.stood.holds)
+    (λ o s inputs b. event_goes x s inputs b.stood x.sender x.receiver x.carrier refl refl c.of_turns.ensures o old b.taken says.Nothing s.past refl b.stood.holds)
 
 -- ---- a frame
 
@@ -80,8 +80,8 @@ returns-in-Packet g c =
     let done = c.deliver in
     let carrier : Carrier = record x.carrier { network = done.new.self } in
     line_goes_on m _ c.args.line c.args.event (says.Packet n j) old old c.in-Packet.is refl refl
-    (ready_so x old.attached old.attached r refl x.video x.sender x.quant done.new.receiver carrier refl refl
-    (subst (λ (w : Way). CanSend w x.sender x.quant) (sym done.ensures.way) r.can) (ap (λ (w : Way). period_of w.packets) done.ensures.way)
+    (ready_so x old.attached old.attached r refl x.video x.sender done.new.receiver carrier refl refl
+    (subst (λ (w : Way). CanSend w x.sender) (sym done.ensures.way) r.can) (ap (λ (w : Way). period_of w.packets) done.ensures.way)
     r.sent (omega (arith, r.played, done.ensures.played)) (λ plain. absurd (cc (plain, c.requires.recorded))) r.frame (λ plain. absurd (cc (plain, c.requires.recorded)))
     (ap (λ (w : Way). total_of w.tally) done.ensures.way ∙ r.counted ∙ sym done.ensures.played) (omega (arith, done.ensures.few, c.requires.room)))
     (roles_same old)
@@ -91,7 +91,7 @@ returns-in-Packet g c =
     let none : (frames : List Frame) → HasDone x s.before frames s.past → refusal_after p s.before frames s.past (Deliver n j) ≡ None =
     λ frames h. subst (λ (e : Line). IsChecked (Ok c.in_default.field-0) e (refusal_after p s.before frames s.past)) c.in-Packet.is (c.in_default.ensures.refusal s.before frames s.past k.begun h)
     in
-    event_goes x s inputs k x.sender x.quant done.new.receiver carrier refl refl c.turn_laws.ensures o old b.taken (says.Packet n j) (Deliver n j ∷ s.past)
+    event_goes x s inputs k x.sender done.new.receiver carrier refl refl c.of_turns.ensures o old b.taken (says.Packet n j) (Deliver n j ∷ s.past)
     (packet_is x s inputs k n j (none s.frames (done_here x s inputs k)))
     (λ later.
     let frames = s.frames ++ later in
@@ -113,8 +113,8 @@ returns-in-All g c =
     let done = c.deliver_all in
     let carrier : Carrier = record x.carrier { network = done.new.self } in
     line_goes_on m _ c.args.line c.args.event (says.All n) old old c.in-All.is refl refl
-    (ready_so x old.attached old.attached r refl x.video x.sender x.quant done.new.receiver carrier refl refl
-    (subst (λ (w : Way). CanSend w x.sender x.quant) (sym done.ensures.way) r.can) (ap (λ (w : Way). period_of w.packets) done.ensures.way)
+    (ready_so x old.attached old.attached r refl x.video x.sender done.new.receiver carrier refl refl
+    (subst (λ (w : Way). CanSend w x.sender) (sym done.ensures.way) r.can) (ap (λ (w : Way). period_of w.packets) done.ensures.way)
     r.sent (omega (arith, r.played, done.ensures.played)) (λ plain. absurd (cc (plain, c.requires.recorded))) r.frame (λ plain. absurd (cc (plain, c.requires.recorded)))
     (ap (λ (w : Way). total_of w.tally) done.ensures.way ∙ r.counted ∙ sym done.ensures.played) (omega (arith, done.ensures.few, c.requires.room, r.can.most, few_mbs x.sender.params.format)))
     (roles_same old)
@@ -124,7 +124,7 @@ returns-in-All g c =
     let none : (frames : List Frame) → HasDone x s.before frames s.past → refusal_after p s.before frames s.past (Deliver n 0) ≡ None =
     λ frames h. subst (λ (e : Line). IsChecked (Ok c.in_default.field-0) e (refusal_after p s.before frames s.past)) c.in-All.is (c.in_default.ensures.refusal s.before frames s.past k.begun h)
     in
-    event_goes x s inputs k x.sender x.quant done.new.receiver carrier refl refl c.turn_laws.ensures o old b.taken (says.All n) (delivered n (length (slices_at (by_ends s).coded n)) ++ s.past)
+    event_goes x s inputs k x.sender done.new.receiver carrier refl refl c.of_turns.ensures o old b.taken (says.All n) (delivered n (length (slices_at (by_ends s).coded n)) ++ s.past)
     (packets_is x s inputs k n (none s.frames (done_here x s inputs k)))
     (λ later.
     let frames = s.frames ++ later in
@@ -145,11 +145,10 @@ returns-in-Back g c =
     let r = c.requires.ready in
     let k = c.in-Back.message in
     let done = c.bring_back in
-    let sender = done.new.sender.state in
-    let quant = done.new.sender.pace.quant in
+    let sender = done.new.sender in
     line_goes_on m _ c.args.line c.args.event (says.Back k) old old c.in-Back.is
     (ap (λ (q : FixedPace). let names : Names = record (names_of m) { pace = q } in names) done.ensures.pace) refl
-    (ready_so x old.attached old.attached r refl x.video sender quant x.receiver x.carrier refl done.ensures.params (done.ensures.ready r.can) refl
+    (ready_so x old.attached old.attached r refl x.video sender x.receiver x.carrier refl done.ensures.params (done.ensures.ready r.can) refl
     (omega (arith, r.sent, done.ensures.sent)) (omega (arith, r.played, done.ensures.sent)) (λ plain. absurd (cc (plain, c.requires.recorded))) r.frame (λ plain. absurd (cc (plain, c.requires.recorded)))
     r.counted (omega (arith, c.requires.room, done.ensures.sent)))
     (roles_same old)
@@ -159,7 +158,7 @@ returns-in-Back g c =
     let none : (frames : List Frame) → HasDone x s.before frames s.past → refusal_after p s.before frames s.past (Back k) ≡ None =
     λ frames h. subst (λ (e : Line). IsChecked (Ok c.in_default.field-0) e (refusal_after p s.before frames s.past)) c.in-Back.is (c.in_default.ensures.refusal s.before frames s.past stood.begun h)
     in
-    event_goes x s inputs stood sender quant x.receiver x.carrier refl done.ensures.sent c.turn_laws.ensures o old b.taken (says.Back k) (Back k ∷ s.past)
+    event_goes x s inputs stood sender x.receiver x.carrier refl done.ensures.sent c.of_turns.ensures o old b.taken (says.Back k) (Back k ∷ s.past)
     (message_is x s inputs stood k (none s.frames (done_here x s inputs stood)))
     (λ later.
     let frames = s.frames ++ later in
@@ -204,8 +203,8 @@ returns-in_ok-play_next-in-Play g c =
     let ahead : x.receiver.played < x.sender.sent = subst (λ (e : Line). IsAhead (Ok c.in_default.field-0) e x.receiver.played x.sender.sent) c.in-Play.is c.in_default.ensures.ahead in
     let carrier : Carrier = record x.carrier { network = c.play_next.new.network } in
     line_goes_on m _ c.args.line c.args.event says.Play old new c.in-Play.is refl refl
-    (ready_so x old.attached new.attached r played.rest.attached x.video x.sender x.quant c.play_next.new.receiver carrier refl refl
-    (subst (λ (w : Way). CanSend w x.sender x.quant) (sym played.way) (can_still x.carrier.network.way c.play_next.new.network.way.tally x.sender x.quant r.can))
+    (ready_so x old.attached new.attached r played.rest.attached x.video x.sender c.play_next.new.receiver carrier refl refl
+    (subst (λ (w : Way). CanSend w x.sender) (sym played.way) (can_still x.carrier.network.way c.play_next.new.network.way.tally x.sender r.can))
     (ap (λ (w : Way). period_of w.packets) played.way)
     r.sent (omega (arith, played.played, ahead)) (λ plain. absurd (cc (plain, c.requires.recorded))) r.frame (λ plain. absurd (cc (plain, c.requires.recorded)))
     played.counted (omega (arith, played.few, c.requires.room)))
@@ -218,7 +217,7 @@ returns-in_ok-play_next-in-Play g c =
     in
     let here = done_here x s inputs k in
     play_goes x s inputs k (c.of_the_way.ensures p) o old new b.taken played.rest.left (none s.frames here) (PartsStand (record x { receiver = c.play_next.new.receiver; carrier = carrier }))
-    (stands_event x s inputs k x.sender x.quant c.play_next.new.receiver carrier refl refl (Play ∷ s.past)
+    (stands_event x s inputs k x.sender c.play_next.new.receiver carrier refl refl (Play ∷ s.past)
     (λ later. played.holds p x.sender s.before (s.frames ++ later) s.past (k.holds later) (near_laws.play s.before (s.frames ++ later) s.past (none (s.frames ++ later) (k.holds later)))))
     (c.in_ok-play_next-in-Play.ensures.ok p x.sender s.before s.frames s.past k.begun here (near_laws.play s.before s.frames s.past (none s.frames here))))
 
@@ -226,4 +225,4 @@ pub play_next-requires-clause-played : goal.play_next-requires-clause-played
 play_next-requires-clause-played g c =
     let x = parts_of c.args.self.now in
     let ahead : x.receiver.played < x.sender.sent = subst (λ (e : Line). IsAhead (Ok c.in_default.field-0) e x.receiver.played x.sender.sent) c.in-Play.is c.in_default.ensures.ahead in
-    omega (arith, ahead, c.requires.ready.can.ready.few)
+    omega (arith, ahead, c.requires.ready.sent)

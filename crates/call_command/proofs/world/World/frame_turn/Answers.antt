@@ -31,7 +31,7 @@ use Rattle.call_command.specs.declared.carrier.Carrier.{Carrier}
 use Rattle.call_command.specs.Call.{CallState, may_read}
 use Rattle.call_command.specs.Standing.{Parts, PartsStand, more_of, parts_of, state_of}
 use Rattle.call_command.specs.Turning.{Names, names_of}
-use Rattle.call_command.proofs.Counting.{counts_are, ends_stand, keeps_then, plainly, reads_keep, turn_gave_up, turn_goes_on, turn_is_over, turn_was_cut, video_cause, video_stops, writes_keep}
+use Rattle.call_command.proofs.Counting.{counts_are, keeps_then, plainly, reads_keep, turn_gave_up, turn_goes_on, turn_is_over, turn_was_cut, video_cause, video_stops, writes_keep}
 use Rattle.call_command.proofs.Framing.{among_last, at, count_of, may_deliver, may_play, may_send, stands_after, texts_are}
 use Rattle.call_command.proofs.FrameTurning.{end_cut, frame_cut, frame_goes, frame_stops, given, gives_so, lent, video_ends}
 use Rattle.call_command.proofs.Readying.{can_still, few_mbs, plain_keeps, ready_so}
@@ -51,8 +51,8 @@ returns-in_err-frame g c =
     let here = state_of x s.before s.frames s.past in
     let e = gives_so (Err stop) here x.video c.frame.new.self (inputs Video) c.frame.new.out _ refl refl c.requires.ready.format (c.in_err-frame.ensures.gives (inputs Video) (told Video refl)) in
     plainly x s inputs k.is c.requires.plain (λ (step : Step CallState) (now : Bool). GivesUp (phase (video_stop stop)) (video_stop stop) step now inputs old mid)
-    (frame_stops c.turn_laws.ensures c.of_the_video.ensures inputs old mid told c.frame.ensures.others c.frame.ensures.rest.written here (c.requires.ready.unread c.requires.plain) stop c.frame.new.out c.frame.new.self e))
-    (λ s inputs k. ends_stand x s inputs k)
+    (frame_stops c.of_turns.ensures c.of_the_video.ensures inputs old mid told c.frame.ensures.others c.frame.ensures.rest.written here (c.requires.ready.unread c.requires.plain) stop c.frame.new.out c.frame.new.self e))
+    (λ s stand. stand)
 
 pub returns-in_err-tell_counts : goal.returns-in_err-tell_counts
 returns-in_err-tell_counts g c =
@@ -72,7 +72,7 @@ returns-in_err-tell_counts g c =
     (given (Ok c.in_ok-frame.field-0) (Ok false) x.video c.frame.new.self (inputs Video) c.frame.new.out _ (ap (λ (b : Bool). Ok b) c.if-not-branch.true) (c.in_ok-frame.ensures.gives (inputs Video) (told Video refl)))
     in
     plainly x s inputs k.is c.requires.plain (λ (step : Step CallState) (now : Bool). GainsFronts (step_texts step) old.written new.written)
-    (end_cut c.turn_laws.ensures c.of_the_video.ensures inputs old mid told c.frame.ensures.others c.frame.ensures.rest.written new c.tell_counts.ensures.rest.left here c.frame.new.out c.frame.new.self e
+    (end_cut c.of_turns.ensures c.of_the_video.ensures inputs old mid told c.frame.ensures.others c.frame.ensures.rest.written new c.tell_counts.ensures.rest.left here c.frame.new.out c.frame.new.self e
     counts (counts_are x (c.of_the_way.ensures x.terms.params) s inputs k) c.in_err-tell_counts.ensures.err))
 
 pub returns-then-not-branch : goal.returns-then-not-branch
@@ -91,13 +91,13 @@ returns-then-not-branch g c =
     (given (Ok c.in_ok-frame.field-0) (Ok false) x.video c.frame.new.self (inputs Video) c.frame.new.out _ (ap (λ (b : Bool). Ok b) c.if-not-branch.true) (c.in_ok-frame.ensures.gives (inputs Video) (told Video refl)))
     in
     plainly x s inputs k.is c.requires.plain (λ (step : Step CallState) (now : Bool). Ended step Fine inputs old new)
-    (video_ends c.turn_laws.ensures c.of_the_video.ensures inputs old mid told c.frame.ensures.others c.frame.ensures.rest.written new c.tell_counts.ensures.rest.left here c.frame.new.out c.frame.new.self e
+    (video_ends c.of_turns.ensures c.of_the_video.ensures inputs old mid told c.frame.ensures.others c.frame.ensures.rest.written new c.tell_counts.ensures.rest.left here c.frame.new.out c.frame.new.self e
     counts (counts_are x (c.of_the_way.ensures x.terms.params) s inputs k) c.in_ok-tell_counts.ensures.ok))
     (λ s inputs k told.
     let gone = (given (Ok c.in_ok-frame.field-0) (Ok false) x.video c.frame.new.self (inputs Video) c.frame.new.out _ (ap (λ (b : Bool). Ok b) c.if-not-branch.true) (c.in_ok-frame.ensures.gives (inputs Video) (told Video refl))).1 in
     let out = ap (λ (l : Role → Option (List ℕ)). l Video) c.tell_counts.ensures.rest.left ∙ gone in
     subst (λ (b : Bool). new.left (if b then Video else Events) ≡ Some []) (sym c.requires.plain) out)
-    (λ s inputs k. ends_stand x s inputs k)
+    (λ s stand. stand)
 
 pub returns-in_err-play_next : goal.returns-in_err-play_next
 returns-in_err-play_next g c =
@@ -132,14 +132,14 @@ returns-in_err-play_next g c =
     let sent = c.send-coded.ensures.holds p x.receiver s.before all s.past h.way_holds
     (at x laws events later_law s inputs k level out [] ∙ ap (λ (o : Picture). Some (bare o)) (sym picture_is)) (may_send x laws events later_law s inputs k level out [])
     in
-    let delivered = c.deliver_all.ensures.holds p c.send-coded.new.sender.state s.before all (Send ∷ s.past) (record { way_holds = sent; messages_are = h.messages_are })
+    let delivered = c.deliver_all.ensures.holds p c.send-coded.new.sender s.before all (Send ∷ s.past) (record { way_holds = sent; messages_are = h.messages_are })
     (among_last x laws events later_law s inputs k level out [] c.send-coded.new.self.packets n number (plain_keeps x.terms _ (c.send-coded.ensures.kept ∙ r.period) c.requires.plain))
     (may_deliver x laws events later_law s inputs k level out [] n number)
     in
     let texts = texts_are x laws events later_law s inputs k level out n c.deliver_all.new.receiver.played number c.deliver_all.ensures.played in
     plainly x s inputs k.is c.requires.plain (λ (step : Step CallState) (now : Bool). GainsFronts (step_texts step) old.written new.written)
-    (frame_cut c.turn_laws.ensures c.of_the_video.ensures inputs old mid told c.frame.ensures.others c.frame.ensures.rest.written new c.play_next.ensures.rest.left here (r.unread c.requires.plain) out c.frame.new.self e _ texts
-    (c.in_err-play_next.ensures.err p c.send-coded.new.sender.state s.before all _ k.begun delivered
+    (frame_cut c.of_turns.ensures c.of_the_video.ensures inputs old mid told c.frame.ensures.others c.frame.ensures.rest.written new c.play_next.ensures.rest.left here (r.unread c.requires.plain) out c.frame.new.self e _ texts
+    (c.in_err-play_next.ensures.err p c.send-coded.new.sender s.before all _ k.begun delivered
     (may_play x laws events later_law s inputs k level out [] n (count_of x laws events later_law s inputs k level out [] n)))))
 
 pub returns : goal.returns
@@ -154,7 +154,7 @@ returns g c =
     let r = c.requires.ready in
     let out = c.frame.new.out in
     let n = c.send-coded.result.number in
-    let sender = c.send-coded.new.sender.state in
+    let sender = c.send-coded.new.sender in
     let receiver = c.play_next.new.receiver in
     let network = c.play_next.new.network in
     let carrier : Carrier = record x.carrier { frame = with_items x.carrier.frame out; network = network } in
@@ -167,8 +167,8 @@ returns g c =
     let level = r.level c.requires.plain in
     turn_goes_on m _ old new (ap (λ (q : FixedPace). let names : Names = record (names_of m) { pace = q } in names) c.send-coded.ensures.pace)
     (subst (λ (b : Bool). (if b then c.frame.new.self.more else 16777216 - x.carrier.trace.lines) + 1 ≡ (if b then x.video.more else 16777216 - x.carrier.trace.lines)) (sym c.requires.plain) moves.1)
-    (ready_so x old.attached new.attached r (c.play_next.ensures.rest.attached ∙ c.frame.ensures.rest.attached) c.frame.new.self sender c.send-coded.new.sender.pace.quant receiver carrier moves.0 c.send-coded.ensures.params
-    (subst (λ (w : Way). CanSend w sender c.send-coded.new.sender.pace.quant) (sym way) (can_still c.send-coded.new.self network.way.tally sender c.send-coded.new.sender.pace.quant c.send-coded.ensures.ready))
+    (ready_so x old.attached new.attached r (c.play_next.ensures.rest.attached ∙ c.frame.ensures.rest.attached) c.frame.new.self sender receiver carrier moves.0 c.send-coded.ensures.params
+    (subst (λ (w : Way). CanSend w sender) (sym way) (can_still c.send-coded.new.self network.way.tally sender c.send-coded.ensures.ready))
     (ap (λ (w : Way). period_of w.packets) way ∙ c.send-coded.ensures.kept)
     (omega (arith, r.sent, c.send-coded.ensures.sent, moves.1)) (omega (arith, r.played, c.send-coded.ensures.sent, c.play_next.ensures.played, c.deliver_all.ensures.played))
     (λ plain. omega (arith, level, c.send-coded.ensures.sent, c.play_next.ensures.played, c.deliver_all.ensures.played))
@@ -203,11 +203,11 @@ returns g c =
     (may_play x laws events later_law s inputs k level out later n (count_of x laws events later_law s inputs k level out later n))
     in
     let texts = texts_are x laws events later_law s inputs k level out n c.deliver_all.new.receiver.played number c.deliver_all.ensures.played in
-    let stands = PartsStand (record { terms = x.terms; video = c.frame.new.self; sender = sender; quant = c.send-coded.new.sender.pace.quant; receiver = receiver; carrier = carrier }) in
+    let stands = PartsStand (record { terms = x.terms; video = c.frame.new.self; sender = sender; receiver = receiver; carrier = carrier }) in
     let size = frame_size p.format (inputs Video) in
     plainly x s inputs k.is c.requires.plain (λ (step : Step CallState) (now : Bool). Went step stands may_read now inputs old new)
-    (frame_goes c.turn_laws.ensures c.of_the_video.ensures inputs old mid told c.frame.ensures.others c.frame.ensures.rest.written new c.play_next.ensures.rest.left here (r.unread c.requires.plain) out c.frame.new.self e _ texts
+    (frame_goes c.of_turns.ensures c.of_the_video.ensures inputs old mid told c.frame.ensures.others c.frame.ensures.rest.written new c.play_next.ensures.rest.left here (r.unread c.requires.plain) out c.frame.new.self e _ texts
     stands
-    (stands_after x laws events later_law s inputs k level out c.frame.new.self sender c.send-coded.new.sender.pace.quant receiver carrier n size (behind inputs (of Video size)) number played refl c.send-coded.ensures.sent e.2 moves.1 refl)
+    (stands_after x laws events later_law s inputs k level out c.frame.new.self sender receiver carrier n size (behind inputs (of Video size)) number played refl c.send-coded.ensures.sent e.2 moves.1 refl)
     (c.in_ok-play_next.ensures.ok p sender s.before (s.frames ++ f ∷ []) _ k.begun (delivered [])
     (may_play x laws events later_law s inputs k level out [] n (count_of x laws events later_law s inputs k level out [] n)))))

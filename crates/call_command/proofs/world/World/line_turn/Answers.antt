@@ -18,7 +18,7 @@ use Rattle.call_command.specs.Call.{CallState, by_ends, event_step, may_read, ta
 use Rattle.call_command.specs.Standing.{PartsStand, more_of, parts_of, source_of, state_of}
 use Rattle.call_command.specs.Turning.{IsBegun, IsRead}
 use Rattle.call_command.proofs.Behind.{stood_behind}
-use Rattle.call_command.proofs.Counting.{cause_since, counts_are, ends_stand, keeps_then, line_by_line, reads_keep, trace_cause, trace_halts, turn_gave_up, turn_is_over, turn_was_cut, writes_keep}
+use Rattle.call_command.proofs.Counting.{cause_since, counts_are, keeps_then, line_by_line, reads_keep, trace_cause, trace_halts, turn_gave_up, turn_is_over, turn_was_cut, writes_keep}
 use Rattle.call_command.proofs.LineTurning.{found_could, found_is, found_number, found_taken, read_out, trace_cut, trace_ends, trace_stops}
 use Rattle.call_command.proofs.Readying.{ready_so}
 use Rattle.call_command.proofs.world.World.line_turn.Goals as goal
@@ -43,9 +43,9 @@ returns-in_err-line g c =
     (λ s inputs k told.
     let here = state_of x s.before s.frames s.past in
     line_by_line x s inputs k.is c.requires.recorded (λ (step : Step CallState) (now : Bool). GivesUp (phase (trace_stop stop)) (trace_stop stop) step now inputs old mid)
-    (trace_stops c.turn_laws.ensures here inputs old mid told c.next.ensures.others c.next.ensures.rest.written x.carrier.trace c.next.new.self (record { lines_are = refl; ended_is = refl }) stop
+    (trace_stops c.of_turns.ensures here inputs old mid told c.next.ensures.others c.next.ensures.rest.written x.carrier.trace c.next.new.self (record { lines_are = refl; ended_is = refl }) stop
     (c.in_err-line.ensures.gives (inputs Events) (told Events refl)) c.in_err-line.ensures.moves))
-    (λ s inputs k. ends_stand x s inputs k)
+    (λ s stand. stand)
 
 pub returns-in_err-tell_counts : goal.returns-in_err-tell_counts
 returns-in_err-tell_counts g c =
@@ -62,7 +62,7 @@ returns-in_err-tell_counts g c =
     let here = state_of x s.before s.frames s.past in
     let e = says (Ok c.in_ok-line.field-0) (Ok None) x.carrier.trace c.next.new.self (inputs Events) _ (ap (λ (o : Option (ℕ × Line)). Ok o) c.in_default.is) (c.in_ok-line.ensures.gives (inputs Events) (told Events refl)) in
     line_by_line x s inputs k.is c.requires.recorded (λ (step : Step CallState) (now : Bool). GainsFronts (step_texts step) old.written new.written)
-    (trace_cut c.turn_laws.ensures here inputs old mid told c.next.ensures.others c.next.ensures.rest.written x.carrier.trace c.next.new.self (record { lines_are = refl; ended_is = refl }) e k.over
+    (trace_cut c.of_turns.ensures here inputs old mid told c.next.ensures.others c.next.ensures.rest.written x.carrier.trace c.next.new.self (record { lines_are = refl; ended_is = refl }) e k.over
     new c.tell_counts.ensures.rest.left (counts_of x.carrier.network.way.tally x.receiver.played x.sender.sent) (counts_are x (c.of_the_way.ensures x.terms.params) s inputs k) c.in_err-tell_counts.ensures.err))
 
 pub returns-in_default : goal.returns-in_default
@@ -78,14 +78,14 @@ returns-in_default g c =
     let here = state_of x s.before s.frames s.past in
     let e = says (Ok c.in_ok-line.field-0) (Ok None) x.carrier.trace c.next.new.self (inputs Events) _ (ap (λ (o : Option (ℕ × Line)). Ok o) c.in_default.is) (c.in_ok-line.ensures.gives (inputs Events) (told Events refl)) in
     line_by_line x s inputs k.is c.requires.recorded (λ (step : Step CallState) (now : Bool). Ended step Fine inputs old new)
-    (trace_ends c.turn_laws.ensures here inputs old mid told c.next.ensures.others c.next.ensures.rest.written x.carrier.trace c.next.new.self (record { lines_are = refl; ended_is = refl }) e k.over
+    (trace_ends c.of_turns.ensures here inputs old mid told c.next.ensures.others c.next.ensures.rest.written x.carrier.trace c.next.new.self (record { lines_are = refl; ended_is = refl }) e k.over
     new c.tell_counts.ensures.rest.left (counts_of x.carrier.network.way.tally x.receiver.played x.sender.sent) (counts_are x (c.of_the_way.ensures x.terms.params) s inputs k) c.in_ok-tell_counts.ensures.ok))
     (λ s inputs k told.
     let here = state_of x s.before s.frames s.past in
     let e = says (Ok c.in_ok-line.field-0) (Ok None) x.carrier.trace c.next.new.self (inputs Events) _ (ap (λ (o : Option (ℕ × Line)). Ok o) c.in_default.is) (c.in_ok-line.ensures.gives (inputs Events) (told Events refl)) in
     subst (λ (b : Bool). new.left (if b then Video else Events) ≡ Some []) (sym c.requires.recorded)
-    (read_out c.turn_laws.ensures here inputs old mid told c.next.ensures.others c.next.ensures.rest.written x.carrier.trace c.next.new.self (record { lines_are = refl; ended_is = refl }) e k.over new c.tell_counts.ensures.rest.left))
-    (λ s inputs k. ends_stand x s inputs k)
+    (read_out c.of_turns.ensures here inputs old mid told c.next.ensures.others c.next.ensures.rest.written x.carrier.trace c.next.new.self (record { lines_are = refl; ended_is = refl }) e k.over new c.tell_counts.ensures.rest.left))
+    (λ s stand. stand)
 
 -- ---- after a line
 
@@ -95,7 +95,7 @@ event_turn-requires-clause-ready g c =
     let x = parts_of c.args.self.now in
     let r = c.requires.ready in
     let moves = moved (Ok c.in_ok-line.field-0) (Ok (Some (c.in-Some.line, c.in-Some.event))) x.carrier.trace c.next.new.self (ap (λ (o : Option (ℕ × Line)). Ok o) c.in-Some.is) c.in_ok-line.ensures.moves in
-    ready_so x (outside c.args.desk.now).attached (outside c.next.new.desk).attached r c.next.ensures.rest.attached x.video x.sender x.quant x.receiver (record x.carrier { trace = c.next.new.self })
+    ready_so x (outside c.args.desk.now).attached (outside c.next.new.desk).attached r c.next.ensures.rest.attached x.video x.sender x.receiver (record x.carrier { trace = c.next.new.self })
     refl refl r.can refl r.sent r.played r.level r.frame (λ plain. absurd (cc (plain, c.requires.recorded))) r.counted (omega (arith, r.said, moves.2))
 
 pub event_turn-requires-clause-room : goal.event_turn-requires-clause-room
@@ -123,8 +123,8 @@ returns g c =
     let e = says (Ok c.in_ok-line.field-0) (Ok (Some found)) reader c.next.new.self (inputs Events) _ is (c.in_ok-line.ensures.gives (inputs Events) (told Events refl)) in
     record {
       stood = stood_behind x s inputs k c.requires.recorded c.next.new.self _ moves.2 e.0;
-      number = found_number c.turn_laws.ensures here inputs old mid told c.next.ensures.others c.next.ensures.rest.written reader c.next.new.self (record { lines_are = refl; ended_is = refl }) found e moves c.next.new.self.few;
-      taken = found_taken c.turn_laws.ensures here inputs old mid told c.next.ensures.others c.next.ensures.rest.written reader c.next.new.self (record { lines_are = refl; ended_is = refl }) found e moves c.next.new.self.few;
+      number = found_number c.of_turns.ensures here inputs old mid told c.next.ensures.others c.next.ensures.rest.written reader c.next.new.self (record { lines_are = refl; ended_is = refl }) found e moves c.next.new.self.few;
+      taken = found_taken c.of_turns.ensures here inputs old mid told c.next.ensures.others c.next.ensures.rest.written reader c.next.new.self (record { lines_are = refl; ended_is = refl }) found e moves c.next.new.self.few;
     }
     in
     record {
@@ -132,15 +132,15 @@ returns g c =
           let here = state_of x s.before s.frames s.past in
           let stands = PartsStand (parts_of c.event_turn.new.self) in
           let e = says (Ok c.in_ok-line.field-0) (Ok (Some found)) reader c.next.new.self (inputs Events) _ is (c.in_ok-line.ensures.gives (inputs Events) (b.told Events refl)) in
-          let step_is = found_is c.turn_laws.ensures here inputs old mid b.told c.next.ensures.others c.next.ensures.rest.written reader c.next.new.self (record { lines_are = refl; ended_is = refl }) found e moves c.next.new.self.few in
-          let could = found_could c.turn_laws.ensures here inputs old mid b.told c.next.ensures.others c.next.ensures.rest.written reader c.next.new.self (record { lines_are = refl; ended_is = refl }) found e moves c.next.new.self.few in
+          let step_is = found_is c.of_turns.ensures here inputs old mid b.told c.next.ensures.others c.next.ensures.rest.written reader c.next.new.self (record { lines_are = refl; ended_is = refl }) found e moves c.next.new.self.few in
+          let could = found_could c.of_turns.ensures here inputs old mid b.told c.next.ensures.others c.next.ensures.rest.written reader c.next.new.self (record { lines_are = refl; ended_is = refl }) found e moves c.next.new.self.few in
           subst (λ (q : Outside). TurnGives c.event_turn.result (talk_step s inputs) stands may_read (may_read s) inputs q new) (sym b.same)
           (line_by_line x s inputs b.stands.is c.requires.recorded (λ (step : Step CallState) (now : Bool). TurnGives c.event_turn.result step stands may_read now inputs old new)
           (subst (λ (step : Step CallState). TurnGives c.event_turn.result step stands may_read (may_read here) inputs old new) (sym step_is)
           (subst (λ (b : Bool). TurnGives c.event_turn.result (event_step by_ends here inputs (inputs Events) c.in-Some.event) stands may_read b inputs old new) (sym could)
           (t.gives old here inputs (read s inputs b.stands b.told)))));
       whole = λ o s inputs b. t.whole old _ inputs (read s inputs b.stands b.told);
-      keeps = λ o s inputs b. t.keeps old _ inputs (read s inputs b.stands b.told);
+      keeps = t.keeps;
       lasts = t.lasts;
       falls =
           subst (λ (n : ℕ). Falls c.event_turn.result n (more_of (parts_of c.event_turn.new.self)))

@@ -46,8 +46,8 @@ returns-in_err-frame g c =
     let k = b.read.stood in
     let taken = b.read.taken in
     let e = gives_so (Err stop) s x.video c.frame.new.self (inputs Video) out _ (video_more x s inputs k) (video_place x s inputs k) (video_format x s inputs k c.requires.ready.format) (c.in_err-frame.ensures.gives (inputs Video) (taken.left Video refl)) in
-    frame_stops c.turn_laws.ensures c.of_the_video.ensures s inputs o old mid taken c.frame.ensures.others c.frame.ensures.rest.written c.frame.new.self out stop e)
-    (λ o s inputs b. (done_here x s inputs b.read.stood).way_holds.joined)
+    frame_stops c.of_turns.ensures c.of_the_video.ensures s inputs o old mid taken c.frame.ensures.others c.frame.ensures.rest.written c.frame.new.self out stop e)
+    (λ s stand. stand)
 
 pub returns-then-not-branch : goal.returns-then-not-branch
 returns-then-not-branch g c =
@@ -66,8 +66,8 @@ returns-then-not-branch g c =
     let e = gives_so (Ok false) s x.video c.frame.new.self (inputs Video) out _ (video_more x s inputs k) (video_place x s inputs k) (video_format x s inputs k c.requires.ready.format)
     (given (Ok c.in_ok-frame.field-0) (Ok false) x.video c.frame.new.self (inputs Video) out _ (ap (λ (b : Bool). Ok b) c.if-not-branch.true) (c.in_ok-frame.ensures.gives (inputs Video) (taken.left Video refl)))
     in
-    frame_missing c.turn_laws.ensures c.of_the_video.ensures s inputs o old mid taken c.frame.ensures.others c.frame.ensures.rest.written c.frame.new.self out c.args.line b.read.number e)
-    (λ o s inputs b. (done_here x s inputs b.read.stood).way_holds.joined)
+    frame_missing c.of_turns.ensures c.of_the_video.ensures s inputs o old mid taken c.frame.ensures.others c.frame.ensures.rest.written c.frame.new.self out c.args.line b.read.number e)
+    (λ s stand. stand)
 
 pub returns : goal.returns
 returns g c =
@@ -80,8 +80,7 @@ returns g c =
     let r = c.requires.ready in
     let out = c.frame.new.out in
     let send = c.send in
-    let sender = send.new.sender.state in
-    let quant = send.new.sender.pace.quant in
+    let sender = send.new.sender in
     let moves = subst (λ (b : Bool). Moves (Ok b) x.video c.frame.new.self) c.if-not-branch.false c.in_ok-frame.ensures.moves in
     let carrier : Carrier = record x.carrier { frame = with_items x.carrier.frame out; network = record x.carrier.network { way = send.new.self } } in
     let long : length carrier.frame.items ≡ size_of_picture p.format =
@@ -91,7 +90,7 @@ returns g c =
     goes_on m _ old mid (IsAsked x c.args.line old) (λ s inputs. capture_step s (inputs Events) (inputs Video)) (λ _. true) (more_of x + 1)
     (ap (λ (q : FixedPace). let names : Names = record (names_of m) { pace = q } in names) send.ensures.pace)
     (subst (λ (b : Bool). (if b then c.frame.new.self.more else 16777216 - x.carrier.trace.lines) + 1 ≡ (if b then x.video.more else 16777216 - x.carrier.trace.lines) + 1) (sym c.requires.recorded) refl)
-    (ready_so x old.attached mid.attached r c.frame.ensures.rest.attached c.frame.new.self sender quant x.receiver carrier moves.0 send.ensures.params send.ensures.ready send.ensures.kept
+    (ready_so x old.attached mid.attached r c.frame.ensures.rest.attached c.frame.new.self sender x.receiver carrier moves.0 send.ensures.params send.ensures.ready send.ensures.kept
     (omega (arith, r.sent, send.ensures.sent, moves.1)) (omega (arith, r.played, send.ensures.sent)) (λ plain. absurd (cc (plain, c.requires.recorded))) long
     (λ plain. absurd (cc (plain, c.requires.recorded))) (ap total_of send.ensures.tally ∙ r.counted) (omega (arith, r.said, send.ensures.sent)))
     (reads_keep old mid c.frame.ensures.rest)
@@ -104,7 +103,7 @@ returns g c =
     let out_is : c.deref.result.now ≡ out = lent x.carrier.frame out c.deref.result.now _ c.deref.ensures.value c.frame.auto.out c.deref_mut.ensures.len in
     let picture_is : picture c.new-frame.result ≡ picture_of s.params.format out = c.new-frame.ensures.picture ∙ (λ i. picture_of (format_is x s inputs k i) (out_is i)) in
     let f : Frame = bare (picture_of s.params.format out) in
-    let sent_parts : Parts = record { terms = x.terms; video = c.frame.new.self; sender = sender; quant = quant; receiver = x.receiver; carrier = carrier } in
+    let sent_parts : Parts = record { terms = x.terms; video = c.frame.new.self; sender = sender; receiver = x.receiver; carrier = carrier } in
     let sends : (later : List Frame) → HasDone sent_parts s.before (s.frames ++ f ∷ later) (Send ∷ s.past) = λ later.
     let all = s.frames ++ f ∷ later in
     let h = k.holds (f ∷ later) in
@@ -117,5 +116,5 @@ returns g c =
       messages_are = h.messages_are;
     }
     in
-    frame_sent c.turn_laws.ensures c.of_the_video.ensures s inputs o old mid taken c.frame.ensures.others c.frame.ensures.rest.written c.frame.new.self out e (PartsStand sent_parts)
-    (stands_sent x s inputs k out c.frame.new.self sender quant carrier refl (frame_size s.params.format (inputs Video)) e.2 (moves.1 ∙ sym (video_more x s inputs k)) send.ensures.sent sends))
+    frame_sent c.of_turns.ensures c.of_the_video.ensures s inputs o old mid taken c.frame.ensures.others c.frame.ensures.rest.written c.frame.new.self out e (PartsStand sent_parts)
+    (stands_sent x s inputs k out c.frame.new.self sender carrier refl (frame_size s.params.format (inputs Video)) e.2 (moves.1 ∙ sym (video_more x s inputs k)) send.ensures.sent sends))

@@ -17,7 +17,7 @@ returns-in_err-tell_counts-clause-gives g c = λ s inputs k told.
     let m = c.args.self.now in
     let p = m.terms.params in
     let status = c.in_err-tell_counts.field-0.0 in
-    let text = counts_of m.network.way.tally m.both.receiver.played m.both.sender.state.sent in
+    let text = counts_of m.network.way.tally m.both.receiver.played m.both.sender.sent in
     let is = counts_are m (c.of_the_way.ensures p) s.past k.done (c.ends_agree.ensures p (made_video m.terms) s.past c.requires.opens.params k.done.way_holds.near) in
     turn_gives c.from_residual.result status (demo_step s inputs) _ _ _ inputs (outside c.args.desk.now) (outside c.tell_counts.new.desk) c.from_residual.ensures.1
     (cut_gives status (demo_step s inputs) _ inputs (outside c.args.desk.now) (outside c.tell_counts.new.desk) c.in_err-tell_counts.ensures.kind
@@ -28,14 +28,14 @@ returns-in_default-clause-gives g c = λ s inputs k told.
     let outside = g.D.Desk.outside in
     let m = c.args.self.now in
     let p = m.terms.params in
-    let text = counts_of m.network.way.tally m.both.receiver.played m.both.sender.state.sent in
+    let text = counts_of m.network.way.tally m.both.receiver.played m.both.sender.sent in
     let is = counts_are m (c.of_the_way.ensures p) s.past k.done (c.ends_agree.ensures p (made_video m.terms) s.past c.requires.opens.params k.done.way_holds.near) in
-    end_told m s inputs k text is c.in_default.ensures.0 (outside c.args.desk.now) (outside c.tell_counts.new.desk) told c.tell_counts.ensures.rest.left c.in_ok-tell_counts.ensures.ok
+    end_told m s inputs k text is c.in_default.ensures.0 (outside c.args.desk.now) (outside c.tell_counts.new.desk) c.of_turns.ensures told c.tell_counts.ensures.rest.left c.in_ok-tell_counts.ensures.ok
 
 pub take_line-requires-clause-in_place : goal.take_line-requires-clause-in_place
 take_line-requires-clause-in_place g c =
-    first_only c.args.self.now.both.sender.state.sent c.in-Some.event (lines_left c.next.new.self)
-    (subst (λ (l : List Line). AreInPlace 10000 c.args.self.now.both.sender.state.sent l) c.in-Some.ensures c.requires.in_place)
+    first_only c.args.self.now.both.sender.sent c.in-Some.event (lines_left c.next.new.self)
+    (subst (λ (l : List Line). AreInPlace 10000 c.args.self.now.both.sender.sent l) c.in-Some.ensures c.requires.in_place)
 
 pub take_line-requires-clause-few : goal.take_line-requires-clause-few
 take_line-requires-clause-few g c =
@@ -51,7 +51,7 @@ returns-clause-gives g c = λ s inputs k told.
     let after = c.take_line.new.self in
     let near = near_now m s inputs k event lines c.in-Some.ensures (c.of_made_input.ensures m.terms c.requires.opens.params) in
     went m s inputs k event lines c.in-Some.ensures after c.take_line.ensures.terms (ap lines_left c.take_line.ensures.lines) (c.take_line.ensures.done s.past k.done near)
-    c.turn_laws.ensures (g.D.Desk.outside c.args.desk.now) told
+    c.of_turns.ensures (g.D.Desk.outside c.args.desk.now) told
 
 pub returns-clause-ready : goal.returns-clause-ready
 returns-clause-ready g c =
@@ -64,8 +64,8 @@ returns-clause-ready g c =
     record {
       opens = subst (λ (t : DemoTerms). DemoOpens t (g.D.Desk.outside c.args.desk.now).attached) (sym c.take_line.ensures.terms) c.requires.opens;
       ends = c.take_line.ensures.ready;
-      in_place = subst (λ (l : List Line). AreInPlace 10000 after.both.sender.state.sent l) (sym left)
-          (next_in_place m.both.sender.state.sent after.both.sender.state.sent c.in-Some.event (lines_left m.lines) lines c.in-Some.ensures c.take_line.ensures.sent c.requires.in_place);
+      in_place = subst (λ (l : List Line). AreInPlace 10000 after.both.sender.sent l) (sym left)
+          (next_in_place m.both.sender.sent after.both.sender.sent c.in-Some.event (lines_left m.lines) lines c.in-Some.ensures c.take_line.ensures.sent c.requires.in_place);
       said = omega (arith, fewer, same, c.take_line.ensures.said, c.requires.said);
       plays = omega (arith, fewer, same, c.take_line.ensures.played, c.requires.plays);
     }

@@ -25,7 +25,7 @@ few_mbs Qcif = omega arith
 few_mbs Cif = omega arith
 
 pub send_made-requires-clause-left : goal.send_made-requires-clause-left
-send_made-requires-clause-left c = (subst (λ (l : Line). AreInPlace 10000 c.args.self.now.both.sender.state.sent (l ∷ [])) c.in-Send.is c.requires.in_place).0
+send_made-requires-clause-left c = (subst (λ (l : Line). AreInPlace 10000 c.args.self.now.both.sender.sent (l ∷ [])) c.in-Send.is c.requires.in_place).0
 
 pub returns-in-Send-clause-done : goal.returns-in-Send-clause-done
 returns-in-Send-clause-done c = λ past h.
@@ -40,7 +40,7 @@ returns-in-Packet-clause-ready c =
       params = r.params;
       frame = r.frame;
       sender_params = r.sender_params;
-      can = subst (λ (w : Way). CanSend w m.both.sender.state m.both.sender.pace.quant) (sym way) r.can;
+      can = subst (λ (w : Way). CanSend w m.both.sender) (sym way) r.can;
       period = ap (λ (w : Way). period_of w.packets) way ∙ r.period;
       few = r.few;
       counted = ap (λ (w : Way). total_of w.tally) way ∙ r.counted ∙ sym c.deliver.ensures.played;
@@ -59,7 +59,7 @@ returns-in-Packet-clause-done c = λ past h.
     (λ near.
     let may = may_now t laws (steady_is p r.params) past (Deliver n j) near in
     let kept = laws.packets (receiver_end.run_of p []) (steady p) (made_video t) past n j refl (may, h.way_holds.near) in
-    c.deliver.ensures.holds p m.both.sender.state [] (made_video t) past h (may.0, omega (arith, kept, r.period)) may)
+    c.deliver.ensures.holds p m.both.sender [] (made_video t) past h (may.0, omega (arith, kept, r.period)) may)
 
 pub returns-in-All-clause-ready : goal.returns-in-All-clause-ready
 returns-in-All-clause-ready c =
@@ -70,17 +70,17 @@ returns-in-All-clause-ready c =
       params = r.params;
       frame = r.frame;
       sender_params = r.sender_params;
-      can = subst (λ (w : Way). CanSend w m.both.sender.state m.both.sender.pace.quant) (sym way) r.can;
+      can = subst (λ (w : Way). CanSend w m.both.sender) (sym way) r.can;
       period = ap (λ (w : Way). period_of w.packets) way ∙ r.period;
       few = r.few;
       counted = ap (λ (w : Way). total_of w.tally) way ∙ r.counted ∙ sym c.deliver_all.ensures.played;
     }
 
 pub deliver_all-requires : goal.deliver_all-requires
-deliver_all-requires c = omega (arith, c.requires.said, c.requires.ready.can.most, few_mbs c.args.self.now.both.sender.state.params.format)
+deliver_all-requires c = omega (arith, c.requires.said, c.requires.ready.can.most, few_mbs c.args.self.now.both.sender.params.format)
 
 pub returns-in-All-clause-said : goal.returns-in-All-clause-said
-returns-in-All-clause-said c = omega (arith, c.deliver_all.ensures.few, c.requires.ready.can.most, few_mbs c.args.self.now.both.sender.state.params.format)
+returns-in-All-clause-said c = omega (arith, c.deliver_all.ensures.few, c.requires.ready.can.most, few_mbs c.args.self.now.both.sender.params.format)
 
 pub returns-in-All-clause-done : goal.returns-in-All-clause-done
 returns-in-All-clause-done c = λ past h.
@@ -93,15 +93,15 @@ returns-in-All-clause-done c = λ past h.
     let made = c.of_made_input.ensures t r.params in
     let same = c.ends_agree.ensures p (made_video t) past r.params h.way_holds.near in
     let after : Demo = record m { both = record m.both { receiver = c.deliver_all.new.receiver }; network = c.deliver_all.new.self } in
-    let placed : n < m.both.sender.state.sent = (subst (λ (l : Line). AreInPlace 10000 m.both.sender.state.sent (l ∷ [])) c.in-All.is c.requires.in_place).0 in
-    let coded = (c.of_the_way.ensures p).sent m.both.sender.state m.both.receiver [] (made_video t) past h.way_holds.joined in
+    let placed : n < m.both.sender.sent = (subst (λ (l : Line). AreInPlace 10000 m.both.sender.sent (l ∷ [])) c.in-All.is c.requires.in_place).0 in
+    let coded = (c.of_the_way.ensures p).sent m.both.sender m.both.receiver [] (made_video t) past h.way_holds.joined in
     let sent : n < length (both_after p (steady p) (made_video t) [] past).sender.coded = omega (arith, placed, coded) in
     as_line t past (says.All n) c.args.event (HasDone after) c.in-All.is
     (λ near.
     let may = may_now t laws (steady_is p r.params) past (Deliver n 0) (near_first t made past same n sent near) in
     let kept = laws.packets (receiver_end.run_of p []) (steady p) (made_video t) past n 0 refl (may, h.way_holds.near) in
     subst (λ (l : List Happens). HasDone after l) (all_are t made past same n)
-    (c.deliver_all.ensures.holds p m.both.sender.state [] (made_video t) past h (may.0, omega (arith, kept, r.period)) may))
+    (c.deliver_all.ensures.holds p m.both.sender [] (made_video t) past h (may.0, omega (arith, kept, r.period)) may))
 
 pub returns-in-Back-clause-ready : goal.returns-in-Back-clause-ready
 returns-in-Back-clause-ready c =
@@ -138,8 +138,8 @@ returns-in-Play-clause-ready c =
       params = r.params;
       frame = r.frame;
       sender_params = r.sender_params;
-      can = subst (λ (w : Way). CanSend w m.both.sender.state m.both.sender.pace.quant) (sym way)
-          (record { ready = r.can.ready; standing = r.can.standing; quant_is = r.can.quant_is; room = r.can.room; most = r.can.most; keeping = r.can.keeping; begun = r.can.begun });
+      can = subst (λ (w : Way). CanSend w m.both.sender) (sym way)
+          (record { in_range = r.can.in_range; standing = r.can.standing; quant_is = r.can.quant_is; room = r.can.room; most = r.can.most; keeping = r.can.keeping; begun = r.can.begun });
       period = ap (λ (w : Way). period_of w.packets) way ∙ r.period;
       few = r.few;
       counted = omega (arith, c.play.ensures.counted, r.counted, c.play.ensures.played);
@@ -152,4 +152,4 @@ returns-in-Play-clause-done c = λ past h.
     let p = t.params in
     let r = c.requires.ready in
     as_line t past says.Play c.args.event (HasDone (record m { both = record m.both { receiver = c.play.new.receiver }; network = c.play.new.self })) c.in-Play.is
-    (λ near. c.play.ensures.holds p m.both.sender.state [] (made_video t) past h (may_now t (c.of_near_events.ensures p r.params) (steady_is p r.params) past Play near))
+    (λ near. c.play.ensures.holds p m.both.sender [] (made_video t) past h (may_now t (c.of_near_events.ensures p r.params) (steady_is p r.params) past Play near))

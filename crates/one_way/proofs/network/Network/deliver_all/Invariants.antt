@@ -4,7 +4,7 @@ use Rattle.call_rings.specs.Messages.{said_of}
 use Rattle.call_model.specs.IdealCall.{Deliver, Event}
 use Rattle.call_model.specs.Receiving.{ReceiverEntry}
 use Rattle.call_encoding.specs.Frames.{Frame}
-use Rattle.sender_end.specs.declared.state.State.{State}
+use Rattle.one_way.specs.Both.{State}
 use Rattle.one_way.specs.Both.{both_after, steady}
 use Rattle.one_way.specs.Network.{IsAmongLast}
 use Rattle.one_way.specs.Trace.{delivered}

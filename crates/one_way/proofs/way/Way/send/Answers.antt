@@ -1,7 +1,7 @@
 use Rattle.std.proofs.Common.{◌≡◌, ℕ, ◌+◌, ◌*◌, List, [], ◌∷◌, ◌++◌, length, Option, sym, ap, subst, ◌∙◌, arith}
 use Rattle.std.specs.Prelude.{slice_get}
 use Rattle.h263_types.specs.Sizes.{mbs_of}
-use Rattle.h263_types.specs.declared.pace.FixedPace.{FixedPace}
+use Rattle.h263_types.specs.Params.{IsParams}
 use Rattle.h263_types.specs.declared.params.Params.{Params}
 use Rattle.h263_planes.specs.Lent.{picture}
 use Rattle.packet_cutter.specs.Cutting.{packets_of}
@@ -16,12 +16,12 @@ use Rattle.one_way.proofs.way.Way.send.Goals as goal
 
 pub keep_packets-requires-clause-room : goal.keep_packets-requires-clause-room
 keep_packets-requires-clause-room c =
-    let old = c.args.sender.now.state in
-    let new = c.code-coded.new.self.state in
+    let old = c.args.sender.now in
+    let new = c.code-coded.new.self in
     let can = c.requires.ready in
     let params = c.code-coded.ensures.params in
-    let in_range = c.code-coded.ensures.ready.params in
-    let standing = standing_so old new c.args.sender.now.pace.quant can.quant_is can.standing (Capture (carrying (picture c.args.frame) c.args.back.now)) params c.code-coded.ensures.stands in
+    let in_range = subst IsParams (sym params) can.in_range in
+    let standing = standing_so old new can.quant_is can.standing (Capture (carrying (picture c.args.frame) c.args.back.now)) params c.code-coded.ensures.stands in
     roomy new (c.of_packets.ensures new.params in_range) (steady_is new.params in_range) standing c.args.self.now.packets
     (can.room ∙ ap (λ (p : Params). 1200 * mbs_of p.format) (sym params)) (can.most ∙ ap (λ (p : Params). mbs_of p.format) (sym params))
 
@@ -34,14 +34,13 @@ returns-clause-ready c =
     let code = c.code-coded in
     let kept = c.keep_packets.ensures in
     can_send c.args.self.now (record c.args.self.now { packets = c.keep_packets.new.packets; references = c.note.new.self })
-    c.args.sender.now.state code.new.self.state c.args.sender.now.pace.quant code.new.self.pace.quant can (Capture (carrying (picture c.args.frame) c.args.back.now)) code.ensures.params
-    (ap (λ (pace : FixedPace). pace.quant) code.ensures.pace) code.ensures.ready code.ensures.stands kept.sizes.room_is kept.sizes.most_is
-    (record { pictures = can.keeping.pictures ++ packets_of code.new.self.state.cutter ∷ []; keeps = kept.kept can.keeping.pictures can.keeping.keeps })
+    c.args.sender.now code.new.self can (Capture (carrying (picture c.args.frame) c.args.back.now)) code.ensures.params code.ensures.pace code.ensures.stands kept.sizes.room_is kept.sizes.most_is
+    (record { pictures = can.keeping.pictures ++ code.new.self.packets ∷ []; keeps = kept.kept can.keeping.pictures can.keeping.keeps })
     (omega (arith, kept.begun, can.begun, code.ensures.sent))
 
 pub returns-clause-number : goal.returns-clause-number
 returns-clause-number c = λ p receiver before frames past h.
-    let old = c.args.sender.now.state in
+    let old = c.args.sender.now in
     let quant = c.args.sender.now.pace.quant in
     let same : quant ≡ p.quant = c.requires.ready.quant_is ∙ ap (λ (q : Params). q.quant) h.joined.sender_params in
     let frame = carrying (picture c.args.frame) c.args.back.now in
@@ -53,8 +52,8 @@ returns-clause-number c = λ p receiver before frames past h.
 
 pub returns-clause-holds : goal.returns-clause-holds
 returns-clause-holds c = λ p receiver before frames past h at near.
-    let old = c.args.sender.now.state in
-    let new = c.code-coded.new.self.state in
+    let old = c.args.sender.now in
+    let new = c.code-coded.new.self in
     let quant = c.args.sender.now.pace.quant in
     let same : quant ≡ p.quant = c.requires.ready.quant_is ∙ ap (λ (q : Params). q.quant) h.joined.sender_params in
     let frame = carrying (picture c.args.frame) c.args.back.now in
