@@ -1,6 +1,6 @@
 -- A step by both ends is that of the ideal call, where both show the same.
 use Rattle.std.proofs.Common.{◌≡◌, ℕ, ◌+◌, ◌-◌, true, List, [], ◌∷◌, ◌++◌, length, Option, Some, None, Result, Ok, Err, refl, ap, ◌∙◌}
-use Rattle.std.specs.Prelude.{map, nat_lt, if◌then◌else◌}
+use Rattle.std.specs.Prelude.{nat_lt, if◌then◌else◌}
 use Rattle.h263_outside.specs.declared.desk.Role.{Role}
 use Rattle.h263_outside.specs.declared.desk.Role.TheVariants.{Video}
 use Rattle.h263_planes.specs.Layout.{picture_of}
@@ -11,30 +11,16 @@ use Rattle.loss_trace.specs.declared.event.Event.TheVariants as says
 use Rattle.loss_trace.specs.declared.fault.TraceFault.TheVariants.{TooMany}
 use Rattle.loss_trace.specs.Lines.{first_line}
 use Rattle.loss_trace.specs.Reading.{event_in}
-use Rattle.call_report.specs.declared.status.Status.TheVariants.{TraceRefused}
-use Rattle.desk_program.specs.Run.{End, Step, Turn, refusal}
+use Rattle.desk_program.specs.Run.{End, Step, Turn}
 use Rattle.desk_program.specs.Run.Step.{Goes, Ends}
 use Rattle.desk_program.specs.Texts.{no_texts, of}
 use Rattle.call_model.specs.Refusals.{Refusal, first_refusal}
 use Rattle.one_way.specs.Trace.{delivered}
-use Rattle.h263_types.specs.declared.blocks.Mb.{Mb}
-use Rattle.h263_types.specs.declared.params.Params.{Params}
-use Rattle.h263_types.specs.Params.{IsParams}
-use Rattle.h263_planes.specs.Picture.{Picture}
-use Rattle.call_model.specs.Coding.{Message, Rules}
-use Rattle.call_model.specs.IdealCall.{Event, Send, Deliver, Play, Back, AllMayHappen, NumberedMessage, Call, about, ideal, slices_at}
-use Rattle.call_model.specs.JoinedRun.{AllMayHappenBoth, Joined, SaidMessage}
-use Rattle.call_model.specs.TwoStores.{Agree, told_of}
+use Rattle.call_model.specs.IdealCall.{Event, Send, Deliver, Play, Back, slices_at}
 use Rattle.call_decoding.specs.Rules.{rules_of}
-use Rattle.call_decoding.specs.Styles.{Style}
-use Rattle.call_encoding.specs.Frames.{Frame}
-use Rattle.coded_call.specs.Coding.{coding}
-use Rattle.receiver_end.specs.State as receiver_end
-use Rattle.one_way.specs.Both.{bare, both_after}
-use Rattle.one_way.specs.Both.{steady}
+use Rattle.one_way.specs.Both.{bare}
 use Rattle.call_command.specs.Call.{CallState, after_line, all_played, bad_line, by_call, by_ends, capture_step, event_step, frame_step, line_step, line_turn, play_texts, refusal_at, trace_step, unless, video_step, with_frame, with_message, with_packet, with_picture, with_play}
-use Rattle.one_way.specs.Laws.{CallLaws, NearLaws, ShowTheSame}
-use Rattle.one_way.specs.Seen.{Seen, in_both, in_call}
+use Rattle.one_way.specs.Seen.{Seen}
 
 abbrev goes : CallState → Turn → Step CallState
 goes next turn = Goes next turn

@@ -1,5 +1,5 @@
 -- A line that was read: it is refused, or its event is done.
-use Rattle.std.proofs.Common.{◌≡◌, ℕ, ◌+◌, ◌-◌, ◌<◌, Bool, true, false, not, List, [], ◌∷◌, ◌++◌, length, drop, Option, Some, None, Result, Ok, Err, IsErrAnd, refl, sym, ap, subst, ◌∙◌, arith}
+use Rattle.std.proofs.Common.{◌≡◌, ℕ, ◌+◌, ◌-◌, Bool, true, false, not, List, [], ◌∷◌, ◌++◌, length, drop, Option, None, Result, Ok, Err, IsErrAnd, refl, sym, ap, subst, ◌∙◌, arith}
 use Rattle.h263_types.specs.declared.params.Params.{Params}
 use Rattle.h263_planes.specs.Layout.{picture_of}
 use Rattle.h263_outside.specs.Desk.{Outside, Rose}
@@ -36,13 +36,12 @@ use Rattle.one_way.specs.Both.{State, bare, both_after, steady}
 use Rattle.one_way.specs.Laws.{WayLaws}
 use Rattle.one_way.specs.Refused.{IsAllowed, refusal_after}
 use Rattle.one_way.specs.Seen.{in_both}
-use Rattle.one_way.specs.Way.{HoldsNetwork}
 use Rattle.call_command.specs.declared.carrier.Carrier.{Carrier}
 use Rattle.call_command.specs.declared.world.World.{World}
 use Rattle.call_command.specs.Call.{CallState, after_line, by_ends, capture_step, event_step, line_size, line_turn, may_read, play_texts, refusal_at, unless, with_frame, with_message, with_packet, with_packets, with_play}
 use Rattle.call_command.specs.Refused.{fault_at, fault_of}
 use Rattle.call_command.specs.Standing.{HasDone, HasTaken, Parts, PartsReady, PartsStand, StoodBefore, more_of, parts_of, state_of}
-use Rattle.call_command.specs.Turning.{IsAsked, IsChecked, IsRead, IsTurn, TakesFrame, TakesLine, names_of}
+use Rattle.call_command.specs.Turning.{IsAsked, IsChecked, IsRead, TakesFrame, TakesLine, names_of}
 use Rattle.call_command.proofs.After.{longer, push_then}
 use Rattle.call_command.proofs.Counting.{done_now, goes_on, was_cut}
 use Rattle.call_command.proofs.LineTurning.{double_not, line_goes, line_refused, nothing_behind}

@@ -14,8 +14,7 @@ use Rattle.loss_trace.specs.declared.event.Event.TheVariants as says
 use Rattle.loss_trace.specs.declared.fault.TraceFault.TheVariants.{TooMany}
 use Rattle.loss_trace.specs.Lines.{first_line}
 use Rattle.loss_trace.specs.Reading.{event_in}
-use Rattle.call_report.specs.declared.status.Status.TheVariants.{TraceRefused}
-use Rattle.desk_program.specs.Run.{Run, Step, behind, follow, refusal, run_of, silence}
+use Rattle.desk_program.specs.Run.{Run, Step, behind, follow, run_of, silence}
 use Rattle.desk_program.specs.Run.Step.{Goes, Ends}
 use Rattle.call_model.specs.CodedPictures.{Coded}
 use Rattle.call_model.specs.IdealCall.{Event, Send, Deliver, Play, Back, slices_at}
@@ -23,7 +22,7 @@ use Rattle.call_model.specs.JoinedRun.{AllMayHappenBoth, Joined}
 use Rattle.call_model.specs.LaterFrames.{LaterFramesBoth}
 use Rattle.call_model.specs.Receiving.{ReceiverRun}
 use Rattle.call_model.specs.Refusals.{Refusal, first_refusal}
-use Rattle.call_model.specs.Sending.{SenderRun, packets_of}
+use Rattle.call_model.specs.Sending.{SenderRun}
 use Rattle.call_decoding.specs.Rules.{rules_of}
 use Rattle.call_decoding.specs.Styles.{Style}
 use Rattle.call_encoding.specs.Frames.{Frame}

@@ -18,7 +18,7 @@ use Rattle.receiver_end.specs.Answers.{mark_of}
 use Rattle.receiver_end.specs.Decoding.{decoding}
 use Rattle.one_way.specs.Both.{both_after, steady}
 use Rattle.one_way.specs.Seen.{in_both, reference_in}
-use Rattle.call_command.specs.Call.{CallState, play_texts}
+use Rattle.call_command.specs.Call.{play_texts}
 use Rattle.call_command.specs.Standing.{row_texts}
 
 pub on_err : {T E P : Type 0} (r : Result T E) → P → OnErr r P

@@ -128,9 +128,9 @@ pub fn converse<D: Desk>(
             let status = take_turns(desk, &mut world);
             let World {
                 terms: _,
-                video: _,
-                sender: _,
-                receiver: _,
+                video: _video,
+                sender: _sender,
+                receiver: _receiver,
                 carrier,
             } = world;
             carrier.finish();

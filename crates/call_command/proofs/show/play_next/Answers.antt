@@ -1,13 +1,9 @@
-use Rattle.std.proofs.Common.{◌≡◌, ℕ, ◌<◌, List, ◌∷◌, Option, Some, None, Result, refl, sym, ap, subst, ◌∙◌, arith}
+use Rattle.std.proofs.Common.{ℕ, ◌<◌, List, ◌∷◌, subst, arith}
 use Rattle.std.proofs.lemmas.Result.{on_err_weaker, on_ok_weaker}
 use Rattle.h263_outside.specs.declared.desk.Role.{Role}
 use Rattle.h263_planes.specs.Lent.{picture}
 use Rattle.desk_program.specs.Ends.{Gains, GainsFronts}
 use Rattle.call_model.specs.IdealCall.{Play}
-use Rattle.one_way.specs.Both.{both_after, steady}
-use Rattle.one_way.specs.Seen.{in_both}
-use Rattle.call_command.specs.Call.{play_texts}
-use Rattle.call_command.specs.Standing.{row_texts}
 use Rattle.call_command.proofs.Writing.{row_is}
 use Rattle.call_command.proofs.show.play_next.Goals as goal
 

@@ -1,4 +1,4 @@
-use Rattle.std.proofs.Common.{◌≡◌, ◌<◌, Result, Ok, Err, OnOk, sym, subst}
+use Rattle.std.proofs.Common.{◌<◌, Result, Ok, Err, OnOk, sym, subst}
 use Rattle.loss_trace.specs.declared.event.Event.{Event as Line}
 use Rattle.loss_trace.specs.declared.event.Event.TheVariants as says
 use Rattle.one_way.specs.declared.refusals.Refusal.{Refusal}

@@ -1,30 +1,23 @@
-use Rattle.std.proofs.Common.{◌≡◌, ℕ, ◌+◌, ◌*◌, ◌<◌, ◌≤◌, true, false, List, ◌∷◌, ◌++◌, length, None, Ok, Err, refl, sym, ap, subst, ◌∙◌, arith}
-use Rattle.h263_outside.specs.Desk.{Outside}
-use Rattle.h263_outside.specs.declared.desk.Role.{Role}
+use Rattle.std.proofs.Common.{◌≡◌, ℕ, ◌+◌, ◌<◌, true, List, ◌∷◌, ◌++◌, length, None, Ok, Err, refl, sym, ap, subst, ◌∙◌, arith}
 use Rattle.h263_outside.specs.declared.desk.Role.TheVariants.{Events}
 use Rattle.h263_types.specs.declared.params.Params.{Params}
 use Rattle.h263_types.specs.declared.pace.FixedPace.{FixedPace}
 use Rattle.loss_trace.specs.declared.event.Event.{Event as Line}
 use Rattle.loss_trace.specs.declared.event.Event.TheVariants as says
 use Rattle.call_report.specs.declared.status.Status.TheVariants.{TraceRefused}
-use Rattle.desk_program.specs.Ends.{KeepsRoles}
 use Rattle.call_rings.specs.Keeping.{period_of}
-use Rattle.call_model.specs.IdealCall.{Event, Deliver, Back, Play, Send, slices_at}
+use Rattle.call_model.specs.IdealCall.{Deliver, Back, Play, Send, slices_at}
 use Rattle.call_encoding.specs.Frames.{Frame}
-use Rattle.call_decoding.specs.Rules.{rules_of}
-use Rattle.coded_call.specs.Coding.{coding}
 use Rattle.receiver_end.specs.State as receiver_end
-use Rattle.one_way.specs.declared.network.Network.{Network}
 use Rattle.one_way.specs.declared.way.Way.{Way}
-use Rattle.one_way.specs.Both.{both_after, steady}
+use Rattle.one_way.specs.Both.{steady}
 use Rattle.one_way.specs.Counts.{total_of}
-use Rattle.one_way.specs.Network.{IsAmongLast}
 use Rattle.one_way.specs.Refused.{refusal_after}
 use Rattle.one_way.specs.Trace.{delivered}
-use Rattle.one_way.specs.Way.{CanSend, HoldsNetwork, MayHappenNow}
+use Rattle.one_way.specs.Way.{CanSend, HoldsNetwork}
 use Rattle.call_command.specs.declared.carrier.Carrier.{Carrier}
 use Rattle.call_command.specs.Call.{by_ends, event_step}
-use Rattle.call_command.specs.Standing.{HasDone, Parts, PartsReady, PartsStand, more_of, parts_of}
+use Rattle.call_command.specs.Standing.{HasDone, PartsStand, more_of, parts_of}
 use Rattle.call_command.specs.Turning.{IsAhead, IsChecked, IsRead, Names, names_of}
 use Rattle.call_command.proofs.Behind.{asks_frame, count_same, done_here, event_goes, line_goes_on, line_is_refused, line_was_cut, message_is, packet_is, packets_is, play_cut, play_goes, refusal_here, stands_event}
 use Rattle.call_command.proofs.Counting.{gave_up, roles_same, writes_keep}

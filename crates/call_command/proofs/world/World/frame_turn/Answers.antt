@@ -1,8 +1,7 @@
-use Rattle.std.proofs.Common.{◌≡◌, ℕ, ◌+◌, ◌-◌, ◌*◌, ◌≤◌, Bool, true, false, List, [], ◌∷◌, ◌++◌, length, Option, Some, Ok, Err, refl, sym, ap, subst, ◌∙◌, arith}
-use Rattle.std.specs.Prelude.{slice_get, if◌then◌else◌}
+use Rattle.std.proofs.Common.{◌≡◌, ℕ, ◌+◌, ◌-◌, Bool, true, false, List, [], ◌∷◌, ◌++◌, length, Option, Some, Ok, Err, refl, sym, ap, subst, ◌∙◌, arith}
+use Rattle.std.specs.Prelude.{if◌then◌else◌}
 use Rattle.std.specs.Vec.{with_items}
 use Rattle.std.proofs.lemmas.List.{with_items_is}
-use Rattle.h263_outside.specs.Desk.{Outside}
 use Rattle.h263_outside.specs.declared.desk.Role.{Role}
 use Rattle.h263_outside.specs.declared.desk.Role.TheVariants.{Video, Events}
 use Rattle.h263_planes.specs.Layout.{picture_of}
@@ -18,18 +17,16 @@ use Rattle.desk_program.specs.Run.{Step, behind}
 use Rattle.desk_program.specs.Ends.{Ended, GainsFronts, GivesUp, Went, step_texts}
 use Rattle.desk_program.specs.Texts.{of}
 use Rattle.call_rings.specs.Keeping.{period_of}
-use Rattle.call_rings.specs.Messages.{said_of}
-use Rattle.one_way.specs.declared.network.Network.{Network}
 use Rattle.one_way.specs.declared.way.Way.{Way}
 use Rattle.one_way.specs.Both.{bare}
-use Rattle.one_way.specs.Counts.{counts_of, total_of}
+use Rattle.one_way.specs.Counts.{counts_of}
 use Rattle.one_way.specs.Trace.{delivered, passed_on}
 use Rattle.one_way.specs.Way.{CanSend, HoldsNetwork}
 use Rattle.call_encoding.specs.Frames.{Frame}
 use Rattle.call_model.specs.IdealCall.{Send}
 use Rattle.call_command.specs.declared.carrier.Carrier.{Carrier}
 use Rattle.call_command.specs.Call.{CallState, may_read}
-use Rattle.call_command.specs.Standing.{Parts, PartsStand, more_of, parts_of, state_of}
+use Rattle.call_command.specs.Standing.{PartsStand, parts_of, state_of}
 use Rattle.call_command.specs.Turning.{Names, names_of}
 use Rattle.call_command.proofs.Counting.{counts_are, keeps_then, plainly, reads_keep, turn_gave_up, turn_goes_on, turn_is_over, turn_was_cut, video_cause, video_stops, writes_keep}
 use Rattle.call_command.proofs.Framing.{among_last, at, count_of, may_deliver, may_play, may_send, stands_after, texts_are}

@@ -1,4 +1,4 @@
-use Rattle.std.proofs.Common.{◌≡◌, ℕ, ◌+◌, ◌-◌, ◌*◌, ◌≤◌, Bool, List, [], Option, Some, None, Result, Ok, refl, sym, ap, subst, ◌∙◌, arith}
+use Rattle.std.proofs.Common.{◌≡◌, ℕ, ◌+◌, ◌-◌, Bool, List, [], Option, Some, None, Result, Ok, refl, sym, ap, subst, arith}
 use Rattle.std.specs.Prelude.{if◌then◌else◌}
 use Rattle.h263_outside.specs.Desk.{Outside}
 use Rattle.h263_outside.specs.declared.desk.Role.{Role}
@@ -12,11 +12,9 @@ use Rattle.call_report.specs.Status.{phase, trace_stop}
 use Rattle.desk_program.specs.Run.{Step}
 use Rattle.desk_program.specs.Ends.{Ended, Falls, GainsFronts, GivesUp, Tells, TurnGives, step_texts}
 use Rattle.one_way.specs.Counts.{counts_of}
-use Rattle.call_command.specs.declared.carrier.Carrier.{Carrier}
-use Rattle.call_command.specs.declared.world.World.{World}
 use Rattle.call_command.specs.Call.{CallState, by_ends, event_step, may_read, talk_step}
-use Rattle.call_command.specs.Standing.{PartsStand, more_of, parts_of, source_of, state_of}
-use Rattle.call_command.specs.Turning.{IsBegun, IsRead}
+use Rattle.call_command.specs.Standing.{PartsStand, more_of, parts_of, state_of}
+use Rattle.call_command.specs.Turning.{IsRead}
 use Rattle.call_command.proofs.Behind.{stood_behind}
 use Rattle.call_command.proofs.Counting.{cause_since, counts_are, keeps_then, line_by_line, reads_keep, trace_cause, trace_halts, turn_gave_up, turn_is_over, turn_was_cut, writes_keep}
 use Rattle.call_command.proofs.LineTurning.{found_could, found_is, found_number, found_taken, read_out, trace_cut, trace_ends, trace_stops}

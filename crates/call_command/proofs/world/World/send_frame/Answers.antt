@@ -1,8 +1,7 @@
-use Rattle.std.proofs.Common.{◌≡◌, ℕ, ◌+◌, ◌-◌, ◌*◌, ◌≤◌, Bool, true, false, List, ◌∷◌, ◌++◌, length, Option, Some, Ok, Err, refl, sym, ap, subst, ◌∙◌, arith}
+use Rattle.std.proofs.Common.{◌≡◌, ℕ, ◌+◌, ◌-◌, Bool, true, false, List, ◌∷◌, ◌++◌, length, Some, Ok, Err, refl, sym, ap, subst, ◌∙◌, arith}
 use Rattle.std.specs.Prelude.{slice_get, if◌then◌else◌}
 use Rattle.std.specs.Vec.{with_items}
 use Rattle.std.proofs.lemmas.List.{with_items_is}
-use Rattle.h263_outside.specs.Desk.{Outside}
 use Rattle.h263_outside.specs.declared.desk.Role.TheVariants.{Video, Events}
 use Rattle.h263_types.specs.Sizes.{size_of_picture}
 use Rattle.h263_types.specs.declared.pace.FixedPace.{FixedPace}
@@ -19,11 +18,11 @@ use Rattle.call_encoding.specs.Frames.{Frame}
 use Rattle.one_way.specs.Both.{bare}
 use Rattle.one_way.specs.Counts.{total_of}
 use Rattle.call_command.specs.declared.carrier.Carrier.{Carrier}
-use Rattle.call_command.specs.Call.{CallState, capture_step}
+use Rattle.call_command.specs.Call.{capture_step}
 use Rattle.call_command.specs.Standing.{HasDone, Parts, PartsStand, more_of, parts_of}
 use Rattle.call_command.specs.Turning.{IsAsked, Names, names_of}
 use Rattle.call_command.proofs.After.{at_end, below_end}
-use Rattle.call_command.proofs.Behind.{done_here, format_is, refusal_here, refusal_later, stands_sent, video_format, video_more, video_place}
+use Rattle.call_command.proofs.Behind.{format_is, refusal_here, refusal_later, stands_sent, video_format, video_more, video_place}
 use Rattle.call_command.proofs.Capturing.{frame_missing, frame_sent, frame_stops}
 use Rattle.call_command.proofs.Counting.{gave_up, goes_on, reads_keep, video_cause, video_stops}
 use Rattle.call_command.proofs.FrameTurning.{given, gives_so, lent}
