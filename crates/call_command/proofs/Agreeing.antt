@@ -1,6 +1,6 @@
--- In a near call with a new receiver both ends show what the ideal call shows.
+-- A step by both ends is that of the ideal call, where both show the same.
 use Rattle.std.proofs.Common.{◌≡◌, ℕ, ◌+◌, ◌-◌, true, List, [], ◌∷◌, ◌++◌, length, Option, Some, None, Result, Ok, Err, refl, ap, ◌∙◌}
-use Rattle.std.specs.Prelude.{map, nat_lt, if◌then◌else◌}
+use Rattle.std.specs.Prelude.{nat_lt, if◌then◌else◌}
 use Rattle.h263_outside.specs.declared.desk.Role.{Role}
 use Rattle.h263_outside.specs.declared.desk.Role.TheVariants.{Video}
 use Rattle.h263_planes.specs.Layout.{picture_of}
@@ -11,58 +11,22 @@ use Rattle.loss_trace.specs.declared.event.Event.TheVariants as says
 use Rattle.loss_trace.specs.declared.fault.TraceFault.TheVariants.{TooMany}
 use Rattle.loss_trace.specs.Lines.{first_line}
 use Rattle.loss_trace.specs.Reading.{event_in}
-use Rattle.call_report.specs.declared.status.Status.TheVariants.{TraceRefused}
-use Rattle.desk_program.specs.Run.{End, Step, Turn, refusal}
+use Rattle.desk_program.specs.Run.{End, Step, Turn}
 use Rattle.desk_program.specs.Run.Step.{Goes, Ends}
 use Rattle.desk_program.specs.Texts.{no_texts, of}
 use Rattle.call_model.specs.Refusals.{Refusal, first_refusal}
-use Rattle.call_command.specs.Trace.{delivered}
-use Rattle.h263_types.specs.declared.blocks.Mb.{Mb}
-use Rattle.h263_types.specs.declared.params.Params.{Params}
-use Rattle.h263_types.specs.Params.{IsParams}
-use Rattle.h263_planes.specs.Picture.{Picture}
-use Rattle.call_model.specs.Coding.{Message, Rules}
-use Rattle.call_model.specs.IdealCall.{Event, Send, Deliver, Play, Back, AllMayHappen, NumberedMessage, Call, about, ideal, slices_at}
-use Rattle.call_model.specs.JoinedRun.{AllMayHappenBoth, Joined, SaidMessage}
-use Rattle.call_model.specs.TwoStores.{Agree, told_of}
+use Rattle.one_way.specs.Trace.{delivered}
+use Rattle.call_model.specs.IdealCall.{Event, Send, Deliver, Play, Back, slices_at}
 use Rattle.call_decoding.specs.Rules.{rules_of}
-use Rattle.call_decoding.specs.Styles.{Style}
-use Rattle.call_encoding.specs.Frames.{Frame}
-use Rattle.coded_call.specs.Coding.{coding}
-use Rattle.receiver_end.specs.State as receiver_end
-use Rattle.call_command.specs.Both.{bare, both_after}
-use Rattle.call_command.specs.Call.{CallState, after_line, all_played, by_call, by_ends, capture_step, event_step, frame_step, line_step, line_turn, play_texts, refusal_at, steady, trace_step, unless, video_step, with_frame, with_message, with_packet, with_picture, with_play}
-use Rattle.call_command.specs.Laws.{CallLaws, NearLaws, ShowTheSame}
-use Rattle.call_command.specs.Seen.{Seen, in_both, in_call}
-use Rattle.call_command.proofs.Passing.{steady_is}
+use Rattle.one_way.specs.Both.{bare}
+use Rattle.call_command.specs.Call.{CallState, after_line, all_played, bad_line, by_call, by_ends, capture_step, event_step, frame_step, line_step, line_turn, play_texts, refusal_at, trace_step, unless, video_step, with_frame, with_message, with_packet, with_picture, with_play}
+use Rattle.one_way.specs.Seen.{Seen}
 
 abbrev goes : CallState → Turn → Step CallState
 goes next turn = Goes next turn
 
 abbrev ends : End → Step CallState
 ends last = Ends last
-
--- what is told of notes is about their pictures
-abouts_are : (write : Message → List ℕ) (rules : Rules) (notes : List NumberedMessage) → map (λ (told : SaidMessage). told.about) (map (told_of write rules) notes) ≡ map about notes
-abouts_are write rules [] = refl
-abouts_are write rules (note ∷ notes) = ap (λ (l : List ℕ). about note ∷ l) (abouts_are write rules notes)
-
-module _ (p : Params) where
-  seen_same : (c : Call Style Mb Picture) (both : Joined Style Mb Picture) → Agree (coding p) (rules_of p) c both → in_both both ≡ in_call c
-  seen_same c both agree =
-      let abouts : map (λ (told : SaidMessage). told.about) both.said ≡ map about c.said =
-      ap (λ (l : List SaidMessage). map (λ (told : SaidMessage). told.about) l) agree.messages ∙ abouts_are (coding p).encoding.write_message (rules_of p) c.said
-      in
-      λ i. record { coded = agree.pictures i; played = agree.played i; plays = agree.plays i; abouts = abouts i }
-
-  pub show_the_same : IsParams p → CallLaws p → NearLaws p → (frames : List Frame) (past : List Event)
-      → AllMayHappenBoth (coding p) (rules_of p) (receiver_end.run_of p []) (steady p) frames past → ShowTheSame p frames past
-  show_the_same in_range laws near_laws frames past near =
-      let ideally : AllMayHappen (coding p) (rules_of p) (steady p) frames past = (near_laws.near (steady p) frames past (steady_is p in_range)).1 near in
-      seen_same (ideal (coding p) (rules_of p) (steady p) frames past) (both_after p (steady p) frames [] past)
-      (laws.follow (steady p) frames past (steady_is p in_range) ideally).agree
-
--- ---- a step by both ends is that of the ideal call
 
 -- both show the same of a state
 abbrev Same : CallState → Type 0
@@ -103,7 +67,7 @@ pub trace_agrees : (s : CallState) (inputs : Role → List ℕ) (trace : List �
     → trace_step by_ends s inputs trace ≡ trace_step by_call s inputs trace
 trace_agrees s inputs [] same played = ap (λ (seen : Seen). ends (all_played seen)) same
 trace_agrees s inputs (b ∷ trace) same played =
-    ap (λ (step : Step CallState). if nat_lt s.lines 16777216 then step else ends (refusal (TraceRefused (TooMany (s.lines + 1)))))
+    ap (λ (step : Step CallState). if nat_lt s.lines 16777216 then step else ends (bad_line (TooMany (s.lines + 1))))
     (line_agrees s inputs (b ∷ trace) (event_in (first_line (b ∷ trace))) same played)
 
 frame_agrees : (s : CallState) (video : List ℕ) (r : Result (List ℕ) Y4mFault)

@@ -1,9 +1,9 @@
 -- What a line `S` makes of the frame that is read for it.
-use Rattle.std.proofs.Common.{◌≡◌, ◌≢◌, ℕ, ◌+◌, ◌-◌, ◌<◌, ◌≤◌, Bool, true, false, List, [], ◌∷◌, length, take, drop, Some, Result, Ok, Err, IsErr, refl, sym, ap, ◌∙◌, arith}
+use Rattle.std.proofs.Common.{◌≡◌, ◌≢◌, ℕ, ◌+◌, ◌-◌, ◌<◌, ◌≤◌, Bool, true, false, List, [], ◌∷◌, length, take, drop, Some, Result, Ok, Err, IsErr, refl, sym, ap, subst, ◌∙◌, arith}
 use Rattle.std.specs.Prelude.{◌&&◌, nat_le}
-use Rattle.h263_outside.specs.Desk.{Outside, IsInput}
+use Rattle.h263_outside.specs.Desk.{Outside}
 use Rattle.h263_outside.specs.declared.desk.Role.{Role}
-use Rattle.h263_outside.specs.declared.desk.Role.TheVariants.{Video, Events, Pictures, Wire, Report, Video2, Pictures2}
+use Rattle.h263_outside.specs.declared.desk.Role.TheVariants.{Video, Events, Video2}
 use Rattle.h263_planes.specs.Layout.{picture_of}
 use Rattle.y4m.specs.declared.fault.Y4mFault.{Y4mFault}
 use Rattle.y4m.specs.declared.fault.VideoStop.{VideoStop}
@@ -14,11 +14,11 @@ use Rattle.loss_trace.specs.declared.fault.TraceFault.TheVariants.{NoFrame}
 use Rattle.loss_trace.specs.Lines.{is_closed}
 use Rattle.call_report.specs.declared.status.Status.TheVariants.{TraceRefused, VideoRefused}
 use Rattle.call_report.specs.Status.{phase, video_stop}
-use Rattle.desk_program.specs.Run.{Step, Turn, behind}
-use Rattle.desk_program.specs.Ends.{Tells, holds, IsPart, Went, Ended, GivesUp, step_turns}
+use Rattle.desk_program.specs.Run.{Step, Turn, behind, refusal}
+use Rattle.desk_program.specs.Ends.{Tells, holds, IsPart, Went, Ended, EndsBy, GivesUp, step_turns}
 use Rattle.desk_program.specs.Texts.{no_texts, of, and_of}
 use Rattle.desk_program.specs.Laws.{TurnLaws}
-use Rattle.call_command.specs.Both.{bare}
+use Rattle.one_way.specs.Both.{bare}
 use Rattle.call_command.specs.Call.{CallState, after_line, capture_step, captured_step, line_size, may_read, refused_line, with_frame}
 use Rattle.call_command.specs.Laws.{VideoLaws}
 use Rattle.call_command.specs.Standing.{HasTaken}
@@ -62,7 +62,7 @@ video_next s trace (b ∷ rest) r some is = ap (captured_step s trace (frame_siz
 
 -- ---- the capture: `old` is the desk after the line, `mid` after the read of the frame
 
-module _ (turns : TurnLaws CallState) (laws : VideoLaws) (s : CallState) (inputs : Role → List ℕ) (before old mid : Outside) (taken : HasTaken inputs before old) (others : (r : Role) → r ≢ Video → mid.left r ≡ old.left r) (same : mid.written ≡ old.written) (reader : Y4mReader) (out : List ℕ) where
+module _ (turns : TurnLaws) (laws : VideoLaws) (s : CallState) (inputs : Role → List ℕ) (before old mid : Outside) (taken : HasTaken inputs before old) (others : (r : Role) → r ≢ Video → mid.left r ≡ old.left r) (same : mid.written ≡ old.written) (reader : Y4mReader) (out : List ℕ) where
   abbrev trace : List ℕ
   trace = inputs Events
 
@@ -84,7 +84,11 @@ module _ (turns : TurnLaws CallState) (laws : VideoLaws) (s : CallState) (inputs
     written = same ∙ taken.written;
   }
   frame_stops (Refused fault) e =
-      turns.refuses _ (VideoRefused fault) inputs before mid (video_next s trace (inputs Video) (Err fault) e.0 e.1) (same ∙ taken.written)
+      record {
+        last = refusal (VideoRefused fault);
+        is = video_next s trace (inputs Video) (Err fault) e.0 e.1;
+        by = turns.refuses (VideoRefused fault) inputs before mid (same ∙ taken.written);
+      }
 
   -- no frame is left
   pub frame_missing : (line : ℕ) → line ≡ s.lines + 1 → Gives (Ok false) s (inputs Video) out reader (mid.left Video)
@@ -92,22 +96,10 @@ module _ (turns : TurnLaws CallState) (laws : VideoLaws) (s : CallState) (inputs
   frame_missing line is e = record {
     last = refused_line trace (NoFrame (s.lines + 1));
     is = ap (capture_step s trace) e.0;
-    known = ap (λ (n : ℕ). TraceRefused (NoFrame n)) is;
-    left = λ r input k said. left_at r input ∙ ap (λ (n : ℕ). Some (drop n (inputs r))) (sum_is _ k (cc said));
-    written = turns.no_text before.written mid.written (same ∙ taken.written);
+    by = subst (λ (n : ℕ). EndsBy (refused_line trace (NoFrame (s.lines + 1))) (TraceRefused (NoFrame n)) inputs before mid) (sym is)
+        (turns.ends (TraceRefused (NoFrame (s.lines + 1))) (of Events (line_size trace)) no_texts inputs before mid
+        (turns.none_read Video old mid (behind inputs (of Events (line_size trace))) taken.left e.0 e.1 others) (turns.no_text before.written mid.written (same ∙ taken.written)));
   }
-    where
-      sum_is : (n k : ℕ) → n ≡ k → n ≡ 0 + k
-      sum_is n k is = omega (arith, is)
-
-      left_at : (r : Role) → IsInput r → mid.left r ≡ Some (behind inputs (of Events (line_size trace)) r)
-      left_at Video input = e.1 ∙ ap (λ (l : List ℕ). Some l) (sym e.0)
-      left_at Events input = others Events (λ same. cc) ∙ taken.left Events refl
-      left_at Video2 input = others Video2 (λ same. cc) ∙ taken.left Video2 refl
-      left_at Pictures input = absurd (cc input)
-      left_at Wire input = absurd (cc input)
-      left_at Report input = absurd (cc input)
-      left_at Pictures2 input = absurd (cc input)
 
   -- the frame is sent
   module _ (e : Gives (Ok true) s (inputs Video) out reader (mid.left Video)) where

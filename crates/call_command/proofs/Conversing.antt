@@ -3,50 +3,56 @@ use Rattle.std.proofs.Common.{◌≡◌, ℕ, ◌-◌, Bool, true, false, List, 
 use Rattle.h263_outside.specs.Desk.{Outside}
 use Rattle.h263_outside.specs.declared.desk.Role.{Role}
 use Rattle.call_report.specs.declared.status.Status.{Status}
+use Rattle.call_report.specs.Status.{Phase, phase}
+use Rattle.call_report.specs.Status.Phase.{finished, refused, unread, unwritten, starved, unasked, unopened}
 use Rattle.call_model.specs.Receiving.{ReceiverEntry}
-use Rattle.desk_program.specs.Ends.{AfterAll, Tells}
+use Rattle.desk_program.specs.Ends.{AfterAll, OnceSettled, Tells}
 use Rattle.desk_program.specs.Laws.{TurnLaws}
 use Rattle.desk_program.specs.Run.{Run, end_state, run_of}
-use Rattle.desk_program.specs.UnderWay.{EndsIn, IsUnderWay}
+use Rattle.desk_program.specs.UnderWay.{EndsIn, IsUnderWay, LeftIn}
 use Rattle.h263_types.specs.declared.params.Params.{Params}
-use Rattle.sender_end.specs.declared.state.State.{State}
+use Rattle.one_way.specs.Both.{State}
 use Rattle.sender_end.specs.Stands as sender_end
 use Rattle.receiver_end.specs.State as receiver_end
 use Rattle.receiver_end.specs.declared.kept.Kept.{Kept}
-use Rattle.call_command.specs.declared.lent.World.{World}
+use Rattle.call_command.specs.declared.world.World.{World}
 use Rattle.call_command.specs.declared.terms.Terms.{Terms}
-use Rattle.call_command.specs.Call.{CallState, call_step, first_state, may_read, most_turns, steady, talk_step}
-use Rattle.call_command.specs.Converse.{IsFirst, WorldStands, parts_of_world, talk_end, talk_of}
+use Rattle.one_way.specs.Both.{steady}
+use Rattle.one_way.specs.Laws.{WayLaws}
+use Rattle.call_command.specs.Call.{CallState, call_step, first_state, may_read, most_turns, talk_step}
+use Rattle.call_command.specs.Converse.{IsFirst, WorldStands, WorldStays, talk_end, talk_of}
 use Rattle.call_command.specs.Laws.{TalkIsTheCall}
-use Rattle.call_command.specs.Standing.{EndsStand, IsFresh, more_of}
+use Rattle.call_command.specs.Standing.{EndsStand, IsFresh, more_of, parts_of}
+use Rattle.call_command.specs.Turning.{LeavesEnds, names_of}
+use Rattle.call_command.proofs.Counting.{ends_stand}
 use Rattle.call_command.proofs.Starting.{stands_first}
 
 -- its parts stand
-pub lent_first : (w : World) (before : List ReceiverEntry) (inputs : Role → List ℕ) → IsFresh w.terms w.carrier.now
-    → w.sender.now.state.params ≡ w.terms.params → sender_end.Stands (steady w.terms.params) w.sender.now.state [] → w.sender.now.state.sent ≡ 0
+pub lent_first : (w : World) (before : List ReceiverEntry) (inputs : Role → List ℕ) → WayLaws w.terms.params → IsFresh w.terms w.carrier
+    → w.sender.now.params ≡ w.terms.params → sender_end.Stands (steady w.terms.params) w.sender.now [] → w.sender.now.sent ≡ 0
     → w.video.now.more ≡ 1048576 → w.receiver.now.params ≡ w.terms.params → w.receiver.now.played ≡ 0 → receiver_end.Stands w.receiver.now before
     → WorldStands w (first_state w.terms before w.video.now.at) inputs
-lent_first w before inputs fresh sender_params sends sent more receiver_params played receives =
-    stands_first (parts_of_world w) fresh sender_params sends sent more before w.video.now.at inputs refl receiver_params receives
+lent_first w before inputs laws fresh sender_params sends sent more receiver_params played receives =
+    stands_first (parts_of w) fresh laws sender_params sends sent more before w.video.now.at inputs refl receiver_params receives
     (subst (λ (p : Params). (receiver_end.run_of p before).played ≡ 0) receiver_params (sym receives.played ∙ played))
 
 -- no frame and no line was read yet
-most_is : (w : World) → w.carrier.now.trace.lines ≡ 0 → w.video.now.more ≡ 1048576 → more_of w.terms w.video.now w.carrier.now ≡ most_turns w.terms.plain
+most_is : (w : World) → w.carrier.trace.lines ≡ 0 → w.video.now.more ≡ 1048576 → more_of (parts_of w) ≡ most_turns w.terms.plain
 most_is w lines more = by_trace w.terms.plain
   where
-    by_trace : (plain : Bool) → (if plain then w.video.now.more else 16777216 - w.carrier.now.trace.lines) ≡ most_turns plain
+    by_trace : (plain : Bool) → (if plain then w.video.now.more else 16777216 - w.carrier.trace.lines) ≡ most_turns plain
     by_trace true = more
     by_trace false = ap (λ (n : ℕ). 16777216 - n) lines
 
 -- a run of the ideal call that is under way before the first event is one by both ends
-pub alone_under_way : (w : World) → w.carrier.now.trace.lines ≡ 0 → w.video.now.more ≡ 1048576
+pub alone_under_way : (w : World) → w.carrier.trace.lines ≡ 0 → w.video.now.more ≡ 1048576
     → ((rest : Role → List ℕ) → WorldStands w (first_state w.terms [] w.video.now.at) rest) → TalkIsTheCall w.terms
     → (run : Run) (inputs : Role → List ℕ) (start : Role → Option (List ℕ)) (now : Outside)
     → IsUnderWay call_step may_read run inputs start (IsFirst w.terms w.video.now.at) (most_turns w.terms.plain) now
-    → IsUnderWay talk_step may_read run inputs start (WorldStands w) (more_of w.terms w.video.now w.carrier.now) now
+    → IsUnderWay talk_step may_read run inputs start (WorldStands w) (more_of (parts_of w)) now
 alone_under_way w lines more kept talk run inputs start now u =
     let most = most_turns w.terms.plain in
-    let same : run_of talk_step (more_of w.terms w.video.now w.carrier.now) u.state u.rest ≡ run_of call_step most u.state u.rest =
+    let same : run_of talk_step (more_of (parts_of w)) u.state u.rest ≡ run_of call_step most u.state u.rest =
     ap (λ (n : ℕ). run_of talk_step n u.state u.rest) (most_is w lines more)
     ∙ subst (λ (s : CallState). run_of talk_step most s u.rest ≡ run_of call_step most s u.rest) (sym u.kept) (talk w.video.now.at most u.rest)
     in
@@ -63,16 +69,16 @@ alone_under_way w lines more kept talk run inputs start now u =
       written = u.written;
     }
 
-module _ (w : World) (before : List ReceiverEntry) (inputs : Role → List ℕ) (now : Outside) (lines : w.carrier.now.trace.lines ≡ 0) (more : w.video.now.more ≡ 1048576)
+module _ (w : World) (before : List ReceiverEntry) (inputs : Role → List ℕ) (now : Outside) (lines : w.carrier.trace.lines ≡ 0) (more : w.video.now.more ≡ 1048576)
     (kept : WorldStands w (first_state w.terms before w.video.now.at) inputs) (told : Tells now inputs) where
   abbrev first : CallState
   first = first_state w.terms before w.video.now.at
 
-  more_is : more_of w.terms w.video.now w.carrier.now ≡ most_turns w.terms.plain
+  more_is : more_of (parts_of w) ≡ most_turns w.terms.plain
   more_is = most_is w lines more
 
-  pub under_way : TurnLaws CallState
-      → IsUnderWay talk_step may_read (talk_of w.terms before w.video.now.at inputs) inputs now.written (WorldStands w) (more_of w.terms w.video.now w.carrier.now) now
+  pub under_way : TurnLaws
+      → IsUnderWay talk_step may_read (talk_of w.terms before w.video.now.at inputs) inputs now.written (WorldStands w) (more_of (parts_of w)) now
   under_way laws = record {
     done = [];
     state = first;
@@ -86,7 +92,7 @@ module _ (w : World) (before : List ReceiverEntry) (inputs : Role → List ℕ) 
     written = laws.no_text now.written now.written refl;
   }
 
-  pub ends_in : EndsIn talk_step (talk_end w.terms before w.video.now.at inputs) (WorldStands w) (more_of w.terms w.video.now w.carrier.now) now
+  pub ends_in : EndsIn talk_step (talk_end w.terms before w.video.now.at inputs) (WorldStands w) (more_of (parts_of w)) now
   ends_in = record {
     state = first;
     rest = inputs;
@@ -95,7 +101,31 @@ module _ (w : World) (before : List ReceiverEntry) (inputs : Role → List ℕ) 
     ends = ap (λ (n : ℕ). end_state talk_step n first inputs) more_is;
   }
 
--- what was lent stands as the machine's parts do
+-- what is so after `Ok` and a refusal, by what else is
+after_all : (status : Status) (P Q : Type 0) → (P → Q) → AfterAll status P → AfterAll status Q
+after_all status P Q leads p = by_phase (phase status) p
+  where
+    by_phase : (ph : Phase) → OnceSettled ph P → OnceSettled ph Q
+    by_phase finished p = leads p
+    by_phase refused p = leads p
+    by_phase unread p = tt
+    by_phase unwritten p = tt
+    by_phase starved p = tt
+    by_phase unasked p = tt
+    by_phase (unopened role) p = tt
+
+-- the ends of the machine stand where it stood before its last turn
+pub left_standing : (status : Status) (s : CallState) (w : World) → AfterAll status (LeftIn WorldStands LeavesEnds s w) → AfterAll status (EndsStand w.terms w.sender.now w.receiver.now s)
+left_standing status s w = after_all status (LeftIn WorldStands LeavesEnds s w) (EndsStand w.terms w.sender.now w.receiver.now s) ends
+  where
+    ends : LeftIn WorldStands LeavesEnds s w → EndsStand w.terms w.sender.now w.receiver.now s
+    ends l = l.left s (ends_stand (parts_of l.last) s l.rest l.stood)
+
+-- what stays of a machine, by what it was itself
+pub stays_itself : {old new : World} → ((first : World) → WorldStays first old → WorldStays first new) → names_of new ≡ names_of old
+stays_itself {old} {new} stays = (stays old (record { names = refl })).names
+
+-- and so does what was lent
 pub lent_stand : (status : Status) (s : CallState) (t u : Terms) (sender their_sender : State) (receiver their_receiver : Kept)
     → u ≡ t → their_sender ≡ sender → their_receiver ≡ receiver
     → AfterAll status (EndsStand u their_sender their_receiver s) → AfterAll status (EndsStand t sender receiver s)

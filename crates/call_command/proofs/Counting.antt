@@ -1,25 +1,28 @@
--- The parts of a call against the state at which they stand.
-use Rattle.std.proofs.Common.{◌≡◌, ℕ, ◌+◌, ◌≤◌, Bool, true, false, List, [], Result, Ok, Err, IsErrAnd, OnErr, sym, ap, subst, ◌∙◌, arith}
+-- The parts of a call against the state at which they stand, and the kinds of turns.
+use Rattle.std.proofs.Common.{◌≡◌, ℕ, ◌+◌, ◌≤◌, Bool, true, false, List, [], ◌++◌, Option, Some, Result, Ok, Err, IsErrAnd, IsErrOf, refl, sym, subst, ap, ◌∙◌, arith}
 use Rattle.std.specs.Prelude.{if◌then◌else◌}
 use Rattle.std.proofs.lemmas.List.{append-nil}
-use Rattle.h263_outside.specs.Desk.{Faults, NoneFalls, Outside, Rose}
+use Rattle.h263_outside.specs.Desk.{Faults, NoneFalls, OnlyReads, OnlyWrites, Outside, Rose}
 use Rattle.h263_outside.specs.declared.desk.Role.{Role}
 use Rattle.h263_outside.specs.declared.desk.Role.TheVariants.{Video, Events}
-use Rattle.loss_trace.specs.declared.fault.TraceFault.{TraceFault}
+use Rattle.y4m.specs.declared.fault.VideoStop.{VideoStop}
+use Rattle.y4m.specs.declared.fault.VideoStop.TheVariants as video
+use Rattle.loss_trace.specs.declared.event.Event.{Event as Line}
+use Rattle.loss_trace.specs.declared.fault.TraceStop.{TraceStop}
+use Rattle.loss_trace.specs.declared.fault.TraceStop.TheVariants as trace
 use Rattle.call_report.specs.declared.status.Status.{Status}
-use Rattle.call_report.specs.declared.status.Status.TheVariants.{WriteFault}
-use Rattle.call_report.specs.Status.{Phase, phase}
+use Rattle.call_report.specs.declared.status.Status.TheVariants.{Ok as Fine, WriteFault}
+use Rattle.call_report.specs.Status.{Phase, phase, trace_stop, video_stop}
 use Rattle.call_report.specs.Status.Phase.{finished, refused, unread, unwritten, starved, unasked, unopened}
 use Rattle.desk_program.specs.Run.{Step}
-use Rattle.desk_program.specs.Ends.{CauseIn, Falls, HasCause, KeepsRoles, OnEnd, OnceSettled, OnSettled, turn_status}
-use Rattle.call_model.specs.JoinedRun.{EachEndRuns}
-use Rattle.call_decoding.specs.Rules.{rules_of}
+use Rattle.desk_program.specs.Ends.{CauseIn, Ended, GainsFronts, GivesUp, HasCause, IsStop, KeepsRoles, OnceSettled, Tells, Went, step_texts}
 use Rattle.call_encoding.specs.Frames.{Frame}
-use Rattle.coded_call.specs.Coding.{coding}
-use Rattle.call_command.specs.Call.{CallState, by_ends, may_read, steady, talk_step, trace_step, video_step}
-use Rattle.call_command.specs.Counts.{call_text, counts_of, counts_text}
-use Rattle.call_command.specs.Standing.{EndsStand, Holds, Parts, PartsStand, going_of, state_of}
-use Rattle.call_command.proofs.OneMore.{played_is, sent_is}
+use Rattle.one_way.specs.Counts.{call_text, counts_of, counts_text}
+use Rattle.one_way.specs.Laws.{WayLaws}
+use Rattle.call_command.specs.declared.world.World.{World}
+use Rattle.call_command.specs.Call.{CallState, by_ends, may_read, talk_step, trace_step, video_step}
+use Rattle.call_command.specs.Standing.{EndsStand, HasDone, Parts, PartsReady, PartsStand, more_of, parts_of, source_of, state_of}
+use Rattle.call_command.specs.Turning.{IsBegun, IsTurn, LeavesEnds, TakesTurn, names_of}
 
 -- ---- which step it is
 
@@ -49,17 +52,16 @@ line_by_line x s inputs is recorded P holds =
 
 -- ---- what holds of the frames that were read
 
-pub holds_now : (x : Parts) (s : CallState) (inputs : Role → List ℕ) → PartsStand x s inputs → Holds x.terms x.sender x.receiver x.carrier s.before s.frames s.past
-holds_now x s inputs k = subst (λ (l : List Frame). Holds x.terms x.sender x.receiver x.carrier s.before l s.past) (append-nil s.frames) (k.holds [])
+pub done_now : (x : Parts) (s : CallState) → ((later : List Frame) → HasDone x s.before (s.frames ++ later) s.past) → HasDone x s.before s.frames s.past
+done_now x s holds = subst (λ (l : List Frame). HasDone x s.before l s.past) (append-nil s.frames) (holds [])
 
 -- the line of the counts is that of the state
-pub counts_are : (x : Parts) → EachEndRuns (coding x.terms.params) (rules_of x.terms.params) → (s : CallState) (inputs : Role → List ℕ) → PartsStand x s inputs
-    → counts_of x.carrier.tally x.receiver.played x.sender.sent ≡ call_text (by_ends (state_of x s.before s.frames s.past))
-counts_are x runs s inputs k =
-    let h = holds_now x s inputs k in
-    let p = x.terms.params in
-    let played = played_is p runs (steady p) x.sender x.receiver s.frames s.before s.past h.joined in
-    let sent = sent_is p runs (steady p) x.sender x.receiver s.frames s.before s.past h.joined in
+pub counts_are : (x : Parts) → WayLaws x.terms.params → (s : CallState) (inputs : Role → List ℕ) → PartsStand x s inputs
+    → counts_of x.carrier.network.way.tally x.receiver.played x.sender.sent ≡ call_text (by_ends (state_of x s.before s.frames s.past))
+counts_are x laws s inputs k =
+    let h = (done_now x s k.holds).way_holds in
+    let played = laws.played x.sender x.receiver s.before s.frames s.past h.joined in
+    let sent = laws.sent x.sender x.receiver s.before s.frames s.past h.joined in
     λ i. counts_text (played i) (sent i) (h.tally.exact i) (h.tally.patched i) (h.tally.held i)
 
 -- ---- what is kept at the end
@@ -73,27 +75,10 @@ once starved P p = tt
 once unasked P p = tt
 once (unopened role) P p = tt
 
-pub settled : (r : Result Bool Status) (P : Type 0) → P → OnSettled r P
-settled (Ok true) P p = tt
-settled (Ok false) P p = p
-settled (Err status) P p = once (phase status) P p
-
 pub ends_stand : (x : Parts) (s : CallState) (inputs : Role → List ℕ) → PartsStand x s inputs → EndsStand x.terms x.sender x.receiver s
-ends_stand x s inputs k = (holds_now x s inputs k).joined
+ends_stand x s inputs k = (done_now x s k.holds).way_holds.joined
 
 -- ---- how the answers of two steps add up
-
--- it never comes to its end, or goes on
-pub never_ends : (r : Result Bool Status) (P : Type 0) → OnEnd r ⊥ → OnEnd r P
-never_ends (Ok true) P never = tt
-never_ends (Ok false) P never = absurd never
-never_ends (Err status) P never = tt
-
--- one turn more was taken, where it goes on
-pub falls_so : (r : Result Bool Status) (old new : ℕ) → new + 1 ≡ old → Falls r old new
-falls_so (Ok true) old new is = is
-falls_so (Ok false) old new is = tt
-falls_so (Err status) old new is = tt
 
 -- a count that rose after a read rose since before it
 pub cause_since : (status : Status) (old mid new : Faults) → NoneFalls old mid → ((a b c : ℕ) → a ≤ b → Rose b c → Rose a c) → HasCause status mid new → HasCause status old new
@@ -120,16 +105,166 @@ keeps_since old mid new attached name still loans keeps = record {
   loans = keeps.loans ∙ loans;
 }
 
--- what a refusal left as it was is kept
-pub keeps_so : (r : Result Unit TraceFault) (known : Result Bool Status) (Q P : Type 0) → known ≡ going_of r → OnErr r Q → (Q → P) → OnSettled known P
-keeps_so r known Q P is same keeps = subst (λ (q : Result Bool Status). OnSettled q P) (sym is) (by_answer r same)
-  where
-    by_answer : (r : Result Unit TraceFault) → OnErr r Q → OnSettled (going_of r) P
-    by_answer (Ok x) same = tt
-    by_answer (Err fault) same = keeps same
+-- after reads, and after writes
+pub reads_keep : (old new : Outside) → OnlyReads old new → KeepsRoles old new
+reads_keep old new r = record { attached = r.attached; name = r.name; faults = r.faults; loans = r.loans }
 
--- a write failed after a read
-pub cause_cut : (r : Result Bool Status) (status : Status) (old mid new : Faults) → IsErrAnd r (λ x. x ≡ status) → status ≡ WriteFault → NoneFalls old mid
-    → ((a b c : ℕ) → a ≤ b → Rose b c → Rose a c) → Rose mid.write new.write → HasCause (turn_status r) old new
-cause_cut (Ok b) status old mid new is cut still rose cause = absurd is
-cause_cut (Err x) status old mid new is cut still rose cause = subst (λ (y : Status). HasCause y old new) (sym (is ∙ cut)) (rose old.write mid.write new.write still.write cause)
+pub writes_keep : (old new : Outside) → OnlyWrites old new → KeepsRoles old new
+writes_keep old new r = record { attached = r.attached; name = r.name; faults = r.faults; loans = r.loans }
+
+pub keeps_then : (old mid new : Outside) → KeepsRoles old mid → KeepsRoles mid new → KeepsRoles old new
+keeps_then old mid new first keeps = keeps_since old mid new first.attached first.name first.faults first.loans keeps
+
+pub roles_same : (now : Outside) → KeepsRoles now now
+roles_same now = record {
+  attached = refl;
+  name = refl;
+  faults = record { attach = omega arith; read = omega arith; write = omega arith };
+  loans = refl;
+}
+
+-- ---- why a turn stops
+
+pub video_stops : (stop : VideoStop) → IsStop (video_stop stop)
+video_stops video.Read = tt
+video_stops (video.Refused fault) = tt
+
+pub video_cause : (stop : VideoStop) (old new : Faults) → (IsErrOf {T = Bool} {E = VideoStop} (Err stop) video.Read → Rose old.read new.read) → HasCause (video_stop stop) old new
+video_cause video.Read old new rose = rose refl
+video_cause (video.Refused fault) old new rose = tt
+
+pub trace_halts : (stop : TraceStop) → IsStop (trace_stop stop)
+trace_halts trace.Read = tt
+trace_halts (trace.Bad line) = tt
+trace_halts (trace.TooMany line) = tt
+
+pub trace_cause : (stop : TraceStop) (old new : Faults) → (IsErrOf {T = Option (ℕ × Line)} {E = TraceStop} (Err stop) trace.Read → Rose old.read new.read) → HasCause (trace_stop stop) old new
+trace_cause trace.Read old new rose = rose refl
+trace_cause (trace.Bad line) old new rose = tt
+trace_cause (trace.TooMany line) old new rose = tt
+
+pub write_stops : (status : Status) → status ≡ WriteFault → IsStop status
+write_stops status is = subst IsStop (sym is) tt
+
+pub write_cause : (status : Status) (old new : Faults) → status ≡ WriteFault → Rose old.write new.write → HasCause status old new
+write_cause status old new is rose = subst (λ (y : Status). HasCause y old new) (sym is) rose
+
+-- ---- turns
+
+module _ (x y : World) (mid new : Outside) (Begins : Outside → CallState → (Role → List ℕ) → Type 0)
+    (step : CallState → (Role → List ℕ) → Step CallState) (reads : CallState → Bool) (more : ℕ) where
+  -- one that gives up
+  pub gave_up : (r : Result Bool Status) (status : Status) → IsErrAnd r (λ z. z ≡ status) → names_of y ≡ names_of x
+      → IsStop status → HasCause status mid.faults new.faults → KeepsRoles mid new
+      → ((old : Outside) (s : CallState) (inputs : Role → List ℕ) → Begins old s inputs → GivesUp (phase status) status (step s inputs) (reads s) inputs old new)
+      → LeavesEnds x y
+      → IsTurn x y r mid new Begins step reads more
+  gave_up (Ok b) status is names stop cause rest gives keeps = absurd is
+  gave_up (Err z) status is names stop cause rest gives keeps = subst (λ (w : Status). IsTurn x y (Err w) mid new Begins step reads more) (sym is) (record {
+    gives = gives;
+    whole = λ old s inputs k. tt;
+    keeps = once (phase status) (LeavesEnds x y) keeps;
+    lasts = names;
+    falls = tt;
+    ready = tt;
+    stop = stop;
+    cause = cause;
+    rest = rest;
+  })
+
+  -- one that can't write: what was kept is not asked
+  pub was_cut : (r : Result Bool Status) (status : Status) → IsErrAnd r (λ z. z ≡ status) → names_of y ≡ names_of x
+      → status ≡ WriteFault → Rose mid.faults.write new.faults.write → KeepsRoles mid new
+      → ((old : Outside) (s : CallState) (inputs : Role → List ℕ) → Begins old s inputs → GainsFronts (step_texts (step s inputs)) old.written new.written)
+      → IsTurn x y r mid new Begins step reads more
+  was_cut (Ok b) status is names kind rose rest gives = absurd is
+  was_cut (Err z) status is names kind rose rest gives =
+      subst (λ (w : Status). IsTurn x y (Err w) mid new Begins step reads more) (sym (is ∙ kind)) (record {
+        gives = gives;
+        whole = λ old s inputs k. tt;
+        keeps = tt;
+        lasts = names;
+        falls = tt;
+        ready = tt;
+        stop = tt;
+        cause = rose;
+        rest = rest;
+      })
+
+  -- one that goes on
+  pub goes_on : names_of y ≡ names_of x → more_of (parts_of y) + 1 ≡ more → PartsReady (parts_of y) new.attached → KeepsRoles mid new
+      → ((old : Outside) (s : CallState) (inputs : Role → List ℕ) → Begins old s inputs → Went (step s inputs) (PartsStand (parts_of y)) may_read (reads s) inputs old new)
+      → IsTurn x y (Ok true) mid new Begins step reads more
+  goes_on names falls ready rest gives = record {
+    gives = gives;
+    whole = λ old s inputs k. tt;
+    keeps = tt;
+    lasts = names;
+    falls = falls;
+    ready = ready;
+    stop = tt;
+    cause = tt;
+    rest = rest;
+  }
+
+  -- one that ends the call
+  pub is_over : names_of y ≡ names_of x → KeepsRoles mid new
+      → ((old : Outside) (s : CallState) (inputs : Role → List ℕ) → Begins old s inputs → Ended (step s inputs) Fine inputs old new)
+      → ((old : Outside) (s : CallState) (inputs : Role → List ℕ) → Begins old s inputs → new.left (source_of x.terms) ≡ Some [])
+      → LeavesEnds x y
+      → IsTurn x y (Ok false) mid new Begins step reads more
+  is_over names rest gives whole keeps = record {
+    gives = gives;
+    whole = whole;
+    keeps = keeps;
+    lasts = names;
+    falls = tt;
+    ready = tt;
+    stop = tt;
+    cause = tt;
+    rest = rest;
+  }
+
+-- ---- whole turns
+
+begun : (x : Parts) (now : Outside) (P : Outside → CallState → (Role → List ℕ) → Type 0)
+    → ((s : CallState) (inputs : Role → List ℕ) → PartsStand x s inputs → Tells now inputs → P now s inputs)
+    → (old : Outside) (s : CallState) (inputs : Role → List ℕ) → IsBegun x now old s inputs → P old s inputs
+begun x now P at old s inputs b = subst (λ (o : Outside). P o s inputs) (sym b.same) (at s inputs b.stands b.told)
+
+module _ (x y : World) (old new : Outside) where
+  pub turn_gave_up : (r : Result Bool Status) (status : Status) → IsErrAnd r (λ z. z ≡ status) → names_of y ≡ names_of x
+      → IsStop status → HasCause status old.faults new.faults → KeepsRoles old new
+      → ((s : CallState) (inputs : Role → List ℕ) → PartsStand (parts_of x) s inputs → Tells old inputs → GivesUp (phase status) status (talk_step s inputs) (may_read s) inputs old new)
+      → LeavesEnds x y
+      → TakesTurn x y r old new
+  turn_gave_up r status is names stop cause rest gives keeps =
+      gave_up x y old new _ _ _ _ r status is names stop cause rest
+      (begun (parts_of x) old (λ o s inputs. GivesUp (phase status) status (talk_step s inputs) (may_read s) inputs o new) gives)
+      keeps
+
+  pub turn_was_cut : (r : Result Bool Status) (status : Status) → IsErrAnd r (λ z. z ≡ status) → names_of y ≡ names_of x
+      → status ≡ WriteFault → Rose old.faults.write new.faults.write → KeepsRoles old new
+      → ((s : CallState) (inputs : Role → List ℕ) → PartsStand (parts_of x) s inputs → Tells old inputs → GainsFronts (step_texts (talk_step s inputs)) old.written new.written)
+      → TakesTurn x y r old new
+  turn_was_cut r status is names kind rose rest gives =
+      was_cut x y old new _ _ _ _ r status is names kind rose rest
+      (begun (parts_of x) old (λ o s inputs. GainsFronts (step_texts (talk_step s inputs)) o.written new.written) gives)
+
+  pub turn_is_over : names_of y ≡ names_of x → KeepsRoles old new
+      → ((s : CallState) (inputs : Role → List ℕ) → PartsStand (parts_of x) s inputs → Tells old inputs → Ended (talk_step s inputs) Fine inputs old new)
+      → ((s : CallState) (inputs : Role → List ℕ) → PartsStand (parts_of x) s inputs → Tells old inputs → new.left (source_of x.terms) ≡ Some [])
+      → LeavesEnds x y
+      → TakesTurn x y (Ok false) old new
+  turn_is_over names rest gives whole keeps =
+      is_over x y old new _ _ _ _ names rest
+      (begun (parts_of x) old (λ o s inputs. Ended (talk_step s inputs) Fine inputs o new) gives)
+      (λ o s inputs b. whole s inputs b.stands b.told)
+      keeps
+
+  pub turn_goes_on : names_of y ≡ names_of x → more_of (parts_of y) + 1 ≡ more_of (parts_of x) → PartsReady (parts_of y) new.attached → KeepsRoles old new
+      → ((s : CallState) (inputs : Role → List ℕ) → PartsStand (parts_of x) s inputs → Tells old inputs → Went (talk_step s inputs) (PartsStand (parts_of y)) may_read (may_read s) inputs old new)
+      → TakesTurn x y (Ok true) old new
+  turn_goes_on names falls ready rest gives =
+      goes_on x y old new _ _ _ _ names falls ready rest
+      (begun (parts_of x) old (λ o s inputs. Went (talk_step s inputs) (PartsStand (parts_of y)) may_read (may_read s) inputs o new) gives)

@@ -12,14 +12,13 @@ use Rattle.loss_trace.specs.declared.event.Event.TheVariants as says
 use Rattle.loss_trace.specs.declared.fault.TraceFault.TheVariants.{TooMany}
 use Rattle.loss_trace.specs.Lines.{NoNewline, first_line, is_closed}
 use Rattle.loss_trace.specs.Reading.{event_in}
-use Rattle.call_report.specs.declared.status.Status.TheVariants.{TraceRefused}
-use Rattle.desk_program.specs.Run.{Step, Turn, refusal}
+use Rattle.desk_program.specs.Run.{Step, Turn}
 use Rattle.desk_program.specs.Run.Step.{Goes, Ends}
 use Rattle.desk_program.specs.Ends.{IsPart, holds, step_turns}
 use Rattle.desk_program.specs.Texts.{of}
 use Rattle.call_model.specs.IdealCall.{Event, Send, Deliver, Play, Back}
 use Rattle.call_model.specs.Refusals.{Refusal}
-use Rattle.call_command.specs.Call.{CallState, by_ends, capture_step, captured_step, event_step, line_size, line_step, refusal_at, trace_step, unless}
+use Rattle.call_command.specs.Call.{CallState, bad_line, by_ends, capture_step, captured_step, event_step, line_size, line_step, refusal_at, trace_step, unless}
 
 -- ---- a line
 
@@ -78,7 +77,7 @@ module _ (s : CallState) (inputs : Role → List ℕ) (trace : List ℕ) where
   turn_line None = tt
   turn_line (Some line) = turn_event line
 
-  turn_choice : (b : Bool) (o : Option Line) → IsLineTurn trace (if b then line_step by_ends s inputs trace o else Ends (refusal (TraceRefused (TooMany (s.lines + 1)))))
+  turn_choice : (b : Bool) (o : Option Line) → IsLineTurn trace (if b then line_step by_ends s inputs trace o else Ends (bad_line (TooMany (s.lines + 1))))
   turn_choice true o = turn_line o
   turn_choice false o = tt
 

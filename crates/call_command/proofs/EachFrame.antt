@@ -29,15 +29,16 @@ use Rattle.coded_call.specs.Coding.{coding}
 use Rattle.desk_program.specs.Run.{Run, Turn, behind, follow, refusal, run_from, run_of, silence, text_of, texts_of}
 use Rattle.desk_program.specs.Run.Step.{Ends}
 use Rattle.desk_program.specs.Texts.{of}
-use Rattle.call_command.specs.Trace.{passed_on}
-use Rattle.call_command.specs.Both.{bare}
-use Rattle.call_command.specs.Counts.{count_of, counts_text, one_exact, one_held, one_patched}
+use Rattle.one_way.specs.Trace.{passed_on}
+use Rattle.one_way.specs.Both.{bare}
+use Rattle.one_way.specs.Counts.{count_of, counts_text, one_exact, one_held, one_patched}
 use Rattle.call_command.specs.declared.terms.Terms.{Terms}
-use Rattle.call_command.specs.Call.{CallState, all_played, by_call, call_begin, call_step, first_state, frame_step, head_step, newest_texts, play_texts, shown_texts, steady, video_step, with_picture}
-use Rattle.call_command.specs.Laws.{CallLaws}
+use Rattle.one_way.specs.Both.{steady}
+use Rattle.call_command.specs.Call.{CallState, all_played, by_call, call_begin, call_step, first_state, frame_step, head_step, newest_texts, play_texts, shown_texts, video_step, with_picture}
+use Rattle.one_way.specs.Laws.{CallLaws}
 use Rattle.call_command.specs.Plain.{ShowsEachFrame, counts_for, status_for, lines_of_frames, pictures_of_frames, reconstruction_of}
 use Rattle.call_command.proofs.After.{at_end, below_end, longer, push_then}
-use Rattle.call_command.proofs.Passing.{half_some}
+use Rattle.call_command.proofs.Half.{half_some}
 use Rattle.call_command.proofs.Plain.{count_is, known_after, plays_after, reference_after}
 use Rattle.call_command.proofs.Trace.{near_passed, played_delivered, sent_delivered}
 

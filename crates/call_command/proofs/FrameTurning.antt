@@ -4,10 +4,10 @@ use Rattle.std.specs.Prelude.{◌&&◌, nat_le}
 use Rattle.std.specs.declared.vec.Vec.{Vec}
 use Rattle.std.specs.Vec.{with_items}
 use Rattle.std.proofs.lemmas.List.{with_items_is}
-use Rattle.std.proofs.lemmas.Bool.{leb-true, false≢true}
-use Rattle.h263_outside.specs.Desk.{Outside, IsInput}
+use Rattle.std.proofs.lemmas.Bool.{leb-true}
+use Rattle.h263_outside.specs.Desk.{Outside}
 use Rattle.h263_outside.specs.declared.desk.Role.{Role}
-use Rattle.h263_outside.specs.declared.desk.Role.TheVariants.{Video, Events, Pictures, Wire, Report, Video2, Pictures2}
+use Rattle.h263_outside.specs.declared.desk.Role.TheVariants.{Video, Pictures, Report}
 use Rattle.h263_types.specs.declared.format.Format.{Format}
 use Rattle.y4m.specs.declared.fault.Y4mFault.{Y4mFault}
 use Rattle.y4m.specs.declared.fault.VideoStop.{VideoStop}
@@ -20,14 +20,14 @@ use Rattle.y4m.specs.Text.{head_text}
 use Rattle.call_report.specs.declared.status.Status.{Status}
 use Rattle.call_report.specs.declared.status.Status.TheVariants.{Ok as Fine, WriteFault, VideoRefused}
 use Rattle.call_report.specs.Status.{phase, video_stop}
-use Rattle.desk_program.specs.Run.{Step, behind}
+use Rattle.desk_program.specs.Run.{Step, behind, refusal}
 use Rattle.desk_program.specs.Run.Step.{Ends}
 use Rattle.desk_program.specs.Ends.{Tells, Gains, GainsFronts, IsPart, Went, Ended, GivesUp, TurnGives, StartGives, step_texts, step_turns}
-use Rattle.desk_program.specs.Texts.{on, of}
+use Rattle.desk_program.specs.Texts.{no_bytes, on, of}
 use Rattle.desk_program.specs.Laws.{TurnLaws}
 use Rattle.call_command.specs.declared.terms.Terms.{Terms}
 use Rattle.call_command.specs.Call.{CallState, all_played, by_ends, call_begin, first_state, frame_step, head_step, may_read, play_texts, video_step, with_format, with_picture}
-use Rattle.call_command.specs.Counts.{call_text}
+use Rattle.one_way.specs.Counts.{call_text}
 use Rattle.call_command.specs.Laws.{VideoLaws}
 
 -- ---- what was taken holds no whole head or frame
@@ -116,7 +116,7 @@ cut_gives status step now inputs old new is fronts = subst (λ (y : Status). Giv
 
 -- ---- a turn over a desk: it was read from old to mid, and written from mid to new
 
-module _ (turns : TurnLaws CallState) (laws : VideoLaws) (inputs : Role → List ℕ) (old mid : Outside) (told : Tells old inputs) (others : (r : Role) → r ≢ Video → mid.left r ≡ old.left r) (same : mid.written ≡ old.written) where
+module _ (turns : TurnLaws) (laws : VideoLaws) (inputs : Role → List ℕ) (old mid : Outside) (told : Tells old inputs) (others : (r : Role) → r ≢ Video → mid.left r ≡ old.left r) (same : mid.written ≡ old.written) where
   pub head_stops : (t : Terms) (stop : VideoStop) → HeadGives (Err stop) (inputs Video) (mid.left Video)
       → GivesUp (phase (video_stop stop)) (video_stop stop) (call_begin t inputs) true inputs old mid
   head_stops t Read e = record {
@@ -126,7 +126,8 @@ module _ (turns : TurnLaws CallState) (laws : VideoLaws) (inputs : Role → List
     left = turns.one_read Video e.0 old mid inputs told e.1 others;
     written = same;
   }
-  head_stops t (Refused fault) e = turns.refuses _ (VideoRefused fault) inputs old mid (ap (head_step t (inputs Video)) e) same
+  head_stops t (Refused fault) e =
+      record { last = refusal (VideoRefused fault); is = ap (head_step t (inputs Video)) e; by = turns.refuses (VideoRefused fault) inputs old mid same }
 
   pub frame_stops : (s : CallState) → s.ended ≡ false → (stop : VideoStop) (out : List ℕ) (reader : Y4mReader) → Gives (Err stop) s (inputs Video) out reader (mid.left Video)
       → GivesUp (phase (video_stop stop)) (video_stop stop) (video_step by_ends s (inputs Video)) (may_read s) inputs old mid
@@ -137,7 +138,8 @@ module _ (turns : TurnLaws CallState) (laws : VideoLaws) (inputs : Role → List
     left = turns.one_read Video e.0 old mid inputs told e.1 others;
     written = same;
   }
-  frame_stops s going (Refused fault) out reader e = turns.refuses _ (VideoRefused fault) inputs old mid (video_next s (inputs Video) (Err fault) e.0 e.1) same
+  frame_stops s going (Refused fault) out reader e =
+      record { last = refusal (VideoRefused fault); is = video_next s (inputs Video) (Err fault) e.0 e.1; by = turns.refuses (VideoRefused fault) inputs old mid same }
 
   module _ (new : Outside) (still : new.left ≡ mid.left) where
     -- ---- the end of the video
@@ -146,29 +148,15 @@ module _ (turns : TurnLaws CallState) (laws : VideoLaws) (inputs : Role → List
       end_is : video_step by_ends s (inputs Video) ≡ Ends (all_played (by_ends s))
       end_is = ap (video_step by_ends s) e.0
 
-      left_at : (r : Role) → IsInput r → new.left r ≡ Some (inputs r)
-      left_at r input = ap (λ (l : Role → Option (List ℕ)). l r) still ∙ go r input
-        where
-          go : (r : Role) → IsInput r → mid.left r ≡ Some (inputs r)
-          go Video input = e.1 ∙ ap (λ (l : List ℕ). Some l) (sym e.0)
-          go Events input = others Events (λ same. cc) ∙ told Events input
-          go Video2 input = others Video2 (λ same. cc) ∙ told Video2 input
-          go Pictures input = absurd (false≢true input)
-          go Wire input = absurd (false≢true input)
-          go Report input = absurd (false≢true input)
-          go Pictures2 input = absurd (false≢true input)
-
       pub video_ends : (text : List ℕ) → text ≡ call_text (by_ends s) → Gains (on Report text) mid.written new.written → Ended (video_step by_ends s (inputs Video)) Fine inputs old new
-      video_ends text is gains = record {
-        last = all_played (by_ends s);
-        is = end_is;
-        known = refl;
-        left = λ r input k said. left_at r input ∙ ap (λ (n : ℕ). Some (drop n (inputs r))) (zero_is k (cc said));
-        written = subst (λ (w : Role → Option (List ℕ)). Gains (on Report (call_text (by_ends s))) w new.written) same (subst (λ (l : List ℕ). Gains (on Report l) mid.written new.written) is gains);
-      }
-        where
-          zero_is : (k : ℕ) → 0 ≡ k → 0 ≡ 0 + k
-          zero_is k is = omega (arith, is)
+      video_ends text is gains =
+          let read = turns.none_read Video old mid inputs told e.0 e.1 others in
+          record {
+            last = all_played (by_ends s);
+            is = end_is;
+            by = turns.ends Fine no_bytes (on Report (call_text (by_ends s))) inputs old new (λ r input. ap (λ (l : Role → Option (List ℕ)). l r) still ∙ read r input)
+                (subst (λ (w : Role → Option (List ℕ)). Gains (on Report (call_text (by_ends s))) w new.written) same (subst (λ (l : List ℕ). Gains (on Report l) mid.written new.written) is gains));
+          }
 
       pub end_cut : (text : List ℕ) → text ≡ call_text (by_ends s) → GainsFronts (on Report text) mid.written new.written → GainsFronts (step_texts (video_step by_ends s (inputs Video))) old.written new.written
       end_cut text is gains =

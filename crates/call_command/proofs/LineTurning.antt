@@ -1,6 +1,6 @@
 -- The turns of a call over a recorded trace, by what the reader of the trace says and what was
 -- written.
-use Rattle.std.proofs.Common.{◌≡◌, ◌≢◌, ℕ, zero, suc, ◌+◌, ◌<◌, ◌≤◌, Bool, true, false, not, List, [], ◌∷◌, length, drop, Option, Some, None, Result, Ok, Err, refl, sym, ap, ◌∙◌, subst, arith}
+use Rattle.std.proofs.Common.{◌≡◌, ◌≢◌, ℕ, zero, suc, ◌+◌, ◌<◌, ◌≤◌, Bool, true, false, not, List, [], ◌∷◌, length, drop, Option, Some, None, Ok, Err, refl, sym, ap, ◌∙◌, subst, arith}
 use Rattle.std.specs.Prelude.{min, if◌then◌else◌}
 use Rattle.std.proofs.lemmas.Bool.{lt-ltb, le-ltb, ltb-false}
 use Rattle.h263_outside.specs.Desk.{Outside, IsInput}
@@ -18,17 +18,14 @@ use Rattle.loss_trace.specs.Reading.{event_in}
 use Rattle.call_report.specs.declared.status.Status.{Status}
 use Rattle.call_report.specs.declared.status.Status.TheVariants.{Ok as Fine, TraceRefused}
 use Rattle.call_report.specs.Status.{phase, trace_stop}
-use Rattle.desk_program.specs.Run.{End, Step, behind, refusal}
+use Rattle.desk_program.specs.Run.{End, Step, behind}
 use Rattle.desk_program.specs.Run.Step.{Goes, Ends}
-use Rattle.desk_program.specs.Ends.{Tells, Gains, GainsFronts, Went, Ended, GivesUp, TurnGives, step_texts}
-use Rattle.desk_program.specs.Texts.{no_texts, of, on}
+use Rattle.desk_program.specs.Ends.{Tells, Gains, GainsFronts, Went, Ended, EndsBy, GivesUp, step_texts}
+use Rattle.desk_program.specs.Texts.{no_bytes, no_texts, of, on}
 use Rattle.desk_program.specs.Laws.{TurnLaws}
-use Rattle.call_model.specs.IdealCall.{Event}
-use Rattle.call_model.specs.Refusals.{Refusal}
-use Rattle.call_command.specs.Call.{CallState, after_line, all_played, by_ends, event_step, line_size, line_step, line_turn, may_read, refused_line, trace_step, unless}
-use Rattle.call_command.specs.Counts.{call_text}
-use Rattle.call_command.specs.Refused.{fault_of}
-use Rattle.call_command.specs.Standing.{HasTaken, IsDone, going_of}
+use Rattle.call_command.specs.Call.{CallState, after_line, all_played, bad_line, by_ends, event_step, line_size, line_step, line_turn, may_read, refused_line, trace_step}
+use Rattle.one_way.specs.Counts.{call_text}
+use Rattle.call_command.specs.Standing.{HasTaken}
 use Rattle.call_command.proofs.Cutting.{trace_part}
 
 -- ---- the bytes of a line
@@ -70,7 +67,7 @@ double_not false = refl
 -- ---- which step it is
 
 abbrev chosen : Bool → CallState → (Role → List ℕ) → List ℕ → Option Line → Step CallState
-chosen b s inputs trace o = if b then line_step by_ends s inputs trace o else Ends (refusal (TraceRefused (TooMany (s.lines + 1))))
+chosen b s inputs trace o = if b then line_step by_ends s inputs trace o else Ends (bad_line (TooMany (s.lines + 1)))
 
 pub line_is : (s : CallState) (inputs : Role → List ℕ) (trace : List ℕ) (o : Option Line) → 0 < length trace → s.lines < 16777216 → event_in (first_line trace) ≡ o
     → trace_step by_ends s inputs trace ≡ line_step by_ends s inputs trace o
@@ -80,17 +77,17 @@ line_is s inputs (b ∷ trace) o some few is =
     ∙ ap (line_step by_ends s inputs (b ∷ trace)) is
 
 pub many_is : (s : CallState) (inputs : Role → List ℕ) (trace : List ℕ) → 0 < length trace → s.lines ≡ 16777216
-    → trace_step by_ends s inputs trace ≡ Ends (refusal (TraceRefused (TooMany (s.lines + 1))))
+    → trace_step by_ends s inputs trace ≡ Ends (bad_line (TooMany (s.lines + 1)))
 many_is s inputs [] some many = absurd (omega arith)
 many_is s inputs (b ∷ trace) some many =
     ap (λ (t : Bool). chosen t s inputs (b ∷ trace) (event_in (first_line (b ∷ trace)))) (le-ltb s.lines 16777216 (omega (arith, many)))
 
--- ---- an event that is done, or refused
+-- ---- a line that is done, or refused
 
 abbrev step_of : End → Step CallState
 step_of last = Ends last
 
-module _ (laws : TurnLaws CallState) (s : CallState) (inputs : Role → List ℕ) (before mid : Outside) (taken : HasTaken inputs before mid) where
+module _ (laws : TurnLaws) (s : CallState) (inputs : Role → List ℕ) (before mid : Outside) (taken : HasTaken inputs before mid) where
   abbrev trace : List ℕ
   trace = inputs Events
 
@@ -100,16 +97,9 @@ module _ (laws : TurnLaws CallState) (s : CallState) (inputs : Role → List ℕ
   line_refused status fault step status_is is = record {
     last = refused_line trace fault;
     is = is;
-    known = status_is;
-    left = λ r input k said. taken.left r input ∙ ap (λ (n : ℕ). Some (drop n (inputs r))) (same k (of Events (line_size trace) r) said);
-    written = laws.no_text before.written mid.written taken.written;
+    by = subst (λ (z : Status). EndsBy (refused_line trace fault) z inputs before mid) (sym status_is)
+        (laws.ends (TraceRefused fault) (of Events (line_size trace)) no_texts inputs before mid taken.left (laws.no_text before.written mid.written taken.written));
   }
-    where
-      some_same : (a b : ℕ) → Some a ≡ Some b → a ≡ b
-      some_same a b is = cc is
-
-      same : (k n : ℕ) → Some n ≡ Some k → n ≡ 0 + k
-      same k n said = omega (arith, some_same n k said)
 
   -- one that is done goes on
   pub line_goes : (next : CallState) (step : Step CallState) (stands : CallState → (Role → List ℕ) → Type 0)
@@ -126,16 +116,6 @@ module _ (laws : TurnLaws CallState) (s : CallState) (inputs : Role → List ℕ
     written = laws.no_text before.written mid.written taken.written;
   }
 
-  pub event_done : (r : Result Unit TraceFault) (line : ℕ) (e : Event) (o : Option Refusal) (next : CallState) (stands : CallState → (Role → List ℕ) → Type 0) (P : Type 0)
-      → line ≡ s.lines + 1 → IsDone r line e o P → (P → stands (after_line next trace) (behind inputs (of Events (line_size trace))))
-      → TurnGives (going_of r) (unless s trace e o (Goes (after_line next trace) (line_turn trace no_texts))) stands may_read true inputs before mid
-  event_done (Ok x) line e o next stands P line_number done kept =
-      line_goes next _ stands (ap (λ (o : Option Refusal). unless s trace e o (Goes (after_line next trace) (line_turn trace no_texts))) done.0) (kept done.1)
-  event_done (Err fault) line e o next stands P line_number done kept =
-      line_refused (TraceRefused fault) (fault_of (s.lines + 1) e done.0) _
-      (ap (λ (f : TraceFault). TraceRefused f) (done.2 ∙ ap (λ (n : ℕ). fault_of n e done.0) line_number))
-      (ap (λ (o : Option Refusal). unless s trace e o (Goes (after_line next trace) (line_turn trace no_texts))) done.1)
-
 -- ---- the reader of the trace
 
 -- the reader is where the state says
@@ -143,9 +123,29 @@ pub record IsReadAt (s : CallState) (reader : TraceReader) : Type 0 where
   pub lines_are : s.lines ≡ reader.lines
   pub ended_is : s.ended ≡ reader.ended
 
-module _ (laws : TurnLaws CallState) (s : CallState) (inputs : Role → List ℕ) (old mid : Outside) (told : Tells old inputs) (others : (r : Role) → r ≢ Events → mid.left r ≡ old.left r) (same : mid.written ≡ old.written) (reader after : TraceReader) (at : IsReadAt s reader) where
+module _ (laws : TurnLaws) (s : CallState) (inputs : Role → List ℕ) (old mid : Outside) (told : Tells old inputs) (others : (r : Role) → r ≢ Events → mid.left r ≡ old.left r) (same : mid.written ≡ old.written) (reader after : TraceReader) (at : IsReadAt s reader) where
   going : reader.ended ≡ false → may_read s ≡ true
   going is = ap not (at.ended_is ∙ is)
+
+  -- of the other inputs nothing was taken
+  bad_ends : (fault : TraceFault) (step : Step CallState) → step ≡ step_of (bad_line fault) → Ended step (TraceRefused fault) inputs old mid
+  bad_ends fault step is = record {
+    last = bad_line fault;
+    is = is;
+    by = record { known = refl; left = left_at; written = laws.no_text old.written mid.written same };
+  }
+    where
+      zero_is : (k : ℕ) → 0 ≡ k → 0 ≡ 0 + k
+      zero_is k is = omega (arith, is)
+
+      left_at : (r : Role) → IsInput r → (k : ℕ) → (bad_line fault).taken r ≡ Some k → mid.left r ≡ Some (behind inputs (λ _. 0 + k) r)
+      left_at Video input k said = others Video (λ same. cc) ∙ told Video input ∙ ap (λ (n : ℕ). Some (drop n (inputs Video))) (zero_is k (cc said))
+      left_at Events input k said = absurd (cc said)
+      left_at Video2 input k said = others Video2 (λ same. cc) ∙ told Video2 input ∙ ap (λ (n : ℕ). Some (drop n (inputs Video2))) (zero_is k (cc said))
+      left_at Pictures input k said = absurd (cc input)
+      left_at Wire input k said = absurd (cc input)
+      left_at Report input k said = absurd (cc input)
+      left_at Pictures2 input k said = absurd (cc input)
 
   pub trace_stops : (stop : TraceStop) → EventGives (Err stop) reader (inputs Events) after (mid.left Events) → Moves {A = Line} (Err stop) reader after
       → GivesUp (phase (trace_stop stop)) (trace_stop stop) (trace_step by_ends s inputs (inputs Events)) (may_read s) inputs old mid
@@ -157,18 +157,18 @@ module _ (laws : TurnLaws CallState) (s : CallState) (inputs : Role → List ℕ
     written = same;
   }
   trace_stops (stops.Bad line) e moves =
-      laws.refuses _ (TraceRefused (BadLine line)) inputs old mid
+      bad_ends (BadLine line) _
       (line_is s inputs (inputs Events) None (some_line (inputs Events) e.0) (omega (arith, moves.1, at.lines_are)) e.0
-      ∙ ap (λ (n : ℕ). step_of (refusal (TraceRefused (BadLine n)))) (ap (λ (n : ℕ). n + 1) at.lines_are ∙ sym moves.2)) same
+      ∙ ap (λ (n : ℕ). step_of (bad_line (BadLine n))) (ap (λ (n : ℕ). n + 1) at.lines_are ∙ sym moves.2))
     where
       -- an empty text has a line that says nothing
       some_line : (trace : List ℕ) → event_in (first_line trace) ≡ None → 0 < length trace
       some_line [] is = absurd (cc is)
       some_line (b ∷ trace) is = omega arith
   trace_stops (stops.TooMany line) e moves =
-      laws.refuses _ (TraceRefused (TooMany line)) inputs old mid
+      bad_ends (TooMany line) _
       (many_is s inputs (inputs Events) e.0 (at.lines_are ∙ moves.1)
-      ∙ ap (λ (n : ℕ). step_of (refusal (TraceRefused (TooMany n)))) (omega (arith, at.lines_are, moves.1, moves.2))) same
+      ∙ ap (λ (n : ℕ). step_of (bad_line (TooMany n))) (omega (arith, at.lines_are, moves.1, moves.2)))
 
   -- after a line
   module _ (found : ℕ × Line) (e : EventGives (Ok (Some found)) reader (inputs Events) after (mid.left Events)) (moves : Moves (Ok (Some found)) reader after) (few : after.lines ≤ 16777216) where
@@ -200,32 +200,19 @@ module _ (laws : TurnLaws CallState) (s : CallState) (inputs : Role → List ℕ
     end_is : trace_step by_ends s inputs (inputs Events) ≡ step_of (all_played (by_ends s))
     end_is = ap (trace_step by_ends s inputs) nothing
 
-    left_at : (r : Role) → IsInput r → new.left r ≡ Some (inputs r)
-    left_at r input = ap (λ (l : Role → Option (List ℕ)). l r) still ∙ go r input
-      where
-        go : (r : Role) → IsInput r → mid.left r ≡ Some (inputs r)
-        go Video input = others Video (λ same. cc) ∙ told Video input
-        go Events input = e.0
-        go Video2 input = others Video2 (λ same. cc) ∙ told Video2 input
-        go Pictures input = absurd (cc input)
-        go Wire input = absurd (cc input)
-        go Report input = absurd (cc input)
-        go Pictures2 input = absurd (cc input)
+    told_still : Tells new inputs
+    told_still r input = ap (λ (l : Role → Option (List ℕ)). l r) still ∙ laws.none_read Events old mid inputs told nothing (e.0 ∙ ap (λ (l : List ℕ). Some l) nothing) others r input
 
     pub read_out : new.left Events ≡ Some []
-    read_out = left_at Events refl ∙ ap (λ (l : List ℕ). Some l) nothing
+    read_out = told_still Events refl ∙ ap (λ (l : List ℕ). Some l) nothing
 
     pub trace_ends : (text : List ℕ) → text ≡ call_text (by_ends s) → Gains (on Report text) mid.written new.written → Ended (trace_step by_ends s inputs (inputs Events)) Fine inputs old new
     trace_ends text is gains = record {
       last = all_played (by_ends s);
       is = end_is;
-      known = refl;
-      left = λ r input k said. left_at r input ∙ ap (λ (n : ℕ). Some (drop n (inputs r))) (zero_is k (cc said));
-      written = subst (λ (w : Role → Option (List ℕ)). Gains (on Report (call_text (by_ends s))) w new.written) same (subst (λ (l : List ℕ). Gains (on Report l) mid.written new.written) is gains);
+      by = laws.ends Fine no_bytes (on Report (call_text (by_ends s))) inputs old new told_still
+          (subst (λ (w : Role → Option (List ℕ)). Gains (on Report (call_text (by_ends s))) w new.written) same (subst (λ (l : List ℕ). Gains (on Report l) mid.written new.written) is gains));
     }
-      where
-        zero_is : (k : ℕ) → 0 ≡ k → 0 ≡ 0 + k
-        zero_is k is = omega (arith, is)
 
     pub trace_cut : (text : List ℕ) → text ≡ call_text (by_ends s) → GainsFronts (on Report text) mid.written new.written → GainsFronts (step_texts (trace_step by_ends s inputs (inputs Events))) old.written new.written
     trace_cut text is gains =

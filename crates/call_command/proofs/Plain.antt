@@ -19,9 +19,9 @@ use Rattle.call_decoding.specs.Styles.{Style}
 use Rattle.call_encoding.specs.Encoding.{encoding}
 use Rattle.call_encoding.specs.Frames.{Frame}
 use Rattle.coded_call.specs.Coding.{coding}
-use Rattle.call_command.specs.Trace.{delivered, passed_on}
-use Rattle.call_command.specs.Call.{steady}
-use Rattle.call_command.specs.Laws.{CallLaws}
+use Rattle.one_way.specs.Trace.{delivered, passed_on}
+use Rattle.one_way.specs.Both.{steady}
+use Rattle.one_way.specs.Laws.{CallLaws}
 use Rattle.call_command.proofs.Trace.{coded_delivered, played_delivered, plays_delivered}
 
 -- ---- a picture without known ones is intra

@@ -14,37 +14,35 @@ use Rattle.loss_trace.specs.declared.event.Event.TheVariants as says
 use Rattle.loss_trace.specs.declared.fault.TraceFault.TheVariants.{TooMany}
 use Rattle.loss_trace.specs.Lines.{first_line}
 use Rattle.loss_trace.specs.Reading.{event_in}
-use Rattle.call_report.specs.declared.status.Status.TheVariants.{TraceRefused}
-use Rattle.desk_program.specs.Run.{Run, Step, behind, follow, refusal, run_of, silence}
+use Rattle.desk_program.specs.Run.{Run, Step, behind, follow, run_of, silence}
 use Rattle.desk_program.specs.Run.Step.{Goes, Ends}
 use Rattle.call_model.specs.CodedPictures.{Coded}
 use Rattle.call_model.specs.IdealCall.{Event, Send, Deliver, Play, Back, slices_at}
 use Rattle.call_model.specs.JoinedRun.{AllMayHappenBoth, Joined}
 use Rattle.call_model.specs.LaterFrames.{LaterFramesBoth}
 use Rattle.call_model.specs.Receiving.{ReceiverRun}
-use Rattle.call_model.specs.Refusals.{Refusal}
-use Rattle.call_model.specs.Sending.{SenderRun, packets_of}
+use Rattle.call_model.specs.Refusals.{Refusal, first_refusal}
+use Rattle.call_model.specs.Sending.{SenderRun}
 use Rattle.call_decoding.specs.Rules.{rules_of}
 use Rattle.call_decoding.specs.Styles.{Style}
 use Rattle.call_encoding.specs.Frames.{Frame}
 use Rattle.coded_call.specs.Coding.{coding}
 use Rattle.receiver_end.specs.State as receiver_end
 use Rattle.call_command.specs.declared.terms.Terms.{Terms}
-use Rattle.call_command.specs.Trace.{delivered, passed_on}
-use Rattle.call_command.specs.Both.{bare, both_after, next_of}
-use Rattle.call_command.specs.Call.{CallState, after_line, by_ends, call_step, capture_step, captured_step, event_step, first_state, frame_step, line_step, refusal_at, steady, talk_step, trace_step, unless, video_step, with_frame}
-use Rattle.call_command.specs.Laws.{NearLaws, ShowTheSame, TalkIsTheCall}
-use Rattle.call_command.specs.Seen.{Seen, in_both}
+use Rattle.one_way.specs.Trace.{delivered, passed_on}
+use Rattle.one_way.specs.Both.{bare, both_after, next_of}
+use Rattle.one_way.specs.Both.{steady}
+use Rattle.call_command.specs.Call.{CallState, after_line, bad_line, by_ends, call_step, capture_step, captured_step, event_step, first_state, frame_step, line_step, refusal_at, talk_step, trace_step, unless, video_step, with_frame}
+use Rattle.one_way.specs.Laws.{EventLaws, NearLaws, ShowTheSame}
+use Rattle.call_command.specs.Laws.{TalkIsTheCall}
+use Rattle.one_way.specs.Seen.{Seen, in_both}
 use Rattle.call_command.proofs.After.{at_end, longer}
 use Rattle.call_command.proofs.Agreeing.{trace_agrees, video_agrees}
-use Rattle.call_command.proofs.BothAfter.{coded_brought, near_delivered, played_delivered, sender_after, sender_delivered}
-use Rattle.call_command.proofs.Joining.{coded_sent}
-use Rattle.call_command.proofs.Passing.{half_some}
-use Rattle.call_command.proofs.Refusing.{any_back, any_packet, any_play, capture_not_far}
+use Rattle.call_command.proofs.Half.{half_some}
 
 -- ---- the states along the way
 
-module _ (p : Params) (frames_law : LaterFramesBoth (coding p) (rules_of p)) where
+module _ (p : Params) (frames_law : LaterFramesBoth (coding p) (rules_of p)) (events_law : EventLaws p) where
   abbrev begin : ReceiverRun Style Mb Picture
   begin = receiver_end.run_of p []
 
@@ -103,7 +101,7 @@ module _ (p : Params) (frames_law : LaterFramesBoth (coding p) (rules_of p)) whe
     coded_now : length (both all (Send ∷ past)).sender.coded ≡ n + 1
     coded_now =
         ap (λ (l : List (Coded Style Mb Picture)). length l)
-        (coded_sent (coding p) (rules_of p) (steady p) all begin past f (ap (λ (k : ℕ). slice_get all k) coded_all ∙ at_end frames [] f))
+        (events_law.captured [] all past f (ap (λ (k : ℕ). slice_get all k) coded_all ∙ at_end frames [] f))
         ∙ longer (both all past).sender.coded (next_of p (steady p) f (both all past))
         ∙ ap (λ (k : ℕ). k + 1) coded_all
 
@@ -124,15 +122,15 @@ module _ (p : Params) (frames_law : LaterFramesBoth (coding p) (rules_of p)) whe
 
         near_behind : Near all behind_it
         near_behind =
-            near_delivered (coding p) (rules_of p) begin (steady p) all n count (Send ∷ past)
-            (omega (arith, coded_now)) (omega (arith, played_all, level, half_some p.clock)) sends
+            events_law.near [] all n count 0 (Send ∷ past)
+            (omega (arith, coded_now), omega (arith, played_all, level, half_some p.clock)) sends
 
         coded_behind : length (both all behind_it).sender.coded ≡ n + 1
         coded_behind =
-            ap (λ (run : SenderRun Style Mb Picture). length run.coded) (sender_delivered (coding p) (rules_of p) begin (steady p) all n count (Send ∷ past)) ∙ coded_now
+            ap (λ (run : SenderRun Style Mb Picture). length run.coded) (events_law.sender [] all n count (Send ∷ past)) ∙ coded_now
 
         played_behind : (both all behind_it).receiver.played ≡ n
-        played_behind = played_delivered (coding p) (rules_of p) begin (steady p) all n count (Send ∷ past) ∙ played_all ∙ level
+        played_behind = events_law.played [] all n count (Send ∷ past) ∙ played_all ∙ level
 
         near_passed : Near all (passed_on n count past)
         near_passed = (omega (arith, played_behind, coded_behind), near_behind)
@@ -197,16 +195,13 @@ module _ (p : Params) (frames_law : LaterFramesBoth (coding p) (rules_of p)) whe
       seen = in_both w
 
       near_play : refusal_at by_ends now Play ≡ None → Near frames (Play ∷ past)
-      near_play none =
-          ((near_laws.both frames w Play).0 (any_play (rules_of p) (length seen.coded) seen.played seen.abouts (length frames) (length seen.coded + 1) ∙ none), on.near)
+      near_play none = (near_laws.play [] frames past none, on.near)
 
       near_packet : (n j : ℕ) → refusal_at by_ends now (Deliver n j) ≡ None → Near frames (Deliver n j ∷ past)
-      near_packet n j none =
-          ((near_laws.both frames w (Deliver n j)).0 (any_packet (rules_of p) (length seen.coded) seen.played seen.abouts (length frames) (length seen.coded + 1) n j ∙ none), on.near)
+      near_packet n j none = (near_laws.deliver [] frames past n j none, on.near)
 
       near_back : (k : ℕ) → refusal_at by_ends now (Back k) ≡ None → Near frames (Back k ∷ past)
-      near_back k none =
-          ((near_laws.both frames w (Back k)).0 (any_back (rules_of p) (length seen.coded) seen.played seen.abouts (length frames) (length seen.coded + 1) k ∙ none), on.near)
+      near_back k none = (near_laws.back [] frames past k none, on.near)
 
       recorded_same : trace_step by_ends now inputs (inputs Events) ≡ call_step now inputs
       recorded_same = trace_agrees now inputs (inputs Events) (agree frames past on.near) (λ none. agree frames (Play ∷ past) (near_play none))
@@ -231,10 +226,16 @@ module _ (p : Params) (frames_law : LaterFramesBoth (coding p) (rules_of p)) whe
       keeps_unless trace e None step keeps = keeps refl
       keeps_unless trace e (Some r) step keeps = tt
 
+      abbrev refusal_of : Seen → Option Refusal
+      refusal_of x = first_refusal (rules_of p) (length x.coded + 1) (length x.coded) x.played x.abouts Send
+
       keeps_captured : (trace : List ℕ) (size : ℕ) (r : Result (List ℕ) Y4mFault) → refusal_at by_ends now Send ≡ None → Keeps false (captured_step now trace size r)
       keeps_captured trace size (Ok planes) none =
           let f = bare (picture_of p.format planes) in
-          let few : length w.sender.coded < w.receiver.played + (rules_of p).half = capture_not_far (rules_of p) (length seen.coded) seen.played seen.abouts none in
+          let all = frames ++ f ∷ [] in
+          let same = same_all frames past on.near on.sent f in
+          let there : length (both all past).sender.coded < length all = omega (arith, coded_all frames past on.near on.sent f, longer frames f) in
+          let first = near_laws.capture [] all past (ap (λ (x : Joined Style Mb Picture). refusal_of (in_both x)) same ∙ none) there in
           record {
             frames = frames ++ f ∷ [];
             past = Send ∷ past;
@@ -244,7 +245,7 @@ module _ (p : Params) (frames_law : LaterFramesBoth (coding p) (rules_of p)) whe
             ended = (after_line now trace).ended;
             is = refl;
             on = record {
-              near = near_sent frames past on.near on.sent f (omega (arith, few, on.sent));
+              near = (first, near_all frames past on.near on.sent f);
               sent = sent_more frames past on.near on.sent f;
               level = λ is. absurd (cc is);
             };
@@ -261,21 +262,20 @@ module _ (p : Params) (frames_law : LaterFramesBoth (coding p) (rules_of p)) whe
       keeps_event trace (says.Packet n j) =
           keeps_unless trace (Deliver n j) (refusal_at by_ends now (Deliver n j)) _
           (λ none.
-          let o = slice_get (packets_of (coding p).encoding (rules_of p) w.sender.coded n) j in
           leads trace (Deliver n j ∷ past) (on_event (Deliver n j ∷ past) (near_packet n j none)
-          (ap (λ (run : SenderRun Style Mb Picture). length run.coded) (sender_after (coding p) (rules_of p) begin (steady p) frames w n o) ∙ on.sent)))
+          (ap (λ (run : SenderRun Style Mb Picture). length run.coded) (events_law.packet [] frames n j past) ∙ on.sent)))
       keeps_event trace (says.All n) =
           let count = length (slices_at seen.coded n) in
           keeps_unless trace (Deliver n 0) (refusal_at by_ends now (Deliver n 0)) _
           (λ none.
           let first = (near_packet n 0 none).0 in
           leads trace (delivered n count ++ past) (on_event (delivered n count ++ past)
-          (near_delivered (coding p) (rules_of p) begin (steady p) frames n count past first.0 first.1 on.near)
-          (ap (λ (run : SenderRun Style Mb Picture). length run.coded) (sender_delivered (coding p) (rules_of p) begin (steady p) frames n count past) ∙ on.sent)))
+          (events_law.near [] frames n count 0 past first on.near)
+          (ap (λ (run : SenderRun Style Mb Picture). length run.coded) (events_law.sender [] frames n count past) ∙ on.sent)))
       keeps_event trace (says.Back k) =
           keeps_unless trace (Back k) (refusal_at by_ends now (Back k)) _
           (λ none. leads trace (Back k ∷ past) (on_event (Back k ∷ past) (near_back k none)
-          (ap (λ (l : List (Coded Style Mb Picture)). length l) (coded_brought (coding p) (rules_of p) begin (steady p) frames w (slice_get w.said k)) ∙ on.sent)))
+          (ap (λ (l : List (Coded Style Mb Picture)). length l) (events_law.message [] frames k past) ∙ on.sent)))
       keeps_event trace says.Play =
           keeps_unless trace Play (refusal_at by_ends now Play) _ (λ none. leads trace (Play ∷ past) (on_event (Play ∷ past) (near_play none) on.sent))
 
@@ -283,7 +283,7 @@ module _ (p : Params) (frames_law : LaterFramesBoth (coding p) (rules_of p)) whe
       keeps_line trace None = tt
       keeps_line trace (Some line) = keeps_event trace line
 
-      keeps_choice : (b : Bool) (trace : List ℕ) (o : Option Line) → Keeps false (if b then line_step by_ends now inputs trace o else Ends (refusal (TraceRefused (TooMany (lines + 1)))))
+      keeps_choice : (b : Bool) (trace : List ℕ) (o : Option Line) → Keeps false (if b then line_step by_ends now inputs trace o else Ends (bad_line (TooMany (lines + 1))))
       keeps_choice true trace o = keeps_line trace o
       keeps_choice false trace o = tt
 
@@ -328,11 +328,11 @@ module _ (p : Params) (frames_law : LaterFramesBoth (coding p) (rules_of p)) whe
         ∙ ap (λ (step : Step CallState). follow step (λ next taken. run_of call_step turns next (behind inputs taken))) (same_turn plain s inputs k)
 
 -- from the first state on
-pub talk_is_the_call : (t : Terms) → LaterFramesBoth (coding t.params) (rules_of t.params) → NearLaws t.params
+pub talk_is_the_call : (t : Terms) → LaterFramesBoth (coding t.params) (rules_of t.params) → EventLaws t.params → NearLaws t.params
     → ((frames : List Frame) (past : List Event) → AllMayHappenBoth (coding t.params) (rules_of t.params) (receiver_end.run_of t.params []) (steady t.params) frames past → ShowTheSame t.params frames past)
     → TalkIsTheCall t
-talk_is_the_call t frames_law near_laws agree at turns inputs =
-    same_run t.params frames_law near_laws agree turns t.plain (first_state t [] at) inputs
+talk_is_the_call t frames_law events_law near_laws agree at turns inputs =
+    same_run t.params frames_law events_law near_laws agree turns t.plain (first_state t [] at) inputs
     (record {
       frames = [];
       past = [];

@@ -3,7 +3,7 @@ use Rattle.std.proofs.Common.{◌≡◌, ℕ, zero, suc, ◌+◌, ◌<◌, List,
 use Rattle.call_model.specs.Coding.{Rules, Coding}
 use Rattle.call_model.specs.IdealCall.{Event, Send, Call, AllMayHappen, ideal}
 use Rattle.call_model.specs.Before.{sent_before, played_before, CountsAreThose}
-use Rattle.call_command.specs.Trace.{delivered, passed_on}
+use Rattle.one_way.specs.Trace.{delivered, passed_on}
 
 pub sent_delivered : (n count : ℕ) (past : List Event) → sent_before (delivered n count ++ past) ≡ sent_before past
 sent_delivered n zero past = refl

@@ -5,6 +5,7 @@ use Rattle.h263_types.specs.declared.format.Format.{Format}
 use Rattle.h263_types.specs.declared.params.Params.{Params}
 use Rattle.h263_planes.specs.Layout.{picture_of}
 use Rattle.h263_planes.specs.Picture.{Picture}
+use Rattle.h263_outside.specs.Desk.{is_role}
 use Rattle.h263_outside.specs.declared.desk.Role.{Role}
 use Rattle.h263_outside.specs.declared.desk.Role.TheVariants.{Video, Events, Pictures, Report}
 use Rattle.y4m.specs.declared.fault.Y4mFault.{Y4mFault}
@@ -31,11 +32,11 @@ use Rattle.desk_program.specs.Run.{Turn, End, Step, refusal}
 use Rattle.desk_program.specs.Run.Step.{Goes, Ends}
 use Rattle.desk_program.specs.Texts.{no_texts, on, then_also, of, and_of}
 use Rattle.call_command.specs.declared.terms.Terms.{Terms}
-use Rattle.call_command.specs.Trace.{delivered}
-use Rattle.call_command.specs.Both.{bare, both_after}
-use Rattle.call_command.specs.Seen.{Seen, in_call, in_both, reference_in}
+use Rattle.one_way.specs.Trace.{delivered}
+use Rattle.one_way.specs.Both.{bare, both_after, steady}
+use Rattle.one_way.specs.Seen.{Seen, in_call, in_both, reference_in}
 use Rattle.call_command.specs.Refused.{fault_of}
-use Rattle.call_command.specs.Counts.{call_text}
+use Rattle.one_way.specs.Counts.{call_text}
 
 pub record CallState : Type 0 where
   -- the parameters with the video's format, and whether the trace is the plain one
@@ -52,10 +53,6 @@ pub record CallState : Type 0 where
   -- how many lines of the trace were read, and whether the last of them had no newline
   pub lines : ℕ
   pub ended : Bool
-
--- every picture has the quantiser of the parameters
-abbrev pub steady : Params → List ℕ → ℕ
-steady p sizes = p.quant
 
 -- what is seen of a call
 abbrev pub View : Type 0
@@ -129,6 +126,12 @@ abbrev pub refused_line : List ℕ → TraceFault → End
 refused_line trace fault =
     record { status = TraceRefused fault; taken = λ r. Some (of Events (line_size trace) r); texts = no_texts }
 
+-- a line that says none, or is one too many: of what it takes of the trace nothing is said, and
+-- nothing is taken of the other inputs
+abbrev pub bad_line : TraceFault → End
+bad_line fault =
+    record { status = TraceRefused fault; taken = λ r. if is_role Events r then None else Some 0; texts = no_texts }
+
 -- the line says this event, which is refused or has its step
 abbrev pub unless : CallState → List ℕ → Event → Option Refusal → Step CallState → Step CallState
 unless s trace e None step = step
@@ -177,7 +180,7 @@ module _ (view : View) where
       (Goes (after_line (with_play s) trace) (line_turn trace (play_texts (view (with_play s)) (view s).played)))
 
   abbrev pub line_step : CallState → (Role → List ℕ) → List ℕ → Option Line → Step CallState
-  line_step s inputs trace None = Ends (refusal (TraceRefused (BadLine (s.lines + 1))))
+  line_step s inputs trace None = Ends (bad_line (BadLine (s.lines + 1)))
   line_step s inputs trace (Some line) = event_step s inputs trace line
 
   -- a trace has 16,777,216 lines at most
@@ -186,7 +189,7 @@ module _ (view : View) where
   trace_step s inputs (b ∷ trace) =
       if nat_lt s.lines 16777216
       then line_step s inputs (b ∷ trace) (event_in (first_line (b ∷ trace)))
-      else Ends (refusal (TraceRefused (TooMany (s.lines + 1))))
+      else Ends (bad_line (TooMany (s.lines + 1)))
 
   -- ---- the plain trace
 

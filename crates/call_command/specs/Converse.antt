@@ -1,53 +1,27 @@
 -- What a machine keeps in mind whose ends are lent to it, and what it makes of a call.
 use Rattle.std.specs.Prelude.{◌≡◌, ℕ, Bool, List, []}
 use Rattle.h263_outside.specs.declared.desk.Role.{Role}
-use Rattle.call_report.specs.declared.status.Status.TheVariants.{OutOfMemory}
 use Rattle.call_model.specs.Receiving.{ReceiverEntry}
-use Rattle.desk_program.specs.Run.{Run, Step, run_of, end_state, refusal}
-use Rattle.desk_program.specs.Run.Step.{Ends}
+use Rattle.desk_program.specs.Run.{Run, run_of, end_state}
 use Rattle.sender_end.specs.Stands as sender_end
-use Rattle.sender_end.specs.Stands.{IsReady}
 use Rattle.receiver_end.specs.State as receiver_end
 use Rattle.call_command.specs.declared.call.Begun.{Begun}
-use Rattle.call_command.specs.declared.lent.World.{World}
+use Rattle.call_command.specs.declared.world.World.{World}
 use Rattle.call_command.specs.declared.terms.Terms.{Terms}
-use Rattle.call_command.specs.Call.{CallState, first_state, most_turns, steady, talk_step}
-use Rattle.call_command.specs.Standing.{CallOpens, EndsStand, Parts, PartsReady, PartsStand}
-
--- what stays for the whole call: what is asked for, and what is lent, by name
-pub record Names : Type 0 where
-  pub terms : Terms
-  pub video : ℕ
-  pub sender : ℕ
-  pub receiver : ℕ
-
-abbrev pub names_of : World → Names
-names_of m =
-    record {
-      terms = m.terms;
-      video = m.video.ghost_name;
-      sender = m.sender.ghost_name;
-      receiver = m.receiver.ghost_name;
-    }
-
-abbrev pub parts_of_world : World → Parts
-parts_of_world m =
-    record {
-      terms = m.terms;
-      video = m.video.now;
-      sender = m.sender.now.state;
-      receiver = m.receiver.now;
-      carrier = m.carrier.now;
-    }
+use Rattle.one_way.specs.Both.{steady}
+use Rattle.call_command.specs.Turning.{names_of}
+use Rattle.call_command.specs.Call.{CallState, first_state, most_turns, talk_step}
+use Rattle.call_command.specs.Standing.{CallOpens, PartsReady, PartsStand, parts_of}
 
 abbrev pub WorldStands : World → CallState → (Role → List ℕ) → Type 0
-WorldStands m s inputs = PartsStand (parts_of_world m) s inputs
+WorldStands m s inputs = PartsStand (parts_of m) s inputs
 
 abbrev pub WorldReady : World → (Role → Bool) → Type 0
-WorldReady m attached = PartsReady (parts_of_world m) m.sender.now.pace.quant attached
+WorldReady m attached = PartsReady (parts_of m) attached
 
-abbrev pub WorldKeeps : World → CallState → Type 0
-WorldKeeps m s = EndsStand m.terms m.sender.now.state m.receiver.now s
+-- the same is lent, and the pace of the sender and what was asked for are the same
+pub record WorldStays (first now : World) : Type 0 where
+  pub names : names_of now ≡ names_of first
 
 -- the state before the first event
 abbrev pub IsFirst : Terms → ℕ → CallState → (Role → List ℕ) → Type 0
@@ -58,18 +32,13 @@ pub record MayConverse (plain : Bool) (attached : Role → Bool) (begun : Begun)
   pub opens : CallOpens (record { params = begun.params; plain = plain }) attached
   pub format : begun.video.format ≡ begun.params.format
   pub frames : begun.video.more ≡ 1048576
-  pub ready : IsReady begun.both.sender.state
-  pub sender_params : begun.both.sender.state.params ≡ begun.params
+  pub sender_params : begun.both.sender.params ≡ begun.params
   pub receiver_params : begun.both.receiver.params ≡ begun.params
   pub quant : begun.both.sender.pace.quant ≡ begun.params.quant
-  pub sent : begun.both.sender.state.sent ≡ 0
-  pub sends : sender_end.Stands (steady begun.params) begun.both.sender.state []
+  pub sent : begun.both.sender.sent ≡ 0
+  pub sends : sender_end.Stands (steady begun.params) begun.both.sender []
   pub played : begun.both.receiver.played ≡ 0
   pub receives : receiver_end.Stands begun.both.receiver []
-
--- it isn't started as a command is
-abbrev pub no_begin : Terms → (Role → List ℕ) → Step CallState
-no_begin t inputs = Ends (refusal OutOfMemory)
 
 -- the call of these terms, by both ends, where the receiver had heard these entries before and the
 -- video's first frame is at this byte

@@ -1,10 +1,4 @@
-pub mod Trace
-pub mod Seen
 pub mod Refused
-pub mod References
-pub mod Network
-pub mod Both
-pub mod Counts
 pub mod Call
 pub mod Standing
 pub mod Turning

@@ -1,25 +1,21 @@
 -- How the refusal of an event is told, with the line that says it.
-use Rattle.std.specs.Prelude.{◌≡◌, ℕ, Option, Some, None, Result, Ok, Err}
+use Rattle.std.specs.Prelude.{ℕ}
 use Rattle.loss_trace.specs.declared.fault.TraceFault.{TraceFault}
 use Rattle.loss_trace.specs.declared.fault.TraceFault.TheVariants as trace
-use Rattle.call_model.specs.IdealCall.{Event, Send, Deliver, Play, Back}
-use Rattle.call_model.specs.Refusals.{Refusal, NotSent, NotSaid, Far, PlayBeforeSend, NoFrame}
+use Rattle.call_model.specs.IdealCall.{Event}
+use Rattle.call_model.specs.Refusals.{Refusal}
+use Rattle.one_way.specs.declared.refusals.Refusal.{Refusal as Told}
+use Rattle.one_way.specs.declared.refusals.Refusal.TheVariants.{NotSent, NotSaid, Far, PlayBeforeSend, NoFrame}
+use Rattle.one_way.specs.Refused.{told_as}
 
--- what a far event asks for: of a message its own number is told, not its picture's
-abbrev pub given_by : Event → ℕ → ℕ
-given_by (Back k) given = k
-given_by Send given = given
-given_by (Deliver n j) given = given
-given_by Play given = given
+-- with its line
+abbrev pub fault_at : ℕ → Told → TraceFault
+fault_at line NotSent = trace.NotSent line
+fault_at line NotSaid = trace.NotSaid line
+fault_at line (Far given other) = trace.Far line given other
+fault_at line PlayBeforeSend = trace.PlayBeforeSend line
+fault_at line NoFrame = trace.NoFrame line
 
+-- of a message that is far its own number is told, not its picture's
 abbrev pub fault_of : ℕ → Event → Refusal → TraceFault
-fault_of line e NotSent = trace.NotSent line
-fault_of line e NotSaid = trace.NotSaid line
-fault_of line e (Far given other) = trace.Far line (given_by e given) other
-fault_of line e PlayBeforeSend = trace.PlayBeforeSend line
-fault_of line e NoFrame = trace.NoFrame line
-
--- an event may happen where it has no refusal, and else is told to be refused so
-abbrev pub IsAllowed : Result Unit TraceFault → ℕ → Event → Option Refusal → Type 0
-IsAllowed (Ok _) line e refusal = refusal ≡ None
-IsAllowed (Err fault) line e refusal = (r : Refusal) × (refusal ≡ Some r) × (fault ≡ fault_of line e r)
+fault_of line e refusal = fault_at line (told_as e refusal)

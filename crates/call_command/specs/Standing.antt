@@ -1,6 +1,6 @@
 -- What the machine of a call keeps in mind, and what it is ready for.
-use Rattle.std.specs.Prelude.{◌≡◌, ℕ, ◌+◌, ◌-◌, ◌*◌, ◌≤◌, Bool, if◌then◌else◌, true, false, List, [], ◌++◌, length, Some, None, Option, Result, Ok, Err}
-use Rattle.h263_types.specs.declared.params.Params.{Params}
+use Rattle.std.specs.Prelude.{◌≡◌, ℕ, ◌+◌, ◌-◌, ◌*◌, ◌≤◌, Bool, if◌then◌else◌, true, false, List, [], ◌++◌, length, Some, None, Option}
+use Rattle.h263_types.specs.Clocks.{period_of}
 use Rattle.h263_types.specs.Params.{IsParams}
 use Rattle.h263_types.specs.Sizes.{size_of_picture}
 use Rattle.h263_outside.specs.Desk.{Outside}
@@ -10,36 +10,24 @@ use Rattle.h263_types.specs.declared.Mark.{Mark}
 use Rattle.h263_planes.specs.Picture.{Picture}
 use Rattle.y4m.specs.declared.reader.Y4mReader.{Y4mReader}
 use Rattle.y4m.specs.Text.{frame_text}
-use Rattle.loss_trace.specs.declared.fault.TraceFault.{TraceFault}
-use Rattle.call_report.specs.declared.status.Status.{Status}
-use Rattle.call_report.specs.declared.status.Status.TheVariants.{TraceRefused}
 use Rattle.call_report.specs.Text.{picture_text}
 use Rattle.desk_program.specs.Run.{behind}
 use Rattle.desk_program.specs.Ends.{Tells}
 use Rattle.desk_program.specs.Texts.{on, then_also, of}
-use Rattle.call_rings.specs.declared.packets.PacketRing.{PacketRing}
-use Rattle.call_rings.specs.Keeping.{begun_of}
+use Rattle.call_rings.specs.Keeping as ring
 use Rattle.call_rings.specs.Messages.{said_of}
 use Rattle.call_model.specs.IdealCall.{Event}
-use Rattle.call_model.specs.JoinedRun.{AllMayHappenBoth}
 use Rattle.call_model.specs.Receiving.{ReceiverEntry}
-use Rattle.call_model.specs.Refusals.{Refusal, first_refusal}
-use Rattle.call_decoding.specs.Rules.{rules_of}
 use Rattle.call_encoding.specs.Frames.{Frame}
-use Rattle.coded_call.specs.Coding.{coding}
-use Rattle.sender_end.specs.declared.state.State.{State}
-use Rattle.sender_end.specs.Stands.{IsReady}
 use Rattle.receiver_end.specs.declared.kept.Kept.{Kept}
 use Rattle.receiver_end.specs.State as receiver_end
+use Rattle.one_way.specs.Both.{AreJoined, State, steady}
+use Rattle.one_way.specs.Counts.{total_of}
+use Rattle.one_way.specs.Way.{CanSend, HoldsNetwork, IsNewNetwork}
 use Rattle.call_command.specs.declared.terms.Terms.{Terms}
 use Rattle.call_command.specs.declared.carrier.Carrier.{Carrier}
-use Rattle.call_command.specs.declared.references.References.{References}
-use Rattle.call_command.specs.Both.{AreJoined, IsStanding, both_after}
-use Rattle.call_command.specs.Call.{CallState, line_size, after_line, steady}
-use Rattle.call_command.specs.Counts.{AreCounted, total_of}
-use Rattle.call_command.specs.Network.{HasCallSizes, HasKept, HasMessages, HasPackets, HasReferences, IsKeeping}
-use Rattle.call_command.specs.Refused.{fault_of}
-use Rattle.call_command.specs.Seen.{in_both}
+use Rattle.call_command.specs.declared.world.World.{World}
+use Rattle.call_command.specs.Call.{CallState, line_size, after_line}
 
 -- picture n was shown with this mark and had this reference: the picture, and its line
 abbrev pub row_texts : ℕ → Mark → Option ℕ → Picture → Role → List ℕ
@@ -47,23 +35,6 @@ row_texts n mark reference picture =
     then_also (on Pictures (frame_text mark picture)) (on Report (picture_text n (Some mark) (Some reference) None))
 
 -- ---- the ends of a call, and what carries it
-
--- Both ends have done these events, where these frames are there to be sent and the receiver had
--- heard these entries before. The events are near, the marks of the plays are counted, and over a
--- recorded trace the network keeps what was sent and said.
-pub record Holds (t : Terms) (sender : State) (receiver : Kept) (carrier : Carrier)
-    (before : List ReceiverEntry) (frames : List Frame) (past : List Event) : Type 0 where
-  pub joined : AreJoined t.params (steady t.params) sender receiver frames before past
-  pub near : AllMayHappenBoth (coding t.params)
-      (rules_of t.params) (receiver_end.run_of t.params before) (steady t.params) frames past
-  pub tally : AreCounted carrier.tally (both_after t.params (steady t.params) frames before past).plays
-  pub network : t.plain ≡ false
-      → HasKept t.params carrier.packets carrier.messages carrier.references
-      (both_after t.params (steady t.params) frames before past)
-
--- with the packets and the reference of a picture more
-abbrev pub with_packets_kept : Carrier → PacketRing → References → Carrier
-with_packets_kept carrier packets references = record carrier { packets = packets; references = references }
 
 -- the parts of a call at a turn
 pub record Parts : Type 0 where
@@ -73,9 +44,16 @@ pub record Parts : Type 0 where
   pub receiver : Kept
   pub carrier : Carrier
 
-abbrev pub parts_of : Terms → Y4mReader → State → Kept → Carrier → Parts
-parts_of t video sender receiver carrier =
-    record { terms = t; video = video; sender = sender; receiver = receiver; carrier = carrier }
+-- those that a machine owns, and that are lent to it
+abbrev pub parts_of : World → Parts
+parts_of m =
+    record {
+      terms = m.terms;
+      video = m.video.now;
+      sender = m.sender.now;
+      receiver = m.receiver.now;
+      carrier = m.carrier;
+    }
 
 -- the state of these frames and events
 abbrev pub state_of : Parts → List ReceiverEntry → List Frame → List Event → CallState
@@ -92,6 +70,10 @@ state_of x before frames past =
       ended = x.carrier.trace.ended;
     }
 
+-- both ends and the network have done these events
+abbrev pub HasDone : Parts → List ReceiverEntry → List Frame → List Event → Type 0
+HasDone x before frames past = HoldsNetwork x.terms.params x.carrier.network x.sender x.receiver before frames past
+
 -- The parts stand at a state: each of its frames was sent, and so it is whatever frames come after
 -- them. The receiver had played nothing before. After a last line without a newline the trace is at
 -- its end.
@@ -100,18 +82,23 @@ pub record PartsStand (x : Parts) (s : CallState) (inputs : Role → List ℕ) :
   pub begun : (receiver_end.run_of x.terms.params s.before).played ≡ 0
   pub sent : x.sender.sent ≡ length s.frames
   pub over : x.carrier.trace.ended ≡ true → inputs Events ≡ []
-  pub holds : (later : List Frame) → Holds x.terms x.sender x.receiver x.carrier s.before (s.frames ++ later) s.past
+  pub holds : (later : List Frame) → HasDone x s.before (s.frames ++ later) s.past
 
 -- both ends stand for what was done in the call
 abbrev pub EndsStand : Terms → State → Kept → CallState → Type 0
 EndsStand t sender receiver s = AreJoined t.params (steady t.params) sender receiver s.frames s.before s.past
 
 -- how many turns may still come, and the input whose end is the end of the call
-abbrev pub more_of : Terms → Y4mReader → Carrier → ℕ
-more_of t video carrier = if t.plain then video.more else 16777216 - carrier.trace.lines
+abbrev pub more_of : Parts → ℕ
+more_of x = if x.terms.plain then x.video.more else 16777216 - x.carrier.trace.lines
 
 abbrev pub source_of : Terms → Role
 source_of t = if t.plain then Video else Events
+
+-- the packets of this many pictures are kept: those of the last period may still be delivered, and
+-- over the plain trace those of the last picture
+abbrev pub pictures_kept : Terms → ℕ
+pictures_kept t = if t.plain then 1 else period_of t.params.clock
 
 -- ---- what they are ready for
 
@@ -122,47 +109,31 @@ pub record CallOpens (t : Terms) (attached : Role → Bool) : Type 0 where
   pub pictures : attached Pictures ≡ true
   pub report : attached Report ≡ true
 
--- over a recorded trace: the ring of packets has its sizes, and each picture that was sent was begun
--- in it
-pub record ArePacketsReady (t : Terms) (sender : State) (packets : PacketRing) : Type 0 where
-  pub sizes : HasCallSizes t.params packets
-  pub keeping : IsKeeping packets
-  pub begun : begun_of packets ≡ sender.sent
-
--- and a line makes 400 messages at most
-pub record IsNetworkReady (t : Terms) (sender : State) (carrier : Carrier) : Type 0 where
-  pub packets : ArePacketsReady t sender carrier.packets
-  pub said : said_of carrier.messages ≤ 400 * carrier.trace.lines
-
-pub record PartsReady (x : Parts) (quant : ℕ) (attached : Role → Bool) : Type 0 where
+pub record PartsReady (x : Parts) (attached : Role → Bool) : Type 0 where
   pub opens : CallOpens x.terms attached
   pub format : x.video.format ≡ x.terms.params.format
   pub frame : length x.carrier.frame.items ≡ size_of_picture x.terms.params.format
-  pub sender : IsReady x.sender
   pub sender_params : x.sender.params ≡ x.terms.params
-  pub standing : IsStanding (steady x.terms.params) x.sender
-  pub quant_is : quant ≡ x.terms.params.quant
+  pub can : CanSend x.carrier.network.way x.sender
+  pub period : ring.period_of x.carrier.network.way.packets ≡ pictures_kept x.terms
   pub sent : x.sender.sent + x.video.more ≡ 1048576
   pub played : x.receiver.played ≤ x.sender.sent
   pub level : x.terms.plain ≡ true → x.receiver.played ≡ x.sender.sent
   pub unread : x.terms.plain ≡ true → x.carrier.trace.ended ≡ false
-  pub counted : total_of x.carrier.tally ≡ x.receiver.played
-  pub network : x.terms.plain ≡ false → IsNetworkReady x.terms x.sender x.carrier
+  pub counted : total_of x.carrier.network.way.tally ≡ x.receiver.played
+  -- a line or a frame makes 400 messages at most
+  pub said : said_of x.carrier.network.messages ≤ 400 * (x.carrier.trace.lines + x.sender.sent)
+
+-- there is room for the messages of one more
+abbrev pub HasRoom : Parts → Type 0
+HasRoom x = said_of x.carrier.network.messages + 400 ≤ 400 * (x.carrier.trace.lines + x.sender.sent)
 
 -- before the first event
 pub record IsFresh (t : Terms) (carrier : Carrier) : Type 0 where
   pub lines : carrier.trace.lines ≡ 0
   pub ended : carrier.trace.ended ≡ false
   pub frame : length carrier.frame.items ≡ size_of_picture t.params.format
-  pub tally : total_of carrier.tally ≡ 0
-  pub counted : AreCounted {Picture = Picture} carrier.tally []
-  pub sizes : t.plain ≡ false → HasCallSizes t.params carrier.packets
-  pub keeping : IsKeeping carrier.packets
-  pub begun : begun_of carrier.packets ≡ 0
-  pub said : said_of carrier.messages ≡ 0
-  pub packets : HasPackets t.params carrier.packets []
-  pub messages : HasMessages carrier.messages []
-  pub references : HasReferences carrier.references []
+  pub network_is : IsNewNetwork t.params (pictures_kept t) carrier.network
 
 -- ---- a line that was read
 
@@ -178,21 +149,4 @@ pub record StoodBefore (x : Parts) (s : CallState) (inputs : Role → List ℕ) 
   pub sent : x.sender.sent ≡ length s.frames
   pub recorded : x.terms.plain ≡ false
   pub over : x.carrier.trace.ended ≡ true → behind inputs (of Events (line_size (inputs Events))) Events ≡ []
-  pub holds : (later : List Frame) → Holds x.terms x.sender x.receiver x.carrier s.before (s.frames ++ later) s.past
-
--- the first refusal of an event, by what both ends have done, as far as it is told before a frame is
--- read
-abbrev pub refusal_after : Params → List ReceiverEntry → List Frame → List Event → Event → Option Refusal
-refusal_after p before frames past e =
-    let seen = in_both (both_after p (steady p) frames before past) in
-    first_refusal (rules_of p) (length seen.coded + 1) (length seen.coded) seen.played seen.abouts e
-
--- an event is done where it has no refusal, and else is told to be refused so
-abbrev pub IsDone : {T : Type 0} → Result T TraceFault → ℕ → Event → Option Refusal → Type 0 → Type 0
-IsDone (Ok _) line e refusal p = (refusal ≡ None) × p
-IsDone (Err fault) line e refusal p = (r : Refusal) × (refusal ≡ Some r) × (fault ≡ fault_of line e r)
-
--- the status of a line that is refused; else the call goes on
-abbrev pub going_of : Result Unit TraceFault → Result Bool Status
-going_of (Ok _) = Ok true
-going_of (Err fault) = Err (TraceRefused fault)
+  pub holds : (later : List Frame) → HasDone x s.before (s.frames ++ later) s.past

@@ -4,17 +4,16 @@ ghost use Rattle.h263_outside.specs.declared.desk.Role.{Role};
 ghost use Rattle.h263_types.specs.Params.{IsParams};
 ghost use Rattle.desk_program.specs.Ends.{HasCause, IsStop, KeepsRoles, StartGives, Tells};
 ghost use Rattle.desk_program.specs.Ends.{start_status};
-ghost use Rattle.sender_end.specs.Stands.{IsReady};
 ghost use Rattle.sender_end.specs.Stands as sender_end;
 ghost use Rattle.receiver_end.specs.State as receiver_end;
-ghost use Rattle.call_command.specs.Call.{call_begin, may_read, steady};
+ghost use Rattle.one_way.specs.Both.{steady};
+ghost use Rattle.call_command.specs.Call.{call_begin, may_read};
 ghost use Rattle.call_command.specs.Converse.{IsFirst, MayConverse};
 ghost use Rattle.call_command.specs.Standing.{CallOpens};
 
-use crate::mind::{run_laws, turn_laws};
-use crate::{Terms, converse, laws};
+use crate::{Terms, converse, laws, world::World};
 use call_report::Status;
-use desk_program::{Acts, put_head};
+use desk_program::{Acts, laws as desk_program_laws, put_head};
 use h263_outside::{Desk, OutOfMemory, laws as outside_laws};
 use h263_types::{FixedPace, Params};
 use receiver_end::Receiver;
@@ -32,14 +31,13 @@ impl Both {
     /// Both before the first picture.
     pub fn start(alloc: Global, params: &Params) -> Result<Both, OutOfMemory>
         requires { IsParams params.now }
-        ensures ready { IfOk result (λ both. IsReady both.sender.state) }
-        ensures sender_params { IfOk result (λ both. both.sender.state.params ≡ params.now) }
+        ensures sender_params { IfOk result (λ both. both.sender.params ≡ params.now) }
         ensures receiver_params { IfOk result (λ both. both.receiver.params ≡ params.now) }
         ensures quant { IfOk result (λ both. both.sender.pace.quant ≡ params.now.quant) }
-        ensures sent { IfOk result (λ both. both.sender.state.sent ≡ 0) }
+        ensures sent { IfOk result (λ both. both.sender.sent ≡ 0) }
         ensures played { IfOk result (λ both. both.receiver.played ≡ 0) }
         ensures sends { IfOk result (λ both.
-            sender_end.Stands (steady params.now) both.sender.state []) }
+            sender_end.Stands (steady params.now) both.sender []) }
         ensures receives { IfOk result (λ both. receiver_end.Stands both.receiver []) }
     {
         let pace = FixedPace {
@@ -85,7 +83,7 @@ fn begin<D: Desk>(alloc: Global, setup: &Terms, desk: &mut D) -> Result<Begun, S
         (D.outside desk.old).faults (D.outside desk.new).faults }
     ensures rest { KeepsRoles (D.outside desk.old) (D.outside desk.new) }
 {
-    turn_laws();
+    desk_program_laws::of_turns();
     laws::of_the_video();
     let video = Y4mReader::head(desk)?;
     let params = Params {
@@ -125,7 +123,7 @@ impl Acts for Call {
 
     fn act<D: Desk>(alloc: Global, setup: &Terms, desk: &mut D) -> Status {
         outside_laws::calls();
-        run_laws();
+        desk_program_laws::of_runs::<World>();
         match begin(alloc, setup, desk) {
             Ok(mut begun) => {
                 let status = converse(

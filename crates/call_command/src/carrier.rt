@@ -1,38 +1,31 @@
 //! What carries a call between its ends.
-ghost use Rattle.std.specs.Prelude.{◌≡◌, IfOk, [], false};
-ghost use Rattle.call_rings.specs.Keeping.{HoldsPackets, begun_of};
-ghost use Rattle.call_command.specs.Network.{HasCallSizes};
+ghost use Rattle.std.specs.Prelude.{◌≡◌, IfOk};
+ghost use Rattle.call_command.specs.Standing.{pictures_kept};
 
-use crate::{References, Tally, Terms};
-use call_rings::{MessageRing, PacketRing};
+use crate::Terms;
 use h263_outside::OutOfMemory;
 use loss_trace::TraceReader;
+use one_way::Network;
 use std::alloc::Global;
 
-/// What carries a call between its ends: the reader of its trace, what the network keeps, room for
-/// a frame, and the marks of the pictures that were shown. All its memory is taken at the start.
+/// What carries a call between its ends: the reader of its trace, the network, and room for a
+/// frame. All its memory is taken at the start.
 #[derive(Drop)]
 pub struct Carrier {
     pub trace: TraceReader,
-    pub packets: PacketRing,
-    pub messages: MessageRing,
-    pub references: References,
+    pub network: Network,
     pub frame: Vec<u8>,
-    pub tally: Tally,
 }
 
-// The ring of a call's packets: those of the last period of pictures. Over the plain trace each
-// packet is delivered at once, and nothing is kept.
-fn packet_ring(alloc: Global, terms: &Terms) -> Result<PacketRing, OutOfMemory>
-    ensures kept { IfOk result (λ ring. HoldsPackets ring []) }
-    ensures sizes { terms.now.plain ≡ false → IfOk result (HasCallSizes terms.now.params) }
-    ensures begun { IfOk result (λ ring. begun_of ring ≡ 0) }
+// The packets of this many pictures are kept: those of the last period. Over the plain trace each
+// packet is delivered at once.
+fn kept(terms: &Terms) -> u32
+    ensures { result ≡ pictures_kept terms.now }
 {
     if terms.plain {
-        return PacketRing::start(alloc, 1, 0, 0);
+        return 1;
     }
-    let mbs = terms.params.format.mbs();
-    PacketRing::start(alloc, terms.params.clock.period(), 1200 * mbs, mbs)
+    terms.params.clock.period()
 }
 
 impl Carrier {
@@ -40,15 +33,14 @@ impl Carrier {
 
     /// Before the first event of a call.
     pub fn start(alloc: Global, terms: &Terms) -> Result<Carrier, OutOfMemory>
-        ensures { IfOk result (λ carrier. IsFresh terms.now carrier) }
+        ensures { IfOk result (IsFresh terms.now) }
     {
         Ok(Carrier {
             trace: TraceReader::new(),
-            packets: packet_ring(alloc, terms)?,
-            messages: MessageRing::start(alloc)?,
-            references: References::start(alloc)?,
+            network: Network::start(alloc, &terms.params, kept(terms))?,
             frame: vec![in alloc; 0; terms.params.format.size() as usize]?,
-            tally: Tally::new(),
         })
     }
+    /// After the last event.
+    pub fn finish(self) {}
 }

@@ -6,47 +6,32 @@ ghost use Rattle.desk_program.specs.Ends.{AfterAll, HasCause, HasEnded, IsLater,
 ghost use Rattle.desk_program.specs.Ends.{KeepsRoles, Tells, silent};
 ghost use Rattle.desk_program.specs.Run.{Run};
 ghost use Rattle.desk_program.specs.UnderWay.{IsUnderWay};
-ghost use Rattle.sender_end.specs.Stands.{IsReady};
 ghost use Rattle.sender_end.specs.Stands as sender_end;
 ghost use Rattle.receiver_end.specs.State as receiver_end;
-ghost use Rattle.call_command.specs.Call.{call_step, may_read, most_turns, steady};
+ghost use Rattle.one_way.specs.Both.{steady};
+ghost use Rattle.call_command.specs.Call.{call_step, may_read, most_turns};
 ghost use Rattle.call_command.specs.Converse.{IsFirst, talk_end, talk_of};
 ghost use Rattle.call_command.specs.Standing.{CallOpens, EndsStand, source_of};
 
-use crate::mind::{run_laws, turn_laws};
-use crate::turning::take_turn;
-use crate::{Carrier, Terms, laws};
+use crate::{Terms, carrier::Carrier, laws, world::World};
 use call_report::Status;
-use desk_program::{Turns, take_turns};
+use desk_program::{Turns, laws as desk_program_laws, take_turns};
 use h263_outside::Desk;
 use h263_types::{FixedPace, Params};
+use one_way::laws as one_way_laws;
 use receiver_end::Receiver;
 use sender_end::Sender;
 use std::alloc::Global;
 use y4m::Y4mReader;
 
-// The machine of a call whose ends and video are lent.
-#[derive(Drop)]
-struct World<'a> {
-    terms: Terms,
-    video: &'a mut Y4mReader,
-    sender: &'a mut Sender<FixedPace>,
-    receiver: &'a mut Receiver,
-    carrier: &'a mut Carrier,
-}
-
 impl<'a> Turns for World<'a> {
     ghost use Rattle.std.specs.Prelude.{Some};
-    ghost use Rattle.call_command.specs.Call.{CallState, may_read, most_turns, talk_step};
-    ghost use Rattle.call_command.specs.Converse.{Names, WorldKeeps, WorldReady, WorldStands};
-    ghost use Rattle.call_command.specs.Converse.{names_of, no_begin};
-    ghost use Rattle.call_command.specs.Standing.{CallOpens, more_of, source_of};
-
-    type Setup = Terms;
+    ghost use Rattle.call_command.specs.Call.{CallState, may_read, talk_step};
+    ghost use Rattle.call_command.specs.Converse.{WorldReady, WorldStands, WorldStays};
+    ghost use Rattle.call_command.specs.Standing.{more_of, parts_of, source_of};
+    ghost use Rattle.call_command.specs.Turning.{LeavesEnds};
 
     ghost State = { CallState };
-
-    ghost begin = { no_begin };
 
     ghost step = { talk_step };
 
@@ -54,41 +39,23 @@ impl<'a> Turns for World<'a> {
 
     ghost stands = { WorldStands };
 
-    ghost keeps = { WorldKeeps };
-
-    ghost Loan = { Names };
-
-    ghost loan = { names_of };
-
-    ghost most = { λ t. most_turns t.plain };
-
-    ghost more = { λ m. more_of m.terms m.video.now m.carrier.now };
-
-    ghost opens = { CallOpens };
+    ghost more = { λ m. more_of (parts_of m) };
 
     ghost ready = { WorldReady };
 
-    ghost source = { λ t. Some (source_of t) };
-
     ghost reading = { λ m. Some (source_of m.terms) };
 
-    // It is made of what is lent, and never started.
-    fn start<D: Desk>(_: Global, _: &Terms, _: &mut D) -> Result<World<'a>, Status> {
-        Err(Status::OutOfMemory)
-    }
+    ghost stays = { WorldStays };
+
+    ghost leaves = { LeavesEnds };
 
     fn turn<D: Desk>(&mut self, desk: &mut D) -> Result<bool, Status> {
-        take_turn(
-            desk,
-            &self.terms,
-            self.video,
-            self.sender,
-            self.receiver,
-            self.carrier,
-        )
+        if self.terms.plain {
+            self.frame_turn(desk)
+        } else {
+            self.line_turn(desk)
+        }
     }
-
-    fn finish(self) {}
 }
 
 /// Takes the events of the trace, or of the plain trace, one after the other, writes the pictures
@@ -111,12 +78,11 @@ pub fn converse<D: Desk>(
         (D.outside desk.old).attached }
     requires format { video.old.format ≡ params.now.format }
     requires frames { video.old.more ≡ 1048576 }
-    requires ready { IsReady sender.old.state }
-    requires sender_params { sender.old.state.params ≡ params.now }
+    requires sender_params { sender.old.params ≡ params.now }
     requires receiver_params { receiver.old.params ≡ params.now }
     requires quant { sender.old.pace.quant ≡ params.now.quant }
-    requires sent { sender.old.state.sent ≡ 0 }
-    requires sends { sender_end.Stands (steady params.now) sender.old.state [] }
+    requires sent { sender.old.sent ≡ 0 }
+    requires sends { sender_end.Stands (steady params.now) sender.old [] }
     requires played { receiver.old.played ≡ 0 }
     ensures gives { (before : List ReceiverEntry) (inputs : Role → List ℕ)
         → receiver_end.Stands receiver.old before → Tells (D.outside desk.old) inputs
@@ -131,33 +97,44 @@ pub fn converse<D: Desk>(
     ensures stands { (before : List ReceiverEntry) (inputs : Role → List ℕ)
         → receiver_end.Stands receiver.old before → Tells (D.outside desk.old) inputs
         → AfterAll result (EndsStand (record { params = params.now; plain = plain })
-        sender.new.state receiver.new
+        sender.new receiver.new
         (talk_end (record { params = params.now; plain = plain }) before video.old.at inputs)) }
     ensures whole_input { (before : List ReceiverEntry) (inputs : Role → List ℕ)
         → receiver_end.Stands receiver.old before → Tells (D.outside desk.old) inputs
         → IsReadOut result (Some (source_of (record { params = params.now; plain = plain })))
         (D.outside desk.new) }
+    ensures pace { sender.new.pace ≡ sender.old.pace }
     ensures later { IsLater result }
     ensures cause { HasCause result (D.outside desk.old).faults (D.outside desk.new).faults }
     ensures rest { KeepsRoles (D.outside desk.old) (D.outside desk.new) }
 {
-    turn_laws();
-    run_laws();
+    desk_program_laws::of_turns();
+    desk_program_laws::of_runs::<World>();
     laws::talks_agree();
+    one_way_laws::of_the_way();
     let terms = Terms {
         params: *params,
         plain,
     };
     match Carrier::start(alloc, &terms) {
-        Ok(mut carrier) => {
+        Ok(carrier) => {
             let mut world = World {
                 terms,
                 video,
                 sender,
                 receiver,
-                carrier: &mut carrier,
+                carrier,
             };
-            take_turns(desk, &mut world)
+            let status = take_turns(desk, &mut world);
+            let World {
+                terms: _,
+                video: _video,
+                sender: _sender,
+                receiver: _receiver,
+                carrier,
+            } = world;
+            carrier.finish();
+            status
         }
         Err(_) => Status::OutOfMemory,
     }

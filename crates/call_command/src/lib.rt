@@ -3,7 +3,8 @@
 //!
 //! `specs/Call` says what it does with each frame of the video or each line of the trace, by the
 //! ideal call of `call_model`. [`Call`] begins both ends and lends them to [`converse`], which
-//! takes the events, whatever the receiver had heard before.
+//! takes the events, whatever the receiver had heard before. What an event does to the ends and to
+//! the network between them is `one_way`'s.
 //!
 //! ```rust
 //! let order = &[(Role::Video, "in.y4m"), (Role::Pictures, "out.y4m")];
@@ -14,25 +15,13 @@
 
 mod call;
 mod carrier;
-mod ends;
-mod events;
-pub mod laws;
 mod lent;
-mod mind;
-mod pass;
-mod references;
-mod refusals;
+pub mod laws;
 mod show;
-mod tally;
 mod terms;
-mod turning;
-mod way;
+mod world;
 
 pub use call::{Both, Call};
-pub use carrier::Carrier;
-pub use events::{all_event, back_event, packet_event, play_event, send_kept};
 pub use lent::converse;
-pub use references::References;
-pub use tally::Tally;
+pub use show::tell_counts;
 pub use terms::Terms;
-pub use turning::tell_counts;

@@ -1,21 +1,36 @@
-//! What a call writes of a picture that was played: the picture, and its line.
-ghost use Rattle.std.specs.Prelude.{◌≡◌, true, OnOk, OnErr, IfErr};
+//! What a call writes: of a picture that is played the picture and its line, and at the end the
+//! counts.
+ghost use Rattle.std.specs.Prelude.{◌≡◌, ◌+◌, ◌^◌, ◌<◌, ◌≤◌, List, ◌∷◌, true, OnOk, OnErr, IfErr};
 ghost use Rattle.h263_outside.specs.Desk.{OnlyWrites, Rose};
 ghost use Rattle.h263_outside.specs.declared.desk.Role.TheVariants.{Pictures, Report};
 ghost use Rattle.h263_planes.specs.Lent.{picture as lent};
+ghost use Rattle.h263_types.specs.declared.params.Params.{Params};
+ghost use Rattle.call_model.specs.IdealCall.{Event, Play};
+ghost use Rattle.call_model.specs.Receiving.{ReceiverEntry};
+ghost use Rattle.call_encoding.specs.Frames.{Frame};
+ghost use Rattle.call_rings.specs.Messages.{said_of};
+ghost use Rattle.receiver_end.specs.State as receiver_end;
 ghost use Rattle.desk_program.specs.Ends.{Gains, GainsFronts};
+ghost use Rattle.desk_program.specs.Texts.{on};
+ghost use Rattle.one_way.specs.Both.{State, both_after, steady};
+ghost use Rattle.one_way.specs.Counts.{counts_of, total_of};
+ghost use Rattle.one_way.specs.Seen.{in_both};
+ghost use Rattle.one_way.specs.Way.{HoldsNetwork, MayHappenNow};
+ghost use Rattle.call_command.specs.Call.{play_texts};
 ghost use Rattle.call_command.specs.Standing.{row_texts};
 
-use crate::mind::turn_laws;
 use call_report::{Status, picture_line};
-use desk_program::{put_line, put_picture};
+use desk_program::{laws as desk_program_laws, put_line, put_picture};
 use h263_outside::{Desk, laws as outside_laws};
 use h263_planes::PictureRef;
-use h263_types::Mark;
+use h263_types::{FixedPace, Mark};
+use one_way::{Network, Way, laws as one_way_laws};
+use receiver_end::Receiver;
+use sender_end::Sender;
 
-/// Writes the picture that is shown, and its line: with its number, its mark, and the reference of
-/// the picture that was sent.
-pub fn show<D: Desk>(
+// Writes the picture that is shown, and its line: with its number, its mark, and the reference of
+// the picture that was sent.
+fn show<D: Desk>(
     desk: &mut D,
     number: u32,
     mark: Mark,
@@ -35,8 +50,80 @@ pub fn show<D: Desk>(
     ensures rest { OnlyWrites (D.outside desk.old) (D.outside desk.new) }
 {
     outside_laws::calls();
-    turn_laws();
+    desk_program_laws::of_turns();
     put_picture(desk, mark, picture)?;
     let line = picture_line(number, Some(mark), Some(reference), None);
+    put_line(desk, &line)
+}
+
+/// Plays the next picture, which was sent, and writes it with its line.
+pub fn play_next<D: Desk>(
+    desk: &mut D,
+    network: &mut Network,
+    receiver: &mut Receiver,
+) -> Result<(), Status>
+    requires pictures { (D.outside desk.old).attached Pictures ≡ true }
+    requires report { (D.outside desk.old).attached Report ≡ true }
+    requires played { receiver.old.played < 2 ^ 20 }
+    requires counted { total_of network.old.way.tally ≡ receiver.old.played }
+    requires said { said_of network.old.messages + 1 < 2 ^ 64 }
+    ensures params { receiver.new.params ≡ receiver.old.params }
+    ensures played { receiver.new.played ≡ receiver.old.played + 1 }
+    ensures counted { total_of network.new.way.tally ≡ receiver.new.played }
+    ensures few { said_of network.new.messages ≤ said_of network.old.messages + 1 }
+    ensures way { network.new.way ≡ record network.old.way { tally = network.new.way.tally } }
+    ensures holds { (p : Params) (sender : State) (before : List ReceiverEntry)
+        (frames : List Frame) (past : List Event)
+        → HoldsNetwork p network.old sender receiver.old before frames past
+        → MayHappenNow p before frames past Play
+        → HoldsNetwork p network.new sender receiver.new before frames (Play ∷ past) }
+    ensures ok { (p : Params) (sender : State) (before : List ReceiverEntry)
+        (frames : List Frame) (past : List Event)
+        → (receiver_end.run_of p before).played ≡ 0
+        → HoldsNetwork p network.old sender receiver.old before frames past
+        → MayHappenNow p before frames past Play
+        → OnOk result (Gains (play_texts
+        (in_both (both_after p (steady p) frames before (Play ∷ past))) receiver.old.played)
+        (D.outside desk.old).written (D.outside desk.new).written) }
+    ensures err { (p : Params) (sender : State) (before : List ReceiverEntry)
+        (frames : List Frame) (past : List Event)
+        → (receiver_end.run_of p before).played ≡ 0
+        → HoldsNetwork p network.old sender receiver.old before frames past
+        → MayHappenNow p before frames past Play
+        → OnErr result (GainsFronts (play_texts
+        (in_both (both_after p (steady p) frames before (Play ∷ past))) receiver.old.played)
+        (D.outside desk.old).written (D.outside desk.new).written) }
+    ensures kind { IfErr result (λ status. status ≡ Status.WriteFault) }
+    ensures cause { OnErr result (Rose (D.outside desk.old).faults.write
+        (D.outside desk.new).faults.write) }
+    ensures rest { OnlyWrites (D.outside desk.old) (D.outside desk.new) }
+{
+    one_way_laws::of_the_way();
+    let number = receiver.played();
+    let reference = network.way.reference_of(number);
+    let mark = network.play(receiver);
+    show(desk, number, mark, reference, receiver.shown())
+}
+
+/// Writes the counts, at the end of the trace.
+pub fn tell_counts<D: Desk>(
+    desk: &mut D,
+    way: &Way,
+    sender: &Sender<FixedPace>,
+    receiver: &Receiver,
+) -> Result<(), Status>
+    requires { (D.outside desk.old).attached Report ≡ true }
+    ensures ok { OnOk result (Gains (on Report (counts_of way.now.tally
+        receiver.now.played sender.now.sent))
+        (D.outside desk.old).written (D.outside desk.new).written) }
+    ensures err { OnErr result (GainsFronts (on Report (counts_of way.now.tally
+        receiver.now.played sender.now.sent))
+        (D.outside desk.old).written (D.outside desk.new).written) }
+    ensures kind { IfErr result (λ status. status ≡ Status.WriteFault) }
+    ensures cause { OnErr result (Rose (D.outside desk.old).faults.write
+        (D.outside desk.new).faults.write) }
+    ensures rest { OnlyWrites (D.outside desk.old) (D.outside desk.new) }
+{
+    let line = way.line(receiver.played(), sender.sent());
     put_line(desk, &line)
 }

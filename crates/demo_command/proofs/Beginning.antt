@@ -1,50 +1,42 @@
 -- Before the first line.
-use Rattle.std.proofs.Common.{◌≡◌, ℕ, ◌+◌, ◌*◌, ◌^◌, ◌<◌, ◌≤◌, List, [], length, refl, sym, ap, subst, ◌∙◌, arith}
+use Rattle.std.proofs.Common.{◌≡◌, ℕ, ◌+◌, ◌*◌, ◌^◌, ◌<◌, ◌≤◌, List, [], length, sym, ap, subst, ◌∙◌, arith}
 use Rattle.loss_trace.specs.declared.event.Event.{Event as Line}
+use Rattle.h263_types.specs.declared.params.Params.{Params}
+use Rattle.h263_types.specs.Clocks as clocks
 use Rattle.h263_types.specs.Params.{IsParams}
+use Rattle.h263_types.specs.Sizes.{mbs_of, size_of_picture}
 use Rattle.make_input.specs.Trace.{made_trace}
-use Rattle.sender_end.specs.declared.state.State.{State}
 use Rattle.sender_end.specs.Stands as sender_end
-use Rattle.sender_end.specs.Stands.{IsReady}
-use Rattle.receiver_end.specs.declared.kept.Kept.{Kept}
-use Rattle.receiver_end.specs.State as receiver_end
-use Rattle.call_rings.specs.Messages.{said_of}
-use Rattle.call_command.specs.declared.carrier.Carrier.{Carrier}
-use Rattle.call_command.specs.declared.terms.Terms.{Terms}
-use Rattle.call_command.specs.Call.{steady}
-use Rattle.call_command.specs.Standing.{IsFresh}
+use Rattle.one_way.specs.Both.{IsStanding, steady}
+use Rattle.one_way.specs.Way.{IsNewNetwork}
+use Rattle.demo_command.specs.declared.demo.Demo.{Demo}
 use Rattle.demo_command.specs.declared.terms.DemoTerms.{DemoTerms}
-use Rattle.demo_command.specs.Demo.{call_terms}
-use Rattle.demo_command.specs.Machine.{AreInPlace, HasDone, LineReady}
+use Rattle.demo_command.specs.Machine.{AreInPlace, LineReady}
 use Rattle.demo_command.proofs.Lines.{made_in_place, made_lines_few}
 
-module _ (t : DemoTerms) (x : Terms) (carrier : Carrier) (is : x ≡ call_terms t) (new : IsFresh x carrier) where
-  fresh : IsFresh (call_terms t) carrier
-  fresh = subst (λ (y : Terms). IsFresh y carrier) is new
-
-  pub nothing_said : said_of carrier.messages ≡ 0
-  nothing_said = fresh.said
-
-  module _ (sender : State) (receiver : Kept) (sender_params : sender.params ≡ t.params) (sends : sender_end.Stands (steady t.params) sender []) where
-    pub nothing_done : receiver.params ≡ t.params → receiver_end.Stands receiver [] → HasDone t sender receiver carrier []
-    nothing_done receiver_params receives = record {
-      joined = record { sender_params = sender_params; receiver_params = receiver_params; sends = sends; receives = receives };
-      near = tt;
-      tally = fresh.counted;
-      network = λ recorded. record { packets_are = fresh.packets; messages_are = fresh.messages; references_are = fresh.references };
-    }
-
-    pub ready_first : (quant : ℕ) → IsParams t.params → IsReady sender → quant ≡ t.params.quant → sender.sent ≡ 0 → receiver.played ≡ 0 → LineReady (call_terms t) sender quant receiver carrier
-    ready_first quant in_range ready quant_is sent played = record {
+pub ready_first : (m : Demo) → IsParams m.terms.params → IsNewNetwork m.terms.params (clocks.period_of m.terms.params.clock) m.network
+    → length m.frame.items ≡ size_of_picture m.terms.params.format → m.both.sender.params ≡ m.terms.params
+    → sender_end.Stands (steady m.terms.params) m.both.sender [] → m.both.sender.pace.quant ≡ m.terms.params.quant
+    → m.both.sender.sent ≡ 0 → m.both.receiver.played ≡ 0 → LineReady m
+ready_first m in_range new frame sender_params sends quant sent played =
+    let way = new.way_is in
+    let params = sym sender_params in
+    record {
       params = in_range;
-      frame = fresh.frame;
-      sender_ready = ready;
+      frame = frame;
       sender_params = sender_params;
-      standing = record { entries = []; stands = sends };
-      quant_is = quant_is;
+      can = record {
+        in_range = subst IsParams params in_range;
+        standing = subst (λ (p : Params). IsStanding (steady p) m.both.sender) params (record { entries = []; stands = sends });
+        quant_is = quant ∙ ap (λ (p : Params). p.quant) params;
+        room = way.room ∙ ap (λ (p : Params). 1200 * mbs_of p.format) params;
+        most = way.most ∙ ap (λ (p : Params). mbs_of p.format) params;
+        keeping = record { pictures = way.packets.pictures; keeps = way.packets.keeps };
+        begun = way.begun ∙ sym sent;
+      };
+      period = way.period;
       few = omega (arith, sent);
-      counted = fresh.tally ∙ sym played;
-      packets = record { sizes = fresh.sizes refl; keeping = fresh.keeping; begun = fresh.begun ∙ sym sent };
+      counted = way.total ∙ sym played;
     }
 
 pub first_in_place : (t : DemoTerms) (sent : ℕ) (lines : List Line) → t.frames ≤ 10000 → sent ≡ 0 → lines ≡ made_trace t.seed t.frames → AreInPlace 10000 sent lines
@@ -53,5 +45,10 @@ first_in_place t sent lines few none is =
 
 pub first_said : (t : DemoTerms) (said : ℕ) (lines : List Line) → t.frames ≤ 10000 → said ≡ 0 → lines ≡ made_trace t.seed t.frames → said + 400 * length lines < 2 ^ 64
 first_said t said lines few none is =
+    let long : length lines ≡ length (made_trace t.seed t.frames) = ap (λ (l : List Line). length l) is in
+    omega (arith, few, none, long, made_lines_few t.seed t.frames)
+
+pub first_plays : (t : DemoTerms) (played : ℕ) (lines : List Line) → t.frames ≤ 10000 → played ≡ 0 → lines ≡ made_trace t.seed t.frames → played + length lines ≤ 2 ^ 20
+first_plays t played lines few none is =
     let long : length lines ≡ length (made_trace t.seed t.frames) = ap (λ (l : List Line). length l) is in
     omega (arith, few, none, long, made_lines_few t.seed t.frames)

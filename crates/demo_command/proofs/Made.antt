@@ -19,7 +19,7 @@ use Rattle.call_model.specs.Lawful.{IsPace, IsRules}
 use Rattle.call_model.specs.Sound.{EncoderIsSound}
 use Rattle.call_decoding.specs.Rules.{rules_of}
 use Rattle.coded_call.specs.Coding.{coding}
-use Rattle.call_command.specs.Call.{steady}
+use Rattle.one_way.specs.Both.{steady}
 use Rattle.demo_command.specs.declared.terms.DemoTerms.{DemoTerms}
 use Rattle.demo_command.specs.Demo.{made_call, made_events, made_frame, made_video, with_line}
 

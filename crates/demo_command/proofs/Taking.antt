@@ -12,23 +12,22 @@ use Rattle.desk_program.specs.Run.{End, Step}
 use Rattle.desk_program.specs.Run.Step.{Ends}
 use Rattle.desk_program.specs.Ends.{Tells, Gains, GainsFronts, Ended, GivesUp, TurnGives, Went, step_texts}
 use Rattle.desk_program.specs.Laws.{TurnLaws}
-use Rattle.desk_program.specs.Texts.{on}
+use Rattle.desk_program.specs.Texts.{no_bytes, on}
 use Rattle.std.specs.Result.{IsErrAnd}
 use Rattle.make_input.specs.declared.trace.TraceMaker.{TraceMaker}
 use Rattle.make_input.specs.Left.{lines_left}
 use Rattle.call_model.specs.IdealCall.{AllMayHappen, Event}
 use Rattle.call_decoding.specs.Rules.{rules_of}
 use Rattle.coded_call.specs.Coding.{coding}
-use Rattle.call_command.specs.declared.call.Both.{Both}
-use Rattle.call_command.specs.declared.carrier.Carrier.{Carrier}
-use Rattle.call_command.specs.Call.{steady}
-use Rattle.call_command.specs.Counts.{call_text}
-use Rattle.call_command.specs.Seen.{in_call}
+use Rattle.make_input.specs.Trace.{made_trace}
+use Rattle.one_way.specs.Both.{steady}
+use Rattle.one_way.specs.Counts.{call_text}
+use Rattle.one_way.specs.Seen.{in_call}
 use Rattle.demo_command.specs.declared.demo.Demo.{Demo}
 use Rattle.demo_command.specs.declared.terms.DemoTerms.{DemoTerms}
 use Rattle.demo_command.specs.Demo.{DemoState, all_done, demo_step, lines_step, made_call, made_events, made_video, silent_turn, with_line}
 use Rattle.demo_command.specs.Laws.{MadeLaws}
-use Rattle.demo_command.specs.Machine.{AreInPlace, DemoStands, HasDone, IsDoneWith, sent_after}
+use Rattle.demo_command.specs.Machine.{AreInPlace, DemoStands, HasDone, sent_after}
 use Rattle.demo_command.proofs.Made.{behind_line, near_line}
 
 -- ---- what is answered
@@ -43,9 +42,6 @@ pub cut_gives : (status : Status) (step : Step DemoState) (now : Bool) (inputs :
     → status ≡ WriteFault → GainsFronts (step_texts step) old.written new.written → GivesUp (phase status) status step now inputs old new
 cut_gives status step now inputs old new is fronts = subst (λ (y : Status). GivesUp (phase y) y step now inputs old new) (sym is) fronts
 
-pub done_is : {T Fault : Type 0} (r : Result T Fault) (x : T) (P : Type 0) → r ≡ Ok x → IsDoneWith r P → P
-done_is {T} {Fault} r x P is done = subst (λ (y : Result T Fault). IsDoneWith y P) is done
-
 -- ---- lines in place
 
 behind_in_place : (sent : ℕ) (event : Line) (lines : List Line) → AreInPlace 10000 sent (event ∷ lines) → AreInPlace 10000 (sent_after event sent) lines
@@ -55,6 +51,15 @@ behind_in_place sent (says.Packet n j) lines placed = placed
 behind_in_place sent (says.All n) lines placed = placed.1
 behind_in_place sent (says.Back k) lines placed = placed
 behind_in_place sent says.Play lines placed = placed
+
+-- the first of them alone
+pub first_only : (sent : ℕ) (event : Line) (lines : List Line) → AreInPlace 10000 sent (event ∷ lines) → AreInPlace 10000 sent (event ∷ [])
+first_only sent says.Nothing lines placed = tt
+first_only sent says.Send lines placed = (placed.0, tt)
+first_only sent (says.Packet n j) lines placed = tt
+first_only sent (says.All n) lines placed = (placed.0, tt)
+first_only sent (says.Back k) lines placed = tt
+first_only sent says.Play lines placed = tt
 
 pub next_in_place : (sent now : ℕ) (event : Line) (all lines : List Line) → all ≡ event ∷ lines → now ≡ sent_after event sent → AreInPlace 10000 sent all → AreInPlace 10000 now lines
 next_in_place sent now event all lines is after placed =
@@ -86,20 +91,13 @@ module _ (m : Demo) (s : DemoState) (inputs : Role → List ℕ) (k : DemoStands
         subst (λ (step : Step DemoState). GainsFronts (step_texts step) old.written new.written) (sym end_is)
         (subst (λ (l : List ℕ). GainsFronts (on Report l) old.written new.written) text_is fronts)
 
-    pub end_told : Tells old inputs → new.left ≡ old.left → Gains (on Report text) old.written new.written → Ended (demo_step s inputs) Fine inputs old new
-    end_told tells still gains = record {
+    pub end_told : (laws : TurnLaws) → Tells old inputs → new.left ≡ old.left → Gains (on Report text) old.written new.written → Ended (demo_step s inputs) Fine inputs old new
+    end_told laws tells still gains = record {
       last = all_done s;
       is = end_is;
-      known = refl;
-      left = λ r input n said. ap (λ (left : Role → Option (List ℕ)). left r) still ∙ tells r input ∙ ap (λ (i : ℕ). Some (drop i (inputs r))) (none n said);
-      written = subst (λ (l : List ℕ). Gains (on Report l) old.written new.written) text_is gains;
+      by = laws.ends Fine no_bytes (on Report (call_text (in_call (made_call s.terms s.past)))) inputs old new (laws.no_byte old new inputs still tells)
+          (subst (λ (l : List ℕ). Gains (on Report l) old.written new.written) text_is gains);
     }
-      where
-        same_number : (n : ℕ) → Some 0 ≡ Some n → 0 ≡ n
-        same_number n said = cc said
-
-        none : (n : ℕ) → Some 0 ≡ Some n → 0 ≡ 0 + n
-        none n said = omega (arith, same_number n said)
 
   -- a line
 
@@ -110,29 +108,26 @@ module _ (m : Demo) (s : DemoState) (inputs : Role → List ℕ) (k : DemoStands
         (subst (λ (l : List Line). AllMayHappen (coding t.params) (rules_of t.params) (steady t.params) (made_video t) (made_events t s.past l)) (k.lines ∙ is)
         (subst (λ (l : List Event). AllMayHappen (coding t.params) (rules_of t.params) (steady t.params) (made_video t) l) (sym k.ahead) made.near))
 
-    module _ (maker : TraceMaker) (both : Both) (carrier : Carrier) (left : lines_left maker ≡ lines) (done : HasDone t both.sender.state both.receiver carrier (with_line t s.past event)) where
+    module _ (after : Demo) (terms : after.terms ≡ t) (left : lines_left after.lines ≡ lines) (done : HasDone after (with_line t s.past event)) where
       abbrev next : DemoState
       next = record { terms = s.terms; past = with_line s.terms s.past event; lines = lines }
-
-      abbrev after : Demo
-      after = record { terms = t; lines = maker; both = both; carrier = carrier }
 
       past_is : with_line t s.past event ≡ with_line s.terms s.past event
       past_is = ap (λ (x : DemoTerms). with_line x s.past event) (sym k.terms)
 
       kept : (rest : Role → List ℕ) → DemoStands after next rest
       kept rest = record {
-        terms = k.terms;
+        terms = k.terms ∙ sym terms;
         lines = sym left;
-        ahead =
-            ap (λ (l : List Event). made_events t l lines) (sym past_is)
+        ahead = subst (λ (x : DemoTerms). made_events x next.past lines ≡ made_events x [] (made_trace x.seed x.frames)) (sym terms)
+            (ap (λ (l : List Event). made_events t l lines) (sym past_is)
             ∙ sym (behind_line t s.past event lines)
             ∙ ap (λ (l : List Line). made_events t s.past l) (sym (k.lines ∙ is))
-            ∙ k.ahead;
-        done = subst (λ (l : List Event). HasDone t both.sender.state both.receiver carrier l) past_is done;
+            ∙ k.ahead);
+        done = subst (λ (l : List Event). HasDone after l) past_is done;
       }
 
-      pub went : TurnLaws DemoState → (old : Outside) → Tells old inputs → Went (demo_step s inputs) (DemoStands after) (λ _. true) true inputs old old
+      pub went : TurnLaws → (old : Outside) → Tells old inputs → Went (demo_step s inputs) (DemoStands after) (λ _. true) true inputs old old
       went laws old tells = record {
         next = next;
         turn = silent_turn;

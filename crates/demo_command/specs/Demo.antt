@@ -1,6 +1,6 @@
 -- A call on made input: no file is read, no picture is written, and of the lines of its report there
 -- is the one of the counts alone.
-use Rattle.std.specs.Prelude.{ℕ, true, false, List, [], ◌∷◌, length, map, Some}
+use Rattle.std.specs.Prelude.{ℕ, true, List, [], ◌∷◌, length, map, Some}
 use Rattle.std.specs.List.{range_with_len}
 use Rattle.h263_outside.specs.declared.desk.Role.{Role}
 use Rattle.h263_outside.specs.declared.desk.Role.TheVariants.{Report}
@@ -21,18 +21,12 @@ use Rattle.call_decoding.specs.Rules.{rules_of}
 use Rattle.call_decoding.specs.Styles.{Style}
 use Rattle.call_encoding.specs.Frames.{Frame}
 use Rattle.coded_call.specs.Coding.{coding}
-use Rattle.call_command.specs.declared.terms.Terms.{Terms}
-use Rattle.call_command.specs.Both.{bare}
-use Rattle.call_command.specs.Call.{steady}
-use Rattle.call_command.specs.Counts.{call_text}
-use Rattle.call_command.specs.Seen.{in_call}
+use Rattle.one_way.specs.Both.{bare, steady}
+use Rattle.one_way.specs.Counts.{call_text}
+use Rattle.one_way.specs.Seen.{in_call}
 use Rattle.demo_command.specs.declared.terms.DemoTerms.{DemoTerms}
 
 -- ---- the made input
-
--- what its call is asked for: its trace is taken line by line
-abbrev pub call_terms : DemoTerms → Terms
-call_terms t = record { params = t.params; plain = false }
 
 -- frame n of the made video, which carries no messages
 abbrev pub made_frame : DemoTerms → ℕ → Frame

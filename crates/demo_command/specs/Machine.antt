@@ -1,27 +1,25 @@
 -- What the machine of a call on made input keeps in mind, and what it is ready for.
-use Rattle.std.specs.Prelude.{◌≡◌, ℕ, ◌+◌, ◌*◌, ◌^◌, ◌<◌, ◌≤◌, ⊤, Bool, true, List, [], ◌∷◌, length, Result, Ok, Err}
+use Rattle.std.specs.Prelude.{◌≡◌, ℕ, ◌+◌, ◌*◌, ◌^◌, ◌<◌, ◌≤◌, ⊤, Bool, true, List, [], ◌∷◌, length}
 use Rattle.h263_outside.specs.declared.desk.Role.{Role}
 use Rattle.h263_outside.specs.declared.desk.Role.TheVariants.{Report}
+use Rattle.h263_types.specs.Clocks as clocks
 use Rattle.h263_types.specs.Params.{IsParams}
 use Rattle.h263_types.specs.Sizes.{size_of_picture}
 use Rattle.loss_trace.specs.declared.event.Event.{Event as Line}
 use Rattle.loss_trace.specs.declared.event.Event.TheVariants as says
 use Rattle.make_input.specs.Left.{lines_left}
 use Rattle.make_input.specs.Trace.{made_trace}
-use Rattle.call_model.specs.IdealCall.{Event}
+use Rattle.call_model.specs.IdealCall.{AllMayHappen, Event}
+use Rattle.call_decoding.specs.Rules.{rules_of}
+use Rattle.coded_call.specs.Coding.{coding}
+use Rattle.call_rings.specs.Keeping.{period_of}
 use Rattle.call_rings.specs.Messages.{said_of}
-use Rattle.sender_end.specs.declared.state.State.{State}
-use Rattle.sender_end.specs.Stands.{IsReady}
-use Rattle.receiver_end.specs.declared.kept.Kept.{Kept}
-use Rattle.call_command.specs.declared.carrier.Carrier.{Carrier}
-use Rattle.call_command.specs.declared.terms.Terms.{Terms}
-use Rattle.call_command.specs.Both.{IsStanding}
-use Rattle.call_command.specs.Call.{steady}
-use Rattle.call_command.specs.Counts.{total_of}
-use Rattle.call_command.specs.Standing.{ArePacketsReady, Holds}
+use Rattle.one_way.specs.Both.{steady}
+use Rattle.one_way.specs.Counts.{total_of}
+use Rattle.one_way.specs.Way.{CanSend, HoldsNetwork}
 use Rattle.demo_command.specs.declared.demo.Demo.{Demo}
 use Rattle.demo_command.specs.declared.terms.DemoTerms.{DemoTerms}
-use Rattle.demo_command.specs.Demo.{DemoState, call_terms, made_events, made_video}
+use Rattle.demo_command.specs.Demo.{DemoState, made_events, made_video}
 
 -- ---- lines
 
@@ -35,9 +33,13 @@ AreInPlace frames sent (_ ∷ lines) = AreInPlace frames sent lines
 
 -- ---- at a line
 
+-- these events are in place and near in the call of the made video
+abbrev pub IsNearNow : DemoTerms → List Event → Type 0
+IsNearNow t past = AllMayHappen (coding t.params) (rules_of t.params) (steady t.params) (made_video t) past
+
 -- both ends and the network have done these events
-abbrev pub HasDone : DemoTerms → State → Kept → Carrier → List Event → Type 0
-HasDone t sender receiver carrier past = Holds (call_terms t) sender receiver carrier [] (made_video t) past
+abbrev pub HasDone : Demo → List Event → Type 0
+HasDone m past = HoldsNetwork m.terms.params m.network m.both.sender m.both.receiver [] (made_video m.terms) past
 
 -- this many pictures were sent after the line
 abbrev pub sent_after : Line → ℕ → ℕ
@@ -45,21 +47,14 @@ sent_after says.Send sent = sent + 1
 sent_after _ sent = sent
 
 -- both ends and the network are ready for a line
-pub record LineReady (t : Terms) (sender : State) (quant : ℕ) (receiver : Kept) (carrier : Carrier) : Type 0 where
-  pub params : IsParams t.params
-  pub frame : length carrier.frame.items ≡ size_of_picture t.params.format
-  pub sender_ready : IsReady sender
-  pub sender_params : sender.params ≡ t.params
-  pub standing : IsStanding (steady t.params) sender
-  pub quant_is : quant ≡ t.params.quant
-  pub few : sender.sent ≤ 10000
-  pub counted : total_of carrier.tally ≡ receiver.played
-  pub packets : ArePacketsReady t sender carrier.packets
-
--- a line was not refused, and this is so
-abbrev pub IsDoneWith : {T Fault : Type 0} → Result T Fault → Type 0 → Type 0
-IsDoneWith (Ok _) p = p
-IsDoneWith (Err fault) p = ⊥
+pub record LineReady (m : Demo) : Type 0 where
+  pub params : IsParams m.terms.params
+  pub frame : length m.frame.items ≡ size_of_picture m.terms.params.format
+  pub sender_params : m.both.sender.params ≡ m.terms.params
+  pub can : CanSend m.network.way m.both.sender
+  pub period : period_of m.network.way.packets ≡ clocks.period_of m.terms.params.clock
+  pub few : m.both.sender.sent ≤ 10000
+  pub counted : total_of m.network.way.tally ≡ m.both.receiver.played
 
 -- ---- the machine
 
@@ -68,7 +63,7 @@ pub record DemoStands (m : Demo) (s : DemoState) (inputs : Role → List ℕ) : 
   pub terms : s.terms ≡ m.terms
   pub lines : s.lines ≡ lines_left m.lines
   pub ahead : made_events m.terms s.past s.lines ≡ made_events m.terms [] (made_trace m.terms.seed m.terms.frames)
-  pub done : HasDone m.terms m.both.sender.state m.both.receiver m.carrier s.past
+  pub done : HasDone m s.past
 
 pub record DemoOpens (t : DemoTerms) (attached : Role → Bool) : Type 0 where
   pub params : IsParams t.params
@@ -77,7 +72,8 @@ pub record DemoOpens (t : DemoTerms) (attached : Role → Bool) : Type 0 where
 
 pub record DemoReady (m : Demo) (attached : Role → Bool) : Type 0 where
   pub opens : DemoOpens m.terms attached
-  pub ends : LineReady (call_terms m.terms) m.both.sender.state m.both.sender.pace.quant m.both.receiver m.carrier
-  pub in_place : AreInPlace 10000 m.both.sender.state.sent (lines_left m.lines)
-  -- a line makes 400 messages at most
-  pub said : said_of m.carrier.messages + 400 * length (lines_left m.lines) < 2 ^ 64
+  pub ends : LineReady m
+  pub in_place : AreInPlace 10000 m.both.sender.sent (lines_left m.lines)
+  -- a line makes 400 messages at most, and plays one picture
+  pub said : said_of m.network.messages + 400 * length (lines_left m.lines) < 2 ^ 64
+  pub plays : m.both.receiver.played + length (lines_left m.lines) ≤ 2 ^ 20

@@ -13,7 +13,6 @@
 mod demo;
 pub mod laws;
 mod line;
-mod mind;
 mod terms;
 
 pub use demo::Demo;

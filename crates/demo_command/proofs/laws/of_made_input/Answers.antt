@@ -3,7 +3,7 @@ use Rattle.make_input.specs.Trace.{made_trace}
 use Rattle.call_model.specs.IdealCall.{AllMayHappen}
 use Rattle.call_decoding.specs.Rules.{rules_of}
 use Rattle.coded_call.specs.Coding.{coding}
-use Rattle.call_command.specs.Call.{steady}
+use Rattle.one_way.specs.Both.{steady}
 use Rattle.demo_command.specs.Demo.{made_events, made_video}
 use Rattle.demo_command.proofs.Made.{half_enough, some_slices, steady_is, video_is}
 use Rattle.demo_command.proofs.laws.of_made_input.Goals as goal

@@ -15,13 +15,13 @@ returns-in-Ok-clause-gives g c = λ inputs told.
     let old = outside c.args.desk.now in
     let mid = outside c.begin.new.desk in
     c.converse-status.ensures.alone (run_from first call_step most inputs) inputs old.written c.in-Ok.ensures.ready.receives
-    (c.run_laws.ensures.begins (first_state (record { params = begun.params; plain = t.plain }) [] begun.video.at) first call_step may_read most inputs old mid (c.in-Ok.ensures.gives inputs told))
+    (c.of_runs.ensures.begins_from (first_state (record { params = begun.params; plain = t.plain }) [] begun.video.at) first call_step may_read most inputs old mid (c.in-Ok.ensures.gives inputs told))
 
 pub returns-in-Err-clause-gives : goal.returns-in-Err-clause-gives
 returns-in-Err-clause-gives g c = λ inputs told.
     let outside = g.D.Desk.outside in
     let t = c.args.setup.now in
-    c.run_laws.ensures.gives_up (call_begin t inputs) call_step (most_turns t.plain) inputs (outside c.args.desk.now) (outside c.begin.new.desk) c.in-Err.status
+    c.of_runs.ensures.gives_up (call_begin t inputs) call_step (most_turns t.plain) inputs (outside c.args.desk.now) (outside c.begin.new.desk) c.in-Err.status
     (c.in-Err.ensures.gives inputs told)
 
 pub returns-in-Ok-clause-whole_input : goal.returns-in-Ok-clause-whole_input

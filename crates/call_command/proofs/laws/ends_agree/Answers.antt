@@ -1,6 +1,0 @@
-use Rattle.call_command.proofs.Agreeing.{show_the_same}
-use Rattle.call_command.proofs.laws.ends_agree.Goals as goal
-
-pub returns : goal.returns
-returns c = λ p frames past in_range near.
-    show_the_same p in_range (c.of_the_ends.ensures p in_range) (c.of_near_events.ensures p in_range) frames past near

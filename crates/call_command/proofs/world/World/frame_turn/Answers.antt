@@ -1,0 +1,210 @@
+use Rattle.std.proofs.Common.{◌≡◌, ℕ, ◌+◌, ◌-◌, Bool, true, false, List, [], ◌∷◌, ◌++◌, length, Option, Some, Ok, Err, refl, sym, ap, subst, ◌∙◌, arith}
+use Rattle.std.specs.Prelude.{if◌then◌else◌}
+use Rattle.std.specs.Vec.{with_items}
+use Rattle.std.proofs.lemmas.List.{with_items_is}
+use Rattle.h263_outside.specs.declared.desk.Role.{Role}
+use Rattle.h263_outside.specs.declared.desk.Role.TheVariants.{Video, Events}
+use Rattle.h263_planes.specs.Layout.{picture_of}
+use Rattle.h263_planes.specs.Lent.{picture}
+use Rattle.h263_planes.specs.Picture.{Picture}
+use Rattle.h263_types.specs.Sizes.{size_of_picture}
+use Rattle.h263_types.specs.declared.pace.FixedPace.{FixedPace}
+use Rattle.y4m.specs.Reader.{Moves}
+use Rattle.y4m.specs.Frame.{frame_size}
+use Rattle.call_report.specs.declared.status.Status.TheVariants.{Ok as Fine}
+use Rattle.call_report.specs.Status.{phase, video_stop}
+use Rattle.desk_program.specs.Run.{Step, behind}
+use Rattle.desk_program.specs.Ends.{Ended, GainsFronts, GivesUp, Went, step_texts}
+use Rattle.desk_program.specs.Texts.{of}
+use Rattle.call_rings.specs.Keeping.{period_of}
+use Rattle.one_way.specs.declared.way.Way.{Way}
+use Rattle.one_way.specs.Both.{bare}
+use Rattle.one_way.specs.Counts.{counts_of}
+use Rattle.one_way.specs.Trace.{delivered, passed_on}
+use Rattle.one_way.specs.Way.{CanSend, HoldsNetwork}
+use Rattle.call_encoding.specs.Frames.{Frame}
+use Rattle.call_model.specs.IdealCall.{Send}
+use Rattle.call_command.specs.declared.carrier.Carrier.{Carrier}
+use Rattle.call_command.specs.Call.{CallState, may_read}
+use Rattle.call_command.specs.Standing.{PartsStand, parts_of, state_of}
+use Rattle.call_command.specs.Turning.{Names, names_of}
+use Rattle.call_command.proofs.Counting.{counts_are, keeps_then, plainly, reads_keep, turn_gave_up, turn_goes_on, turn_is_over, turn_was_cut, video_cause, video_stops, writes_keep}
+use Rattle.call_command.proofs.Framing.{among_last, at, count_of, may_deliver, may_play, may_send, stands_after, texts_are}
+use Rattle.call_command.proofs.FrameTurning.{end_cut, frame_cut, frame_goes, frame_stops, given, gives_so, lent, video_ends}
+use Rattle.call_command.proofs.Readying.{can_still, few_mbs, plain_keeps, ready_so}
+use Rattle.call_command.proofs.world.World.frame_turn.Goals as goal
+
+pub returns-in_err-frame : goal.returns-in_err-frame
+returns-in_err-frame g c =
+    let outside = g.D.Desk.outside in
+    let old = outside c.args.desk.now in
+    let mid = outside c.frame.new.desk in
+    let m = c.args.self.now in
+    let x = parts_of m in
+    let stop = c.in_err-frame.field-0.0 in
+    turn_gave_up m _ old mid c.from_residual.result (video_stop stop) c.from_residual.ensures.1 refl (video_stops stop)
+    (video_cause stop old.faults mid.faults c.in_err-frame.ensures.cause) (reads_keep old mid c.frame.ensures.rest)
+    (λ s inputs k told.
+    let here = state_of x s.before s.frames s.past in
+    let e = gives_so (Err stop) here x.video c.frame.new.self (inputs Video) c.frame.new.out _ refl refl c.requires.ready.format (c.in_err-frame.ensures.gives (inputs Video) (told Video refl)) in
+    plainly x s inputs k.is c.requires.plain (λ (step : Step CallState) (now : Bool). GivesUp (phase (video_stop stop)) (video_stop stop) step now inputs old mid)
+    (frame_stops c.of_turns.ensures c.of_the_video.ensures inputs old mid told c.frame.ensures.others c.frame.ensures.rest.written here (c.requires.ready.unread c.requires.plain) stop c.frame.new.out c.frame.new.self e))
+    (λ s stand. stand)
+
+pub returns-in_err-tell_counts : goal.returns-in_err-tell_counts
+returns-in_err-tell_counts g c =
+    let outside = g.D.Desk.outside in
+    let old = outside c.args.desk.now in
+    let mid = outside c.frame.new.desk in
+    let new = outside c.tell_counts.new.desk in
+    let m = c.args.self.now in
+    let x = parts_of m in
+    let counts = counts_of x.carrier.network.way.tally x.receiver.played x.sender.sent in
+    turn_was_cut m _ old new c.from_residual-in_err-tell_counts.result c.in_err-tell_counts.field-0.0 c.from_residual-in_err-tell_counts.ensures.1 refl c.in_err-tell_counts.ensures.kind
+    (c.calls.ensures.rose_since old.faults.write mid.faults.write new.faults.write c.frame.ensures.rest.faults.write c.in_err-tell_counts.ensures.cause)
+    (keeps_then old mid new (reads_keep old mid c.frame.ensures.rest) (writes_keep mid new c.tell_counts.ensures.rest))
+    (λ s inputs k told.
+    let here = state_of x s.before s.frames s.past in
+    let e = gives_so (Ok false) here x.video c.frame.new.self (inputs Video) c.frame.new.out _ refl refl c.requires.ready.format
+    (given (Ok c.in_ok-frame.field-0) (Ok false) x.video c.frame.new.self (inputs Video) c.frame.new.out _ (ap (λ (b : Bool). Ok b) c.if-not-branch.true) (c.in_ok-frame.ensures.gives (inputs Video) (told Video refl)))
+    in
+    plainly x s inputs k.is c.requires.plain (λ (step : Step CallState) (now : Bool). GainsFronts (step_texts step) old.written new.written)
+    (end_cut c.of_turns.ensures c.of_the_video.ensures inputs old mid told c.frame.ensures.others c.frame.ensures.rest.written new c.tell_counts.ensures.rest.left here c.frame.new.out c.frame.new.self e
+    counts (counts_are x (c.of_the_way.ensures x.terms.params) s inputs k) c.in_err-tell_counts.ensures.err))
+
+pub returns-then-not-branch : goal.returns-then-not-branch
+returns-then-not-branch g c =
+    let outside = g.D.Desk.outside in
+    let old = outside c.args.desk.now in
+    let mid = outside c.frame.new.desk in
+    let new = outside c.tell_counts.new.desk in
+    let m = c.args.self.now in
+    let x = parts_of m in
+    let counts = counts_of x.carrier.network.way.tally x.receiver.played x.sender.sent in
+    turn_is_over m _ old new refl (keeps_then old mid new (reads_keep old mid c.frame.ensures.rest) (writes_keep mid new c.tell_counts.ensures.rest))
+    (λ s inputs k told.
+    let here = state_of x s.before s.frames s.past in
+    let e = gives_so (Ok false) here x.video c.frame.new.self (inputs Video) c.frame.new.out _ refl refl c.requires.ready.format
+    (given (Ok c.in_ok-frame.field-0) (Ok false) x.video c.frame.new.self (inputs Video) c.frame.new.out _ (ap (λ (b : Bool). Ok b) c.if-not-branch.true) (c.in_ok-frame.ensures.gives (inputs Video) (told Video refl)))
+    in
+    plainly x s inputs k.is c.requires.plain (λ (step : Step CallState) (now : Bool). Ended step Fine inputs old new)
+    (video_ends c.of_turns.ensures c.of_the_video.ensures inputs old mid told c.frame.ensures.others c.frame.ensures.rest.written new c.tell_counts.ensures.rest.left here c.frame.new.out c.frame.new.self e
+    counts (counts_are x (c.of_the_way.ensures x.terms.params) s inputs k) c.in_ok-tell_counts.ensures.ok))
+    (λ s inputs k told.
+    let gone = (given (Ok c.in_ok-frame.field-0) (Ok false) x.video c.frame.new.self (inputs Video) c.frame.new.out _ (ap (λ (b : Bool). Ok b) c.if-not-branch.true) (c.in_ok-frame.ensures.gives (inputs Video) (told Video refl))).1 in
+    let out = ap (λ (l : Role → Option (List ℕ)). l Video) c.tell_counts.ensures.rest.left ∙ gone in
+    subst (λ (b : Bool). new.left (if b then Video else Events) ≡ Some []) (sym c.requires.plain) out)
+    (λ s stand. stand)
+
+pub returns-in_err-play_next : goal.returns-in_err-play_next
+returns-in_err-play_next g c =
+    let outside = g.D.Desk.outside in
+    let old = outside c.args.desk.now in
+    let mid = outside c.frame.new.desk in
+    let new = outside c.play_next.new.desk in
+    let m = c.args.self.now in
+    let x = parts_of m in
+    let p = x.terms.params in
+    let r = c.requires.ready in
+    let out = c.frame.new.out in
+    let n = c.send-coded.result.number in
+    turn_was_cut m _ old new c.from_residual-in_err-play_next.result c.in_err-play_next.field-0.0 c.from_residual-in_err-play_next.ensures.1
+    (ap (λ (q : FixedPace). let names : Names = record (names_of m) { pace = q } in names) c.send-coded.ensures.pace) c.in_err-play_next.ensures.kind
+    (c.calls.ensures.rose_since old.faults.write mid.faults.write new.faults.write c.frame.ensures.rest.faults.write c.in_err-play_next.ensures.cause)
+    (keeps_then old mid new (reads_keep old mid c.frame.ensures.rest) (writes_keep mid new c.play_next.ensures.rest))
+    (λ s inputs k told.
+    let here = state_of x s.before s.frames s.past in
+    let level = r.level c.requires.plain in
+    let laws = c.of_the_way.ensures p in
+    let events = c.of_events.ensures p in
+    let later_law = c.later_frames.ensures p in
+    let e = gives_so (Ok true) here x.video c.frame.new.self (inputs Video) out _ refl refl r.format
+    (given (Ok c.in_ok-frame.field-0) (Ok true) x.video c.frame.new.self (inputs Video) out _ (ap (λ (b : Bool). Ok b) c.if-not-branch.false) (c.in_ok-frame.ensures.gives (inputs Video) (told Video refl)))
+    in
+    let out_is : c.deref.result.now ≡ out = lent x.carrier.frame out c.deref.result.now _ c.deref.ensures.value c.frame.auto.out c.deref_mut.ensures.len in
+    let picture_is : picture c.new-frame.result ≡ picture_of p.format out = c.new-frame.ensures.picture ∙ ap (λ (l : List ℕ). picture_of p.format l) out_is in
+    let all = s.frames ++ bare (picture_of p.format out) ∷ [] in
+    let h = k.holds (bare (picture_of p.format out) ∷ []) in
+    let number = c.send-coded.ensures.number p x.receiver s.before all s.past h.way_holds in
+    let sent = c.send-coded.ensures.holds p x.receiver s.before all s.past h.way_holds
+    (at x laws events later_law s inputs k level out [] ∙ ap (λ (o : Picture). Some (bare o)) (sym picture_is)) (may_send x laws events later_law s inputs k level out [])
+    in
+    let delivered = c.deliver_all.ensures.holds p c.send-coded.new.sender s.before all (Send ∷ s.past) (record { way_holds = sent; messages_are = h.messages_are })
+    (among_last x laws events later_law s inputs k level out [] c.send-coded.new.self.packets n number (plain_keeps x.terms _ (c.send-coded.ensures.kept ∙ r.period) c.requires.plain))
+    (may_deliver x laws events later_law s inputs k level out [] n number)
+    in
+    let texts = texts_are x laws events later_law s inputs k level out n c.deliver_all.new.receiver.played number c.deliver_all.ensures.played in
+    plainly x s inputs k.is c.requires.plain (λ (step : Step CallState) (now : Bool). GainsFronts (step_texts step) old.written new.written)
+    (frame_cut c.of_turns.ensures c.of_the_video.ensures inputs old mid told c.frame.ensures.others c.frame.ensures.rest.written new c.play_next.ensures.rest.left here (r.unread c.requires.plain) out c.frame.new.self e _ texts
+    (c.in_err-play_next.ensures.err p c.send-coded.new.sender s.before all _ k.begun delivered
+    (may_play x laws events later_law s inputs k level out [] n (count_of x laws events later_law s inputs k level out [] n)))))
+
+pub returns : goal.returns
+returns g c =
+    let outside = g.D.Desk.outside in
+    let old = outside c.args.desk.now in
+    let mid = outside c.frame.new.desk in
+    let new = outside c.play_next.new.desk in
+    let m = c.args.self.now in
+    let x = parts_of m in
+    let p = x.terms.params in
+    let r = c.requires.ready in
+    let out = c.frame.new.out in
+    let n = c.send-coded.result.number in
+    let sender = c.send-coded.new.sender in
+    let receiver = c.play_next.new.receiver in
+    let network = c.play_next.new.network in
+    let carrier : Carrier = record x.carrier { frame = with_items x.carrier.frame out; network = network } in
+    let moves = subst (λ (b : Bool). Moves (Ok b) x.video c.frame.new.self) c.if-not-branch.false c.in_ok-frame.ensures.moves in
+    let way = c.play_next.ensures.way ∙ ap (λ (w : Way). let counted : Way = record w { tally = network.way.tally } in counted) c.deliver_all.ensures.way in
+    let long : length carrier.frame.items ≡ size_of_picture p.format =
+    ap (λ (l : List ℕ). length l) (with_items_is x.carrier.frame out (omega (arith, c.frame.auto.out, c.deref_mut.ensures.len, x.carrier.frame.ok.0)))
+    ∙ omega (arith, c.frame.auto.out, c.deref_mut.ensures.len, x.carrier.frame.ok.0, r.frame)
+    in
+    let level = r.level c.requires.plain in
+    turn_goes_on m _ old new (ap (λ (q : FixedPace). let names : Names = record (names_of m) { pace = q } in names) c.send-coded.ensures.pace)
+    (subst (λ (b : Bool). (if b then c.frame.new.self.more else 16777216 - x.carrier.trace.lines) + 1 ≡ (if b then x.video.more else 16777216 - x.carrier.trace.lines)) (sym c.requires.plain) moves.1)
+    (ready_so x old.attached new.attached r (c.play_next.ensures.rest.attached ∙ c.frame.ensures.rest.attached) c.frame.new.self sender receiver carrier moves.0 c.send-coded.ensures.params
+    (subst (λ (w : Way). CanSend w sender) (sym way) (can_still c.send-coded.new.self network.way.tally sender c.send-coded.ensures.ready))
+    (ap (λ (w : Way). period_of w.packets) way ∙ c.send-coded.ensures.kept)
+    (omega (arith, r.sent, c.send-coded.ensures.sent, moves.1)) (omega (arith, r.played, c.send-coded.ensures.sent, c.play_next.ensures.played, c.deliver_all.ensures.played))
+    (λ plain. omega (arith, level, c.send-coded.ensures.sent, c.play_next.ensures.played, c.deliver_all.ensures.played))
+    long (λ plain. r.unread plain) c.play_next.ensures.counted
+    (omega (arith, r.said, c.play_next.ensures.few, c.deliver_all.ensures.few, c.send-coded.ensures.ready.most, few_mbs sender.params.format, c.send-coded.ensures.sent)))
+    (keeps_then old mid new (reads_keep old mid c.frame.ensures.rest) (writes_keep mid new c.play_next.ensures.rest))
+    (λ s inputs k told.
+    let here = state_of x s.before s.frames s.past in
+    let laws = c.of_the_way.ensures p in
+    let events = c.of_events.ensures p in
+    let later_law = c.later_frames.ensures p in
+    let e = gives_so (Ok true) here x.video c.frame.new.self (inputs Video) out _ refl refl r.format
+    (given (Ok c.in_ok-frame.field-0) (Ok true) x.video c.frame.new.self (inputs Video) out _ (ap (λ (b : Bool). Ok b) c.if-not-branch.false) (c.in_ok-frame.ensures.gives (inputs Video) (told Video refl)))
+    in
+    let out_is : c.deref.result.now ≡ out = lent x.carrier.frame out c.deref.result.now _ c.deref.ensures.value c.frame.auto.out c.deref_mut.ensures.len in
+    let picture_is : picture c.new-frame.result ≡ picture_of p.format out = c.new-frame.ensures.picture ∙ ap (λ (l : List ℕ). picture_of p.format l) out_is in
+    let f : Frame = bare (picture_of p.format out) in
+    let number = c.send-coded.ensures.number p x.receiver s.before (s.frames ++ f ∷ []) s.past (k.holds (f ∷ [])).way_holds in
+    let delivered : (later : List Frame) → HoldsNetwork p c.deliver_all.new.self sender c.deliver_all.new.receiver s.before (s.frames ++ f ∷ later) (delivered n (count_of x laws events later_law s inputs k level out later n) ++ Send ∷ s.past) =
+    λ later.
+    let all = s.frames ++ f ∷ later in
+    let h = k.holds (f ∷ later) in
+    let sent = c.send-coded.ensures.holds p x.receiver s.before all s.past h.way_holds
+    (at x laws events later_law s inputs k level out later ∙ ap (λ (o : Picture). Some (bare o)) (sym picture_is)) (may_send x laws events later_law s inputs k level out later)
+    in
+    c.deliver_all.ensures.holds p sender s.before all (Send ∷ s.past) (record { way_holds = sent; messages_are = h.messages_are })
+    (among_last x laws events later_law s inputs k level out later c.send-coded.new.self.packets n number (plain_keeps x.terms _ (c.send-coded.ensures.kept ∙ r.period) c.requires.plain))
+    (may_deliver x laws events later_law s inputs k level out later n number)
+    in
+    let played : (later : List Frame) → HoldsNetwork p network sender receiver s.before (s.frames ++ f ∷ later) (passed_on n (count_of x laws events later_law s inputs k level out later n) s.past) =
+    λ later. c.play_next.ensures.holds p sender s.before (s.frames ++ f ∷ later) _ (delivered later)
+    (may_play x laws events later_law s inputs k level out later n (count_of x laws events later_law s inputs k level out later n))
+    in
+    let texts = texts_are x laws events later_law s inputs k level out n c.deliver_all.new.receiver.played number c.deliver_all.ensures.played in
+    let stands = PartsStand (record { terms = x.terms; video = c.frame.new.self; sender = sender; receiver = receiver; carrier = carrier }) in
+    let size = frame_size p.format (inputs Video) in
+    plainly x s inputs k.is c.requires.plain (λ (step : Step CallState) (now : Bool). Went step stands may_read now inputs old new)
+    (frame_goes c.of_turns.ensures c.of_the_video.ensures inputs old mid told c.frame.ensures.others c.frame.ensures.rest.written new c.play_next.ensures.rest.left here (r.unread c.requires.plain) out c.frame.new.self e _ texts
+    stands
+    (stands_after x laws events later_law s inputs k level out c.frame.new.self sender receiver carrier n size (behind inputs (of Video size)) number played refl c.send-coded.ensures.sent e.2 moves.1 refl)
+    (c.in_ok-play_next.ensures.ok p sender s.before (s.frames ++ f ∷ []) _ k.begun (delivered [])
+    (may_play x laws events later_law s inputs k level out [] n (count_of x laws events later_law s inputs k level out [] n)))))

@@ -1,0 +1,119 @@
+use Rattle.std.proofs.Common.{◌≡◌, ℕ, ◌+◌, ◌-◌, Bool, true, false, List, ◌∷◌, ◌++◌, length, Some, Ok, Err, refl, sym, ap, subst, ◌∙◌, arith}
+use Rattle.std.specs.Prelude.{slice_get, if◌then◌else◌}
+use Rattle.std.specs.Vec.{with_items}
+use Rattle.std.proofs.lemmas.List.{with_items_is}
+use Rattle.h263_outside.specs.declared.desk.Role.TheVariants.{Video, Events}
+use Rattle.h263_types.specs.Sizes.{size_of_picture}
+use Rattle.h263_types.specs.declared.pace.FixedPace.{FixedPace}
+use Rattle.h263_planes.specs.Layout.{picture_of}
+use Rattle.h263_planes.specs.Lent.{picture}
+use Rattle.h263_planes.specs.Picture.{Picture}
+use Rattle.y4m.specs.Reader.{Moves}
+use Rattle.y4m.specs.Frame.{frame_size}
+use Rattle.loss_trace.specs.declared.fault.TraceFault.TheVariants.{NoFrame}
+use Rattle.call_report.specs.declared.status.Status.TheVariants.{TraceRefused}
+use Rattle.call_report.specs.Status.{video_stop}
+use Rattle.call_model.specs.IdealCall.{Send}
+use Rattle.call_encoding.specs.Frames.{Frame}
+use Rattle.one_way.specs.Both.{bare}
+use Rattle.one_way.specs.Counts.{total_of}
+use Rattle.call_command.specs.declared.carrier.Carrier.{Carrier}
+use Rattle.call_command.specs.Call.{capture_step}
+use Rattle.call_command.specs.Standing.{HasDone, Parts, PartsStand, more_of, parts_of}
+use Rattle.call_command.specs.Turning.{IsAsked, Names, names_of}
+use Rattle.call_command.proofs.After.{at_end, below_end}
+use Rattle.call_command.proofs.Behind.{format_is, refusal_here, refusal_later, stands_sent, video_format, video_more, video_place}
+use Rattle.call_command.proofs.Capturing.{frame_missing, frame_sent, frame_stops}
+use Rattle.call_command.proofs.Counting.{gave_up, goes_on, reads_keep, video_cause, video_stops}
+use Rattle.call_command.proofs.FrameTurning.{given, gives_so, lent}
+use Rattle.call_command.proofs.Readying.{ready_so}
+use Rattle.call_command.proofs.world.World.send_frame.Goals as goal
+
+pub returns-in_err-frame : goal.returns-in_err-frame
+returns-in_err-frame g c =
+    let outside = g.D.Desk.outside in
+    let old = outside c.args.desk.now in
+    let mid = outside c.frame.new.desk in
+    let m = c.args.self.now in
+    let x = parts_of m in
+    let stop = c.in_err-frame.field-0.0 in
+    let out = c.frame.new.out in
+    gave_up m _ old mid (IsAsked x c.args.line old) (λ s inputs. capture_step s (inputs Events) (inputs Video)) (λ _. true) (more_of x + 1)
+    c.from_residual.result (video_stop stop) c.from_residual.ensures.1 refl (video_stops stop)
+    (video_cause stop old.faults mid.faults c.in_err-frame.ensures.cause) (reads_keep old mid c.frame.ensures.rest)
+    (λ o s inputs b.
+    let k = b.read.stood in
+    let taken = b.read.taken in
+    let e = gives_so (Err stop) s x.video c.frame.new.self (inputs Video) out _ (video_more x s inputs k) (video_place x s inputs k) (video_format x s inputs k c.requires.ready.format) (c.in_err-frame.ensures.gives (inputs Video) (taken.left Video refl)) in
+    frame_stops c.of_turns.ensures c.of_the_video.ensures s inputs o old mid taken c.frame.ensures.others c.frame.ensures.rest.written c.frame.new.self out stop e)
+    (λ s stand. stand)
+
+pub returns-then-not-branch : goal.returns-then-not-branch
+returns-then-not-branch g c =
+    let outside = g.D.Desk.outside in
+    let old = outside c.args.desk.now in
+    let mid = outside c.frame.new.desk in
+    let m = c.args.self.now in
+    let x = parts_of m in
+    let out = c.frame.new.out in
+    let status = TraceRefused (NoFrame c.args.line) in
+    gave_up m _ old mid (IsAsked x c.args.line old) (λ s inputs. capture_step s (inputs Events) (inputs Video)) (λ _. true) (more_of x + 1)
+    (Err status) status refl refl tt tt (reads_keep old mid c.frame.ensures.rest)
+    (λ o s inputs b.
+    let k = b.read.stood in
+    let taken = b.read.taken in
+    let e = gives_so (Ok false) s x.video c.frame.new.self (inputs Video) out _ (video_more x s inputs k) (video_place x s inputs k) (video_format x s inputs k c.requires.ready.format)
+    (given (Ok c.in_ok-frame.field-0) (Ok false) x.video c.frame.new.self (inputs Video) out _ (ap (λ (b : Bool). Ok b) c.if-not-branch.true) (c.in_ok-frame.ensures.gives (inputs Video) (taken.left Video refl)))
+    in
+    frame_missing c.of_turns.ensures c.of_the_video.ensures s inputs o old mid taken c.frame.ensures.others c.frame.ensures.rest.written c.frame.new.self out c.args.line b.read.number e)
+    (λ s stand. stand)
+
+pub returns : goal.returns
+returns g c =
+    let outside = g.D.Desk.outside in
+    let old = outside c.args.desk.now in
+    let mid = outside c.frame.new.desk in
+    let m = c.args.self.now in
+    let x = parts_of m in
+    let p = x.terms.params in
+    let r = c.requires.ready in
+    let out = c.frame.new.out in
+    let send = c.send in
+    let sender = send.new.sender in
+    let moves = subst (λ (b : Bool). Moves (Ok b) x.video c.frame.new.self) c.if-not-branch.false c.in_ok-frame.ensures.moves in
+    let carrier : Carrier = record x.carrier { frame = with_items x.carrier.frame out; network = record x.carrier.network { way = send.new.self } } in
+    let long : length carrier.frame.items ≡ size_of_picture p.format =
+    ap (λ (l : List ℕ). length l) (with_items_is x.carrier.frame out (omega (arith, c.frame.auto.out, c.deref_mut.ensures.len, x.carrier.frame.ok.0)))
+    ∙ omega (arith, c.frame.auto.out, c.deref_mut.ensures.len, x.carrier.frame.ok.0, r.frame)
+    in
+    goes_on m _ old mid (IsAsked x c.args.line old) (λ s inputs. capture_step s (inputs Events) (inputs Video)) (λ _. true) (more_of x + 1)
+    (ap (λ (q : FixedPace). let names : Names = record (names_of m) { pace = q } in names) send.ensures.pace)
+    (subst (λ (b : Bool). (if b then c.frame.new.self.more else 16777216 - x.carrier.trace.lines) + 1 ≡ (if b then x.video.more else 16777216 - x.carrier.trace.lines) + 1) (sym c.requires.recorded) refl)
+    (ready_so x old.attached mid.attached r c.frame.ensures.rest.attached c.frame.new.self sender x.receiver carrier moves.0 send.ensures.params send.ensures.ready send.ensures.kept
+    (omega (arith, r.sent, send.ensures.sent, moves.1)) (omega (arith, r.played, send.ensures.sent)) (λ plain. absurd (cc (plain, c.requires.recorded))) long
+    (λ plain. absurd (cc (plain, c.requires.recorded))) (ap total_of send.ensures.tally ∙ r.counted) (omega (arith, r.said, send.ensures.sent)))
+    (reads_keep old mid c.frame.ensures.rest)
+    (λ o s inputs b.
+    let k = b.read.stood in
+    let taken = b.read.taken in
+    let e = gives_so (Ok true) s x.video c.frame.new.self (inputs Video) out _ (video_more x s inputs k) (video_place x s inputs k) (video_format x s inputs k r.format)
+    (given (Ok c.in_ok-frame.field-0) (Ok true) x.video c.frame.new.self (inputs Video) out _ (ap (λ (b : Bool). Ok b) c.if-not-branch.false) (c.in_ok-frame.ensures.gives (inputs Video) (taken.left Video refl)))
+    in
+    let out_is : c.deref.result.now ≡ out = lent x.carrier.frame out c.deref.result.now _ c.deref.ensures.value c.frame.auto.out c.deref_mut.ensures.len in
+    let picture_is : picture c.new-frame.result ≡ picture_of s.params.format out = c.new-frame.ensures.picture ∙ (λ i. picture_of (format_is x s inputs k i) (out_is i)) in
+    let f : Frame = bare (picture_of s.params.format out) in
+    let sent_parts : Parts = record { terms = x.terms; video = c.frame.new.self; sender = sender; receiver = x.receiver; carrier = carrier } in
+    let sends : (later : List Frame) → HasDone sent_parts s.before (s.frames ++ f ∷ later) (Send ∷ s.past) = λ later.
+    let all = s.frames ++ f ∷ later in
+    let h = k.holds (f ∷ later) in
+    let coded = (c.of_the_way.ensures p).sent x.sender x.receiver s.before all s.past h.way_holds.joined in
+    let none = refusal_later x s inputs k (c.later_frames.ensures p) Send (f ∷ later) ∙ sym (refusal_here x s inputs k Send) ∙ b.none in
+    record {
+      way_holds = send.ensures.holds p x.receiver s.before all s.past h.way_holds
+          (ap (λ (i : ℕ). slice_get all i) k.sent ∙ at_end s.frames later f ∙ ap (λ (o : Picture). Some (bare o)) (sym picture_is))
+          ((c.of_near_events.ensures p r.opens.params).capture s.before all s.past none (omega (arith, coded, k.sent, below_end s.frames later f)));
+      messages_are = h.messages_are;
+    }
+    in
+    frame_sent c.of_turns.ensures c.of_the_video.ensures s inputs o old mid taken c.frame.ensures.others c.frame.ensures.rest.written c.frame.new.self out e (PartsStand sent_parts)
+    (stands_sent x s inputs k out c.frame.new.self sender carrier refl (frame_size s.params.format (inputs Video)) e.2 (moves.1 ∙ sym (video_more x s inputs k)) send.ensures.sent sends))

@@ -1,0 +1,49 @@
+use Rattle.std.proofs.Common.{◌≡◌, ℕ, true, List, [], length, refl, rules, ap, sym, subst}
+use Rattle.loss_trace.specs.declared.event.Event.{Event as Line}
+use Rattle.h263_types.specs.Sizes.{size_of_picture}
+use Rattle.one_way.specs.Way.{IsNewNetwork}
+use Rattle.demo_command.specs.declared.demo.Demo.{Demo}
+use Rattle.demo_command.specs.Demo.{demo_begin, demo_step, first_state, made_video, most_turns, silent_turn}
+use Rattle.demo_command.proofs.Beginning.{first_in_place, first_plays, first_said, ready_first}
+use Rattle.demo_command.proofs.demo.DemoBegins.start.Goals as goal
+
+pub returns-clause-goes : goal.returns-clause-goes
+returns-clause-goes g c = λ inputs told.
+    let now = g.D.Desk.outside c.args.arg3.now in
+    let t = c.args.setup.now in
+    let both = c.in_ok-both.both in
+    let ends = c.in_ok-both.ensures in
+    let m : Demo = record { terms = t; lines = c.new.result; both = both; network = c.in_ok-network.network; frame = c.in_ok-frame.frame } in
+    c.of_runs.ensures.begins m (demo_begin t inputs) demo_step (λ _. true) (most_turns t) inputs now now
+    (ap (λ (l : List Line). length l) c.new.ensures)
+    (record {
+      next = first_state t;
+      turn = silent_turn;
+      could = refl;
+      is = refl;
+      kept = record {
+        terms = refl;
+        lines = sym c.new.ensures;
+        ahead = refl;
+        done = (c.of_the_way.ensures t.params).first c.period.result m.network both.sender both.receiver [] (made_video t) c.in_ok-network.ensures ends.sender_params ends.sends ends.receiver_params ends.receives;
+      };
+      whole = refl;
+      left = c.of_turns.ensures.no_byte now now inputs refl told;
+      written = c.of_turns.ensures.no_text now.written now.written refl;
+    })
+
+pub returns-clause-ready : goal.returns-clause-ready
+returns-clause-ready g c =
+    let t = c.args.setup.now in
+    let both = c.in_ok-both.both in
+    let ends = c.in_ok-both.ensures in
+    let m : Demo = record { terms = t; lines = c.new.result; both = both; network = c.in_ok-network.network; frame = c.in_ok-frame.frame } in
+    let new = subst (λ (n : ℕ). IsNewNetwork t.params n m.network) c.period.ensures c.in_ok-network.ensures in
+    let long : length m.frame.items ≡ size_of_picture t.params.format = search rules in
+    record {
+      opens = c.requires;
+      ends = ready_first m c.requires.params new long ends.sender_params ends.sends ends.quant ends.sent ends.played;
+      in_place = first_in_place t both.sender.sent _ c.requires.frames ends.sent c.new.ensures;
+      said = first_said t _ _ c.requires.frames new.said c.new.ensures;
+      plays = first_plays t _ _ c.requires.frames ends.played c.new.ensures;
+    }

@@ -1,0 +1,13 @@
+mod Joining
+mod BothAfter
+mod OneMore
+mod Passing
+mod Agreeing
+mod Refusing
+mod Sent
+mod Saying
+mod Ring
+mod Packing
+mod Sending
+mod Holding
+mod Bringing

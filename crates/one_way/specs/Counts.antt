@@ -1,0 +1,72 @@
+-- How many pictures were shown with each mark, and the line of a call's counts.
+use Rattle.std.specs.Prelude.{◌≡◌, ℕ, ◌+◌, List, [], ◌∷◌, length, codes}
+use Rattle.h263_types.specs.declared.Mark.{Mark}
+use Rattle.h263_types.specs.declared.Mark.TheVariants as marks
+use Rattle.call_model.specs.Coding.{Shown, Mark as CallMark, Exact, Patched, Held}
+use Rattle.call_report.specs.Text.{Text, counts}
+use Rattle.one_way.specs.declared.tally.Tally.{Tally}
+use Rattle.one_way.specs.Seen.{Seen}
+
+-- ---- by the plays of a call
+
+-- one more where this is the mark
+abbrev pub one_exact : CallMark → ℕ
+one_exact Exact = 1
+one_exact Patched = 0
+one_exact Held = 0
+
+abbrev pub one_patched : CallMark → ℕ
+one_patched Exact = 0
+one_patched Patched = 1
+one_patched Held = 0
+
+abbrev pub one_held : CallMark → ℕ
+one_held Exact = 0
+one_held Patched = 0
+one_held Held = 1
+
+-- how many plays have a mark, by whether one has it
+abbrev pub count_of : {Picture : Type 0} → (CallMark → ℕ) → List (Shown Picture) → ℕ
+count_of one [] = 0
+count_of one (shown ∷ plays) = count_of one plays + one shown.mark
+
+-- the line of these counts
+abbrev pub counts_text : ℕ → ℕ → ℕ → ℕ → ℕ → Text
+counts_text played sent exact patched held =
+    counts
+    ((codes "played", played)
+    ∷ (codes "sent", sent)
+    ∷ (codes "exact", exact)
+    ∷ (codes "patched", patched)
+    ∷ (codes "held", held)
+    ∷ [])
+
+-- the line of a call: how many pictures were played and sent, and how the plays were marked
+abbrev pub call_text : Seen → Text
+call_text seen =
+    counts_text seen.played (length seen.coded) (count_of one_exact seen.plays)
+    (count_of one_patched seen.plays) (count_of one_held seen.plays)
+
+-- ---- as they are counted
+
+abbrev pub no_marks : Tally
+no_marks = record { exact = 0; patched = 0; held = 0 }
+
+-- with one more of a mark
+abbrev pub counted : Mark → Tally → Tally
+counted marks.Exact tally = record tally { exact = tally.exact + 1 }
+counted marks.Patched tally = record tally { patched = tally.patched + 1 }
+counted marks.Held tally = record tally { held = tally.held + 1 }
+
+abbrev pub total_of : Tally → ℕ
+total_of tally = tally.exact + tally.patched + tally.held
+
+-- these are the marks of the plays
+pub record AreCounted {Picture : Type 0} (tally : Tally) (plays : List (Shown Picture)) : Type 0 where
+  pub exact : tally.exact ≡ count_of one_exact plays
+  pub patched : tally.patched ≡ count_of one_patched plays
+  pub held : tally.held ≡ count_of one_held plays
+
+-- the line of these counts, with those of the pictures that were played and sent
+abbrev pub counts_of : Tally → ℕ → ℕ → Text
+counts_of tally played sent = counts_text played sent tally.exact tally.patched tally.held

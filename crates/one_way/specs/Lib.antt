@@ -1,0 +1,9 @@
+pub mod Both
+pub mod Trace
+pub mod Seen
+pub mod Refused
+pub mod References
+pub mod Counts
+pub mod Network
+pub mod Way
+pub mod Laws

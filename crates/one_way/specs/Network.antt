@@ -1,0 +1,77 @@
+-- What the rings of a network keep of what both ends have done.
+use Rattle.std.specs.Prelude.{◌≡◌, ℕ, ◌+◌, ◌<◌, ◌≤◌, List, [], ◌∷◌, length, map, slice_index_or, Option, Some, None}
+use Rattle.h263_types.specs.declared.blocks.Mb.{Mb}
+use Rattle.h263_types.specs.declared.params.Params.{Params}
+use Rattle.h263_planes.specs.Picture.{Picture}
+use Rattle.back_messages.specs.declared.writing.MessageBytes.{MessageBytes}
+use Rattle.back_messages.specs.MessageBytes.{text_of}
+use Rattle.call_model.specs.CodedPictures.{Coded}
+use Rattle.call_model.specs.JoinedRun.{SaidMessage}
+use Rattle.call_model.specs.Sending as call
+use Rattle.call_decoding.specs.Rules.{rules_of}
+use Rattle.call_decoding.specs.Styles.{Style}
+use Rattle.call_encoding.specs.Encoding.{encoding}
+use Rattle.receiver_end.specs.declared.answers.Heard.{Heard}
+use Rattle.receiver_end.specs.declared.answers.Heard.TheVariants as heards
+use Rattle.call_rings.specs.declared.packets.PacketRing.{PacketRing}
+use Rattle.call_rings.specs.declared.messages.MessageRing.{MessageRing}
+use Rattle.call_rings.specs.Keeping as ring
+use Rattle.call_rings.specs.Keeping.{HoldsPackets, room_of, most_of}
+use Rattle.call_rings.specs.Messages.{HoldsMessages}
+use Rattle.call_rings.specs.Parts.{size_of}
+use Rattle.one_way.specs.declared.references.References.{References}
+use Rattle.one_way.specs.References.{AreNoted}
+
+-- ---- packets
+
+-- the ring keeps some pictures
+pub record IsKeeping (packets : PacketRing) : Type 0 where
+  pub pictures : ring.Pictures
+  pub keeps : HoldsPackets packets pictures
+
+-- there is room for these packets of one picture
+pub record AreRoomy (packets : PacketRing) (list : List (List ℕ)) : Type 0 where
+  pub bytes : size_of list ≤ room_of packets
+  pub count : length list ≤ most_of packets
+
+-- the ring keeps the packets of these pictures, which were sent
+pub record HasPackets (p : Params) (packets : PacketRing) (coded : List (Coded Style Mb Picture)) : Type 0 where
+  pub pictures : ring.Pictures
+  pub keeps : HoldsPackets packets pictures
+  pub count : length pictures ≡ length coded
+  pub each : (n : ℕ) → slice_index_or pictures n [] ≡ call.packets_of (encoding p) (rules_of p) coded n
+
+-- of this many pictures this one is among the last that the ring keeps
+abbrev pub IsAmongLast : PacketRing → ℕ → ℕ → Type 0
+IsAmongLast packets count n = (n < count) × (count ≤ n + ring.period_of packets)
+
+-- ---- messages
+
+-- a message that was said, by its picture and its bytes
+abbrev pub told_in : ℕ × MessageBytes → SaidMessage
+told_in x = record { about = x.0; bytes = text_of x.1 }
+
+abbrev pub about_of : ℕ × MessageBytes → ℕ
+about_of x = x.0
+
+-- the ring has these messages, which were said
+pub record HasMessages (messages : MessageRing) (said : List SaidMessage) : Type 0 where
+  pub pairs : List (ℕ × MessageBytes)
+  pub holds : HoldsMessages messages pairs
+  pub same : map told_in pairs ≡ said
+
+-- the message of an answer
+abbrev pub said_in : Heard → Option MessageBytes
+said_in (heards.Completed said) = Some said
+said_in _ = None
+
+-- what is told of picture n by this message, if one was said
+abbrev pub told_by : ℕ → Option MessageBytes → List SaidMessage
+told_by n None = []
+told_by n (Some said) = told_in (n, said) ∷ []
+
+-- ---- references
+
+-- the references of these pictures are noted
+abbrev pub HasReferences : References → List (Coded Style Mb Picture) → Type 0
+HasReferences references coded = AreNoted references (map (λ (x : Coded Style Mb Picture). x.reference) coded)

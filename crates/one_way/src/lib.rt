@@ -1,0 +1,28 @@
+//! One way of a call: the pictures of one party go from a sender to a receiver, over a network that
+//! keeps their packets until they are delivered.
+//!
+//! `specs/Both` joins both ends, `specs/Way` says what is kept between them. Both ends are lent to
+//! each call of a [`Way`]; it answers what the receiver says, and a [`Network`] keeps that besides,
+//! by its number, for a trace that brings it back so. What an event may not do is a [`Refusal`]; the
+//! `check` functions tell it by the counts of both ends, before anything is done.
+//!
+//! ```rust
+//! let mut network = Network::start(alloc, &params, params.clock.period())?;
+//! let coded = network.way.send(&mut sender, frame, &[]);
+//! network.deliver_all(&mut receiver, coded.number);
+//! let mark = network.play(&mut receiver);
+//! ```
+#![tactic(auto)]
+
+pub mod laws;
+mod network;
+mod references;
+mod refusals;
+mod tally;
+mod way;
+
+pub use network::Network;
+pub use references::References;
+pub use refusals::{Refusal, check_back, check_capture, check_packet, check_play};
+pub use tally::Tally;
+pub use way::{Way, bring_back};
