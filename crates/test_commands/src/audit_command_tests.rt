@@ -10,8 +10,8 @@ use h263_types::{Clock, Format, Params};
 use std::alloc::Global;
 use std::process::Abort;
 use std::test::Fail;
-use test_fixtures::codec::{FLAT_PACKET, LATER_PACKET, SKIPPED_PACKET};
 use test_desks::{Case, NEVER, NOTHING, Parts, run};
+use test_fixtures::codec::{FLAT_PACKET, LATER_PACKET, SKIPPED_PACKET};
 
 // Picture 0 of sub-QCIF, the last macroblocks of another picture 0, and picture 1, which refers to
 // picture 0; each after the head of its entry.

@@ -10,8 +10,8 @@ use recv_command::Recv;
 use std::alloc::Global;
 use std::process::Abort;
 use std::test::Fail;
-use test_fixtures::codec::FLAT_PACKET;
 use test_desks::{Case, EXACT, HELD, NEVER, NOTHING, Parts, SHOWN_HEAD, run};
+use test_fixtures::codec::FLAT_PACKET;
 
 // The packet of picture 0, flat 100, of sub-QCIF.
 const FLAT: &[u8] = &FLAT_PACKET;

@@ -9,8 +9,8 @@ use send_command::{Send, Sending};
 use std::alloc::Global;
 use std::process::Abort;
 use std::test::Fail;
-use test_fixtures::codec::{FLAT_PACKET, SKIPPED_PACKET};
 use test_desks::{Case, Differs, FRAME, HEAD, NEVER, NOTHING, Parts, run};
+use test_fixtures::codec::{FLAT_PACKET, SKIPPED_PACKET};
 use y4m::Y4mFault;
 
 // A picture, flat 100.
