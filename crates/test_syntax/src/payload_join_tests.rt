@@ -36,11 +36,11 @@ fn drained(joiner: &mut Joiner, out: &mut [u8]) -> usize
 }
 
 // What becomes of a packet; what goes out with it is dropped.
-fn taken(joiner: &mut Joiner, bytes: &[u8]) -> Took
+fn taken(joiner: &mut Joiner, bytes: &[u8], format: Format) -> Took
     requires { joiner.old.left ≡ [] }
     ensures { joiner.new.left ≡ [] }
 {
-    let took = joiner.take(bytes, Format::Cif);
+    let took = joiner.take(bytes, format);
     drained(joiner, &mut []);
     took
 }
@@ -58,7 +58,7 @@ fn two_parts_of_a_picture(rt: HostRuntime) -> Result<(), Fail> {
     let mut joiner = Joiner::start(rt.alloc())?;
     let one = joiner.take(&second, Format::SubQcif);
     let none = drained(&mut joiner, &mut out);
-    let again = joiner.take(&second, Format::SubQcif);
+    let again = taken(&mut joiner, &second, Format::SubQcif);
     let two = joiner.take(&first, Format::SubQcif);
     let all = drained(&mut joiner, &mut out);
     let twice = joiner.take(&first, Format::SubQcif);
@@ -102,11 +102,11 @@ fn packets_that_are_refused(rt: HostRuntime) -> Result<(), Fail> {
     let mut extra = BEGINNING;
     extra[13] = 0x08;
     let mut joiner = Joiner::start(rt.alloc())?;
-    let short = taken(&mut joiner, &BEGINNING[..11]);
-    let cut = taken(&mut joiner, &BEGINNING[..13]);
-    let v = taken(&mut joiner, &redundant);
-    let plen = taken(&mut joiner, &extra);
-    let held = taken(&mut joiner, &BEGINNING);
+    let short = taken(&mut joiner, &BEGINNING[..11], Format::Cif);
+    let cut = taken(&mut joiner, &BEGINNING[..13], Format::Cif);
+    let v = taken(&mut joiner, &redundant, Format::Cif);
+    let plen = taken(&mut joiner, &extra, Format::Cif);
+    let held = taken(&mut joiner, &BEGINNING, Format::Cif);
     joiner.finish();
     assert_eq!(rt; short, Took::Refused(FaultKind::Short.at(88)));
     assert_eq!(rt; cut, Took::Refused(FaultKind::Ended.at(96)));
@@ -122,6 +122,19 @@ fn numbered(sequence: u16) -> [u8; 14] {
     bytes[2] = (sequence / 256) as u8;
     bytes[3] = (sequence % 256) as u8;
     bytes
+}
+
+// How many packets are answered as wanted, one after the other.
+fn right_of(joiner: &mut Joiner, rows: &[(u16, Took)]) -> u32
+    requires { joiner.old.left ≡ [] }
+{
+    let mut right: u32 = 0;
+    'rows: for (sequence, want) in rows {
+        if taken(joiner, &numbered(*sequence), Format::Cif) == *want {
+            right = right.saturating_add(1);
+        }
+    }
+    right
 }
 
 // Both ends of the window, round 65,535: 63 numbers below the greatest are held, and the 64th is
@@ -141,13 +154,8 @@ fn ends_of_the_window(rt: HostRuntime) -> Result<(), Fail> {
         (32_831, Took::Held),
         (64, Took::Old),
     ];
-    let mut right: u32 = 0;
     let mut joiner = Joiner::start(rt.alloc())?;
-    'rows: for (sequence, want) in rows {
-        if taken(&mut joiner, &numbered(sequence)) == want {
-            right = right.saturating_add(1);
-        }
-    }
+    let right = right_of(&mut joiner, &rows);
     joiner.finish();
     assert_eq!(rt; right, 11);
     Ok(())
