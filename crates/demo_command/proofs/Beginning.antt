@@ -1,5 +1,11 @@
 -- Before the first line.
-use Rattle.std.proofs.Common.{◌≡◌, ℕ, ◌+◌, ◌*◌, ◌^◌, ◌<◌, ◌≤◌, List, [], length, sym, ap, subst, ◌∙◌, arith}
+use Rattle.std.proofs.Common.{◌≡◌, ℕ, ◌+◌, ◌*◌, ◌^◌, ◌<◌, ◌≤◌, List, [], length, Option, Result, Ok, Err, sym, ap, subst, ◌∙◌, arith}
+use Rattle.std.specs.Prelude.{IfErr, IsErrAnd}
+use Rattle.h263_outside.specs.Desk.{Outside}
+use Rattle.h263_outside.specs.declared.desk.Role.{Role}
+use Rattle.call_report.specs.declared.status.Status.{Status}
+use Rattle.desk_program.specs.Ends.{HasEnded, silent}
+use Rattle.desk_program.specs.Run.{Run}
 use Rattle.loss_trace.specs.declared.event.Event.{Event as Line}
 use Rattle.h263_types.specs.declared.params.Params.{Params}
 use Rattle.h263_types.specs.Clocks as clocks
@@ -52,3 +58,9 @@ pub first_plays : (t : DemoTerms) (played : ℕ) (lines : List Line) → t.frame
 first_plays t played lines few none is =
     let long : length lines ≡ length (made_trace t.seed t.frames) = ap (λ (l : List Line). length l) is in
     omega (arith, few, none, long, made_lines_few t.seed t.frames)
+
+-- a start that found no memory
+pub ends_starved : {Machine : Type 0} (r : Result Machine Status) (status : Status) (run : Run) (inputs : Role → List ℕ) (start : Role → Option (List ℕ)) (now : Outside)
+    → IsErrAnd r (λ x. x ≡ status) → HasEnded run silent status inputs start now → IfErr r (λ x. HasEnded run silent x inputs start now)
+ends_starved (Ok m) status run inputs start now is ended = absurd is
+ends_starved (Err x) status run inputs start now is ended = subst (λ (y : Status). HasEnded run silent y inputs start now) (sym is) ended

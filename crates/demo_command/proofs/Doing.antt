@@ -12,7 +12,6 @@ use Rattle.call_model.specs.JoinedRun.{Joined}
 use Rattle.call_model.specs.Lawful.{IsPace}
 use Rattle.call_decoding.specs.Rules.{rules_of}
 use Rattle.call_decoding.specs.Styles.{Style}
-use Rattle.call_encoding.specs.Frames.{Frame}
 use Rattle.coded_call.specs.Coding.{coding}
 use Rattle.one_way.specs.Both.{both_after, steady}
 use Rattle.one_way.specs.Counts.{call_text, counts_of, counts_text}

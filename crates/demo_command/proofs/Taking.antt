@@ -1,5 +1,5 @@
 -- The turns of the machine.
-use Rattle.std.proofs.Common.{◌≡◌, ℕ, ◌+◌, Bool, true, List, [], ◌∷◌, drop, Option, Some, Result, Ok, Err, refl, sym, ap, subst, ◌∙◌, arith}
+use Rattle.std.proofs.Common.{◌≡◌, ℕ, Bool, true, List, [], ◌∷◌, Result, Ok, Err, refl, sym, ap, subst, ◌∙◌}
 use Rattle.h263_outside.specs.Desk.{Outside}
 use Rattle.h263_outside.specs.declared.desk.Role.{Role}
 use Rattle.h263_outside.specs.declared.desk.Role.TheVariants.{Report}
@@ -14,7 +14,6 @@ use Rattle.desk_program.specs.Ends.{Tells, Gains, GainsFronts, Ended, GivesUp, T
 use Rattle.desk_program.specs.Laws.{TurnLaws}
 use Rattle.desk_program.specs.Texts.{no_bytes, on}
 use Rattle.std.specs.Result.{IsErrAnd}
-use Rattle.make_input.specs.declared.trace.TraceMaker.{TraceMaker}
 use Rattle.make_input.specs.Left.{lines_left}
 use Rattle.call_model.specs.IdealCall.{AllMayHappen, Event}
 use Rattle.call_decoding.specs.Rules.{rules_of}

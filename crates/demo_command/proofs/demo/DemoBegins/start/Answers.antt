@@ -1,10 +1,12 @@
 use Rattle.std.proofs.Common.{◌≡◌, ℕ, true, List, [], length, refl, rules, ap, sym, subst}
 use Rattle.loss_trace.specs.declared.event.Event.{Event as Line}
 use Rattle.h263_types.specs.Sizes.{size_of_picture}
+use Rattle.call_report.specs.declared.status.Status.TheVariants.{OutOfMemory}
+use Rattle.desk_program.specs.Run.{run_from}
 use Rattle.one_way.specs.Way.{IsNewNetwork}
 use Rattle.demo_command.specs.declared.demo.Demo.{Demo}
 use Rattle.demo_command.specs.Demo.{demo_begin, demo_step, first_state, made_video, most_turns, silent_turn}
-use Rattle.demo_command.proofs.Beginning.{first_in_place, first_plays, first_said, ready_first}
+use Rattle.demo_command.proofs.Beginning.{ends_starved, first_in_place, first_plays, first_said, ready_first}
 use Rattle.demo_command.proofs.demo.DemoBegins.start.Goals as goal
 
 pub returns-clause-goes : goal.returns-clause-goes
@@ -47,3 +49,11 @@ returns-clause-ready g c =
       said = first_said t _ _ c.requires.frames new.said c.new.ensures;
       plays = first_plays t _ _ c.requires.frames ends.played c.new.ensures;
     }
+
+pub returns-in_err-both-clause-ends : goal.returns-in_err-both-clause-ends
+returns-in_err-both-clause-ends g c = λ inputs told.
+    let now = g.D.Desk.outside c.args.arg3.now in
+    let t = c.args.setup.now in
+    let run = run_from (demo_begin t inputs) demo_step (most_turns t) inputs in
+    ends_starved c.from_residual-in_err-both.result OutOfMemory run inputs now.written now c.from_residual-in_err-both.ensures.1
+    (c.of_runs.ensures.gives_up (demo_begin t inputs) demo_step (most_turns t) inputs now now OutOfMemory refl)

@@ -1,8 +1,6 @@
-use Rattle.std.proofs.Common.{◌≡◌, ℕ, ◌+◌, ◌*◌, ◌^◌, ◌<◌, ◌≤◌, List, ◌∷◌, length, refl, ap, subst, sym, ◌∙◌, arith}
-use Rattle.h263_outside.specs.declared.desk.Role.{Role}
+use Rattle.std.proofs.Common.{◌≡◌, ◌+◌, List, length, ap, subst, sym, ◌∙◌, arith}
 use Rattle.loss_trace.specs.declared.event.Event.{Event as Line}
 use Rattle.make_input.specs.Left.{lines_left}
-use Rattle.make_input.specs.declared.trace.TraceMaker.{TraceMaker}
 use Rattle.one_way.specs.Counts.{counts_of}
 use Rattle.demo_command.specs.declared.terms.DemoTerms.{DemoTerms}
 use Rattle.demo_command.specs.Demo.{demo_step, made_video}

@@ -1,4 +1,4 @@
-use Rattle.std.proofs.Common.{◌≡◌, ℕ, ◌<◌, List, [], length, Some, refl, sym, ap, ◌∙◌, arith, Global}
+use Rattle.std.proofs.Common.{◌≡◌, ℕ, ◌<◌, List, [], length, Some, sym, ap, ◌∙◌, arith, Global}
 use Rattle.std.specs.Prelude.{slice_get}
 use Rattle.std.specs.declared.vec.Vec.{Vec}
 use Rattle.std.specs.Vec.{with_items}
@@ -15,7 +15,7 @@ use Rattle.one_way.specs.Counts.{total_of}
 use Rattle.demo_command.specs.Demo.{made_frame, made_video}
 use Rattle.demo_command.proofs.Doing.{may_now}
 use Rattle.demo_command.proofs.Made.{frame_is, steady_is}
-use Rattle.demo_command.proofs.line.Demo.send_made.Goals as goal
+use Rattle.demo_command.proofs.demo.Demo.send_made.Goals as goal
 
 -- a buffer that was lent whole holds what was put there
 lent : (v : Vec ℕ Global) (l got : List ℕ) (n : ℕ) → got ≡ (with_items v l).items → length l ≡ n → n ≡ v.len → got ≡ l

@@ -1,4 +1,4 @@
-use Rattle.std.proofs.Common.{◌≡◌, ℕ, ◌+◌, ◌<◌, ◌≤◌, List, [], ◌∷◌, ◌++◌, length, refl, sym, ap, subst, ◌∙◌, arith}
+use Rattle.std.proofs.Common.{◌<◌, ◌≤◌, List, [], ◌∷◌, length, refl, sym, ap, subst, ◌∙◌, arith}
 use Rattle.h263_types.specs.Sizes.{mbs_of}
 use Rattle.h263_types.specs.declared.params.Params.{Params}
 use Rattle.h263_types.specs.declared.format.Format.{Format}
@@ -11,13 +11,13 @@ use Rattle.receiver_end.specs.State as receiver_end
 use Rattle.one_way.specs.declared.way.Way.{Way}
 use Rattle.one_way.specs.Both.{both_after, steady}
 use Rattle.one_way.specs.Counts.{total_of}
-use Rattle.one_way.specs.Way.{CanSend, HoldsNetwork}
+use Rattle.one_way.specs.Way.{CanSend}
 use Rattle.demo_command.specs.declared.demo.Demo.{Demo}
 use Rattle.demo_command.specs.Demo.{made_video}
-use Rattle.demo_command.specs.Machine.{AreInPlace, HasDone, LineReady}
+use Rattle.demo_command.specs.Machine.{AreInPlace, HasDone}
 use Rattle.demo_command.proofs.Doing.{all_are, as_line, may_now, near_first}
 use Rattle.demo_command.proofs.Made.{steady_is}
-use Rattle.demo_command.proofs.line.Demo.take_line.Goals as goal
+use Rattle.demo_command.proofs.demo.Demo.take_line.Goals as goal
 
 few_mbs : (f : Format) → mbs_of f ≤ 396
 few_mbs SubQcif = omega arith
