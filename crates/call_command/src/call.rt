@@ -11,7 +11,8 @@ ghost use Rattle.call_command.specs.Call.{call_begin, may_read};
 ghost use Rattle.call_command.specs.Converse.{IsFirst, MayConverse};
 ghost use Rattle.call_command.specs.Standing.{CallOpens};
 
-use crate::{Terms, converse, laws, world::World};
+use crate::world::World;
+use crate::{Terms, converse, laws};
 use call_report::Status;
 use desk_program::{Acts, laws as desk_program_laws, put_head};
 use h263_outside::{Desk, OutOfMemory, laws as outside_laws};

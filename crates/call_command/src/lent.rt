@@ -13,7 +13,9 @@ ghost use Rattle.call_command.specs.Call.{call_step, may_read, most_turns};
 ghost use Rattle.call_command.specs.Converse.{IsFirst, talk_end, talk_of};
 ghost use Rattle.call_command.specs.Standing.{CallOpens, EndsStand, source_of};
 
-use crate::{Terms, carrier::Carrier, laws, world::World};
+use crate::carrier::Carrier;
+use crate::world::World;
+use crate::{Terms, laws};
 use call_report::Status;
 use desk_program::{Turns, laws as desk_program_laws, take_turns};
 use h263_outside::Desk;

@@ -15,8 +15,8 @@
 
 mod call;
 mod carrier;
-mod lent;
 pub mod laws;
+mod lent;
 mod show;
 mod terms;
 mod world;

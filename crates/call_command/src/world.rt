@@ -9,17 +9,16 @@ ghost use Rattle.receiver_end.specs.State as receiver_end;
 ghost use Rattle.one_way.specs.Refused.{refusal_after};
 ghost use Rattle.call_command.specs.Refused.{fault_at};
 
+use crate::carrier::Carrier;
 use crate::show::{play_next, tell_counts};
-use crate::{Terms, carrier::Carrier, laws};
+use crate::{Terms, laws};
 use call_report::Status;
 use desk_program::laws as desk_program_laws;
 use h263_outside::{Desk, laws as outside_laws};
 use h263_planes::PictureRef;
 use h263_types::FixedPace;
 use loss_trace::{Event, TraceFault};
-use one_way::{
-    Refusal, check_back, check_capture, check_packet, check_play, laws as one_way_laws,
-};
+use one_way::{Refusal, check_back, check_capture, check_packet, check_play, laws as one_way_laws};
 use receiver_end::Receiver;
 use sender_end::Sender;
 use y4m::Y4mReader;
@@ -93,12 +92,7 @@ impl<'a> World<'a> {
     }
 
     // What the line says that was read last is done, or refused.
-    fn event_turn<D: Desk>(
-        &mut self,
-        desk: &mut D,
-        line: u32,
-        event: Event,
-    ) -> Result<bool, Status>
+    fn event_turn<D: Desk>(&mut self, desk: &mut D, line: u32, event: Event) -> Result<bool, Status>
         requires ready { PartsReady (parts_of self.old) (D.outside desk.old).attached }
         requires recorded { self.old.terms.plain ≡ false }
         requires room { HasRoom (parts_of self.old) }
