@@ -77,6 +77,9 @@ fn two_slices_of_a_packet(rt: HostRuntime) -> Result<(), Fail> {
     let mb = flat_mb();
     let mut cutter = Cutter::start(rt.alloc(), &PARAMS_OF_CIF)?;
     cut_even(&mut cutter, 0, &INTRA_OF_CIF, &mb);
+    assert_eq!(rt; cutter.count(), 2);
+    assert_eq!(rt; cutter.packet(0).len(), 1396);
+    assert_eq!(rt; cutter.packet(1).len(), 1278);
     let mut both = Vec::new(rt.alloc());
     both.extend_from_slice(cutter.packet(0))?;
     both.extend_from_slice(&[0, 0])?;
