@@ -5,8 +5,8 @@ use Rattle.std.specs.List.{list_all}
 use Rattle.std.specs.Str.{bytes_eq}
 use Rattle.h263_types.specs.declared.params.Params.{Params}
 use Rattle.command_words.specs.Simple.{Text, Given, gives, value, is_once, is_whole, named, taken, whole_or_none}
-use Rattle.command_words.specs.declared.command.Command.TheVariants.{Call, Recv}
-use Rattle.command_words.specs.Asked.{Asked, Row, call, send, recv, demo, rate, call_of, send_of, send_with, target_or_none, recv_of, demo_of, demo_with, seed_in, frames_in, rate_of, rate_with, target_in, bucket_in, asked_by, asked, params_of, IsGiven, HasNames}
+use Rattle.command_words.specs.declared.command.Command.TheVariants.{Call, Recv, Audit}
+use Rattle.command_words.specs.Asked.{Asked, Row, call, send, recv, demo, rate, audit, call_of, send_of, send_with, target_or_none, recv_of, demo_of, demo_with, seed_in, frames_in, rate_of, rate_with, audit_of, target_in, bucket_in, asked_by, asked, params_of, IsGiven, HasNames}
 
 -- a value that is given is there
 value_there : (name : Text) (given : List Given) → gives name given ≡ true → IsGiven (value given name)
@@ -161,6 +161,19 @@ module _ (given : List Given) where
       with_target None h = absurd (cc h)
       with_target (Some target) h = with_bucket target (bucket_in (value given (codes "bucket"))) h
 
+  pub audit_named : (a : Asked) → given_all audit.places → audit_of (value given) ≡ Some a → HasNames a
+  audit_named a all is = go (params_of (value given)) is
+    where
+      go : (p : Option Params) → option_map (λ (params : Params). let it : Asked = record {
+        command = Audit params;
+        video = None;
+        events = value given (codes "log");
+        pictures = None;
+        wire = None;
+      } in it) p ≡ Some a → HasNames a
+      go None h = absurd (cc h)
+      go (Some p) h = subst HasNames (some_is h) (first_there (codes "log") [] all)
+
 -- the row's words
 by_row : (row : Row) (words : List Text) (a : Asked)
     → ((given : List Given) → list_all (λ name. gives name given) row.places ≡ true → row.asks (value given) ≡ Some a → HasNames a)
@@ -175,14 +188,15 @@ by_row row words a names is = go (taken row.places row.options words) refl is
 pub named_where_asked : (words : List Text) (a : Asked) → asked words ≡ Some a → HasNames a
 named_where_asked [] a is = absurd (cc is)
 named_where_asked (first ∷ words) a is =
-    at_call (bytes_eq call.word first) (bytes_eq send.word first) (bytes_eq recv.word first) (bytes_eq demo.word first) (bytes_eq rate.word first) is
+    at_call (bytes_eq call.word first) (bytes_eq send.word first) (bytes_eq recv.word first) (bytes_eq demo.word first) (bytes_eq rate.word first) (bytes_eq audit.word first) is
   where
-    at_call : (c s r d m : Bool) →
+    at_call : (c s r d m u : Bool) →
         option_and_then (λ row. asked_by row words)
-        (if c then Some call else if s then Some send else if r then Some recv else if d then Some demo else if m then Some rate else None) ≡ Some a → HasNames a
-    at_call true s r d m h = by_row call words a (λ given all e. call_named given a all e) h
-    at_call false true r d m h = by_row send words a (λ given all e. send_named given a all e) h
-    at_call false false true d m h = by_row recv words a (λ given all e. recv_named given a all e) h
-    at_call false false false true m h = by_row demo words a (λ given all e. demo_named given a e) h
-    at_call false false false false true h = by_row rate words a (λ given all e. rate_named given a all e) h
-    at_call false false false false false h = absurd (cc h)
+        (if c then Some call else if s then Some send else if r then Some recv else if d then Some demo else if m then Some rate else if u then Some audit else None) ≡ Some a → HasNames a
+    at_call true s r d m u h = by_row call words a (λ given all e. call_named given a all e) h
+    at_call false true r d m u h = by_row send words a (λ given all e. send_named given a all e) h
+    at_call false false true d m u h = by_row recv words a (λ given all e. recv_named given a all e) h
+    at_call false false false true m u h = by_row demo words a (λ given all e. demo_named given a e) h
+    at_call false false false false true u h = by_row rate words a (λ given all e. rate_named given a all e) h
+    at_call false false false false false true h = by_row audit words a (λ given all e. audit_named given a all e) h
+    at_call false false false false false false h = absurd (cc h)

@@ -10,7 +10,7 @@ use Rattle.h263_types.specs.declared.params.ParamFault.{ParamFault}
 use Rattle.command_words.specs.Simple.{Text, taken, value}
 use Rattle.command_words.specs.Values.{byte_in, clock_in, format_in, number_in, value_or}
 use Rattle.command_words.specs.declared.command.Command.{Command}
-use Rattle.command_words.specs.declared.command.Command.TheVariants.{Call, Send, Recv, Demo, Rate}
+use Rattle.command_words.specs.declared.command.Command.TheVariants.{Call, Send, Recv, Demo, Rate, Audit}
 
 -- the value of each name that is given one
 abbrev pub Lookup : Type 0
@@ -218,9 +218,26 @@ rate = record {
   asks = rate_of;
 }
 
+abbrev pub audit_of : Lookup → Option Asked
+audit_of given = option_map (λ params. record {
+  command = Audit params;
+  video = None;
+  events = given (codes "log");
+  pictures = None;
+  wire = None;
+}) (params_of given)
+
+abbrev pub audit : Row
+audit = record {
+  word = codes "audit";
+  places = codes "log" ∷ [];
+  options = codes "format" ∷ codes "slots" ∷ codes "lead" ∷ codes "clock" ∷ [];
+  asks = audit_of;
+}
+
 -- the commands
 abbrev pub rows : List Row
-rows = call ∷ send ∷ recv ∷ demo ∷ rate ∷ []
+rows = call ∷ send ∷ recv ∷ demo ∷ rate ∷ audit ∷ []
 
 -- the command with this first word
 abbrev pub row_named : Text → Option Row
@@ -254,6 +271,7 @@ IsCommand (Send params target) = IsParams params × IfSome target (λ n. 1 ≤ n
 IsCommand (Recv params) = IsParams params
 IsCommand (Demo params seed frames) = IsParams params × (seed ≤ 999999999) × (1 ≤ frames) × (frames ≤ 10000)
 IsCommand (Rate target bucket) = (1 ≤ target) × (target ≤ 999999) × (bucket ≤ 999999)
+IsCommand (Audit params) = IsParams params
 
 -- the words by which a command's roles are attached are all there
 abbrev pub IsGiven : Option Text → Type 0
@@ -267,6 +285,7 @@ HasNamesOf (Send params target) a = IsGiven a.video × IsGiven a.events × IsGiv
 HasNamesOf (Recv params) a = IsGiven a.events × IsGiven a.pictures × IsGiven a.wire
 HasNamesOf (Demo params seed frames) a = Unit {0}
 HasNamesOf (Rate target bucket) a = IsGiven a.events
+HasNamesOf (Audit params) a = IsGiven a.events
 
 abbrev pub HasNames : Asked → Type 0
 HasNames a = HasNamesOf a.command a

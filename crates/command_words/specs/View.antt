@@ -2,8 +2,8 @@
 use Rattle.std.specs.Prelude.{option_map}
 use Rattle.command_words.specs.declared.words.Words.{Words}
 use Rattle.command_words.specs.declared.forms.Form.{Form}
-use Rattle.command_words.specs.declared.forms.Form.TheVariants.{Call, Send, Recv, Demo, Rate}
-use Rattle.command_words.specs.Asked.{Asked, Row, call, send, recv, demo, rate}
+use Rattle.command_words.specs.declared.forms.Form.TheVariants.{Call, Send, Recv, Demo, Rate, Audit}
+use Rattle.command_words.specs.Asked.{Asked, Row, call, send, recv, demo, rate, audit}
 
 abbrev pub asked_of : Words → Asked
 asked_of w = record {
@@ -21,3 +21,4 @@ row_of Send = send
 row_of Recv = recv
 row_of Demo = demo
 row_of Rate = rate
+row_of Audit = audit

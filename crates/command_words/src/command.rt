@@ -31,4 +31,8 @@ pub enum Command {
         target: u32,
         bucket: u32,
     },
+    /// The audit of a log.
+    Audit {
+        params: Params,
+    },
 }

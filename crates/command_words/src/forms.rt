@@ -12,6 +12,7 @@ pub(crate) enum Form {
     Recv,
     Demo,
     Rate,
+    Audit,
 }
 
 static CALL_PLACES: [&str; 2] = ["in", "out"];
@@ -40,6 +41,10 @@ static RATE_PLACES: [&str; 1] = ["log"];
 
 static RATE_OPTIONS: [&str; 2] = ["target", "bucket"];
 
+static AUDIT_PLACES: [&str; 1] = ["log"];
+
+static AUDIT_OPTIONS: [&str; 4] = ["format", "slots", "lead", "clock"];
+
 impl Form {
     // The form of the command with this first word.
     pub(crate) fn named(first: &str) -> Option<Form>
@@ -51,6 +56,7 @@ impl Form {
             "recv" => Some(Form::Recv),
             "demo" => Some(Form::Demo),
             "rate" => Some(Form::Rate),
+            "audit" => Some(Form::Audit),
             _ => None,
         }
     }
@@ -65,6 +71,7 @@ impl Form {
             Form::Recv => RECV_PLACES.as_slice(),
             Form::Demo => DEMO_PLACES.as_slice(),
             Form::Rate => RATE_PLACES.as_slice(),
+            Form::Audit => AUDIT_PLACES.as_slice(),
         }
     }
 
@@ -77,6 +84,7 @@ impl Form {
             Form::Recv => RECV_OPTIONS.as_slice(),
             Form::Demo => DEMO_OPTIONS.as_slice(),
             Form::Rate => RATE_OPTIONS.as_slice(),
+            Form::Audit => AUDIT_OPTIONS.as_slice(),
         }
     }
 }

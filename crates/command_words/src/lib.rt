@@ -1,4 +1,5 @@
-//! The words of the program's commands: `call`, `send`, `recv` and `demo`.
+//! The words of the program's commands: `call`, `send`, `recv`, `demo`, `rate` and
+//! `audit`.
 //!
 //! The first word names a command; the others are read with `clap` as one simple command for each
 //! first word. [`Words`] are a [`Command`] with its parameters and the names of its roles; words

@@ -4,7 +4,7 @@ ghost use Rattle.std.specs.Prelude.{drop, option_map, codes};
 ghost use Rattle.h263_types.specs.Params.{IsParams};
 ghost use Rattle.clap.specs.Words.{first_value, found_of};
 ghost use Rattle.command_words.specs.Asked.{asked, asked_by, call_of, send_of, recv_of, demo_of};
-ghost use Rattle.command_words.specs.Asked.{rate_of};
+ghost use Rattle.command_words.specs.Asked.{rate_of, audit_of};
 ghost use Rattle.command_words.specs.Asked.{params_of, coding_of, timing_of, word_for, IsCommand};
 ghost use Rattle.command_words.specs.Asked.{seed_in, frames_in, target_in, target_or_none};
 ghost use Rattle.command_words.specs.Asked.{bucket_in};
@@ -199,6 +199,20 @@ fn rate_words<'a>(given: &ArgMatches<'a>) -> Option<Words<'a>>
     })
 }
 
+fn audit_words<'a>(given: &ArgMatches<'a>) -> Option<Words<'a>>
+    ensures value { option_map asked_of result ≡ audit_of (first_value (found_of given.now)) }
+    ensures ready { IfSome result (λ w. IsCommand w.command) }
+{
+    let params = params(given)?;
+    Some(Words {
+        command: Command::Audit { params },
+        video: None,
+        events: given.get_str("log"),
+        pictures: None,
+        wire: None,
+    })
+}
+
 // What the values of a command's words ask for.
 fn words_of<'a>(form: Form, given: &ArgMatches<'a>) -> Option<Words<'a>>
     ensures value { option_map asked_of result
@@ -211,6 +225,7 @@ fn words_of<'a>(form: Form, given: &ArgMatches<'a>) -> Option<Words<'a>>
         Form::Recv => recv_words(given),
         Form::Demo => demo_words(given),
         Form::Rate => rate_words(given),
+        Form::Audit => audit_words(given),
     }
 }
 

@@ -8,7 +8,7 @@ use Rattle.call_report.specs.declared.status.Status.TheVariants.{OutOfMemory, Us
 use Rattle.command_words.specs.declared.simple.WordStop.{WordStop}
 use Rattle.command_words.specs.declared.simple.WordStop.TheVariants as stops
 use Rattle.command_words.specs.declared.command.Command.{Command}
-use Rattle.command_words.specs.declared.command.Command.TheVariants.{Call, Send, Recv, Demo, Rate}
+use Rattle.command_words.specs.declared.command.Command.TheVariants.{Call, Send, Recv, Demo, Rate, Audit}
 use Rattle.command_words.specs.Simple.{Text}
 use Rattle.command_words.specs.Asked.{Asked, asked}
 use Rattle.desk_program.specs.Run.{Run, run_from, refusal}
@@ -17,6 +17,7 @@ use Rattle.send_command.specs.declared.pace.Sending.{Sending}
 use Rattle.send_command.specs.Send.{send_begin, send_step}
 use Rattle.rate_command.specs.declared.rate.Bucket.{Bucket}
 use Rattle.rate_command.specs.Rate.{rate_begin, rate_step}
+use Rattle.audit_command.specs.Audit.{audit_begin, audit_step}
 use Rattle.call_command.specs.declared.terms.Terms.{Terms}
 use Rattle.call_command.specs.Call.{call_begin, call_step, most_turns}
 use Rattle.demo_command.specs.declared.terms.DemoTerms.{DemoTerms}
@@ -50,6 +51,7 @@ roles_of (Send params target) a = (Video, the_word a.video) ∷ (Events, the_wor
 roles_of (Recv params) a = (Events, the_word a.events) ∷ (Pictures, the_word a.pictures) ∷ (Wire, the_word a.wire) ∷ []
 roles_of (Demo params seed frames) a = []
 roles_of (Rate target bucket) a = (Events, the_word a.events) ∷ []
+roles_of (Audit params) a = (Events, the_word a.events) ∷ []
 
 -- the report comes first, by the empty word
 abbrev pub order_from : Option Asked → List (Role × Text)
@@ -64,6 +66,7 @@ source_of (Send params target) = Some Events
 source_of (Recv params) = Some Events
 source_of (Demo params seed frames) = None
 source_of (Rate target bucket) = Some Events
+source_of (Audit params) = Some Events
 
 abbrev pub source_from : Option Asked → Option Role
 source_from None = None
@@ -103,6 +106,7 @@ run_of (Demo params seed frames) inputs =
     (demo.most_turns (demo_terms params seed frames)) inputs
 run_of (Rate target bucket) inputs =
     run_from (rate_begin (bucket_of target bucket) inputs) rate_step 16777216 inputs
+run_of (Audit params) inputs = run_from (audit_begin params inputs) audit_step 16777216 inputs
 
 abbrev pub output_from : Option Asked → (Role → List ℕ) → Run
 output_from None inputs = no_command

@@ -12,6 +12,7 @@ ghost use Rattle.h263rps.specs.Output.{the_word};
 ghost use Rattle.h263rps.specs.Promises.{IsRun, IsRunOf};
 
 use crate::Status;
+use audit_command::{Audit, laws as audit_command_laws};
 use call_command::{Call, Terms, laws as call_command_laws};
 use command_words::{Command, Words};
 use demo_command::{Demo, DemoTerms, laws as demo_command_laws};
@@ -168,6 +169,19 @@ fn rate<D: Desk>(alloc: Global, words: &Words<'_>, target: u32, bucket: u32, des
     carry_out::<D, Rate>(alloc, &Bucket { target, bucket }, &order, desk)
 }
 
+// The audit of a log.
+fn audit<D: Desk>(alloc: Global, words: &Words<'_>, params: Params, desk: &mut D) -> Status
+    requires report { AreAttached ((Report, []) ∷ []) (D.outside desk.old) }
+    requires names { HasNames (asked_of words.now) }
+    requires command { IsCommand words.now.command }
+    requires is { words.now.command ≡ commands.Audit params }
+    ensures { IsRun (Some (asked_of words.now)) result (D.outside desk.old) (D.outside desk.new) }
+{
+    audit_command_laws::no_video_refused();
+    let order = [(Role::Events, word_of(words, Role::Events))];
+    carry_out::<D, Audit>(alloc, &params, &order, desk)
+}
+
 /// Runs the command that the words ask for.
 pub fn command<D: Desk>(alloc: Global, words: &Words<'_>, desk: &mut D) -> Status
     requires report { AreAttached ((Report, []) ∷ []) (D.outside desk.old) }
@@ -192,5 +206,6 @@ pub fn command<D: Desk>(alloc: Global, words: &Words<'_>, desk: &mut D) -> Statu
             frames,
         } => demo(alloc, words, params, seed, frames, desk),
         Command::Rate { target, bucket } => rate(alloc, words, target, bucket, desk),
+        Command::Audit { params } => audit(alloc, words, params, desk),
     }
 }

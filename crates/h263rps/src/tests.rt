@@ -8,6 +8,7 @@ use h263_outside::{MemoryDesk, OutOfMemory, Role};
 use loss_trace::TraceFault;
 use std::process::Abort;
 use std::test::Fail;
+use test_fixtures::codec::{FLAT_PACKET, SKIPPED_PACKET};
 use test_fixtures::desks::{
     BLANK, Case, Differs, EXACT, FRAME, HEAD, HELD, NEVER, NOTHING, Parts, SHOWN_HEAD, USAGE,
     desk_of, difference, joined,
@@ -409,6 +410,47 @@ fn check_measured(rt: &impl Abort, alloc: Global) -> Result<(), OutOfMemory> {
 fn the_wire_of_two_flat_pictures(rt: HostRuntime) -> Result<(), Fail> {
     if let Err(OutOfMemory) = check_measured(&rt, rt.alloc()) {
         check_measured(&rt, rt.alloc())?;
+    }
+    Ok(())
+}
+
+// ---- audit
+
+const AUDIT: &[&str] = &["audit", "log", "--format", "sub-qcif"];
+
+// The heads and the bytes of the packets of picture 0 and of picture 1, which refers to it, and the
+// ACK of picture 0.
+const HEAD_0: &[u8] = b"K\x01\x56";
+
+const PACKET_0: &[u8] = &FLAT_PACKET;
+
+const HEAD_1: &[u8] = b"K\x00\x1F";
+
+const PACKET_1: &[u8] = &SKIPPED_PACKET;
+
+const ACK_0: &[u8] = b"B\x00\x03\xC0\x04\x00";
+
+// A log, and the verdict.
+const AUDITS: &[(Parts<'static>, &[u8])] = &[
+    (
+        &[HEAD_0, PACKET_0, ACK_0, HEAD_1, PACKET_1],
+        b"yes pictures 2\n",
+    ),
+    (&[HEAD_0, PACKET_0, HEAD_1, PACKET_1], b"no 1 reference\n"),
+    (&[HEAD_1, PACKET_1], b"no 0 number\n"),
+    (&[HEAD_0, PACKET_0, HEAD_0, PACKET_0], b"no 0 overlap\n"),
+    (NOTHING, b"yes pictures 0\n"),
+];
+
+#[test]
+fn audits_of_two_flat_pictures(rt: HostRuntime) -> Result<(), Fail> {
+    for (log, verdict) in AUDITS {
+        let case = Case {
+            events: log,
+            report: &[*verdict],
+            ..BLANK
+        };
+        check(&rt, rt.alloc(), AUDIT, 4096, &case)?;
     }
     Ok(())
 }

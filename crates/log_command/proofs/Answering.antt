@@ -7,7 +7,6 @@ use Rattle.h263_outside.specs.Desk.{Outside}
 use Rattle.h263_outside.specs.declared.desk.Role.{Role}
 use Rattle.event_logs.specs.declared.entry.Entry.{Entry}
 use Rattle.event_logs.specs.declared.entry.Side.{Side}
-use Rattle.event_logs.specs.declared.entry.Side.TheVariants.{Recv as OfReceiver}
 use Rattle.event_logs.specs.declared.reader.LogReader.{LogReader}
 use Rattle.event_logs.specs.Entry.{bytes_of, entry_in}
 use Rattle.event_logs.specs.Reader.{EntryGives, Moves}
@@ -40,26 +39,26 @@ pub moved : (o known : Option (ℕ × Entry)) (reader after : LogReader) → o �
 moved o known reader after is moves = subst (λ (x : Option (ℕ × Entry)). Moves (Ok x) reader after) is moves
 
 -- an entry was read, by what the machine has kept in mind
-pub record Entered {State : Type 0} (s : LogState State) (after : LogReader) (at : ℕ) (entry : Entry) (rest buf : List ℕ) (left : Option (List ℕ)) : Type 0 where
+pub record Entered {State : Type 0} (side : Side) (s : LogState State) (after : LogReader) (at : ℕ) (entry : Entry) (rest buf : List ℕ) (left : Option (List ℕ)) : Type 0 where
   pub few : s.entries < 16777216
   pub place : s.at ≡ at
-  pub is : entry_in OfReceiver rest ≡ Some entry
+  pub is : entry_in side rest ≡ Some entry
   pub bytes : take (bytes_of entry) buf ≡ take (bytes_of entry) (drop 3 rest)
   pub gone : left ≡ Some (drop (3 + bytes_of entry) rest)
   pub next_at : s.at + (3 + bytes_of entry) ≡ after.at
   pub next_count : s.entries + 1 ≡ after.entries
 
-pub entered : {State : Type 0} (s : LogState State) (reader after : LogReader) (at : ℕ) (found entry : Entry) (rest buf : List ℕ) (left : Option (List ℕ)) (o : Option (ℕ × Entry))
-    → s.at ≡ reader.at → s.entries ≡ reader.entries → reader.side ≡ OfReceiver → o ≡ Some (at, found) → found ≡ entry
-    → EntryGives (Ok o) reader rest buf left → Moves (Ok o) reader after → Entered s after at entry rest buf left
-entered s reader after at found entry rest buf left o place count side some is gives moves =
+pub entered : {State : Type 0} (side : Side) (s : LogState State) (reader after : LogReader) (at : ℕ) (found entry : Entry) (rest buf : List ℕ) (left : Option (List ℕ)) (o : Option (ℕ × Entry))
+    → s.at ≡ reader.at → s.entries ≡ reader.entries → reader.side ≡ side → o ≡ Some (at, found) → found ≡ entry
+    → EntryGives (Ok o) reader rest buf left → Moves (Ok o) reader after → Entered side s after at entry rest buf left
+entered side s reader after at found entry rest buf left o place count of_side some is gives moves =
     let known : o ≡ Some (at, entry) = some ∙ ap (λ (e : Entry). let x : Option (ℕ × Entry) = Some (at, e) in x) is in
     let g = gave o (Some (at, entry)) reader rest buf left known gives in
     let v = moved o (Some (at, entry)) reader after known moves in
     record {
       few = omega (arith, v.2, after.few, count);
       place = place ∙ sym v.0;
-      is = subst (λ (x : Side). entry_in x rest ≡ Some entry) side g.0;
+      is = subst (λ (x : Side). entry_in x rest ≡ Some entry) of_side g.0;
       bytes = g.1;
       gone = g.2;
       next_at = ap (λ (n : ℕ). n + (3 + bytes_of entry)) place ∙ sym v.3;

@@ -7,18 +7,17 @@ use Rattle.h263_outside.specs.declared.desk.Role.TheVariants.{Events}
 use Rattle.event_logs.specs.declared.entry.Entry.{Entry}
 use Rattle.event_logs.specs.declared.entry.Entry.TheVariants.{Capture, Back, Packet, Play}
 use Rattle.event_logs.specs.declared.entry.Side.{Side}
-use Rattle.event_logs.specs.declared.entry.Side.TheVariants.{Recv as OfReceiver}
-use Rattle.event_logs.specs.declared.fault.LogFault.TheVariants.{BadRecord, TooMany}
+use Rattle.event_logs.specs.declared.fault.LogFault.TheVariants.{TooMany}
 use Rattle.event_logs.specs.Entry.{bytes_of, entry_in}
 use Rattle.desk_program.specs.Ends.{IsPart, step_turns}
 use Rattle.desk_program.specs.Run.Step.{Goes}
 use Rattle.desk_program.specs.Texts.{of}
-use Rattle.log_command.specs.Log.{LogRules, LogState, behind_entry, entry_step, entry_turn, log_step, packet_step, refused_log, step_in}
+use Rattle.log_command.specs.Log.{LogRules, LogState, behind_entry, entry_step, entry_turn, log_step, other_step, packet_step, refused_log, step_in}
 
 -- where an entry stands there are bytes
-some_bytes : (log : List ℕ) (e : Entry) → entry_in OfReceiver log ≡ Some e → 0 < length log
-some_bytes [] e is = absurd (cc is)
-some_bytes (b ∷ log) e is = omega arith
+some_bytes : (side : Side) (log : List ℕ) (e : Entry) → entry_in side log ≡ Some e → 0 < length log
+some_bytes side [] e is = absurd (cc is)
+some_bytes side (b ∷ log) e is = omega arith
 
 -- a whole entry stays where the log is cut after it
 abbrev pub StaysWhole : Type 0
@@ -36,76 +35,78 @@ not_held size k few = at_test (nat_le size k) refl
 module _ {State : Type 0} (does : LogRules State) (s : LogState State) where
   -- ---- the entry that is next
 
-  pub entry_next : (log : List ℕ) (o : Option Entry) → s.entries < 16777216 → 0 < length log → entry_in OfReceiver log ≡ o
+  pub entry_next : (log : List ℕ) (o : Option Entry) → s.entries < 16777216 → 0 < length log → entry_in does.side log ≡ o
       → step_in does s log ≡ entry_step does s log o
   entry_next [] o few some is = absurd (omega arith)
   entry_next (b ∷ log) o few some is =
-      ap (λ (t : Bool). if t then entry_step does s (b ∷ log) (entry_in OfReceiver (b ∷ log)) else refused_log (TooMany s.at)) (lt-ltb s.entries 16777216 few)
+      ap (λ (t : Bool). if t then entry_step does s (b ∷ log) (entry_in does.side (b ∷ log)) else refused_log (TooMany s.at)) (lt-ltb s.entries 16777216 few)
       ∙ ap (entry_step does s (b ∷ log)) is
 
   pub none_next : (log : List ℕ) → s.entries ≡ 16777216 → 0 < length log → step_in does s log ≡ refused_log (TooMany s.at)
   none_next [] all some = absurd (omega arith)
   none_next (b ∷ log) all some =
-      ap (λ (t : Bool). if t then entry_step does s (b ∷ log) (entry_in OfReceiver (b ∷ log)) else refused_log (TooMany s.at)) (le-ltb s.entries 16777216 (omega (arith, all)))
+      ap (λ (t : Bool). if t then entry_step does s (b ∷ log) (entry_in does.side (b ∷ log)) else refused_log (TooMany s.at)) (le-ltb s.entries 16777216 (omega (arith, all)))
 
   -- ---- what was taken when a read failed holds no whole entry
 
-  module _ (stays : StaysWhole) (log : List ℕ) (k : ℕ) (none : entry_in OfReceiver (take k log) ≡ None) where
-    part_of_turn : (e : Entry) (texts : Role → List ℕ) → entry_in OfReceiver log ≡ Some e → IsPart (entry_turn (3 + bytes_of e) texts ∷ []) (of Events k)
+  module _ (stays : StaysWhole) (log : List ℕ) (k : ℕ) (none : entry_in does.side (take k log) ≡ None) where
+    part_of_turn : (e : Entry) (texts : Role → List ℕ) → entry_in does.side log ≡ Some e → IsPart (entry_turn (3 + bytes_of e) texts ∷ []) (of Events k)
     part_of_turn e texts is =
         ap (λ (b : Bool). true && true && b && true)
-        (not_held (3 + bytes_of e) k (λ le. absurd (cc (none, stays OfReceiver e log k is le))))
+        (not_held (3 + bytes_of e) k (λ le. absurd (cc (none, stays does.side e log k is le))))
 
     part_if : (t : Bool) (next : LogState State) (size : ℕ) (texts : Role → List ℕ) → IsPart (entry_turn size texts ∷ []) (of Events k)
         → IsPart (step_turns (if t then Goes next (entry_turn size texts) else refused_log (TooMany s.at))) (of Events k)
     part_if true next size texts part = part
     part_if false next size texts part = tt
 
-    entry_part : (o : Option Entry) → entry_in OfReceiver log ≡ o → IsPart (step_turns (entry_step does s log o)) (of Events k)
+    other_part : (e : Entry) → entry_in does.side log ≡ Some e → IsPart (step_turns (other_step does s (3 + bytes_of e) (take (bytes_of e) (drop 3 log)))) (of Events k)
+    other_part e is =
+        let texts = does.other_text s.mind (take (bytes_of e) (drop 3 log)) in
+        part_if _ _ (3 + bytes_of e) texts (part_of_turn e texts is)
+
+    entry_part : (o : Option Entry) → entry_in does.side log ≡ o → IsPart (step_turns (entry_step does s log o)) (of Events k)
     entry_part None is = tt
     entry_part (Some (Packet len)) is = part_of_turn (Packet len) (does.packet_text s.mind (take len (drop 3 log))) is
-    entry_part (Some Play) is = part_if _ _ 3 (does.play_text s.mind) (part_of_turn Play (does.play_text s.mind) is)
-    entry_part (Some Capture) is = tt
-    entry_part (Some (Back len)) is = tt
+    entry_part (Some Capture) is = other_part Capture is
+    entry_part (Some (Back len)) is = other_part (Back len) is
+    entry_part (Some Play) is = other_part Play is
 
-    part_of_log : (t : Bool) → IsPart (step_turns (if t then entry_step does s log (entry_in OfReceiver log) else refused_log (TooMany s.at))) (of Events k)
-    part_of_log true = entry_part (entry_in OfReceiver log) refl
+    part_of_log : (t : Bool) → IsPart (step_turns (if t then entry_step does s log (entry_in does.side log) else refused_log (TooMany s.at))) (of Events k)
+    part_of_log true = entry_part (entry_in does.side log) refl
     part_of_log false = tt
 
-  pub log_part : StaysWhole → (log : List ℕ) (k : ℕ) → entry_in OfReceiver (take k log) ≡ None → IsPart (step_turns (step_in does s log)) (of Events k)
+  pub log_part : StaysWhole → (log : List ℕ) (k : ℕ) → entry_in does.side (take k log) ≡ None → IsPart (step_turns (step_in does s log)) (of Events k)
   log_part stays [] k none = tt
   log_part stays (b ∷ log) k none = part_of_log stays (b ∷ log) k none (nat_lt s.entries 16777216)
 
   -- ---- the step by the entry that is next
 
   module _ (inputs : Role → List ℕ) (few : s.entries < 16777216) where
-    pub packet_is : (len : ℕ) (bytes : List ℕ) → entry_in OfReceiver (inputs Events) ≡ Some (Packet len) → bytes ≡ take len (drop 3 (inputs Events))
+    pub packet_is : (len : ℕ) (bytes : List ℕ) → entry_in does.side (inputs Events) ≡ Some (Packet len) → bytes ≡ take len (drop 3 (inputs Events))
         → log_step does s inputs ≡ packet_step does s (3 + len) bytes
     packet_is len bytes is same =
-        entry_next (inputs Events) (Some (Packet len)) few (some_bytes (inputs Events) (Packet len) is) is
+        entry_next (inputs Events) (Some (Packet len)) few (some_bytes does.side (inputs Events) (Packet len) is) is
         ∙ ap (packet_step does s (3 + len)) (sym same)
 
-    play_next : (t : Bool) → nat_lt (does.plays s.mind) 1048576 ≡ t → entry_in OfReceiver (inputs Events) ≡ Some Play
-        → log_step does s inputs ≡ (if t then Goes (behind_entry s (does.play s.mind) 3) (entry_turn 3 (does.play_text s.mind)) else refused_log (TooMany s.at))
-    play_next t test is =
-        entry_next (inputs Events) (Some Play) few (some_bytes (inputs Events) Play is) is
-        ∙ ap (λ (b : Bool). if b then Goes (behind_entry s (does.play s.mind) 3) (entry_turn 3 (does.play_text s.mind)) else refused_log (TooMany s.at)) test
+    -- an entry of the other kind
+    module _ (e : Entry) (other : (len : ℕ) → e ≡ Packet len → ⊥) (is : entry_in does.side (inputs Events) ≡ Some e) where
+      no_packet : (log : List ℕ) (e : Entry) → ((len : ℕ) → e ≡ Packet len → ⊥) → entry_step does s log (Some e) ≡ other_step does s (3 + bytes_of e) (take (bytes_of e) (drop 3 log))
+      no_packet log Capture other = refl
+      no_packet log (Back len) other = refl
+      no_packet log Play other = refl
+      no_packet log (Packet len) other = absurd (other len refl)
 
-    pub play_is : does.plays s.mind < 1048576 → entry_in OfReceiver (inputs Events) ≡ Some Play
-        → log_step does s inputs ≡ Goes (behind_entry s (does.play s.mind) 3) (entry_turn 3 (does.play_text s.mind))
-    play_is more is = play_next true (lt-ltb (does.plays s.mind) 1048576 more) is
+      other_next : (bytes : List ℕ) (t : Bool) → bytes ≡ take (bytes_of e) (drop 3 (inputs Events)) → nat_lt (does.plays s.mind) 1048576 ≡ t → log_step does s inputs
+          ≡ (if t then Goes (behind_entry s (does.other s.mind bytes) (3 + bytes_of e)) (entry_turn (3 + bytes_of e) (does.other_text s.mind bytes)) else refused_log (TooMany s.at))
+      other_next bytes t same test =
+          entry_next (inputs Events) (Some e) few (some_bytes does.side (inputs Events) e is) is
+          ∙ no_packet (inputs Events) e other ∙ ap (other_step does s (3 + bytes_of e)) (sym same)
+          ∙ ap (λ (b : Bool). if b then Goes (behind_entry s (does.other s.mind bytes) (3 + bytes_of e)) (entry_turn (3 + bytes_of e) (does.other_text s.mind bytes)) else refused_log (TooMany s.at)) test
 
-    pub all_played : 1048576 ≤ does.plays s.mind → entry_in OfReceiver (inputs Events) ≡ Some Play → log_step does s inputs ≡ refused_log (TooMany s.at)
-    all_played all is = play_next false (le-ltb (does.plays s.mind) 1048576 all) is
+      pub other_is : (bytes : List ℕ) → bytes ≡ take (bytes_of e) (drop 3 (inputs Events)) → does.plays s.mind < 1048576
+          → log_step does s inputs ≡ Goes (behind_entry s (does.other s.mind bytes) (3 + bytes_of e)) (entry_turn (3 + bytes_of e) (does.other_text s.mind bytes))
+      other_is bytes same more = other_next bytes true same (lt-ltb (does.plays s.mind) 1048576 more)
 
-    -- any other entry is none of a receiver's log
-    other_entry : (log : List ℕ) (e : Entry) → ((len : ℕ) → e ≡ Packet len → ⊥) → (e ≡ Play → ⊥) → entry_step does s log (Some e) ≡ refused_log (BadRecord s.at)
-    other_entry log Capture packet play = refl
-    other_entry log (Back len) packet play = refl
-    other_entry log (Packet len) packet play = absurd (packet len refl)
-    other_entry log Play packet play = absurd (play refl)
-
-    pub no_entry_of_it : (e : Entry) → entry_in OfReceiver (inputs Events) ≡ Some e → ((len : ℕ) → e ≡ Packet len → ⊥) → (e ≡ Play → ⊥)
-        → log_step does s inputs ≡ refused_log (BadRecord s.at)
-    no_entry_of_it e is packet play =
-        entry_next (inputs Events) (Some e) few (some_bytes (inputs Events) e is) is ∙ other_entry (inputs Events) e packet play
+      pub all_played : 1048576 ≤ does.plays s.mind → log_step does s inputs ≡ refused_log (TooMany s.at)
+      all_played all = other_next _ false refl (le-ltb (does.plays s.mind) 1048576 all)

@@ -4,7 +4,6 @@ use Rattle.h263_outside.specs.Desk.{Outside}
 use Rattle.h263_outside.specs.declared.desk.Role.{Role}
 use Rattle.h263_outside.specs.declared.desk.Role.TheVariants.{Events}
 use Rattle.event_logs.specs.declared.entry.Side.{Side}
-use Rattle.event_logs.specs.declared.entry.Side.TheVariants.{Recv as OfReceiver}
 use Rattle.event_logs.specs.declared.fault.LogFault.TheVariants.{BadRecord, TooMany}
 use Rattle.event_logs.specs.declared.fault.LogStop.{LogStop}
 use Rattle.event_logs.specs.declared.fault.LogStop.TheVariants as reader_stops
@@ -28,7 +27,7 @@ module _ {State : Type 0} (does : LogRules State) (laws : TurnLaws) (s : LogStat
   refuses status is = record { last = refusal status; is = is; by = laws.refuses status inputs old mid same }
 
   -- the reader has stopped
-  pub stops : StaysWhole → (reader after : LogReader) (buf : List ℕ) (stop : LogStop) → reader.side ≡ OfReceiver → s.at ≡ reader.at → s.entries ≡ reader.entries
+  pub stops : StaysWhole → (reader after : LogReader) (buf : List ℕ) (stop : LogStop) → reader.side ≡ does.side → s.at ≡ reader.at → s.entries ≡ reader.entries
       → EntryGives (Err stop) reader (inputs Events) buf (mid.left Events) → Moves (Err stop) reader after
       → GivesUp (phase (log_stop stop)) (log_stop stop) (log_step does s inputs) true inputs old mid
   stops stays reader after buf reader_stops.Read side at count e moves = record {

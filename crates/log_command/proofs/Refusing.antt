@@ -3,36 +3,35 @@ use Rattle.std.proofs.Common.{◌≡◌, ℕ, zero, suc, Bool, true, false, List
 use Rattle.h263_outside.specs.declared.desk.Role.{Role}
 use Rattle.h263_outside.specs.declared.desk.Role.TheVariants.{Events}
 use Rattle.y4m.specs.declared.fault.Y4mFault.{Y4mFault}
-use Rattle.event_logs.specs.declared.entry.Side.TheVariants.{Recv as OfReceiver}
 use Rattle.event_logs.specs.declared.entry.Entry.{Entry}
-use Rattle.event_logs.specs.declared.entry.Entry.TheVariants as entries
+use Rattle.event_logs.specs.declared.entry.Entry.TheVariants.{Capture, Back, Packet, Play}
 use Rattle.event_logs.specs.Entry.{entry_in}
 use Rattle.call_report.specs.declared.status.Status.TheVariants.{VideoRefused}
 use Rattle.desk_program.specs.Run.{Run, behind, follow, run_of, silence}
-use Rattle.log_command.specs.Log.{LogRules, LogState, entry_step, log_run, log_step, play_step, step_in}
+use Rattle.log_command.specs.Log.{LogRules, LogState, entry_step, log_run, log_step, other_step, step_in}
 
 module _ {State : Type 0} (does : LogRules State) (fault : Y4mFault) where
   module _ (s : LogState State) (rest : LogState State → (Role → ℕ) → Run) (more : (next : LogState State) (taken : Role → ℕ) → (rest next taken).last.status ≡ VideoRefused fault → ⊥) where
-    at_play : (size : ℕ) → (follow (play_step does s size) rest).last.status ≡ VideoRefused fault → ⊥
-    at_play size ends = within (nat_lt (does.plays s.mind) 1048576) refl ends
+    at_other : (size : ℕ) (bytes : List ℕ) → (follow (other_step does s size bytes) rest).last.status ≡ VideoRefused fault → ⊥
+    at_other size bytes ends = within (nat_lt (does.plays s.mind) 1048576) refl ends
       where
-        within : (t : Bool) → nat_lt (does.plays s.mind) 1048576 ≡ t → (follow (play_step does s size) rest).last.status ≡ VideoRefused fault → ⊥
+        within : (t : Bool) → nat_lt (does.plays s.mind) 1048576 ≡ t → (follow (other_step does s size bytes) rest).last.status ≡ VideoRefused fault → ⊥
         within true is ends = more _ _ (rw is at ends)
         within false is ends = absurd (cc (rw is at ends))
 
     at_entry : (log : List ℕ) (o : Option Entry) → (follow (entry_step does s log o) rest).last.status ≡ VideoRefused fault → ⊥
     at_entry log None ends = absurd (cc ends)
-    at_entry log (Some entries.Capture) ends = absurd (cc ends)
-    at_entry log (Some (entries.Back len)) ends = absurd (cc ends)
-    at_entry log (Some (entries.Packet len)) ends = more _ _ ends
-    at_entry log (Some entries.Play) ends = at_play 3 ends
+    at_entry log (Some (Packet len)) ends = more _ _ ends
+    at_entry log (Some (Back len)) ends = at_other _ _ ends
+    at_entry log (Some Capture) ends = at_other _ _ ends
+    at_entry log (Some Play) ends = at_other _ _ ends
 
     at_log : (log : List ℕ) → (follow (step_in does s log) rest).last.status ≡ VideoRefused fault → ⊥
     at_log [] ends = absurd (cc ends)
     at_log (b ∷ log) ends = within (nat_lt s.entries 16777216) refl ends
       where
         within : (t : Bool) → nat_lt s.entries 16777216 ≡ t → (follow (step_in does s (b ∷ log)) rest).last.status ≡ VideoRefused fault → ⊥
-        within true is ends = at_entry (b ∷ log) (entry_in OfReceiver (b ∷ log)) (rw is at ends)
+        within true is ends = at_entry (b ∷ log) (entry_in does.side (b ∷ log)) (rw is at ends)
         within false is ends = absurd (cc (rw is at ends))
 
   run_refuses_none : (n : ℕ) (s : LogState State) (inputs : Role → List ℕ) → (run_of (log_step does) n s inputs).last.status ≡ VideoRefused fault → ⊥

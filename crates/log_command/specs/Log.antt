@@ -1,13 +1,13 @@
--- A command over the log of a receiver, entry by entry.
-use Rattle.std.specs.Prelude.{◌≡◌, ℕ, ◌+◌, ◌≤◌, Bool, true, nat_lt, List, [], ◌∷◌, length, take, drop, Option, Some, if◌then◌else◌}
+-- A command over the log of one side, entry by entry.
+use Rattle.std.specs.Prelude.{◌≡◌, ℕ, ◌+◌, ◌≤◌, Bool, true, nat_lt, List, [], ◌∷◌, length, take, drop, Option, Some, None, if◌then◌else◌}
 use Rattle.h263_outside.specs.declared.desk.Role.{Role}
 use Rattle.h263_outside.specs.declared.desk.Role.TheVariants.{Events}
 use Rattle.event_logs.specs.declared.entry.Entry.{Entry}
-use Rattle.event_logs.specs.declared.entry.Entry.TheVariants as entries
-use Rattle.event_logs.specs.declared.entry.Side.TheVariants.{Recv as OfReceiver}
+use Rattle.event_logs.specs.declared.entry.Entry.TheVariants.{Packet}
+use Rattle.event_logs.specs.declared.entry.Side.{Side}
 use Rattle.event_logs.specs.declared.fault.LogFault.{LogFault}
 use Rattle.event_logs.specs.declared.fault.LogFault.TheVariants.{BadRecord, TooMany}
-use Rattle.event_logs.specs.Entry.{entry_in}
+use Rattle.event_logs.specs.Entry.{bytes_of, entry_in}
 use Rattle.call_report.specs.Status.{Phase}
 use Rattle.call_report.specs.Status.Phase.{starved, unwritten}
 use Rattle.call_report.specs.declared.status.Status.TheVariants.{Ok as Fine, LogRefused}
@@ -19,13 +19,14 @@ use Rattle.log_command.specs.declared.machine.LogMachine.{LogMachine}
 
 -- ---- what a command says of itself
 
--- what comes of a packet's bytes and of a play, and what is written then, how many plays there
--- were, and what is written at the end of the log
+-- whose log it is; what comes of a packet and of an entry of the other kind by its bytes, and what is
+-- written then; how many plays there were; and what is written at the end of the log
 pub record LogRules (State : Type 0) : Type 0 where
+  pub side : Side
   pub packet : State → List ℕ → State
   pub packet_text : State → List ℕ → Role → List ℕ
-  pub play : State → State
-  pub play_text : State → Role → List ℕ
+  pub other : State → List ℕ → State
+  pub other_text : State → List ℕ → Role → List ℕ
   pub plays : State → ℕ
   pub end_text : State → Role → List ℕ
 
@@ -72,18 +73,18 @@ abbrev pub refused_log : {State : Type 0} → LogFault → Step (LogState State)
 refused_log fault = Ends (refusal (LogRefused fault))
 
 -- there are 1,048,576 plays at most
-abbrev pub play_step : {State : Type 0} → LogRules State → LogState State → ℕ → Step (LogState State)
-play_step rules s size =
+abbrev pub other_step : {State : Type 0} → LogRules State → LogState State → ℕ → List ℕ → Step (LogState State)
+other_step rules s size bytes =
     if nat_lt (rules.plays s.mind) 1048576
-    then Goes (behind_entry s (rules.play s.mind) size) (entry_turn size (rules.play_text s.mind))
+    then Goes (behind_entry s (rules.other s.mind bytes) size) (entry_turn size (rules.other_text s.mind bytes))
     else refused_log (TooMany s.at)
 
--- a packet has its bytes after its letter and their number; a play has none
+-- an entry has its bytes after its letter and their number
 abbrev pub entry_step : {State : Type 0} → LogRules State → LogState State → List ℕ → Option Entry
     → Step (LogState State)
-entry_step rules s log (Some (entries.Packet len)) = packet_step rules s (3 + len) (take len (drop 3 log))
-entry_step rules s log (Some entries.Play) = play_step rules s 3
-entry_step rules s log _ = refused_log (BadRecord s.at)
+entry_step rules s log None = refused_log (BadRecord s.at)
+entry_step rules s log (Some (Packet len)) = packet_step rules s (3 + len) (take len (drop 3 log))
+entry_step rules s log (Some entry) = other_step rules s (3 + bytes_of entry) (take (bytes_of entry) (drop 3 log))
 
 -- the log is at its end
 abbrev pub all_read : {State : Type 0} → LogRules State → LogState State → End
@@ -94,7 +95,7 @@ abbrev pub step_in : {State : Type 0} → LogRules State → LogState State → 
 step_in rules s [] = Ends (all_read rules s)
 step_in rules s (b ∷ log) =
     if nat_lt s.entries 16777216
-    then entry_step rules s (b ∷ log) (entry_in OfReceiver (b ∷ log))
+    then entry_step rules s (b ∷ log) (entry_in rules.side (b ∷ log))
     else refused_log (TooMany s.at)
 
 abbrev pub log_step : {State : Type 0} → LogRules State → LogState State → (Role → List ℕ) → Step (LogState State)
@@ -116,9 +117,9 @@ pub record LogOpens (opens : (Role → Bool) → Type 0) (attached : Role → Bo
   pub events : attached Events ≡ true
   pub command : opens attached
 
-pub record LogReady {C : Type 0} (ready : C → ℕ → (Role → Bool) → Type 0)
+pub record LogReady {C : Type 0} (whose : Side) (ready : C → ℕ → (Role → Bool) → Type 0)
     (m : LogMachine C) (attached : Role → Bool) : Type 0 where
   pub events : attached Events ≡ true
   pub command : ready m.command m.reader.entries attached
   pub buffer : length m.buffer.items ≡ 65535
-  pub side : m.reader.side ≡ OfReceiver
+  pub side : m.reader.side ≡ whose

@@ -7,11 +7,12 @@ ghost use Rattle.desk_program.specs.Ends.{Gains, GainsFronts, HasCause, start_st
 ghost use Rattle.log_command.specs.Log.{LogRules, ReadyBehind, StopsAtHead};
 
 use call_report::Status;
+use event_logs::Side;
 use h263_outside::Desk;
 use std::alloc::Global;
 
-/// A command by what it does with one entry of a receiver's log, and at the log's end. It writes,
-/// and reads nothing itself.
+/// A command by what it does with one entry of its log, and at the log's end. It writes, and reads
+/// nothing itself. Its log has packets and entries of one other kind: a receiver's has plays.
 ///
 /// Its meaning is `first`, `head` and `rules`; the methods do that over any desk. Where one fails,
 /// a write has failed, and a prefix of the text was written.
@@ -40,6 +41,10 @@ pub trait LogCommand {
     ghost opens: { Self.Setup → (Role → Bool) → Type 0 };
 
     ghost ready: { Self → ℕ → (Role → Bool) → Type 0 };
+
+    /// Whose log it is.
+    fn side() -> Side
+        ensures { result ≡ rules.side };
 
     /// Does what comes before the first entry. Memory may be refused to it before it writes.
     fn start<D: Desk>(alloc: Global, setup: &Self::Setup, desk: &mut D) -> Result<Self, Status>
@@ -77,18 +82,20 @@ pub trait LogCommand {
         ensures count { result ≡ played self.now }
         ensures is { (s : Self.State) → stands self.now s → result ≡ rules.plays s };
 
-    /// Takes a play.
-    fn play<D: Desk>(&mut self, desk: &mut D) -> Result<(), Status>
+    /// Takes an entry of the other kind, with its bytes: a play has none.
+    fn other<D: Desk>(&mut self, desk: &mut D, bytes: &[u8]) -> Result<(), Status>
         requires played { played self.old < 1048576 }
         requires ready { ReadyBehind 16777215
             (λ n. ready self.old n (D.outside desk.old).attached) }
-        ensures stands { (s : Self.State) → stands self.old s → stands self.new (rules.play s) }
+        ensures stands { (s : Self.State)
+            → stands self.old s → stands self.new (rules.other s bytes.now) }
         ensures ready { (n : ℕ) → ready self.old n (D.outside desk.old).attached
             → ready self.new (n + 1) (D.outside desk.new).attached }
-        ensures ok { (s : Self.State) → stands self.old s → OnOk result (Gains (rules.play_text s)
+        ensures ok { (s : Self.State) → stands self.old s
+            → OnOk result (Gains (rules.other_text s bytes.now)
             (D.outside desk.old).written (D.outside desk.new).written) }
         ensures err { (s : Self.State) → stands self.old s
-            → OnErr result (GainsFronts (rules.play_text s)
+            → OnErr result (GainsFronts (rules.other_text s bytes.now)
             (D.outside desk.old).written (D.outside desk.new).written) }
         ensures kind { IfErr result (λ status. status ≡ Status.WriteFault) }
         ensures cause { OnErr result

@@ -1,6 +1,6 @@
-//! A command over the log of a receiver: what it does with one entry is a [`LogCommand`], and all
-//! else is here. [`LogMachine`] reads the log and hands each packet and each play on; it is a
-//! machine of `desk_program`.
+//! A command over a log: what it does with one entry is a [`LogCommand`], and all else is here.
+//! [`LogMachine`] reads the log of the command's side, and hands each packet and each entry of the
+//! other kind on; it is a machine of `desk_program`.
 //!
 //! ```rust
 //! pub type Recv = LogMachine<Receiving>;

@@ -1,8 +1,11 @@
 //! The machine.
+ghost use Rattle.std.specs.Prelude.{◌≡◌};
+ghost use Rattle.event_logs.specs.Entry.{bytes_of};
+
 use crate::LogCommand;
 use call_report::Status;
 use desk_program::{Begins, Turns, laws as desk_program_laws};
-use event_logs::{Entry, LogFault, LogReader, Side, laws as event_logs_laws};
+use event_logs::{Entry, LogFault, LogReader, laws as event_logs_laws};
 use h263_outside::{Desk, laws as outside_laws};
 use std::alloc::Global;
 
@@ -11,6 +14,16 @@ const MAX_BYTES: usize = 65_535;
 
 // The most plays of a log.
 const MAX_PLAYS: u32 = 1_048_576;
+
+// How many bytes an entry has.
+fn len_of(entry: Entry) -> usize
+    ensures { result ≡ bytes_of entry }
+{
+    match entry {
+        Entry::Packet { len } | Entry::Back { len } => len as usize,
+        Entry::Play | Entry::Capture => 0,
+    }
+}
 
 /// A command, the reader of its log, and room for an entry's bytes.
 pub struct LogMachine<C> {
@@ -34,7 +47,7 @@ impl<C: LogCommand> Turns for LogMachine<C> {
 
     ghost more = { λ m. 16777216 - m.reader.entries };
 
-    ghost ready = { LogReady C.ready };
+    ghost ready = { LogReady C.rules.side C.ready };
 
     ghost reading = { λ _. Some Events };
 
@@ -46,24 +59,20 @@ impl<C: LogCommand> Turns for LogMachine<C> {
             self.command.close(desk)?;
             return Ok(false);
         };
+        let len = len_of(entry).min(self.buffer.len());
+        let bytes = &self.buffer[..len];
         match entry {
-            Entry::Packet { len } => {
-                let len = (len as usize).min(self.buffer.len());
-                let bytes = &self.buffer[..len];
+            Entry::Packet { .. } => {
                 self.command.packet(desk, bytes)?;
                 Ok(true)
             }
-            Entry::Play => {
+            _ => {
                 if self.command.plays() >= MAX_PLAYS {
                     let fault = LogFault::TooMany { at };
                     return Err(Status::LogRefused { fault });
                 }
-                self.command.play(desk)?;
+                self.command.other(desk, bytes)?;
                 Ok(true)
-            }
-            _ => {
-                let fault = LogFault::BadRecord { at };
-                Err(Status::LogRefused { fault })
             }
         }
     }
@@ -94,7 +103,7 @@ impl<C: LogCommand> Begins for LogMachine<C> {
         let buffer = vec![in alloc; 0; MAX_BYTES]?;
         Ok(LogMachine {
             command: C::start(alloc, setup, desk)?,
-            reader: LogReader::new(Side::Recv),
+            reader: LogReader::new(C::side()),
             buffer,
         })
     }

@@ -2,6 +2,7 @@
 use Rattle.std.specs.Prelude.{◌≡◌, ℕ, ◌+◌, ◌≤◌, Bool, true, List, [], ◌∷◌, ◌++◌, length, Option, Some, None}
 use Rattle.h263_outside.specs.declared.desk.Role.{Role}
 use Rattle.h263_outside.specs.declared.desk.Role.TheVariants.{Report}
+use Rattle.event_logs.specs.declared.entry.Side.TheVariants.{Recv as OfReceiver}
 use Rattle.desk_program.specs.Run.{Step}
 use Rattle.desk_program.specs.Texts.{no_texts, on, then_also}
 use Rattle.log_command.specs.Log.{LogRules, LogState, log_begin, log_step}
@@ -46,10 +47,11 @@ nothing_measured b = record { bucket = b; packets = []; plays = 0 }
 abbrev pub rate_rules : LogRules RateState
 rate_rules =
     record {
+      side = OfReceiver;
       packet = λ s bytes. record { bucket = s.bucket; packets = s.packets ++ bytes ∷ []; plays = s.plays };
       packet_text = λ s bytes. answer_text (metered s.bucket.target s.packets bytes);
-      play = λ s. record { bucket = s.bucket; packets = s.packets; plays = s.plays + 1 };
-      play_text = λ s. no_texts;
+      other = λ s bytes. record { bucket = s.bucket; packets = s.packets; plays = s.plays + 1 };
+      other_text = λ s bytes. no_texts;
       plays = λ s. s.plays;
       end_text = λ s. closing_text (totals_of s.bucket.target s.bucket.bucket s.packets);
     }

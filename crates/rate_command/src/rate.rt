@@ -2,6 +2,7 @@
 use crate::parts::{put_text, tell, tell_last};
 use call_report::Status;
 use desk_program::laws as desk_program_laws;
+use event_logs::Side;
 use h263_outside::{Desk, laws as outside_laws};
 use log_command::{LogCommand, LogMachine};
 use rate_control::{Meter, totals_text};
@@ -56,6 +57,10 @@ impl LogCommand for Metering {
         })
     }
 
+    fn side() -> Side {
+        Side::Recv
+    }
+
     // The line of the picture that ends before the packet, if one does.
     fn packet<D: Desk>(&mut self, desk: &mut D, bytes: &[u8]) -> Result<(), Status> {
         let metered = self.meter.packet(bytes);
@@ -66,7 +71,7 @@ impl LogCommand for Metering {
         self.plays
     }
 
-    fn play<D: Desk>(&mut self, _desk: &mut D) -> Result<(), Status> {
+    fn other<D: Desk>(&mut self, _desk: &mut D, _bytes: &[u8]) -> Result<(), Status> {
         desk_program_laws::of_turns();
         self.plays += 1;
         Ok(())

@@ -5,6 +5,7 @@ use Rattle.h263_outside.specs.declared.desk.Role.TheVariants.{Pictures, Wire, Re
 use Rattle.h263_types.specs.declared.params.Params.{Params}
 use Rattle.h263_types.specs.Params.{IsParams}
 use Rattle.y4m.specs.Text.{head_text}
+use Rattle.event_logs.specs.declared.entry.Side.TheVariants.{Recv as OfReceiver}
 use Rattle.desk_program.specs.Run.{Step}
 use Rattle.desk_program.specs.Texts.{on}
 use Rattle.log_command.specs.Log.{LogRules, LogState, log_begin, log_step}
@@ -44,10 +45,11 @@ played_text p past =
 abbrev pub recv_rules : LogRules RecvState
 recv_rules =
     record {
+      side = OfReceiver;
       packet = λ s bytes. behind_entry s (Packet bytes) (with_answer (answer_after s.params s.past bytes) s.tally);
       packet_text = λ s bytes. heard_text s.params s.past bytes;
-      play = λ s. behind_entry s PlayNext (with_mark (mark_of (mark_after s.params s.past)) s.tally);
-      play_text = λ s. played_text s.params s.past;
+      other = λ s bytes. behind_entry s PlayNext (with_mark (mark_of (mark_after s.params s.past)) s.tally);
+      other_text = λ s bytes. played_text s.params s.past;
       plays = λ s. (run_of s.params s.past).played;
       end_text = λ s. on Report (count_text (run_of s.params s.past).played s.tally);
     }

@@ -3,6 +3,7 @@ use crate::Tally;
 use crate::parts::{said_in, say, show};
 use call_report::Status;
 use desk_program::{put_head, put_line};
+use event_logs::Side;
 use h263_outside::Desk;
 use h263_types::Params;
 use log_command::{LogCommand, LogMachine};
@@ -55,6 +56,10 @@ impl LogCommand for Receiving {
         })
     }
 
+    fn side() -> Side {
+        Side::Recv
+    }
+
     // What the packet completes is acknowledged.
     fn packet<D: Desk>(&mut self, desk: &mut D, bytes: &[u8]) -> Result<(), Status> {
         let heard = self.receiver.packet(bytes);
@@ -66,8 +71,8 @@ impl LogCommand for Receiving {
         self.receiver.played()
     }
 
-    // The next picture is shown; where it isn't complete a message says so.
-    fn play<D: Desk>(&mut self, desk: &mut D) -> Result<(), Status> {
+    // A play: the next picture is shown; where it isn't complete a message says so.
+    fn other<D: Desk>(&mut self, desk: &mut D, _bytes: &[u8]) -> Result<(), Status> {
         let number = self.receiver.played();
         let played = self.receiver.play();
         self.tally.play(played.mark);

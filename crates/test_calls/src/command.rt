@@ -3,6 +3,7 @@ ghost use Rattle.h263_outside.specs.Desk.{NoneAttached};
 ghost use Rattle.command_words.specs.Asked.{IsCommand};
 ghost use Rattle.command_words.specs.View.{asked_of};
 
+use audit_command::Audit;
 use call_command::{Call, Terms};
 use call_report::Status;
 use command_words::{Command, Words};
@@ -17,7 +18,8 @@ fn name_of<'a>(words: &Words<'a>, role: Role) -> &'a str {
     words.name(role).unwrap_or("")
 }
 
-/// Runs the command that the words ask for, where it is one of one end, or a call over a trace.
+/// Runs the command that the words ask for, where it is one of one end, a call over a trace, or an
+/// audit.
 pub fn run<D: Desk>(alloc: Global, words: &Words<'_>, desk: &mut D) -> Status
     requires none { NoneAttached (D.outside desk.old).attached }
     requires command { IsCommand (asked_of words.now).command }
@@ -56,6 +58,10 @@ pub fn run<D: Desk>(alloc: Global, words: &Words<'_>, desk: &mut D) -> Status
                 plain: false,
             };
             perform::<D, Call>(alloc, &terms, &order, desk)
+        }
+        Command::Audit { params } => {
+            let order = [(Role::Events, name_of(words, Role::Events))];
+            perform::<D, Audit>(alloc, &params, &order, desk)
         }
         Command::Call { traced: false, .. } | Command::Demo { .. } | Command::Rate { .. } => finish(
             desk,

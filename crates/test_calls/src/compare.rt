@@ -112,6 +112,24 @@ pub fn compare_run(rt: &HostRuntime, report: &str, words: &str) -> Result<bool, 
     Ok(pictures && wire && told)
 }
 
+/// Runs the audit of these words over a log, and compares the report with this one.
+pub fn compare_audit(
+    rt: &HostRuntime,
+    label: &str,
+    words: &str,
+    log: &[u8],
+    report: &str,
+) -> Result<bool, Stop> {
+    let alloc = rt.alloc();
+    let list: Vec<&str> = words.split_whitespace().collect(alloc)?;
+    let words = Words::read(alloc, &list)?;
+    let mut desk = MemoryDesk::new(alloc, PIECE, ROOM)?;
+    desk.put(Role::Events, log)?;
+    let status = run(alloc, &words, &mut desk);
+    let same = compare(rt, label, desk.text(Role::Report), report.as_bytes())?;
+    Ok(same && status == Status::Ok)
+}
+
 /// Runs the call of this video over the trace `NAME.trace`, and compares its report with `NAME.txt`,
 /// and its pictures, if they are given.
 pub fn compare_call(

@@ -1,5 +1,5 @@
-//! A test of `send`, `recv` and `call`, by calls that an independent program made and by worked
-//! calls over traces.
+//! A test of `send`, `recv`, `call` and `audit`, by calls and logs that an independent program made
+//! and by worked calls over traces.
 //!
 //! Each command is run by its words over a desk in memory, and all that it writes is compared byte
 //! for byte; the stored reports end with a line for the number that the process ends with. Where
@@ -7,6 +7,7 @@
 //! of which one byte was turned, `turned.wire`, and must find that byte.
 #![tactic(auto)]
 
+mod audited;
 mod command;
 mod compare;
 mod recorded;
@@ -14,6 +15,7 @@ mod sent;
 mod stop;
 mod video;
 
+use audited::audited_calls;
 use recorded::recorded_calls;
 use sent::sent_calls;
 use std::io;
@@ -33,8 +35,9 @@ fn told(rt: &HostRuntime, name: &str, compared: Result<bool, Stop>) -> io::Resul
 
 fn compare_calls(rt: &HostRuntime) -> io::Result<bool> {
     let sent = sent_calls(rt)?;
+    let audited = audited_calls(rt)?;
     let recorded = recorded_calls(rt)?;
-    Ok(sent && recorded)
+    Ok(sent && audited && recorded)
 }
 
 fn main(rt: HostRuntime) -> ExitCode {

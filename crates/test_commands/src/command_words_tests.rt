@@ -4,7 +4,7 @@ use h263_outside::Role;
 use h263_types::{Clock, Format, Params};
 
 // Words after the program's name that are no command.
-static USAGE: [&[&str]; 53] = [
+static USAGE: [&[&str]; 58] = [
     &[],
     &[""],
     &["convert", "in", "out"],
@@ -60,6 +60,11 @@ static USAGE: [&[&str]; 53] = [
     &[
         "rate", "log", "--target", "1", "--bucket", "1", "--slots", "16",
     ],
+    &["audit"],
+    &["audit", "log", "out"],
+    &["audit", "log", "--messages", "1"],
+    &["audit", "log", "--slots", "4", "--lead", "3"],
+    &["audit", "log", "--quant", "8"],
 ];
 
 #[test]
@@ -147,7 +152,7 @@ fn options_stand_anywhere(rt: HostRuntime) {
 }
 
 // Words, and the names of video, events, pictures and wire.
-static NAMED: [(&[&str], &[Option<&str>]); 9] = [
+static NAMED: [(&[&str], &[Option<&str>]); 10] = [
     (
         &["call", "in", "out"],
         &[Some("in"), None, Some("out"), None],
@@ -176,6 +181,10 @@ static NAMED: [(&[&str], &[Option<&str>]); 9] = [
     (&["demo", "0", "1"], &[None, None, None, None]),
     (
         &["rate", "--bucket", "0", "a", "--target", "1"],
+        &[None, Some("a"), None, None],
+    ),
+    (
+        &["audit", "--format=cif", "a"],
         &[None, Some("a"), None, None],
     ),
 ];
@@ -213,6 +222,15 @@ static MADE: [&str; 5] = ["demo", "999999999", "10000", "--format", "cif"];
 
 static MEASURED: [&str; 5] = ["rate", "log", "--target=999999", "--bucket", "200"];
 
+static AUDITED: [&str; 6] = [
+    "audit",
+    "log",
+    "--format=sub-qcif",
+    "--slots=64",
+    "--lead",
+    "62",
+];
+
 #[test]
 fn one_command_of_each(rt: HostRuntime) {
     let params = Params::of(Format::Qcif);
@@ -249,6 +267,13 @@ fn one_command_of_each(rt: HostRuntime) {
         target: 999_999,
         bucket: 200,
     };
+    let audit = Command::Audit {
+        params: Params {
+            slots: 64,
+            lead: 62,
+            ..Params::of(Format::SubQcif)
+        },
+    };
     let table = [
         (PLAIN.as_slice(), call),
         (SENDING.as_slice(), send),
@@ -256,6 +281,7 @@ fn one_command_of_each(rt: HostRuntime) {
         (RECEIVING.as_slice(), recv),
         (MADE.as_slice(), demo),
         (MEASURED.as_slice(), rate),
+        (AUDITED.as_slice(), audit),
     ];
     for (words, command) in table {
         let read = Words::read(rt.alloc(), words).expect(&rt, "a command");

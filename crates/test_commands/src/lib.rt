@@ -2,6 +2,8 @@
 #![tactic(auto)]
 
 #[cfg(test)]
+mod audit_command_tests;
+#[cfg(test)]
 mod call_command_tests;
 #[cfg(test)]
 mod call_report_tests;

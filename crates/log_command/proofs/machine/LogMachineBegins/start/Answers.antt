@@ -45,5 +45,5 @@ returns-clause-ready g c =
       events = ap (λ (roles : Role → Bool). roles Events) c.in_ok-start.ensures.rest.attached ∙ c.requires.events;
       command = subst (λ (n : ℕ). g.C.LogCommand.ready c.in_ok-start.field-0 n attached) (sym c.new.ensures.entries) c.in_ok-start.ensures.ready;
       buffer = search rules;
-      side = c.new.ensures.side;
+      side = c.new.ensures.side ∙ c.side.ensures;
     }

@@ -10,7 +10,7 @@ use Rattle.receiver_end.specs.State.{mark_after, message_after, run_of}
 use Rattle.recv_command.specs.Recv.{played_text}
 use Rattle.recv_command.specs.Tally.{with_mark}
 use Rattle.recv_command.proofs.Showing.{shown_same}
-use Rattle.recv_command.proofs.recv.ReceivingLogCommand.play.Goals as goal
+use Rattle.recv_command.proofs.recv.ReceivingLogCommand.other.Goals as goal
 
 pub returns-clause-stands : goal.returns-clause-stands
 returns-clause-stands g c = λ s stands.

@@ -1,0 +1,21 @@
+//! What a run of the command comes to. The law is the contract of a function that does nothing
+//! else.
+ghost use Rattle.std.specs.Prelude.{◌≡◌, ℕ, List};
+ghost use Rattle.h263_types.specs.declared.params.Params.{Params};
+ghost use Rattle.h263_outside.specs.declared.desk.Role.{Role};
+ghost use Rattle.y4m.specs.declared.fault.Y4mFault.{Y4mFault};
+ghost use Rattle.call_report.specs.declared.status.Status.TheVariants.{VideoRefused};
+ghost use Rattle.desk_program.specs.Run.{run_from};
+ghost use Rattle.audit_command.specs.Audit.{audit_begin, audit_step};
+
+use crate::Auditing;
+use log_command::laws::no_video_refused as none_over_a_log;
+
+/// There is no video that could be refused.
+pub fn no_video_refused()
+    ensures { (p : Params) (inputs : Role → List ℕ) (fault : Y4mFault)
+        → (run_from (audit_begin p inputs) audit_step 16777216 inputs).last.status
+        ≡ VideoRefused fault → ⊥ }
+{
+    none_over_a_log::<Auditing>()
+}

@@ -1,0 +1,107 @@
+-- What is judged of a packet is what the rules say of it.
+use Rattle.std.proofs.Common.{◌∙◌, ap, None, ◌≡◌, ℕ, zero, suc, ◌-◌, ◌<◌, Bool, true, false, ◌&&◌, refl, sym, subst, arith, inl, inr, Some, Option, List, [], ◌∷◌, Ok, Result, eqb}
+use Rattle.std.specs.Prelude.{if◌then◌else◌, not}
+use Rattle.std.specs.Option.{option_map, option_map_or}
+use Rattle.std.proofs.lemmas.Bool.{cases_Bool, eq-eqb, ne_eqb, false≢true}
+use Rattle.h263_bits.specs.declared.fault.Fault.{Fault}
+use Rattle.h263_types.specs.declared.blocks.Mb.{Mb}
+use Rattle.h263_types.specs.declared.clock.Clock.{Clock}
+use Rattle.h263_types.specs.declared.clock.Clock.TheVariants.{Standard, Custom}
+use Rattle.h263_types.specs.Clocks.{half_of}
+use Rattle.packet_collector.specs.declared.piece.Piece.{Piece}
+use Rattle.call_model.specs.Coding as call
+use Rattle.call_model.specs.Receiving.{none_in}
+use Rattle.call_model.specs.Lawful.{IsDecoding}
+use Rattle.call_decoding.specs.Rules.{rules_of}
+use Rattle.call_decoding.specs.Styles.{Style, header_of}
+use Rattle.stream_audit.specs.declared.kept.Kept.{Kept}
+use Rattle.stream_audit.specs.declared.verdict.Broken.{Broken}
+use Rattle.stream_audit.specs.declared.verdict.Rule.{Rule}
+use Rattle.stream_audit.specs.declared.verdict.Rule.TheVariants as rule
+use Rattle.receiver_end.specs.Decoding.{decoding}
+use Rattle.call_encoding.specs.Messages.{read_message}
+use Rattle.stream_audit.specs.State.{Fits, Keeps, Spells}
+use Rattle.stream_audit.specs.Stream.{Item, Part, Picture, begun_by, StreamPicture, is_of, last_picture, pictures_in, with_packet, with_part}
+use Rattle.stream_audit.specs.Verdict.{broken_at, broken_by, broken_next, broken_within, has, present}
+use Rattle.stream_audit.proofs.Headers.{same_header_is}
+
+half_tells : (a b : Clock) → half_of a ≡ half_of b → a ≡ b
+half_tells Standard Standard e = refl
+half_tells Custom Custom e = refl
+half_tells Standard Custom e = absurd (omega (arith, e))
+half_tells Custom Standard e = absurd (omega (arith, e))
+
+positive : (n : ℕ) → (n ≡ 0 → ⊥) → 0 < n
+positive zero none = absurd (none refl)
+positive (suc n) none = omega arith
+
+-- where a temporal reference is the last picture's, there is one
+pub some_before : (k : Kept) → Fits k → (number : ℕ) → option_map_or (λ n. eqb n number) k.tr false ≡ true → 0 < k.pictures
+some_before k fits number is =
+    positive k.pictures (λ first. false≢true (ap (λ (o : Option ℕ). option_map_or (λ n. eqb n number) o false) (sym (fits.before_first first).0) ∙ is))
+
+-- a packet is of the last picture where it has that one's temporal reference
+pub last_own : (k : Kept) (items : List (Item Style Mb)) (piece : Piece) (q : call.Piece Style Mb) → Keeps k items → Spells piece q
+    → option_map_or (λ n. eqb n piece.header.tr) k.tr false ≡ is_of (last_picture items) q
+last_own k items piece q keeps spells =
+    ap (λ (o : Option ℕ). option_map_or (λ n. eqb n piece.header.tr) o false) keeps.tr ∙ go (last_picture items)
+  where
+    number : piece.header.tr ≡ q.header.number
+    number = ap (λ (h : call.Header Style). h.number) (sym spells.header)
+
+    go : (o : Option (StreamPicture Style Mb)) → option_map_or (λ n. eqb n piece.header.tr) (option_map (λ p. p.header.number) o) false ≡ is_of o q
+    go None = refl
+    go (Some p) = ap (λ (n : ℕ). eqb p.header.number n) number
+
+module _ (k : Kept) (items : List (Item Style Mb)) (part : Part Style Mb) (piece : Piece) (keeps : Keeps k items) (spells : Spells piece part.piece) where
+  abbrev By : Option Broken
+  By = broken_by (decoding k.params.format) (read_message k.params.clock) (rules_of k.params) items (Ok part.piece)
+
+  here : present items ≡ k.pictures - 1
+  here = ap (λ (n : ℕ). n - 1) (sym keeps.count)
+
+  half : part.piece.header.half ≡ half_of piece.header.clock
+  half = ap (λ (h : call.Header Style). h.half) spells.header
+
+  same_half : piece.header.clock ≡ k.params.clock → eqb part.piece.header.half (half_of k.params.clock) ≡ true
+  same_half same = eq-eqb part.piece.header.half (half_of k.params.clock) (half ∙ ap half_of same)
+
+  pub at_other : (piece.header.clock ≡ k.params.clock → ⊥) → Some (broken_at (k.pictures - 1) rule.Packet) ≡ By
+  at_other differ =
+      let no : eqb part.piece.header.half (half_of k.params.clock) ≡ false = ne_eqb part.piece.header.half (half_of k.params.clock) (λ (e : part.piece.header.half ≡ half_of k.params.clock). differ (half_tells piece.header.clock k.params.clock (sym half ∙ e))) in
+      ap (λ (n : ℕ). Some (broken_at n rule.Packet)) (sym here) ∙ sym (rw no refl)
+
+  pub own_picture : is_of (last_picture items) part.piece ≡ true → (p : StreamPicture Style Mb) × (last_picture items ≡ Some p)
+  own_picture own = go (last_picture items) refl own
+    where
+      go : (o : Option (StreamPicture Style Mb)) → last_picture items ≡ o → is_of o part.piece ≡ true → (p : StreamPicture Style Mb) × (last_picture items ≡ Some p)
+      go None is own = absurd (false≢true own)
+      go (Some p) is own = (p, is)
+
+  pub at_own : piece.header.clock ≡ k.params.clock → is_of (last_picture items) part.piece ≡ true → (p : StreamPicture Style Mb) → last_picture items ≡ Some p
+      → (o : Option Rule) → o ≡ broken_within (decoding k.params.format) (read_message k.params.clock) (rules_of k.params) (Some p) part.piece
+      → option_map (broken_at (k.pictures - 1)) o ≡ By
+  at_own same own p is o at =
+      ap (λ (n : ℕ). option_map (broken_at n) o) (sym here)
+      ∙ ap (option_map (broken_at (present items))) (at ∙ ap (λ (x : Option (StreamPicture Style Mb)). broken_within (decoding k.params.format) (read_message k.params.clock) (rules_of k.params) x part.piece) (sym is))
+      ∙ sym (rw (same_half same, own) refl)
+
+  pub at_next : piece.header.clock ≡ k.params.clock → is_of (last_picture items) part.piece ≡ false → broken_next (decoding k.params.format) (read_message k.params.clock) (rules_of k.params) items part.piece ≡ By
+  at_next same next = sym (rw (same_half same, next) refl)
+
+  pub kept_own : (new : Kept) → is_of (last_picture items) part.piece ≡ true → Keeps new (with_part items part) → Keeps new (with_packet items part)
+  kept_own new own keeps' = rw own keeps'
+
+  pub kept_next : (new : Kept) → is_of (last_picture items) part.piece ≡ false → Keeps new (Picture (begun_by part) ∷ items) → Keeps new (with_packet items part)
+  kept_next new next keeps' = rw next keeps'
+
+  -- a packet of the last picture that breaks nothing has its header
+  pub one_header : IsDecoding (decoding k.params.format) (rules_of k.params) → (p : StreamPicture Style Mb) → None ≡ broken_within (decoding k.params.format) (read_message k.params.clock) (rules_of k.params) (Some p) part.piece → part.piece.header ≡ p.header
+  one_header lawful p none =
+      elim (cases_Bool (call.same_header (decoding k.params.format) p.header part.piece.header)) [
+        | inl same ↦ sym (same_header_is (decoding k.params.format) (rules_of k.params) lawful p.header part.piece.header same)
+        | inr other ↦ absurd (differ (none ∙ rw other refl))
+      ]
+    where
+      differ : None ≡ Some rule.Header → ⊥
+      differ e = cc

@@ -1,0 +1,13 @@
+pub mod Lists
+pub mod Streams
+pub mod Headers
+pub mod Verdicts
+pub mod Periods
+pub mod Known
+pub mod Calls
+pub mod Replays
+pub mod Keeping
+pub mod Beginning
+pub mod Adding
+pub mod Judged
+pub mod Standing

@@ -1,0 +1,391 @@
+-- The replay of a stream goes with the call of its sender, event by event.
+use Rattle.std.proofs.Common.{Ok, ◌∙◌, ap, None, ◌≡◌, ℕ, zero, suc, ◌+◌, ◌%◌, ◌<◌, ◌≤◌, Bool, true, false, ◌&&◌, refl, sym, subst, arith, inl, inr, ◌⊎◌, Some, Option, List, [], ◌∷◌, ◌++◌, length, length-append, eqb, ltb, leb}
+use Rattle.std.specs.Prelude.{if◌then◌else◌, Result, slice_get, map, not, option_and_then}
+use Rattle.std.specs.Option.{option_map, option_map_or}
+use Rattle.std.specs.Result.{result_ok}
+use Rattle.std.proofs.lemmas.List.{append-nil, map-append}
+use Rattle.std.proofs.lemmas.Bool.{cases_lt, cases_Bool, and_from, or_left, or_right, lt-ltb, le-ltb, lt-leb, le-leb, eq-eqb}
+use Rattle.std.proofs.lemmas.Option.{slice_get_cases, slice_get-map, slice_get_within}
+use Rattle.call_model.specs.Numbers.{all_below, AllBelowIs}
+use Rattle.call_model.specs.Coding.{Rules, window, period, Slice, Header, Piece, Message, Ack, Mark, Exact, Patched, Held, Shown, Pictures, Decoding, reconstruction_of_slices}
+use Rattle.call_model.specs.CodedPictures.{Coded, picture_at, is_among}
+use Rattle.call_model.specs.Before.{played_before, IsOpen, ArrivedByEvents, WasDelivered}
+use Rattle.call_model.specs.IdealCall.{Event, Send, Deliver, Play, Back, NumberedMessage, Got, Lost, about, told_full, Arrival, Call, Source, has_arrived, with_arrival, is_open, slices_at, is_full, newest_full, full_flags, delivery_counts, shown_at, after, call_from, MayHappen, AllMayHappenFrom}
+use Rattle.call_model.specs.Sending.{NearestIsInPeriod, header_of, nearest_below, known_by_feedback, made_known}
+use Rattle.call_model.specs.Receiving.{ReceiverRun, Heard, Late, Early, Repeat, Completed, Taken, heard, after_packet, after_play, played_message, played_mark, played_shown, nack, receiver_run}
+use Rattle.call_model.specs.Sound.{IsSoundPicture, IsPacket, Packets, IsSoundEvent, AllSound, received, delivery_answer, play_message, FollowsTheCall, AnySoundSender, NoneRefused, is_refused}
+use Rattle.call_model.specs.TwoStores.{travelling}
+use Rattle.call_model.specs.Lawful.{IsDecoding, IsRules}
+use Rattle.stream_audit.specs.Stream.{Part, StreamPicture, Item, Picture, Feedback, pictures_in, picture_in, slices_of, packets_of, packets_in, known_of}
+use Rattle.stream_audit.specs.Sound.{IsSound, IsSoundAfter}
+use Rattle.stream_audit.specs.Replay.{MessageAbout, Replay, item_at, said_to, CameInTime, after_bytes, said_at_play, replay, MayHappenIn, AllMayHappenIn, NoneIsRefused, ExactWhereAllCame, ReadsInPeriod}
+use Rattle.stream_audit.proofs.Lists.{slice_get_push}
+use Rattle.stream_audit.proofs.Streams.{item_next, split_next, pictures_more, picture_here, sound_before, sound_at}
+
+use Rattle.stream_audit.proofs.Calls.{CallLaws, told_of, map_two, length_map, coded_of, source, packets, call, IsOf, At, says, no_count, told_by_play, slices_are, is_full_from, exact_where_full, header_is, header_of_is}
+
+module _ {Style Mb P Fault MessageFault : Type 0} (decoding : Decoding Style Mb P Fault) (read : List ℕ → Result Message MessageFault) (rules : Rules) (in_period : ReadsInPeriod decoding rules) (laws : CallLaws decoding rules) (stream : List (Item Style Mb)) (sound : IsSound decoding read rules stream) where
+  abbrev src : Source Style Mb P
+  src = source decoding read rules stream
+
+  abbrev pks : Packets Style Mb P
+  pks = packets decoding read rules stream
+
+  abbrev cl : List Event → Call Style Mb P
+  cl past = call decoding read rules stream past
+
+  abbrev rp : List Event → Replay Style Mb P
+  rp past = replay decoding read rules stream past
+
+  follows_at : (past : List Event) → At decoding read rules stream past → FollowsTheCall decoding rules src pks (pictures_in stream) past
+  follows_at past at = laws.sender src pks (pictures_in stream) past at.near at.all_sound
+
+  played_is : (past : List Event) → At decoding read rules stream past → (rp past).receiver.played ≡ (cl past).played
+  played_is past at = ap (λ (r : ReceiverRun Style Mb P). r.played) at.receiver ∙ (follows_at past at).state.played
+
+  -- ---- a picture that is sent is sound
+
+  sound_send : (past : List Event) (at : At decoding read rules stream past) (p : StreamPicture Style Mb) → IsSoundAfter decoding read rules at.done p → IsSoundPicture decoding.pictures rules (cl past) (coded_of decoding read rules stream (length (cl past).coded) (cl past).coded p)
+  sound_send past at p behind = record {
+    covers = behind.covers;
+    picture = refl;
+    reference = λ m is. named m p.header.reference refl is;
+  }
+    where
+      named : (m : ℕ) (o : Option ℕ) → p.header.reference ≡ o → option_and_then (nearest_below rules (length (cl past).coded)) o ≡ Some m → (length (cl past).coded ≤ m + window rules) × (is_among (cl past).known m ≡ true)
+      named m None header is = absurd (differ is)
+        where
+          differ : None ≡ Some m → ⊥
+          differ e = cc
+      named m (Some rest) header is =
+          let r = behind.reference rest header in
+          let there : nearest_below rules (length (cl past).coded) rest ≡ Some r.0 = ap (λ (k : ℕ). nearest_below rules k rest) (sym at.pictures) ∙ r.1 in
+          let same : Some r.0 ≡ Some m = sym there ∙ is in
+          let equal : r.0 ≡ m = cc in
+          (
+            omega (arith, r.2, equal, at.pictures),
+            subst (λ (ks : List ℕ). is_among ks m ≡ true) at.known (subst (λ (k : ℕ). is_among (known_of read rules at.done) k ≡ true) equal r.3),
+          )
+
+  -- ---- a packet that is delivered is that of its slice
+
+  reference_again : (n : ℕ) (o : Option ℕ) → ((rest : ℕ) → o ≡ Some rest → rest < period rules) → ((rest : ℕ) → o ≡ Some rest → (m : ℕ) × (nearest_below rules n rest ≡ Some m)) → option_map (λ m. m % period rules) (option_and_then (nearest_below rules n) o) ≡ o
+  reference_again n None small there = refl
+  reference_again n (Some rest) small there =
+      let r = there rest refl in
+      ap (λ (o : Option ℕ). option_map (λ m. m % period rules) o) r.1 ∙ ap Some (((laws.nearest rules n rest r.0 (small rest refl)).0 r.1).2)
+
+  packet_is : (n j : ℕ) (x : Coded Style Mb P) → IsOf decoding read rules stream n x → IsPacket decoding rules (packets_in stream n) n j x
+  packet_is n j x is_of = record { read_as = read_as; no_other = no_other }
+    where
+      p : StreamPicture Style Mb
+      p = is_of.picture
+
+      behind : (behind : List (Item Style Mb)) × (pictures_in behind ≡ n) × IsSoundAfter decoding read rules behind p
+      behind = sound_at decoding read rules stream n p sound is_of.there
+
+      bytes_at : slice_get (packets_in stream n) j ≡ option_map (λ part. part.bytes) (slice_get p.parts j)
+      bytes_at = ap (λ (o : Option (StreamPicture Style Mb)). slice_get (option_map_or packets_of o []) j) is_of.there ∙ slice_get-map (λ (part : Part Style Mb). part.bytes) p.parts j
+
+      slice_at : slice_get x.slices j ≡ option_map (λ part. part.piece.slice) (slice_get p.parts j)
+      slice_at = ap (λ (l : List (Slice Mb)). slice_get l j) is_of.slices ∙ slice_get-map (λ (part : Part Style Mb). part.piece.slice) p.parts j
+
+      of_part : (part : Part Style Mb) → slice_get p.parts j ≡ Some part → decoding.read part.bytes ≡ Ok (record { header = header_of rules n x; slice = part.piece.slice })
+      of_part part here =
+          let got = behind.2.packets j part here in
+          let reference : option_map (λ m. m % period rules) x.reference ≡ p.header.reference =
+          ap (λ (o : Option ℕ). option_map (λ m. m % period rules) o) is_of.reference
+              ∙ reference_again n p.header.reference
+              (λ rest is. in_period part.bytes part.piece rest got.0 (ap (λ (h : Header Style). h.half) got.1 ∙ behind.2.half) (ap (λ (h : Header Style). h.reference) got.1 ∙ is))
+              (λ rest is. let r = behind.2.reference rest is in (r.0, ap (λ (k : ℕ). nearest_below rules k rest) (sym behind.1) ∙ r.1)) in
+          let number : p.header.number ≡ n % period rules = behind.2.number ∙ ap (λ (k : ℕ). k % period rules) behind.1 in
+          let whole = header_is p.header (n % period rules) (option_map (λ m. m % period rules) x.reference) rules.half number reference behind.2.half in
+          let styled : p.header ≡ header_of rules n x =
+          whole ∙ ap (λ (s : Style). let g : Header Style = record { number = n % period rules; reference = option_map (λ m. m % period rules) x.reference; half = rules.half; style = s } in g) (sym is_of.style) ∙ sym (header_of_is rules n x) in
+          got.0 ∙ ap (λ (h : Header Style). let r : Result (Piece Style Mb) Fault = Ok (record { header = h; slice = part.piece.slice }) in r) (got.1 ∙ styled)
+
+      read_as : (slice : Slice Mb) → slice_get x.slices j ≡ Some slice → (bytes : List ℕ) × (slice_get (packets_in stream n) j ≡ Some bytes) × (decoding.read bytes ≡ Ok (record { header = header_of rules n x; slice = slice }))
+      read_as slice e =
+          elim (slice_get_cases p.parts j).1 [
+            | inl h ↦
+                let here : slice_get p.parts j ≡ Some h.0 = h.2 in
+                let same : Some h.0.piece.slice ≡ Some slice = sym (slice_at ∙ ap (λ (o : Option (Part Style Mb)). option_map (λ part. part.piece.slice) o) here) ∙ e in
+                let equal : h.0.piece.slice ≡ slice = cc in (
+                  h.0.bytes,
+                  bytes_at ∙ ap (λ (o : Option (Part Style Mb)). option_map (λ part. part.bytes) o) here,
+                  of_part h.0 here ∙ ap (λ (s : Slice Mb). let r : Result (Piece Style Mb) Fault = Ok (record { header = header_of rules n x; slice = s }) in r) equal,
+                )
+            | inr h ↦
+                let none : None ≡ Some slice = sym (slice_at ∙ ap (λ (o : Option (Part Style Mb)). option_map (λ part. part.piece.slice) o) h.1) ∙ e in
+                absurd (differ none)
+          ]
+        where
+          differ : None ≡ Some slice → ⊥
+          differ e = cc
+
+      no_other : slice_get x.slices j ≡ None → slice_get (packets_in stream n) j ≡ None
+      no_other e =
+          elim (slice_get_cases p.parts j).1 [
+            | inl h ↦
+                let some : Some h.0.piece.slice ≡ None = sym (slice_at ∙ ap (λ (o : Option (Part Style Mb)). option_map (λ part. part.piece.slice) o) h.2) ∙ e in
+                absurd (differ h.0.piece.slice some)
+            | inr h ↦ bytes_at ∙ ap (λ (o : Option (Part Style Mb)). option_map (λ part. part.bytes) o) h.1
+          ]
+        where
+          differ : (s : Slice Mb) → Some s ≡ None → ⊥
+          differ s e = cc
+
+  -- a picture that was sent has as many slices as packets
+  slices_sent : (past : List Event) → At decoding read rules stream past → (n : ℕ) → n < length (cl past).coded → length (slices_at (cl past).coded n) ≡ length (packets_in stream n)
+  slices_sent past at n sent =
+      elim (slice_get_cases (cl past).coded n).1 [
+        | inl h ↦
+            let o = at.coded n h.0 h.2 in
+            ap length (slices_are (cl past).coded n h.0 h.2)
+            ∙ ap length o.slices
+            ∙ length_map (λ (part : Part Style Mb). part.piece.slice) o.picture.parts
+            ∙ sym (length_map (λ (part : Part Style Mb). part.bytes) o.picture.parts)
+            ∙ ap (λ (q : Option (StreamPicture Style Mb)). length (option_map_or packets_of q [])) (sym o.there)
+        | inr h ↦ absurd (omega (arith, h.0, sent))
+      ]
+
+  -- ---- event by event
+
+  send : (past : List Event) → At decoding read rules stream past → MayHappenIn decoding read rules stream (rp past) Send → At decoding read rules stream (Send ∷ past)
+  send past at near = record {
+    near = ((omega (arith, count, at.pictures), omega (arith, near.2, at.sent, played_is past at)), at.near);
+    all_sound = (λ x is. subst (λ (y : Coded Style Mb P). IsSoundPicture decoding.pictures rules (cl past) y) (one x (sym is_source ∙ is)) (sound_send past at p here_sound), at.all_sound);
+    more = next.0;
+    done = Picture p ∷ at.done;
+    split = split';
+    items = ap (λ (k : ℕ). k + 1) at.items ∙ omega arith;
+    sent = omega (arith, at.sent, ap length coded', length-append (cl past).coded (new ∷ []));
+    pictures = omega (arith, at.pictures, ap length coded', length-append (cl past).coded (new ∷ []));
+    known = at.known;
+    receiver = at.receiver;
+    said = at.said;
+    coded = λ n x got. elim (slice_get_push (cl past).coded new n x (sym (ap (λ (l : List (Coded Style Mb P)). slice_get l n) coded') ∙ got)) [
+      | inl old ↦ at.coded n x old
+      | inr last ↦ record {
+        picture = p;
+        there = ap (λ (k : ℕ). picture_in stream k) last.0 ∙ here;
+        slices = ap (λ (y : Coded Style Mb P). y.slices) last.1;
+        style = ap (λ (y : Coded Style Mb P). y.style) last.1;
+        reference = ap (λ (y : Coded Style Mb P). y.reference) last.1 ∙ ap (λ (k : ℕ). option_and_then (nearest_below rules k) p.header.reference) (sym last.0);
+      }
+    ];
+  }
+    where
+      p : StreamPicture Style Mb
+      p = near.0
+
+      next : (before : List (Item Style Mb)) × (at.more ≡ before ++ Picture p ∷ [])
+      next = item_next at.more at.done (Picture p) (ap (λ (l : List (Item Style Mb)). item_at l (length at.done)) (sym at.split) ∙ ap (item_at stream) (sym at.items) ∙ near.1)
+
+      split' : stream ≡ next.0 ++ Picture p ∷ at.done
+      split' = split_next stream at.more at.done next.0 (Picture p) at.split next.1
+
+      here : picture_in stream (length (cl past).coded) ≡ Some p
+      here = ap (picture_in stream) (sym at.pictures) ∙ ap (λ (l : List (Item Style Mb)). picture_in l (pictures_in at.done)) split' ∙ picture_here next.0 at.done p
+
+      new : Coded Style Mb P
+      new = coded_of decoding read rules stream (length (cl past).coded) (cl past).coded p
+
+      is_source : src (cl past) ≡ Some new
+      is_source = ap (λ (o : Option (StreamPicture Style Mb)). option_map (coded_of decoding read rules stream (length (cl past).coded) (cl past).coded) o) here
+
+      coded' : (cl (Send ∷ past)).coded ≡ (cl past).coded ++ new ∷ []
+      coded' = ap (λ (o : Option (Coded Style Mb P)). (cl past).coded ++ option_map_or (λ x. x ∷ []) o []) is_source
+
+      here_sound : IsSoundAfter decoding read rules at.done p
+      here_sound = (sound_before decoding read rules next.0 (Picture p ∷ at.done) (subst (λ (l : List (Item Style Mb)). IsSound decoding read rules l) split' sound)).0
+
+      count : pictures_in at.done + 1 ≤ pictures_in stream
+      count = let more : pictures_in (Picture p ∷ at.done) ≤ pictures_in (next.0 ++ Picture p ∷ at.done) = pictures_more next.0 (Picture p ∷ at.done) in omega (arith, ap pictures_in split')
+
+      one : (x : Coded Style Mb P) → Some new ≡ Some x → new ≡ x
+      one x e = cc
+
+  deliver : (past : List Event) (n j : ℕ) → At decoding read rules stream past → MayHappenIn decoding read rules stream (rp past) (Deliver n j) → At decoding read rules stream (Deliver n j ∷ past)
+  deliver past n j at near =
+      elim (slice_get_cases (packets_in stream n) j).1 [ inl h ↦ of_packet h.0 h.2 | inr h ↦ of_none h.1 h.0 ]
+    where
+      near' : MayHappen rules (pictures_in stream) (cl past) (Deliver n j)
+      near' = (omega (arith, near.0, at.sent), omega (arith, near.1, played_is past at))
+
+      sound' : IsSoundEvent decoding rules src pks (cl past) (Deliver n j)
+      sound' x at_n = packet_is n j x (at.coded n x at_n)
+
+      of_packet : (bytes : List ℕ) → slice_get (packets_in stream n) j ≡ Some bytes → At decoding read rules stream (Deliver n j ∷ past)
+      of_packet bytes e =
+          let w' : rp (Deliver n j ∷ past) ≡ after_bytes decoding read rules stream (rp past) n bytes = ap (λ (o : Option (List ℕ)). option_map_or (after_bytes decoding read rules stream (rp past) n) o (rp past)) e in
+          let r' : received decoding rules src pks (Deliver n j ∷ past) ≡ after_packet decoding rules bytes (received decoding rules src pks past) = ap (λ (o : Option (List ℕ)). option_map_or (λ bytes. after_packet decoding rules bytes (received decoding rules src pks past)) o (received decoding rules src pks past)) e in
+          let answer : heard decoding rules (rp past).receiver (decoding.read bytes) ≡ delivery_answer rules (cl past) n j = ap (λ (r : ReceiverRun Style Mb P). heard decoding rules r (decoding.read bytes)) at.receiver ∙ (follows_at past at).answers n j bytes near' sound' e in
+          let said' : (rp past).said ++ said_to n (heard decoding rules (rp past).receiver (decoding.read bytes)) ≡ map (told_of rules) (cl (Deliver n j ∷ past)).said =
+          ap (λ (h : Heard Fault). (rp past).said ++ said_to n h) answer
+              ∙ ap (λ (l : List MessageAbout). (rp past).said ++ l) (says Fault rules (cl past) n j (omega (arith, slice_get_within (packets_in stream n) j bytes e, slices_sent past at n near'.0)))
+              ∙ ap (λ (l : List MessageAbout). l ++ map (told_of rules) (if delivery_counts rules (cl past) n j && is_full (cl past).coded (with_arrival (cl past).arrivals n j) n then Got n (full_flags rules (cl past).coded (with_arrival (cl past).arrivals n j) n) ∷ [] else [])) at.said
+              ∙ map_two (told_of rules) (cl past).said _ in
+          record {
+            near = (near', at.near);
+            all_sound = (sound', at.all_sound);
+            more = at.more;
+            done = at.done;
+            split = at.split;
+            items = ap (λ (w : Replay Style Mb P). w.items) w' ∙ at.items;
+            sent = ap (λ (w : Replay Style Mb P). w.sent) w' ∙ at.sent;
+            pictures = at.pictures;
+            known = at.known;
+            receiver = ap (λ (w : Replay Style Mb P). w.receiver) w' ∙ ap (after_packet decoding rules bytes) at.receiver ∙ sym r';
+            said = ap (λ (w : Replay Style Mb P). w.said) w' ∙ said';
+            coded = at.coded;
+          }
+
+      of_none : slice_get (packets_in stream n) j ≡ None → length (packets_in stream n) ≤ j → At decoding read rules stream (Deliver n j ∷ past)
+      of_none e far =
+          let w' : rp (Deliver n j ∷ past) ≡ rp past = ap (λ (o : Option (List ℕ)). option_map_or (after_bytes decoding read rules stream (rp past) n) o (rp past)) e in
+          let r' : received decoding rules src pks (Deliver n j ∷ past) ≡ received decoding rules src pks past = ap (λ (o : Option (List ℕ)). option_map_or (λ bytes. after_packet decoding rules bytes (received decoding rules src pks past)) o (received decoding rules src pks past)) e in
+          let counts : delivery_counts rules (cl past) n j ≡ false = no_count rules (cl past) n j (omega (arith, far, slices_sent past at n near'.0)) in
+          let c' : (cl (Deliver n j ∷ past)).said ≡ (cl past).said =
+          ap (λ (b : Bool). (cl past).said ++ (if b && is_full (cl past).coded (with_arrival (cl past).arrivals n j) n then Got n (full_flags rules (cl past).coded (with_arrival (cl past).arrivals n j) n) ∷ [] else [])) counts
+              ∙ append-nil (cl past).said in
+          record {
+            near = (near', at.near);
+            all_sound = (sound', at.all_sound);
+            more = at.more;
+            done = at.done;
+            split = at.split;
+            items = ap (λ (w : Replay Style Mb P). w.items) w' ∙ at.items;
+            sent = ap (λ (w : Replay Style Mb P). w.sent) w' ∙ at.sent;
+            pictures = at.pictures;
+            known = at.known;
+            receiver = ap (λ (w : Replay Style Mb P). w.receiver) w' ∙ at.receiver ∙ sym r';
+            said = ap (λ (w : Replay Style Mb P). w.said) w' ∙ at.said ∙ ap (map (told_of rules)) (sym c');
+            coded = at.coded;
+          }
+
+  play : (past : List Event) → At decoding read rules stream past → MayHappenIn decoding read rules stream (rp past) Play → At decoding read rules stream (Play ∷ past)
+  play past at near =
+      let near' : MayHappen rules (pictures_in stream) (cl past) Play = omega (arith, near, at.sent, played_is past at) in
+      let follows = follows_at past at in
+      let says' = (follows.plays near').1 in
+      record {
+        near = (near', at.near);
+        all_sound = (tt, at.all_sound);
+        more = at.more;
+        done = at.done;
+        split = at.split;
+        items = at.items;
+        sent = at.sent;
+        pictures = at.pictures;
+        known = at.known;
+        receiver = ap (after_play decoding rules) at.receiver;
+        said = ap (λ (r : ReceiverRun Style Mb P). (rp past).said ++ said_at_play decoding read rules stream r) at.receiver
+            ∙ ap (λ (k : ℕ). (rp past).said ++ option_map_or (λ m. let t : MessageAbout = record { about = k; message = m } in t ∷ []) (played_message decoding rules (received decoding rules src pks past)) []) follows.state.played
+            ∙ ap (λ (o : Option Message). (rp past).said ++ option_map_or (λ m. let t : MessageAbout = record { about = (cl past).played; message = m } in t ∷ []) o []) says'
+            ∙ ap (λ (l : List MessageAbout). (rp past).said ++ l) (told_by_play rules (cl past))
+            ∙ ap (λ (l : List MessageAbout). l ++ map (told_of rules) (if is_full (cl past).coded (cl past).arrivals (cl past).played then [] else Lost (cl past).played (newest_full rules (cl past).coded (cl past).arrivals (cl past).played) (full_flags rules (cl past).coded (cl past).arrivals (cl past).played) ∷ [])) at.said
+            ∙ map_two (told_of rules) (cl past).said _;
+        coded = at.coded;
+      }
+
+  back : (past : List Event) (k : ℕ) → At decoding read rules stream past → MayHappenIn decoding read rules stream (rp past) (Back k) → At decoding read rules stream (Back k ∷ past)
+  back past k at near =
+      elim (slice_get_cases (cl past).said k).1 [ inl h ↦ of_note h.0 h.2 | inr h ↦ absurd (differ (sym (told_there ∙ ap (option_map (told_of rules)) h.1) ∙ near.2)) ]
+    where
+      differ : None ≡ Some near.0 → ⊥
+      differ e = cc
+
+      told_there : slice_get (rp past).said k ≡ option_map (told_of rules) (slice_get (cl past).said k)
+      told_there = ap (λ (l : List MessageAbout). slice_get l k) at.said ∙ slice_get-map (told_of rules) (cl past).said k
+
+      next : (before : List (Item Style Mb)) × (at.more ≡ before ++ Feedback near.1 ∷ [])
+      next = item_next at.more at.done (Feedback near.1) (ap (λ (l : List (Item Style Mb)). item_at l (length at.done)) (sym at.split) ∙ ap (item_at stream) (sym at.items) ∙ near.3)
+
+      of_note : (note : NumberedMessage) → slice_get (cl past).said k ≡ Some note → At decoding read rules stream (Back k ∷ past)
+      of_note note there =
+          let same : Some (told_of rules note) ≡ Some near.0 = sym (told_there ∙ ap (option_map (told_of rules)) there) ∙ near.2 in
+          let told : told_of rules note ≡ near.0 = cc in
+          let close : length (cl past).coded < about note + rules.half = omega (arith, near.5, at.sent, ap (λ (t : MessageAbout). t.about) told) in
+          let learned = ((follows_at past at).messages k note there).known close in
+          let reads : read near.1 ≡ Ok (travelling rules note) = near.4 ∙ ap (λ (t : MessageAbout). let r : Result Message MessageFault = Ok t.message in r) (sym told) in
+          let made : known_by_feedback rules (pictures_in at.done) (result_ok (read near.1)) ≡ told_full note =
+          ap (λ (r : Result Message MessageFault). known_by_feedback rules (pictures_in at.done) (result_ok r)) reads
+              ∙ ap (λ (n : ℕ). known_by_feedback rules n (Some (travelling rules note))) at.pictures
+              ∙ ap (λ (o : Option (List ℕ)). option_map_or (λ numbers. numbers) o []) learned in
+          let known' : (cl (Back k ∷ past)).known ≡ told_full note ++ (cl past).known = ap (λ (o : Option NumberedMessage). option_map_or told_full o [] ++ (cl past).known) there in
+          record {
+            near = ((note, there, close), at.near);
+            all_sound = (tt, at.all_sound);
+            more = next.0;
+            done = Feedback near.1 ∷ at.done;
+            split = split_next stream at.more at.done next.0 (Feedback near.1) at.split next.1;
+            items = ap (λ (i : ℕ). i + 1) at.items ∙ omega arith;
+            sent = at.sent;
+            pictures = at.pictures;
+            known = ap (λ (l : List ℕ). l ++ known_of read rules at.done) made ∙ ap (λ (l : List ℕ). told_full note ++ l) at.known ∙ sym known';
+            receiver = at.receiver;
+            said = at.said;
+            coded = at.coded;
+          }
+
+  pub call_at : (past : List Event) → AllMayHappenIn decoding read rules stream past → At decoding read rules stream past
+  call_at [] near = record {
+    near = tt;
+    all_sound = tt;
+    more = stream;
+    done = [];
+    split = sym (append-nil stream);
+    items = refl;
+    sent = refl;
+    pictures = refl;
+    known = refl;
+    receiver = refl;
+    said = refl;
+    coded = λ n x e. cc;
+  }
+  call_at (Send ∷ past) near = send past (call_at past near.1) near.0
+  call_at (Deliver n j ∷ past) near = deliver past n j (call_at past near.1) near.0
+  call_at (Play ∷ past) near = play past (call_at past near.1) near.0
+  call_at (Back k ∷ past) near = back past k (call_at past near.1) near.0
+
+  -- ---- what the law says
+
+  pub none_is_refused : NoneIsRefused decoding read rules stream
+  none_is_refused past n j bytes near e =
+      let at = call_at past near.1 in
+      let near' : MayHappen rules (pictures_in stream) (cl past) (Deliver n j) = (omega (arith, near.0.0, at.sent), omega (arith, near.0.1, played_is past at)) in
+      let answer = (follows_at past at).answers n j bytes near' (λ x at_n. packet_is n j x (at.coded n x at_n)) e in
+      ap (λ (r : ReceiverRun Style Mb P). is_refused (heard decoding rules r (decoding.read bytes))) at.receiver
+      ∙ ap is_refused answer
+      ∙ laws.not_refused rules (cl past) n j
+
+  -- what came in time was delivered
+  delivered : (past : List Event) → AllMayHappenIn decoding read rules stream past → (n j : ℕ) → j < length (packets_in stream n) → CameInTime rules past n j → WasDelivered decoding.pictures rules src past n j
+  delivered [] near n j lt came = came
+  delivered (Send ∷ past) near n j lt came = delivered past near.1 n j lt came
+  delivered (Play ∷ past) near n j lt came = delivered past near.1 n j lt came
+  delivered (Back k ∷ past) near n j lt came = delivered past near.1 n j lt came
+  delivered (Deliver m i ∷ past) near n j lt came =
+      let before = delivered past near.1 n j lt in
+      elim came [
+        | inl now ↦
+            let at = call_at past near.1 in
+            let slices = slices_sent past at n (omega (arith, near.0.0, at.sent, now.0)) in
+            inl (now.0, now.1, now.2, omega (arith, lt, slices))
+        | inr old ↦ inr (before old)
+      ]
+
+  pub exact_where_all_came : ExactWhereAllCame decoding read rules stream
+  exact_where_all_came past near all =
+      let at = call_at past near.1 in
+      let near' : MayHappen rules (pictures_in stream) (cl past) Play = omega (arith, near.0, at.sent, played_is past at) in
+      let each : (j : ℕ) → j < length (packets_in stream (cl past).played) → CameInTime rules past (cl past).played j =
+      subst (λ (k : ℕ). (j : ℕ) → j < length (packets_in stream k) → CameInTime rules past k j) (played_is past at) all in
+      let slices = slices_sent past at (cl past).played near' in
+      let full : is_full (cl past).coded (cl past).arrivals (cl past).played ≡ true =
+      is_full_from laws.below (cl past).coded (cl past).arrivals (cl past).played near'
+          (λ j lt. let fits : j < length (packets_in stream (cl past).played) = omega (arith, slices) in (laws.arrived src past (cl past).played j).1 (delivered past near.1 (cl past).played j fits (each j fits))) in
+      ap (played_mark decoding rules) at.receiver
+      ∙ ap (λ (s : Shown P). s.mark) ((follows_at past at).plays near').0
+      ∙ exact_where_full decoding.pictures (cl past).coded (cl past).arrivals (cl past).plays (cl past).played full

@@ -1,0 +1,69 @@
+-- What an audit stands for after one entry more.
+use Rattle.std.proofs.Common.{◌∙◌, ap, None, ◌≡◌, ℕ, ◌-◌, refl, sym, subst, Some, Option, List, ◌∷◌, Ok, Err, Result}
+use Rattle.h263_bits.specs.declared.fault.Fault.{Fault}
+use Rattle.h263_types.specs.declared.blocks.Mb.{Mb}
+use Rattle.h263_types.specs.declared.params.Params.{Params}
+use Rattle.call_model.specs.Coding as call
+use Rattle.call_decoding.specs.Styles.{Style}
+use Rattle.receiver_end.specs.Decoding.{decoding}
+use Rattle.stream_audit.specs.declared.kept.Kept.{Kept}
+use Rattle.stream_audit.specs.declared.verdict.Broken.{Broken}
+use Rattle.stream_audit.specs.declared.verdict.Rule.TheVariants as rule
+use Rattle.stream_audit.specs.Logs.{broken_by_on, broken_in_on, first_broken_on, stream_on}
+use Rattle.stream_audit.specs.State.{IsJudged, Keeps, Stands}
+use Rattle.stream_audit.specs.Stream.{Feedback, Fed, LogEntry, Sent, with_bytes}
+use Rattle.stream_audit.specs.Verdict.{broken_at, first_of}
+
+pub none_left : (b : Broken) (o : Option Broken) → o ≡ Some b → o ≡ None → ⊥
+none_left b o e f = differ (sym e ∙ f)
+  where
+    differ : Some b ≡ None → ⊥
+    differ e = cc
+
+-- after a broken rule nothing changes
+pub stays_broken : (k : Kept) (past : List LogEntry) (e : LogEntry) (b : Broken) → k.broken ≡ Some b → Stands k past → Stands k (e ∷ past)
+stays_broken k past e b is stands = record {
+  broken =
+      is
+      ∙ ap (λ (o : Option Broken). first_of o (broken_in_on k.params (stream_on k.params past) e)) (sym is ∙ stands.broken);
+  keeps = λ none. absurd (none_left b k.broken is none);
+}
+
+module _ (k : Kept) (past : List LogEntry) (stands : Stands k past) (going : k.broken ≡ None) where
+  -- where no rule was broken before, the new entry decides
+  first_is : (e : LogEntry) → first_broken_on k.params (e ∷ past) ≡ broken_in_on k.params (stream_on k.params past) e
+  first_is e =
+      ap (λ (o : Option Broken). first_of o (broken_in_on k.params (stream_on k.params past) e)) (sym stands.broken ∙ going)
+
+  pub unread : (bytes : List ℕ) (fault : Fault) → (decoding k.params.format).read bytes ≡ Err fault
+      → Stands (record k { broken = Some (broken_at (k.pictures - 1) rule.Packet) }) (Sent bytes ∷ past)
+  unread bytes fault read =
+      let now : Option Broken = Some (broken_at (k.pictures - 1) rule.Packet) in
+      let is : broken_in_on k.params (stream_on k.params past) (Sent bytes) ≡ now =
+      ap (broken_by_on k.params (stream_on k.params past)) read
+          ∙ ap (λ (n : ℕ). Some (broken_at (n - 1) rule.Packet)) (sym (stands.keeps going).count) in
+      record { broken = sym (first_is (Sent bytes) ∙ is); keeps = λ none. absurd (none_left _ now refl none) }
+
+  pub judged : (new : Kept) (bytes : List ℕ) (q : call.Piece Style Mb) → new.params ≡ k.params
+      → (decoding k.params.format).read bytes ≡ Ok q
+      → IsJudged k.params (stream_on k.params past) (record { bytes = bytes; piece = q }) new
+      → Stands new (Sent bytes ∷ past)
+  judged new bytes q same read is = record {
+    broken = is.broken
+        ∙ sym (first_is (Sent bytes) ∙ ap (broken_by_on k.params (stream_on k.params past)) read)
+        ∙ ap (λ (p : Params). first_broken_on p (Sent bytes ∷ past)) (sym same);
+    keeps = λ none.
+        subst (λ (p : Params). Keeps new (stream_on p (Sent bytes ∷ past))) (sym same)
+        (subst (λ (r : Result (call.Piece Style Mb) Fault). Keeps new (with_bytes (decoding k.params.format) (stream_on k.params past) bytes r)) (sym read) (is.keeps none));
+  }
+
+  pub fed : (new : Kept) (bytes : List ℕ) → new.params ≡ k.params → new.broken ≡ k.broken
+      → (Keeps k (stream_on k.params past) → Keeps new (Feedback bytes ∷ stream_on k.params past))
+      → Stands new (Fed bytes ∷ past)
+  fed new bytes same broken keeps = record {
+    broken = broken ∙ going
+        ∙ sym (first_is (Fed bytes))
+        ∙ ap (λ (p : Params). first_broken_on p (Fed bytes ∷ past)) (sym same);
+    keeps = λ none.
+        subst (λ (p : Params). Keeps new (stream_on p (Fed bytes ∷ past))) (sym same) (keeps (stands.keeps going));
+  }

@@ -1,0 +1,116 @@
+-- A receiver in a call of a stream: the events deliver the stream's packets, and bring back the
+-- feedback of its log where the receiver has said it.
+use Rattle.std.specs.Prelude.{◌≡◌, ◌⊎◌, ℕ, ◌+◌, ◌<◌, ⊤, false, ◌==◌, List, [], ◌∷◌, ◌++◌, length, slice_get, Option, Some, None, Result, Ok, if◌then◌else◌}
+use Rattle.std.specs.Option.{option_map_or}
+use Rattle.call_model.specs.Coding.{Rules, period, Piece, Message, Exact, Decoding}
+use Rattle.call_model.specs.Before.{IsOpen}
+use Rattle.call_model.specs.IdealCall.{Event, Send, Deliver, Play, Back}
+use Rattle.call_model.specs.Receiving.{ReceiverRun, Heard, Completed, heard, after_packet, after_play, played_message, played_mark, receiver_run}
+use Rattle.call_model.specs.Sound.{is_refused}
+use Rattle.stream_audit.specs.declared.verdict.Verdict.TheVariants.{Yes}
+use Rattle.stream_audit.specs.Stream.{LogEntry, StreamPicture, Item, Picture, Feedback, packets_in, stream_of}
+use Rattle.stream_audit.specs.Verdict.{verdict_of}
+
+-- a message that the receiver said, and the picture that it is about
+pub record MessageAbout : Type 0 where
+  pub about : ℕ
+  pub message : Message
+
+-- how many items of the stream and how many pictures the events have had, the receiver, and what it
+-- said, oldest first
+pub record Replay (Style Mb P : Type 0) : Type 0 where
+  pub items : ℕ
+  pub sent : ℕ
+  pub receiver : ReceiverRun Style Mb P
+  pub said : List MessageAbout
+
+-- item k of a stream, which has the newest first
+abbrev pub item_at : {Style Mb : Type 0} → List (Item Style Mb) → ℕ → Option (Item Style Mb)
+item_at [] k = None
+item_at (item ∷ items) k = if length items == k then Some item else item_at items k
+
+-- what the receiver says to a packet of picture n with this answer
+abbrev pub said_to : {Fault : Type 0} → ℕ → Heard Fault → List MessageAbout
+said_to n (Completed message) = record { about = n; message = message } ∷ []
+said_to n _ = []
+
+-- the packet at place j of picture n was delivered while n was open
+abbrev pub CameInTime : Rules → List Event → ℕ → ℕ → Type 0
+CameInTime rules [] n j = ⊥
+CameInTime rules (Deliver m i ∷ past) n j =
+    ((m ≡ n) × (i ≡ j) × IsOpen rules past n) ⊎ CameInTime rules past n j
+CameInTime rules (_ ∷ past) n j = CameInTime rules past n j
+
+module _ {Style Mb P Fault MessageFault : Type 0} (decoding : Decoding Style Mb P Fault)
+    (read : List ℕ → Result Message MessageFault) (rules : Rules) (stream : List (Item Style Mb)) where
+  abbrev pub after_bytes : Replay Style Mb P → ℕ → List ℕ → Replay Style Mb P
+  after_bytes w n bytes = record w {
+    receiver = after_packet decoding rules bytes w.receiver;
+    said = w.said ++ said_to n (heard decoding rules w.receiver (decoding.read bytes));
+  }
+
+  abbrev pub said_at_play : ReceiverRun Style Mb P → List MessageAbout
+  said_at_play r =
+      option_map_or (λ m. record { about = r.played; message = m } ∷ []) (played_message decoding rules r) []
+
+  -- One event more: the next picture of the stream is sent, a packet of a picture is delivered, the
+  -- next picture is played, or the next feedback of the stream is brought back.
+  abbrev pub after_event : Replay Style Mb P → Event → Replay Style Mb P
+  after_event w Send = record w { items = w.items + 1; sent = w.sent + 1 }
+  after_event w (Deliver n j) = option_map_or (after_bytes w n) (slice_get (packets_in stream n) j) w
+  after_event w Play = record w {
+    receiver = after_play decoding rules w.receiver;
+    said = w.said ++ said_at_play w.receiver;
+  }
+  after_event w (Back k) = record w { items = w.items + 1 }
+
+  -- the receiver after these events, the newest first
+  abbrev pub replay : List Event → Replay Style Mb P
+  replay [] = record { items = 0; sent = 0; receiver = receiver_run decoding rules []; said = [] }
+  replay (e ∷ past) = after_event (replay past) e
+
+  -- The event is in place: the next item of the stream is a picture, the picture was sent, the next
+  -- item is feedback that spells message k. And it is near: its picture is less than half a period
+  -- away.
+  abbrev pub MayHappenIn : Replay Style Mb P → Event → Type 0
+  MayHappenIn w Send = (p : StreamPicture Style Mb) × (item_at stream w.items ≡ Some (Picture p))
+      × (w.sent < w.receiver.played + rules.half)
+  MayHappenIn w (Deliver n j) = (n < w.sent) × (w.receiver.played < n + rules.half)
+  MayHappenIn w Play = w.receiver.played < w.sent
+  MayHappenIn w (Back k) = (told : MessageAbout) × (bytes : List ℕ) × (slice_get w.said k ≡ Some told)
+      × (item_at stream w.items ≡ Some (Feedback bytes)) × (read bytes ≡ Ok told.message)
+      × (w.sent < told.about + rules.half)
+
+  -- so is each event after those before it
+  abbrev pub AllMayHappenIn : List Event → Type 0
+  AllMayHappenIn [] = ⊤
+  AllMayHappenIn (e ∷ past) = MayHappenIn (replay past) e × AllMayHappenIn past
+
+  -- a packet that is delivered is not refused
+  abbrev pub NoneIsRefused : Type 0
+  NoneIsRefused = (past : List Event) (n j : ℕ) (bytes : List ℕ) →
+      AllMayHappenIn (Deliver n j ∷ past) → slice_get (packets_in stream n) j ≡ Some bytes
+      → is_refused (heard decoding rules (replay past).receiver (decoding.read bytes)) ≡ false
+
+  -- a picture whose packets all came in time is marked exact
+  abbrev pub ExactWhereAllCame : Type 0
+  ExactWhereAllCame = (past : List Event) →
+      let n = (replay past).receiver.played in
+      AllMayHappenIn (Play ∷ past)
+      → ((j : ℕ) → j < length (packets_in stream n) → CameInTime rules past n j)
+      → played_mark decoding rules (replay past).receiver ≡ Exact
+
+-- the temporal reference of a reference that is read is below the period of the header's clock
+abbrev pub ReadsInPeriod : {Style Mb P Fault : Type 0} → Decoding Style Mb P Fault → Rules → Type 0
+ReadsInPeriod {Style} {Mb} {P} {Fault} decoding rules = (bytes : List ℕ) (piece : Piece Style Mb) (rest : ℕ)
+    → decoding.read bytes ≡ Ok piece → piece.header.half ≡ rules.half
+    → piece.header.reference ≡ Some rest → rest < period rules
+
+-- Where the verdict on a log is yes, no receiver in any near call of its stream refuses a packet of
+-- it, and each picture whose packets all come in time is exact.
+abbrev pub Audited : {Style Mb P Fault MessageFault : Type 0} → Decoding Style Mb P Fault
+    → (List ℕ → Result Message MessageFault) → Rules → Type 0
+Audited decoding read rules = (log : List LogEntry) (count : ℕ) →
+    verdict_of decoding read rules log ≡ Yes count
+    → NoneIsRefused decoding read rules (stream_of decoding log)
+    × ExactWhereAllCame decoding read rules (stream_of decoding log)

@@ -1,0 +1,55 @@
+-- Logs over pictures of two macroblocks, whose verdicts are computed.
+use Rattle.std.specs.Prelude.{ℕ, ◌+◌, List, [], ◌∷◌}
+use Rattle.call_model.specs.Coding.{Rules}
+use Rattle.call_model.specs.SmallCoding.{small_decoding, small_read_message, SmallStyle, SmallMb}
+use Rattle.call_model.specs.IdealCall.{Event, Send, Deliver, Play, Back}
+use Rattle.stream_audit.specs.declared.verdict.Verdict.{Verdict}
+use Rattle.stream_audit.specs.Stream.{LogEntry, Sent, Fed, Item, stream_of}
+use Rattle.stream_audit.specs.Verdict.{verdict_of}
+use Rattle.stream_audit.specs.Replay.{AllMayHappenIn}
+
+-- rules with so many slots, this lead and this half period
+abbrev small_rules : (slots lead half : ℕ) → Rules
+small_rules slots lead half = record { slots = slots; lead = lead; half = half; chain = 131; mbs = 2; flags = 0 }
+
+-- temporal references of eight bits and a window of twelve pictures; of two bits, with a window of
+-- two pictures, and with a window of one
+abbrev pub wide : Rules
+wide = small_rules 16 3 128
+
+abbrev pub short_period : Rules
+short_period = small_rules 4 1 2
+
+abbrev pub of_two_slots : Rules
+of_two_slots = small_rules 2 0 2
+
+-- the verdict on a log, the newest first
+abbrev pub judged : Rules → List LogEntry → Verdict
+judged rules log = verdict_of small_decoding small_read_message rules log
+
+-- an intra picture in one packet; the left and the right half of one, by the place; and a picture
+-- that refers to the one with this temporal reference
+abbrev pub intra : Rules → ℕ → LogEntry
+intra rules number = Sent (number ∷ 0 ∷ rules.half ∷ 0 ∷ 8 ∷ 0 ∷ 5 ∷ 5 ∷ [])
+
+abbrev pub half_of : Rules → ℕ → ℕ → LogEntry
+half_of rules number place = Sent (number ∷ 0 ∷ rules.half ∷ 0 ∷ 8 ∷ place ∷ 5 ∷ [])
+
+abbrev pub predicted : Rules → ℕ → ℕ → LogEntry
+predicted rules number reference = Sent (number ∷ (reference + 1) ∷ rules.half ∷ 1 ∷ 8 ∷ 0 ∷ 5 ∷ 5 ∷ [])
+
+abbrev pub ack : ℕ → LogEntry
+ack number = Fed (0 ∷ number ∷ [])
+
+abbrev pub nack : ℕ → ℕ → LogEntry
+nack number offered = Fed (1 ∷ number ∷ offered ∷ [])
+
+-- a call of two pictures: the first is sent, delivered and acknowledged, and the second refers to it
+abbrev two_pictures : List (Item SmallStyle SmallMb)
+two_pictures = stream_of small_decoding (predicted wide 1 0 ∷ ack 0 ∷ intra wide 0 ∷ [])
+
+abbrev its_events : List Event
+its_events = Play ∷ Play ∷ Deliver 1 0 ∷ Send ∷ Back 0 ∷ Deliver 0 0 ∷ Send ∷ []
+
+abbrev pub MayHappenAll : Type 0
+MayHappenAll = AllMayHappenIn small_decoding small_read_message wide two_pictures its_events

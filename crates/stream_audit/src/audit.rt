@@ -1,0 +1,115 @@
+//! The audit of a log.
+ghost use Rattle.std.specs.Prelude.{◌≡◌, ◌+◌, ◌≤◌, ◌<◌, ◌^◌, List, [], ◌∷◌, IfOk};
+ghost use Rattle.h263_types.specs.Params.{IsParams};
+
+use crate::kept::Kept;
+use crate::verdict::{Broken, Rule, Verdict};
+use h263_outside::OutOfMemory;
+use h263_types::{Mb, Params};
+use packet_collector::read_packet;
+use receiver_end::laws as receiver_end_laws;
+use std::alloc::Global;
+use std::marker::Model;
+
+/// Judges the log of a stream, entry by entry: packets that were sent, and feedback that had
+/// arrived before the next packet was sent.
+#[derive(Drop)]
+pub struct Audit {
+    kept: Kept,
+    // Room for the macroblocks of a packet, which has that of a whole picture.
+    mbs: Vec<Mb>,
+}
+
+impl Model for Audit {
+    ghost use Rattle.std.specs.Prelude.{◌≡◌, length};
+    ghost use Rattle.h263_types.specs.Sizes.{mbs_of};
+    ghost use Rattle.stream_audit.specs.declared.kept.Kept.{Kept};
+    ghost use Rattle.stream_audit.specs.State.{Fits};
+
+    ghost Value = { Kept };
+
+    ghost view = { λ a. a.kept };
+
+    ghost invariant = { λ a. Fits a.kept × (length a.mbs.items ≡ mbs_of a.kept.params.format) };
+}
+
+impl Audit {
+    ghost use Rattle.stream_audit.specs.Logs.{verdict_on};
+    ghost use Rattle.stream_audit.specs.Stream.{LogEntry, Sent, Fed};
+    ghost use Rattle.stream_audit.specs.State.{Stands};
+
+    /// Nothing was sent. All memory of the audit is taken here.
+    pub fn start(alloc: Global, params: &Params) -> Result<Audit, OutOfMemory>
+        requires { IsParams params.now }
+        ensures params { IfOk result (λ a. a.params ≡ params.now) }
+        ensures pictures { IfOk result (λ a. a.pictures ≡ 0) }
+        ensures stands { IfOk result (λ a. Stands a []) }
+    {
+        let mbs = vec![in alloc; Mb::Skip; params.format.mbs() as usize]?;
+        let kept = Kept::start(alloc, params)?;
+        Ok(Audit { kept, mbs })
+    }
+
+    /// Takes the bytes of a packet. At most 16,777,216 pictures are begun: a log has no more
+    /// entries, and each begins one at most.
+    pub fn packet(&mut self, bytes: &[u8])
+        requires { self.old.pictures < 2 ^ 24 }
+        ensures params { self.new.params ≡ self.old.params }
+        ensures pictures { self.new.pictures ≤ self.old.pictures + 1 }
+        ensures stands { (past : List LogEntry) → Stands self.old past
+            → Stands self.new (Sent bytes.now ∷ past) }
+    {
+        receiver_end_laws::is_decoding();
+        if let Some(_) = self.kept.broken {
+            return;
+        }
+        match read_packet(bytes, self.kept.params.format, &mut self.mbs) {
+            Err(_) => {
+                let number = self.kept.present();
+                self.kept.breaks(number, Rule::Packet);
+            }
+            Ok(piece) => self.kept.judge(&piece),
+        }
+    }
+
+    /// Takes the bytes of a message that had arrived.
+    pub fn feedback(&mut self, bytes: &[u8])
+        ensures params { self.new.params ≡ self.old.params }
+        ensures pictures { self.new.pictures ≡ self.old.pictures }
+        ensures stands { (past : List LogEntry) → Stands self.old past
+            → Stands self.new (Fed bytes.now ∷ past) }
+    {
+        match self.kept.broken {
+            Some(_) => {}
+            None => self.kept.note(bytes),
+        }
+    }
+
+    /// The verdict, were the log at its end.
+    pub fn verdict(&self) -> Verdict
+        ensures { (past : List LogEntry) → Stands self.now past
+            → result ≡ verdict_on self.now.params past }
+    {
+        match self.kept.broken {
+            Some(Broken { number, rule }) => Verdict::No { number, rule },
+            None => {
+                if self.kept.is_whole() {
+                    let pictures = self.kept.pictures;
+                    Verdict::Yes { pictures }
+                } else {
+                    let number = self.kept.present();
+                    let rule = Rule::Gap;
+                    Verdict::No { number, rule }
+                }
+            }
+        }
+    }
+
+    /// The verdict on the log.
+    pub fn close(self) -> Verdict
+        ensures { (past : List LogEntry) → Stands self past
+            → result ≡ verdict_on self.params past }
+    {
+        self.verdict()
+    }
+}

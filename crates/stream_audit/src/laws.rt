@@ -1,0 +1,53 @@
+//! What a yes of an audit promises. Each law is the contract of a function that does nothing else.
+ghost use Rattle.std.specs.Prelude.{ℕ, List, Result};
+ghost use Rattle.h263_types.specs.declared.params.Params.{Params};
+ghost use Rattle.h263_types.specs.Params.{IsParams};
+ghost use Rattle.call_model.specs.Coding.{Decoding, Message, Rules};
+ghost use Rattle.call_model.specs.Lawful.{IsDecoding, IsRules};
+ghost use Rattle.stream_audit.specs.Logs.{StreamsAreAudited};
+ghost use Rattle.stream_audit.specs.Replay.{Audited, ReadsInPeriod};
+ghost use Rattle.stream_audit.specs.Sound.{YesIsSound};
+
+use back_messages::MessageFault;
+use call_decoding::laws::are_rules;
+use call_decoding::{Pictured, Styled};
+use call_model::laws::{any_sound_sender, by_events, in_a_call, nearest, searches};
+use h263_bits::Fault;
+use h263_types::Mb;
+use packet_collector::laws::exact_text;
+use receiver_end::laws::is_decoding;
+
+/// The verdict on a log is yes only where each picture of its stream is sound.
+pub fn yes_is_sound<Style, Mb, P, Fault, MessageFault>()
+    ensures { (decoding : Decoding Style Mb P Fault)
+        (read : List ℕ → Result Message MessageFault) (rules : Rules)
+        → IsDecoding decoding rules → YesIsSound decoding read rules }
+{
+    searches();
+}
+
+/// Where the verdict on a log is yes, no receiver in a near call of its stream refuses a packet of
+/// it, and each picture whose packets all come in time is marked exact.
+pub fn audited<Style, Mb, P, Fault, MessageFault>()
+    ensures { (decoding : Decoding Style Mb P Fault)
+        (read : List ℕ → Result Message MessageFault) (rules : Rules)
+        → IsDecoding decoding rules → IsRules rules → ReadsInPeriod decoding rules
+        → Audited decoding read rules }
+{
+    yes_is_sound::<Style, Mb, P, Fault, MessageFault>();
+    any_sound_sender::<Style, Mb, P, Fault>();
+    by_events::<Style, Mb, P>();
+    in_a_call::<P, Style, Mb, P, Fault, MessageFault>();
+    nearest();
+    searches();
+}
+
+/// The same of the program's receivers, and of its packets and messages.
+pub fn audited_streams()
+    ensures { (p : Params) → IsParams p → StreamsAreAudited p }
+{
+    is_decoding();
+    are_rules();
+    exact_text();
+    audited::<Styled, Mb, Pictured, Fault, MessageFault>();
+}

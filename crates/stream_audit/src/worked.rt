@@ -1,0 +1,65 @@
+//! Logs that are judged: over pictures of two macroblocks what the definitions say of them,
+//! computed.
+#![tactic(auto, unfolding(call_model::specs::Coding::has_mb, call_model::specs::Coding::same_header, call_model::specs::Sending::nearest_below, call_model::specs::Numbers::first_from, call_model::specs::Sending::made_known, call_model::specs::Sending::called_complete, call_model::specs::Sending::nearest, call_model::specs::Receiving::heard, call_model::specs::Receiving::answer, call_model::specs::Receiving::header_fits, call_model::specs::Receiving::has_reference, call_model::specs::Receiving::has_taken, call_model::specs::Receiving::is_complete, call_model::specs::Receiving::taken_after, call_model::specs::Receiving::piece_number, call_model::specs::Receiving::played_message, call_model::specs::Receiving::played_picture))]
+
+ghost use Rattle.std.specs.Prelude.{◌≡◌, List, [], ◌∷◌};
+ghost use Rattle.stream_audit.specs.declared.verdict.Rule.TheVariants as rule;
+ghost use Rattle.stream_audit.specs.declared.verdict.Verdict.TheVariants.{Yes, No};
+ghost use Rattle.stream_audit.specs.Stream.{Sent};
+ghost use Rattle.stream_audit.specs.Worked.{MayHappenAll, ack, half_of, intra, judged, nack};
+ghost use Rattle.stream_audit.specs.Worked.{of_two_slots, predicted, short_period, wide};
+
+/// Each rule, broken by itself; and streams of no picture and of two.
+pub fn each_rule()
+    ensures empty { judged wide [] ≡ Yes 0 }
+    ensures two { judged wide (predicted wide 1 0 ∷ ack 0 ∷ intra wide 0 ∷ []) ≡ Yes 2 }
+    ensures packet { judged wide (Sent [] ∷ intra wide 0 ∷ []) ≡ No 0 rule.Packet }
+    ensures clock { judged wide (intra short_period 1 ∷ intra wide 0 ∷ []) ≡ No 0 rule.Packet }
+    ensures number { judged wide (predicted wide 1 0 ∷ []) ≡ No 0 rule.Number }
+    ensures header { judged wide (predicted wide 0 0 ∷ half_of wide 0 0 ∷ [])
+        ≡ No 0 rule.Header }
+    ensures overlap { judged wide (intra wide 0 ∷ intra wide 0 ∷ []) ≡ No 0 rule.Overlap }
+    ensures gap { judged wide (half_of wide 0 0 ∷ []) ≡ No 0 rule.Gap }
+    ensures reference { judged wide (predicted wide 1 0 ∷ intra wide 0 ∷ [])
+        ≡ No 1 rule.Reference }
+{}
+
+/// The first rule that is broken decides, with the number of the picture that was going on; and
+/// what is missing of a picture comes before what is wrong with the next.
+pub fn first_rule()
+    ensures later { judged wide (Sent [] ∷ intra wide 1 ∷ intra wide 0 ∷ []) ≡ No 1 rule.Packet }
+    ensures before { judged wide (intra wide 7 ∷ Sent [] ∷ []) ≡ No 0 rule.Packet }
+    ensures gap { judged wide (intra wide 7 ∷ half_of wide 0 0 ∷ []) ≡ No 0 rule.Gap }
+{}
+
+/// Feedback counts from its own place on: it may stand inside a picture, and comes too late after
+/// the packet that refers to its picture. An ACK of a picture to come is one of a period before,
+/// or of none.
+pub fn feedback_in_its_place()
+    ensures inside { judged wide
+        (predicted wide 1 0 ∷ half_of wide 0 1 ∷ ack 0 ∷ half_of wide 0 0 ∷ []) ≡ Yes 2 }
+    ensures late { judged wide (ack 0 ∷ predicted wide 1 0 ∷ intra wide 0 ∷ [])
+        ≡ No 1 rule.Reference }
+    ensures ahead { judged wide (predicted wide 1 0 ∷ ack 1 ∷ intra wide 0 ∷ [])
+        ≡ No 1 rule.Reference }
+    ensures offered { judged wide (predicted wide 2 0 ∷ nack 1 0 ∷ intra wide 1 ∷ intra wide 0 ∷ [])
+        ≡ Yes 3 }
+{}
+
+/// With temporal references of two bits picture 4 has that of picture 0 again, and may refer to
+/// picture 3. With a window of one picture, picture 2 may not refer to picture 0; and a message
+/// about picture 0 is old then.
+pub fn numbers_wrap()
+    ensures wraps { judged of_two_slots (predicted of_two_slots 0 3 ∷ ack 3
+        ∷ intra of_two_slots 3 ∷ intra of_two_slots 2 ∷ intra of_two_slots 1
+        ∷ intra of_two_slots 0 ∷ []) ≡ Yes 5 }
+    ensures window { judged of_two_slots (predicted of_two_slots 2 0 ∷ intra of_two_slots 1
+        ∷ ack 0 ∷ intra of_two_slots 0 ∷ []) ≡ No 2 rule.Reference }
+    ensures old { judged short_period (predicted short_period 2 0 ∷ ack 0 ∷ intra short_period 1
+        ∷ intra short_period 0 ∷ []) ≡ No 2 rule.Reference }
+{}
+
+/// A near call of a stream, in which a message is brought back: what the laws ask can be met.
+pub fn near_call()
+    ensures { MayHappenAll }
+{}
