@@ -1,13 +1,10 @@
 -- What an audit keeps after a packet that it takes.
-use Rattle.std.proofs.Common.{◌∙◌, ap, None, ◌≡◌, ◌⊎◌, ℕ, zero, suc, ◌+◌, ◌-◌, ◌<◌, ◌≤◌, Bool, true, false, ◌&&◌, ◌||◌, refl, sym, subst, arith, inl, inr, Some, Option, List, [], ◌∷◌, ◌++◌, length}
+use Rattle.std.proofs.Common.{◌∙◌, ap, None, ◌≡◌, ℕ, ◌+◌, ◌-◌, ◌<◌, Bool, true, false, ◌||◌, refl, sym, subst, arith, inl, inr, Some, Option, List, [], ◌∷◌, ◌++◌}
 use Rattle.std.specs.Prelude.{Result}
 use Rattle.std.specs.Option.{option_map}
-use Rattle.std.specs.List.{list_any}
 use Rattle.std.specs.Result.{result_ok}
-use Rattle.std.proofs.lemmas.Bool.{cases_Bool, or_left, or_right, both_ways}
-use Rattle.h263_bits.specs.Syntax.{IsIn}
+use Rattle.std.proofs.lemmas.Bool.{cases_Bool, or_left, or_right}
 use Rattle.h263_types.specs.declared.blocks.Mb.{Mb}
-use Rattle.h263_types.specs.declared.blocks.SliceHead.{SliceHead}
 use Rattle.h263_types.specs.Sizes.{mbs_of}
 use Rattle.back_messages.specs.declared.message.MessageFault.{MessageFault}
 use Rattle.packet_collector.specs.declared.collector.Collector.{Collector}

@@ -1,5 +1,5 @@
 -- Nothing was taken of the picture that a packet begins.
-use Rattle.std.proofs.Common.{◌∙◌, ap, None, ◌≡◌, ℕ, zero, suc, ◌+◌, ◌-◌, ◌<◌, ◌≤◌, Bool, true, false, refl, sym, subst, arith, Some, Option, List, [], ◌∷◌, length}
+use Rattle.std.proofs.Common.{◌∙◌, ap, None, ◌≡◌, ℕ, ◌+◌, ◌<◌, false, arith, Some, Option, List}
 use Rattle.std.specs.Prelude.{not}
 use Rattle.std.proofs.lemmas.Bool.{both_ways, false_from_ne_true}
 use Rattle.h263_types.specs.Blocks.{IsHeadOf}
@@ -7,9 +7,9 @@ use Rattle.h263_types.specs.Sizes.{mbs_of}
 use Rattle.picture_header.specs.declared.header.Header.{Header}
 use Rattle.packet_collector.specs.declared.collector.Collector.{Collector}
 use Rattle.packet_collector.specs.declared.piece.Piece.{Piece}
-use Rattle.packet_collector.specs.Collected.{Collects, FitsKept, IsFreshIn, IsInRow, IsKept, first_of, format_of, header_in, has_in, row_of}
+use Rattle.packet_collector.specs.Collected.{Collects, FitsKept, IsFreshIn, IsInRow, IsKept, format_of, header_in, has_in, row_of}
 use Rattle.call_model.specs.Numbers.{AllBelowIs}
-use Rattle.packet_collector.specs.Taken.{Taken, TakenLaws, has_any, has_taken, none_in}
+use Rattle.packet_collector.specs.Taken.{Taken, TakenLaws, has_any}
 
 module _ (laws : TakenLaws) (below : AllBelowIs) (c : Collector) (n : ℕ) (taken : List Taken) (collects : Collects c n taken) (row : row_of c ≡ 1) (absent : has_any taken n ≡ false) where
   in_row : IsInRow c n

@@ -1,26 +1,20 @@
 -- A stream as the call of a sender: its pictures are what the sender codes, its feedback what it is told.
-use Rattle.std.proofs.Common.{Ok, ◌∙◌, ap, None, ◌≡◌, ℕ, zero, suc, ◌+◌, ◌%◌, ◌<◌, ◌≤◌, Bool, true, false, ◌&&◌, refl, sym, subst, arith, inl, inr, ◌⊎◌, Some, Option, List, [], ◌∷◌, ◌++◌, length, length-append, eqb, ltb, leb}
+use Rattle.std.proofs.Common.{◌∙◌, ap, None, ◌≡◌, ℕ, ◌+◌, ◌%◌, ◌<◌, ◌≤◌, Bool, true, false, ◌&&◌, refl, sym, inl, inr, Some, Option, List, [], ◌∷◌, ◌++◌, length}
 use Rattle.std.specs.Prelude.{if◌then◌else◌, Result, slice_get, map, not, option_and_then}
 use Rattle.std.specs.Option.{option_map, option_map_or}
-use Rattle.std.specs.Result.{result_ok}
-use Rattle.std.proofs.lemmas.List.{append-nil, map-append}
-use Rattle.std.proofs.lemmas.Bool.{cases_lt, cases_Bool, and_from, or_left, or_right, lt-ltb, le-ltb, lt-leb, le-leb, eq-eqb}
-use Rattle.std.proofs.lemmas.Option.{slice_get_cases, slice_get-map, slice_get_within}
-use Rattle.call_model.specs.Numbers.{all_below, AllBelowIs}
-use Rattle.call_model.specs.Coding.{Rules, window, period, Slice, Header, Piece, Message, Ack, Mark, Exact, Patched, Held, Shown, Pictures, Decoding, reconstruction_of_slices}
-use Rattle.call_model.specs.CodedPictures.{Coded, picture_at, is_among}
-use Rattle.call_model.specs.Before.{played_before, IsOpen, ArrivedByEvents, WasDelivered}
-use Rattle.call_model.specs.IdealCall.{Event, Send, Deliver, Play, Back, NumberedMessage, Got, Lost, about, told_full, Arrival, Call, Source, has_arrived, with_arrival, is_open, slices_at, is_full, newest_full, full_flags, delivery_counts, shown_at, after, call_from, MayHappen, AllMayHappenFrom}
-use Rattle.call_model.specs.Sending.{NearestIsInPeriod, header_of, nearest_below, known_by_feedback, made_known}
-use Rattle.call_model.specs.Receiving.{ReceiverRun, Heard, Late, Early, Repeat, Completed, Taken, heard, after_packet, after_play, played_message, played_mark, played_shown, nack, receiver_run}
-use Rattle.call_model.specs.Sound.{IsSoundPicture, IsPacket, Packets, IsSoundEvent, AllSound, received, delivery_answer, play_message, FollowsTheCall, AnySoundSender, NoneRefused, is_refused}
+use Rattle.std.proofs.lemmas.List.{map-append}
+use Rattle.std.proofs.lemmas.Bool.{cases_lt, and_from, lt-ltb, le-ltb, lt-leb, le-leb}
+use Rattle.call_model.specs.Numbers.{AllBelowIs}
+use Rattle.call_model.specs.Coding.{Rules, period, Header, Message, Ack, Exact, Shown, Pictures, Decoding, reconstruction_of_slices}
+use Rattle.call_model.specs.CodedPictures.{Coded, picture_at}
+use Rattle.call_model.specs.Before.{ArrivedByEvents}
+use Rattle.call_model.specs.IdealCall.{Event, NumberedMessage, Got, Lost, about, Arrival, Call, Source, has_arrived, with_arrival, is_open, slices_at, is_full, newest_full, full_flags, delivery_counts, shown_at, call_from, AllMayHappenFrom}
+use Rattle.call_model.specs.Sending.{NearestIsInPeriod, header_of, nearest_below}
+use Rattle.call_model.specs.Receiving.{Repeat, Completed, Taken, nack}
+use Rattle.call_model.specs.Sound.{Packets, AllSound, received, delivery_answer, play_message, AnySoundSender, NoneRefused}
 use Rattle.call_model.specs.TwoStores.{travelling}
-use Rattle.call_model.specs.Lawful.{IsDecoding, IsRules}
-use Rattle.stream_audit.specs.Stream.{Part, StreamPicture, Item, Picture, Feedback, pictures_in, picture_in, slices_of, packets_of, packets_in, known_of}
-use Rattle.stream_audit.specs.Sound.{IsSound, IsSoundAfter}
-use Rattle.stream_audit.specs.Replay.{MessageAbout, Replay, item_at, said_to, CameInTime, after_bytes, said_at_play, replay, MayHappenIn, AllMayHappenIn, NoneIsRefused, ExactWhereAllCame, ReadsInPeriod}
-use Rattle.stream_audit.proofs.Lists.{slice_get_push}
-use Rattle.stream_audit.proofs.Streams.{item_next, split_next, pictures_more, picture_here, sound_before, sound_at}
+use Rattle.stream_audit.specs.Stream.{StreamPicture, Item, pictures_in, picture_in, slices_of, packets_in, known_of}
+use Rattle.stream_audit.specs.Replay.{MessageAbout, said_to, replay}
 
 -- the laws of a call that are used of a stream
 pub record CallLaws {Style Mb P Fault : Type 0} (decoding : Decoding Style Mb P Fault) (rules : Rules) : Type 0 where
@@ -35,10 +29,6 @@ told_of rules note = record { about = about note; message = travelling rules not
 
 pub map_two : {A B : Type 0} (f : A → B) (xs ys : List A) → map f xs ++ map f ys ≡ map f (xs ++ ys)
 map_two f xs ys = rw map-append refl
-
-pub length_map : {A B : Type 0} (f : A → B) (xs : List A) → length (map f xs) ≡ length xs
-length_map f [] = refl
-length_map f (x ∷ xs) = let r = length_map f xs in omega arith
 
 module _ {Style Mb P Fault MessageFault : Type 0} (decoding : Decoding Style Mb P Fault) (read : List ℕ → Result Message MessageFault) (rules : Rules) (stream : List (Item Style Mb)) where
   -- a picture of the stream as one that a sender of a call has coded
@@ -145,4 +135,3 @@ header_is {Style} h number reference half a b c =
 pub header_of_is : {Style Mb P : Type 0} (rules : Rules) (n : ℕ) (x : Coded Style Mb P) → header_of rules n x ≡ (let g : Header Style = record { number = n % period rules; reference = option_map (λ m. m % period rules) x.reference; half = rules.half; style = x.style } in g)
 unfolding header_of
 header_of_is rules n x = refl
-

@@ -1,5 +1,5 @@
 -- Headers that are tested for equality.
-use Rattle.std.proofs.Common.{◌∙◌, ap, ◌≡◌, ℕ, true, Bool, None, Some, Option, refl, eqb}
+use Rattle.std.proofs.Common.{◌∙◌, ap, ◌≡◌, ℕ, true, None, Some, Option, refl, eqb}
 use Rattle.std.proofs.lemmas.Bool.{and_from, and_parts, eqb-true, eq-eqb, false≢true}
 use Rattle.call_model.specs.Coding.{Rules, Header, Decoding, same_header, same_reference}
 use Rattle.call_model.specs.Lawful.{IsDecoding}

@@ -1,19 +1,16 @@
 -- What is judged of a packet is what the rules say of it.
-use Rattle.std.proofs.Common.{◌∙◌, ap, None, ◌≡◌, ℕ, zero, suc, ◌-◌, ◌<◌, Bool, true, false, ◌&&◌, refl, sym, subst, arith, inl, inr, Some, Option, List, [], ◌∷◌, Ok, Result, eqb}
-use Rattle.std.specs.Prelude.{if◌then◌else◌, not}
+use Rattle.std.proofs.Common.{◌∙◌, ap, None, ◌≡◌, ℕ, zero, suc, ◌-◌, ◌<◌, true, false, refl, sym, arith, inl, inr, Some, Option, List, ◌∷◌, Ok, eqb}
 use Rattle.std.specs.Option.{option_map, option_map_or}
 use Rattle.std.proofs.lemmas.Bool.{cases_Bool, eq-eqb, ne_eqb, false≢true}
-use Rattle.h263_bits.specs.declared.fault.Fault.{Fault}
 use Rattle.h263_types.specs.declared.blocks.Mb.{Mb}
 use Rattle.h263_types.specs.declared.clock.Clock.{Clock}
 use Rattle.h263_types.specs.declared.clock.Clock.TheVariants.{Standard, Custom}
 use Rattle.h263_types.specs.Clocks.{half_of}
 use Rattle.packet_collector.specs.declared.piece.Piece.{Piece}
 use Rattle.call_model.specs.Coding as call
-use Rattle.call_model.specs.Receiving.{none_in}
 use Rattle.call_model.specs.Lawful.{IsDecoding}
 use Rattle.call_decoding.specs.Rules.{rules_of}
-use Rattle.call_decoding.specs.Styles.{Style, header_of}
+use Rattle.call_decoding.specs.Styles.{Style}
 use Rattle.stream_audit.specs.declared.kept.Kept.{Kept}
 use Rattle.stream_audit.specs.declared.verdict.Broken.{Broken}
 use Rattle.stream_audit.specs.declared.verdict.Rule.{Rule}
@@ -21,8 +18,8 @@ use Rattle.stream_audit.specs.declared.verdict.Rule.TheVariants as rule
 use Rattle.receiver_end.specs.Decoding.{decoding}
 use Rattle.call_encoding.specs.Messages.{read_message}
 use Rattle.stream_audit.specs.State.{Fits, Keeps, Spells}
-use Rattle.stream_audit.specs.Stream.{Item, Part, Picture, begun_by, StreamPicture, is_of, last_picture, pictures_in, with_packet, with_part}
-use Rattle.stream_audit.specs.Verdict.{broken_at, broken_by, broken_next, broken_within, has, present}
+use Rattle.stream_audit.specs.Stream.{Item, Part, Picture, begun_by, StreamPicture, is_of, last_picture, with_packet, with_part}
+use Rattle.stream_audit.specs.Verdict.{broken_at, broken_by, broken_next, broken_within, present}
 use Rattle.stream_audit.proofs.Headers.{same_header_is}
 
 half_tells : (a b : Clock) → half_of a ≡ half_of b → a ≡ b

@@ -1,12 +1,12 @@
 -- What an audit judges by what it keeps is what the rules say of the stream.
-use Rattle.std.proofs.Common.{Result, Ok, ◌++◌, ◌||◌, ◌∙◌, ap, None, ◌≡◌, ℕ, zero, suc, ◌+◌, ◌-◌, ◌<◌, ◌≤◌, Bool, true, false, ◌&&◌, refl, sym, subst, arith, inl, inr, Some, Option, List, [], ◌∷◌, length, leb}
+use Rattle.std.proofs.Common.{Result, Ok, ◌++◌, ◌||◌, ◌∙◌, ap, None, ◌≡◌, ℕ, ◌+◌, ◌-◌, ◌<◌, ◌≤◌, Bool, true, false, ◌&&◌, refl, sym, subst, arith, Some, Option, List, ◌∷◌}
 use Rattle.std.specs.Prelude.{if◌then◌else◌, not, ◌==◌}
 use Rattle.std.specs.Result.{result_ok}
 use Rattle.back_messages.specs.declared.message.MessageFault.{MessageFault}
 use Rattle.reference_selector.specs.declared.Selector.{Selector}
 use Rattle.reference_selector.specs.Stands.{SelectorStands}
 use Rattle.std.specs.Option.{option_map, option_map_or}
-use Rattle.std.proofs.lemmas.Bool.{and_from, and_right, eq-eqb, false_from_ne_true, le-leb, lt-leb}
+use Rattle.std.proofs.lemmas.Bool.{and_right, false_from_ne_true, le-leb, lt-leb}
 use Rattle.h263_types.specs.declared.blocks.Mb.{Mb}
 use Rattle.h263_types.specs.Blocks.{IsHeadOf}
 use Rattle.h263_types.specs.Sizes.{mbs_of}
@@ -29,7 +29,7 @@ use Rattle.stream_audit.specs.declared.verdict.Rule.{Rule}
 use Rattle.stream_audit.specs.declared.verdict.Rule.TheVariants as rule
 use Rattle.receiver_end.specs.Decoding.{decoding}
 use Rattle.call_encoding.specs.Messages.{read_message}
-use Rattle.stream_audit.specs.State.{Fits, IsLast, IsTakenOf, Keeps, Spells}
+use Rattle.stream_audit.specs.State.{IsLast, IsTakenOf, Keeps, Spells}
 use Rattle.stream_audit.specs.Stream.{Item, Feedback, StreamPicture, last_picture, pictures_in, known_of}
 use Rattle.stream_audit.specs.Verdict.{broken_within, has, last_is_whole, may_refer}
 use Rattle.stream_audit.specs.Verdict as rules_for

@@ -1,6 +1,6 @@
 -- Known numbers are of pictures that were begun: a stream is the run of a sender that captured its
 -- pictures and had its feedback.
-use Rattle.std.proofs.Common.{◌∙◌, ap, ◌≡◌, ℕ, ◌+◌, ◌<◌, true, refl, sym, subst, arith, List, [], ◌∷◌, ◌++◌, length, length-append}
+use Rattle.std.proofs.Common.{◌∙◌, ap, ◌≡◌, ℕ, ◌<◌, true, refl, subst, arith, List, [], ◌∷◌, ◌++◌, length, length-append}
 use Rattle.std.specs.Prelude.{Result}
 use Rattle.std.specs.Result.{result_ok}
 use Rattle.call_model.specs.Coding.{Rules, Message, Pictures, Encoding}
@@ -38,11 +38,10 @@ module _ {Style Mb P MessageFault : Type 0} (pictures : Pictures Style Mb P) (re
       let more = length-append run.coded (next_coded pictures reading rules (λ sizes. 1) p.header.style run.coded run.known ∷ []) in
       (omega (arith, before.0, more), before.1)
   as_run (Feedback bytes ∷ items) =
-      let before = as_run items in
-      (
+      let before = as_run items in (
         before.0,
         ap (λ (n : ℕ). known_by_feedback rules n (result_ok (read bytes)) ++ known_of read rules items) before.0
-        ∙ ap (λ (l : List ℕ). known_by_feedback rules (length (run_of items).coded) (result_ok (read bytes)) ++ l) before.1,
+            ∙ ap (λ (l : List ℕ). known_by_feedback rules (length (run_of items).coded) (result_ok (read bytes)) ++ l) before.1,
       )
 
   pub known_below : KnownWereSent pictures reading rules → (items : List (Item Style Mb)) (m : ℕ) → is_among (known_of read rules items) m ≡ true → m < pictures_in items

@@ -2,6 +2,7 @@ pub mod Lists
 pub mod Streams
 pub mod Headers
 pub mod Verdicts
+pub mod Approved
 pub mod Periods
 pub mod Known
 pub mod Calls

@@ -1,5 +1,5 @@
 -- The temporal reference that the header of a packet names is below the period of its clock.
-use Rattle.std.proofs.Common.{Ok, Err, Result, ◌≡◌, ℕ, ◌<◌, ◌*◌, Bool, true, false, ◌↔◌, refl, sym, ap, ◌∙◌, subst, arith, inl, inr, Option, Some, None, List, length, leb}
+use Rattle.std.proofs.Common.{Ok, Err, Result, ◌≡◌, ℕ, ◌<◌, ◌*◌, Bool, ◌↔◌, refl, sym, ap, ◌∙◌, subst, arith, inl, inr, Option, Some, None, List, leb}
 use Rattle.std.proofs.lemmas.Bool.{leb-false, cases_Bool}
 use Rattle.h263_bits.specs.declared.fault.Fault.{Fault}
 use Rattle.h263_bits.specs.declared.fault.FaultKind.{FaultKind}

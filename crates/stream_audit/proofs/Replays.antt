@@ -1,28 +1,24 @@
 -- The replay of a stream goes with the call of its sender, event by event.
-use Rattle.std.proofs.Common.{Ok, ◌∙◌, ap, None, ◌≡◌, ℕ, zero, suc, ◌+◌, ◌%◌, ◌<◌, ◌≤◌, Bool, true, false, ◌&&◌, refl, sym, subst, arith, inl, inr, ◌⊎◌, Some, Option, List, [], ◌∷◌, ◌++◌, length, length-append, eqb, ltb, leb}
-use Rattle.std.specs.Prelude.{if◌then◌else◌, Result, slice_get, map, not, option_and_then}
+use Rattle.std.proofs.Common.{Ok, ◌∙◌, ap, None, ◌≡◌, ℕ, ◌+◌, ◌%◌, ◌<◌, ◌≤◌, Bool, true, false, ◌&&◌, refl, sym, subst, arith, inl, inr, Some, Option, List, [], ◌∷◌, ◌++◌, length, length-append}
+use Rattle.std.specs.Prelude.{if◌then◌else◌, Result, slice_get, map, option_and_then}
 use Rattle.std.specs.Option.{option_map, option_map_or}
 use Rattle.std.specs.Result.{result_ok}
-use Rattle.std.proofs.lemmas.List.{append-nil, map-append}
-use Rattle.std.proofs.lemmas.Bool.{cases_lt, cases_Bool, and_from, or_left, or_right, lt-ltb, le-ltb, lt-leb, le-leb, eq-eqb}
+use Rattle.std.proofs.lemmas.List.{append-nil}
 use Rattle.std.proofs.lemmas.Option.{slice_get_cases, slice_get-map, slice_get_within}
-use Rattle.call_model.specs.Numbers.{all_below, AllBelowIs}
-use Rattle.call_model.specs.Coding.{Rules, window, period, Slice, Header, Piece, Message, Ack, Mark, Exact, Patched, Held, Shown, Pictures, Decoding, reconstruction_of_slices}
-use Rattle.call_model.specs.CodedPictures.{Coded, picture_at, is_among}
-use Rattle.call_model.specs.Before.{played_before, IsOpen, ArrivedByEvents, WasDelivered}
-use Rattle.call_model.specs.IdealCall.{Event, Send, Deliver, Play, Back, NumberedMessage, Got, Lost, about, told_full, Arrival, Call, Source, has_arrived, with_arrival, is_open, slices_at, is_full, newest_full, full_flags, delivery_counts, shown_at, after, call_from, MayHappen, AllMayHappenFrom}
-use Rattle.call_model.specs.Sending.{NearestIsInPeriod, header_of, nearest_below, known_by_feedback, made_known}
-use Rattle.call_model.specs.Receiving.{ReceiverRun, Heard, Late, Early, Repeat, Completed, Taken, heard, after_packet, after_play, played_message, played_mark, played_shown, nack, receiver_run}
-use Rattle.call_model.specs.Sound.{IsSoundPicture, IsPacket, Packets, IsSoundEvent, AllSound, received, delivery_answer, play_message, FollowsTheCall, AnySoundSender, NoneRefused, is_refused}
+use Rattle.call_model.specs.Coding.{Rules, window, period, Slice, Header, Piece, Message, Shown, Decoding}
+use Rattle.call_model.specs.CodedPictures.{Coded, is_among}
+use Rattle.call_model.specs.Before.{WasDelivered}
+use Rattle.call_model.specs.IdealCall.{Event, Send, Deliver, Play, Back, NumberedMessage, Got, Lost, about, told_full, Call, Source, with_arrival, slices_at, is_full, newest_full, full_flags, delivery_counts, MayHappen}
+use Rattle.call_model.specs.Sending.{header_of, nearest_below, known_by_feedback}
+use Rattle.call_model.specs.Receiving.{ReceiverRun, Heard, heard, after_packet, after_play, played_message, played_mark}
+use Rattle.call_model.specs.Sound.{IsSoundPicture, IsPacket, Packets, IsSoundEvent, received, delivery_answer, FollowsTheCall, is_refused}
 use Rattle.call_model.specs.TwoStores.{travelling}
-use Rattle.call_model.specs.Lawful.{IsDecoding, IsRules}
-use Rattle.stream_audit.specs.Stream.{Part, StreamPicture, Item, Picture, Feedback, pictures_in, picture_in, slices_of, packets_of, packets_in, known_of}
+use Rattle.stream_audit.specs.Stream.{Part, StreamPicture, Item, Picture, Feedback, pictures_in, picture_in, packets_of, packets_in, known_of}
 use Rattle.stream_audit.specs.Sound.{IsSound, IsSoundAfter}
 use Rattle.stream_audit.specs.Replay.{MessageAbout, Replay, item_at, said_to, CameInTime, after_bytes, said_at_play, replay, MayHappenIn, AllMayHappenIn, NoneIsRefused, ExactWhereAllCame, ReadsInPeriod}
-use Rattle.stream_audit.proofs.Lists.{slice_get_push}
+use Rattle.stream_audit.proofs.Lists.{length_map, slice_get_push}
 use Rattle.stream_audit.proofs.Streams.{item_next, split_next, pictures_more, picture_here, sound_before, sound_at}
-
-use Rattle.stream_audit.proofs.Calls.{CallLaws, told_of, map_two, length_map, coded_of, source, packets, call, IsOf, At, says, no_count, told_by_play, slices_are, is_full_from, exact_where_full, header_is, header_of_is}
+use Rattle.stream_audit.proofs.Calls.{CallLaws, told_of, map_two, coded_of, source, packets, call, IsOf, At, says, no_count, told_by_play, slices_are, is_full_from, exact_where_full, header_is, header_of_is}
 
 module _ {Style Mb P Fault MessageFault : Type 0} (decoding : Decoding Style Mb P Fault) (read : List ℕ → Result Message MessageFault) (rules : Rules) (in_period : ReadsInPeriod decoding rules) (laws : CallLaws decoding rules) (stream : List (Item Style Mb)) (sound : IsSound decoding read rules stream) where
   abbrev src : Source Style Mb P
@@ -61,8 +57,7 @@ module _ {Style Mb P Fault MessageFault : Type 0} (decoding : Decoding Style Mb 
           let r = behind.reference rest header in
           let there : nearest_below rules (length (cl past).coded) rest ≡ Some r.0 = ap (λ (k : ℕ). nearest_below rules k rest) (sym at.pictures) ∙ r.1 in
           let same : Some r.0 ≡ Some m = sym there ∙ is in
-          let equal : r.0 ≡ m = cc in
-          (
+          let equal : r.0 ≡ m = cc in (
             omega (arith, r.2, equal, at.pictures),
             subst (λ (ks : List ℕ). is_among ks m ≡ true) at.known (subst (λ (k : ℕ). is_among (known_of read rules at.done) k ≡ true) equal r.3),
           )
@@ -95,9 +90,9 @@ module _ {Style Mb P Fault MessageFault : Type 0} (decoding : Decoding Style Mb 
           let got = behind.2.packets j part here in
           let reference : option_map (λ m. m % period rules) x.reference ≡ p.header.reference =
           ap (λ (o : Option ℕ). option_map (λ m. m % period rules) o) is_of.reference
-              ∙ reference_again n p.header.reference
-              (λ rest is. in_period part.bytes part.piece rest got.0 (ap (λ (h : Header Style). h.half) got.1 ∙ behind.2.half) (ap (λ (h : Header Style). h.reference) got.1 ∙ is))
-              (λ rest is. let r = behind.2.reference rest is in (r.0, ap (λ (k : ℕ). nearest_below rules k rest) (sym behind.1) ∙ r.1)) in
+          ∙ reference_again n p.header.reference
+          (λ rest is. in_period part.bytes part.piece rest got.0 (ap (λ (h : Header Style). h.half) got.1 ∙ behind.2.half) (ap (λ (h : Header Style). h.reference) got.1 ∙ is))
+          (λ rest is. let r = behind.2.reference rest is in (r.0, ap (λ (k : ℕ). nearest_below rules k rest) (sym behind.1) ∙ r.1)) in
           let number : p.header.number ≡ n % period rules = behind.2.number ∙ ap (λ (k : ℕ). k % period rules) behind.1 in
           let whole = header_is p.header (n % period rules) (option_map (λ m. m % period rules) x.reference) rules.half number reference behind.2.half in
           let styled : p.header ≡ header_of rules n x =
@@ -216,53 +211,48 @@ module _ {Style Mb P Fault MessageFault : Type 0} (decoding : Decoding Style Mb 
       sound' : IsSoundEvent decoding rules src pks (cl past) (Deliver n j)
       sound' x at_n = packet_is n j x (at.coded n x at_n)
 
+      -- what the replay and the receiver's run come to, by what is delivered
+      replay_is : (o : Option (List ℕ)) → slice_get (packets_in stream n) j ≡ o → rp (Deliver n j ∷ past) ≡ option_map_or (after_bytes decoding read rules stream (rp past) n) o (rp past)
+      replay_is o e = ap (λ (o : Option (List ℕ)). option_map_or (after_bytes decoding read rules stream (rp past) n) o (rp past)) e
+
+      received_is : (o : Option (List ℕ)) → slice_get (packets_in stream n) j ≡ o → received decoding rules src pks (Deliver n j ∷ past) ≡ option_map_or (λ bytes. after_packet decoding rules bytes (received decoding rules src pks past)) o (received decoding rules src pks past)
+      received_is o e = ap (λ (o : Option (List ℕ)). option_map_or (λ bytes. after_packet decoding rules bytes (received decoding rules src pks past)) o (received decoding rules src pks past)) e
+
+      -- only the receiver and what it said may change
+      delivered_as : (w : Replay Style Mb P) → rp (Deliver n j ∷ past) ≡ w → w.items ≡ (rp past).items → w.sent ≡ (rp past).sent → w.receiver ≡ received decoding rules src pks (Deliver n j ∷ past) → w.said ≡ map (told_of rules) (cl (Deliver n j ∷ past)).said → At decoding read rules stream (Deliver n j ∷ past)
+      delivered_as w is items sent receiver said = record {
+        near = (near', at.near);
+        all_sound = (sound', at.all_sound);
+        more = at.more;
+        done = at.done;
+        split = at.split;
+        items = ap (λ (w : Replay Style Mb P). w.items) is ∙ items ∙ at.items;
+        sent = ap (λ (w : Replay Style Mb P). w.sent) is ∙ sent ∙ at.sent;
+        pictures = at.pictures;
+        known = at.known;
+        receiver = ap (λ (w : Replay Style Mb P). w.receiver) is ∙ receiver;
+        said = ap (λ (w : Replay Style Mb P). w.said) is ∙ said;
+        coded = at.coded;
+      }
+
       of_packet : (bytes : List ℕ) → slice_get (packets_in stream n) j ≡ Some bytes → At decoding read rules stream (Deliver n j ∷ past)
       of_packet bytes e =
-          let w' : rp (Deliver n j ∷ past) ≡ after_bytes decoding read rules stream (rp past) n bytes = ap (λ (o : Option (List ℕ)). option_map_or (after_bytes decoding read rules stream (rp past) n) o (rp past)) e in
-          let r' : received decoding rules src pks (Deliver n j ∷ past) ≡ after_packet decoding rules bytes (received decoding rules src pks past) = ap (λ (o : Option (List ℕ)). option_map_or (λ bytes. after_packet decoding rules bytes (received decoding rules src pks past)) o (received decoding rules src pks past)) e in
           let answer : heard decoding rules (rp past).receiver (decoding.read bytes) ≡ delivery_answer rules (cl past) n j = ap (λ (r : ReceiverRun Style Mb P). heard decoding rules r (decoding.read bytes)) at.receiver ∙ (follows_at past at).answers n j bytes near' sound' e in
           let said' : (rp past).said ++ said_to n (heard decoding rules (rp past).receiver (decoding.read bytes)) ≡ map (told_of rules) (cl (Deliver n j ∷ past)).said =
           ap (λ (h : Heard Fault). (rp past).said ++ said_to n h) answer
-              ∙ ap (λ (l : List MessageAbout). (rp past).said ++ l) (says Fault rules (cl past) n j (omega (arith, slice_get_within (packets_in stream n) j bytes e, slices_sent past at n near'.0)))
-              ∙ ap (λ (l : List MessageAbout). l ++ map (told_of rules) (if delivery_counts rules (cl past) n j && is_full (cl past).coded (with_arrival (cl past).arrivals n j) n then Got n (full_flags rules (cl past).coded (with_arrival (cl past).arrivals n j) n) ∷ [] else [])) at.said
-              ∙ map_two (told_of rules) (cl past).said _ in
-          record {
-            near = (near', at.near);
-            all_sound = (sound', at.all_sound);
-            more = at.more;
-            done = at.done;
-            split = at.split;
-            items = ap (λ (w : Replay Style Mb P). w.items) w' ∙ at.items;
-            sent = ap (λ (w : Replay Style Mb P). w.sent) w' ∙ at.sent;
-            pictures = at.pictures;
-            known = at.known;
-            receiver = ap (λ (w : Replay Style Mb P). w.receiver) w' ∙ ap (after_packet decoding rules bytes) at.receiver ∙ sym r';
-            said = ap (λ (w : Replay Style Mb P). w.said) w' ∙ said';
-            coded = at.coded;
-          }
+          ∙ ap (λ (l : List MessageAbout). (rp past).said ++ l) (says Fault rules (cl past) n j (omega (arith, slice_get_within (packets_in stream n) j bytes e, slices_sent past at n near'.0)))
+          ∙ ap (λ (l : List MessageAbout). l ++ map (told_of rules) (if delivery_counts rules (cl past) n j && is_full (cl past).coded (with_arrival (cl past).arrivals n j) n then Got n (full_flags rules (cl past).coded (with_arrival (cl past).arrivals n j) n) ∷ [] else [])) at.said
+          ∙ map_two (told_of rules) (cl past).said _ in
+          delivered_as (after_bytes decoding read rules stream (rp past) n bytes) (replay_is (Some bytes) e) refl refl
+          (ap (after_packet decoding rules bytes) at.receiver ∙ sym (received_is (Some bytes) e)) said'
 
       of_none : slice_get (packets_in stream n) j ≡ None → length (packets_in stream n) ≤ j → At decoding read rules stream (Deliver n j ∷ past)
       of_none e far =
-          let w' : rp (Deliver n j ∷ past) ≡ rp past = ap (λ (o : Option (List ℕ)). option_map_or (after_bytes decoding read rules stream (rp past) n) o (rp past)) e in
-          let r' : received decoding rules src pks (Deliver n j ∷ past) ≡ received decoding rules src pks past = ap (λ (o : Option (List ℕ)). option_map_or (λ bytes. after_packet decoding rules bytes (received decoding rules src pks past)) o (received decoding rules src pks past)) e in
           let counts : delivery_counts rules (cl past) n j ≡ false = no_count rules (cl past) n j (omega (arith, far, slices_sent past at n near'.0)) in
-          let c' : (cl (Deliver n j ∷ past)).said ≡ (cl past).said =
+          let same : (cl (Deliver n j ∷ past)).said ≡ (cl past).said =
           ap (λ (b : Bool). (cl past).said ++ (if b && is_full (cl past).coded (with_arrival (cl past).arrivals n j) n then Got n (full_flags rules (cl past).coded (with_arrival (cl past).arrivals n j) n) ∷ [] else [])) counts
-              ∙ append-nil (cl past).said in
-          record {
-            near = (near', at.near);
-            all_sound = (sound', at.all_sound);
-            more = at.more;
-            done = at.done;
-            split = at.split;
-            items = ap (λ (w : Replay Style Mb P). w.items) w' ∙ at.items;
-            sent = ap (λ (w : Replay Style Mb P). w.sent) w' ∙ at.sent;
-            pictures = at.pictures;
-            known = at.known;
-            receiver = ap (λ (w : Replay Style Mb P). w.receiver) w' ∙ at.receiver ∙ sym r';
-            said = ap (λ (w : Replay Style Mb P). w.said) w' ∙ at.said ∙ ap (map (told_of rules)) (sym c');
-            coded = at.coded;
-          }
+          ∙ append-nil (cl past).said in
+          delivered_as (rp past) (replay_is None e) refl refl (at.receiver ∙ sym (received_is None e)) (at.said ∙ ap (map (told_of rules)) (sym same))
 
   play : (past : List Event) → At decoding read rules stream past → MayHappenIn decoding read rules stream (rp past) Play → At decoding read rules stream (Play ∷ past)
   play past at near =
@@ -311,8 +301,8 @@ module _ {Style Mb P Fault MessageFault : Type 0} (decoding : Decoding Style Mb 
           let reads : read near.1 ≡ Ok (travelling rules note) = near.4 ∙ ap (λ (t : MessageAbout). let r : Result Message MessageFault = Ok t.message in r) (sym told) in
           let made : known_by_feedback rules (pictures_in at.done) (result_ok (read near.1)) ≡ told_full note =
           ap (λ (r : Result Message MessageFault). known_by_feedback rules (pictures_in at.done) (result_ok r)) reads
-              ∙ ap (λ (n : ℕ). known_by_feedback rules n (Some (travelling rules note))) at.pictures
-              ∙ ap (λ (o : Option (List ℕ)). option_map_or (λ numbers. numbers) o []) learned in
+          ∙ ap (λ (n : ℕ). known_by_feedback rules n (Some (travelling rules note))) at.pictures
+          ∙ ap (λ (o : Option (List ℕ)). option_map_or (λ numbers. numbers) o []) learned in
           let known' : (cl (Back k ∷ past)).known ≡ told_full note ++ (cl past).known = ap (λ (o : Option NumberedMessage). option_map_or told_full o [] ++ (cl past).known) there in
           record {
             near = ((note, there, close), at.near);
@@ -385,7 +375,7 @@ module _ {Style Mb P Fault MessageFault : Type 0} (decoding : Decoding Style Mb 
       let slices = slices_sent past at (cl past).played near' in
       let full : is_full (cl past).coded (cl past).arrivals (cl past).played ≡ true =
       is_full_from laws.below (cl past).coded (cl past).arrivals (cl past).played near'
-          (λ j lt. let fits : j < length (packets_in stream (cl past).played) = omega (arith, slices) in (laws.arrived src past (cl past).played j).1 (delivered past near.1 (cl past).played j fits (each j fits))) in
+      (λ j lt. let fits : j < length (packets_in stream (cl past).played) = omega (arith, slices) in (laws.arrived src past (cl past).played j).1 (delivered past near.1 (cl past).played j fits (each j fits))) in
       ap (played_mark decoding rules) at.receiver
       ∙ ap (λ (s : Shown P). s.mark) ((follows_at past at).plays near').0
       ∙ exact_where_full decoding.pictures (cl past).coded (cl past).arrivals (cl past).plays (cl past).played full

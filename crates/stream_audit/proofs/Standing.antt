@@ -41,7 +41,7 @@ module _ (k : Kept) (past : List LogEntry) (stands : Stands k past) (going : k.b
       let now : Option Broken = Some (broken_at (k.pictures - 1) rule.Packet) in
       let is : broken_in_on k.params (stream_on k.params past) (Sent bytes) ≡ now =
       ap (broken_by_on k.params (stream_on k.params past)) read
-          ∙ ap (λ (n : ℕ). Some (broken_at (n - 1) rule.Packet)) (sym (stands.keeps going).count) in
+      ∙ ap (λ (n : ℕ). Some (broken_at (n - 1) rule.Packet)) (sym (stands.keeps going).count) in
       record { broken = sym (first_is (Sent bytes) ∙ is); keeps = λ none. absurd (none_left _ now refl none) }
 
   pub judged : (new : Kept) (bytes : List ℕ) (q : call.Piece Style Mb) → new.params ≡ k.params

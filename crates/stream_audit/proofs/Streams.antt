@@ -1,5 +1,5 @@
 -- Streams and their items.
-use Rattle.std.proofs.Common.{◌∙◌, ap, None, ◌≡◌, ℕ, zero, suc, ◌+◌, ◌<◌, ◌≤◌, Bool, true, false, refl, sym, subst, arith, inl, inr, ◌⊎◌, Some, Option, List, [], ◌∷◌, ◌++◌, length, eqb, append_assoc}
+use Rattle.std.proofs.Common.{◌∙◌, ap, None, ◌≡◌, ℕ, ◌+◌, ◌<◌, ◌≤◌, Bool, true, false, refl, sym, subst, arith, inl, inr, Some, List, [], ◌∷◌, ◌++◌, length, eqb, append_assoc}
 use Rattle.std.specs.Prelude.{if◌then◌else◌, Result}
 use Rattle.std.proofs.lemmas.Bool.{eq-eqb, ne_eqb, cases_eq}
 use Rattle.call_model.specs.Coding.{Rules, Message, Decoding}

@@ -1,30 +1,29 @@
 -- Where no rule is broken, each picture of the stream is sound.
-use Rattle.std.proofs.Common.{Ok, Err, ◌∙◌, ap, None, ◌≡◌, ℕ, zero, suc, ◌+◌, ◌-◌, ◌%◌, ◌<◌, ◌≤◌, Bool, true, false, ◌&&◌, refl, sym, subst, arith, inl, inr, ◌⊎◌, Some, Option, List, [], ◌∷◌, ◌++◌, length, eqb, ltb, leb}
-use Rattle.std.specs.Prelude.{⊤, if◌then◌else◌, Result, slice_get, map, not, option_and_then}
+use Rattle.std.proofs.Common.{Ok, Err, ◌∙◌, ap, None, ◌≡◌, ℕ, zero, suc, ◌+◌, ◌-◌, ◌%◌, ◌<◌, ◌≤◌, Bool, true, false, refl, sym, subst, arith, inl, inr, Some, Option, List, [], ◌∷◌, length, eqb, ltb, leb}
+use Rattle.std.specs.Prelude.{⊤, if◌then◌else◌, Result, slice_get, not}
 use Rattle.std.specs.Option.{option_map, option_map_or}
 use Rattle.std.specs.List.{list_any}
-use Rattle.std.proofs.lemmas.Bool.{cases_Bool, and_from, and_parts, or_cases, or_parts, leb-true, ltb-true, eqb-true, eq-eqb, ne_eqb, le-leb, lt-ltb, both_ways, false≢true, cases_eq}
+use Rattle.std.proofs.lemmas.Bool.{cases_Bool, and_parts, or_cases, or_parts, leb-true, ltb-true, eqb-true, eq-eqb, ne_eqb, both_ways, false≢true}
 use Rattle.std.proofs.lemmas.Option.{slice_get_cases, slice_get-map, slice_get_within}
 use Rattle.call_model.specs.Numbers.{AllBelowIs}
-use Rattle.call_model.specs.Coding.{Rules, window, period, Slice, has_mb, Header, Piece, Message, Decoding, same_header, same_reference}
+use Rattle.call_model.specs.Coding.{Rules, window, period, Slice, has_mb, Piece, Message, Decoding, same_header}
 use Rattle.call_model.specs.CodedPictures.{is_among}
 use Rattle.call_model.specs.Receiving.{none_in}
 use Rattle.call_model.specs.Sending.{nearest_below}
 use Rattle.call_model.specs.Lawful.{Covers, IsDecoding}
 use Rattle.stream_audit.specs.declared.verdict.Rule.{Rule}
 use Rattle.stream_audit.specs.declared.verdict.Rule.TheVariants as rule
-use Rattle.stream_audit.specs.declared.verdict.Verdict.{Verdict}
 use Rattle.stream_audit.specs.declared.verdict.Verdict.TheVariants.{Yes, No}
-use Rattle.stream_audit.specs.Stream.{LogEntry, Sent, Fed, Part, StreamPicture, Item, Picture, Feedback, pictures_in, last_picture, with_part, with_more, begun_by, with_packet, with_bytes, slices_of, is_of, known_of, stream_of}
+use Rattle.stream_audit.specs.Stream.{LogEntry, Sent, Fed, Part, StreamPicture, Item, Picture, Feedback, pictures_in, last_picture, with_part, with_more, begun_by, with_bytes, slices_of, is_of, known_of, stream_of}
 use Rattle.stream_audit.specs.declared.verdict.Broken.{Broken}
-use Rattle.stream_audit.specs.Verdict.{has, is_whole, last_is_whole, present, has_reference, broken_within, broken_next, broken_by, broken_in, first_of, first_broken, closing, verdict_by, broken_at, may_refer}
-use Rattle.stream_audit.specs.Sound.{IsSoundAfter, IsSound, YesIsSound}
+use Rattle.stream_audit.specs.Verdict.{has, is_whole, last_is_whole, present, has_reference, broken_within, broken_next, broken_by, broken_in, first_of, first_broken, verdict_by, verdict_of, broken_at, may_refer}
+use Rattle.stream_audit.specs.Sound.{IsSound, IsReadable, AllReadable}
 use Rattle.stream_audit.proofs.Headers.{same_header_is}
 use Rattle.stream_audit.proofs.Lists.{slice_get_push}
 
 -- ---- slices
 
-has_from : {Mb : Type 0} (slice : Slice Mb) (k : ℕ) → has_mb slice k ≡ true → (slice.first ≤ k) × (k < slice.first + length slice.mbs)
+pub has_from : {Mb : Type 0} (slice : Slice Mb) (k : ℕ) → has_mb slice k ≡ true → (slice.first ≤ k) × (k < slice.first + length slice.mbs)
 unfolding has_mb
 has_from slice k e =
     let parts = and_parts (leb slice.first k) (ltb k (slice.first + length slice.mbs)) e in
@@ -45,11 +44,11 @@ none_of below slice test k none inside =
 
 module _ {Style Mb : Type 0} where
   -- the place of the first packet that has macroblock k
-  place_in : List (Part Style Mb) → ℕ → ℕ
+  pub place_in : List (Part Style Mb) → ℕ → ℕ
   place_in [] k = 0
   place_in (part ∷ parts) k = if has_mb part.piece.slice k then 0 else suc (place_in parts k)
 
-  first_part : (parts : List (Part Style Mb)) (k : ℕ) → list_any (λ part. has_mb part.piece.slice k) parts ≡ true → (part : Part Style Mb) × (slice_get parts (place_in parts k) ≡ Some part) × (has_mb part.piece.slice k ≡ true)
+  pub first_part : (parts : List (Part Style Mb)) (k : ℕ) → list_any (λ part. has_mb part.piece.slice k) parts ≡ true → (part : Part Style Mb) × (slice_get parts (place_in parts k) ≡ Some part) × (has_mb part.piece.slice k ≡ true)
   unfolding place_in
   first_part [] k e = absurd (false≢true e)
   first_part (part ∷ parts) k e =
@@ -89,7 +88,7 @@ module _ {Style Mb P Fault MessageFault : Type 0} (decoding : Decoding Style Mb 
     pub apart : (i j k : ℕ) (a b : Part Style Mb) → slice_get p.parts i ≡ Some a → slice_get p.parts j ≡ Some b
         → has_mb a.piece.slice k ≡ true → has_mb b.piece.slice k ≡ true → i ≡ j
 
-  abbrev IsClean : List (Item Style Mb) → Type 0
+  abbrev pub IsClean : List (Item Style Mb) → Type 0
   IsClean [] = ⊤
   IsClean (Feedback bytes ∷ items) = IsClean items
   IsClean (Picture p ∷ items) = IsGoing items p × IsSound decoding read rules items
@@ -269,15 +268,37 @@ module _ {Style Mb P Fault MessageFault : Type 0} (decoding : Decoding Style Mb 
       let both = both_none (first_broken decoding read rules past) (broken_in decoding read rules (stream_of decoding past) (Sent bytes)) unbroken in
       clean_packet (stream_of decoding past) bytes (decoding.read bytes) refl (clean_log past both.0) both.1
 
-  pub yes_is_sound : YesIsSound decoding read rules
+  readable_packet : (items : List (Item Style Mb)) (bytes : List ℕ) (r : Result (Piece Style Mb) Fault) → decoding.read bytes ≡ r → broken_by decoding read rules items r ≡ None → IsReadable decoding rules bytes
+  readable_packet items bytes (Err fault) reads unbroken = absurd (differ (broken_at (present items) rule.Packet) unbroken)
+    where
+      differ : (b : Broken) → Some b ≡ None → ⊥
+      differ b e = cc
+  readable_packet items bytes (Ok piece) reads unbroken =
+      elim (cases_Bool (eqb piece.header.half rules.half)) [
+        | inr other ↦ absurd (differ (broken_at (present items) rule.Packet) (sym (rw other refl) ∙ unbroken))
+        | inl half ↦ (piece, reads, eqb-true _ _ half)
+      ]
+    where
+      differ : (b : Broken) → Some b ≡ None → ⊥
+      differ b e = cc
+
+  readable_log : (past : List LogEntry) → first_broken decoding read rules past ≡ None → AllReadable decoding rules past
+  readable_log [] unbroken = tt
+  readable_log (Fed bytes ∷ past) unbroken = readable_log past (both_none (first_broken decoding read rules past) None unbroken).0
+  readable_log (Sent bytes ∷ past) unbroken =
+      let both = both_none (first_broken decoding read rules past) (broken_in decoding read rules (stream_of decoding past) (Sent bytes)) unbroken in
+      (readable_packet (stream_of decoding past) bytes (decoding.read bytes) refl both.1, readable_log past both.0)
+
+  pub yes_is_sound : (past : List LogEntry) (count : ℕ) → verdict_of decoding read rules past ≡ Yes count
+      → AllReadable decoding rules past × (pictures_in (stream_of decoding past) ≡ count) × IsSound decoding read rules (stream_of decoding past)
   yes_is_sound past count is = go (first_broken decoding read rules past) refl is
     where
       closed : (b : Bool) → (if b then Yes (pictures_in (stream_of decoding past)) else No (present (stream_of decoding past)) rule.Gap) ≡ Yes count → (b ≡ true) × (pictures_in (stream_of decoding past) ≡ count)
       closed true e = (refl, cc)
       closed false e = cc
 
-      go : (o : Option Broken) → first_broken decoding read rules past ≡ o → verdict_by decoding read rules o (stream_of decoding past) ≡ Yes count → (pictures_in (stream_of decoding past) ≡ count) × IsSound decoding read rules (stream_of decoding past)
+      go : (o : Option Broken) → first_broken decoding read rules past ≡ o → verdict_by decoding read rules o (stream_of decoding past) ≡ Yes count → AllReadable decoding rules past × (pictures_in (stream_of decoding past) ≡ count) × IsSound decoding read rules (stream_of decoding past)
       go (Some b) unbroken e = cc
       go None unbroken e =
           let r = closed (last_is_whole rules (stream_of decoding past)) e in
-          (r.1, whole_is_sound (stream_of decoding past) (clean_log past unbroken) r.0)
+          (readable_log past unbroken, r.1, whole_is_sound (stream_of decoding past) (clean_log past unbroken) r.0)

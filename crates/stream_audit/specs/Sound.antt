@@ -1,13 +1,24 @@
 -- What a sound stream is: each of its pictures covers the format with slices of one header, stands
 -- in its order, and refers to nothing but what its sender knew to be there.
-use Rattle.std.specs.Prelude.{◌≡◌, ℕ, ◌+◌, ◌%◌, ◌≤◌, ⊤, true, List, [], ◌∷◌, slice_get, Some, Result, Ok}
-use Rattle.call_model.specs.Coding.{Rules, window, period, Message, Decoding}
+use Rattle.std.specs.Prelude.{◌≡◌, ◌↔◌, ℕ, ◌+◌, ◌%◌, ◌≤◌, ⊤, true, List, [], ◌∷◌, slice_get, Some, Result, Ok}
+use Rattle.call_model.specs.Coding.{Rules, window, period, Piece, Message, Decoding}
 use Rattle.call_model.specs.CodedPictures.{is_among}
 use Rattle.call_model.specs.Sending.{nearest_below}
 use Rattle.call_model.specs.Lawful.{Covers}
 use Rattle.stream_audit.specs.declared.verdict.Verdict.TheVariants.{Yes}
-use Rattle.stream_audit.specs.Stream.{LogEntry, Part, StreamPicture, Item, Picture, Feedback, pictures_in, slices_of, known_of, stream_of}
+use Rattle.stream_audit.specs.Stream.{LogEntry, Sent, Fed, Part, StreamPicture, Item, Picture, Feedback, pictures_in, slices_of, known_of, stream_of}
 use Rattle.stream_audit.specs.Verdict.{verdict_of}
+
+module _ {Style Mb P Fault : Type 0} (decoding : Decoding Style Mb P Fault) (rules : Rules) where
+  -- the bytes are a packet of the picture clock
+  abbrev pub IsReadable : List ℕ → Type 0
+  IsReadable bytes = (piece : Piece Style Mb) × (decoding.read bytes ≡ Ok piece) × (piece.header.half ≡ rules.half)
+
+  -- so are those of each packet of a log
+  abbrev pub AllReadable : List LogEntry → Type 0
+  AllReadable [] = ⊤
+  AllReadable (Sent bytes ∷ past) = IsReadable bytes × AllReadable past
+  AllReadable (Fed bytes ∷ past) = AllReadable past
 
 module _ {Style Mb P Fault MessageFault : Type 0} (decoding : Decoding Style Mb P Fault)
     (read : List ℕ → Result Message MessageFault) (rules : Rules) where
@@ -30,7 +41,8 @@ module _ {Style Mb P Fault MessageFault : Type 0} (decoding : Decoding Style Mb 
   IsSound (Feedback bytes ∷ items) = IsSound items
   IsSound (Picture p ∷ items) = IsSoundAfter items p × IsSound items
 
-  -- a log has a yes only where its stream is sound, of as many pictures
+  -- the verdict on a log is yes exactly where its packets are readable and its stream, of so many
+  -- pictures, is sound
   abbrev pub YesIsSound : Type 0
-  YesIsSound = (past : List LogEntry) (count : ℕ) → verdict_of decoding read rules past ≡ Yes count
-      → (pictures_in (stream_of decoding past) ≡ count) × IsSound (stream_of decoding past)
+  YesIsSound = (past : List LogEntry) (count : ℕ) → (verdict_of decoding read rules past ≡ Yes count)
+      ↔ (AllReadable decoding rules past × (pictures_in (stream_of decoding past) ≡ count) × IsSound (stream_of decoding past))

@@ -1,5 +1,5 @@
 //! The audit of a log.
-ghost use Rattle.std.specs.Prelude.{◌≡◌, ◌+◌, ◌≤◌, ◌<◌, ◌^◌, List, [], ◌∷◌, IfOk};
+ghost use Rattle.std.specs.Prelude.{◌≡◌, ◌+◌, ◌≤◌, ◌<◌, ◌^◌, List, [], ◌∷◌, None, IfOk};
 ghost use Rattle.h263_types.specs.Params.{IsParams};
 
 use crate::kept::Kept;
@@ -34,8 +34,8 @@ impl Model for Audit {
 }
 
 impl Audit {
-    ghost use Rattle.stream_audit.specs.Logs.{verdict_on};
-    ghost use Rattle.stream_audit.specs.Stream.{LogEntry, Sent, Fed};
+    ghost use Rattle.stream_audit.specs.Logs.{first_broken_on, stream_on, verdict_on};
+    ghost use Rattle.stream_audit.specs.Stream.{LogEntry, Sent, Fed, pictures_in};
     ghost use Rattle.stream_audit.specs.State.{Stands};
 
     /// Nothing was sent. All memory of the audit is taken here.
@@ -83,6 +83,16 @@ impl Audit {
             Some(_) => {}
             None => self.kept.note(bytes),
         }
+    }
+
+    /// How many pictures were begun, up to the first broken rule.
+    pub fn pictures(&self) -> u32
+        ensures count { result ≡ self.now.pictures }
+        ensures stream { (past : List LogEntry) → Stands self.now past
+            → first_broken_on self.now.params past ≡ None
+            → result ≡ pictures_in (stream_on self.now.params past) }
+    {
+        self.kept.pictures
     }
 
     /// The verdict, were the log at its end.

@@ -17,7 +17,8 @@ use h263_types::Mb;
 use packet_collector::laws::exact_text;
 use receiver_end::laws::is_decoding;
 
-/// The verdict on a log is yes only where each picture of its stream is sound.
+/// The verdict on a log is yes exactly where each of its packets is one of the picture clock and
+/// each picture of its stream is sound.
 pub fn yes_is_sound<Style, Mb, P, Fault, MessageFault>()
     ensures { (decoding : Decoding Style Mb P Fault)
         (read : List ℕ → Result Message MessageFault) (rules : Rules)

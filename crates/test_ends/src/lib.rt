@@ -15,6 +15,8 @@
 #![tactic(auto)]
 
 #[cfg(test)]
+mod audit_tests;
+#[cfg(test)]
 mod call_rings_tests;
 #[cfg(test)]
 mod joined_ends;

@@ -12,8 +12,7 @@ returns g c decoding read rules lawful ruled in_period log count approved =
       nearest = c.nearest.ensures.in_period;
       below = c.searches.ensures.all_below;
     } in
-    let sound = (c.yes_is_sound.ensures decoding read rules lawful log count approved).1 in
-    (
+    let sound = ((c.yes_is_sound.ensures decoding read rules lawful log count).0 approved).2 in (
       none_is_refused decoding read rules in_period laws (stream_of decoding log) sound,
       exact_where_all_came decoding read rules in_period laws (stream_of decoding log) sound,
     )

@@ -1,16 +1,14 @@
-use Rattle.std.proofs.Common.{◌≡◌, ◌∙◌, ℕ, ◌+◌, ◌≤◌, List, length, drop, Ok, refl, ap, sym, subst, arith}
+use Rattle.std.proofs.Common.{◌≡◌, ◌∙◌, ◌+◌, ◌≤◌, List, length, drop, Ok, refl, ap, sym, subst, arith}
 use Rattle.std.proofs.lemmas.List.{length-take-le, length-drop}
 use Rattle.h263_types.specs.declared.blocks.Mb.{Mb}
 use Rattle.h263_types.specs.declared.format.Format.{Format}
 use Rattle.h263_types.specs.Sizes.{mbs_of}
-use Rattle.slice_layer.specs.Filled.{mbs_from}
 use Rattle.packet_collector.specs.Filled.{slice_in}
 use Rattle.call_model.specs.Coding as call
 use Rattle.call_decoding.specs.Styles.{Style}
 use Rattle.stream_audit.specs.declared.kept.Kept.{Kept}
 use Rattle.receiver_end.specs.Decoding.{decoding, piece_of, with_piece}
 use Rattle.stream_audit.specs.State.{Spells, Stands}
-use Rattle.stream_audit.specs.Stream.{Part}
 use Rattle.stream_audit.proofs.Standing.{judged}
 use Rattle.stream_audit.proofs.audit.Audit.packet.Goals as goal
 

@@ -1,6 +1,5 @@
-use Rattle.std.proofs.Common.{rules, ◌≡◌, ◌∙◌, ℕ, ◌-◌, Bool, true, false, Some, None, Option, refl, sym, ap}
+use Rattle.std.proofs.Common.{rules, ◌≡◌, ◌∙◌, ℕ, ◌-◌, true, Some, None, sym, ap}
 use Rattle.stream_audit.specs.declared.kept.Kept.{Kept}
-use Rattle.stream_audit.specs.declared.verdict.Broken.{Broken}
 use Rattle.stream_audit.specs.Stream.{is_of, last_picture}
 use Rattle.stream_audit.specs.Verdict.{broken_at}
 use Rattle.stream_audit.proofs.Standing.{none_left}
