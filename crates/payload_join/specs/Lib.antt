@@ -1,0 +1,16 @@
+pub mod Packet
+pub mod Split
+pub mod Unit
+pub mod Outgoing
+pub mod Run
+pub mod Laws
+pub mod Parts
+pub mod Places
+pub mod Ring
+pub mod Units
+pub mod Fronts
+pub mod Giving
+pub mod Left
+pub mod Joining
+pub mod Keeping
+pub mod Ends
