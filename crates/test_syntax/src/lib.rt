@@ -22,6 +22,8 @@ mod packet_collector_tests;
 #[cfg(test)]
 mod packet_cutter_tests;
 #[cfg(test)]
+mod payload_join_tests;
+#[cfg(test)]
 mod picture_header_tests;
 #[cfg(test)]
 mod rtp_header_tests;

@@ -48,7 +48,7 @@ fn add_times(cutter: &mut Cutter, mb: &Mb, times: u32)
 }
 
 // Cuts a picture of one macroblock many times.
-fn cut_even(cutter: &mut Cutter, number: u32, header: &Header, mb: &Mb)
+pub(crate) fn cut_even(cutter: &mut Cutter, number: u32, header: &Header, mb: &Mb)
     requires header { IsHeader header.now }
     requires format { header.now.format ≡ format_of cutter.old }
     requires mb { IsMb mb.now }
