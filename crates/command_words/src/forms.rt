@@ -45,6 +45,9 @@ static AUDIT_PLACES: [&str; 1] = ["log"];
 
 static AUDIT_OPTIONS: [&str; 4] = ["format", "slots", "lead", "clock"];
 
+// No command has a switch.
+static SWITCHES: [&str; 0] = [];
+
 impl Form {
     // The form of the command with this first word.
     pub(crate) fn named(first: &str) -> Option<Form>
@@ -76,7 +79,7 @@ impl Form {
     }
 
     pub(crate) fn options(self) -> &'static [&'static str]
-        ensures { texts result.now ≡ (row_of self).options }
+        ensures { texts result.now ≡ (row_of self).options.valued }
     {
         match self {
             Form::Call => CALL_OPTIONS.as_slice(),
@@ -85,6 +88,15 @@ impl Form {
             Form::Demo => DEMO_OPTIONS.as_slice(),
             Form::Rate => RATE_OPTIONS.as_slice(),
             Form::Audit => AUDIT_OPTIONS.as_slice(),
+        }
+    }
+
+    pub(crate) fn switches(self) -> &'static [&'static str]
+        ensures { texts result.now ≡ (row_of self).options.switches }
+    {
+        match self {
+            Form::Call | Form::Send | Form::Recv => SWITCHES.as_slice(),
+            Form::Demo | Form::Rate | Form::Audit => SWITCHES.as_slice(),
         }
     }
 }
