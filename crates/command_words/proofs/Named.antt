@@ -103,7 +103,7 @@ module _ (given : List Given) where
       go (Some p) h = with_target p (target_or_none (value given (codes "target"))) h
 
   pub recv_named : (a : Asked) → given_all recv.places → recv_of (value given) ≡ Some a → HasNames a
-  recv_named a all is = go (params_of (value given)) is
+  recv_named a all is = go (params_of (value given)) (is_some (value given (codes "join"))) is
     where
       events : IsGiven (value given (codes "log"))
       events = first_there (codes "log") (codes "out" ∷ codes "wire" ∷ []) all
@@ -117,15 +117,15 @@ module _ (given : List Given) where
       wire : IsGiven (value given (codes "wire"))
       wire = first_there (codes "wire") [] (rest_there (codes "out") (codes "wire" ∷ []) others)
 
-      go : (p : Option Params) → option_map (λ (params : Params). let it : Asked = record {
-        command = Recv params;
+      go : (p : Option Params) (join : Bool) → option_map (λ (params : Params). let it : Asked = record {
+        command = Recv params join;
         video = None;
         events = value given (codes "log");
         pictures = value given (codes "out");
         wire = value given (codes "wire");
       } in it) p ≡ Some a → HasNames a
-      go None h = absurd (cc h)
-      go (Some p) h = subst HasNames (some_is h) (events, pictures, wire)
+      go None join h = absurd (cc h)
+      go (Some p) join h = subst HasNames (some_is h) (events, pictures, wire)
 
   pub demo_named : (a : Asked) → demo_of (value given) ≡ Some a → HasNames a
   demo_named a is = with_params (params_of (value given)) is

@@ -150,7 +150,7 @@ send = record {
 
 abbrev pub recv_of : Lookup → Option Asked
 recv_of given = option_map (λ params. record {
-  command = Recv params;
+  command = Recv params (is_some (given (codes "join")));
   video = None;
   events = given (codes "log");
   pictures = given (codes "out");
@@ -161,7 +161,10 @@ abbrev pub recv : Row
 recv = record {
   word = codes "recv";
   places = codes "log" ∷ codes "out" ∷ codes "wire" ∷ [];
-  options = taking_values (codes "format" ∷ codes "slots" ∷ codes "lead" ∷ codes "messages" ∷ codes "clock" ∷ []);
+  options = record {
+    valued = codes "format" ∷ codes "slots" ∷ codes "lead" ∷ codes "messages" ∷ codes "clock" ∷ [];
+    switches = codes "join" ∷ [];
+  };
   asks = recv_of;
 }
 
@@ -272,7 +275,7 @@ word_for a Pictures2 = None
 abbrev pub IsCommand : Command → Type 0
 IsCommand (Call params traced) = IsParams params
 IsCommand (Send params target) = IsParams params × IfSome target (λ n. 1 ≤ n) × IfSome target (λ n. n ≤ 999999)
-IsCommand (Recv params) = IsParams params
+IsCommand (Recv params join) = IsParams params
 IsCommand (Demo params seed frames) = IsParams params × (seed ≤ 999999999) × (1 ≤ frames) × (frames ≤ 10000)
 IsCommand (Rate target bucket) = (1 ≤ target) × (target ≤ 999999) × (bucket ≤ 999999)
 IsCommand (Audit params) = IsParams params
@@ -286,7 +289,7 @@ abbrev pub HasNamesOf : Command → Asked → Type 0
 HasNamesOf (Call params true) a = IsGiven a.video × IsGiven a.events × IsGiven a.pictures
 HasNamesOf (Call params false) a = IsGiven a.video × IsGiven a.pictures
 HasNamesOf (Send params target) a = IsGiven a.video × IsGiven a.events × IsGiven a.wire
-HasNamesOf (Recv params) a = IsGiven a.events × IsGiven a.pictures × IsGiven a.wire
+HasNamesOf (Recv params join) a = IsGiven a.events × IsGiven a.pictures × IsGiven a.wire
 HasNamesOf (Demo params seed frames) a = Unit {0}
 HasNamesOf (Rate target bucket) a = IsGiven a.events
 HasNamesOf (Audit params) a = IsGiven a.events

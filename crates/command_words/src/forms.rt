@@ -45,8 +45,9 @@ static AUDIT_PLACES: [&str; 1] = ["log"];
 
 static AUDIT_OPTIONS: [&str; 4] = ["format", "slots", "lead", "clock"];
 
-// No command has a switch.
-static SWITCHES: [&str; 0] = [];
+static RECV_SWITCHES: [&str; 1] = ["join"];
+
+static NO_SWITCHES: [&str; 0] = [];
 
 impl Form {
     // The form of the command with this first word.
@@ -95,8 +96,9 @@ impl Form {
         ensures { texts result.now ≡ (row_of self).options.switches }
     {
         match self {
-            Form::Call | Form::Send | Form::Recv => SWITCHES.as_slice(),
-            Form::Demo | Form::Rate | Form::Audit => SWITCHES.as_slice(),
+            Form::Recv => RECV_SWITCHES.as_slice(),
+            Form::Call | Form::Send => NO_SWITCHES.as_slice(),
+            Form::Demo | Form::Rate | Form::Audit => NO_SWITCHES.as_slice(),
         }
     }
 }
