@@ -4,7 +4,7 @@ use Rattle.std.specs.Prelude.{codes, is_some, option_and_then, option_map, if◌
 use Rattle.std.specs.List.{list_all}
 use Rattle.std.specs.Str.{bytes_eq}
 use Rattle.h263_types.specs.declared.params.Params.{Params}
-use Rattle.command_words.specs.Simple.{Text, Given, gives, value, is_once, is_whole, named, taken, whole_or_none}
+use Rattle.command_words.specs.Simple.{Text, Given, Options, gives, value, is_once, is_whole, named, taken, whole_or_none}
 use Rattle.command_words.specs.declared.command.Command.TheVariants.{Call, Recv, Audit}
 use Rattle.command_words.specs.Asked.{Asked, Row, call, send, recv, demo, rate, audit, call_of, send_of, send_with, target_or_none, recv_of, demo_of, demo_with, seed_in, frames_in, rate_of, rate_with, audit_of, target_in, bucket_in, asked_by, asked, params_of, IsGiven, HasNames}
 
@@ -30,7 +30,7 @@ second_of_both true b h = h
 second_of_both false b h = absurd (cc h)
 
 -- what was taken gives each positional word
-taken_gives : (places options words : List Text) (given : List Given) → taken places options words ≡ Some given
+taken_gives : (places : List Text) (options : Options) (words : List Text) (given : List Given) → taken places options words ≡ Some given
     → list_all (λ name. gives name given) places ≡ true
 taken_gives places options words given is = go (named options places None words) is
   where
@@ -103,7 +103,7 @@ module _ (given : List Given) where
       go (Some p) h = with_target p (target_or_none (value given (codes "target"))) h
 
   pub recv_named : (a : Asked) → given_all recv.places → recv_of (value given) ≡ Some a → HasNames a
-  recv_named a all is = go (params_of (value given)) is
+  recv_named a all is = go (params_of (value given)) (is_some (value given (codes "join"))) is
     where
       events : IsGiven (value given (codes "log"))
       events = first_there (codes "log") (codes "out" ∷ codes "wire" ∷ []) all
@@ -117,15 +117,15 @@ module _ (given : List Given) where
       wire : IsGiven (value given (codes "wire"))
       wire = first_there (codes "wire") [] (rest_there (codes "out") (codes "wire" ∷ []) others)
 
-      go : (p : Option Params) → option_map (λ (params : Params). let it : Asked = record {
-        command = Recv params;
+      go : (p : Option Params) (join : Bool) → option_map (λ (params : Params). let it : Asked = record {
+        command = Recv params join;
         video = None;
         events = value given (codes "log");
         pictures = value given (codes "out");
         wire = value given (codes "wire");
       } in it) p ≡ Some a → HasNames a
-      go None h = absurd (cc h)
-      go (Some p) h = subst HasNames (some_is h) (events, pictures, wire)
+      go None join h = absurd (cc h)
+      go (Some p) join h = subst HasNames (some_is h) (events, pictures, wire)
 
   pub demo_named : (a : Asked) → demo_of (value given) ≡ Some a → HasNames a
   demo_named a is = with_params (params_of (value given)) is

@@ -1,7 +1,8 @@
 -- The rules of a simple command once it is built, and what is found among them.
 use Rattle.std.proofs.Common.{◌≡◌, ◌∙◌, ◌+◌, ◌<◌, ◌≤◌, ℕ, suc, Bool, true, false, not, ◌&&◌, ◌||◌, min, List, [], ◌∷◌, ◌++◌, map, length, Option, Some, None, is_some, refl, ap, sym, arith, append_assoc, eqb}
-use Rattle.std.specs.Prelude.{if◌then◌else◌}
+use Rattle.std.specs.Prelude.{◌==◌, if◌then◌else◌}
 use Rattle.std.specs.List.{list_all, list_any}
+use Rattle.std.specs.Option.{option_map_or}
 use Rattle.std.specs.Str.{bytes_eq}
 use Rattle.std.proofs.lemmas.Slice.Eq.{bytes_eq-Decides}
 use Rattle.std.proofs.lemmas.Bool.{ne_eqb}
@@ -15,9 +16,9 @@ use Rattle.std.specs.List.{fold}
 use Rattle.clap.specs.Faults.{default_fault, defaults_fault}
 use Rattle.clap.specs.Takes.{is_given}
 use Rattle.clap.specs.Walk.{Row, has_row, is_empty, with_default}
-use Rattle.command_words.specs.Simple.{Text, Given, gives, is_among}
+use Rattle.command_words.specs.Simple.{Text, Given, Options, gives, is_among}
 use Rattle.command_words.proofs.Givens.{is_there, rows_for}
-use Rattle.command_words.specs.Clap.{place_rule, option_rule}
+use Rattle.command_words.specs.Clap.{place_rule, option_rule, switch_rule}
 
 -- an argument with one value
 abbrev pub valued : Bool → Option Text → Option ℕ → Text → Rule
@@ -38,28 +39,45 @@ place_at i name = valued true None (Some i) name
 abbrev pub option_at : Text → Rule
 option_at name = valued false (Some name) None name
 
+-- the rule of a switch
+abbrev pub switch_at : Text → Rule
+switch_at name = record (option_at name) {
+  range = Some (record { start_inclusive = 0; end_inclusive = 0 });
+  missing = [] ∷ [];
+}
+
 abbrev pub places_from : ℕ → List Text → List Rule
 places_from i [] = []
 places_from i (name ∷ names) = place_at i name ∷ places_from (suc i) names
 
--- the rules of a built command
-abbrev pub rules_of : List Text → List Text → List Rule
-rules_of places options = places_from 1 places ++ map option_at options
+-- the rules of a built command that have a value, and all of them
+abbrev pub valued_rules : List Text → List Text → List Rule
+valued_rules places names = places_from 1 places ++ map option_at names
 
-filled_options : (i : ℕ) (options : List Text) → filled_from i (map option_rule options) ≡ map option_at options
-filled_options i [] = refl
-filled_options i (o ∷ options) = ap (λ (rs : List Rule). option_at o ∷ rs) (filled_options i options)
+abbrev pub rules_of : List Text → Options → List Rule
+rules_of places options = valued_rules places options.valued ++ map switch_at options.switches
 
-filled_places : (i : ℕ) (places options : List Text) → i + length places < 1000
-    → filled_from i (map place_rule places ++ map option_rule options) ≡ places_from i places ++ map option_at options
-filled_places i [] options h = filled_options i options
-filled_places i (p ∷ places) options h =
+filled_switches : (i : ℕ) (switches : List Text) → filled_from i (map switch_rule switches) ≡ map switch_at switches
+filled_switches i [] = refl
+filled_switches i (s ∷ switches) = ap (λ (rs : List Rule). switch_at s ∷ rs) (filled_switches i switches)
+
+filled_options : (i : ℕ) (names switches : List Text)
+    → filled_from i (map option_rule names ++ map switch_rule switches) ≡ map option_at names ++ map switch_at switches
+filled_options i [] switches = filled_switches i switches
+filled_options i (o ∷ names) switches = ap (λ (rs : List Rule). option_at o ∷ rs) (filled_options i names switches)
+
+filled_places : (i : ℕ) (places names switches : List Text) → i + length places < 1000
+    → filled_from i ((map place_rule places ++ map option_rule names) ++ map switch_rule switches)
+    ≡ (places_from i places ++ map option_at names) ++ map switch_at switches
+filled_places i [] names switches h = filled_options i names switches
+filled_places i (p ∷ places) names switches h =
     let next : min (i + 1) usize_max ≡ suc i = omega arith in
     let small : suc i + length places < 1000 = omega arith in
-    rw next (ap (λ (rs : List Rule). place_at i p ∷ rs) (filled_places (suc i) places options small))
+    rw next (ap (λ (rs : List Rule). place_at i p ∷ rs) (filled_places (suc i) places names switches small))
 
-pub filled_rules : (places options : List Text) → length places ≤ 16 → filled_from 1 (map place_rule places ++ map option_rule options) ≡ rules_of places options
-filled_rules places options h = filled_places 1 places options (omega arith)
+pub filled_rules : (places : List Text) (options : Options) → length places ≤ 16
+    → filled_from 1 ((map place_rule places ++ map option_rule options.valued) ++ map switch_rule options.switches) ≡ rules_of places options
+filled_rules places options h = filled_places 1 places options.valued options.switches (omega arith)
 
 -- ---- what is found
 
@@ -150,41 +168,68 @@ left_of front i (name ∷ names) options c all h small is =
           (is ∙ sym (append_assoc front (place_at i name ∷ []) rest)),
     )
 
-options_by_long : (options : List Text) (name : Text) → arg_by_long (map option_at options) name ≡ (if is_among options name then Some (option_at name) else None)
-options_by_long [] name = refl
-options_by_long (o ∷ options) name = go (bytes_eq o name) refl (options_by_long options name)
+-- what has a long name: an option, else a switch, or nothing
+abbrev pub named_in : Options → Text → Option Rule
+named_in options name =
+    if is_among options.valued name then Some (option_at name)
+    else if is_among options.switches name then Some (switch_at name)
+    else None
+
+switches_by_long : (switches : List Text) (name : Text) → arg_by_long (map switch_at switches) name ≡ (if is_among switches name then Some (switch_at name) else None)
+switches_by_long [] name = refl
+switches_by_long (s ∷ switches) name = go (bytes_eq s name) refl (switches_by_long switches name)
   where
-    go : (t : Bool) → bytes_eq o name ≡ t → arg_by_long (map option_at options) name ≡ (if is_among options name then Some (option_at name) else None)
-        → arg_by_long (map option_at (o ∷ options)) name ≡ (if is_among (o ∷ options) name then Some (option_at name) else None)
+    go : (t : Bool) → bytes_eq s name ≡ t → arg_by_long (map switch_at switches) name ≡ (if is_among switches name then Some (switch_at name) else None)
+        → arg_by_long (map switch_at (s ∷ switches)) name ≡ (if is_among (s ∷ switches) name then Some (switch_at name) else None)
+    go true e rest = rw e (ap (λ (n : Text). Some (switch_at n)) ((bytes_eq-Decides s name).0 e))
+    go false e rest = rw e rest
+
+options_by_long : (names switches : List Text) (name : Text)
+    → arg_by_long (map option_at names ++ map switch_at switches) name ≡ named_in (record { valued = names; switches = switches }) name
+options_by_long [] switches name = switches_by_long switches name
+options_by_long (o ∷ names) switches name = go (bytes_eq o name) refl (options_by_long names switches name)
+  where
+    go : (t : Bool) → bytes_eq o name ≡ t → arg_by_long (map option_at names ++ map switch_at switches) name ≡ named_in (record { valued = names; switches = switches }) name
+        → arg_by_long (map option_at (o ∷ names) ++ map switch_at switches) name ≡ named_in (record { valued = o ∷ names; switches = switches }) name
     go true e rest = rw e (ap (λ (n : Text). Some (option_at n)) ((bytes_eq-Decides o name).0 e))
     go false e rest = rw e rest
 
-all_by_long : (i : ℕ) (places options : List Text) (name : Text)
-    → arg_by_long (places_from i places ++ map option_at options) name ≡ (if is_among options name then Some (option_at name) else None)
-all_by_long i [] options name = options_by_long options name
-all_by_long i (p ∷ places) options name = all_by_long (suc i) places options name
+all_by_long : (i : ℕ) (places names switches : List Text) (name : Text)
+    → arg_by_long ((places_from i places ++ map option_at names) ++ map switch_at switches) name ≡ named_in (record { valued = names; switches = switches }) name
+all_by_long i [] names switches name = options_by_long names switches name
+all_by_long i (p ∷ places) names switches name = all_by_long (suc i) places names switches name
 
-options_by_short : (options : List Text) (x : ℕ) → arg_by_short (map option_at options) x ≡ None
-options_by_short [] x = refl
-options_by_short (o ∷ options) x = options_by_short options x
+switches_by_short : (switches : List Text) (x : ℕ) → arg_by_short (map switch_at switches) x ≡ None
+switches_by_short [] x = refl
+switches_by_short (s ∷ switches) x = switches_by_short switches x
 
-all_by_short : (i : ℕ) (places options : List Text) (x : ℕ) → arg_by_short (places_from i places ++ map option_at options) x ≡ None
-all_by_short i [] options x = options_by_short options x
-all_by_short i (p ∷ places) options x = all_by_short (suc i) places options x
+options_by_short : (names switches : List Text) (x : ℕ) → arg_by_short (map option_at names ++ map switch_at switches) x ≡ None
+options_by_short [] switches x = switches_by_short switches x
+options_by_short (o ∷ names) switches x = options_by_short names switches x
+
+all_by_short : (i : ℕ) (places names switches : List Text) (x : ℕ)
+    → arg_by_short ((places_from i places ++ map option_at names) ++ map switch_at switches) x ≡ None
+all_by_short i [] names switches x = options_by_short names switches x
+all_by_short i (p ∷ places) names switches x = all_by_short (suc i) places names switches x
 
 -- ---- what is asked at the end
 
 abbrev pub is_missing : List Given → Rule → Bool
 is_missing given a = a.required && not (is_given a.id (rows_for given))
 
-options_missing : (options : List Text) (given : List Given) → list_any (is_missing given) (map option_at options) ≡ false
-options_missing [] given = refl
-options_missing (o ∷ options) given = options_missing options given
+switches_missing : (switches : List Text) (given : List Given) → list_any (is_missing given) (map switch_at switches) ≡ false
+switches_missing [] given = refl
+switches_missing (s ∷ switches) given = switches_missing switches given
 
-missing : (i : ℕ) (places options : List Text) (given : List Given)
-    → list_any (is_missing given) (places_from i places ++ map option_at options) ≡ not (list_all (λ name. gives name given) places)
-missing i [] options given = options_missing options given
-missing i (p ∷ places) options given = rw (is_there p given, missing (suc i) places options given) (join (gives p given) (list_all (λ name. gives name given) places))
+options_missing : (names switches : List Text) (given : List Given) → list_any (is_missing given) (map option_at names ++ map switch_at switches) ≡ false
+options_missing [] switches given = switches_missing switches given
+options_missing (o ∷ names) switches given = options_missing names switches given
+
+missing : (i : ℕ) (places names switches : List Text) (given : List Given)
+    → list_any (is_missing given) ((places_from i places ++ map option_at names) ++ map switch_at switches) ≡ not (list_all (λ name. gives name given) places)
+missing i [] names switches given = options_missing names switches given
+missing i (p ∷ places) names switches given =
+    rw (is_there p given, missing (suc i) places names switches given) (join (gives p given) (list_all (λ name. gives name given) places))
   where
     join : (a b : Bool) → (not a || not b) ≡ not (a && b)
     join true true = refl
@@ -193,20 +238,21 @@ missing i (p ∷ places) options given = rw (is_there p given, missing (suc i) p
     join false false = refl
 
 -- no argument has a default
-default_none : (a : Rule) (rows : List Row) → IsValued a → (default_fault rows a ≡ []) × (with_default rows a ≡ rows)
-default_none a rows valued = go (has_row a.id rows) refl
+abbrev pub HaveNoDefault : List Rule → Type 0
+HaveNoDefault [] = Unit {0}
+HaveNoDefault (a ∷ c) = (a.defaults ≡ []) × HaveNoDefault c
+
+default_none : (a : Rule) (rows : List Row) → a.defaults ≡ [] → (default_fault rows a ≡ []) × (with_default rows a ≡ rows)
+default_none a rows none = go (has_row a.id rows) refl
   where
     no_values : is_empty a.defaults ≡ true
-    no_values = ap (λ (x : Rule). is_empty x.defaults) valued.3
-
-    none : a.defaults ≡ []
-    none = ap (λ (x : Rule). x.defaults) valued.3
+    no_values = ap (λ (l : List Text). is_empty l) none
 
     go : (t : Bool) → has_row a.id rows ≡ t → (default_fault rows a ≡ []) × (with_default rows a ≡ rows)
     go true e = (rw e refl, rw e refl)
     go false e = (rw (e, no_values) refl, rw (e, none) refl)
 
-pub no_defaults : (c : List Rule) (rows : List Row) → AllValued c → (defaults_fault rows c ≡ []) × (fold with_default rows c ≡ rows)
+pub no_defaults : (c : List Rule) (rows : List Row) → HaveNoDefault c → (defaults_fault rows c ≡ []) × (fold with_default rows c ≡ rows)
 unfolding defaults_fault
 no_defaults [] rows all = (refl, refl)
 no_defaults (a ∷ c) rows all =
@@ -214,23 +260,74 @@ no_defaults (a ∷ c) rows all =
     let rest = no_defaults c rows all.1 in
     (rw (one.0, one.1) rest.0, rw one.1 rest.1)
 
+switches_plain : (switches : List Text) → HaveNoDefault (map switch_at switches)
+switches_plain [] = tt
+switches_plain (s ∷ switches) = (refl, switches_plain switches)
+
+options_plain : (names switches : List Text) → HaveNoDefault (map option_at names ++ map switch_at switches)
+options_plain [] switches = switches_plain switches
+options_plain (o ∷ names) switches = (refl, options_plain names switches)
+
+all_plain : (i : ℕ) (places names switches : List Text) → HaveNoDefault ((places_from i places ++ map option_at names) ++ map switch_at switches)
+all_plain i [] names switches = options_plain names switches
+all_plain i (p ∷ places) names switches = (refl, all_plain (suc i) places names switches)
+
+-- ---- what is found before the switches is found
+
+first_by_id : (front rest : List Rule) (name : Text) (a : Rule) → arg_by_id front name ≡ Some a → arg_by_id (front ++ rest) name ≡ Some a
+first_by_id [] rest name a h = absurd (cc h)
+first_by_id (b ∷ front) rest name a h = go (bytes_eq b.id name) refl h (first_by_id front rest name a)
+  where
+    go : (t : Bool) → bytes_eq b.id name ≡ t → arg_by_id (b ∷ front) name ≡ Some a → (arg_by_id front name ≡ Some a → arg_by_id (front ++ rest) name ≡ Some a)
+        → arg_by_id (b ∷ (front ++ rest)) name ≡ Some a
+    go true e k more = rw e (rw e at k)
+    go false e k more = rw e (more (rw e at k))
+
+known_first : (front rest : List Rule) (name : Text) → Known front name → Known (front ++ rest) name
+known_first front rest name k = (k.0, k.1, k.2, first_by_id front rest name (valued k.0 k.1 k.2 name) k.3)
+
+switches_no_index : (switches : List Text) (i : ℕ) → arg_by_index (map switch_at switches) i ≡ None
+switches_no_index [] i = refl
+switches_no_index (s ∷ switches) i = switches_no_index switches i
+
+first_by_index : (front rest : List Rule) (i : ℕ) (o : Option Rule) → arg_by_index rest i ≡ None → arg_by_index front i ≡ o → arg_by_index (front ++ rest) i ≡ o
+first_by_index [] rest i o none h = none ∙ h
+first_by_index (b ∷ front) rest i o none h = go (option_map_or (λ k. k == i) b.index false) refl h (first_by_index front rest i o none)
+  where
+    go : (t : Bool) → option_map_or (λ k. k == i) b.index false ≡ t → arg_by_index (b ∷ front) i ≡ o → (arg_by_index front i ≡ o → arg_by_index (front ++ rest) i ≡ o)
+        → arg_by_index (b ∷ (front ++ rest)) i ≡ o
+    go true e k more = rw e (rw e at k)
+    go false e k more = rw e (more (rw e at k))
+
+left_first : (front : List Rule) (switches : List Text) (i : ℕ) (names : List Text) → Left front i names → Left (front ++ map switch_at switches) i names
+left_first front switches i [] l = first_by_index front (map switch_at switches) i None (switches_no_index switches i) l
+left_first front switches i (name ∷ names) l = (
+  first_by_index front (map switch_at switches) i (Some (place_at i name)) (switches_no_index switches i) l.0,
+  known_first front (map switch_at switches) name l.1,
+  l.2,
+  left_first front switches (suc i) names l.3,
+)
+
 -- what the walk reads of the rules
-pub record Setting (places options : List Text) (c : List Rule) : Type 0 where
-  pub by_long : (name : Text) → arg_by_long c name ≡ (if is_among options name then Some (option_at name) else None)
+pub record Setting (places : List Text) (options : Options) (c : List Rule) : Type 0 where
+  pub by_long : (name : Text) → arg_by_long c name ≡ named_in options name
   pub by_short : (x : ℕ) → arg_by_short c x ≡ None
-  pub known : (name : Text) → is_among options name ≡ true → Known c name
-  pub valued : AllValued c
+  pub known : (name : Text) → is_among options.valued name ≡ true → Known c name
+  pub plain : HaveNoDefault c
   pub missing : (given : List Given) → list_any (is_missing given) c ≡ not (list_all (λ name. gives name given) places)
 
-pub setting_of : (places options : List Text) → Setting places options (rules_of places options)
+pub setting_of : (places : List Text) (options : Options) → Setting places options (rules_of places options)
 setting_of places options = record {
-  by_long = all_by_long 1 places options;
-  by_short = all_by_short 1 places options;
-  known = λ name h. known_by_id (rules_of places options) name (all_valued 1 places options)
-      (behind_front (places_from 1 places) (map option_at options) name (option_there options name h));
-  valued = all_valued 1 places options;
-  missing = missing 1 places options;
+  by_long = all_by_long 1 places options.valued options.switches;
+  by_short = all_by_short 1 places options.valued options.switches;
+  known = λ name h. known_first (valued_rules places options.valued) (map switch_at options.switches) name
+      (known_by_id (valued_rules places options.valued) name (all_valued 1 places options.valued)
+      (behind_front (places_from 1 places) (map option_at options.valued) name (option_there options.valued name h)));
+  plain = all_plain 1 places options.valued options.switches;
+  missing = missing 1 places options.valued options.switches;
 }
 
-pub all_left : (places options : List Text) → length places ≤ 16 → Left (rules_of places options) 1 places
-all_left places options h = left_of [] 1 places options (rules_of places options) (all_valued 1 places options) (λ j le rest. refl) (omega arith) refl
+pub all_left : (places : List Text) (options : Options) → length places ≤ 16 → Left (rules_of places options) 1 places
+all_left places options h =
+    left_first (valued_rules places options.valued) options.switches 1 places
+    (left_of [] 1 places options.valued (valued_rules places options.valued) (all_valued 1 places options.valued) (λ j le rest. refl) (omega arith) refl)

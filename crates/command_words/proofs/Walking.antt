@@ -12,12 +12,12 @@ use Rattle.clap.specs.Simple.{Shape, new_shape}
 use Rattle.clap.specs.Kinds.{Kinds, or_else}
 use Rattle.clap.specs.Faults.{bundle_fault, check_fault, defaults_fault, flags_fault, positional_fault, react_fault, repeat_fault, settle_fault, step_fault, turn_fault, walk_fault}
 use Rattle.clap.specs.declared.error.kind.ErrorKind.{ErrorKind}
-use Rattle.clap.specs.declared.error.kind.ErrorKind.TheVariants.{ArgumentConflict, InvalidValue, MissingRequiredArgument, UnknownArgument}
+use Rattle.clap.specs.declared.error.kind.ErrorKind.TheVariants.{ArgumentConflict, InvalidValue, MissingRequiredArgument, TooManyValues, UnknownArgument}
 use Rattle.clap.proofs.WalkLemmas.{bundle_ends}
 use Rattle.clap.proofs.FaultLemmas.{fault_ends}
-use Rattle.command_words.specs.Simple.{Text, Given, Kind, dashes, long, short, plain, kind_of, after_word, gives, is_among, is_once, named, placed, taken}
+use Rattle.command_words.specs.Simple.{Text, Given, Options, Kind, dashes, long, short, plain, kind_of, after_word, gives, is_among, is_once, named, placed, taken, with_given}
 use Rattle.command_words.proofs.Givens.{rows_for, has_given, row_added, last_new, last_again, accepts, accepts_more, accepts_start, accepts_twice}
-use Rattle.command_words.proofs.Rules.{AllValued, Known, Left, Setting, place_at, option_at, no_defaults, is_missing, same_bytes}
+use Rattle.command_words.proofs.Rules.{HaveNoDefault, Known, Left, Setting, place_at, option_at, switch_at, no_defaults, is_missing, same_bytes}
 
 -- the command once it is built
 abbrev pub shape : Text → List Rule → Shape
@@ -203,7 +203,7 @@ abbrev waiting_in : Standing → Option Text
 waiting_in (ready last) = None
 waiting_in (waits name) = Some name
 
-abbrev Claim : Text → List Text → List Text → List Rule → List Text → Type 0
+abbrev Claim : Text → List Text → Options → List Rule → List Text → Type 0
 Claim name places options c xs = (done : List Given) (s : Standing) (i : ℕ) (left : List Text) → is_once done ≡ true → KnownIn c s → Left c i left
     → Says (total name c (walk_at done s i false) xs) (ending c (walk_at done s i false) xs) (accepts places (before done s) (named options left (waiting_in s) xs))
 
@@ -215,7 +215,7 @@ says_none kinds rows o k ks fault is = subst (λ (p : Option (List Given)). Says
 
 -- ---- the end of the words
 
-after_is : (name : Text) (c : List Rule) (kinds : Kinds) (rows : List Row) (given : List Given) → kinds ≡ [] → rows ≡ rows_for given → AllValued c
+after_is : (name : Text) (c : List Rule) (kinds : Kinds) (rows : List Row) (given : List Given) → kinds ≡ [] → rows ≡ rows_for given → HaveNoDefault c
     → (or_else kinds (or_else (defaults_fault rows c) (check_fault (shape name c) (fold with_default rows c) false)) ≡ check_fault (shape name c) (rows_for given) false)
     × (fold with_default rows c ≡ rows_for given)
 after_is name c kinds rows given none same all =
@@ -232,14 +232,14 @@ end_of name places c given once missing false all kinds rows is same =
     let yes : list_any (is_missing given) c ≡ true = missing ∙ ap not all in
     says_none kinds rows (accepts places given (Some [])) MissingRequiredArgument [] (is ∙ rw yes refl) (rw (append-nil given, once, all) refl)
 
-at_end : (name : Text) (places options : List Text) (c : List Rule) → Setting places options c → (done : List Given) (last : Option Given) → is_once done ≡ true → KnownIn c (ready last)
+at_end : (name : Text) (places : List Text) (options : Options) (c : List Rule) → Setting places options c → (done : List Given) (last : Option Given) → is_once done ≡ true → KnownIn c (ready last)
     → Says (after name c (held done (pending_in last))) (finished c (held done (pending_in last))) (accepts places (all_in done last) (Some []))
 at_end name places options c s done last once known = go (settles c done last once known)
   where
     go : Settling c done last → Says (after name c (held done (pending_in last))) (finished c (held done (pending_in last))) (accepts places (all_in done last) (Some []))
     go (twice fault again) = says_none _ _ _ ArgumentConflict [] (rw fault refl) (accepts_twice places (all_in done last) (Some []) again)
     go (free none to all_once) =
-        let a = after_is name c (settle_fault c false (held done (pending_in last))) (settled c (held done (pending_in last))).rows (all_in done last) none (ap (λ (h : Held). h.rows) to) s.valued in
+        let a = after_is name c (settle_fault c false (held done (pending_in last))) (settled c (held done (pending_in last))).rows (all_in done last) none (ap (λ (h : Held). h.rows) to) s.plain in
         end_of name places c (all_in done last) all_once (s.missing (all_in done last)) (list_all (λ n. gives n (all_in done last)) places) refl _ _ a.0 a.1
 
 -- ---- positional words
@@ -262,7 +262,7 @@ place_turn : (name : Text) (c : List Rule) (i : ℕ) (n : Text) (done : List Giv
     → step_fault (shape name c) i (held done pending) value ≡ settle_fault c false (held done pending)
 place_turn name c i n done pending at = rw at (place_fault c i n done pending)
 
-trails : (name : Text) (places options : List Text) (c : List Rule) → Setting places options c → (xs : List Text) → TrailClaim name places c xs
+trails : (name : Text) (places : List Text) (options : Options) (c : List Rule) → Setting places options c → (xs : List Text) → TrailClaim name places c xs
 unfolding total placed walked
 trails name places options c s [] done last i left once known l = at_end name places options c s done last once known
 trails name places options c s (x ∷ xs) done last i left once known l = go left l (settles c done last once known) (trails name places options c s xs)
@@ -291,15 +291,19 @@ still_waits name c n done i (m ∷ ms) (x ∷ xs) k l =
 -- ---- a word after none that waits
 
 -- the reading of one word
-one_word : (options left : List Text) (next : Option Text) (x : Text) (xs : List Text) (k : Kind) → kind_of x ≡ k
+one_word : (options : Options) (left : List Text) (next : Option Text) (x : Text) (xs : List Text) (k : Kind) → kind_of x ≡ k
     → named options left next (x ∷ xs) ≡ after_word options left next k x xs (λ others waits. named options others waits xs)
 unfolding named
 one_word options left None x xs k e = ap (λ (kind : Kind). after_word options left None kind x xs (λ others waits. named options others waits xs)) e
 one_word options left (Some n) x xs k e = ap (λ (kind : Kind). after_word options left (Some n) kind x xs (λ others waits. named options others waits xs)) e
 
--- an option of the command, or none
-option_of : (name : Text) (places options : List Text) (c : List Rule) → Setting places options c → (n : Text) (t : Bool) → is_among options n ≡ t → arg_by_long c n ≡ (if t then Some (option_at n) else None)
-option_of name places options c s n t e = s.by_long n ∙ ap (λ (b : Bool). if b then Some (option_at n) else None) e
+-- an option of the command, a switch, or none
+option_of : (name : Text) (places : List Text) (options : Options) (c : List Rule) → Setting places options c → (n : Text) → is_among options.valued n ≡ true → arg_by_long c n ≡ Some (option_at n)
+option_of name places options c s n e = s.by_long n ∙ rw e refl
+
+other_of : (name : Text) (places : List Text) (options : Options) (c : List Rule) → Setting places options c → (n : Text) (t : Bool) → is_among options.valued n ≡ false → is_among options.switches n ≡ t
+    → arg_by_long c n ≡ (if t then Some (switch_at n) else None)
+other_of name places options c s n t e f = s.by_long n ∙ rw (e, f) refl
 
 dashes_idle : (name : Text) (c : List Rule) (done : List Given) (last : Option Given) (i : ℕ) (x : Text) → bytes_eq x two_hyphens ≡ true
     → (turn_fault (shape name c) [] (walk_at done (ready last) i false) x ≡ []) × (walked c [] (walk_at done (ready last) i false) x ≡ walk_at done (ready last) i true)
@@ -327,6 +331,22 @@ long_walk_value c done last i x n v d l at = rw (d, l, at) refl
 long_turn_none : (name : Text) (c : List Rule) (done : List Given) (last : Option Given) (i : ℕ) (x n : Text) → bytes_eq x two_hyphens ≡ false → long_of x ≡ Some (n, None)
     → arg_by_long c n ≡ Some (option_at n) → turn_fault (shape name c) [] (walk_at done (ready last) i false) x ≡ or_else (settle_fault c false (held done (pending_in last))) []
 long_turn_none name c done last i x n d l at = rw (d, l, at) refl
+
+-- a switch is used as an option is with the empty value
+long_turn_switch : (name : Text) (c : List Rule) (done : List Given) (last : Option Given) (i : ℕ) (x n : Text) → bytes_eq x two_hyphens ≡ false → long_of x ≡ Some (n, None)
+    → arg_by_long c n ≡ Some (switch_at n) → turn_fault (shape name c) [] (walk_at done (ready last) i false) x ≡ or_else (react_fault c false (option_at n) ([] ∷ []) (held done (pending_in last))) []
+long_turn_switch name c done last i x n d l at = rw (d, l, at) refl
+
+long_walk_switch : (c : List Rule) (done : List Given) (last : Option Given) (i : ℕ) (x n : Text) → bytes_eq x two_hyphens ≡ false → long_of x ≡ Some (n, None)
+    → arg_by_long c n ≡ Some (switch_at n) → walked c [] (walk_at done (ready last) i false) x ≡ between (reacted c (option_at n) ([] ∷ []) (held done (pending_in last))) i false
+unfolding walked
+long_walk_switch c done last i x n d l at = rw (d, l, at) refl
+
+-- a switch takes no value
+switch_turn : (name : Text) (c : List Rule) (done : List Given) (s : Standing) (i : ℕ) (x n v : Text) → bytes_eq x two_hyphens ≡ false → long_of x ≡ Some (n, Some v)
+    → arg_by_long c n ≡ Some (switch_at n) → turn_fault (shape name c) [] (walk_at done s i false) x ≡ TooManyValues ∷ []
+switch_turn name c done (ready last) i x n v d l at = rw (d, l, at) refl
+switch_turn name c done (waits m) i x n v d l at = rw (d, l, at) refl
 
 abbrev waiting_with : Held → Text → ℕ → Walk
 waiting_with h n i = record { held = record h { pending = Some (n, []) }; waiting = option n; position = i; is_trailing = false; stopped = None }
@@ -371,7 +391,7 @@ abbrev SaysAt : Text → List Text → List Rule → Walk → List Text → List
 SaysAt name places c w words before reading = Says (total name c w words) (ending c w words) (accepts places before reading)
 
 -- a word with a fault, where the reading refuses it, or a name stands twice before it
-refused_at : (name : Text) (places options : List Text) (c : List Rule) (w : Walk) (x : Text) (xs : List Text) (given : List Given) (left : List Text) (next : Option Text) (kind : Kind) (k : ErrorKind) (ks : Kinds)
+refused_at : (name : Text) (places : List Text) (options : Options) (c : List Rule) (w : Walk) (x : Text) (xs : List Text) (given : List Given) (left : List Text) (next : Option Text) (kind : Kind) (k : ErrorKind) (ks : Kinds)
     → kind_of x ≡ kind → turn_fault (shape name c) [] w x ≡ k ∷ ks
     → accepts places given (after_word options left next kind x xs (λ others waits. named options others waits xs)) ≡ None
     → SaysAt name places c w (x ∷ xs) given (named options left next (x ∷ xs))
@@ -379,7 +399,7 @@ refused_at name places options c w x xs given left next kind k ks seen fault non
     refuses name c w x xs _ k ks fault (ap (accepts places given) (one_word options left next x xs kind seen) ∙ none)
 
 -- a word without a fault
-goes_at : (name : Text) (places options : List Text) (c : List Rule) (w w2 : Walk) (x : Text) (xs : List Text) (given more : List Given) (left : List Text) (next : Option Text) (kind : Kind) (reading : Option (List Given))
+goes_at : (name : Text) (places : List Text) (options : Options) (c : List Rule) (w w2 : Walk) (x : Text) (xs : List Text) (given more : List Given) (left : List Text) (next : Option Text) (kind : Kind) (reading : Option (List Given))
     → kind_of x ≡ kind → turn_fault (shape name c) [] w x ≡ [] → walked c [] w x ≡ w2
     → accepts places given (after_word options left next kind x xs (λ others waits. named options others waits xs)) ≡ accepts places more reading
     → SaysAt name places c w2 xs more reading → SaysAt name places c w (x ∷ xs) given (named options left next (x ∷ xs))
@@ -388,51 +408,76 @@ goes_at name places options c w w2 x xs given more left next kind reading seen c
     (subst (λ (o : Option (List Given)). Says (total name c w2 xs) (ending c w2 xs) o)
     (sym (ap (accepts places given) (one_word options left next x xs kind seen) ∙ same)) says)
 
-idle_long : (name : Text) (places options : List Text) (c : List Rule) → Setting places options c → (x : Text) (xs : List Text) → Claim name places options c xs
+-- an option with its value, or a switch with the empty one
+idle_value : (name : Text) (places : List Text) (options : Options) (c : List Rule) → (x : Text) (xs : List Text) → Claim name places options c xs
     → (done : List Given) (last : Option Given) (i : ℕ) (left : List Text) → Left c i left → Settling c done last
-    → (n : Text) (v : Option Text) → bytes_eq x two_hyphens ≡ false → long_of x ≡ Some (n, v) → kind_of x ≡ long n v → (t : Bool) → is_among options n ≡ t
+    → (n v : Text) (o : Option Text) → kind_of x ≡ long n o
+    → turn_fault (shape name c) [] (walk_at done (ready last) i false) x ≡ or_else (react_fault c false (option_at n) (v ∷ []) (held done (pending_in last))) []
+    → walked c [] (walk_at done (ready last) i false) x ≡ between (reacted c (option_at n) (v ∷ []) (held done (pending_in last))) i false
+    → after_word options left None (long n o) x xs (λ others waits. named options others waits xs) ≡ with_given n v (named options left None xs)
     → SaysAt name places c (walk_at done (ready last) i false) (x ∷ xs) (all_in done last) (named options left None (x ∷ xs))
-idle_long name places options c s x xs rest done last i left l st n v d e seen false among =
-    refused_at name places options c (walk_at done (ready last) i false) x xs (all_in done last) left None (long n v) UnknownArgument [] seen
-    (unknown_turn name c done (ready last) i x n v d e (option_of name places options c s n false among)) (rw among refl)
-idle_long name places options c s x xs rest done last i left l (twice fault again) n None d e seen true among =
-    refused_at name places options c (walk_at done (ready last) i false) x xs (all_in done last) left None (long n None) ArgumentConflict [] seen
-    (long_turn_none name c done last i x n d e (option_of name places options c s n true among) ∙ ap (λ (k : Kinds). or_else k []) fault) (accepts_twice places (all_in done last) _ again)
-idle_long name places options c s x xs rest done last i left l (free none to once) n None d e seen true among =
-    goes_at name places options c (walk_at done (ready last) i false) (walk_at (all_in done last) (waits n) i false) x xs (all_in done last) (all_in done last) left None (long n None) (named options left (Some n) xs) seen
-    (long_turn_none name c done last i x n d e (option_of name places options c s n true among) ∙ ap (λ (k : Kinds). or_else k []) none)
-    (long_walk_none c done last i x n d e (option_of name places options c s n true among) ∙ ap (λ (h : Held). waiting_with h n i) to)
-    (rw among refl)
-    (rest (all_in done last) (waits n) i left once (s.known n among) l)
-idle_long name places options c s x xs rest done last i left l (twice fault again) n (Some v) d e seen true among =
-    refused_at name places options c (walk_at done (ready last) i false) x xs (all_in done last) left None (long n (Some v)) ArgumentConflict [] seen
-    (long_turn_value name c done last i x n v d e (option_of name places options c s n true among)
-    ∙ ap (λ (k : Kinds). or_else (or_else k (or_else (repeat_fault false n (settled c (held done (pending_in last))).rows) [])) []) fault)
+idle_value name places options c x xs rest done last i left l (twice fault again) n v o seen turns goes_to gives_it =
+    refused_at name places options c (walk_at done (ready last) i false) x xs (all_in done last) left None (long n o) ArgumentConflict [] seen
+    (turns ∙ ap (λ (k : Kinds). or_else (or_else k (or_else (repeat_fault false n (settled c (held done (pending_in last))).rows) [])) []) fault)
     (accepts_twice places (all_in done last) _ again)
-idle_long name places options c s x xs rest done last i left l (free none to once) n (Some v) d e seen true among =
+idle_value name places options c x xs rest done last i left l (free none to once) n v o seen turns goes_to gives_it =
     go (gives n (all_in done last)) refl
   where
-    at : arg_by_long c n ≡ Some (option_at n)
-    at = option_of name places options c s n true among
-
     turn : (t : Bool) → gives n (all_in done last) ≡ t → turn_fault (shape name c) [] (walk_at done (ready last) i false) x ≡ (if t then ArgumentConflict ∷ [] else [])
-    turn t g = long_turn_value name c done last i x n v d e at ∙ react_is c done last n v t g none to
+    turn t g = turns ∙ react_is c done last n v t g none to
 
-    reading : accepts places (all_in done last) (after_word options left None (long n (Some v)) x xs (λ others waits. named options others waits xs))
+    reading : accepts places (all_in done last) (after_word options left None (long n o) x xs (λ others waits. named options others waits xs))
         ≡ accepts places (all_in done last ++ (n, v) ∷ []) (named options left None xs)
-    reading = rw among (accepts_more places (all_in done last) n v (named options left None xs))
+    reading = ap (accepts places (all_in done last)) gives_it ∙ accepts_more places (all_in done last) n v (named options left None xs)
 
     go : (t : Bool) → gives n (all_in done last) ≡ t
         → SaysAt name places c (walk_at done (ready last) i false) (x ∷ xs) (all_in done last) (named options left None (x ∷ xs))
-    go true g = refused_at name places options c (walk_at done (ready last) i false) x xs (all_in done last) left None (long n (Some v)) ArgumentConflict [] seen (turn true g)
+    go true g = refused_at name places options c (walk_at done (ready last) i false) x xs (all_in done last) left None (long n o) ArgumentConflict [] seen (turn true g)
         (reading ∙ accepts_twice places (all_in done last ++ (n, v) ∷ []) (named options left None xs) (last_again (all_in done last) (n, v) g))
     go false g = goes_at name places options c (walk_at done (ready last) i false) (walk_at (all_in done last ++ (n, v) ∷ []) (ready None) i false) x xs
-        (all_in done last) (all_in done last ++ (n, v) ∷ []) left None (long n (Some v)) (named options left None xs) seen (turn false g)
-        (long_walk_value c done last i x n v d e at ∙ ap (λ (h : Held). between h i false) (reacted_is c done last n v g to))
+        (all_in done last) (all_in done last ++ (n, v) ∷ []) left None (long n o) (named options left None xs) seen (turn false g)
+        (goes_to ∙ ap (λ (h : Held). between h i false) (reacted_is c done last n v g to))
         reading
         (rest (all_in done last ++ (n, v) ∷ []) (ready None) i left (last_new (all_in done last) (n, v) once g) tt l)
 
-idle_plain : (name : Text) (places options : List Text) (c : List Rule) → Setting places options c → (x : Text) (xs : List Text) → Claim name places options c xs
+-- a switch, or nothing known
+idle_other : (name : Text) (places : List Text) (options : Options) (c : List Rule) → Setting places options c → (x : Text) (xs : List Text) → Claim name places options c xs
+    → (done : List Given) (last : Option Given) (i : ℕ) (left : List Text) → Left c i left → Settling c done last
+    → (n : Text) (v : Option Text) → bytes_eq x two_hyphens ≡ false → long_of x ≡ Some (n, v) → kind_of x ≡ long n v
+    → is_among options.valued n ≡ false → (t : Bool) → is_among options.switches n ≡ t
+    → SaysAt name places c (walk_at done (ready last) i false) (x ∷ xs) (all_in done last) (named options left None (x ∷ xs))
+idle_other name places options c s x xs rest done last i left l st n v d e seen none false among =
+    refused_at name places options c (walk_at done (ready last) i false) x xs (all_in done last) left None (long n v) UnknownArgument [] seen
+    (unknown_turn name c done (ready last) i x n v d e (other_of name places options c s n false none among)) (rw (none, among) refl)
+idle_other name places options c s x xs rest done last i left l st n None d e seen none true among =
+    let at = other_of name places options c s n true none among in
+    idle_value name places options c x xs rest done last i left l st n [] None seen
+    (long_turn_switch name c done last i x n d e at) (long_walk_switch c done last i x n d e at) (rw (none, among) refl)
+idle_other name places options c s x xs rest done last i left l st n (Some v) d e seen none true among =
+    refused_at name places options c (walk_at done (ready last) i false) x xs (all_in done last) left None (long n (Some v)) TooManyValues [] seen
+    (switch_turn name c done (ready last) i x n v d e (other_of name places options c s n true none among)) (rw (none, among) refl)
+
+idle_long : (name : Text) (places : List Text) (options : Options) (c : List Rule) → Setting places options c → (x : Text) (xs : List Text) → Claim name places options c xs
+    → (done : List Given) (last : Option Given) (i : ℕ) (left : List Text) → Left c i left → Settling c done last
+    → (n : Text) (v : Option Text) → bytes_eq x two_hyphens ≡ false → long_of x ≡ Some (n, v) → kind_of x ≡ long n v → (t : Bool) → is_among options.valued n ≡ t
+    → SaysAt name places c (walk_at done (ready last) i false) (x ∷ xs) (all_in done last) (named options left None (x ∷ xs))
+idle_long name places options c s x xs rest done last i left l st n v d e seen false among =
+    idle_other name places options c s x xs rest done last i left l st n v d e seen among (is_among options.switches n) refl
+idle_long name places options c s x xs rest done last i left l (twice fault again) n None d e seen true among =
+    refused_at name places options c (walk_at done (ready last) i false) x xs (all_in done last) left None (long n None) ArgumentConflict [] seen
+    (long_turn_none name c done last i x n d e (option_of name places options c s n among) ∙ ap (λ (k : Kinds). or_else k []) fault) (accepts_twice places (all_in done last) _ again)
+idle_long name places options c s x xs rest done last i left l (free none to once) n None d e seen true among =
+    goes_at name places options c (walk_at done (ready last) i false) (walk_at (all_in done last) (waits n) i false) x xs (all_in done last) (all_in done last) left None (long n None) (named options left (Some n) xs) seen
+    (long_turn_none name c done last i x n d e (option_of name places options c s n among) ∙ ap (λ (k : Kinds). or_else k []) none)
+    (long_walk_none c done last i x n d e (option_of name places options c s n among) ∙ ap (λ (h : Held). waiting_with h n i) to)
+    (rw among refl)
+    (rest (all_in done last) (waits n) i left once (s.known n among) l)
+idle_long name places options c s x xs rest done last i left l st n (Some v) d e seen true among =
+    let at = option_of name places options c s n among in
+    idle_value name places options c x xs rest done last i left l st n v (Some v) seen
+    (long_turn_value name c done last i x n v d e at) (long_walk_value c done last i x n v d e at) (rw among refl)
+
+idle_plain : (name : Text) (places : List Text) (options : Options) (c : List Rule) → Setting places options c → (x : Text) (xs : List Text) → Claim name places options c xs
     → (done : List Given) (last : Option Given) (i : ℕ) (left : List Text) → Left c i left → Settling c done last
     → bytes_eq x two_hyphens ≡ false → long_of x ≡ None → IsBare x → kind_of x ≡ plain
     → SaysAt name places c (walk_at done (ready last) i false) (x ∷ xs) (all_in done last) (named options left None (x ∷ xs))
@@ -449,7 +494,7 @@ idle_plain name places options c s x xs rest done last i (n ∷ ns) l (free none
     (accepts_more places (all_in done last) n x (named options ns None xs))
     (rest (all_in done last) (ready (Some (n, x))) (suc i) ns once l.1 l.3)
 
-idle_word : (name : Text) (places options : List Text) (c : List Rule) → Setting places options c → (x : Text) (xs : List Text) → Claim name places options c xs
+idle_word : (name : Text) (places : List Text) (options : Options) (c : List Rule) → Setting places options c → (x : Text) (xs : List Text) → Claim name places options c xs
     → (done : List Given) (last : Option Given) (i : ℕ) (left : List Text) → is_once done ≡ true → KnownIn c (ready last) → Left c i left → Looks x
     → SaysAt name places c (walk_at done (ready last) i false) (x ∷ xs) (all_in done last) (named options left None (x ∷ xs))
 idle_word name places options c s x xs rest done last i left once known l (as_dashes d seen) =
@@ -457,7 +502,7 @@ idle_word name places options c s x xs rest done last i left once known l (as_da
     goes_at name places options c (walk_at done (ready last) i false) (walk_at done (ready last) i true) x xs (all_in done last) (all_in done last) left None dashes (placed left xs) seen step.0 step.1 refl
     (trails name places options c s xs done last i left once known l)
 idle_word name places options c s x xs rest done last i left once known l (as_long n v d e seen) =
-    idle_long name places options c s x xs rest done last i left l (settles c done last once known) n v d e seen (is_among options n) refl
+    idle_long name places options c s x xs rest done last i left l (settles c done last once known) n v d e seen (is_among options.valued n) refl
 idle_word name places options c s x xs rest done last i left once known l (as_short flags first d e f k seen) =
     refused_at name places options c (walk_at done (ready last) i false) x xs (all_in done last) left None short UnknownArgument [] seen
     (short_turn name c done (ready last) i x flags first d e f k (s.by_short first)) refl
@@ -476,6 +521,10 @@ long_waiting : (name : Text) (c : List Rule) (done : List Given) (n : Text) (i :
 long_waiting name c done n i x m None k d l at = rw (d, l, at, waiting_fault c done n k) refl
 long_waiting name c done n i x m (Some v) k d l at = rw (d, l, at, waiting_fault c done n k) refl
 
+switch_waiting : (name : Text) (c : List Rule) (done : List Given) (n : Text) (i : ℕ) (x m : Text) → Known c n → bytes_eq x two_hyphens ≡ false → long_of x ≡ Some (m, None)
+    → arg_by_long c m ≡ Some (switch_at m) → turn_fault (shape name c) [] (walk_at done (waits n) i false) x ≡ InvalidValue ∷ []
+switch_waiting name c done n i x m k d l at = rw (d, l, at, waiting_fault c done n k) refl
+
 plain_waiting : (name : Text) (c : List Rule) (done : List Given) (n : Text) (i : ℕ) (x : Text) → Known c n → bytes_eq x two_hyphens ≡ false → long_of x ≡ None → IsBare x
     → (turn_fault (shape name c) [] (walk_at done (waits n) i false) x ≡ []) × (walked c [] (walk_at done (waits n) i false) x ≡ walk_at done (ready (Some (n, x))) i false)
 unfolding walked
@@ -484,20 +533,32 @@ plain_waiting name c done n i x k d l bare = (
   rw (d, l, bare_met c (option n) x done (Some (n, [])) bare, k.3, same_bytes n) refl,
 )
 
-waiting_word : (name : Text) (places options : List Text) (c : List Rule) → Setting places options c → (x : Text) (xs : List Text) → Claim name places options c xs
+waiting_word : (name : Text) (places : List Text) (options : Options) (c : List Rule) → Setting places options c → (x : Text) (xs : List Text) → Claim name places options c xs
     → (done : List Given) (n : Text) (i : ℕ) (left : List Text) → is_once done ≡ true → Known c n → Left c i left → Looks x
     → SaysAt name places c (walk_at done (waits n) i false) (x ∷ xs) done (named options left (Some n) (x ∷ xs))
 waiting_word name places options c s x xs rest done n i left once known l (as_dashes d seen) =
     let step = dashes_waiting name c done n i x d in
     goes_at name places options c (walk_at done (waits n) i false) (walk_at done (waits n) i true) x xs done done left (Some n) dashes None seen step.0 step.1 refl
     (still_waits name c n done i left xs known l)
-waiting_word name places options c s x xs rest done n i left once known l (as_long m v d e seen) = go (is_among options m) refl
+waiting_word name places options c s x xs rest done n i left once known l (as_long m v d e seen) = go (is_among options.valued m) refl
   where
-    go : (t : Bool) → is_among options m ≡ t → SaysAt name places c (walk_at done (waits n) i false) (x ∷ xs) done (named options left (Some n) (x ∷ xs))
-    go true among = refused_at name places options c (walk_at done (waits n) i false) x xs done left (Some n) (long m v) InvalidValue [] seen
-        (long_waiting name c done n i x m v known d e (option_of name places options c s m true among)) refl
-    go false among = refused_at name places options c (walk_at done (waits n) i false) x xs done left (Some n) (long m v) UnknownArgument [] seen
-        (unknown_turn name c done (waits n) i x m v d e (option_of name places options c s m false among)) refl
+    stops : (k : ErrorKind) → turn_fault (shape name c) [] (walk_at done (waits n) i false) x ≡ k ∷ []
+        → SaysAt name places c (walk_at done (waits n) i false) (x ∷ xs) done (named options left (Some n) (x ∷ xs))
+    stops k fault = refused_at name places options c (walk_at done (waits n) i false) x xs done left (Some n) (long m v) k [] seen fault refl
+
+    at_switch : (o : Option Text) → long_of x ≡ Some (m, o) → arg_by_long c m ≡ Some (switch_at m)
+        → SaysAt name places c (walk_at done (waits n) i false) (x ∷ xs) done (named options left (Some n) (x ∷ xs))
+    at_switch None f at = stops InvalidValue (switch_waiting name c done n i x m known d f at)
+    at_switch (Some w) f at = stops TooManyValues (switch_turn name c done (waits n) i x m w d f at)
+
+    other : (t : Bool) → is_among options.valued m ≡ false → is_among options.switches m ≡ t
+        → SaysAt name places c (walk_at done (waits n) i false) (x ∷ xs) done (named options left (Some n) (x ∷ xs))
+    other false none among = stops UnknownArgument (unknown_turn name c done (waits n) i x m v d e (other_of name places options c s m false none among))
+    other true none among = at_switch v e (other_of name places options c s m true none among)
+
+    go : (t : Bool) → is_among options.valued m ≡ t → SaysAt name places c (walk_at done (waits n) i false) (x ∷ xs) done (named options left (Some n) (x ∷ xs))
+    go true among = stops InvalidValue (long_waiting name c done n i x m v known d e (option_of name places options c s m among))
+    go false among = other (is_among options.switches m) among refl
 waiting_word name places options c s x xs rest done n i left once known l (as_short flags first d e f k seen) =
     refused_at name places options c (walk_at done (waits n) i false) x xs done left (Some n) short UnknownArgument [] seen
     (short_turn name c done (waits n) i x flags first d e f k (s.by_short first)) refl
@@ -509,7 +570,7 @@ waiting_word name places options c s x xs rest done n i left once known l (as_pl
 
 -- ---- all words
 
-walks : (name : Text) (places options : List Text) (c : List Rule) → Setting places options c → (xs : List Text) → Claim name places options c xs
+walks : (name : Text) (places : List Text) (options : Options) (c : List Rule) → Setting places options c → (xs : List Text) → Claim name places options c xs
 unfolding total named
 walks name places options c s [] done (ready last) i left once known l = at_end name places options c s done last once known
 walks name places options c s [] done (waits n) i left once known l =
@@ -520,7 +581,7 @@ walks name places options c s (x ∷ xs) done (waits n) i left once known l =
     waiting_word name places options c s x xs (walks name places options c s xs) done n i left once known l (looks x)
 
 -- the walk over all words says what is taken
-pub all_words : (name : Text) (places options : List Text) (c : List Rule) → Setting places options c → Left c 1 places → (words : List Text)
+pub all_words : (name : Text) (places : List Text) (options : Options) (c : List Rule) → Setting places options c → Left c 1 places → (words : List Text)
     → Says (total name c (walk_at [] (ready None) 1 false) words) (ending c (walk_at [] (ready None) 1 false) words) (taken places options words)
 unfolding is_once
 all_words name places options c s l words =

@@ -7,7 +7,7 @@ use Rattle.h263_types.specs.Params.{IsParams, default_params, ranges, verdict_of
 use Rattle.h263_types.specs.declared.format.Format.TheVariants.{Qcif}
 use Rattle.h263_types.specs.declared.params.Params.{Params}
 use Rattle.h263_types.specs.declared.params.ParamFault.{ParamFault}
-use Rattle.command_words.specs.Simple.{Text, taken, value}
+use Rattle.command_words.specs.Simple.{Text, Options, taken, value}
 use Rattle.command_words.specs.Values.{byte_in, clock_in, format_in, number_in, value_or}
 use Rattle.command_words.specs.declared.command.Command.{Command}
 use Rattle.command_words.specs.declared.command.Command.TheVariants.{Call, Send, Recv, Demo, Rate, Audit}
@@ -90,8 +90,12 @@ pub record Asked : Type 0 where
 pub record Row : Type 0 where
   pub word : Text
   pub places : List Text
-  pub options : List Text
+  pub options : Options
   pub asks : Lookup → Option Asked
+
+-- options that each take a value
+abbrev pub taking_values : List Text → Options
+taking_values names = record { valued = names; switches = [] }
 
 abbrev pub call_of : Lookup → Option Asked
 call_of given = option_map (λ params. record {
@@ -106,8 +110,8 @@ abbrev pub call : Row
 call = record {
   word = codes "call";
   places = codes "in" ∷ codes "out" ∷ [];
-  options = codes "quant" ∷ codes "keep" ∷ codes "radius" ∷ codes "limit"
-      ∷ codes "slots" ∷ codes "lead" ∷ codes "messages" ∷ codes "clock" ∷ codes "trace" ∷ [];
+  options = taking_values (codes "quant" ∷ codes "keep" ∷ codes "radius" ∷ codes "limit"
+      ∷ codes "slots" ∷ codes "lead" ∷ codes "messages" ∷ codes "clock" ∷ codes "trace" ∷ []);
   asks = call_of;
 }
 
@@ -139,14 +143,14 @@ abbrev pub send : Row
 send = record {
   word = codes "send";
   places = codes "in" ∷ codes "log" ∷ codes "wire" ∷ [];
-  options = codes "quant" ∷ codes "keep" ∷ codes "radius"
-      ∷ codes "limit" ∷ codes "slots" ∷ codes "lead" ∷ codes "clock" ∷ codes "target" ∷ [];
+  options = taking_values (codes "quant" ∷ codes "keep" ∷ codes "radius"
+      ∷ codes "limit" ∷ codes "slots" ∷ codes "lead" ∷ codes "clock" ∷ codes "target" ∷ []);
   asks = send_of;
 }
 
 abbrev pub recv_of : Lookup → Option Asked
 recv_of given = option_map (λ params. record {
-  command = Recv params;
+  command = Recv params (is_some (given (codes "join")));
   video = None;
   events = given (codes "log");
   pictures = given (codes "out");
@@ -157,7 +161,10 @@ abbrev pub recv : Row
 recv = record {
   word = codes "recv";
   places = codes "log" ∷ codes "out" ∷ codes "wire" ∷ [];
-  options = codes "format" ∷ codes "slots" ∷ codes "lead" ∷ codes "messages" ∷ codes "clock" ∷ [];
+  options = record {
+    valued = codes "format" ∷ codes "slots" ∷ codes "lead" ∷ codes "messages" ∷ codes "clock" ∷ [];
+    switches = codes "join" ∷ [];
+  };
   asks = recv_of;
 }
 
@@ -188,8 +195,8 @@ abbrev pub demo : Row
 demo = record {
   word = codes "demo";
   places = codes "seed" ∷ codes "frames" ∷ [];
-  options = codes "format" ∷ codes "quant" ∷ codes "keep" ∷ codes "radius"
-      ∷ codes "limit" ∷ codes "slots" ∷ codes "lead" ∷ codes "messages" ∷ codes "clock" ∷ [];
+  options = taking_values (codes "format" ∷ codes "quant" ∷ codes "keep" ∷ codes "radius"
+      ∷ codes "limit" ∷ codes "slots" ∷ codes "lead" ∷ codes "messages" ∷ codes "clock" ∷ []);
   asks = demo_of;
 }
 
@@ -214,7 +221,7 @@ abbrev pub rate : Row
 rate = record {
   word = codes "rate";
   places = codes "log" ∷ [];
-  options = codes "target" ∷ codes "bucket" ∷ [];
+  options = taking_values (codes "target" ∷ codes "bucket" ∷ []);
   asks = rate_of;
 }
 
@@ -231,7 +238,7 @@ abbrev pub audit : Row
 audit = record {
   word = codes "audit";
   places = codes "log" ∷ [];
-  options = codes "format" ∷ codes "slots" ∷ codes "lead" ∷ codes "clock" ∷ [];
+  options = taking_values (codes "format" ∷ codes "slots" ∷ codes "lead" ∷ codes "clock" ∷ []);
   asks = audit_of;
 }
 
@@ -268,7 +275,7 @@ word_for a Pictures2 = None
 abbrev pub IsCommand : Command → Type 0
 IsCommand (Call params traced) = IsParams params
 IsCommand (Send params target) = IsParams params × IfSome target (λ n. 1 ≤ n) × IfSome target (λ n. n ≤ 999999)
-IsCommand (Recv params) = IsParams params
+IsCommand (Recv params join) = IsParams params
 IsCommand (Demo params seed frames) = IsParams params × (seed ≤ 999999999) × (1 ≤ frames) × (frames ≤ 10000)
 IsCommand (Rate target bucket) = (1 ≤ target) × (target ≤ 999999) × (bucket ≤ 999999)
 IsCommand (Audit params) = IsParams params
@@ -282,7 +289,7 @@ abbrev pub HasNamesOf : Command → Asked → Type 0
 HasNamesOf (Call params true) a = IsGiven a.video × IsGiven a.events × IsGiven a.pictures
 HasNamesOf (Call params false) a = IsGiven a.video × IsGiven a.pictures
 HasNamesOf (Send params target) a = IsGiven a.video × IsGiven a.events × IsGiven a.wire
-HasNamesOf (Recv params) a = IsGiven a.events × IsGiven a.pictures × IsGiven a.wire
+HasNamesOf (Recv params join) a = IsGiven a.events × IsGiven a.pictures × IsGiven a.wire
 HasNamesOf (Demo params seed frames) a = Unit {0}
 HasNamesOf (Rate target bucket) a = IsGiven a.events
 HasNamesOf (Audit params) a = IsGiven a.events

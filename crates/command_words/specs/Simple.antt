@@ -1,5 +1,5 @@
--- What the words of a simple command say: a command with positional words, each required and in this order, and
--- with options that each take one value and stand at most once.
+-- What the words of a simple command say: a command with positional words, each required and in this order, with
+-- options that each take one value, and with switches that take none. An option and a switch stand at most once.
 use Rattle.std.specs.Prelude.{ℕ, Bool, true, not, ◌&&◌, List, [], ◌∷◌, Option, Some, None, is_some, option_map, option_and_then, find, if◌then◌else◌, slice_get}
 use Rattle.std.specs.List.{list_all, list_any}
 use Rattle.std.specs.Str.{bytes_eq, chars}
@@ -11,6 +11,11 @@ Text = List ℕ
 -- the name of a positional word or of an option, and the value that the words give it
 abbrev pub Given : Type 0
 Given = Text × Text
+
+-- the names of the options that take a value, and of the switches
+pub record Options : Type 0 where
+  pub valued : List Text
+  pub switches : List Text
 
 -- what a word looks like
 pub data Kind : Type 0 where
@@ -53,23 +58,30 @@ abbrev pub at_option : List Text → Text → Option Text → Rest → Option (L
 at_option places name (Some value) rest = with_given name value (rest places None)
 at_option places name None rest = rest places (Some name)
 
+-- a switch gives the empty value
+abbrev pub at_switch : List Text → Text → Option Text → Rest → Option (List Given)
+at_switch places name (Some value) rest = None
+at_switch places name None rest = with_given name [] (rest places None)
+
 -- each word is positional
 unfoldable pub placed : List Text → List Text → Option (List Given)
 placed places [] = Some []
 placed places (word ∷ words) = at_place places word (λ others waits. placed others words)
 
-abbrev pub after_word : (options places : List Text)
+abbrev pub after_word : Options → (places : List Text)
     → Option Text → Kind → Text → List Text → Rest → Option (List Given)
 after_word options places (Some name) plain word words rest = with_given name word (rest places None)
 after_word options places (Some name) _ word words rest = None
 after_word options places None plain word words rest = at_place places word rest
 after_word options places None dashes word words rest = placed places words
 after_word options places None (long name value) word words rest =
-    if is_among options name then at_option places name value rest else None
+    if is_among options.valued name then at_option places name value rest
+    else if is_among options.switches name then at_switch places name value rest
+    else None
 after_word options places None short word words rest = None
 
 -- the values that the words give, in their order, where the positional words still to come have the names `places`
-unfoldable pub named : (options places : List Text) → Option Text → List Text → Option (List Given)
+unfoldable pub named : Options → (places : List Text) → Option Text → List Text → Option (List Given)
 named options places (Some name) [] = None
 named options places None [] = Some []
 named options places waits (word ∷ words) =
@@ -97,5 +109,5 @@ whole_or_none places None = None
 whole_or_none places (Some given) = if is_whole places given then Some given else None
 
 -- what the words give, where a simple command with these positional words and options takes them
-abbrev pub taken : (places options words : List Text) → Option (List Given)
+abbrev pub taken : (places : List Text) → Options → (words : List Text) → Option (List Given)
 taken places options words = whole_or_none places (named options places None words)

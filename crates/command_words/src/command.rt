@@ -15,9 +15,10 @@ pub enum Command {
         params: Params,
         target: Option<u32>,
     },
-    /// The receiver alone.
+    /// The receiver alone, after a joiner where `join` is true.
     Recv {
         params: Params,
+        join: bool,
     },
     /// The call on made input: a seed below 1,000,000,000, and 1 to 10,000 frames.
     Demo {

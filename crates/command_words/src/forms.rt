@@ -45,6 +45,10 @@ static AUDIT_PLACES: [&str; 1] = ["log"];
 
 static AUDIT_OPTIONS: [&str; 4] = ["format", "slots", "lead", "clock"];
 
+static RECV_SWITCHES: [&str; 1] = ["join"];
+
+static NO_SWITCHES: [&str; 0] = [];
+
 impl Form {
     // The form of the command with this first word.
     pub(crate) fn named(first: &str) -> Option<Form>
@@ -76,7 +80,7 @@ impl Form {
     }
 
     pub(crate) fn options(self) -> &'static [&'static str]
-        ensures { texts result.now ≡ (row_of self).options }
+        ensures { texts result.now ≡ (row_of self).options.valued }
     {
         match self {
             Form::Call => CALL_OPTIONS.as_slice(),
@@ -85,6 +89,16 @@ impl Form {
             Form::Demo => DEMO_OPTIONS.as_slice(),
             Form::Rate => RATE_OPTIONS.as_slice(),
             Form::Audit => AUDIT_OPTIONS.as_slice(),
+        }
+    }
+
+    pub(crate) fn switches(self) -> &'static [&'static str]
+        ensures { texts result.now ≡ (row_of self).options.switches }
+    {
+        match self {
+            Form::Recv => RECV_SWITCHES.as_slice(),
+            Form::Call | Form::Send => NO_SWITCHES.as_slice(),
+            Form::Demo | Form::Rate | Form::Audit => NO_SWITCHES.as_slice(),
         }
     }
 }

@@ -5,11 +5,12 @@ ghost use Rattle.clap.specs.Words.{app_of, first_value, found_of, kind_of};
 ghost use Rattle.clap.specs.declared.error.ErrorKind.TheVariants.{OutOfMemory as NoMemory};
 ghost use Rattle.command_words.specs.Simple.{taken};
 ghost use Rattle.command_words.specs.View.{row_of};
-ghost use Rattle.command_words.specs.Clap.{texts, with_rules, place_rule, option_rule, Finds};
+ghost use Rattle.command_words.specs.Clap.{texts, with_rules, place_rule, option_rule, switch_rule};
+ghost use Rattle.command_words.specs.Clap.{Finds};
 
 use crate::forms::Form;
 use clap::error::ErrorKind;
-use clap::{Arg, ArgMatches, Command, Error};
+use clap::{Arg, ArgAction, ArgMatches, Command, Error};
 use std::alloc::{AllocError, Global};
 
 /// Why words give nothing.
@@ -74,6 +75,24 @@ fn with_options<'a>(
     Ok(command)
 }
 
+// A switch has no value, and stands for the empty one.
+fn with_switches<'a>(
+    alloc: Global,
+    command: Command<'a>,
+    switches: &'a [&'a str],
+) -> Result<Command<'a>, AllocError>
+    ensures { IfOk result (λ r. app_of r
+        ≡ with_rules (app_of command.entry) (map switch_rule (texts switches.now))) }
+{
+    let mut command = command;
+    for switch in switches {
+        let arg = Arg::new(alloc, switch).long(switch);
+        let arg = arg.action(ArgAction::Set).num_args(0);
+        command = command.arg(arg.default_missing_value(""))?;
+    }
+    Ok(command)
+}
+
 // What the words after the first give to the simple command of a form.
 pub(crate) fn parse<'a>(
     alloc: Global,
@@ -88,5 +107,6 @@ pub(crate) fn parse<'a>(
     let command = Command::new(alloc, "h263rps").disable_help_flag(true);
     let command = with_places(alloc, command, form.places())?;
     let command = with_options(alloc, command, form.options())?;
+    let command = with_switches(alloc, command, form.switches())?;
     Ok(command.try_get_matches_from(words)?)
 }

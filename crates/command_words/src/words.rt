@@ -128,8 +128,12 @@ fn recv_words<'a>(given: &ArgMatches<'a>) -> Option<Words<'a>>
     ensures ready { IfSome result (λ w. IsCommand w.command) }
 {
     let params = params(given)?;
+    let join = given.get_str("join");
     Some(Words {
-        command: Command::Recv { params },
+        command: Command::Recv {
+            params,
+            join: join.is_some(),
+        },
         video: None,
         events: given.get_str("log"),
         pictures: given.get_str("out"),

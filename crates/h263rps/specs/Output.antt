@@ -15,6 +15,7 @@ use Rattle.command_words.specs.Simple.{Text}
 use Rattle.command_words.specs.Asked.{Asked, asked}
 use Rattle.desk_program.specs.Run.{Run, run_from, refusal}
 use Rattle.recv_command.specs.Recv.{recv_begin, recv_step}
+use Rattle.recv_command.specs.Join.{join_begin, join_step}
 use Rattle.send_command.specs.declared.pace.Sending.{Sending}
 use Rattle.send_command.specs.Send.{send_begin, send_step}
 use Rattle.rate_command.specs.declared.rate.Bucket.{Bucket}
@@ -55,7 +56,8 @@ roles_of (Call params false) a = (Video, the_word a.video) ∷ (Pictures, the_wo
 roles_of (Call params true) a =
     (Video, the_word a.video) ∷ (Events, the_word a.events) ∷ (Pictures, the_word a.pictures) ∷ []
 roles_of (Send params target) a = (Video, the_word a.video) ∷ (Events, the_word a.events) ∷ (Wire, the_word a.wire) ∷ []
-roles_of (Recv params) a = (Events, the_word a.events) ∷ (Pictures, the_word a.pictures) ∷ (Wire, the_word a.wire) ∷ []
+roles_of (Recv params join) a =
+    (Events, the_word a.events) ∷ (Pictures, the_word a.pictures) ∷ (Wire, the_word a.wire) ∷ []
 roles_of (Demo params seed frames) a = []
 roles_of (Rate target bucket) a = (Events, the_word a.events) ∷ []
 roles_of (Audit params) a = (Events, the_word a.events) ∷ []
@@ -70,7 +72,7 @@ abbrev pub source_of : Command → Option Role
 source_of (Call params false) = Some Video
 source_of (Call params true) = Some Events
 source_of (Send params target) = Some Events
-source_of (Recv params) = Some Events
+source_of (Recv params join) = Some Events
 source_of (Demo params seed frames) = None
 source_of (Rate target bucket) = Some Events
 source_of (Audit params) = Some Events
@@ -107,7 +109,8 @@ run_of (Call params traced) inputs =
     run_from (call_begin (terms_of params traced) inputs) call_step (most_turns (not traced)) inputs
 run_of (Send params target) inputs =
     run_from (send_begin (sending_of params target) inputs) send_step 16777216 inputs
-run_of (Recv params) inputs = run_from (recv_begin params inputs) recv_step 16777216 inputs
+run_of (Recv params false) inputs = run_from (recv_begin params inputs) recv_step 16777216 inputs
+run_of (Recv params true) inputs = run_from (join_begin params inputs) join_step 16777216 inputs
 run_of (Demo params seed frames) inputs =
     run_from (demo_begin (demo_terms params seed frames) inputs) demo_step
     (demo.most_turns (demo_terms params seed frames)) inputs

@@ -20,7 +20,7 @@ use desk_program::{Acts, perform};
 use h263_outside::{Desk, Role};
 use h263_types::Params;
 use rate_command::{Bucket, Rate, laws as rate_command_laws};
-use recv_command::{Recv, laws as recv_command_laws};
+use recv_command::{Join, Recv, laws as recv_command_laws};
 use send_command::{Send, Sending, laws as send_command_laws};
 use std::alloc::Global;
 
@@ -120,7 +120,7 @@ fn recv<D: Desk>(alloc: Global, words: &Words<'_>, params: Params, desk: &mut D)
     requires report { AreAttached ((Report, []) ∷ []) (D.outside desk.old) }
     requires names { HasNames (asked_of words.now) }
     requires command { IsCommand words.now.command }
-    requires is { words.now.command ≡ commands.Recv params }
+    requires is { words.now.command ≡ commands.Recv params false }
     ensures { IsRun (Some (asked_of words.now)) result (D.outside desk.old) (D.outside desk.new) }
 {
     recv_command_laws::no_video_refused();
@@ -130,6 +130,23 @@ fn recv<D: Desk>(alloc: Global, words: &Words<'_>, params: Params, desk: &mut D)
         (Role::Wire, word_of(words, Role::Wire)),
     ];
     carry_out::<D, Recv>(alloc, &params, &order, desk)
+}
+
+// The receiver alone, after a joiner.
+fn join<D: Desk>(alloc: Global, words: &Words<'_>, params: Params, desk: &mut D) -> Status
+    requires report { AreAttached ((Report, []) ∷ []) (D.outside desk.old) }
+    requires names { HasNames (asked_of words.now) }
+    requires command { IsCommand words.now.command }
+    requires is { words.now.command ≡ commands.Recv params true }
+    ensures { IsRun (Some (asked_of words.now)) result (D.outside desk.old) (D.outside desk.new) }
+{
+    recv_command_laws::no_joined_video_refused();
+    let order = [
+        (Role::Events, word_of(words, Role::Events)),
+        (Role::Pictures, word_of(words, Role::Pictures)),
+        (Role::Wire, word_of(words, Role::Wire)),
+    ];
+    carry_out::<D, Join>(alloc, &params, &order, desk)
 }
 
 // A call on made input.
@@ -199,7 +216,11 @@ pub fn command<D: Desk>(alloc: Global, words: &Words<'_>, desk: &mut D) -> Statu
             traced: true,
         } => traced_call(alloc, words, params, desk),
         Command::Send { params, target } => send(alloc, words, params, target, desk),
-        Command::Recv { params } => recv(alloc, words, params, desk),
+        Command::Recv {
+            params,
+            join: false,
+        } => recv(alloc, words, params, desk),
+        Command::Recv { params, join: true } => join(alloc, words, params, desk),
         Command::Demo {
             params,
             seed,

@@ -265,6 +265,10 @@ const SEND: &[&str] = &["send", "in", "log", "wire"];
 
 const RECV: &[&str] = &["recv", "log", "out", "wire", "--format", "sub-qcif"];
 
+const JOINING: &[&str] = &[
+    "recv", "log", "--join", "out", "wire", "--format", "sub-qcif",
+];
+
 const CUSTOM: &[&str] = &[
     "recv", "--clock", "custom", "log", "out", "wire", "--format", "sub-qcif",
 ];
@@ -313,17 +317,23 @@ const TAKEN: Parts<'static> = &[
     b"played 1 exact 1 patched 0 held 0 taken 1 late 0 early 0 repeat 0 refused 0\n",
 ];
 
+const JOINED: Parts<'static> = &[
+    b"0 exact\nheld 1 old 0 again 0 refused 0 joined 1\n",
+    b"played 1 exact 1 patched 0 held 0 taken 1 late 0 early 0 repeat 0 refused 0\n",
+];
+
 const REFUSED: Parts<'static> = &[
     b"0 held\n",
     b"played 1 exact 0 patched 0 held 1 taken 0 late 0 early 0 repeat 0 refused 1\n",
 ];
 
-// What is sent by one program and received by another is shown exactly, and acknowledged; by the
-// other clock it is refused.
+// What is sent by one program and received by another is shown exactly, and acknowledged, with a
+// joiner too; by the other clock it is refused.
 fn check_received(rt: &impl Abort, alloc: Global) -> Result<(), OutOfMemory> {
     let mut log = sent(alloc, ONE, b"S\0\0")?;
     log.extend_from_slice(b"P\0\0")?;
     check_log(rt, alloc, RECV, &log, SHOWN, ACK, TAKEN)?;
+    check_log(rt, alloc, JOINING, &log, SHOWN, ACK, JOINED)?;
     check_log(rt, alloc, CUSTOM, &log, HELD_SHOWN, NACK, REFUSED)
 }
 
@@ -369,6 +379,7 @@ const WRONG: &[&[&str]] = &[
     &["call", "in", "out", "--slots", "4", "--lead", "3"],
     &["send", "in", "log"],
     &["recv", "log", "out", "wire", "--quant", "8"],
+    &["recv", "log", "out", "wire", "--join=x"],
     &["demo", "1", "0"],
     &["demo", "1"],
 ];

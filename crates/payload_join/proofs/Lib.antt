@@ -22,3 +22,4 @@ pub mod Taking
 pub mod Slots
 pub mod InSlots
 pub mod Windows
+pub mod Few

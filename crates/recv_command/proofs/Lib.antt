@@ -1,2 +1,4 @@
 mod Saying
 mod Showing
+mod SaidSoFar
+mod Joined

@@ -1,3 +1,5 @@
 pub mod Tally
 pub mod Said
 pub mod Recv
+pub mod JoinTally
+pub mod Join

@@ -1,14 +1,15 @@
-//! What a run of the command comes to. The law is the contract of a function that does nothing
-//! else.
+//! What a run of a command comes to. Each law is the contract of a function that does nothing else.
 ghost use Rattle.std.specs.Prelude.{◌≡◌, ℕ, List};
 ghost use Rattle.h263_types.specs.declared.params.Params.{Params};
 ghost use Rattle.h263_outside.specs.declared.desk.Role.{Role};
 ghost use Rattle.y4m.specs.declared.fault.Y4mFault.{Y4mFault};
 ghost use Rattle.call_report.specs.declared.status.Status.TheVariants.{VideoRefused};
 ghost use Rattle.desk_program.specs.Run.{run_from};
+ghost use Rattle.call_model.specs.Receiving.{ReceiverEntry};
+ghost use Rattle.recv_command.specs.Join.{join_begin, join_step, joined_state, through};
 ghost use Rattle.recv_command.specs.Recv.{recv_begin, recv_step};
 
-use crate::Receiving;
+use crate::{Joining, Receiving};
 use log_command::laws::no_video_refused as none_over_a_log;
 
 /// There is no video that could be refused.
@@ -19,3 +20,19 @@ pub fn no_video_refused()
 {
     none_over_a_log::<Receiving>()
 }
+
+/// Nor is there one with a joiner.
+pub fn no_joined_video_refused()
+    ensures { (p : Params) (inputs : Role → List ℕ) (fault : Y4mFault)
+        → (run_from (join_begin p inputs) join_step 16777216 inputs).last.status
+        ≡ VideoRefused fault → ⊥ }
+{
+    none_over_a_log::<Joining>()
+}
+
+/// With a joiner the receiver's run is that over the join run of the log's packets, with the plays
+/// in their places.
+pub fn hears_what_is_joined()
+    ensures { (p : Params) (past : List ReceiverEntry)
+        → (joined_state p past).receiver.past ≡ through p.format past }
+{}

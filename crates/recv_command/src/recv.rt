@@ -1,6 +1,17 @@
 //! The receiver alone.
+ghost use Rattle.std.specs.Prelude.{◌≡◌, ◌+◌, ◌<◌, ◌^◌, ℕ, true, List, IfErr, OnOk, OnErr};
+ghost use Rattle.h263_outside.specs.Desk.{OnlyWrites, Rose};
+ghost use Rattle.h263_outside.specs.declared.desk.Role.TheVariants.{Pictures, Report, Wire};
+ghost use Rattle.desk_program.specs.Ends.{Gains, GainsFronts};
+ghost use Rattle.receiver_end.specs.Answers.{IsMessage};
+ghost use Rattle.receiver_end.specs.State.{answer_after};
+ghost use Rattle.recv_command.specs.Said.{message_in};
+ghost use Rattle.recv_command.specs.Recv.{RecvStands, RecvState, recv_rules};
+ghost use Rattle.recv_command.specs.Tally.{total_of};
+
 use crate::Tally;
 use crate::parts::{said_in, say, show};
+use back_messages::MessageBytes;
 use call_report::Status;
 use desk_program::{put_head, put_line};
 use event_logs::Side;
@@ -17,6 +28,66 @@ pub type Recv = LogMachine<Receiving>;
 pub struct Receiving {
     receiver: Receiver,
     tally: Tally,
+}
+
+impl Receiving {
+    // Hears a packet. The message acknowledges what the packet completes.
+    pub(crate) fn hear(&mut self, bytes: &[u8]) -> Option<MessageBytes>
+        requires { total_of self.old.tally < 2 ^ 47 }
+        ensures stands { (s : RecvState) → RecvStands self.old s
+            → RecvStands self.new (recv_rules.packet s bytes.now) }
+        ensures says { (s : RecvState) → RecvStands self.old s → IsMessage s.params.clock result
+            (message_in (answer_after s.params s.past bytes.now)) }
+        ensures total { total_of self.new.tally ≡ total_of self.old.tally + 1 }
+    {
+        let heard = self.receiver.packet(bytes);
+        self.tally.hear(&heard);
+        said_in(&heard)
+    }
+
+    // A play: the next picture is shown; where it isn't complete a message says so.
+    pub(crate) fn play<D: Desk>(&mut self, desk: &mut D) -> Result<(), Status>
+        requires played { self.old.receiver.played < 1048576 }
+        requires room { total_of self.old.tally < 2 ^ 47 }
+        requires pictures { (D.outside desk.old).attached Pictures ≡ true }
+        requires report { (D.outside desk.old).attached Report ≡ true }
+        requires wire { (D.outside desk.old).attached Wire ≡ true }
+        ensures stands { (s : RecvState) (bytes : List ℕ) → RecvStands self.old s
+            → RecvStands self.new (recv_rules.other s bytes) }
+        ensures total { total_of self.new.tally ≡ total_of self.old.tally + 1 }
+        ensures ok { (s : RecvState) (bytes : List ℕ) → RecvStands self.old s
+            → OnOk result (Gains (recv_rules.other_text s bytes)
+            (D.outside desk.old).written (D.outside desk.new).written) }
+        ensures err { (s : RecvState) (bytes : List ℕ) → RecvStands self.old s
+            → OnErr result (GainsFronts (recv_rules.other_text s bytes)
+            (D.outside desk.old).written (D.outside desk.new).written) }
+        ensures kind { IfErr result (λ status. status ≡ Status.WriteFault) }
+        ensures cause { OnErr result
+            (Rose (D.outside desk.old).faults.write (D.outside desk.new).faults.write) }
+        ensures rest { OnlyWrites (D.outside desk.old) (D.outside desk.new) }
+    {
+        let number = self.receiver.played();
+        let played = self.receiver.play();
+        self.tally.play(played.mark);
+        show(desk, number, self.receiver.shown(), played)
+    }
+
+    // Writes the line of what was played and counted.
+    pub(crate) fn tell<D: Desk>(&self, desk: &mut D) -> Result<(), Status>
+        requires { (D.outside desk.old).attached Report ≡ true }
+        ensures ok { (s : RecvState) → RecvStands self.now s
+            → OnOk result (Gains (recv_rules.end_text s)
+            (D.outside desk.old).written (D.outside desk.new).written) }
+        ensures err { (s : RecvState) → RecvStands self.now s
+            → OnErr result (GainsFronts (recv_rules.end_text s)
+            (D.outside desk.old).written (D.outside desk.new).written) }
+        ensures kind { IfErr result (λ status. status ≡ Status.WriteFault) }
+        ensures cause { OnErr result
+            (Rose (D.outside desk.old).faults.write (D.outside desk.new).faults.write) }
+        ensures rest { OnlyWrites (D.outside desk.old) (D.outside desk.new) }
+    {
+        put_line(desk, &self.tally.line(self.receiver.played()))
+    }
 }
 
 impl LogCommand for Receiving {
@@ -60,27 +131,21 @@ impl LogCommand for Receiving {
         Side::Recv
     }
 
-    // What the packet completes is acknowledged.
     fn packet<D: Desk>(&mut self, desk: &mut D, bytes: &[u8]) -> Result<(), Status> {
-        let heard = self.receiver.packet(bytes);
-        self.tally.hear(&heard);
-        say(desk, said_in(&heard))
+        let message = self.hear(bytes);
+        say(desk, message)
     }
 
     fn plays(&self) -> u32 {
         self.receiver.played()
     }
 
-    // A play: the next picture is shown; where it isn't complete a message says so.
     fn other<D: Desk>(&mut self, desk: &mut D, _bytes: &[u8]) -> Result<(), Status> {
-        let number = self.receiver.played();
-        let played = self.receiver.play();
-        self.tally.play(played.mark);
-        show(desk, number, self.receiver.shown(), played)
+        self.play(desk)
     }
 
     fn close<D: Desk>(&self, desk: &mut D) -> Result<(), Status> {
-        put_line(desk, &self.tally.line(self.receiver.played()))
+        self.tell(desk)
     }
 
     fn finish(self) {

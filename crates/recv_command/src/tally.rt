@@ -6,17 +6,18 @@ use call_report::Line;
 use h263_types::Mark;
 use receiver_end::Heard;
 
-/// How many pictures were shown with each mark, and how many packets had each answer.
+/// How many pictures were shown with each mark, and how many packets had each answer. A receiver
+/// hears fewer than 2^47 packets: one packet of a log may be joined to 43,602.
 #[derive(Clone, Copy, Debug, PartialEq, Eq)]
 pub struct Tally {
-    pub exact: u32,
-    pub patched: u32,
-    pub held: u32,
-    pub taken: u32,
-    pub late: u32,
-    pub early: u32,
-    pub repeat: u32,
-    pub refused: u32,
+    pub exact: u64,
+    pub patched: u64,
+    pub held: u64,
+    pub taken: u64,
+    pub late: u64,
+    pub early: u64,
+    pub repeat: u64,
+    pub refused: u64,
 }
 
 impl Tally {
@@ -40,7 +41,7 @@ impl Tally {
 
     /// Counts a picture that is shown.
     pub fn play(&mut self, mark: Mark)
-        requires { total_of self.old < 2 ^ 24 }
+        requires { total_of self.old < 2 ^ 47 }
         ensures counts { self.new ≡ with_mark mark self.old }
         ensures total { total_of self.new ≡ total_of self.old + 1 }
     {
@@ -53,7 +54,7 @@ impl Tally {
 
     /// Counts the answer to a packet.
     pub fn hear(&mut self, heard: &Heard)
-        requires { total_of self.old < 2 ^ 24 }
+        requires { total_of self.old < 2 ^ 47 }
         ensures counts { self.new ≡ with_heard heard.now self.old }
         ensures total { total_of self.new ≡ total_of self.old + 1 }
     {
@@ -72,14 +73,14 @@ impl Tally {
     {
         let mut line = Line::empty();
         line.pair("played", played as u64);
-        line.pair("exact", self.exact as u64);
-        line.pair("patched", self.patched as u64);
-        line.pair("held", self.held as u64);
-        line.pair("taken", self.taken as u64);
-        line.pair("late", self.late as u64);
-        line.pair("early", self.early as u64);
-        line.pair("repeat", self.repeat as u64);
-        line.pair("refused", self.refused as u64);
+        line.pair("exact", self.exact);
+        line.pair("patched", self.patched);
+        line.pair("held", self.held);
+        line.pair("taken", self.taken);
+        line.pair("late", self.late);
+        line.pair("early", self.early);
+        line.pair("repeat", self.repeat);
+        line.pair("refused", self.refused);
         line.end();
         line
     }

@@ -9,7 +9,7 @@ use call_report::Status;
 use command_words::{Command, Words};
 use desk_program::{attach_role, finish, perform};
 use h263_outside::{Desk, Role};
-use recv_command::Recv;
+use recv_command::{Join, Recv};
 use send_command::{Send, Sending};
 use std::alloc::Global;
 
@@ -36,13 +36,17 @@ pub fn run<D: Desk>(alloc: Global, words: &Words<'_>, desk: &mut D) -> Status
             ];
             perform::<D, Send>(alloc, &Sending { params, target }, &order, desk)
         }
-        Command::Recv { params } => {
+        Command::Recv { params, join } => {
             let order = [
                 (Role::Events, name_of(words, Role::Events)),
                 (Role::Pictures, name_of(words, Role::Pictures)),
                 (Role::Wire, name_of(words, Role::Wire)),
             ];
-            perform::<D, Recv>(alloc, &params, &order, desk)
+            if join {
+                perform::<D, Join>(alloc, &params, &order, desk)
+            } else {
+                perform::<D, Recv>(alloc, &params, &order, desk)
+            }
         }
         Command::Call {
             params,

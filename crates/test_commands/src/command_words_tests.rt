@@ -4,7 +4,7 @@ use h263_outside::Role;
 use h263_types::{Clock, Format, Params};
 
 // Words after the program's name that are no command.
-static USAGE: [&[&str]; 58] = [
+static USAGE: [&[&str]; 66] = [
     &[],
     &[""],
     &["convert", "in", "out"],
@@ -65,6 +65,14 @@ static USAGE: [&[&str]; 58] = [
     &["audit", "log", "--messages", "1"],
     &["audit", "log", "--slots", "4", "--lead", "3"],
     &["audit", "log", "--quant", "8"],
+    &["recv", "log", "out", "--join"],
+    &["recv", "log", "out", "wire", "--join="],
+    &["recv", "log", "out", "wire", "--join=x"],
+    &["recv", "log", "out", "wire", "--join", "x"],
+    &["recv", "--join", "log", "out", "wire", "--join"],
+    &["recv", "log", "out", "wire", "--lead", "--join"],
+    &["call", "in", "out", "--join"],
+    &["audit", "log", "--join"],
 ];
 
 #[test]
@@ -151,8 +159,40 @@ fn options_stand_anywhere(rt: HostRuntime) {
     }
 }
 
+// The same command, its switch before, between and after the positional words.
+static JOINED: [&[&str]; 5] = [
+    &["recv", "--join", "log", "out", "wire"],
+    &["recv", "log", "--join", "out", "wire"],
+    &["recv", "log", "out", "wire", "--join"],
+    &["recv", "log", "out", "--join", "--", "wire"],
+    &[
+        "recv",
+        "--slots=16",
+        "--join",
+        "--lead",
+        "3",
+        "log",
+        "out",
+        "wire",
+    ],
+];
+
+#[test]
+fn a_switch_stands_anywhere(rt: HostRuntime) {
+    let params = Params::of(Format::Qcif);
+    for words in &JOINED {
+        let read = Words::read(rt.alloc(), words).expect(&rt, "a command");
+        assert_eq!(rt;
+            read.command(),
+            Command::Recv { params, join: true },
+            "{words:?}"
+        );
+        assert_eq!(rt; read.name(Role::Wire), Some("wire"));
+    }
+}
+
 // Words, and the names of video, events, pictures and wire.
-static NAMED: [(&[&str], &[Option<&str>]); 10] = [
+static NAMED: [(&[&str], &[Option<&str>]); 11] = [
     (
         &["call", "in", "out"],
         &[Some("in"), None, Some("out"), None],
@@ -177,6 +217,10 @@ static NAMED: [(&[&str], &[Option<&str>]); 10] = [
     (
         &["recv", "a", "b", "c"],
         &[None, Some("a"), Some("b"), Some("c")],
+    ),
+    (
+        &["recv", "a", "b", "--", "--join"],
+        &[None, Some("a"), Some("b"), Some("--join")],
     ),
     (&["demo", "0", "1"], &[None, None, None, None]),
     (
@@ -218,6 +262,8 @@ static RECEIVING: [&str; 9] = [
     "2",
 ];
 
+static JOINING: [&str; 5] = ["recv", "log", "out", "wire", "--join"];
+
 static MADE: [&str; 5] = ["demo", "999999999", "10000", "--format", "cif"];
 
 static MEASURED: [&str; 5] = ["rate", "log", "--target=999999", "--bucket", "200"];
@@ -257,7 +303,9 @@ fn one_command_of_each(rt: HostRuntime) {
             messages: 2,
             ..params
         },
+        join: false,
     };
+    let joining = Command::Recv { params, join: true };
     let demo = Command::Demo {
         params: Params::of(Format::Cif),
         seed: 999_999_999,
@@ -279,6 +327,7 @@ fn one_command_of_each(rt: HostRuntime) {
         (SENDING.as_slice(), send),
         (FOLLOWING.as_slice(), following),
         (RECEIVING.as_slice(), recv),
+        (JOINING.as_slice(), joining),
         (MADE.as_slice(), demo),
         (MEASURED.as_slice(), rate),
         (AUDITED.as_slice(), audit),

@@ -1,4 +1,4 @@
-//! Runs of the receiver over a desk in memory.
+//! Runs of the receiver over a desk in memory, with a joiner and without one.
 ghost use Rattle.std.specs.Prelude.{◌<◌};
 ghost use Rattle.h263_types.specs.Params.{IsParams};
 
@@ -6,7 +6,7 @@ use call_report::Status;
 use event_logs::LogFault;
 use h263_outside::{OutOfMemory, Role};
 use h263_types::{Clock, Format, Params};
-use recv_command::Recv;
+use recv_command::{Join, Recv};
 use std::alloc::Global;
 use std::process::Abort;
 use std::test::Fail;
@@ -39,11 +39,12 @@ const COUNTED: &[u8] =
 // the report.
 type Row<'a> = (Parts<'a>, u64, Status, Parts<'a>, &'a [u8], &'a [u8]);
 
-// Runs of `recv log out wire`.
+// Runs of `recv log out wire`, with `--join` or without it.
 fn check_receivers(
     rt: &impl Abort,
     alloc: Global,
     params: &Params,
+    join: bool,
     piece: usize,
     table: &[Row],
 ) -> Result<(), OutOfMemory>
@@ -65,7 +66,11 @@ fn check_receivers(
             wire: &[*wire],
             report: &[*report],
         };
-        let found = run::<Recv>(alloc, params, order, piece, &case)?;
+        let found = if join {
+            run::<Join>(alloc, params, order, piece, &case)?
+        } else {
+            run::<Recv>(alloc, params, order, piece, &case)?
+        };
         assert_eq!(rt; found, None, "where call {failing} fails");
     }
     Ok(())
@@ -95,8 +100,8 @@ fn a_flat_picture_and_a_cut_log(rt: HostRuntime) -> Result<(), Fail> {
             COUNTED,
         ),
     ];
-    check_receivers(&rt, rt.alloc(), &params, 1, table)?;
-    check_receivers(&rt, rt.alloc(), &params, 4096, table)?;
+    check_receivers(&rt, rt.alloc(), &params, false, 1, table)?;
+    check_receivers(&rt, rt.alloc(), &params, false, 4096, table)?;
     Ok(())
 }
 
@@ -114,7 +119,7 @@ fn a_packet_of_the_other_clock(rt: HostRuntime) -> Result<(), Fail> {
         NACK,
         b"0 held\nplayed 1 exact 0 patched 0 held 1 taken 0 late 0 early 0 repeat 0 refused 1\n",
     )];
-    check_receivers(&rt, rt.alloc(), &params, 4096, table)?;
+    check_receivers(&rt, rt.alloc(), &params, false, 4096, table)?;
     Ok(())
 }
 
@@ -202,6 +207,158 @@ const FAILING: &[Row<'static>] = &[
 #[test]
 fn each_failing_call(rt: HostRuntime) -> Result<(), Fail> {
     let params = Params::of(Format::SubQcif);
-    check_receivers(&rt, rt.alloc(), &params, 4096, FAILING)?;
+    check_receivers(&rt, rt.alloc(), &params, false, 4096, FAILING)?;
+    Ok(())
+}
+
+// ---- with a joiner
+
+// The packet of picture 0 as two: the second, which follows on, without its coded bytes, and what
+// the first one's second byte is. The head of each one's entry.
+const FOLLOWING: &[u8] = b"\x80\xE0\x00\x01\x00\x00\x00\x00\x48\x32\x36\x33\x00\x00";
+
+const UNMARKED: &[u8] = b"\x60";
+
+const OF_256: &[u8] = b"K\x01\x00";
+
+const OF_100: &[u8] = b"K\x00\x64";
+
+const JOINED: &[u8] = b"0 exact\nheld 2 old 0 again 0 refused 0 joined 1\n\
+    played 1 exact 1 patched 0 held 0 taken 1 late 0 early 0 repeat 0 refused 0\n";
+
+// The packet's coded bytes in two packets, of which the second comes first.
+#[test]
+fn two_packets_of_a_picture(rt: HostRuntime) -> Result<(), Fail> {
+    let params = Params::of(Format::SubQcif);
+    let log: Parts = &[
+        OF_256,
+        FOLLOWING,
+        &FLAT[100..],
+        OF_100,
+        &FLAT[..1],
+        UNMARKED,
+        &FLAT[2..100],
+        PLAY,
+    ];
+    let joined: &[Row] = &[(log, NEVER, Status::Ok, SHOWN, ACK, JOINED)];
+    check_receivers(&rt, rt.alloc(), &params, true, 1, joined)?;
+    check_receivers(&rt, rt.alloc(), &params, true, 4096, joined)?;
+    // Without a joiner each of them is refused.
+    let refused: &[Row] = &[(
+        log,
+        NEVER,
+        Status::Ok,
+        &[SHOWN_HEAD, HELD, GREY],
+        NACK,
+        b"0 held\nplayed 1 exact 0 patched 0 held 1 taken 0 late 0 early 0 repeat 0 refused 2\n",
+    )];
+    check_receivers(&rt, rt.alloc(), &params, false, 4096, refused)?;
+    Ok(())
+}
+
+// A packet twice, one whose headers can't be read, and one that never becomes a whole unit; then a
+// log that is cut, of which no count is told.
+#[test]
+fn packets_that_are_not_joined(rt: HostRuntime) -> Result<(), Fail> {
+    let params = Params::of(Format::SubQcif);
+    let table: &[Row] = &[
+        (
+            &[
+                PACKET,
+                FLAT,
+                PACKET,
+                FLAT,
+                b"K\x00\x00",
+                OF_256,
+                FOLLOWING,
+                &FLAT[100..],
+                PLAY,
+            ],
+            NEVER,
+            Status::Ok,
+            SHOWN,
+            ACK,
+            b"0 exact\nheld 2 old 0 again 1 refused 1 joined 1\n\
+                played 1 exact 1 patched 0 held 0 taken 1 late 0 early 0 repeat 0 refused 0\n",
+        ),
+        (
+            &[b"K\x01"],
+            NEVER,
+            Status::LogRefused {
+                fault: LogFault::BadRecord { at: 0 },
+            },
+            &[SHOWN_HEAD],
+            b"",
+            b"log refused: bad record at byte 0\n",
+        ),
+    ];
+    check_receivers(&rt, rt.alloc(), &params, true, 1, table)?;
+    check_receivers(&rt, rt.alloc(), &params, true, 4096, table)?;
+    Ok(())
+}
+
+// The log has one packet, which is whole by itself; the calls are those above, and one more, by
+// which the line of the joiner is written.
+const FAILING_JOINED: &[Row<'static>] = &[
+    (
+        ONE,
+        3,
+        Status::OpenFault { role: Role::Wire },
+        &[],
+        b"",
+        b"cannot open wire\n",
+    ),
+    (ONE, 4, Status::WriteFault, &[], b"", b""),
+    (
+        ONE,
+        6,
+        Status::ReadFault,
+        &[SHOWN_HEAD],
+        b"",
+        b"read fault\n",
+    ),
+    (ONE, 7, Status::WriteFault, &[SHOWN_HEAD], b"", b""),
+    (ONE, 8, Status::WriteFault, &[SHOWN_HEAD], b"B\x00\x03", b""),
+    (
+        ONE,
+        9,
+        Status::ReadFault,
+        &[SHOWN_HEAD],
+        ACK,
+        b"read fault\n",
+    ),
+    (ONE, 11, Status::WriteFault, &[SHOWN_HEAD, EXACT], ACK, b""),
+    (
+        ONE,
+        17,
+        Status::ReadFault,
+        SHOWN,
+        ACK,
+        b"0 exact\nread fault\n",
+    ),
+    (ONE, 18, Status::WriteFault, SHOWN, ACK, b"0 exact\n"),
+    (
+        ONE,
+        19,
+        Status::WriteFault,
+        SHOWN,
+        ACK,
+        b"0 exact\nheld 1 old 0 again 0 refused 0 joined 1\n",
+    ),
+    (
+        ONE,
+        20,
+        Status::Ok,
+        SHOWN,
+        ACK,
+        b"0 exact\nheld 1 old 0 again 0 refused 0 joined 1\n\
+            played 1 exact 1 patched 0 held 0 taken 1 late 0 early 0 repeat 0 refused 0\n",
+    ),
+];
+
+#[test]
+fn each_failing_call_with_a_joiner(rt: HostRuntime) -> Result<(), Fail> {
+    let params = Params::of(Format::SubQcif);
+    check_receivers(&rt, rt.alloc(), &params, true, 4096, FAILING_JOINED)?;
     Ok(())
 }

@@ -1,4 +1,4 @@
-use Rattle.std.proofs.Common.{ℕ, List, [], ◌∷◌, subst}
+use Rattle.std.proofs.Common.{ℕ, false, List, [], ◌∷◌, subst}
 use Rattle.h263_outside.specs.declared.desk.Role.{Role}
 use Rattle.h263_outside.specs.declared.desk.Role.TheVariants.{Events, Pictures, Wire, Report}
 use Rattle.command_words.specs.declared.command.Command.TheVariants.{Recv}
@@ -12,7 +12,7 @@ pub returns : goal.returns
 returns g c =
     let outside = g.D.Desk.outside in
     let a = asked_of c.args.words.now in
-    let asked = Recv c.args.params in
+    let asked = Recv c.args.params false in
     let done = c.carry_out in
     as_run a asked c.requires.is (λ inputs fault ends. absurd (c.no_video_refused.ensures c.args.params inputs fault ends)) done.result (outside c.args.desk.now) (outside done.new.desk)
     (subst (λ (roles : List (Role × List ℕ)). IsRunOf (run_of asked) ((Report, []) ∷ roles) (source_of asked) done.result (outside c.args.desk.now) (outside done.new.desk))

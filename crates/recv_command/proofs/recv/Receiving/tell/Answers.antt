@@ -6,7 +6,7 @@ use Rattle.desk_program.specs.Ends.{Gains, GainsFronts}
 use Rattle.desk_program.specs.Texts.{on}
 use Rattle.receiver_end.specs.State.{run_of}
 use Rattle.recv_command.specs.Tally.{count_text}
-use Rattle.recv_command.proofs.recv.ReceivingLogCommand.close.Goals as goal
+use Rattle.recv_command.proofs.recv.Receiving.tell.Goals as goal
 
 pub returns-clause-ok : goal.returns-clause-ok
 returns-clause-ok g c = λ s stands.
