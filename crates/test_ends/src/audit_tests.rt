@@ -5,7 +5,6 @@ ghost use Rattle.h263_types.specs.Params.{IsParams};
 ghost use Rattle.h263_planes.specs.Lent.{picture};
 ghost use Rattle.h263_types.specs.declared.clock.Clock.TheVariants.{Custom};
 ghost use Rattle.back_messages.specs.Text.{IsMessage};
-ghost use Rattle.sender_end.specs.Stands.{IsReady};
 
 use self::Entry::{
     Ack, Feedback, First, Flags, Follow, Intra, Nack, OtherClock, OtherQuant, Packet, Predicted,
@@ -93,9 +92,8 @@ fn coded_by(
     sender: &mut Sender<FixedPace>,
     frame: PictureRef<'_>,
 ) -> Result<Packets, OutOfMemory>
-    requires ready { IsReady sender.old.state }
-    requires frame { (picture frame).format ≡ sender.old.state.params.format }
-    requires new { sender.old.state.sent ≡ 0 }
+    requires frame { (picture frame).format ≡ sender.old.params.format }
+    requires new { sender.old.sent ≡ 0 }
 {
     let mut packets = Packets {
         clock,

@@ -55,12 +55,16 @@ fn lines_of_a_party(rt: HostRuntime) {
     }
 }
 
-fn said(about: u32) -> Carried {
+// The acknowledgement of a picture.
+fn said(number: u16) -> Carried {
     let message = Message::Ack {
-        tr: about as u16,
+        tr: number,
         marks: None,
     };
-    Carried { about, message }
+    Carried {
+        about: u32::from(number),
+        message,
+    }
 }
 
 #[test]
@@ -72,8 +76,8 @@ fn last_four_of_six(rt: HostRuntime) {
     // those that are there stand first, and a load empties
     assert_eq!(rt; carrier.load(), [Some(said(7)), Some(said(8)), None, None]);
     assert_eq!(rt; carrier.load(), [None, None, None, None]);
-    for about in 0..6 {
-        carrier.say(said(about));
+    for number in 0..6 {
+        carrier.say(said(number));
     }
     let last = [Some(said(2)), Some(said(3)), Some(said(4)), Some(said(5))];
     assert_eq!(rt; carrier.load(), last);
