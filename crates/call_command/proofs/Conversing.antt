@@ -126,8 +126,8 @@ pub stays_itself : {old new : World} → ((first : World) → WorldStays first o
 stays_itself {old} {new} stays = (stays old (record { names = refl })).names
 
 -- how it is answered, likewise
-pub answers_itself : {w : World} {status : Status} → ((first : World) → WorldStays first w → WorldAnswers first status) → IsAnswer w.terms.plain status
-answers_itself {w} answers = answers w (record { names = refl })
+pub answers_itself : {w : World} (status : Status) → ((first : World) → WorldStays first w → WorldAnswers first status) → IsAnswer w.terms.plain status
+answers_itself {w} status answers = answers w (record { names = refl })
 
 -- what was lent stands, too
 pub lent_stand : (status : Status) (s : CallState) (t u : Terms) (sender their_sender : State) (receiver their_receiver : Kept)

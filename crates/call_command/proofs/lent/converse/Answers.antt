@@ -66,7 +66,7 @@ returns-in-Ok-clause-pace g c =
     search (rules, sender_is, pace_is)
 
 pub returns-in-Ok-clause-answers : goal.returns-in-Ok-clause-answers
-returns-in-Ok-clause-answers g c = answers_itself c.take_turns-status.ensures.answers
+returns-in-Ok-clause-answers g c = answers_itself c.take_turns-status.result c.take_turns-status.ensures.answers
 
 pub returns-in-Ok-clause-alone : goal.returns-in-Ok-clause-alone
 returns-in-Ok-clause-alone g c = λ run inputs start receives u.
