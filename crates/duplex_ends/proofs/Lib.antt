@@ -5,3 +5,4 @@ mod Later
 mod Runs
 mod Pairs
 mod Returning
+mod Deliveries
