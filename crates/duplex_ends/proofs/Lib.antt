@@ -6,3 +6,6 @@ mod Runs
 mod Pairs
 mod Returning
 mod Deliveries
+mod Captures
+mod Screen
+mod Refusals

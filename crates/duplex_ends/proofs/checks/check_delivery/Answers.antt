@@ -1,7 +1,4 @@
 use Rattle.duplex_ends.proofs.checks.check_delivery.Goals as goal
 
-pub returns-clause-may : goal.returns-clause-may
-returns-clause-may c = ?
-
-pub returns-clause-refusal : goal.returns-clause-refusal
-returns-clause-refusal c = ?
+pub check_packet-requires-clause-half : goal.check_packet-requires-clause-half
+check_packet-requires-clause-half c = let h = c in ?
