@@ -1,5 +1,5 @@
 -- A packet that is delivered, and the messages of its picture's header.
-use Rattle.std.proofs.Common.{◌≡◌, ⊤, ◌⊎◌, inl, inr, ℕ, zero, suc, ◌+◌, ◌*◌, ◌<◌, ◌≤◌, Bool, true, false, List, [], ◌∷◌, ◌++◌, length, take, Option, Some, None, refl, sym, ap, subst, ◌∙◌, arith}
+use Rattle.std.proofs.Common.{◌≡◌, ◌⊎◌, inl, inr, ℕ, zero, suc, ◌+◌, ◌*◌, ◌<◌, ◌≤◌, Bool, true, false, List, [], ◌∷◌, ◌++◌, length, take, Option, Some, None, refl, sym, ap, subst, ◌∙◌, arith}
 use Rattle.std.specs.Prelude.{map, nat_le, nat_lt, slice_get, slice_index_or, if◌then◌else◌}
 use Rattle.std.specs.Option.{option_map_or}
 use Rattle.std.proofs.lemmas.Bool.{and_from, le-leb, le-ltb, lt-ltb}
@@ -26,7 +26,7 @@ use Rattle.receiver_end.specs.State as receiver_end
 use Rattle.duplex_call.specs.declared.carrier.Carried.{Carried}
 use Rattle.duplex_call.specs.declared.line.Party.{Party}
 use Rattle.duplex_call.specs.declared.line.Party.TheVariants.{A, B}
-use Rattle.duplex_call.specs.Duplex.{MayBeBrought, WayRun, WayRuns, brings, other, way, with_way}
+use Rattle.duplex_call.specs.Duplex.{MayBeBrought, MayHappenOf, WayRun, WayRuns, brings, brought, other, way, with_delivery, with_way}
 use Rattle.duplex_call.specs.Waiting.{placed}
 use Rattle.one_way.specs.Both.{both_after, steady}
 use Rattle.one_way.specs.Laws.{CallLaws, NearLaws, WayLaws}
@@ -36,9 +36,10 @@ use Rattle.duplex_ends.specs.declared.party.PartyEnds.{PartyEnds}
 use Rattle.duplex_ends.specs.Bringing.{MayReturnAll, message_in}
 use Rattle.duplex_ends.specs.Headers.{AreNumbered, HoldsHeaders, kept_by}
 use Rattle.duplex_ends.specs.Pair.{HoldsPair, HoldsParty}
-use Rattle.duplex_ends.specs.Ways.{call_by, carried_as, sides, told_by}
+use Rattle.duplex_ends.specs.Ways.{call_by, carried_as, sides, told_by, with_places}
 use Rattle.duplex_ends.proofs.Agreeing.{agree, delivers, steady_is, told_at}
 use Rattle.duplex_ends.proofs.Lists.{get_map}
+use Rattle.duplex_ends.proofs.Runs.{coded_still, said_still}
 
 -- ---- both parties
 
@@ -140,8 +141,30 @@ module _ (p : Party → Params) (y : Party) (in_range : IsParams (p y)) (calls :
 -- where there is no packet nothing is brought
 pub brings_none : (p : Party → Params) (x : Party) (w : WayRun Frame) (n j count : ℕ) → count ≡ length (slices_at (call_by (p x) w).coded n) → count ≤ j → brings (sides p) x w n j ≡ []
 brings_none p x w n j count is past =
-    ap (λ (b : Bool). if b then slice_index_or w.carried n [] else []) (le-ltb (length (slices_at (call_by (p x) w).coded n)) j (omega (arith, is, past)))
+    ap (λ (b : Bool). if b then slice_index_or w.carried n [] else []) (le-ltb j (length (slices_at (call_by (p x) w).coded n)) (omega (arith, is, past)))
 
 pub brings_all : (p : Party → Params) (x : Party) (w : WayRun Frame) (n j count : ℕ) → count ≡ length (slices_at (call_by (p x) w).coded n) → j < count → brings (sides p) x w n j ≡ slice_index_or w.carried n []
 brings_all p x w n j count is below =
     ap (λ (b : Bool). if b then slice_index_or w.carried n [] else []) (lt-ltb j (length (slices_at (call_by (p x) w).coded n)) (omega (arith, is, below)))
+
+-- ---- all packets of a picture
+
+still_brought : (p : Party → Params) (y : Party) (v : WayRun Frame) (ks messages : List ℕ) → MayBeBrought (sides p) y v messages
+    → MayBeBrought (sides p) y (record v { past = brought ks v.past }) messages
+still_brought p y v ks [] may = tt
+still_brought p y v ks (k ∷ messages) may =
+    let q = p y in
+    let said = said_still (coding q) (rules_of q) (steady q) v.frames ks v.past in
+    let coded = ap (λ (l : List (Coded Style Mb Picture)). length l) (coded_still (coding q) (rules_of q) (steady q) v.frames ks v.past) in
+    ((may.0.0, ap (λ (l : List NumberedMessage). slice_get l k) said ∙ may.0.1, omega (arith, may.0.2, coded)), still_brought p y v ks messages may.1)
+
+-- a delivery leaves the next one of the same picture as near as it was
+may_next : (p : Party → Params) (x : Party) (ways : WayRuns Frame) (left n i j k : ℕ) → MayHappenOf (sides p) left x (Deliver n j) ways
+    → MayHappenOf (sides p) left x (Deliver n k) (with_delivery (sides p) x n i ways)
+may_next p A ways left n i j k may = (may.0, still_brought p B ways.b (brings (sides p) A ways.a n i) (slice_index_or ways.a.carried n []) may.1)
+may_next p B ways left n i j k may = (may.0, still_brought p A ways.a (brings (sides p) B ways.b n i) (slice_index_or ways.b.carried n []) may.1)
+
+pub may_places : (p : Party → Params) (x : Party) (ways : WayRuns Frame) (left n count j k : ℕ) → MayHappenOf (sides p) left x (Deliver n j) ways
+    → MayHappenOf (sides p) left x (Deliver n k) (with_places p x n count ways)
+may_places p x ways left n zero j k may = may
+may_places p x ways left n (suc i) j k may = may_next p x (with_places p x n i ways) left n i j k (may_places p x ways left n i j j may)

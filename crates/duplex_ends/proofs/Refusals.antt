@@ -1,5 +1,5 @@
 -- How the refusals of events are told.
-use Rattle.std.proofs.Common.{◌≡◌, ⊤, ℕ, ◌+◌, Bool, true, false, List, [], ◌∷◌, length, Option, Some, None, Result, Ok, Err, refl, sym, ap, subst, ◌∙◌}
+use Rattle.std.proofs.Common.{◌≡◌, ℕ, ◌+◌, Bool, true, false, List, [], ◌∷◌, length, Option, Some, None, Result, Ok, Err, refl, sym, ap, subst, ◌∙◌}
 use Rattle.std.specs.Prelude.{OnOk, map, nat_le, slice_get, if◌then◌else◌}
 use Rattle.std.specs.Option.{option_map_or}
 use Rattle.h263_types.specs.declared.params.Params.{Params}
@@ -60,20 +60,21 @@ module _ (p : Party → Params) (y : Party) (v : WayRun Frame) (n j : ℕ) where
       let here : slice_get (map about c.said) k ≡ Some m.about = get_map about c.said k note.0 note.1 ∙ ap (λ (m : Carried). let a : Option ℕ = Some m.about in a) is in
       about_far (rules_of (p y)) 0 (length c.coded) c.played (map about c.said) k m.about here
 
+  abbrev half : ℕ
+  half = (rules_of (p y)).half
+
+  abbrev sent : ℕ
+  sent = length (call_by (p y) v).coded
+
   pub heard_is : (ks : List ℕ) (messages : List Carried) → AreNumbered (told_by (p y) v) ks messages
-      → IsAllowed (first_far (rules_of (p y)).half (length (call_by (p y) v).coded) messages) (Deliver n j) (heard_refusal (sides p) y v ks)
+      → IsAllowed (first_far half sent messages) (Deliver n j) (heard_refusal (sides p) y v ks)
   heard_is [] [] are = refl
   heard_is (k ∷ ks) (m ∷ messages) are =
-      subst (λ (o : Option call.Refusal). IsAllowed (first_far half sent (m ∷ messages)) (Deliver n j) (first_of o rest)) (sym (one_heard m k are.0))
+      subst (λ (o : Option call.Refusal). IsAllowed (first_far half sent (m ∷ messages)) (Deliver n j) (first_of o (heard_refusal (sides p) y v ks))) (sym (one_heard m k are.0))
       (by_test (nat_le (m.about + half) sent))
     where
-      abbrev half : ℕ
-      half = (rules_of (p y)).half
-      abbrev sent : ℕ
-      sent = length (call_by (p y) v).coded
-      abbrev rest : Option call.Refusal
-      rest = heard_refusal (sides p) y v ks
-      by_test : (b : Bool) → IsAllowed (if b then Err (Far m.about sent) else first_far half sent messages) (Deliver n j) (first_of (if b then Some (call.Far m.about sent) else None) rest)
+      by_test : (b : Bool) → IsAllowed (if b then Err (Far m.about sent) else first_far half sent messages) (Deliver n j)
+          (first_of (if b then Some (call.Far m.about sent) else None) (heard_refusal (sides p) y v ks))
       by_test true = (call.Far m.about sent, refl, refl)
       by_test false = heard_is ks messages are.1
   heard_is [] (m ∷ messages) are = absurd are

@@ -1,6 +1,6 @@
 -- What a receiver says fits a picture header.
-use Rattle.std.proofs.Common.{◌≡◌, ⊤, ℕ, zero, suc, ◌*◌, ◌+◌, ◌<◌, Bool, true, false, List, [], ◌∷◌, ◌++◌, length, Some, None, Result, Ok, Err, refl, sym, ap, subst, ◌∙◌, arith}
-use Rattle.std.specs.Prelude.{map, slice_get, ◌&&◌, if◌then◌else◌}
+use Rattle.std.proofs.Common.{◌≡◌, ℕ, zero, suc, ◌*◌, ◌+◌, ◌<◌, Bool, true, false, List, [], ◌∷◌, ◌++◌, length, Some, None, Result, Ok, Err, refl, sym, ap, subst, ◌∙◌, arith}
+use Rattle.std.specs.Prelude.{⊤, map, slice_get, ◌&&◌, if◌then◌else◌}
 use Rattle.std.proofs.Math.Nat.{mod-lt}
 use Rattle.h263_bits.specs.Bits.{bits_of}
 use Rattle.h263_types.specs.declared.clock.Clock.{Clock}
@@ -125,7 +125,7 @@ module _ (p : Params) (lawful : IsCoding (coding p) (rules_of p))
 
 get_fits : (clock : Clock) (said : List Carried) (k : ℕ) (m : Carried) → AreOfClock clock said → slice_get said k ≡ Some m → IsMessage clock m.message
 get_fits clock [] k m are at = absurd (cc at)
-get_fits clock (x ∷ said) zero m are at = subst (λ (y : Carried). IsMessage clock y.message) (cc at) are.0
+get_fits clock (x ∷ said) zero m are at = let same : x ≡ m = cc at in subst (λ (y : Carried). IsMessage clock y.message) same are.0
 get_fits clock (x ∷ said) (suc k) m are at = get_fits clock said k m are.1 at
 
 pub numbered_fit : (clock : Clock) (said : List Carried) (ks : List ℕ) (messages : List Carried) → AreOfClock clock said → AreNumbered said ks messages → AreOfClock clock messages

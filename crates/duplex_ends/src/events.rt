@@ -88,6 +88,8 @@ pub fn deliver_all(own: &mut PartyEnds, far: &mut PartyEnds, number: u32)
         → MayHappenOf (sides p) left x (Deliver number 0) ways
         → HoldsPair p x own.new far.new (with_whole p x number ways) }
 {
+    one_way_laws::of_the_ends();
+    one_way_laws::of_near_events();
     one_way_laws::of_messages();
     let count = own.way.count(number);
     'packets: for place in 0..count {

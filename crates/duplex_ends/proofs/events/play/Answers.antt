@@ -22,16 +22,16 @@ use Rattle.duplex_ends.proofs.Deliveries.{with_one}
 use Rattle.duplex_ends.proofs.Runs.{party_more, party_waits, told_more}
 use Rattle.duplex_ends.proofs.events.play.Goals as goal
 
-pub play-requires-clause-played : goal.play-requires-clause-played
-play-requires-clause-played c =
+pub play-played-requires-clause-played : goal.play-played-requires-clause-played
+play-played-requires-clause-played c =
     let e = c.requires in
     let laws = c.of_pairs.ensures e.params in
     let sent = laws.sent e.party c.args.own.now c.args.far.now e.ways e.holds in
     let played = laws.played e.party c.args.own.now c.args.far.now e.ways e.holds in
     omega (arith, e.may, sent, played, e.holds.own_holds.few)
 
-pub play-requires-clause-counted : goal.play-requires-clause-counted
-play-requires-clause-counted c =
+pub play-played-requires-clause-counted : goal.play-played-requires-clause-counted
+play-played-requires-clause-counted c =
     let e = c.requires in
     let laws = c.of_pairs.ensures e.params in
     let sent = laws.sent e.party c.args.own.now c.args.far.now e.ways e.holds in
