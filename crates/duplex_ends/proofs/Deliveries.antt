@@ -82,6 +82,16 @@ count_is p coded n count = by_slot (slice_get coded n)
 
 -- ---- a picture that was sent and is near
 
+-- its header is still there
+pub header_now : (p q : Params) (near_laws : NearLaws p) (own : PartyEnds) (w far : WayRun Frame) (h : HoldsParty p q own w far) (n j : ℕ)
+    → MayHappenNow p [] w.frames w.past (Deliver n j) → own.sender.sent ≡ length (both_after p (steady p) w.frames [] w.past).sender.coded
+    → (n < length h.carries.headers) × (length h.carries.headers ≤ n + kept_by own.carried)
+header_now p q near_laws own w far h n j now sent =
+    let short : length (both_after p (steady p) w.frames [] w.past).sender.coded < n + clocks.period_of p.clock =
+    near_laws.packets (receiver_end.run_of p []) (steady p) w.frames w.past n j refl (now, h.done.near)
+    in
+    (omega (arith, now.0, sent, h.sent, h.headers, h.carries.count), omega (arith, short, sent, h.sent, h.headers, h.carries.count, h.kept))
+
 module _ (p q : Params) (in_range : IsParams p) (calls : CallLaws p) (near_laws : NearLaws p) (own : PartyEnds) (w far : WayRun Frame) (h : HoldsParty p q own w far) (left n j : ℕ)
     (may : MayHappen (rules_of p) left (call_by p w) (Deliver n j)) where
   abbrev both : Joined Style Mb Picture
@@ -109,8 +119,7 @@ module _ (p q : Params) (in_range : IsParams p) (calls : CallLaws p) (near_laws 
 
   -- the picture's header is still there
   pub header_there : own.sender.sent ≡ length both.sender.coded → (n < length h.carries.headers) × (length h.carries.headers ≤ n + kept_by own.carried)
-  header_there sent =
-      (omega (arith, near_now.0, sent, h.sent, h.headers, h.carries.count), omega (arith, short, sent, h.sent, h.headers, h.carries.count, h.kept))
+  header_there sent = header_now p q near_laws own w far h n j near_now sent
 
 -- ---- the messages of a header
 

@@ -105,7 +105,12 @@ numbered_still said more (k ∷ ks) [] are = absurd are
 first_is : (said : List Carried) (first : ℕ) → first < length said → (m : Carried) × (slice_get said first ≡ Some m) × (drop first said ≡ m ∷ drop (first + 1) said)
 first_is [] first few = absurd (omega (arith, few))
 first_is (m ∷ said) zero few = (m, refl, refl)
-first_is (m ∷ said) (suc first) few = first_is said first (omega (arith, few))
+first_is (m ∷ said) (suc first) few =
+    let r = first_is said first (omega (arith, few)) in
+    (r.0, r.1, r.2 ∙ ap (λ (k : ℕ). r.0 ∷ drop k (m ∷ said)) (suc_more first))
+  where
+    suc_more : (k : ℕ) → suc (k + 1) ≡ suc k + 1
+    suc_more k = omega arith
 
 -- so many numbers up to the last
 to_end : (said : List Carried) (first count : ℕ) → first + count ≡ length said → AreNumbered said (range_with_len first count) (drop first said)

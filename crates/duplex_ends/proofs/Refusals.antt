@@ -71,11 +71,12 @@ module _ (p : Party → Params) (y : Party) (v : WayRun Frame) (n j : ℕ) where
   heard_is [] [] are = refl
   heard_is (k ∷ ks) (m ∷ messages) are =
       subst (λ (o : Option call.Refusal). IsAllowed (first_far half sent (m ∷ messages)) (Deliver n j) (first_of o (heard_refusal (sides p) y v ks))) (sym (one_heard m k are.0))
-      (by_test (nat_le (m.about + half) sent))
+      (by_test (nat_le (m.about + half) sent) (heard_is ks messages are.1))
     where
-      by_test : (b : Bool) → IsAllowed (if b then Err (Far m.about sent) else first_far half sent messages) (Deliver n j)
+      by_test : (b : Bool) → IsAllowed (first_far half sent messages) (Deliver n j) (heard_refusal (sides p) y v ks)
+          → IsAllowed (if b then Err (Far m.about sent) else first_far half sent messages) (Deliver n j)
           (first_of (if b then Some (call.Far m.about sent) else None) (heard_refusal (sides p) y v ks))
-      by_test true = (call.Far m.about sent, refl, refl)
-      by_test false = heard_is ks messages are.1
+      by_test true rest = (call.Far m.about sent, refl, refl)
+      by_test false rest = rest
   heard_is [] (m ∷ messages) are = absurd are
   heard_is (k ∷ ks) [] are = absurd are

@@ -72,6 +72,8 @@ pub fn check_delivery(own: &PartyEnds, far: &PartyEnds, number: u32) -> Result<(
         (refusal_of (sides p) left x (Deliver number place) ways) }
 {
     one_way_laws::ends_agree();
+    one_way_laws::of_near_events();
+    one_way_laws::of_the_way();
     laws::of_pairs();
     laws::of_refusals();
     let half = own.params.clock.half();
