@@ -77,8 +77,10 @@ pub fn check_delivery(own: &PartyEnds, far: &PartyEnds, number: u32) -> Result<(
     laws::of_pairs();
     laws::of_refusals();
     let half = own.params.clock.half();
-    check_packet(half, number, &own.sender, &own.receiver)?;
-    check_header(half, far.sender.sent(), &own.carried.get(number))
+    match check_packet(half, number, &own.sender, &own.receiver) {
+        Ok(()) => check_header(half, far.sender.sent(), &own.carried.get(number)),
+        Err(refusal) => Err(refusal),
+    }
 }
 
 /// Whether the party's next picture may be played: it was sent.

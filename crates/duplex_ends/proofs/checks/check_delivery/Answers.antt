@@ -1,4 +1,4 @@
-use Rattle.std.proofs.Common.{◌≡◌, ◌+◌, ℕ, length, [], List, Option, None, Result, sym, ap, subst, ◌∙◌}
+use Rattle.std.proofs.Common.{◌≡◌, ◌+◌, ℕ, length, [], List, Option, None, Result, Err, sym, ap, subst, ◌∙◌}
 use Rattle.std.specs.Prelude.{slice_index_or}
 use Rattle.h263_types.specs.declared.clock.Clock.{Clock}
 use Rattle.h263_types.specs.declared.params.Params.{Params}
@@ -22,8 +22,8 @@ use Rattle.duplex_ends.proofs.Lists.{carried_placed}
 use Rattle.duplex_ends.proofs.Refusals.{any_packet, first_allowed, first_refused, heard_is, may_of}
 use Rattle.duplex_ends.proofs.checks.check_delivery.Goals as goal
 
-pub returns-clause-refusal : goal.returns-clause-refusal
-returns-clause-refusal c = λ p x ways left place h.
+pub returns-in-Ok-clause-refusal : goal.returns-in-Ok-clause-refusal
+returns-in-Ok-clause-refusal c = λ p x ways left place h.
     let P = p x in
     let Q = p (other x) in
     let w = way x ways in
@@ -35,7 +35,7 @@ returns-clause-refusal c = λ p x ways left place h.
     let same = c.ends_agree.ensures P w.frames w.past (h.in_range x) one.done.near in
     let half : c.half-half.result ≡ half_of P.clock = c.half-half.ensures ∙ ap (λ (q : Params). half_of q.clock) one.params in
     let far_half : c.half-half.result ≡ half_of Q.clock = half ∙ ap (λ (clock : Clock). half_of clock) h.clock in
-    let before : refusal_after P [] w.frames w.past (Deliver n place) ≡ None = c.in_ok-check_packet.ensures P [] w.frames w.past place half one.done.joined in
+    let before : refusal_after P [] w.frames w.past (Deliver n place) ≡ None = c.in-Ok.ensures P [] w.frames w.past place half one.done.joined in
     let none : own_refusal (sides p) left x w (Deliver n place) ≡ None =
     any_packet (rules_of P) (length seen.coded) seen.played seen.abouts left (length seen.coded + 1) n place
     ∙ sym (ap (λ (seen : Seen). first_refusal (rules_of P) (length seen.coded + 1) (length seen.coded) seen.played seen.abouts (Deliver n place)) same) ∙ before
@@ -57,15 +57,12 @@ returns-clause-refusal c = λ p x ways left place h.
     first_allowed c.check_header.result (Deliver n place) (own_refusal (sides p) left x w (Deliver n place)) (heard_refusal (sides p) (other x) v ks) none
     (subst (λ (r : Result Unit Refusal). IsAllowed r (Deliver n place) (heard_refusal (sides p) (other x) v ks)) (sym result) heard)
 
-pub returns-in_err-check_packet-clause-refusal : goal.returns-in_err-check_packet-clause-refusal
-returns-in_err-check_packet-clause-refusal c = let h = c.from_residual.ensures in let g = c.in_err-check_packet in let f = c.in_err-check_packet.ensures in ?
-
-pub returns-clause-may : goal.returns-clause-may
-returns-clause-may c = λ place.
+pub returns-in-Ok-clause-may : goal.returns-in-Ok-clause-may
+returns-in-Ok-clause-may c = λ place.
     let e = c.requires in
     may_of (MayHappenNow c.args.own.now c.args.far.now (Deliver c.args.number place)) c.check_header.result (Deliver c.args.number place)
     (refusal_of (sides e.params) 0 e.party (Deliver c.args.number place) e.ways)
-    (returns-clause-refusal c e.params e.party e.ways 0 place e.holds)
+    (returns-in-Ok-clause-refusal c e.params e.party e.ways 0 place e.holds)
     (λ none. record {
       params = e.params;
       party = e.party;
@@ -74,3 +71,22 @@ returns-clause-may c = λ place.
       holds = e.holds;
       may = (c.of_refusals.ensures e.params 0 e.party (Deliver c.args.number place) e.ways).0 none;
     })
+
+pub returns-in-Err-clause-refusal : goal.returns-in-Err-clause-refusal
+returns-in-Err-clause-refusal c = λ p x ways left place h.
+    let P = p x in
+    let w = way x ways in
+    let one = h.own_holds in
+    let n = c.args.number in
+    let seen = in_call (call_in p x ways) in
+    let same = c.ends_agree.ensures P w.frames w.past (h.in_range x) one.done.near in
+    let half : c.half-half.result ≡ half_of P.clock = c.half-half.ensures ∙ ap (λ (q : Params). half_of q.clock) one.params in
+    let before : IsAllowed (Err c.in-Err.refusal) (Deliver n place) (refusal_after P [] w.frames w.past (Deliver n place)) = c.in-Err.ensures P [] w.frames w.past place half one.done.joined in
+    let own : IsAllowed (Err c.in-Err.refusal) (Deliver n place) (own_refusal (sides p) left x w (Deliver n place)) =
+    subst (λ (o : Option call.Refusal). IsAllowed (Err c.in-Err.refusal) (Deliver n place) o)
+    (ap (λ (seen : Seen). first_refusal (rules_of P) (length seen.coded + 1) (length seen.coded) seen.played seen.abouts (Deliver n place)) same
+    ∙ any_packet (rules_of P) (length seen.coded) seen.played seen.abouts (length seen.coded + 1) left n place)
+    before
+    in
+    first_refused c.in-Err.refusal (Deliver n place) (own_refusal (sides p) left x w (Deliver n place))
+    (heard_refusal (sides p) (other x) (way (other x) ways) (slice_index_or w.carried n [])) own
