@@ -1,0 +1,4 @@
+mod LooseValues
+mod HandleValues
+mod MessagesRead
+mod BeforeFirst
