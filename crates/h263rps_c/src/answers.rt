@@ -10,7 +10,7 @@ use sender_end::{Coded, Feedback};
 
 /// A message for the other end: the first `length` bytes, 3 or 5; with a length of 0 there is none.
 #[repr(C)]
-#[derive(Clone, Copy, Debug, PartialEq, Eq)]
+#[derive(Clone, Copy)]
 pub struct Said {
     pub bytes: [u8; 5],
     pub length: u8,
@@ -18,7 +18,7 @@ pub struct Said {
 
 /// A receiver's answer to a packet or a play.
 #[repr(C)]
-#[derive(Clone, Copy, Debug, PartialEq, Eq)]
+#[derive(Clone, Copy)]
 pub struct Answer {
     pub kind: u32,
     /// Why a packet is refused, else 0.
@@ -30,7 +30,7 @@ pub struct Answer {
 
 /// A picture that a sender coded.
 #[repr(C)]
-#[derive(Clone, Copy, Debug, PartialEq, Eq)]
+#[derive(Clone, Copy)]
 pub struct Made {
     pub number: u32,
     pub packets: u32,
@@ -42,7 +42,7 @@ pub struct Made {
 
 /// A sender's answer to a message.
 #[repr(C)]
-#[derive(Clone, Copy, Debug, PartialEq, Eq)]
+#[derive(Clone, Copy)]
 pub struct Reply {
     pub kind: u32,
     /// Why its bytes are no message, else 0.

@@ -7,7 +7,7 @@ use h263_types::{Clock, Format, ParamFault, Params};
 
 /// The parameters of a call, each as a number.
 #[repr(C)]
-#[derive(Clone, Copy, Debug, PartialEq, Eq)]
+#[derive(Clone, Copy)]
 pub struct Asked {
     /// 1 sub-QCIF, 2 QCIF, 3 CIF.
     pub format: u32,

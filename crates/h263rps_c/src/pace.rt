@@ -6,7 +6,7 @@ use h263_types::{FixedPace, Pace};
 use rate_control::BucketPace;
 
 /// One quantiser for all pictures, or a target in bytes per picture.
-#[derive(Clone, Copy, Debug)]
+#[derive(Clone, Copy)]
 pub enum LinePace {
     Fixed(FixedPace),
     Bucket(BucketPace),

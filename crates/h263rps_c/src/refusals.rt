@@ -3,7 +3,7 @@ ghost use Rattle.std.specs.Prelude.{◌≡◌, ◌≤◌};
 ghost use Rattle.h263rps_c.specs.Refusals.{refusal_number};
 
 /// Why a call did nothing. Each has a number in the header.
-#[derive(Clone, Copy, Debug, PartialEq, Eq)]
+#[derive(Clone, Copy)]
 pub enum Refusal {
     /// The slot is empty.
     NotStarted,
