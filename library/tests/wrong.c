@@ -145,7 +145,8 @@ static void sender(void) {
     want("start", h263rps_sender_start(&end, &params, NULL), H263RPS_OK);
     receiver_calls(&end, H263RPS_OTHER_END);
     for (int i = 1; i < 5; i++) back[i] = back[0];
-    want("no picture", h263rps_sender_packet(&end, 0, room, sizeof room, &count), H263RPS_NO_PACKET);
+    want("no picture", h263rps_sender_packet(&end, 0, room, sizeof room, &count),
+         H263RPS_NO_PACKET);
     want("short", h263rps_sender_code(&end, picture, SIZE - 1, NULL, 0, &coded),
          H263RPS_WRONG_LENGTH);
     want("five", h263rps_sender_code(&end, picture, SIZE, back, 5, &coded), H263RPS_BAD_MESSAGES);

@@ -51,7 +51,8 @@ class InProcess:
         self._counts: Counter[str] = Counter()
         self._refused: type[Exception] = lib.Refused
         self._log = Cutter(entry_size)
-        shared = {"slots": settings.slots, "lead": settings.lead, "clock": lib.CLOCKS[settings.clock]}
+        clock = lib.CLOCKS[settings.clock]
+        shared = {"slots": settings.slots, "lead": settings.lead, "clock": clock}
         try:
             self._end = self._started(lib, shared)
         except self._refused as fault:
@@ -97,6 +98,9 @@ class InProcess:
                     self._entry(chr(part[0]), part[3:])
         except self._refused:
             self._close(1)
+
+    def _told(self, *words: str) -> str:
+        return " ".join(f"{word} {self._counts[word]}" for word in words)
 
     def _line(self, text: str) -> None:
         self._on_line(text.encode() + b"\n")
@@ -156,9 +160,7 @@ class SendInProcess(InProcess):
         self._line(f"{coded.number} {source}")
 
     def _last_line(self) -> str:
-        return " ".join(
-            f"{word} {self._counts[word]}" for word in ("sent", "packets", "noted", "old", "refused")
-        )
+        return self._told("sent", "packets", "noted", "old", "refused")
 
 
 class RecvInProcess(InProcess):
@@ -194,5 +196,5 @@ class RecvInProcess(InProcess):
             self._written[2](logs.entry_bytes(logs.MESSAGE, message))
 
     def _last_line(self) -> str:
-        words = ("played", "exact", "patched", "held", "taken", "late", "early", "repeat", "refused")
-        return " ".join(f"{word} {self._counts[word]}" for word in words)
+        marks = ("exact", "patched", "held")
+        return self._told("played", *marks, "taken", "late", "early", "repeat", "refused")

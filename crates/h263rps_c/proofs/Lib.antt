@@ -2,3 +2,4 @@ mod LooseValues
 mod HandleValues
 mod MessagesRead
 mod BeforeFirst
+mod Untaken

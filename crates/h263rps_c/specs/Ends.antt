@@ -49,7 +49,8 @@ pub record TellsHeard (clock : Clock) (answer : Answer) (heard : runs.Heard Faul
   pub is_told : answer ≡ heard_answer told
 
 -- the answer to a play is this mark and this message, in numbers
-pub record TellsPlayed (clock : Clock) (answer : Answer) (mark : coding.Mark) (message : Option coding.Message) : Type 0 where
+pub record TellsPlayed (clock : Clock) (answer : Answer) (mark : coding.Mark)
+    (message : Option coding.Message) : Type 0 where
   pub told : Played
   pub is_played : IsPlayed clock told mark message
   pub is_told : answer ≡ played_answer told

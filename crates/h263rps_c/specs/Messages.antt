@@ -10,7 +10,8 @@ use Rattle.h263rps_c.specs.declared.answers.Said.{Said}
 abbrev pub text_in : Said → List ℕ
 text_in said = take said.length said.bytes
 
-abbrev pub with_message : Result Message MessageFault → Option (List Message) → Option (List Message)
+abbrev pub with_message : Result Message MessageFault → Option (List Message)
+    → Option (List Message)
 with_message (Err fault) others = None
 with_message (Ok m) None = None
 with_message (Ok m) (Some messages) = Some (m ∷ messages)

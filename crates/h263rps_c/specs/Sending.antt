@@ -11,7 +11,8 @@ use Rattle.h263rps_c.specs.declared.pace.LinePace.{LinePace}
 use Rattle.h263rps_c.specs.Pace.{first_of, pace_of, target_of}
 
 -- a sender with these parameters and this target, after these entries, the newest first
-pub record IsSender (p : Params) (target : ℕ) (entries : List (SenderEntry Frame)) (s : SenderState LinePace) : Type 0 where
+pub record IsSender (p : Params) (target : ℕ) (entries : List (SenderEntry Frame))
+    (s : SenderState LinePace) : Type 0 where
   pub params : s.params ≡ p
   pub follows : target_of s.pace ≡ target
   pub first : first_of s.pace ≡ p.quant

@@ -1,5 +1,5 @@
 //! An end of a call, as its slot keeps it.
-ghost use Rattle.std.specs.Prelude.{◌≡◌, ◌≤◌, ℕ, List, [], ◌∷◌, ◌++◌, Some, true, false, IfErr, IfOk, IsOk, drop, length, slice_index_or};
+ghost use Rattle.std.specs.Prelude.{◌≡◌, ◌<◌, ◌≤◌, ℕ, List, [], ◌∷◌, ◌++◌, Err, Some, true, false, IfErr, IfOk, IsOk, drop, length, slice_index_or};
 ghost use Rattle.h263_types.specs.Params.{IsParams};
 ghost use Rattle.h263_types.specs.declared.params.Params.{Params};
 ghost use Rattle.h263_planes.specs.Samples.{bytes_of};
@@ -199,6 +199,9 @@ impl End {
             ≡ length (slice_index_or (packets_in (Some self.now)) i [])) }
         ensures written { IfOk result (λ count. room.new
             ≡ slice_index_or (packets_in (Some self.now)) i [] ++ drop count room.old) }
+        ensures enough { (p : Params) (target : ℕ) (entries : List (SenderEntry Frame))
+            → HoldsSender p target entries (Some self.now)
+            → result ≡ Err refusals.ShortRoom → length room.old < p.limit }
         ensures stands { (p : Params) (target : ℕ) (entries : List (SenderEntry Frame))
             → HoldsSender p target entries (Some self.now) → IsOk result
             → slice_index_or (packets_in (Some self.now)) i []

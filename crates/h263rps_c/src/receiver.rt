@@ -1,5 +1,5 @@
 //! A receiver for C.
-ghost use Rattle.std.specs.Prelude.{◌≡◌, ◌≢◌, List, [], ◌∷◌, None, IfOk, length};
+ghost use Rattle.std.specs.Prelude.{◌≡◌, ◌≢◌, ◌≤◌, List, [], ◌∷◌, None, IfOk, length};
 ghost use Rattle.h263_types.specs.declared.params.Params.{Params};
 ghost use Rattle.h263_planes.specs.Samples.{bytes_of};
 ghost use Rattle.call_model.specs.Receiving.{Packet, PlayNext, ReceiverEntry};
@@ -65,6 +65,9 @@ pub extern "C" fn h263rps_raw_receiver_packet(
     ensures result { result ≡ status_of (for_receiver never slot.old.handle.inside) }
     ensures same { result ≢ 0 → slot.new.handle.inside ≡ slot.old.handle.inside }
     ensures unanswered { result ≢ 0 → answer.new ≡ answer.old }
+    // only a packet that is taken changes anything
+    ensures untaken { result ≡ 0 → 2 ≤ answer.new.kind
+        → slot.new.handle.inside ≡ slot.old.handle.inside }
     ensures stands { (p : Params) (past : List ReceiverEntry)
         → HoldsReceiver p past slot.old.handle.inside
         → HoldsReceiver p (Packet bytes.now ∷ past) slot.new.handle.inside }

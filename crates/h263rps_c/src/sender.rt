@@ -1,5 +1,5 @@
 //! A sender for C.
-ghost use Rattle.std.specs.Prelude.{◌≡◌, ◌≢◌, ℕ, List, [], ◌∷◌, ◌++◌, None, Some, IfOk, drop, length, slice_index_or};
+ghost use Rattle.std.specs.Prelude.{◌≡◌, ◌≢◌, ◌<◌, ◌≤◌, ℕ, List, [], ◌∷◌, ◌++◌, None, Some, IfOk, drop, length, slice_index_or};
 ghost use Rattle.h263_types.specs.declared.params.Params.{Params};
 ghost use Rattle.back_messages.specs.declared.message.Message.{Message};
 ghost use Rattle.call_model.specs.Sending as call;
@@ -114,9 +114,14 @@ pub extern "C" fn h263rps_raw_sender_packet(
     ensures same { slot.new.handle.inside ≡ slot.old.handle.inside }
     ensures uncounted { result ≢ 0 → count.new ≡ count.old }
     ensures unwritten { result ≢ 0 → room.new ≡ room.old }
-    ensures count { result ≡ 0 → count.new ≡ length (slice_index_or (packets_in slot.old.handle.inside) number []) }
+    ensures count { result ≡ 0 → count.new
+        ≡ length (slice_index_or (packets_in slot.old.handle.inside) number []) }
     ensures written { result ≡ 0 → room.new
         ≡ slice_index_or (packets_in slot.old.handle.inside) number [] ++ drop count.new room.old }
+    // room for `limit` bytes is enough
+    ensures enough { (p : Params) (target : ℕ) (entries : List (SenderEntry Frame))
+        → HoldsSender p target entries slot.old.handle.inside
+        → result ≡ refusal_number refusals.ShortRoom → length room.old < p.limit }
     ensures stands { (p : Params) (target : ℕ) (entries : List (SenderEntry Frame))
         → HoldsSender p target entries slot.old.handle.inside → result ≡ 0
         → slice_index_or (packets_in slot.old.handle.inside) number []
@@ -147,6 +152,9 @@ pub extern "C" fn h263rps_raw_sender_feedback(
     ensures result { result ≡ status_of (for_sender never slot.old.handle.inside) }
     ensures same { result ≢ 0 → slot.new.handle.inside ≡ slot.old.handle.inside }
     ensures unanswered { result ≢ 0 → reply.new ≡ reply.old }
+    // only a message that is noted changes anything
+    ensures unnoted { result ≡ 0 → 1 ≤ reply.new.kind
+        → slot.new.handle.inside ≡ slot.old.handle.inside }
     ensures packets { packets_in slot.new.handle.inside ≡ packets_in slot.old.handle.inside }
     ensures stands { (p : Params) (target : ℕ) (entries : List (SenderEntry Frame))
         → HoldsSender p target entries slot.old.handle.inside

@@ -1,5 +1,5 @@
 //! A sender with what its conditions ask for, so that C owes none of them.
-ghost use Rattle.std.specs.Prelude.{◌≡◌, ◌≤◌, ℕ, List, [], ◌∷◌, ◌++◌, Some, false, IfErr, IfOk, IsOk, drop, length, slice_index_or};
+ghost use Rattle.std.specs.Prelude.{◌≡◌, ◌<◌, ◌≤◌, ℕ, List, [], ◌∷◌, ◌++◌, Err, Some, false, IfErr, IfOk, IsOk, drop, length, slice_index_or};
 ghost use Rattle.h263_types.specs.Params.{IsParams};
 ghost use Rattle.h263_types.specs.declared.params.Params.{Params};
 ghost use Rattle.back_messages.specs.declared.message.Message.{Message};
@@ -11,6 +11,7 @@ ghost use Rattle.call_encoding.specs.Frames.{Frame};
 ghost use Rattle.call_encoding.specs.Messages.{read_message};
 ghost use Rattle.sender_end.specs.Stands as senders;
 ghost use Rattle.h263rps_c.specs.Sending.{IsSender, frame_of};
+ghost use Rattle.h263rps_c.specs.declared.refusals.Refusal.TheVariants as refusals;
 ghost use Rattle.h263rps_c.specs.Messages.{messages_of};
 ghost use Rattle.h263rps_c.specs.Pace.{pace_of};
 ghost use Rattle.h263rps_c.specs.Refusals.{refusal_in, code_refusal, packet_refusal};
@@ -112,6 +113,8 @@ impl Sending {
             count ≡ length (slice_index_or self.now.packets i [])) }
         ensures written { IfOk result (λ count.
             room.new ≡ slice_index_or self.now.packets i [] ++ drop count room.old) }
+        ensures enough { result ≡ Err refusals.ShortRoom
+            → length room.old < self.now.params.limit }
         ensures stands { (p : Params) (target : ℕ) (entries : List (SenderEntry Frame))
             → IsSender p target entries self.now → IsOk result
             → slice_index_or self.now.packets i []

@@ -159,8 +159,8 @@ fn parameters(rt: HostRuntime) {
     assert_eq!(rt; sizes, [0, 18432, 38016, 152064, 0]);
 }
 
-// A picture of a sender goes to a receiver: how many packets, whether the last one completed it, how
-// it is shown, and its first sample.
+// A picture of a sender goes to a receiver: whether anything is refused, what its last packet is
+// answered, how it is shown, and whether it is intra.
 fn sent(alloc: Global, sender: &mut Slot, receiver: &mut Slot, picture: &mut [u8]) -> [u32; 4] {
     let mut made = Made {
         number: 0,
