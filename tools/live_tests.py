@@ -17,7 +17,7 @@ from pathlib import Path
 from typing import Any, Callable, Optional, Sequence
 from unittest import mock
 
-from calltools import bad_network, errors, live_settings, logs, loop, messages, numbers, pipes
+from calltools import bad_network, errors, in_process, live_settings, logs, loop, messages, numbers, pipes
 from calltools import picture_start, playout, program, rtcp, rtp, stand_in, udp, y4m, y4m_pipe
 
 TOOLS = Path(__file__).resolve().parent
@@ -27,6 +27,9 @@ PROGRAM = Path(os.environ.get("H263RPS_PROGRAM", program.OWN))
 HAS_PROGRAM = os.access(PROGRAM, os.X_OK)
 needs_program = unittest.skipUnless(HAS_PROGRAM, "the program isn't built: rt ci does it")
 needs_ffmpeg = unittest.skipUnless(shutil.which("ffmpeg"), "ffmpeg isn't there")
+# The library, where make -C library left it; another one may be named.
+LIBRARY = Path(os.environ.get("H263RPS_LIBRARY", TOOLS.parent / "library" / "build" / "libh263rps.so"))
+needs_library = unittest.skipUnless(LIBRARY.exists(), "the library isn't built: make -C library does it")
 
 
 def example_packets() -> list[bytes]:
@@ -114,6 +117,30 @@ class PartsTest(unittest.TestCase):
             self.assertEqual(rtp.payload_of(other), packet[12:])
         self.assertIsNone(rtp.payload_of(bytes([0xA0]) + packet[1:] + b"\0"))
         self.assertIsNone(rtp.payload_of(bytes([0x8F]) + packet[1:40]))
+
+    @needs_library
+    def test_ends_in_this_process_are_those_of_the_program(self) -> None:
+        turns, told = loop.Loop(), []
+        settings = live_settings.Settings(PROGRAM, "sub-qcif", lead=3, slots=16, target=0, quant=3, limit=1_200)
+        library = in_process.library()
+        for command, end in (("send", in_process.SendInProcess), ("recv", in_process.RecvInProcess)):
+            run = end(turns, settings, library)
+            lines: list[bytes] = []
+            run.lines(lines.append)
+            for file in run.files:
+                run.source(file, lambda _: None)
+            log = run.feed(1 if command == "send" else 0)
+            if command == "send":
+                video = run.feed(0)
+                with open(EXAMPLES / "video.y4m", "rb") as file:
+                    for frame in y4m.Y4mReader(file, "video.y4m"):
+                        video.put(b"FRAME\n" + frame.samples)
+            log.put((EXAMPLES / f"{command}.log").read_bytes())
+            run.on_end = lambda: told.append(command)
+            log.end()
+            wait(turns, 0.01)
+            self.assertEqual((run.is_over, run.status, told[-1:]), (True, 0, [command]))
+            self.assertEqual(b"".join(lines), (EXAMPLES / "expected" / f"{command}.txt").read_bytes())
 
     def test_lead_and_slots_hold_the_wait(self) -> None:
         rate = y4m.RATE
@@ -396,6 +423,19 @@ class CallsTest(unittest.TestCase):
         self.assert_played_again(folder, PROGRAM)
         told = subprocess.run([TOOLS / "times_of_call", folder], capture_output=True, text=True, check=True).stdout
         self.assertRegex(told, r"after 1\.\d+ s of silence: picture \d+ exact")
+
+    @needs_program
+    @needs_library
+    def test_a_call_in_this_process(self) -> None:
+        """The program plays again what the library did, and comes to the same."""
+        for clock, version, format in (("standard", 1, "qcif"), ("custom", 2, "cif")):
+            video, folder = self.video(45, format), self.room / format
+            ends = ("--format", format, "--clock", clock, "--messages", version, "--camera", video)
+            bad = ("--loss", 0.1, "--delay", 20, "--jitter", 20, "--library")
+            call = self.run_call(*ends, *bad, "--screen", "none", "--record", folder, program=PROGRAM)
+            self.assertEqual((call.status, call.count("sent", "sent")), (0, 45), call.told)
+            self.assertGreater(call.shown("exact"), 20)
+            self.assert_played_again(folder, PROGRAM)
 
     @needs_program
     def test_a_clean_call_is_exact(self) -> None:

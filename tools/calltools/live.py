@@ -5,6 +5,7 @@ import sys
 from dataclasses import dataclass
 from datetime import datetime, timezone
 from pathlib import Path
+from types import ModuleType
 from typing import Any, Optional
 
 from .bad_network import BadNetwork
@@ -43,6 +44,7 @@ class Asked:
     seconds: Optional[float] = None
     record: Optional[Path] = None
     is_quiet: bool = False
+    library: Optional[ModuleType] = None
 
 
 class LiveCall:
@@ -59,7 +61,9 @@ class LiveCall:
         self._line = StatusLine(bool(asked.camera), bool(asked.screen))
         self.fault: Optional[BadInput] = None
         self._is_ending = self._is_over = False
-        context = CallContext(self.loop, self._settings, self._recorder, self.tally, self.say)
+        context = CallContext(
+            self.loop, self._settings, self._recorder, self.tally, self.say, asked.library
+        )
         self.parties = [Party(context, line) for line in self._network.lines]
         for party in self.parties:
             party.on_end, party.on_fault = self.end, self._failed

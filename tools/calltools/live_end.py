@@ -1,9 +1,11 @@
 """What both ends of a live call share: what is around them, and a program that may die."""
 
 from dataclasses import dataclass
-from typing import Callable
+from types import ModuleType
+from typing import Callable, Optional, Union
 
 from .errors import BadInput
+from .in_process import InProcess, RecvInProcess, SendInProcess
 from .live_settings import Settings
 from .loop import Call, Loop
 from .piped import Piped
@@ -16,13 +18,27 @@ _SOON, _DEATHS = 1.0, 3
 
 @dataclass(frozen=True)
 class CallContext:
-    """What the parts of a call have in common. `say` tells the user a line."""
+    """What the parts of a call have in common. `say` tells the user a line. With a library its
+    ends run in this process."""
 
     loop: Loop
     settings: Settings
     recorder: Recorder
     tally: Tally
     say: Callable[[str], None]
+    library: Optional[ModuleType] = None
+
+
+Program = Union[Piped, InProcess]
+
+
+def program_of(context: CallContext, command: str, reads: str, options: list[str]) -> Program:
+    """A run of an end: of the library's where the call has it, else of the program."""
+    loop, settings, library = context.loop, context.settings, context.library
+    if library is None:
+        return Piped(loop, settings.program, command, reads, options)
+    own = SendInProcess if command == "send" else RecvInProcess
+    return own(loop, settings, library)
 
 
 class LiveEnd:
@@ -41,7 +57,7 @@ class LiveEnd:
     def _begin_anew(self) -> None:
         raise NotImplementedError
 
-    def _ended(self, program: Piped) -> None:
+    def _ended(self, program: Program) -> None:
         # The program of the present run has ended: as asked, or it died.
         if self._is_ending:
             self.on_over()

@@ -5,11 +5,10 @@ from collections import deque
 from typing import Callable, Optional
 
 from . import logs
-from .live_end import CallContext, LiveEnd
+from .live_end import CallContext, LiveEnd, program_of
 from .loop import Call, Timer
 from .numbers import Numbers
 from .picture_start import PictureStart, picture_start
-from .piped import Piped
 from .playout import Playout
 from .rtcp import Bye, Feedback
 from .rtp import OWN_SOURCE, RtpHeader, renumbered, rtp_header
@@ -40,7 +39,7 @@ class ReceivingRun:
             "options": settings.recv_options(), "source": None, "skipped": 0, "first": 0
         }
         self._record = context.recorder.run("recv", self._facts)
-        self.program = Piped(loop, settings.program, "recv", "rww", settings.recv_options())
+        self.program = program_of(context, "recv", "rww", settings.recv_options())
         log, out, wire = self.program.files
         self._log = self.program.feed(log)
         self._cutter = FrameCutter("what recv shows")

@@ -4,11 +4,10 @@ import random
 from typing import Callable
 
 from . import logs
-from .live_end import CallContext, LiveEnd
+from .live_end import CallContext, LiveEnd, program_of
 from .messages import read_message
 from .numbers import nearest
 from .picture_start import PERIODS
-from .piped import Piped
 from .rtcp import Feedback
 from .rtp import CLOCK, TICKS_A_PICTURE, renumbered, rtp_header
 from .tally import Recent
@@ -34,7 +33,7 @@ class SendingRun:
         self._tally, self._recent = context.tally, recent
         self.source, self._first_sequence, self._first_time = map(random.getrandbits, (32, 16, 32))
         self._record = context.recorder.run("send", self._facts())
-        self.program = Piped(loop, settings.program, "send", "rrw", settings.send_options())
+        self.program = program_of(context, "send", "rrw", settings.send_options())
         video, log, wire = self.program.files
         self._video, self._log = self.program.feed(video), self.program.feed(log)
         self.program.entries(wire, self._packet)

@@ -1,0 +1,5 @@
+mod LooseValues
+mod HandleValues
+mod MessagesRead
+mod BeforeFirst
+mod Untaken

@@ -1,0 +1,91 @@
+-- The parameters of a call as C has them: their numbers, and what is wrong with them.
+use Rattle.std.specs.Prelude.{ℕ, ◌==◌, nat_le, Option, Some, None, Result, Ok, Err, if◌then◌else◌}
+use Rattle.h263_types.specs.declared.clock.Clock.{Clock}
+use Rattle.h263_types.specs.declared.clock.Clock.TheVariants.{Standard, Custom}
+use Rattle.h263_types.specs.declared.format.Format.{Format}
+use Rattle.h263_types.specs.declared.format.Format.TheVariants.{SubQcif, Qcif, Cif}
+use Rattle.h263_types.specs.declared.params.Params.{Params}
+use Rattle.h263_types.specs.declared.params.ParamFault.{ParamFault}
+use Rattle.h263_types.specs.declared.params.ParamFault.TheVariants.{Quant, Keep, Radius, Limit, Slots, Lead, Messages}
+use Rattle.h263_types.specs.Params.{ranges, verdict_of}
+use Rattle.h263rps_c.specs.declared.asked.Asked.{Asked}
+
+abbrev pub format_in : ℕ → Option Format
+format_in n =
+    if n == 1 then Some SubQcif
+    else if n == 2 then Some Qcif
+    else if n == 3 then Some Cif
+    else None
+
+abbrev pub clock_in : ℕ → Option Clock
+clock_in n =
+    if n == 0 then Some Standard
+    else if n == 1 then Some Custom
+    else None
+
+-- which parameter is out of its range
+abbrev pub param_number : ParamFault → ℕ
+param_number Quant = 1
+param_number Keep = 2
+param_number Radius = 3
+param_number Limit = 4
+param_number Slots = 5
+param_number Lead = 6
+param_number Messages = 7
+
+abbrev pub bad_format : ℕ
+bad_format = 8
+
+abbrev pub bad_clock : ℕ
+bad_clock = 9
+
+abbrev pub bad_target : ℕ
+bad_target = 10
+
+abbrev pub params_with : Asked → Format → Clock → Params
+params_with a format clock =
+    record {
+      format = format;
+      quant = a.quant;
+      keep = a.keep;
+      radius = a.radius;
+      limit = a.limit;
+      slots = a.slots;
+      lead = a.lead;
+      messages = a.messages;
+      clock = clock;
+    }
+
+abbrev pub when_right : ℕ → Params → Result Unit ParamFault → Result Params ℕ
+when_right target p (Err fault) = Err (param_number fault)
+when_right target p (Ok right) = if nat_le target 999999 then Ok p else Err bad_target
+
+abbrev pub checked_params : Asked → Format → Clock → Result Params ℕ
+checked_params a format clock =
+    let p = params_with a format clock in when_right a.target p (verdict_of (ranges p))
+
+abbrev pub params_in : Asked → Option Format → Option Clock → Result Params ℕ
+params_in a None clock = Err bad_format
+params_in a (Some format) None = Err bad_clock
+params_in a (Some format) (Some clock) = checked_params a format clock
+
+-- the parameters, or the number of the first that is out of its range: the format, the clock, those
+-- of a call in their order, the target
+abbrev pub params_of : Asked → Result Params ℕ
+params_of a = params_in a (format_in a.format) (clock_in a.clock)
+
+-- in the standard clock, without a target
+abbrev pub asked_with : ℕ → Params → Asked
+asked_with number p =
+    record {
+      format = number;
+      quant = p.quant;
+      keep = p.keep;
+      radius = p.radius;
+      messages = p.messages;
+      limit = p.limit;
+      slots = p.slots;
+      lead = p.lead;
+      clock = 0;
+      target = 0;
+    }

@@ -1,0 +1,82 @@
+-- The ends for which a slot stands, and what is told of them.
+use Rattle.std.specs.Prelude.{◌≡◌, ℕ, List, [], length, Option, Some, None}
+use Rattle.h263_bits.specs.declared.fault.Fault.{Fault}
+use Rattle.h263_types.specs.declared.blocks.Mb.{Mb}
+use Rattle.h263_types.specs.declared.clock.Clock.{Clock}
+use Rattle.h263_types.specs.declared.params.Params.{Params}
+use Rattle.h263_planes.specs.Layout.{picture_of}
+use Rattle.h263_planes.specs.Picture.{Picture}
+use Rattle.back_messages.specs.declared.message.Message.{Message}
+use Rattle.call_model.specs.Coding as coding
+use Rattle.call_model.specs.Sending as call
+use Rattle.back_messages.specs.declared.message.MessageFault.{MessageFault}
+use Rattle.sender_end.specs.declared.answers.Feedback.{Feedback}
+use Rattle.h263rps_c.specs.declared.answers.Reply.{Reply}
+use Rattle.h263rps_c.specs.Sending.{IsSender}
+use Rattle.call_model.specs.CodedPictures.{Coded as CodedPicture}
+use Rattle.call_model.specs.Receiving as runs
+use Rattle.call_model.specs.Receiving.{ReceiverEntry}
+use Rattle.call_model.specs.Sending.{SenderEntry}
+use Rattle.call_decoding.specs.Styles.{Style}
+use Rattle.call_encoding.specs.Frames.{Frame}
+use Rattle.receiver_end.specs.declared.answers.Heard.{Heard}
+use Rattle.receiver_end.specs.declared.answers.Played.{Played}
+use Rattle.receiver_end.specs.Answers.{IsHeard, IsPlayed}
+use Rattle.receiver_end.specs.State as receivers
+use Rattle.sender_end.specs.declared.answers.Coded.{Coded}
+use Rattle.sender_end.specs.Stands as senders
+use Rattle.sender_end.specs.State.{SenderState}
+use Rattle.h263rps_c.specs.declared.answers.Answer.{Answer}
+use Rattle.h263rps_c.specs.declared.answers.Made.{Made}
+use Rattle.h263rps_c.specs.declared.ends.End.{End}
+use Rattle.h263rps_c.specs.declared.ends.End.TheVariants.{Receiving, Sending}
+use Rattle.h263rps_c.specs.declared.pace.LinePace.{LinePace}
+use Rattle.h263rps_c.specs.Numbers.{heard_answer, made_of, played_answer, reply_of}
+use Rattle.h263rps_c.specs.Pace.{first_of, pace_of, target_of}
+
+-- ---- a receiver
+
+-- inside is a receiver with these parameters, after these entries, the newest first
+abbrev pub HoldsReceiver : Params → List ReceiverEntry → Option End → Type 0
+HoldsReceiver p past None = ⊥
+HoldsReceiver p past (Some (Sending s)) = ⊥
+HoldsReceiver p past (Some (Receiving r)) = (r.params ≡ p) × receivers.Stands r past
+
+-- the answer to a packet is this one, in numbers
+pub record TellsHeard (clock : Clock) (answer : Answer) (heard : runs.Heard Fault) : Type 0 where
+  pub told : Heard
+  pub is_heard : IsHeard clock told heard
+  pub is_told : answer ≡ heard_answer told
+
+-- the answer to a play is this mark and this message, in numbers
+pub record TellsPlayed (clock : Clock) (answer : Answer) (mark : coding.Mark)
+    (message : Option coding.Message) : Type 0 where
+  pub told : Played
+  pub is_played : IsPlayed clock told mark message
+  pub is_told : answer ≡ played_answer told
+
+-- ---- a sender
+
+-- the same, with the target of its pace
+abbrev pub HoldsSender : Params → ℕ → List (SenderEntry Frame) → Option End → Type 0
+HoldsSender p target entries None = ⊥
+HoldsSender p target entries (Some (Sending s)) = IsSender p target entries s
+HoldsSender p target entries (Some (Receiving r)) = ⊥
+
+-- the picture with this number is told in numbers
+pub record TellsCoded (number : ℕ) (x : CodedPicture Style Mb Picture) (made : Made) : Type 0 where
+  pub told : Coded
+  pub describes : senders.Describes number x told
+  pub is_told : made ≡ made_of told
+
+-- the packets of the picture that was coded last
+abbrev pub packets_in : Option End → List (List ℕ)
+packets_in None = []
+packets_in (Some (Sending s)) = s.packets
+packets_in (Some (Receiving r)) = []
+
+-- the answer to a message is this one, in numbers
+pub record TellsReply (answer : Reply) (reply : call.Reply MessageFault) : Type 0 where
+  pub told : Feedback
+  pub is_reply : senders.reply_of told ≡ reply
+  pub is_told : answer ≡ reply_of told

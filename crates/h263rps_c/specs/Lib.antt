@@ -1,0 +1,9 @@
+pub mod Holds
+pub mod Pace
+pub mod Asked
+pub mod Numbers
+pub mod Messages
+pub mod Refusals
+pub mod Sending
+pub mod Slots
+pub mod Ends

@@ -1,0 +1,62 @@
+-- The numbers of refusals, and where an end refuses.
+use Rattle.std.specs.Prelude.{ℕ, ◌==◌, nat_le, nat_lt, List, [], length, slice_index_or, Option, Some, None, Result, Ok, Err, if◌then◌else◌}
+use Rattle.h263_types.specs.declared.params.Params.{Params}
+use Rattle.h263_types.specs.Sizes.{size_of_picture}
+use Rattle.sender_end.specs.State.{SenderState}
+use Rattle.receiver_end.specs.declared.kept.Kept.{Kept}
+use Rattle.back_messages.specs.declared.message.Message.{Message}
+use Rattle.h263rps_c.specs.declared.answers.Said.{Said}
+use Rattle.h263rps_c.specs.declared.pace.LinePace.{LinePace}
+use Rattle.h263rps_c.specs.declared.refusals.Refusal.{Refusal}
+use Rattle.h263rps_c.specs.declared.refusals.Refusal.TheVariants.{NotStarted, Started, OtherEnd, BadParams, NoMemory, Ended, WrongLength, BadMessages, NoPacket, ShortRoom}
+use Rattle.h263rps_c.specs.Messages.{messages_of}
+
+abbrev pub refusal_number : Refusal → ℕ
+refusal_number NotStarted = 1
+refusal_number Started = 2
+refusal_number OtherEnd = 3
+refusal_number BadParams = 4
+refusal_number NoMemory = 5
+refusal_number Ended = 6
+refusal_number WrongLength = 7
+refusal_number BadMessages = 8
+refusal_number NoPacket = 9
+refusal_number ShortRoom = 10
+
+-- what a call answers: 0, or the number of its refusal
+abbrev pub status_of : Option Refusal → ℕ
+status_of None = 0
+status_of (Some refusal) = refusal_number refusal
+
+abbrev pub refusal_in : {T : Type 0} → Result T Refusal → Option Refusal
+refusal_in (Ok value) = None
+refusal_in (Err refusal) = Some refusal
+
+-- ---- where an end refuses
+
+-- a play into room for `count` bytes
+abbrev pub play_refusal : ℕ → Kept → Option Refusal
+play_refusal count r =
+    if nat_le 1048576 r.played then Some Ended
+    else if count == size_of_picture r.params.format then None
+    else Some WrongLength
+
+abbrev pub unless_none : Option (List Message) → Option Refusal
+unless_none None = Some BadMessages
+unless_none (Some messages) = None
+
+-- a picture of these bytes, with these messages
+abbrev pub code_refusal : List ℕ → List Said → SenderState LinePace → Option Refusal
+code_refusal bytes back s =
+    if nat_le 1048576 s.sent then Some Ended
+    else if length bytes == size_of_picture s.params.format then
+    (if nat_lt 4 (length back) then Some BadMessages
+    else unless_none (messages_of s.params.clock back))
+    else Some WrongLength
+
+-- packet i into room for `count` bytes
+abbrev pub packet_refusal : ℕ → ℕ → SenderState LinePace → Option Refusal
+packet_refusal i count s =
+    if nat_le (length s.packets) i then Some NoPacket
+    else if nat_lt count (length (slice_index_or s.packets i [])) then Some ShortRoom
+    else None

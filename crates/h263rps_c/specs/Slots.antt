@@ -1,0 +1,38 @@
+-- Where a slot has what is inside, and what a call of it answers.
+use Rattle.std.specs.Prelude.{ℕ, Option, Some, None, Result, Ok, Err}
+use Rattle.h263_types.specs.declared.params.Params.{Params}
+use Rattle.sender_end.specs.State.{SenderState}
+use Rattle.receiver_end.specs.declared.kept.Kept.{Kept}
+use Rattle.h263rps_c.specs.declared.ends.End.{End}
+use Rattle.h263rps_c.specs.declared.ends.End.TheVariants.{Receiving, Sending}
+use Rattle.h263rps_c.specs.declared.pace.LinePace.{LinePace}
+use Rattle.h263rps_c.specs.declared.refusals.Refusal.{Refusal}
+use Rattle.h263rps_c.specs.declared.refusals.Refusal.TheVariants.{NotStarted, Started, OtherEnd, BadParams}
+
+-- a call for a receiver, which a receiver refuses so
+abbrev pub for_receiver : (Kept → Option Refusal) → Option End → Option Refusal
+for_receiver refuses None = Some NotStarted
+for_receiver refuses (Some (Sending s)) = Some OtherEnd
+for_receiver refuses (Some (Receiving r)) = refuses r
+
+-- a call for a sender
+abbrev pub for_sender : (SenderState LinePace → Option Refusal) → Option End → Option Refusal
+for_sender refuses None = Some NotStarted
+for_sender refuses (Some (Sending s)) = refuses s
+for_sender refuses (Some (Receiving r)) = Some OtherEnd
+
+-- a start with these parameters, if there is memory enough
+abbrev pub start_refusal : Option End → Result Params ℕ → Option Refusal
+start_refusal (Some end) p = Some Started
+start_refusal None (Err number) = Some BadParams
+start_refusal None (Ok p) = None
+
+-- the number of the first parameter that is out of its range is told where that is the refusal
+abbrev pub fault_after : Option End → Result Params ℕ → ℕ → ℕ
+fault_after (Some end) p before = before
+fault_after None (Err number) before = number
+fault_after None (Ok p) before = before
+
+-- an end of the right kind refuses nothing
+abbrev pub never : {S : Type 0} → S → Option Refusal
+never s = None

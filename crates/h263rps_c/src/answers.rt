@@ -1,0 +1,197 @@
+//! The answers of both ends as C has them: structs of numbers. `specs/Numbers` has the numbers.
+ghost use Rattle.std.specs.Prelude.{◌≡◌};
+ghost use Rattle.h263rps_c.specs.Numbers as numbers;
+
+use back_messages::{MessageBytes, MessageFault};
+use h263_bits::FaultKind;
+use h263_types::Mark;
+use receiver_end::{Heard, PacketFault, Played};
+use sender_end::{Coded, Feedback};
+
+/// A message for the other end: the first `length` bytes, 3 or 5; with a length of 0 there is none.
+#[repr(C)]
+#[derive(Clone, Copy)]
+pub struct Said {
+    pub bytes: [u8; 5],
+    pub length: u8,
+}
+
+/// A receiver's answer to a packet or a play.
+#[repr(C)]
+#[derive(Clone, Copy)]
+pub struct Answer {
+    pub kind: u32,
+    /// Why a packet is refused, else 0.
+    pub fault: u32,
+    /// The bit at which a fault of its bytes stands, else 0.
+    pub at: u32,
+    pub message: Said,
+}
+
+/// A picture that a sender coded.
+#[repr(C)]
+#[derive(Clone, Copy)]
+pub struct Made {
+    pub number: u32,
+    pub packets: u32,
+    /// 1 where it is coded by itself, else 0.
+    pub intra: u32,
+    /// The number of the picture that it refers to; 0 where it is coded by itself.
+    pub reference: u32,
+}
+
+/// A sender's answer to a message.
+#[repr(C)]
+#[derive(Clone, Copy)]
+pub struct Reply {
+    pub kind: u32,
+    /// Why its bytes are no message, else 0.
+    pub fault: u32,
+}
+
+impl Said {
+    const NOTHING: Said = Said {
+        bytes: [0; 5],
+        length: 0,
+    };
+
+    fn of(said: &MessageBytes) -> Said
+        ensures { result ≡ numbers.said_of said.now }
+    {
+        Said {
+            bytes: said.bytes,
+            length: said.len,
+        }
+    }
+}
+
+fn kind_number(kind: FaultKind) -> u32
+    ensures { result ≡ numbers.kind_number kind }
+{
+    100 + kind as u32
+}
+
+fn fault_number(fault: PacketFault) -> u32
+    ensures { result ≡ numbers.fault_number fault }
+{
+    match fault {
+        PacketFault::OtherClock => 1,
+        PacketFault::HeaderDiffers => 2,
+        PacketFault::MissingReference => 3,
+        PacketFault::Overlap => 4,
+        PacketFault::Bytes(kind) => kind_number(kind),
+    }
+}
+
+fn message_fault_number(fault: MessageFault) -> u32
+    ensures { result ≡ numbers.message_fault_number fault }
+{
+    match fault {
+        MessageFault::Length => 1,
+        MessageFault::Kind => 2,
+        MessageFault::High => 3,
+        MessageFault::Marker => 4,
+        MessageFault::Pair => 5,
+    }
+}
+
+fn mark_number(mark: Mark) -> u32
+    ensures { result ≡ numbers.mark_number mark }
+{
+    match mark {
+        Mark::Exact => 0,
+        Mark::Patched => 1,
+        Mark::Held => 2,
+    }
+}
+
+impl Answer {
+    fn plain(kind: u32) -> Answer
+        ensures { result ≡ numbers.plain kind }
+    {
+        Answer {
+            kind,
+            fault: 0,
+            at: 0,
+            message: Said::NOTHING,
+        }
+    }
+
+    fn saying(kind: u32, said: &MessageBytes) -> Answer
+        ensures { result ≡ numbers.saying kind said.now }
+    {
+        Answer {
+            kind,
+            fault: 0,
+            at: 0,
+            message: Said::of(said),
+        }
+    }
+
+    /// The answer to a packet.
+    pub fn heard(heard: &Heard) -> Answer
+        ensures { result ≡ numbers.heard_answer heard.now }
+    {
+        match heard {
+            Heard::Taken => Answer::plain(0),
+            Heard::Completed(said) => Answer::saying(1, said),
+            Heard::Late => Answer::plain(2),
+            Heard::Early => Answer::plain(3),
+            Heard::Repeat => Answer::plain(4),
+            Heard::Refused { fault, at } => Answer {
+                kind: 5,
+                fault: fault_number(*fault),
+                at: *at,
+                message: Said::NOTHING,
+            },
+        }
+    }
+
+    /// The answer to a play.
+    pub fn played(played: &Played) -> Answer
+        ensures { result ≡ numbers.played_answer played.now }
+    {
+        match &played.message {
+            None => Answer::plain(mark_number(played.mark)),
+            Some(said) => Answer::saying(mark_number(played.mark), said),
+        }
+    }
+}
+
+impl Made {
+    /// The picture as C has it.
+    pub fn of(coded: &Coded) -> Made
+        ensures { result ≡ numbers.made_of coded.now }
+    {
+        match coded.reference {
+            None => Made {
+                number: coded.number,
+                packets: coded.packets,
+                intra: 1,
+                reference: 0,
+            },
+            Some(reference) => Made {
+                number: coded.number,
+                packets: coded.packets,
+                intra: 0,
+                reference,
+            },
+        }
+    }
+}
+
+impl Reply {
+    /// The answer as C has it.
+    pub fn of(feedback: &Feedback) -> Reply
+        ensures { result ≡ numbers.reply_of feedback.now }
+    {
+        match feedback {
+            Feedback::Noted => Reply { kind: 0, fault: 0 },
+            Feedback::Old => Reply { kind: 1, fault: 0 },
+            Feedback::Refused(fault) => Reply {
+                kind: 2,
+                fault: message_fault_number(*fault),
+            },
+        }
+    }
+}

@@ -1,0 +1,237 @@
+//! An end of a call, as its slot keeps it.
+ghost use Rattle.std.specs.Prelude.{◌≡◌, ◌<◌, ◌≤◌, ℕ, List, [], ◌∷◌, ◌++◌, Err, Some, true, false, IfErr, IfOk, IsOk, drop, length, slice_index_or};
+ghost use Rattle.h263_types.specs.Params.{IsParams};
+ghost use Rattle.h263_types.specs.declared.params.Params.{Params};
+ghost use Rattle.h263_planes.specs.Samples.{bytes_of};
+ghost use Rattle.back_messages.specs.declared.message.Message.{Message};
+ghost use Rattle.call_model.specs.Receiving.{Packet, PlayNext, ReceiverEntry};
+ghost use Rattle.call_model.specs.Sending as call;
+ghost use Rattle.call_model.specs.Sending.{SenderEntry, Capture, feedback_answer};
+ghost use Rattle.call_model.specs.SenderStanding.{is_noted};
+ghost use Rattle.call_decoding.specs.Rules.{rules_of};
+ghost use Rattle.call_encoding.specs.Frames.{Frame};
+ghost use Rattle.call_encoding.specs.Messages.{read_message};
+ghost use Rattle.receiver_end.specs.Answers.{IsHeard, IsPlayed, takes};
+ghost use Rattle.receiver_end.specs.State as receivers;
+ghost use Rattle.sender_end.specs.Stands as senders;
+ghost use Rattle.h263rps_c.specs.Ends.{HoldsReceiver, HoldsSender, packets_in};
+ghost use Rattle.h263rps_c.specs.Sending.{frame_of};
+ghost use Rattle.h263rps_c.specs.Messages.{messages_of};
+ghost use Rattle.h263rps_c.specs.Pace.{pace_of};
+ghost use Rattle.h263rps_c.specs.Refusals.{refusal_in, play_refusal, code_refusal, packet_refusal};
+ghost use Rattle.h263rps_c.specs.Slots.{for_receiver, for_sender, never};
+ghost use Rattle.h263rps_c.specs.declared.refusals.Refusal.TheVariants as refusals;
+
+use crate::MOST_PICTURES;
+use crate::answers::Said;
+use crate::refusals::Refusal;
+use crate::sending::Sending;
+use h263_types::Params;
+use receiver_end::{Heard, Played, Receiver};
+use sender_end::{Coded, Feedback};
+use std::alloc::Global;
+
+/// An end of a call.
+pub enum End {
+    Sending(Sending),
+    Receiving(Receiver),
+}
+
+impl Drop for End {
+    fn drop(self) {
+        match self {
+            End::Sending(sending) => sending.finish(),
+            End::Receiving(receiver) => receiver.finish(),
+        }
+    }
+}
+
+// Copies a picture into room of its length.
+fn copy(to: &mut [u8], from: &[u8])
+    requires { length to.old ≡ length from.now }
+    ensures { to.new ≡ from.now }
+{
+    to.copy_from_slice(from);
+}
+
+// Plays into room for a picture.
+fn play_into(receiver: &mut Receiver, picture: &mut [u8]) -> Result<Played, Refusal>
+    ensures refusal { refusal_in result ≡ play_refusal (length picture.old) receiver.old }
+    ensures same { IfErr result (λ why. receiver.new ≡ receiver.old) }
+    ensures unwritten { IfErr result (λ why. picture.new ≡ picture.old) }
+    ensures params { receiver.new.params ≡ receiver.old.params }
+    ensures told { (past : List ReceiverEntry) → receivers.Stands receiver.old past
+        → IfOk result (λ played. IsPlayed receiver.old.params.clock played
+        (receivers.mark_after receiver.old.params past)
+        (receivers.message_after receiver.old.params past)) }
+    ensures stands { (past : List ReceiverEntry) → receivers.Stands receiver.old past
+        → IsOk result → receivers.Stands receiver.new (PlayNext ∷ past) }
+    ensures shown { (past : List ReceiverEntry) → receivers.Stands receiver.old past
+        → IsOk result → picture.new
+        ≡ bytes_of (receivers.run_of receiver.old.params (PlayNext ∷ past)).screen }
+{
+    if receiver.played() >= MOST_PICTURES {
+        return Err(Refusal::Ended);
+    }
+    if picture.len() != receiver.shown().format().size() as usize {
+        return Err(Refusal::WrongLength);
+    }
+    let played = receiver.play();
+    copy(picture, receiver.shown().bytes());
+    Ok(played)
+}
+
+impl End {
+    /// A receiver before its first packet.
+    pub fn receiver(alloc: Global, params: &Params) -> Result<Box<End>, Refusal>
+        requires { IsParams params.now }
+        ensures memory { IfErr result (λ why. why ≡ refusals.NoMemory) }
+        ensures stands { IfOk result (λ end. HoldsReceiver params.now [] (Some end.value)) }
+    {
+        let Ok(receiver) = Receiver::start(alloc, params) else {
+            return Err(Refusal::NoMemory);
+        };
+        match Box::new(alloc, End::Receiving(receiver)) {
+            Err(_) => Err(Refusal::NoMemory),
+            Ok(end) => Ok(end),
+        }
+    }
+
+    /// A sender before its first picture. It follows a target in bytes per picture, or none where
+    /// that is 0.
+    pub fn sender(alloc: Global, params: &Params, target: u32) -> Result<Box<End>, Refusal>
+        requires params { IsParams params.now }
+        requires target { target ≤ 999999 }
+        ensures memory { IfErr result (λ why. why ≡ refusals.NoMemory) }
+        ensures stands { IfOk result (λ end. HoldsSender params.now target [] (Some end.value)) }
+    {
+        let Ok(sending) = Sending::start(alloc, params, target) else {
+            return Err(Refusal::NoMemory);
+        };
+        match Box::new(alloc, End::Sending(sending)) {
+            Err(_) => Err(Refusal::NoMemory),
+            Ok(end) => Ok(end),
+        }
+    }
+
+    /// Whether it is a receiver.
+    pub fn is_receiver(&self) -> bool
+        ensures receiver { result ≡ true → for_receiver never (Some self.now) ≡ None }
+        ensures sender { result ≡ false → for_sender never (Some self.now) ≡ None }
+    {
+        match self {
+            End::Sending(_) => false,
+            End::Receiving(_) => true,
+        }
+    }
+
+    /// Gives a packet to a receiver.
+    pub fn hear(&mut self, bytes: &[u8]) -> Result<Heard, Refusal>
+        ensures refusal { refusal_in result ≡ for_receiver never (Some self.old) }
+        ensures same { IfErr result (λ why. self.new ≡ self.old) }
+        ensures untaken { IfOk result (λ heard. takes heard ≡ false → self.new ≡ self.old) }
+        ensures stands { (p : Params) (past : List ReceiverEntry)
+            → HoldsReceiver p past (Some self.old)
+            → HoldsReceiver p (Packet bytes.now ∷ past) (Some self.new) }
+        ensures answer { (p : Params) (past : List ReceiverEntry)
+            → HoldsReceiver p past (Some self.old) → IfOk result
+            (λ heard. IsHeard p.clock heard (receivers.answer_after p past bytes.now)) }
+    {
+        match self {
+            End::Sending(_) => Err(Refusal::OtherEnd),
+            End::Receiving(receiver) => Ok(receiver.packet(bytes)),
+        }
+    }
+
+    /// Plays a receiver's next picture into room for it.
+    pub fn play(&mut self, picture: &mut [u8]) -> Result<Played, Refusal>
+        ensures refusal { refusal_in result
+            ≡ for_receiver (play_refusal (length picture.old)) (Some self.old) }
+        ensures same { IfErr result (λ why. self.new ≡ self.old) }
+        ensures unwritten { IfErr result (λ why. picture.new ≡ picture.old) }
+        ensures told { (p : Params) (past : List ReceiverEntry)
+            → HoldsReceiver p past (Some self.old) → IfOk result (λ played. IsPlayed p.clock played
+            (receivers.mark_after p past) (receivers.message_after p past)) }
+        ensures stands { (p : Params) (past : List ReceiverEntry)
+            → HoldsReceiver p past (Some self.old) → IsOk result
+            → HoldsReceiver p (PlayNext ∷ past) (Some self.new) }
+        ensures shown { (p : Params) (past : List ReceiverEntry)
+            → HoldsReceiver p past (Some self.old) → IsOk result
+            → picture.new ≡ bytes_of (receivers.run_of p (PlayNext ∷ past)).screen }
+    {
+        match self {
+            End::Sending(_) => Err(Refusal::OtherEnd),
+            End::Receiving(receiver) => play_into(receiver, picture),
+        }
+    }
+
+    /// Codes a sender's next picture, with these messages in its header.
+    pub fn code(&mut self, bytes: &[u8], back: &[Said]) -> Result<Coded, Refusal>
+        ensures refusal { refusal_in result
+            ≡ for_sender (code_refusal bytes.now back.now) (Some self.old) }
+        ensures same { IfErr result (λ why. self.new ≡ self.old) }
+        ensures count { IfOk result (λ coded. coded.packets ≡ length (packets_in (Some self.new))) }
+        ensures stands { (p : Params) (target : ℕ) (entries : List (SenderEntry Frame))
+            (messages : List Message) → HoldsSender p target entries (Some self.old)
+            → messages_of p.clock back.now ≡ Some messages → IsOk result
+            → HoldsSender p target (Capture (frame_of p bytes.now messages) ∷ entries)
+            (Some self.new) }
+        ensures tells { (p : Params) (target : ℕ) (entries : List (SenderEntry Frame))
+            (messages : List Message) → HoldsSender p target entries (Some self.old)
+            → messages_of p.clock back.now ≡ Some messages → IfOk result (λ coded.
+            senders.Describes (length (senders.run_of p (pace_of target p) entries).coded)
+            (senders.next_after p (pace_of target p) (frame_of p bytes.now messages) entries)
+            coded) }
+    {
+        match self {
+            End::Sending(sending) => sending.code(bytes, back),
+            End::Receiving(_) => Err(Refusal::OtherEnd),
+        }
+    }
+
+    /// Copies packet i of the picture that a sender coded last to the start of a room, and says how
+    /// many bytes it has.
+    pub fn packet(&self, i: u32, room: &mut [u8]) -> Result<usize, Refusal>
+        ensures refusal { refusal_in result
+            ≡ for_sender (packet_refusal i (length room.old)) (Some self.now) }
+        ensures unwritten { IfErr result (λ why. room.new ≡ room.old) }
+        ensures count { IfOk result (λ count. count
+            ≡ length (slice_index_or (packets_in (Some self.now)) i [])) }
+        ensures written { IfOk result (λ count. room.new
+            ≡ slice_index_or (packets_in (Some self.now)) i [] ++ drop count room.old) }
+        ensures enough { (p : Params) (target : ℕ) (entries : List (SenderEntry Frame))
+            → HoldsSender p target entries (Some self.now)
+            → result ≡ Err refusals.ShortRoom → length room.old < p.limit }
+        ensures stands { (p : Params) (target : ℕ) (entries : List (SenderEntry Frame))
+            → HoldsSender p target entries (Some self.now) → IsOk result
+            → slice_index_or (packets_in (Some self.now)) i []
+            ≡ slice_index_or (senders.last_packets p (pace_of target p) entries) i [] }
+    {
+        match self {
+            End::Sending(sending) => sending.packet(i, room),
+            End::Receiving(_) => Err(Refusal::OtherEnd),
+        }
+    }
+
+    /// Gives a message to a sender.
+    pub fn feedback(&mut self, bytes: &[u8]) -> Result<Feedback, Refusal>
+        ensures refusal { refusal_in result ≡ for_sender never (Some self.old) }
+        ensures same { IfErr result (λ why. self.new ≡ self.old) }
+        ensures unnoted { IfOk result (λ answer.
+            is_noted (senders.reply_of answer) ≡ false → self.new ≡ self.old) }
+        ensures packets { packets_in (Some self.new) ≡ packets_in (Some self.old) }
+        ensures stands { (p : Params) (target : ℕ) (entries : List (SenderEntry Frame))
+            → HoldsSender p target entries (Some self.old)
+            → HoldsSender p target (call.Feedback bytes.now ∷ entries) (Some self.new) }
+        ensures answer { (p : Params) (target : ℕ) (entries : List (SenderEntry Frame))
+            → HoldsSender p target entries (Some self.old) → IfOk result (λ answer.
+            senders.reply_of answer ≡ feedback_answer (rules_of p)
+            (length (senders.run_of p (pace_of target p) entries).coded)
+            (read_message p.clock bytes.now)) }
+    {
+        match self {
+            End::Sending(sending) => Ok(sending.feedback(bytes)),
+            End::Receiving(_) => Err(Refusal::OtherEnd),
+        }
+    }
+}

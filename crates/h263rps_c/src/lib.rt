@@ -1,0 +1,31 @@
+//! Both ends of a call for C, and for what loads a library of C. `include/h263rps.h` declares the
+//! functions, and docs/LIBRARY.md says how they are used.
+//!
+//! A slot is what C keeps of an end ([`Slot`]). Each function answers 0, or the number of a
+//! [`Refusal`] that changed nothing. Clauses see in a slot the end inside it, which stands for a
+//! list of entries as that end by itself does.
+//!
+//! No crate can stand on a static library, so its tests are here.
+#![tactic(auto)]
+
+mod answers;
+mod asked;
+mod ends;
+mod handles;
+mod messages;
+mod pace;
+mod receiver;
+mod refusals;
+mod sender;
+mod sending;
+mod starting;
+#[cfg(test)]
+mod tests;
+
+pub use answers::{Answer, Made, Reply, Said};
+pub use asked::Asked;
+pub use handles::Slot;
+pub use refusals::Refusal;
+
+/// The most pictures of a run.
+const MOST_PICTURES: u32 = 1_048_576;

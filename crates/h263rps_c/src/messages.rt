@@ -1,0 +1,58 @@
+//! Messages that C hands over for a picture's header.
+ghost use Rattle.std.specs.Prelude.{◌≡◌, ◌≤◌, IfSome, length, take};
+ghost use Rattle.std.specs.Option.{option_map};
+ghost use Rattle.picture_header.specs.Ranges.{AreMessages};
+ghost use Rattle.h263rps_c.specs.Messages.{messages_of, text_in};
+
+use crate::answers::Said;
+use back_messages::{Message, read};
+use h263_types::Clock;
+
+/// Up to four messages: the first `count`.
+#[derive(Clone, Copy)]
+pub struct Messages {
+    places: [Message; 4],
+    count: usize,
+}
+
+impl Messages {
+    /// The messages.
+    pub fn as_slice(&self) -> &[Message]
+        ensures { result.now ≡ take self.now.count self.now.places }
+    {
+        let count = self.count.min(4);
+        &self.places[..count]
+    }
+}
+
+impl Said {
+    // Its bytes, of which there are at most five.
+    fn text(&self) -> &[u8]
+        ensures { result.now ≡ text_in self.now }
+    {
+        let length = self.length.min(5) as usize;
+        &self.bytes[..length]
+    }
+}
+
+/// The messages by a clock, if each is one.
+pub fn messages_from(back: &[Said], clock: Clock) -> Option<Messages>
+    requires { length back.now ≤ 4 }
+    ensures value { option_map (λ messages. take messages.count messages.places) result
+        ≡ messages_of clock back.now }
+    ensures in_range { IfSome result (λ messages.
+        AreMessages clock (take messages.count messages.places)) }
+{
+    let nothing = Message::Ack { tr: 0, marks: None };
+    let mut places = [nothing; 4];
+    'messages: for place in 0..back.len() {
+        match read(back[place].text(), clock) {
+            Err(_) => return None,
+            Ok(message) => places[place] = message,
+        }
+    }
+    Some(Messages {
+        places,
+        count: back.len(),
+    })
+}

@@ -1,0 +1,147 @@
+//! A receiver for C.
+ghost use Rattle.std.specs.Prelude.{◌≡◌, ◌≢◌, ◌≤◌, List, [], ◌∷◌, None, IfOk, length};
+ghost use Rattle.h263_types.specs.declared.params.Params.{Params};
+ghost use Rattle.h263_planes.specs.Samples.{bytes_of};
+ghost use Rattle.call_model.specs.Receiving.{Packet, PlayNext, ReceiverEntry};
+ghost use Rattle.receiver_end.specs.State as receivers;
+ghost use Rattle.h263rps_c.specs.Asked.{params_of};
+ghost use Rattle.h263rps_c.specs.Ends.{HoldsReceiver, TellsHeard, TellsPlayed};
+ghost use Rattle.h263rps_c.specs.Refusals.{play_refusal, status_of, refusal_number};
+ghost use Rattle.h263rps_c.specs.Slots.{fault_after, for_receiver, never, start_refusal};
+ghost use Rattle.h263rps_c.specs.declared.refusals.Refusal.TheVariants as refusals;
+
+use crate::answers::Answer;
+use crate::asked::Asked;
+use crate::ends::End;
+use crate::handles::{Slot, put, taken};
+use crate::refusals::{OK, Refusal};
+use std::alloc::Global;
+
+/// Starts a receiver in an empty slot. Where a parameter is out of its range `fault` has its
+/// number.
+#[unsafe(no_mangle)]
+pub extern "C" fn h263rps_raw_receiver_start(
+    alloc: Global,
+    slot: &mut Slot,
+    asked: &Asked,
+    fault: &mut u32,
+) -> u32
+    ensures result { result ≢ refusal_number refusals.NoMemory
+        → result ≡ status_of (start_refusal slot.old.handle.inside (params_of asked.now)) }
+    ensures memory { result ≡ refusal_number refusals.NoMemory
+        → start_refusal slot.old.handle.inside (params_of asked.now) ≡ None }
+    ensures same { result ≢ 0 → slot.new.handle.inside ≡ slot.old.handle.inside }
+    ensures fault { fault.new
+        ≡ fault_after slot.old.handle.inside (params_of asked.now) fault.old }
+    ensures stands { result ≡ 0 → IfOk (params_of asked.now)
+        (λ p. HoldsReceiver p [] slot.new.handle.inside) }
+{
+    if slot.is_started() {
+        return Refusal::Started.number();
+    }
+    match asked.params() {
+        Err(number) => {
+            *fault = number;
+            Refusal::BadParams.number()
+        }
+        Ok(params) => match End::receiver(alloc, &params) {
+            Err(refusal) => refusal.number(),
+            Ok(end) => {
+                put(slot, end);
+                OK
+            }
+        },
+    }
+}
+
+/// Gives a packet to a receiver.
+#[unsafe(no_mangle)]
+pub extern "C" fn h263rps_raw_receiver_packet(
+    alloc: Global,
+    slot: &mut Slot,
+    bytes: &[u8],
+    answer: &mut Answer,
+) -> u32
+    ensures result { result ≡ status_of (for_receiver never slot.old.handle.inside) }
+    ensures same { result ≢ 0 → slot.new.handle.inside ≡ slot.old.handle.inside }
+    ensures unanswered { result ≢ 0 → answer.new ≡ answer.old }
+    // only a packet that is taken changes anything
+    ensures untaken { result ≡ 0 → 2 ≤ answer.new.kind
+        → slot.new.handle.inside ≡ slot.old.handle.inside }
+    ensures stands { (p : Params) (past : List ReceiverEntry)
+        → HoldsReceiver p past slot.old.handle.inside
+        → HoldsReceiver p (Packet bytes.now ∷ past) slot.new.handle.inside }
+    ensures answer { (p : Params) (past : List ReceiverEntry)
+        → HoldsReceiver p past slot.old.handle.inside
+        → TellsHeard p.clock answer.new (receivers.answer_after p past bytes.now) }
+{
+    let Some(end) = taken(alloc, slot) else {
+        return Refusal::NotStarted.number();
+    };
+    let mut end = end;
+    let heard = end.hear(bytes);
+    put(slot, end);
+    match heard {
+        Err(refusal) => refusal.number(),
+        Ok(heard) => {
+            *answer = Answer::heard(&heard);
+            OK
+        }
+    }
+}
+
+/// Plays a receiver's next picture into room for it.
+#[unsafe(no_mangle)]
+pub extern "C" fn h263rps_raw_receiver_play(
+    alloc: Global,
+    slot: &mut Slot,
+    picture: &mut [u8],
+    answer: &mut Answer,
+) -> u32
+    ensures result { result
+        ≡ status_of (for_receiver (play_refusal (length picture.old)) slot.old.handle.inside) }
+    ensures same { result ≢ 0 → slot.new.handle.inside ≡ slot.old.handle.inside }
+    ensures unanswered { result ≢ 0 → answer.new ≡ answer.old }
+    ensures unwritten { result ≢ 0 → picture.new ≡ picture.old }
+    ensures stands { (p : Params) (past : List ReceiverEntry)
+        → HoldsReceiver p past slot.old.handle.inside → result ≡ 0
+        → HoldsReceiver p (PlayNext ∷ past) slot.new.handle.inside }
+    ensures answer { (p : Params) (past : List ReceiverEntry)
+        → HoldsReceiver p past slot.old.handle.inside → result ≡ 0
+        → TellsPlayed p.clock answer.new (receivers.mark_after p past)
+        (receivers.message_after p past) }
+    ensures shown { (p : Params) (past : List ReceiverEntry)
+        → HoldsReceiver p past slot.old.handle.inside → result ≡ 0
+        → picture.new ≡ bytes_of (receivers.run_of p (PlayNext ∷ past)).screen }
+{
+    let Some(end) = taken(alloc, slot) else {
+        return Refusal::NotStarted.number();
+    };
+    let mut end = end;
+    let played = end.play(picture);
+    put(slot, end);
+    match played {
+        Err(refusal) => refusal.number(),
+        Ok(played) => {
+            *answer = Answer::played(&played);
+            OK
+        }
+    }
+}
+
+/// Gives a receiver's memory back, and leaves its slot empty.
+#[unsafe(no_mangle)]
+pub extern "C" fn h263rps_raw_receiver_finish(alloc: Global, slot: &mut Slot) -> u32
+    ensures result { result ≡ status_of (for_receiver never slot.old.handle.inside) }
+    ensures same { result ≢ 0 → slot.new.handle.inside ≡ slot.old.handle.inside }
+    ensures empty { result ≡ 0 → slot.new.handle.inside ≡ None }
+{
+    let Some(end) = taken(alloc, slot) else {
+        return Refusal::NotStarted.number();
+    };
+    if end.is_receiver() {
+        return OK;
+    }
+    put(slot, end);
+    Refusal::OtherEnd.number()
+}

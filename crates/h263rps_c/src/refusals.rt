@@ -1,0 +1,52 @@
+//! Why a call did nothing.
+ghost use Rattle.std.specs.Prelude.{◌≡◌, ◌≤◌};
+ghost use Rattle.h263rps_c.specs.Refusals.{refusal_number};
+
+/// Why a call did nothing. Each has a number in the header.
+#[derive(Clone, Copy)]
+pub enum Refusal {
+    /// The slot is empty.
+    NotStarted,
+    /// The slot already has an end.
+    Started,
+    /// The slot's end is the other one.
+    OtherEnd,
+    /// A parameter is out of its range.
+    BadParams,
+    /// There is too little memory.
+    NoMemory,
+    /// 1,048,576 pictures were coded or played, the most of a run.
+    Ended,
+    /// The picture hasn't as many bytes as its format asks for.
+    WrongLength,
+    /// One of the messages for the header is none, or there are more than four.
+    BadMessages,
+    /// The picture that was coded last has no packet of this number.
+    NoPacket,
+    /// The packet has more bytes than the room.
+    ShortRoom,
+}
+
+/// Nothing was refused.
+pub const OK: u32 = 0;
+
+impl Refusal {
+    /// Its number, at least 1.
+    pub fn number(self) -> u32
+        ensures value { result ≡ refusal_number self }
+        ensures some { 1 ≤ result }
+    {
+        match self {
+            Refusal::NotStarted => 1,
+            Refusal::Started => 2,
+            Refusal::OtherEnd => 3,
+            Refusal::BadParams => 4,
+            Refusal::NoMemory => 5,
+            Refusal::Ended => 6,
+            Refusal::WrongLength => 7,
+            Refusal::BadMessages => 8,
+            Refusal::NoPacket => 9,
+            Refusal::ShortRoom => 10,
+        }
+    }
+}

@@ -1,0 +1,198 @@
+//! A sender for C.
+ghost use Rattle.std.specs.Prelude.{◌≡◌, ◌≢◌, ◌<◌, ◌≤◌, ℕ, List, [], ◌∷◌, ◌++◌, None, Some, IfOk, drop, length, slice_index_or};
+ghost use Rattle.h263_types.specs.declared.params.Params.{Params};
+ghost use Rattle.back_messages.specs.declared.message.Message.{Message};
+ghost use Rattle.call_model.specs.Sending as call;
+ghost use Rattle.call_model.specs.Sending.{SenderEntry, Capture, feedback_answer};
+ghost use Rattle.call_decoding.specs.Rules.{rules_of};
+ghost use Rattle.call_encoding.specs.Frames.{Frame};
+ghost use Rattle.call_encoding.specs.Messages.{read_message};
+ghost use Rattle.sender_end.specs.Stands as senders;
+ghost use Rattle.h263rps_c.specs.Asked.{params_of};
+ghost use Rattle.h263rps_c.specs.Ends.{HoldsSender, TellsCoded, TellsReply, packets_in};
+ghost use Rattle.h263rps_c.specs.Messages.{messages_of};
+ghost use Rattle.h263rps_c.specs.Pace.{pace_of};
+ghost use Rattle.h263rps_c.specs.Refusals.{code_refusal, packet_refusal, status_of, refusal_number};
+ghost use Rattle.h263rps_c.specs.Sending.{frame_of};
+ghost use Rattle.h263rps_c.specs.Slots.{fault_after, for_sender, never, start_refusal};
+ghost use Rattle.h263rps_c.specs.declared.refusals.Refusal.TheVariants as refusals;
+
+use crate::answers::{Made, Reply, Said};
+use crate::asked::Asked;
+use crate::ends::End;
+use crate::handles::{Slot, put, taken};
+use crate::refusals::{OK, Refusal};
+use std::alloc::Global;
+
+/// Starts a sender in an empty slot. Where a parameter is out of its range `fault` has its number.
+#[unsafe(no_mangle)]
+pub extern "C" fn h263rps_raw_sender_start(
+    alloc: Global,
+    slot: &mut Slot,
+    asked: &Asked,
+    fault: &mut u32,
+) -> u32
+    ensures result { result ≢ refusal_number refusals.NoMemory
+        → result ≡ status_of (start_refusal slot.old.handle.inside (params_of asked.now)) }
+    ensures memory { result ≡ refusal_number refusals.NoMemory
+        → start_refusal slot.old.handle.inside (params_of asked.now) ≡ None }
+    ensures same { result ≢ 0 → slot.new.handle.inside ≡ slot.old.handle.inside }
+    ensures fault { fault.new
+        ≡ fault_after slot.old.handle.inside (params_of asked.now) fault.old }
+    ensures stands { result ≡ 0 → IfOk (params_of asked.now)
+        (λ p. HoldsSender p asked.now.target [] slot.new.handle.inside) }
+{
+    if slot.is_started() {
+        return Refusal::Started.number();
+    }
+    match asked.params() {
+        Err(number) => {
+            *fault = number;
+            Refusal::BadParams.number()
+        }
+        Ok(params) => match End::sender(alloc, &params, asked.target) {
+            Err(refusal) => refusal.number(),
+            Ok(end) => {
+                put(slot, end);
+                OK
+            }
+        },
+    }
+}
+
+/// Codes a sender's next picture, with up to four messages about pictures of the other direction.
+#[unsafe(no_mangle)]
+pub extern "C" fn h263rps_raw_sender_code(
+    alloc: Global,
+    slot: &mut Slot,
+    picture: &[u8],
+    messages: &[Said],
+    made: &mut Made,
+) -> u32
+    ensures result { result
+        ≡ status_of (for_sender (code_refusal picture.now messages.now) slot.old.handle.inside) }
+    ensures same { result ≢ 0 → slot.new.handle.inside ≡ slot.old.handle.inside }
+    ensures unmade { result ≢ 0 → made.new ≡ made.old }
+    ensures count { result ≡ 0 → made.new.packets ≡ length (packets_in slot.new.handle.inside) }
+    ensures stands { (p : Params) (target : ℕ) (entries : List (SenderEntry Frame))
+        (back : List Message) → HoldsSender p target entries slot.old.handle.inside
+        → messages_of p.clock messages.now ≡ Some back → result ≡ 0
+        → HoldsSender p target (Capture (frame_of p picture.now back) ∷ entries)
+        slot.new.handle.inside }
+    ensures tells { (p : Params) (target : ℕ) (entries : List (SenderEntry Frame))
+        (back : List Message) → HoldsSender p target entries slot.old.handle.inside
+        → messages_of p.clock messages.now ≡ Some back → result ≡ 0
+        → TellsCoded (length (senders.run_of p (pace_of target p) entries).coded)
+        (senders.next_after p (pace_of target p) (frame_of p picture.now back) entries) made.new }
+{
+    let Some(end) = taken(alloc, slot) else {
+        return Refusal::NotStarted.number();
+    };
+    let mut end = end;
+    let coded = end.code(picture, messages);
+    put(slot, end);
+    match coded {
+        Err(refusal) => refusal.number(),
+        Ok(coded) => {
+            *made = Made::of(&coded);
+            OK
+        }
+    }
+}
+
+/// Copies a packet of the picture that a sender coded last to the start of a room.
+#[unsafe(no_mangle)]
+pub extern "C" fn h263rps_raw_sender_packet(
+    alloc: Global,
+    slot: &mut Slot,
+    number: u32,
+    room: &mut [u8],
+    count: &mut usize,
+) -> u32
+    ensures result { result
+        ≡ status_of (for_sender (packet_refusal number (length room.old)) slot.old.handle.inside) }
+    ensures same { slot.new.handle.inside ≡ slot.old.handle.inside }
+    ensures uncounted { result ≢ 0 → count.new ≡ count.old }
+    ensures unwritten { result ≢ 0 → room.new ≡ room.old }
+    ensures count { result ≡ 0 → count.new
+        ≡ length (slice_index_or (packets_in slot.old.handle.inside) number []) }
+    ensures written { result ≡ 0 → room.new
+        ≡ slice_index_or (packets_in slot.old.handle.inside) number [] ++ drop count.new room.old }
+    // room for `limit` bytes is enough
+    ensures enough { (p : Params) (target : ℕ) (entries : List (SenderEntry Frame))
+        → HoldsSender p target entries slot.old.handle.inside
+        → result ≡ refusal_number refusals.ShortRoom → length room.old < p.limit }
+    ensures stands { (p : Params) (target : ℕ) (entries : List (SenderEntry Frame))
+        → HoldsSender p target entries slot.old.handle.inside → result ≡ 0
+        → slice_index_or (packets_in slot.old.handle.inside) number []
+        ≡ slice_index_or (senders.last_packets p (pace_of target p) entries) number [] }
+{
+    let Some(end) = taken(alloc, slot) else {
+        return Refusal::NotStarted.number();
+    };
+    let copied = end.packet(number, room);
+    put(slot, end);
+    match copied {
+        Err(refusal) => refusal.number(),
+        Ok(copied) => {
+            *count = copied;
+            OK
+        }
+    }
+}
+
+/// Gives a message of the other end to a sender.
+#[unsafe(no_mangle)]
+pub extern "C" fn h263rps_raw_sender_feedback(
+    alloc: Global,
+    slot: &mut Slot,
+    message: &[u8],
+    reply: &mut Reply,
+) -> u32
+    ensures result { result ≡ status_of (for_sender never slot.old.handle.inside) }
+    ensures same { result ≢ 0 → slot.new.handle.inside ≡ slot.old.handle.inside }
+    ensures unanswered { result ≢ 0 → reply.new ≡ reply.old }
+    // only a message that is noted changes anything
+    ensures unnoted { result ≡ 0 → 1 ≤ reply.new.kind
+        → slot.new.handle.inside ≡ slot.old.handle.inside }
+    ensures packets { packets_in slot.new.handle.inside ≡ packets_in slot.old.handle.inside }
+    ensures stands { (p : Params) (target : ℕ) (entries : List (SenderEntry Frame))
+        → HoldsSender p target entries slot.old.handle.inside
+        → HoldsSender p target (call.Feedback message.now ∷ entries) slot.new.handle.inside }
+    ensures answer { (p : Params) (target : ℕ) (entries : List (SenderEntry Frame))
+        → HoldsSender p target entries slot.old.handle.inside
+        → TellsReply reply.new (feedback_answer (rules_of p)
+        (length (senders.run_of p (pace_of target p) entries).coded)
+        (read_message p.clock message.now)) }
+{
+    let Some(end) = taken(alloc, slot) else {
+        return Refusal::NotStarted.number();
+    };
+    let mut end = end;
+    let answer = end.feedback(message);
+    put(slot, end);
+    match answer {
+        Err(refusal) => refusal.number(),
+        Ok(answer) => {
+            *reply = Reply::of(&answer);
+            OK
+        }
+    }
+}
+
+/// Gives a sender's memory back, and leaves its slot empty.
+#[unsafe(no_mangle)]
+pub extern "C" fn h263rps_raw_sender_finish(alloc: Global, slot: &mut Slot) -> u32
+    ensures result { result ≡ status_of (for_sender never slot.old.handle.inside) }
+    ensures same { result ≢ 0 → slot.new.handle.inside ≡ slot.old.handle.inside }
+    ensures empty { result ≡ 0 → slot.new.handle.inside ≡ None }
+{
+    let Some(end) = taken(alloc, slot) else {
+        return Refusal::NotStarted.number();
+    };
+    if end.is_receiver() {
+        put(slot, end);
+        return Refusal::OtherEnd.number();
+    }
+    OK
+}

@@ -1,0 +1,159 @@
+//! A sender with what its conditions ask for, so that C owes none of them.
+ghost use Rattle.std.specs.Prelude.{◌≡◌, ◌<◌, ◌≤◌, ℕ, List, [], ◌∷◌, ◌++◌, Err, Some, false, IfErr, IfOk, IsOk, drop, length, slice_index_or};
+ghost use Rattle.h263_types.specs.Params.{IsParams};
+ghost use Rattle.h263_types.specs.declared.params.Params.{Params};
+ghost use Rattle.back_messages.specs.declared.message.Message.{Message};
+ghost use Rattle.call_model.specs.Sending as call;
+ghost use Rattle.call_model.specs.Sending.{SenderEntry, Capture, feedback_answer};
+ghost use Rattle.call_model.specs.SenderStanding.{is_noted};
+ghost use Rattle.call_decoding.specs.Rules.{rules_of};
+ghost use Rattle.call_encoding.specs.Frames.{Frame};
+ghost use Rattle.call_encoding.specs.Messages.{read_message};
+ghost use Rattle.sender_end.specs.Stands as senders;
+ghost use Rattle.h263rps_c.specs.Sending.{IsSender, frame_of};
+ghost use Rattle.h263rps_c.specs.declared.refusals.Refusal.TheVariants as refusals;
+ghost use Rattle.h263rps_c.specs.Messages.{messages_of};
+ghost use Rattle.h263rps_c.specs.Pace.{pace_of};
+ghost use Rattle.h263rps_c.specs.Refusals.{refusal_in, code_refusal, packet_refusal};
+
+use crate::MOST_PICTURES;
+use crate::answers::Said;
+use crate::messages::messages_from;
+use crate::pace::LinePace;
+use crate::refusals::Refusal;
+use h263_outside::OutOfMemory;
+use h263_planes::PictureRef;
+use h263_types::Params;
+use sender_end::{Coded, Feedback, Sender};
+use std::alloc::Global;
+use std::marker::Model;
+
+/// A sender, its parameters, and how many packets its last picture has.
+pub struct Sending {
+    sender: Sender<LinePace>,
+    params: Params,
+    packets: u32,
+}
+
+impl Model for Sending {
+    ghost use Rattle.std.specs.Prelude.{◌≡◌, length};
+    ghost use Rattle.sender_end.specs.State.{SenderState};
+    ghost use Rattle.h263rps_c.specs.declared.pace.LinePace.{LinePace};
+
+    ghost Value = { SenderState LinePace };
+
+    ghost view = { λ s. s.sender };
+
+    ghost invariant = { λ s. (s.sender.params ≡ s.params)
+        × (s.packets ≡ length s.sender.packets) };
+}
+
+// Copies bytes to the start of a room.
+fn copy_to_start(room: &mut [u8], bytes: &[u8])
+    requires { length bytes.now ≤ length room.old }
+    ensures { room.new ≡ bytes.now ++ drop (length bytes.now) room.old }
+{
+    room[..bytes.len()].copy_from_slice(bytes);
+}
+
+impl Sending {
+    /// A sender before its first picture.
+    pub fn start(alloc: Global, params: &Params, target: u32) -> Result<Sending, OutOfMemory>
+        requires params { IsParams params.now }
+        requires target { target ≤ 999999 }
+        ensures stands { IfOk result (IsSender params.now target []) }
+    {
+        let sender = Sender::start(alloc, params, LinePace::choose(target, params.quant))?;
+        Ok(Sending {
+            sender,
+            params: *params,
+            packets: 0,
+        })
+    }
+
+    /// Codes the next picture, with these messages in its header.
+    pub fn code(&mut self, bytes: &[u8], back: &[Said]) -> Result<Coded, Refusal>
+        ensures refusal { refusal_in result ≡ code_refusal bytes.now back.now self.old }
+        ensures same { IfErr result (λ why. self.new ≡ self.old) }
+        ensures count { IfOk result (λ coded. coded.packets ≡ length self.new.packets) }
+        ensures stands { (p : Params) (target : ℕ) (entries : List (SenderEntry Frame))
+            (messages : List Message) → IsSender p target entries self.old
+            → messages_of p.clock back.now ≡ Some messages → IsOk result
+            → IsSender p target (Capture (frame_of p bytes.now messages) ∷ entries) self.new }
+        ensures tells { (p : Params) (target : ℕ) (entries : List (SenderEntry Frame))
+            (messages : List Message) → IsSender p target entries self.old
+            → messages_of p.clock back.now ≡ Some messages → IfOk result (λ coded.
+            senders.Describes (length (senders.run_of p (pace_of target p) entries).coded)
+            (senders.next_after p (pace_of target p) (frame_of p bytes.now messages) entries)
+            coded) }
+    {
+        if self.sender.sent() >= MOST_PICTURES {
+            return Err(Refusal::Ended);
+        }
+        if bytes.len() != self.params.format.size() as usize {
+            return Err(Refusal::WrongLength);
+        }
+        if back.len() > 4 {
+            return Err(Refusal::BadMessages);
+        }
+        let Some(messages) = messages_from(back, self.params.clock) else {
+            return Err(Refusal::BadMessages);
+        };
+        let frame = PictureRef::new(self.params.format, bytes);
+        let coded = self.sender.code(frame, messages.as_slice());
+        self.packets = coded.packets;
+        Ok(coded)
+    }
+
+    /// Copies packet i of the last picture to the start of a room, and says how many bytes it has.
+    pub fn packet(&self, i: u32, room: &mut [u8]) -> Result<usize, Refusal>
+        ensures refusal { refusal_in result ≡ packet_refusal i (length room.old) self.now }
+        ensures unwritten { IfErr result (λ why. room.new ≡ room.old) }
+        ensures count { IfOk result (λ count.
+            count ≡ length (slice_index_or self.now.packets i [])) }
+        ensures written { IfOk result (λ count.
+            room.new ≡ slice_index_or self.now.packets i [] ++ drop count room.old) }
+        ensures enough { result ≡ Err refusals.ShortRoom
+            → length room.old < self.now.params.limit }
+        ensures stands { (p : Params) (target : ℕ) (entries : List (SenderEntry Frame))
+            → IsSender p target entries self.now → IsOk result
+            → slice_index_or self.now.packets i []
+            ≡ slice_index_or (senders.last_packets p (pace_of target p) entries) i [] }
+    {
+        if i >= self.packets {
+            return Err(Refusal::NoPacket);
+        }
+        let packet = self.sender.packet(i);
+        if packet.len() > room.len() {
+            return Err(Refusal::ShortRoom);
+        }
+        copy_to_start(room, packet);
+        Ok(packet.len())
+    }
+
+    /// Takes the bytes of a message.
+    pub fn feedback(&mut self, bytes: &[u8]) -> Feedback
+        ensures unnoted { is_noted (senders.reply_of result) ≡ false → self.new ≡ self.old }
+        ensures packets { self.new.packets ≡ self.old.packets }
+        ensures stands { (p : Params) (target : ℕ) (entries : List (SenderEntry Frame))
+            → IsSender p target entries self.old
+            → IsSender p target (call.Feedback bytes.now ∷ entries) self.new }
+        ensures answer { (p : Params) (target : ℕ) (entries : List (SenderEntry Frame))
+            → IsSender p target entries self.old
+            → senders.reply_of result ≡ feedback_answer (rules_of p)
+            (length (senders.run_of p (pace_of target p) entries).coded)
+            (read_message p.clock bytes.now) }
+    {
+        self.sender.feedback(bytes)
+    }
+
+    /// Gives all memory back.
+    pub fn finish(self) {
+        let Sending {
+            sender,
+            params: _,
+            packets: _,
+        } = self;
+        sender.finish();
+    }
+}

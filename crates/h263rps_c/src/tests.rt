@@ -1,0 +1,213 @@
+//! Calls of the functions as C makes them: each is refused where it must be, and a call works.
+use crate::answers::{Answer, Made, Reply, Said};
+use crate::asked::Asked;
+use crate::handles::Slot;
+use crate::receiver::*;
+use crate::sender::*;
+use crate::starting::*;
+use std::alloc::Global;
+use std::test::Fail;
+
+const ASKED: Asked = Asked {
+    format: 1,
+    quant: 8,
+    keep: 64,
+    radius: 7,
+    messages: 1,
+    limit: 1400,
+    slots: 16,
+    lead: 3,
+    clock: 0,
+    target: 0,
+};
+
+const UNTOUCHED: Answer = Answer {
+    kind: 77,
+    fault: 77,
+    at: 77,
+    message: Said {
+        bytes: [7; 5],
+        length: 7,
+    },
+};
+
+const ACK_0: [u8; 3] = [0xC0, 0x04, 0x00];
+
+// What a receiver's functions answer.
+fn receiver_calls(alloc: Global, slot: &mut Slot) -> [u32; 4] {
+    let mut answer = UNTOUCHED;
+    let mut room = [9; 4];
+    let heard = h263rps_raw_receiver_packet(alloc, slot, &[1, 2, 3], &mut answer);
+    let played = h263rps_raw_receiver_play(alloc, slot, &mut room, &mut answer);
+    let finished = h263rps_raw_receiver_finish(alloc, slot);
+    [heard, played, finished, answer.kind]
+}
+
+// What a sender's functions answer.
+fn sender_calls(alloc: Global, slot: &mut Slot) -> [u32; 5] {
+    let mut reply = Reply {
+        kind: 77,
+        fault: 77,
+    };
+    let mut made = Made {
+        number: 0,
+        packets: 0,
+        intra: 0,
+        reference: 0,
+    };
+    let mut room = [9; 4];
+    let mut count = 0;
+    let coded = h263rps_raw_sender_code(alloc, slot, &[1, 2, 3], &[], &mut made);
+    let packet = h263rps_raw_sender_packet(alloc, slot, 0, &mut room, &mut count);
+    let told = h263rps_raw_sender_feedback(alloc, slot, &ACK_0, &mut reply);
+    let finished = h263rps_raw_sender_finish(alloc, slot);
+    [coded, packet, told, finished, reply.kind]
+}
+
+#[test]
+fn an_empty_slot(rt: HostRuntime) {
+    let mut slot = Slot::vacant(rt.alloc());
+    assert_eq!(rt; receiver_calls(rt.alloc(), &mut slot), [1, 1, 1, 77]);
+    assert_eq!(rt; sender_calls(rt.alloc(), &mut slot), [1, 1, 1, 1, 77]);
+    let _end = slot.into_box();
+}
+
+#[test]
+fn the_other_end(rt: HostRuntime) {
+    let mut slot = Slot::vacant(rt.alloc());
+    let mut fault = 77;
+    assert_eq!(rt;
+        h263rps_raw_sender_start(rt.alloc(), &mut slot, &ASKED, &mut fault),
+        0
+    );
+    assert_eq!(rt;
+        h263rps_raw_receiver_start(rt.alloc(), &mut slot, &ASKED, &mut fault),
+        2
+    );
+    assert_eq!(rt; receiver_calls(rt.alloc(), &mut slot), [3, 3, 3, 77]);
+    // a length that is wrong, no packet, a message about a picture that was not sent
+    assert_eq!(rt; sender_calls(rt.alloc(), &mut slot), [7, 9, 0, 0, 1]);
+    assert_eq!(rt;
+        h263rps_raw_receiver_start(rt.alloc(), &mut slot, &ASKED, &mut fault),
+        0
+    );
+    assert_eq!(rt; sender_calls(rt.alloc(), &mut slot), [3, 3, 3, 3, 77]);
+    // a packet that is refused, and a room that is too short
+    assert_eq!(rt; receiver_calls(rt.alloc(), &mut slot), [0, 7, 0, 5]);
+    assert_eq!(rt; fault, 77);
+    let _end = slot.into_box();
+}
+
+// What both starts answer these parameters, and the fault of the second.
+fn starts(alloc: Global, asked: &Asked) -> [u32; 3] {
+    let mut slot = Slot::vacant(alloc);
+    let mut fault = 77;
+    let sender = h263rps_raw_sender_start(alloc, &mut slot, asked, &mut fault);
+    let receiver = h263rps_raw_receiver_start(alloc, &mut slot, asked, &mut fault);
+    let _end = slot.into_box();
+    [sender, receiver, fault]
+}
+
+#[test]
+fn parameters(rt: HostRuntime) {
+    let faults = [
+        (Asked { quant: 32, ..ASKED }, 1),
+        (Asked { keep: 0, ..ASKED }, 2),
+        (
+            Asked {
+                radius: 16,
+                ..ASKED
+            },
+            3,
+        ),
+        (
+            Asked {
+                limit: 9001,
+                ..ASKED
+            },
+            4,
+        ),
+        (Asked { slots: 65, ..ASKED }, 5),
+        (Asked { lead: 15, ..ASKED }, 6),
+        (
+            Asked {
+                messages: 0,
+                ..ASKED
+            },
+            7,
+        ),
+        (Asked { format: 4, ..ASKED }, 8),
+        (Asked { clock: 2, ..ASKED }, 9),
+        (
+            Asked {
+                target: 1_000_000,
+                ..ASKED
+            },
+            10,
+        ),
+    ];
+    for (asked, fault) in faults {
+        assert_eq!(rt; starts(rt.alloc(), &asked), [4, 4, fault], "{fault}");
+    }
+    let mut asked = Asked { quant: 0, ..ASKED };
+    assert_eq!(rt; h263rps_raw_defaults(0, &mut asked), 4);
+    assert_eq!(rt; asked.quant, 0);
+    assert_eq!(rt; h263rps_raw_defaults(1, &mut asked), 0);
+    assert_eq!(rt; starts(rt.alloc(), &asked), [0, 2, 77]);
+    assert_eq!(rt; (asked.quant, asked.limit, asked.target), (8, 1400, 0));
+    let sizes = [0, 1, 2, 3, 4].map(|format| h263rps_raw_picture_size(format));
+    assert_eq!(rt; sizes, [0, 18432, 38016, 152064, 0]);
+}
+
+// A picture of a sender goes to a receiver: whether anything is refused, what its last packet is
+// answered, how it is shown, and whether it is intra.
+fn sent(alloc: Global, sender: &mut Slot, receiver: &mut Slot, picture: &mut [u8]) -> [u32; 4] {
+    let mut made = Made {
+        number: 0,
+        packets: 0,
+        intra: 0,
+        reference: 0,
+    };
+    let mut heard = UNTOUCHED;
+    let mut room = [0; 1400];
+    let mut count = 0;
+    let mut refused = h263rps_raw_sender_code(alloc, sender, picture, &[], &mut made);
+    for i in 0..made.packets.min(9) {
+        refused |= h263rps_raw_sender_packet(alloc, sender, i, &mut room, &mut count);
+        let packet = &room[..count.min(1400)];
+        refused |= h263rps_raw_receiver_packet(alloc, receiver, packet, &mut heard);
+    }
+    let mut reply = Reply {
+        kind: 77,
+        fault: 77,
+    };
+    let said = &heard.message.bytes[..heard.message.length.min(5) as usize];
+    refused |= h263rps_raw_sender_feedback(alloc, sender, said, &mut reply);
+    let completed = heard.kind;
+    refused |= h263rps_raw_receiver_play(alloc, receiver, picture, &mut heard);
+    [refused, completed, heard.kind, made.intra]
+}
+
+#[test]
+fn a_call(rt: HostRuntime) -> Result<(), Fail> {
+    let mut picture = vec![in rt.alloc(); 128; 18432]?;
+    let mut sender = Slot::vacant(rt.alloc());
+    let mut receiver = Slot::vacant(rt.alloc());
+    let mut fault = 77;
+    assert_eq!(rt;
+        h263rps_raw_sender_start(rt.alloc(), &mut sender, &ASKED, &mut fault),
+        0
+    );
+    assert_eq!(rt;
+        h263rps_raw_receiver_start(rt.alloc(), &mut receiver, &ASKED, &mut fault),
+        0
+    );
+    let first = sent(rt.alloc(), &mut sender, &mut receiver, &mut picture);
+    assert_eq!(rt; first, [0, 1, 0, 1]);
+    assert_eq!(rt; picture.get(0).copied(), Some(128));
+    let second = sent(rt.alloc(), &mut sender, &mut receiver, &mut picture);
+    assert_eq!(rt; second, [0, 1, 0, 0]);
+    let _sender = sender.into_box();
+    let _receiver = receiver.into_box();
+    Ok(())
+}

@@ -1,0 +1,399 @@
+/* h263rps.h: both ends of a video call in H.263 with acknowledged reference pictures, over RTP.
+ *
+ * A sender codes pictures into RTP packets and hears messages; a receiver hears packets and shows a
+ * picture at each picture's time. What they do is proved; what you owe is not checked beyond what
+ * this header says. docs/LIBRARY.md is the guide: the order of calls, the clock, each answer.
+ *
+ * An end has no files, no sockets, no clock and no threads. It calls malloc, realloc, free, memcpy,
+ * memmove and memset and nothing else, and asks for memory at its start alone.
+ *
+ * For all functions:
+ *  - The answer is H263RPS_OK, or a refusal (enum h263rps_status) that changed nothing: neither the
+ *    end nor what a pointer leads to. h263rps_status_text() names it.
+ *  - You own all memory that you hand over, and get it back when the call returns. Nothing keeps a
+ *    pointer of yours.
+ *  - What a call writes must not overlap with anything else that is handed to it.
+ *  - An end is used by one thread, from its start to its finish, and by one call at a time. Ends
+ *    share nothing: two may be used at once. No call from a signal handler, or in the child of a
+ *    fork() of a process with threads.
+ *
+ * C11 or C++11. The functions of this header are static inline: each tests its pointers and lengths
+ * and then calls the library's own, h263rps_raw_NAME, which test nothing of the kind.
+ */
+#ifndef H263RPS_H
+#define H263RPS_H
+
+#include <stddef.h>
+#include <stdint.h>
+
+#ifdef __cplusplus
+extern "C" {
+#endif
+
+/* ---- numbers ------------------------------------------------------------------------------- */
+
+/* What a call answers. */
+enum h263rps_status {
+    H263RPS_OK = 0,
+    H263RPS_NOT_STARTED = 1,  /* the end is empty */
+    H263RPS_STARTED = 2,      /* a start: the end isn't empty */
+    H263RPS_OTHER_END = 3,    /* a sender was handed to a receiver's function, or the other way */
+    H263RPS_BAD_PARAMS = 4,   /* a parameter is out of its range: `fault` says which */
+    H263RPS_NO_MEMORY = 5,    /* a start: nothing is kept */
+    H263RPS_ENDED = 6,        /* 1,048,576 pictures were coded or played: finish, and start anew */
+    H263RPS_WRONG_LENGTH = 7, /* the picture hasn't h263rps_picture_size() bytes */
+    H263RPS_BAD_MESSAGES = 8, /* more than four messages, or one that is none by this clock */
+    H263RPS_NO_PACKET = 9,    /* the picture that was coded last has no packet of this number */
+    H263RPS_SHORT_ROOM = 10,  /* the packet is longer than the room; `limit` bytes always do */
+    /* of this header alone */
+    H263RPS_NULL = 11,        /* a pointer is null */
+    H263RPS_TOO_LONG = 12     /* a length is above PTRDIFF_MAX */
+};
+
+/* The sizes of pictures. */
+enum h263rps_format {
+    H263RPS_SUB_QCIF = 1, /* 128 x 96 */
+    H263RPS_QCIF = 2,     /* 176 x 144 */
+    H263RPS_CIF = 3       /* 352 x 288 */
+};
+
+/* The picture clock: how many numbers a picture on the wire has before they repeat. */
+enum h263rps_clock {
+    H263RPS_STANDARD_CLOCK = 0, /* 256 */
+    H263RPS_CUSTOM_CLOCK = 1    /* 1,024 */
+};
+
+/* Which parameter is out of its range: the first that is, in the order format, clock, and then as
+ * they stand here. */
+enum h263rps_param {
+    H263RPS_PARAM_QUANT = 1,
+    H263RPS_PARAM_KEEP = 2,
+    H263RPS_PARAM_RADIUS = 3,
+    H263RPS_PARAM_LIMIT = 4,
+    H263RPS_PARAM_SLOTS = 5,
+    H263RPS_PARAM_LEAD = 6,
+    H263RPS_PARAM_MESSAGES = 7,
+    H263RPS_PARAM_FORMAT = 8,
+    H263RPS_PARAM_CLOCK = 9,
+    H263RPS_PARAM_TARGET = 10
+};
+
+/* `kind` of the answer to a packet. Only the first two change the receiver. */
+enum h263rps_heard {
+    H263RPS_TAKEN = 0,
+    H263RPS_COMPLETED = 1, /* its picture is whole: `message` acknowledges it */
+    H263RPS_LATE = 2,      /* its picture was played */
+    H263RPS_EARLY = 3,     /* its picture is more than `lead` ahead */
+    H263RPS_REPEAT = 4,    /* all of it was taken before */
+    H263RPS_REFUSED = 5    /* `fault` says why (enum h263rps_fault) */
+};
+
+/* `kind` of the answer to a play: how what is shown stands to the sender's picture. */
+enum h263rps_mark {
+    H263RPS_EXACT = 0,   /* it is the sender's */
+    H263RPS_PATCHED = 1, /* the picture before, with what arrived of this one */
+    H263RPS_HELD = 2     /* the picture before */
+};
+
+/* Why a packet is refused. From H263RPS_BYTES_ENDED on its bytes are at fault, at bit `at`. The
+ * numbers of sections are those of H.263 (2005), where no other document is named. */
+enum h263rps_fault {
+    H263RPS_OTHER_CLOCK = 1,       /* it is of the other picture clock */
+    H263RPS_HEADER_DIFFERS = 2,    /* its picture's packets so far had another header */
+    H263RPS_MISSING_REFERENCE = 3, /* the picture that it refers to isn't complete here */
+    H263RPS_OVERLAP = 4,           /* a part of it was taken before */
+    H263RPS_BYTES_ENDED = 100, /* the bits end inside a field or a word */
+    H263RPS_BYTES_BAD_CODE = 101, /* no word of the table begins here */
+    H263RPS_BYTES_BAD_DC = 102, /* INTRADC of 0 or 128 (H.263, 5.4.1) */
+    H263RPS_BYTES_BAD_LEVEL = 103, /* an escape whose LEVEL is 0 or -128 (5.4.2) */
+    H263RPS_BYTES_PAST_END = 104, /* an event after the last coefficient of its block (5.4.2) */
+    H263RPS_BYTES_FOUR_VECTORS = 105, /* a macroblock with four vectors (5.3.2) */
+    H263RPS_BYTES_BAD_VECTOR = 106, /* a vector that points out of its reach (5.3.7, 6.1.1) */
+    /* a bit against start code emulation that isn't as it must be (5.1.4, Annex K) */
+    H263RPS_BYTES_MARKER = 107,
+    H263RPS_BYTES_ADDRESS = 108, /* a slice's macroblock address (MBA, Annex K) */
+    H263RPS_BYTES_QUANT = 109, /* a quantiser of 0 (PQUANT 5.1.19, SQUANT Annex K) */
+    /* a slice that names another reference than its picture (TRPI and TRP, Annex N) */
+    H263RPS_BYTES_SLICE_REFERENCE = 110,
+    H263RPS_BYTES_BCI = 111, /* a back-channel indication that is neither 1 nor 01 (BCI 5.1.16) */
+    H263RPS_BYTES_EMPTY = 112, /* a slice with no macroblock */
+    H263RPS_BYTES_TRAILING = 113, /* more than padding after the picture's last macroblock */
+    H263RPS_BYTES_NO_START = 114, /* not the rest of a start code (5.1.1, Annex K) */
+    H263RPS_BYTES_PICTURE_TYPE = 115, /* PTYPE isn't the extended one (5.1.3) */
+    H263RPS_BYTES_UFEP = 116, /* UFEP isn't 001 (5.1.4.1) */
+    H263RPS_BYTES_SOURCE_FORMAT = 117, /* a source format that is none of the three (5.1.4.2) */
+    /* a source format of the three that isn't the expected one (5.1.4.2) */
+    H263RPS_BYTES_OTHER_FORMAT = 118,
+    H263RPS_BYTES_MODES = 119, /* the optional modes aren't Annexes K and N alone (5.1.4.2) */
+    H263RPS_BYTES_PICTURE_KIND = 120, /* a picture that is neither I nor P (5.1.4.3) */
+    H263RPS_BYTES_RESAMPLING = 121, /* resampling, Annexes P and Q (5.1.4.3) */
+    H263RPS_BYTES_CPM = 122, /* continuous presence multipoint (CPM 5.1.20) */
+    H263RPS_BYTES_DIVISOR = 123, /* a custom picture clock whose divisor is 0 (CPCFC 5.1.7) */
+    H263RPS_BYTES_SLICE_MODE = 124, /* slices that are rectangular or in any order (SSS 5.1.10) */
+    /* a mode of the back channel that is none of the four (RPSMF 5.1.13) */
+    H263RPS_BYTES_RPSMF = 125,
+    H263RPS_BYTES_INTRA_REFERENCE = 126, /* an I picture that names a reference (TRPI 5.1.14) */
+    H263RPS_BYTES_NO_REFERENCE = 127, /* a P picture that names none (TRPI 5.1.14) */
+    /* a temporal reference of more than eight bits, in the standard clock (TRP 5.1.15) */
+    H263RPS_BYTES_HIGH_BITS = 128,
+    H263RPS_BYTES_MESSAGES = 129, /* a back-channel message with a fault (BCM 5.1.17, Annex N) */
+    H263RPS_BYTES_MANY_MESSAGES = 130, /* a fifth message */
+    /* a packet that begins neither a picture nor a slice (RFC 4629, 5.1) */
+    H263RPS_BYTES_FOLLOW_ON = 131,
+    /* an extra picture header before a picture, or one with bits left over (RFC 4629, 5.1) */
+    H263RPS_BYTES_EXTRA_HEADER = 132,
+    /* no extra picture header before a later slice (RFC 4629, 5.1) */
+    H263RPS_BYTES_NO_EXTRA_HEADER = 133,
+    H263RPS_BYTES_LONG = 134, /* a packet of more than 65,535 bytes */
+    /* a packet that ends inside its RTP header, the sources or the extension after it (RFC
+       3550, 5.1, 5.3.1) */
+    H263RPS_BYTES_SHORT = 135,
+    H263RPS_BYTES_VERSION = 136, /* another version of RTP than 2 */
+    H263RPS_BYTES_PADDING = 137, /* RTP padding whose count doesn't fit */
+    H263RPS_BYTES_PAYLOAD_TYPE = 138, /* another payload type */
+    H263RPS_BYTES_SOURCE = 139 /* another source */
+};
+
+/* `kind` of the answer to a message. Only the first changes the sender. */
+enum h263rps_noted {
+    H263RPS_NOTED = 0,
+    H263RPS_OLD = 1,       /* it is about a picture too far back, or one that was not sent */
+    H263RPS_NO_MESSAGE = 2 /* `fault` says why (enum h263rps_message_fault) */
+};
+
+/* Why bytes are no message. */
+enum h263rps_message_fault {
+    H263RPS_MESSAGE_LENGTH = 1, /* neither three bytes nor five, as it says itself */
+    H263RPS_MESSAGE_KIND = 2,   /* neither an acknowledgement nor its opposite */
+    H263RPS_MESSAGE_HIGH = 3,   /* a number of a picture that the clock hasn't */
+    H263RPS_MESSAGE_MARKER = 4, /* a marker bit is 0 */
+    H263RPS_MESSAGE_PAIR = 5    /* an acknowledgement of two pictures */
+};
+
+/* ---- structs ------------------------------------------------------------------------------- */
+
+/* An end of a call. All zeros before its start and after its finish: `h263rps_end e = {0};`. It is
+ * written by these functions alone, and never copied: of two copies the second one that is used
+ * uses memory that was freed. One that isn't finished leaks. */
+typedef struct h263rps_end {
+    uint32_t kind; /* 0 where it is empty */
+    void *at;
+} h263rps_end;
+
+/* The parameters of a call. h263rps_defaults() sets each; change those that you mean.
+ * `format`, `clock`, `slots` and `lead` must be the same at both ends. */
+typedef struct h263rps_params {
+    uint32_t format;  /* enum h263rps_format */
+    uint8_t quant;    /* sender: the quantiser, 1 fine to 31 coarse (8); with a target the first */
+    uint8_t keep;     /* sender: coefficients of a block that are coded, 1 to 64 (64) */
+    uint8_t radius;   /* sender: of the motion search, in samples, 0 to 15 (7) */
+    uint8_t messages; /* receiver: the version of its messages, 1 or 2 (1) */
+    uint32_t limit;   /* sender: the most bytes of an RTP packet, 1,200 to 9,000 (1,400) */
+    uint32_t slots;   /* pictures that each end keeps, 2 to 64 (16) */
+    uint32_t lead;    /* pictures that may come before their turn, 0 to slots - 2 (3) */
+    uint32_t clock;   /* enum h263rps_clock (standard) */
+    uint32_t target;  /* sender: bytes a picture that the quantiser follows, to 999,999; 0: none */
+} h263rps_params;
+
+/* A message for the other side: the first `length` bytes, 3 or 5. With a length of 0 there is
+ * none. */
+typedef struct h263rps_message {
+    uint8_t bytes[5];
+    uint8_t length;
+} h263rps_message;
+
+/* A receiver's answer to a packet or a play. */
+typedef struct h263rps_answer {
+    uint32_t kind;  /* enum h263rps_heard, of a play enum h263rps_mark */
+    uint32_t fault; /* enum h263rps_fault where a packet is refused, else 0 */
+    uint32_t at;    /* the bit of a fault of its bytes, else 0 */
+    h263rps_message message;
+} h263rps_answer;
+
+/* A picture that was coded. */
+typedef struct h263rps_coded {
+    uint32_t number;    /* from 0 */
+    uint32_t packets;   /* how many it has, at least 1 */
+    uint32_t intra;     /* 1 where it is coded by itself */
+    uint32_t reference; /* the number of the picture that it is predicted from, else 0 */
+} h263rps_coded;
+
+/* A sender's answer to a message. */
+typedef struct h263rps_reply {
+    uint32_t kind;  /* enum h263rps_noted */
+    uint32_t fault; /* enum h263rps_message_fault where it is none, else 0 */
+} h263rps_reply;
+
+/* ---- the library's own functions: pointers aren't null, also where a length is 0 ------------- */
+
+uint32_t h263rps_raw_defaults(uint32_t format, h263rps_params *params);
+uint32_t h263rps_raw_picture_size(uint32_t format);
+
+uint32_t h263rps_raw_receiver_start(h263rps_end *end, const h263rps_params *params,
+                                    uint32_t *fault);
+uint32_t h263rps_raw_receiver_packet(h263rps_end *end, const uint8_t *bytes, size_t length,
+                                     h263rps_answer *answer);
+uint32_t h263rps_raw_receiver_play(h263rps_end *end, uint8_t *picture, size_t length,
+                                   h263rps_answer *answer);
+uint32_t h263rps_raw_receiver_finish(h263rps_end *end);
+
+uint32_t h263rps_raw_sender_start(h263rps_end *end, const h263rps_params *params, uint32_t *fault);
+uint32_t h263rps_raw_sender_code(h263rps_end *end, const uint8_t *picture, size_t length,
+                                 const h263rps_message *messages, size_t count,
+                                 h263rps_coded *coded);
+uint32_t h263rps_raw_sender_packet(h263rps_end *end, uint32_t number, uint8_t *room, size_t length,
+                                   size_t *count);
+uint32_t h263rps_raw_sender_feedback(h263rps_end *end, const uint8_t *message, size_t length,
+                                     h263rps_reply *reply);
+uint32_t h263rps_raw_sender_finish(h263rps_end *end);
+
+/* ---- before the start ---------------------------------------------------------------------- */
+
+/* Why a call was refused, in a few words. Never null; the text is static. */
+static inline const char *h263rps_status_text(uint32_t status) {
+    switch (status) {
+    case H263RPS_OK: return "ok";
+    case H263RPS_NOT_STARTED: return "not started";
+    case H263RPS_STARTED: return "started already";
+    case H263RPS_OTHER_END: return "the other end's function";
+    case H263RPS_BAD_PARAMS: return "a parameter is out of its range";
+    case H263RPS_NO_MEMORY: return "out of memory";
+    case H263RPS_ENDED: return "1,048,576 pictures, the most of a run";
+    case H263RPS_WRONG_LENGTH: return "not the length of a picture";
+    case H263RPS_BAD_MESSAGES: return "no messages, or too many";
+    case H263RPS_NO_PACKET: return "no packet of this number";
+    case H263RPS_SHORT_ROOM: return "too short a room";
+    case H263RPS_NULL: return "a null pointer";
+    case H263RPS_TOO_LONG: return "too great a length";
+    default: return "no status";
+    }
+}
+
+/* Writes the parameters of a call in this format where nothing else is asked for.
+ * BAD_PARAMS: it is no format. */
+static inline uint32_t h263rps_defaults(uint32_t format, h263rps_params *params) {
+    if (!params) return H263RPS_NULL;
+    return h263rps_raw_defaults(format, params);
+}
+
+/* How many bytes a picture of this format has: Y, then Cb, then Cr, each by rows from the top. 0
+ * where it is no format. */
+static inline size_t h263rps_picture_size(uint32_t format) {
+    return h263rps_raw_picture_size(format);
+}
+
+/* Whether this many bytes may be handed over from here. */
+static inline uint32_t h263rps_may_pass(const void *from, size_t length) {
+    if (!from && length) return H263RPS_NULL;
+    return length > PTRDIFF_MAX ? H263RPS_TOO_LONG : H263RPS_OK;
+}
+
+/* ---- the receiver -------------------------------------------------------------------------- */
+
+/* Makes `end`, which is all zeros, a receiver: the one call of it that asks for memory, which
+ * h263rps_receiver_finish() gives back. `fault` may be null; else it has the parameter that is out
+ * of its range (enum h263rps_param) where the answer is BAD_PARAMS, and is left alone otherwise.
+ * STARTED, BAD_PARAMS, NO_MEMORY. */
+static inline uint32_t h263rps_receiver_start(h263rps_end *end, const h263rps_params *params,
+                                              uint32_t *fault) {
+    uint32_t unwanted = 0;
+    if (!end || !params) return H263RPS_NULL;
+    return h263rps_raw_receiver_start(end, params, fault ? fault : &unwanted);
+}
+
+/* Gives a whole RTP packet to a receiver, whatever it is: any bytes are an answer and no refusal.
+ * Where answer->message.length isn't 0 send the message back at once.
+ * NOT_STARTED, OTHER_END. */
+static inline uint32_t h263rps_receiver_packet(h263rps_end *end, const void *bytes, size_t length,
+                                               h263rps_answer *answer) {
+    uint8_t nothing = 0;
+    uint32_t status = h263rps_may_pass(bytes, length);
+    if (!end || !answer) return H263RPS_NULL;
+    if (status) return status;
+    return h263rps_raw_receiver_packet(end, length ? (const uint8_t *)bytes : &nothing, length,
+                                       answer);
+}
+
+/* Plays the next picture: once for each picture's time, whether anything came or not. `picture` has
+ * room for h263rps_picture_size() bytes, and `length` says so. Where answer->message.length isn't 0
+ * send the message back.
+ * NOT_STARTED, OTHER_END, ENDED, WRONG_LENGTH. */
+static inline uint32_t h263rps_receiver_play(h263rps_end *end, void *picture, size_t length,
+                                             h263rps_answer *answer) {
+    uint8_t nothing = 0;
+    uint32_t status = h263rps_may_pass(picture, length);
+    if (!end || !answer) return H263RPS_NULL;
+    if (status) return status;
+    return h263rps_raw_receiver_play(end, length ? (uint8_t *)picture : &nothing, length, answer);
+}
+
+/* Gives a receiver's memory back, and leaves `end` all zeros, ready for a start.
+ * NOT_STARTED, OTHER_END. */
+static inline uint32_t h263rps_receiver_finish(h263rps_end *end) {
+    if (!end) return H263RPS_NULL;
+    return h263rps_raw_receiver_finish(end);
+}
+
+/* ---- the sender ---------------------------------------------------------------------------- */
+
+/* Makes `end`, which is all zeros, a sender. As h263rps_receiver_start(). */
+static inline uint32_t h263rps_sender_start(h263rps_end *end, const h263rps_params *params,
+                                            uint32_t *fault) {
+    uint32_t unwanted = 0;
+    if (!end || !params) return H263RPS_NULL;
+    return h263rps_raw_sender_start(end, params, fault ? fault : &unwanted);
+}
+
+/* Codes the next picture, of h263rps_picture_size() bytes. Its packets are ready then, until the
+ * next one is coded. `messages` are up to four about pictures of the other direction, which travel
+ * in the picture's header; with none pass NULL and 0, as most callers do.
+ * NOT_STARTED, OTHER_END, ENDED, WRONG_LENGTH, BAD_MESSAGES. */
+static inline uint32_t h263rps_sender_code(h263rps_end *end, const void *picture, size_t length,
+                                           const h263rps_message *messages, size_t count,
+                                           h263rps_coded *coded) {
+    uint8_t nothing = 0;
+    h263rps_message none = {{0, 0, 0, 0, 0}, 0};
+    uint32_t status = h263rps_may_pass(picture, length);
+    if (!end || !coded || (!messages && count)) return H263RPS_NULL;
+    if (status) return status;
+    if (count > PTRDIFF_MAX / sizeof none) return H263RPS_TOO_LONG;
+    return h263rps_raw_sender_code(end, length ? (const uint8_t *)picture : &nothing, length,
+                                   count ? messages : &none, count, coded);
+}
+
+/* Copies packet `number`, from 0 to coded.packets - 1, of the picture that was coded last to the
+ * start of `room`, and its length to `count`. It is a whole RTP packet of at most `limit` bytes.
+ * NOT_STARTED, OTHER_END, NO_PACKET, SHORT_ROOM. */
+static inline uint32_t h263rps_sender_packet(h263rps_end *end, uint32_t number, void *room,
+                                             size_t length, size_t *count) {
+    uint8_t nothing = 0;
+    uint32_t status = h263rps_may_pass(room, length);
+    if (!end || !count) return H263RPS_NULL;
+    if (status) return status;
+    return h263rps_raw_sender_packet(end, number, length ? (uint8_t *)room : &nothing, length,
+                                     count);
+}
+
+/* Gives a message of the other side to a sender: any bytes are an answer and no refusal. The
+ * packets of the last picture stay.
+ * NOT_STARTED, OTHER_END. */
+static inline uint32_t h263rps_sender_feedback(h263rps_end *end, const void *message, size_t length,
+                                               h263rps_reply *reply) {
+    uint8_t nothing = 0;
+    uint32_t status = h263rps_may_pass(message, length);
+    if (!end || !reply) return H263RPS_NULL;
+    if (status) return status;
+    return h263rps_raw_sender_feedback(end, length ? (const uint8_t *)message : &nothing, length,
+                                       reply);
+}
+
+/* Gives a sender's memory back. As h263rps_receiver_finish(). */
+static inline uint32_t h263rps_sender_finish(h263rps_end *end) {
+    if (!end) return H263RPS_NULL;
+    return h263rps_raw_sender_finish(end);
+}
+
+#ifdef __cplusplus
+}
+#endif
+#endif

@@ -1,0 +1,84 @@
+/* Each request for memory refused in turn: start answers NO_MEMORY and keeps nothing. After start
+ * none is made. Linked with --wrap for malloc, realloc and free. */
+#include "h263rps.h"
+
+#include <stdio.h>
+#include <stdlib.h>
+
+static long asked, refused = -1, held;
+
+void *__real_malloc(size_t n);
+void *__real_realloc(void *p, size_t n);
+void __real_free(void *p);
+
+void *__wrap_malloc(size_t n) {
+    void *p = asked++ == refused ? NULL : __real_malloc(n);
+    if (p) held++;
+    return p;
+}
+
+void *__wrap_realloc(void *q, size_t n) {
+    void *p = asked++ == refused ? NULL : __real_realloc(q, n);
+    if (!q && p) held++;
+    return p;
+}
+
+void __wrap_free(void *p) {
+    if (p) held--;
+    __real_free(p);
+}
+
+static uint8_t picture[152064], room[1400];
+
+static uint32_t start(int receives, h263rps_end *end, const h263rps_params *params) {
+    return receives ? h263rps_receiver_start(end, params, NULL)
+                    : h263rps_sender_start(end, params, NULL);
+}
+
+/* How many requests a start makes, each refused in turn; -1 where that isn't NO_MEMORY. */
+static long requests_of(int receives, const h263rps_params *params) {
+    for (refused = 0;; refused++) {
+        h263rps_end end = {0};
+        asked = held = 0;
+        uint32_t status = start(receives, &end, params);
+        if (status == H263RPS_OK) {
+            if (receives) h263rps_receiver_finish(&end);
+            else h263rps_sender_finish(&end);
+            return held ? -1 : asked;
+        }
+        if (status != H263RPS_NO_MEMORY || held || end.kind || end.at) return -1;
+    }
+}
+
+int main(void) {
+    h263rps_params params;
+    h263rps_end sender = {0}, receiver = {0};
+    h263rps_answer answer;
+    h263rps_coded coded;
+    h263rps_reply reply;
+    size_t count;
+    h263rps_defaults(H263RPS_CIF, &params);
+    long by_sender = requests_of(0, &params), by_receiver = requests_of(1, &params);
+    refused = -1;
+    if (start(0, &sender, &params) || start(1, &receiver, &params)) return 1;
+    asked = 0;
+    for (unsigned n = 0; n < 50; n++) {
+        for (size_t i = 0; i < sizeof picture; i++)
+            picture[i] = (uint8_t)(i * 7 + n * 3 + (i * i >> 5));
+        if (h263rps_sender_code(&sender, picture, sizeof picture, NULL, 0, &coded)) return 2;
+        for (uint32_t i = 0; i < coded.packets; i++) {
+            if (h263rps_sender_packet(&sender, i, room, sizeof room, &count)) return 3;
+            if (h263rps_receiver_packet(&receiver, room, count, &answer)) return 3;
+        }
+        if (h263rps_sender_feedback(&sender, answer.message.bytes, answer.message.length, &reply))
+            return 4;
+        if (h263rps_receiver_play(&receiver, picture, sizeof picture, &answer)) return 5;
+        if (answer.kind != H263RPS_EXACT) return 6;
+    }
+    long later = asked;
+    h263rps_sender_finish(&sender);
+    h263rps_receiver_finish(&receiver);
+    printf("requests for memory: a sender's start %ld, a receiver's %ld, 50 pictures then %ld\n",
+           by_sender, by_receiver, later);
+    return by_sender < 1 || by_receiver < 1 || later;
+}

@@ -1,0 +1,188 @@
+/* Wrong calls, each refused by its number, and changing nothing; and the layout of the structs. */
+#include "h263rps.h"
+
+#include <stdio.h>
+#include <string.h>
+
+static int wrong;
+
+static void want(const char *what, uint32_t got, uint32_t wanted) {
+    if (got == wanted) return;
+    printf("%s: %u, not %u\n", what, (unsigned)got, (unsigned)wanted);
+    wrong = 1;
+}
+
+enum { SIZE = 18432 };
+
+static uint8_t picture[SIZE], shown[SIZE], room[1400];
+static h263rps_params params;
+static h263rps_answer answer;
+static h263rps_coded coded;
+static h263rps_reply reply;
+static size_t count;
+
+/* Each field by its offset, and what the library writes there. */
+static void layout(void) {
+    h263rps_params filled;
+    want("size of an end", sizeof(h263rps_end), 2 * sizeof(void *));
+    want("size of the parameters", sizeof(h263rps_params), 28);
+    want("size of a message", sizeof(h263rps_message), 6);
+    want("size of an answer", sizeof(h263rps_answer), 20);
+    want("size of a picture", sizeof(h263rps_coded), 16);
+    want("size of a reply", sizeof(h263rps_reply), 8);
+    memset(&filled, 0xAA, sizeof filled);
+    want("defaults", h263rps_defaults(H263RPS_CIF, &filled), H263RPS_OK);
+    want("format", filled.format, H263RPS_CIF);
+    want("quant", filled.quant, 8);
+    want("keep", filled.keep, 64);
+    want("radius", filled.radius, 7);
+    want("messages", filled.messages, 1);
+    want("limit", filled.limit, 1400);
+    want("slots", filled.slots, 16);
+    want("lead", filled.lead, 3);
+    want("clock", filled.clock, H263RPS_STANDARD_CLOCK);
+    want("target", filled.target, 0);
+    want("no format", h263rps_defaults(4, &filled), H263RPS_BAD_PARAMS);
+    want("sizes", (uint32_t)(h263rps_picture_size(0) + h263rps_picture_size(1)
+                             + h263rps_picture_size(2) + h263rps_picture_size(3)
+                             + h263rps_picture_size(4)), 18432 + 38016 + 152064);
+}
+
+static uint32_t start(int receives, h263rps_end *end, const h263rps_params *asked,
+                      uint32_t *fault) {
+    return receives ? h263rps_receiver_start(end, asked, fault)
+                    : h263rps_sender_start(end, asked, fault);
+}
+
+/* Each parameter one out of its range. */
+static void parameters(int receives) {
+    uint32_t fault = 77;
+    h263rps_end end = {0};
+#define BAD(field, value, number) do { \
+        h263rps_params asked = params; \
+        asked.field = value; \
+        want(#field, start(receives, &end, &asked, &fault), H263RPS_BAD_PARAMS); \
+        want(#field " is told", fault, number); \
+        want(#field ": empty", end.kind, 0); \
+    } while (0)
+    BAD(format, 0, H263RPS_PARAM_FORMAT);
+    BAD(format, 4, H263RPS_PARAM_FORMAT);
+    BAD(clock, 2, H263RPS_PARAM_CLOCK);
+    BAD(quant, 0, H263RPS_PARAM_QUANT);
+    BAD(quant, 32, H263RPS_PARAM_QUANT);
+    BAD(keep, 65, H263RPS_PARAM_KEEP);
+    BAD(radius, 16, H263RPS_PARAM_RADIUS);
+    BAD(limit, 1199, H263RPS_PARAM_LIMIT);
+    BAD(slots, 1, H263RPS_PARAM_SLOTS);
+    BAD(lead, 15, H263RPS_PARAM_LEAD);
+    BAD(messages, 3, H263RPS_PARAM_MESSAGES);
+    BAD(target, 1000000, H263RPS_PARAM_TARGET);
+#undef BAD
+    want("no fault wanted", start(receives, &end, &params, NULL), H263RPS_OK);
+    fault = 77;
+    want("started", start(receives, &end, &params, &fault), H263RPS_STARTED);
+    want("fault is left", fault, 77);
+    want("finish", receives ? h263rps_receiver_finish(&end) : h263rps_sender_finish(&end), 0);
+    want("empty", end.kind == 0 && end.at == NULL, 1);
+    want("null", start(receives, NULL, &params, NULL), H263RPS_NULL);
+    want("null", start(receives, &end, NULL, NULL), H263RPS_NULL);
+}
+
+/* Each call of a receiver answers `status`. */
+static void receiver_calls(h263rps_end *end, uint32_t status) {
+    memset(&answer, 0xAA, sizeof answer);
+    memset(shown, 0xAA, SIZE);
+    want("packet", h263rps_receiver_packet(end, "abc", 3, &answer), status);
+    want("play", h263rps_receiver_play(end, shown, SIZE, &answer), status);
+    want("finish", h263rps_receiver_finish(end), status);
+    want("answer is left", answer.kind, 0xAAAAAAAA);
+    want("picture is left", shown[0], 0xAA);
+}
+
+static void sender_calls(h263rps_end *end, uint32_t status) {
+    memset(&coded, 0xAA, sizeof coded);
+    memset(&reply, 0xAA, sizeof reply);
+    count = 77;
+    want("code", h263rps_sender_code(end, picture, SIZE, NULL, 0, &coded), status);
+    want("packet", h263rps_sender_packet(end, 0, room, sizeof room, &count), status);
+    want("feedback", h263rps_sender_feedback(end, "abc", 3, &reply), status);
+    want("finish", h263rps_sender_finish(end), status);
+    want("picture is left", coded.number, 0xAAAAAAAA);
+    want("reply is left", reply.kind, 0xAAAAAAAA);
+    want("count is left", (uint32_t)count, 77);
+}
+
+static void receiver(void) {
+    h263rps_end end = {0};
+    receiver_calls(&end, H263RPS_NOT_STARTED);
+    want("start", h263rps_receiver_start(&end, &params, NULL), H263RPS_OK);
+    sender_calls(&end, H263RPS_OTHER_END);
+    want("null", h263rps_receiver_packet(NULL, "abc", 3, &answer), H263RPS_NULL);
+    want("null", h263rps_receiver_packet(&end, NULL, 3, &answer), H263RPS_NULL);
+    want("null", h263rps_receiver_packet(&end, "abc", 3, NULL), H263RPS_NULL);
+    want("null", h263rps_receiver_play(&end, NULL, SIZE, &answer), H263RPS_NULL);
+    want("null", h263rps_receiver_finish(NULL), H263RPS_NULL);
+    want("long", h263rps_receiver_packet(&end, "abc", SIZE_MAX, &answer), H263RPS_TOO_LONG);
+    want("no bytes", h263rps_receiver_packet(&end, NULL, 0, &answer), H263RPS_OK);
+    want("refused", answer.kind, H263RPS_REFUSED);
+    want("short", answer.fault, H263RPS_BYTES_SHORT);
+    want("of no bytes", answer.at, 0);
+    want("no message", answer.message.length, 0);
+    want("short room", h263rps_receiver_play(&end, shown, SIZE - 1, &answer), H263RPS_WRONG_LENGTH);
+    want("no room", h263rps_receiver_play(&end, NULL, 0, &answer), H263RPS_WRONG_LENGTH);
+    want("play", h263rps_receiver_play(&end, shown, SIZE, &answer), H263RPS_OK);
+    want("held", answer.kind, H263RPS_HELD);
+    want("grey", shown[0] == 128 && shown[SIZE - 1] == 128, 1);
+    want("a message", answer.message.length, 3);
+    want("finish", h263rps_receiver_finish(&end), H263RPS_OK);
+    receiver_calls(&end, H263RPS_NOT_STARTED);
+}
+
+static void sender(void) {
+    h263rps_end end = {0};
+    h263rps_message back[5] = {{{0xC0, 0x04, 0x00, 0, 0}, 3}};
+    sender_calls(&end, H263RPS_NOT_STARTED);
+    want("start", h263rps_sender_start(&end, &params, NULL), H263RPS_OK);
+    receiver_calls(&end, H263RPS_OTHER_END);
+    for (int i = 1; i < 5; i++) back[i] = back[0];
+    want("no picture", h263rps_sender_packet(&end, 0, room, sizeof room, &count),
+         H263RPS_NO_PACKET);
+    want("short", h263rps_sender_code(&end, picture, SIZE - 1, NULL, 0, &coded),
+         H263RPS_WRONG_LENGTH);
+    want("five", h263rps_sender_code(&end, picture, SIZE, back, 5, &coded), H263RPS_BAD_MESSAGES);
+    back[1].bytes[0] = 0;
+    want("none", h263rps_sender_code(&end, picture, SIZE, back, 2, &coded), H263RPS_BAD_MESSAGES);
+    want("null", h263rps_sender_code(&end, picture, SIZE, NULL, 1, &coded), H263RPS_NULL);
+    want("null", h263rps_sender_code(&end, NULL, SIZE, NULL, 0, &coded), H263RPS_NULL);
+    want("long", h263rps_sender_code(&end, picture, SIZE, back, SIZE_MAX, &coded),
+         H263RPS_TOO_LONG);
+    want("code", h263rps_sender_code(&end, picture, SIZE, back, 1, &coded), H263RPS_OK);
+    want("the first", coded.number == 0 && coded.intra == 1 && coded.reference == 0, 1);
+    want("a packet", coded.packets > 0, 1);
+    want("short room", h263rps_sender_packet(&end, 0, room, 10, &count), H263RPS_SHORT_ROOM);
+    want("no room", h263rps_sender_packet(&end, 0, NULL, 0, &count), H263RPS_SHORT_ROOM);
+    want("the last", h263rps_sender_packet(&end, coded.packets, room, sizeof room, &count),
+         H263RPS_NO_PACKET);
+    want("packet", h263rps_sender_packet(&end, 0, room, sizeof room, &count), H263RPS_OK);
+    want("feedback", h263rps_sender_feedback(&end, "abc", 3, &reply), H263RPS_OK);
+    want("no message", reply.kind, H263RPS_NO_MESSAGE);
+    want("its kind", reply.fault, H263RPS_MESSAGE_KIND);
+    want("feedback", h263rps_sender_feedback(&end, back[0].bytes, 3, &reply), H263RPS_OK);
+    want("noted", reply.kind == H263RPS_NOTED && reply.fault == 0, 1);
+    want("packet", h263rps_sender_packet(&end, 0, room, sizeof room, &count), H263RPS_OK);
+    want("code", h263rps_sender_code(&end, picture, SIZE, NULL, 0, &coded), H263RPS_OK);
+    want("the second", coded.number == 1 && coded.intra == 0 && coded.reference == 0, 1);
+    want("finish", h263rps_sender_finish(&end), H263RPS_OK);
+    sender_calls(&end, H263RPS_NOT_STARTED);
+}
+
+int main(void) {
+    layout();
+    want("defaults", h263rps_defaults(H263RPS_SUB_QCIF, &params), H263RPS_OK);
+    parameters(0);
+    parameters(1);
+    receiver();
+    sender();
+    if (!wrong) printf("each wrong call is refused by its number\n");
+    return wrong;
+}
