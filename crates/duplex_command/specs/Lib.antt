@@ -1,0 +1,4 @@
+pub mod Exchange
+pub mod Duplex
+pub mod Standing
+pub mod Turning
