@@ -6,11 +6,12 @@
 #![tactic(auto)]
 
 mod event;
+pub mod laws;
 mod second;
 mod show;
 mod station;
 mod talk;
 
-pub use second::second_result;
+pub use second::{second_result, second_status};
 pub use station::Station;
 pub use talk::Talk;
