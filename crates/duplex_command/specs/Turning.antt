@@ -15,8 +15,8 @@ use Rattle.call_encoding.specs.Frames.{Frame}
 use Rattle.desk_program.specs.Run.{Step, behind}
 use Rattle.desk_program.specs.Ends.{HasCause, IsStop, KeepsRoles, OnEnd, OnGoing, TurnGives, turn_status}
 use Rattle.desk_program.specs.Texts.{of, on, then_also}
-use Rattle.call_command.specs.Call.{line_size}
-use Rattle.call_command.specs.Standing.{HasTaken}
+use Rattle.duplex_command.specs.Lines.{line_size}
+use Rattle.duplex_command.specs.Lines.{HasTaken}
 use Rattle.duplex_call.specs.declared.line.Party.{Party}
 use Rattle.duplex_call.specs.declared.line.Party.TheVariants.{A}
 use Rattle.duplex_call.specs.Duplex.{WayRuns}

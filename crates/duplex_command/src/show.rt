@@ -88,16 +88,16 @@ pub fn play_next<D: Desk>(
     ensures far_sent { far.new.sender ≡ far.old.sender }
     ensures holds { (p : Party → Params) (x : Party) (ways : WayRuns Frame) (left : ℕ)
         → HoldsPair p x own.old far.old ways → MayHappenOf (sides p) left x Play ways
-        → HoldsPair p x own.new far.new (with_play x ways) }
+        → HoldsPair p x own.new far.new (with_play (sides p) x ways) }
     ensures ok { (p : Party → Params) (ways : WayRuns Frame) (left : ℕ)
         → HoldsPair p party own.old far.old ways → MayHappenOf (sides p) left party Play ways
         → OnOk result (Gains (play_texts Pictures party
-        (in_call (call_in p party (with_play party ways))) (call_in p party ways).played)
+        (in_call (call_in p party (with_play (sides p) party ways))) (call_in p party ways).played)
         (D.outside desk.old).written (D.outside desk.new).written) }
     ensures err { (p : Party → Params) (ways : WayRuns Frame) (left : ℕ)
         → HoldsPair p party own.old far.old ways → MayHappenOf (sides p) left party Play ways
         → OnErr result (GainsFronts (play_texts Pictures party
-        (in_call (call_in p party (with_play party ways))) (call_in p party ways).played)
+        (in_call (call_in p party (with_play (sides p) party ways))) (call_in p party ways).played)
         (D.outside desk.old).written (D.outside desk.new).written) }
     ensures kind { IfErr result (λ status. status ≡ Status.WriteFault) }
     ensures cause { OnErr result (Rose (D.outside desk.old).faults.write
