@@ -1,0 +1,11 @@
+mod Lists
+mod Said
+mod Agreeing
+mod Later
+mod Runs
+mod Pairs
+mod Returning
+mod Deliveries
+mod Captures
+mod Screen
+mod Refusals
