@@ -5,12 +5,15 @@
 //! What an event does to the ends of both parties is `duplex_ends`'s.
 #![tactic(auto)]
 
+mod begin;
 mod event;
+mod heads;
 mod second;
 mod show;
 mod station;
 mod talk;
 
+pub use begin::Duplex;
 pub use second::second_result;
 pub use station::Station;
 pub use talk::Talk;

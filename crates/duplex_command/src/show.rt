@@ -30,7 +30,12 @@ fn letter(party: Party) -> u8 {
 fn show<D: Desk>(desk: &mut D, row: &Row, picture: PictureRef<'_>) -> Result<(), Status> {
     put_picture(desk, row.mark, picture)?;
     let letter = letter(row.party);
-    let line = picture_line(row.number, Some(row.mark), Some(row.reference), Some(letter));
+    let line = picture_line(
+        row.number,
+        Some(row.mark),
+        Some(row.reference),
+        Some(letter),
+    );
     put_line(desk, &line)
 }
 
