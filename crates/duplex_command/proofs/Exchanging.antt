@@ -46,7 +46,7 @@ pub unexchanged : {A : Type 0} (f g : Role → A) → for_second f ≡ for_secon
 unexchanged {A = A} f g same = fun_ext (λ r. subst (λ (q : Role). f q ≡ g q) (twice r) (ap (λ (h : Role → A). h (exchanged r)) same))
 
 module _ (a b : ℕ) (old new : Outside) (kept : KeepsRoles (exchanged_outside a old) (exchanged_outside b new)) where
-  tail : List ℕ → List ℕ
+  abbrev tail : List ℕ → List ℕ
   tail [] = []
   tail (x ∷ xs) = xs
 
