@@ -1,5 +1,5 @@
 -- A call of two parties over a trace, line by line: what it reads, writes and answers.
-use Rattle.std.specs.Prelude.{ℕ, zero, suc, ◌+◌, ◌-◌, Bool, false, not, nat_lt, codes, List, [], ◌∷◌, ◌++◌, length, Option, Some, None, Result, Ok, Err, if◌then◌else◌}
+use Rattle.std.specs.Prelude.{ℕ, ◌+◌, ◌-◌, Bool, false, not, nat_lt, codes, List, [], ◌∷◌, length, Option, Some, None, Result, Ok, Err, if◌then◌else◌}
 use Rattle.h263_types.specs.declared.format.Format.{Format}
 use Rattle.h263_types.specs.declared.params.Params.{Params}
 use Rattle.h263_planes.specs.Layout.{picture_of}
@@ -17,7 +17,7 @@ use Rattle.call_report.specs.declared.status.Status.{Status}
 use Rattle.call_report.specs.declared.status.Status.TheVariants.{Ok as Fine, VideoRefused, Video2Refused}
 use Rattle.call_report.specs.Text.{Text, picture_text}
 use Rattle.call_model.specs.Coding.{Shown}
-use Rattle.call_model.specs.IdealCall.{Event, Send, Deliver, Play, Back, slices_at}
+use Rattle.call_model.specs.IdealCall.{Event, Send, Deliver, Play, Back}
 use Rattle.call_model.specs.Refusals.{Refusal}
 use Rattle.call_encoding.specs.Frames.{Frame}
 use Rattle.receiver_end.specs.Answers.{mark_of}
@@ -27,13 +27,13 @@ use Rattle.desk_program.specs.Texts.{no_texts, on, then_also, of, and_of}
 use Rattle.one_way.specs.Seen.{Seen, in_call, reference_in}
 use Rattle.duplex_call.specs.declared.line.Party.{Party}
 use Rattle.duplex_call.specs.declared.line.Party.TheVariants.{A, B}
-use Rattle.duplex_call.specs.Duplex.{WayRuns, way, call_of, no_runs, with_shot, with_delivery, with_play}
+use Rattle.duplex_call.specs.Duplex.{WayRuns, no_runs, with_shot, with_delivery, with_play}
 use Rattle.duplex_call.specs.Lines.{party_event}
 use Rattle.duplex_call.specs.Refused.{refusal_of}
 use Rattle.one_way.specs.Counts.{call_text_of}
-use Rattle.duplex_ends.specs.Sides.{sides, with_deliveries}
-use Rattle.call_command.specs.Call.{bad_line, line_size, line_turn, refused_line}
-use Rattle.call_command.specs.Refused.{fault_of}
+use Rattle.duplex_ends.specs.Ways.{call_in, sides, with_whole}
+use Rattle.duplex_command.specs.Lines.{bad_line, line_size, line_turn, refused_line}
+use Rattle.duplex_command.specs.Lines.{fault_of}
 
 -- where a party's video stands: the byte of its next frame, and how many frames may still come
 pub record VideoPlace : Type 0 where
@@ -81,7 +81,7 @@ with_place B place s = record s { video_b = place }
 
 -- what is seen of its pictures, by the ideal call
 abbrev pub seen_of : Party → DuplexState → Seen
-seen_of x s = in_call (call_of (sides s.params) x (way x s.ways))
+seen_of x s = in_call (call_in s.params x s.ways)
 
 -- ---- texts
 
@@ -105,17 +105,16 @@ abbrev pub played_word : Party → Text
 played_word A = codes "a played"
 played_word B = codes "b played"
 
-abbrev pub counts_of : Party → DuplexState → Text
-counts_of x s = call_text_of (played_word x) (seen_of x s)
+abbrev pub counts_of : Party → (Party → Params) → WayRuns Frame → Text
+counts_of x p ways = call_text_of (played_word x) (in_call (call_in p x ways))
 
--- the trace is at its end: the counts of both parties are told
+-- those of both parties
+abbrev pub both_counts : (Party → Params) → WayRuns Frame → Role → List ℕ
+both_counts p ways = then_also (on Report (counts_of A p ways)) (on Report (counts_of B p ways))
+
+-- the trace is at its end
 abbrev pub all_played : DuplexState → End
-all_played s =
-    record {
-      status = Fine;
-      taken = λ _. Some 0;
-      texts = then_also (on Report (counts_of A s)) (on Report (counts_of B s));
-    }
+all_played s = record { status = Fine; taken = λ _. Some 0; texts = both_counts s.params s.ways }
 
 -- ---- a line
 
@@ -178,7 +177,7 @@ module _ (video pictures : Role) (refuses : Y4mFault → Status) (x : Party) (s 
       (quiet_step s trace (with_delivery (sides s.params) x n j s.ways))
   event_step inputs (says.All n) =
       unless s trace (Deliver n 0) (refusal_at x s (Deliver n 0))
-      (quiet_step s trace (with_deliveries s.params x n (length (slices_at (seen_of x s).coded n)) s.ways))
+      (quiet_step s trace (with_whole s.params x n s.ways))
   event_step inputs (says.Back k) = unless s trace (Back k) (refusal_at x s (Back k)) (quiet_step s trace s.ways)
   event_step inputs says.Play = unless s trace Play (refusal_at x s Play) play_step
 

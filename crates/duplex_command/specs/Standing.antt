@@ -1,6 +1,5 @@
 -- What the machine of a call of two parties keeps in mind, and what it is ready for.
 use Rattle.std.specs.Prelude.{◌≡◌, ℕ, ◌+◌, ◌-◌, ◌≤◌, Bool, true, List, [], length}
-use Rattle.h263_types.specs.Params.{IsParams}
 use Rattle.h263_types.specs.Sizes.{size_of_picture}
 use Rattle.h263_outside.specs.declared.desk.Role.{Role}
 use Rattle.h263_outside.specs.declared.desk.Role.TheVariants.{Video, Events, Pictures, Report, Video2, Pictures2}
@@ -8,7 +7,7 @@ use Rattle.loss_trace.specs.declared.reader.TraceReader.{TraceReader}
 use Rattle.duplex_call.specs.declared.line.Party.{Party}
 use Rattle.duplex_call.specs.declared.line.Party.TheVariants.{A}
 use Rattle.duplex_call.specs.Duplex.{other}
-use Rattle.duplex_ends.specs.Pair.{HoldsPair, IsReady}
+use Rattle.duplex_ends.specs.Pair.{AreInCall, HoldsPair}
 use Rattle.y4m.specs.declared.reader.Y4mReader.{Y4mReader}
 use Rattle.duplex_command.specs.declared.station.Station.{Station}
 use Rattle.duplex_command.specs.declared.talk.Talk.{Talk}
@@ -20,11 +19,9 @@ abbrev pub place_in : Y4mReader → VideoPlace
 place_in video = record { at = video.at; more = video.more }
 
 -- A party, the other one and the trace stand at a state, where this much of the trace is left: the
--- parameters and the places of both videos are those of the state, and the ends have done what its
+-- places of both videos are those of the state, and the ends have done what its
 -- ways have met. After a last line without a newline the trace is at its end.
 pub record StationsStand (x : Party) (own far : Station) (trace : TraceReader) (s : DuplexState) (rest : List ℕ) : Type 0 where
-  pub own_params : s.params x ≡ own.ends.params
-  pub far_params : s.params (other x) ≡ far.ends.params
   pub own_place : place_of x s ≡ place_in own.video
   pub far_place : place_of (other x) s ≡ place_in far.video
   pub lines : s.lines ≡ trace.lines
@@ -44,7 +41,6 @@ more_of m = 16777216 - m.trace.lines
 -- the video of a party is that of its pictures, a frame of it has room, and so many may still come as
 -- may still be sent
 pub record StationReady (station : Station) (room : ℕ) : Type 0 where
-  pub params : IsParams station.ends.params
   pub format : station.video.format ≡ station.ends.params.format
   pub frame : size_of_picture station.ends.params.format ≤ room
   pub sent : station.ends.sender.sent + station.video.more ≡ 1048576
@@ -52,7 +48,7 @@ pub record StationReady (station : Station) (room : ℕ) : Type 0 where
 pub record StationsReady (own far : Station) (room : ℕ) : Type 0 where
   pub own_ready : StationReady own room
   pub far_ready : StationReady far room
-  pub ends : IsReady own.ends far.ends
+  pub ends : AreInCall own.ends far.ends
 
 pub record DuplexOpens (attached : Role → Bool) : Type 0 where
   pub video : attached Video ≡ true

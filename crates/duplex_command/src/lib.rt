@@ -8,12 +8,13 @@
 mod begin;
 mod event;
 mod heads;
+pub mod laws;
 mod second;
 mod show;
 mod station;
 mod talk;
 
 pub use begin::Duplex;
-pub use second::second_result;
+pub use second::{second_result, second_status};
 pub use station::Station;
 pub use talk::Talk;

@@ -1,12 +1,13 @@
 //! The machine of a call of two parties: one line of its trace is a turn.
-use crate::event::{Said, party_turn};
+use crate::Station;
+use crate::event::{Said, event_turn};
 use crate::show::tell_counts;
-use crate::{Station, second_result};
 use call_report::Status;
 use desk_program::{Turns, laws as desk_program_laws};
-use duplex_call::{Party, party_line};
-use h263_outside::{Desk, Second, laws as outside_laws};
-use loss_trace::{Event, TraceFault, TraceReader};
+use duplex_call::party_line;
+use h263_outside::{Desk, laws as outside_laws};
+use loss_trace::laws::exact_lines;
+use loss_trace::{TraceFault, TraceReader};
 
 /// The machine of a call of two parties: both of them, the reader of its trace, and room for a frame
 /// of either video. It must be finished.
@@ -28,31 +29,6 @@ impl Talk {
         } = self;
         a.finish();
         b.finish();
-    }
-
-    // What the line says that was read last is done, or refused. The second party's turn is one of
-    // the first's on the desk with both exchanged.
-    fn event_turn<D: Desk>(
-        &mut self,
-        desk: &mut D,
-        line: u32,
-        party: Party,
-        event: Event,
-    ) -> Result<bool, Status> {
-        let said = Said { line, party, event };
-        match party {
-            Party::A => party_turn(desk, said, &mut self.a, &mut self.b, &mut self.frame),
-            Party::B => {
-                let mut second = Second::new(desk);
-                second_result(party_turn(
-                    &mut second,
-                    said,
-                    &mut self.b,
-                    &mut self.a,
-                    &mut self.frame,
-                ))
-            }
-        }
     }
 }
 
@@ -77,13 +53,19 @@ impl Turns for Talk {
     ghost reading = { λ _. Some Events };
 
     fn turn<D: Desk>(&mut self, desk: &mut D) -> Result<bool, Status> {
+        desk_program_laws::of_turns();
+        outside_laws::calls();
+        exact_lines();
         let mut bytes = [0; 64];
         let Some((line, length)) = self.trace.raw(desk, &mut bytes)? else {
-            tell_counts(desk, &self.a, &self.b)?;
+            tell_counts(desk, &self.a.ends, &self.b.ends)?;
             return Ok(false);
         };
         match party_line(&bytes[..length as usize]) {
-            Ok(Some((party, event))) => self.event_turn(desk, line, party, event),
+            Ok(Some((party, event))) => {
+                let said = Said { line, party, event };
+                event_turn(desk, said, &mut self.a, &mut self.b, &mut self.frame)
+            }
             Ok(None) => Ok(true),
             Err(_) => Err(Status::TraceRefused {
                 fault: TraceFault::BadLine { line },
