@@ -1,0 +1,5 @@
+mod Lists
+mod Said
+mod Agreeing
+mod Later
+mod Runs

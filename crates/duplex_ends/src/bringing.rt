@@ -30,8 +30,8 @@ pub fn bring_header(sender: &mut Sender<FixedPace>, clock: Clock, header: &[Opti
         → HoldsWay p way sender.new receiver [] frames (brought ks past) }
 {
     one_way_laws::of_events();
-    for carried in header {
-        if let Some(carried) = carried {
+    'header: for place in header {
+        if let Some(carried) = place {
             bring_back(sender, bytes_of(&carried.message, clock).text());
         }
     }

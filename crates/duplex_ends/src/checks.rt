@@ -31,8 +31,8 @@ pub fn check_send(own: &PartyEnds) -> Result<(), Refusal>
 fn check_header(half: u32, sent: u32, header: &[Option<Carried>]) -> Result<(), Refusal>
     ensures { result ≡ first_far half sent (carried_in header.now) }
 {
-    for carried in header {
-        if let Some(carried) = carried {
+    'header: for place in header {
+        if let Some(carried) = place {
             if half <= sent && carried.about <= sent - half {
                 return Err(Refusal::Far {
                     given: carried.about,

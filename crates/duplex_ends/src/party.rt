@@ -11,8 +11,9 @@ ghost use Rattle.one_way.specs.Seen.{in_call, reference_in};
 ghost use Rattle.duplex_call.specs.declared.line.Party.{Party};
 ghost use Rattle.duplex_call.specs.Duplex.{MayHappenOf, WayRuns, way, with_shot};
 
-use crate::saying::messages_of;
+use crate::saying::put_messages;
 use crate::{CarriedRing, laws};
+use back_messages::Message;
 use call_report::Line;
 use duplex_call::Carrier;
 use h263_outside::OutOfMemory;
@@ -22,6 +23,9 @@ use one_way::{Way, laws as one_way_laws};
 use receiver_end::Receiver;
 use sender_end::Sender;
 use std::alloc::Global;
+
+// What stands where a header has no message.
+const NO_MESSAGE: Message = Message::Ack { tr: 0, marks: None };
 
 /// The ends of one party's pictures. They must be finished.
 pub struct PartyEnds {
@@ -90,8 +94,9 @@ impl PartyEnds {
         laws::of_pairs();
         one_way_laws::of_the_way();
         let header = self.waiting.load();
-        let messages = messages_of(&header);
-        let coded = self.way.send(&mut self.sender, frame, messages.as_slice());
+        let mut messages = [NO_MESSAGE; 4];
+        let count = put_messages(&header, &mut messages);
+        let coded = self.way.send(&mut self.sender, frame, &messages[..count]);
         self.carried.note(coded.number, header);
     }
 

@@ -1,5 +1,5 @@
 //! Messages on their way into a picture header, and out of it.
-ghost use Rattle.std.specs.Prelude.{◌≡◌, ◌++◌, ◌≤◌, List, length, map};
+ghost use Rattle.std.specs.Prelude.{◌≡◌, ◌++◌, ◌≤◌, List, length, map, take};
 ghost use Rattle.back_messages.specs.MessageBytes.{text_of};
 ghost use Rattle.back_messages.specs.Text.{IsMessage};
 ghost use Rattle.call_encoding.specs.Messages.{written};
@@ -8,7 +8,6 @@ ghost use Rattle.duplex_call.specs.declared.carrier.Carried.{Carried};
 ghost use Rattle.duplex_call.specs.Waiting.{Waits};
 ghost use Rattle.duplex_ends.specs.Bringing.{carried_in, message_in, said_as};
 
-use arrayvec::ArrayVec;
 use back_messages::{Message, MessageBytes, read, write};
 use coded_call::laws::said_bytes;
 use duplex_call::{Carried, Carrier};
@@ -43,16 +42,19 @@ pub fn bytes_of(message: &Message, clock: Clock) -> MessageBytes
     said
 }
 
-/// The messages of a picture header, without their pictures.
-pub fn messages_of(header: &[Option<Carried>]) -> ArrayVec<Message, 4>
-    requires { length header.now ≤ 4 }
-    ensures { result.items ≡ map message_in (carried_in header.now) }
+/// Puts the messages of a picture header into these places, and answers how many there are.
+pub fn put_messages(header: &[Option<Carried>], messages: &mut [Message]) -> usize
+    requires { length header.now ≤ length messages.old }
+    ensures few { result ≤ length header.now }
+    ensures long { length messages.new ≡ length messages.old }
+    ensures messages { take result messages.new ≡ map message_in (carried_in header.now) }
 {
-    let mut messages = ArrayVec::new();
-    for carried in header {
-        if let Some(carried) = carried {
-            messages.push(carried.message);
+    let mut count = 0;
+    'header: for place in header {
+        if let Some(carried) = place {
+            messages[count] = carried.message;
+            count += 1;
         }
     }
-    messages
+    count
 }
