@@ -80,7 +80,7 @@ module _ (frame_laws : FrameLaws) (fault : Y4mFault) where
       -- a frame of party y is asked for
       at_captured : (x y : Party) → Later x → (b : ℕ) (v : List ℕ) → inputs (video_of y) ≡ b ∷ v → (r : Result (List ℕ) Y4mFault)
           → next_frame (place_of y s).more (s.params y).format (place_of y s).at (b ∷ v) ≡ r
-          → Refuses x (captured_step (video_of y) (refused_video y) y s trace (frame_size (s.params y).format (b ∷ v)) r) → IsFaulty x s inputs
+          → Refuses x (captured_step (video_of y) (pictures_of y) (refused_video y) y s trace (frame_size (s.params y).format (b ∷ v)) r) → IsFaulty x s inputs
       at_captured A A later b v same (Ok planes) is ends =
           subst (λ (l : List ℕ). HasFault (s.params A).format s.video_a l) (sym same) (behind_it (s.params A).format s.video_a b v planes (inputs Video) same is (later _ _ ends))
       at_captured B B later b v same (Ok planes) is ends =
@@ -95,13 +95,13 @@ module _ (frame_laws : FrameLaws) (fault : Y4mFault) where
       at_captured B A later b v same (Err broken) is ends = absurd (cc ends)
 
       at_capture : (x y : Party) → Later x → (video : List ℕ) → inputs (video_of y) ≡ video
-          → Refuses x (capture_step (video_of y) (refused_video y) y s trace video) → IsFaulty x s inputs
+          → Refuses x (capture_step (video_of y) (pictures_of y) (refused_video y) y s trace video) → IsFaulty x s inputs
       at_capture A y later [] same ends = absurd (cc ends)
       at_capture B y later [] same ends = absurd (cc ends)
       at_capture x y later (b ∷ v) same ends =
           at_captured x y later b v same (next_frame (place_of y s).more (s.params y).format (place_of y s).at (b ∷ v)) refl ends
 
-      at_play : (x y : Party) → Later x → Refuses x (play_step (pictures_of y) y s trace) → IsFaulty x s inputs
+      at_play : (x y : Party) → Later x → Refuses x (play_step (video_of y) (pictures_of y) (refused_video y) y s trace) → IsFaulty x s inputs
       at_play A y later ends = later _ _ ends
       at_play B y later ends = later _ _ ends
 
