@@ -7,7 +7,7 @@ use Rattle.h263_outside.specs.declared.desk.Role.TheVariants.{Video, Events, Pic
 use Rattle.call_report.specs.declared.status.Status.{Status}
 use Rattle.desk_program.specs.Ends.{Gains, GainsFronts}
 use Rattle.desk_program.specs.Texts.{on}
-use Rattle.duplex_command.proofs.Exchanging.{tail, twice, unexchanged}
+use Rattle.duplex_command.proofs.Exchanging.{loans_below, twice, unexchanged}
 
 -- a text on the first party's pictures is one on the second's
 on_second : (text : List ℕ) (r : Role) → on Pictures text (exchanged r) ≡ on Pictures2 text r
@@ -26,7 +26,7 @@ module _ (a b : ℕ) (old new : Outside) where
     name = unexchanged new.name old.name kept.name;
     written = unexchanged new.written old.written kept.written;
     faults = kept.faults;
-    loans = ap tail kept.loans;
+    loans = ap loans_below kept.loans;
   }
 
   pub writes_at_second : OnlyWrites (exchanged_outside a old) (exchanged_outside b new) → OnlyWrites old new
@@ -35,7 +35,7 @@ module _ (a b : ℕ) (old new : Outside) where
     name = unexchanged new.name old.name kept.name;
     left = unexchanged new.left old.left kept.left;
     faults = kept.faults;
-    loans = ap tail kept.loans;
+    loans = ap loans_below kept.loans;
   }
 
   -- what is left of all inputs but the second video

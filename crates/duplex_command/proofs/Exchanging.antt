@@ -45,18 +45,19 @@ told_at_second name o inputs told = λ r is. told (exchanged r) (input_too r is)
 pub unexchanged : {A : Type 0} (f g : Role → A) → for_second f ≡ for_second g → f ≡ g
 unexchanged {A = A} f g same = fun_ext (λ r. subst (λ (q : Role). f q ≡ g q) (twice r) (ap (λ (h : Role → A). h (exchanged r)) same))
 
-module _ (a b : ℕ) (old new : Outside) (kept : KeepsRoles (exchanged_outside a old) (exchanged_outside b new)) where
-  abbrev tail : List ℕ → List ℕ
-  tail [] = []
-  tail (x ∷ xs) = xs
+-- the loans below the first one
+abbrev pub loans_below : List ℕ → List ℕ
+loans_below [] = []
+loans_below (x ∷ xs) = xs
 
+module _ (a b : ℕ) (old new : Outside) (kept : KeepsRoles (exchanged_outside a old) (exchanged_outside b new)) where
   -- the desk's own roles and loans are kept
   pub roles_at_second : KeepsRoles old new
   roles_at_second = record {
     attached = unexchanged new.attached old.attached kept.attached;
     name = unexchanged new.name old.name kept.name;
     faults = kept.faults;
-    loans = ap tail kept.loans;
+    loans = ap loans_below kept.loans;
   }
 
 -- ---- answers

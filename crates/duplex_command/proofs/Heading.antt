@@ -69,7 +69,10 @@ module _ (law : HeadLaw) (p : Params) (inputs : Role → List ℕ) where
   second_part k (Err fault) b is lost = tt
   second_part k (Ok f) (Err fault) is lost = tt
   second_part k (Ok f) (Ok g) is lost =
-      fourth_false _ _ _ (not_held (0 + head_size (inputs Video2)) (0 + k) (λ le. not_an_err _ g (law (inputs Video2) g k is (omega (arith, le))).0 lost))
+      let size = head_size (inputs Video) in
+      let part = and_of (of Video size) (of Video2 k) in
+      fourth_false (nat_le (heads_taken inputs Video) (part Video)) (nat_le (heads_taken inputs Events) (part Events)) _
+      (not_held (heads_taken inputs Video2) (part Video2) (λ le. not_an_err _ g (law (inputs Video2) g k is (omega (arith, le))).0 lost))
 
 -- ---- a status that is known
 
@@ -111,8 +114,8 @@ module _ (turns : TurnLaws) (law : HeadLaw) (inputs : Role → List ℕ) (old mi
         turns.both_reads (of Video size) (of Video2 k) new inputs
         (turns.one_read Video2 k mid new (behind inputs (of Video size)) (turns.one_read Video size old mid inputs told first.2 others) gone others2)
 
-    pub second_lost : (p : Params) → HeadGives (Err Read) (inputs Video2) (new.left Video2) → Lost (duplex_begin p inputs) true inputs old new
-    second_lost p e = record {
+    lost_so : (p : Params) → HeadGives (Err Read) (inputs Video2) (new.left Video2) → Lost (duplex_begin p inputs) true inputs old new
+    lost_so p e = record {
       part = and_of (of Video (head_size (inputs Video))) (of Video2 e.0);
       partly = second_part law p inputs e.0 (head_of (inputs Video)) (head_of (inputs Video2)) refl e.2;
       could = refl;
@@ -120,12 +123,19 @@ module _ (turns : TurnLaws) (law : HeadLaw) (inputs : Role → List ℕ) (old mi
       written = same2 ∙ same;
     }
 
-    pub second_refused : (p : Params) (fault : Y4mFault) → head_of (inputs Video2) ≡ Err fault → Ended (duplex_begin p inputs) (Video2Refused fault) inputs old new
-    second_refused p fault e = record {
+    pub second_lost : (p : Params) (stop : VideoStop) → stop ≡ Read → HeadGives (Err stop) (inputs Video2) (new.left Video2) → Lost (duplex_begin p inputs) true inputs old new
+    second_lost p stop is e = lost_so p (subst (λ (x : VideoStop). HeadGives (Err x) (inputs Video2) (new.left Video2)) is e)
+
+    refused_so : (p : Params) (fault : Y4mFault) → head_of (inputs Video2) ≡ Err fault → Ended (duplex_begin p inputs) (Video2Refused fault) inputs old new
+    refused_so p fault e = record {
       last = refusal (Video2Refused fault);
       is = (λ i. heads_step p inputs (first.0 i) (e i));
       by = turns.refuses (Video2Refused fault) inputs old new (same2 ∙ same);
     }
+
+    pub second_refused : (p : Params) (stop : VideoStop) (fault : Y4mFault) → stop ≡ Refused fault → HeadGives (Err stop) (inputs Video2) (new.left Video2)
+        → Ended (duplex_begin p inputs) (Video2Refused fault) inputs old new
+    second_refused p stop fault is e = refused_so p fault (subst (λ (x : VideoStop). HeadGives (Err x) (inputs Video2) (new.left Video2)) is e)
 
     pub both_read : (heads : Heads) → heads.a ≡ a → HeadGives (Ok heads.b) (inputs Video2) (new.left Video2) → HaveHeads heads inputs new
     both_read heads is e = record {

@@ -34,7 +34,7 @@ returns-in-Err-Read-clause-stops g c = λ p inputs told.
     let there = still_there c.of_turns.ensures c.cut_behind.ensures.head inputs old mid told c.head.ensures.others c.head.ensures.rest.written in
     second_lost c.of_turns.ensures c.cut_behind.ensures.head inputs old mid told c.head.ensures.others c.head.ensures.rest.written
     c.in_ok-a.a (c.in_ok-a.ensures.gives (inputs Video) (told Video refl)) (outside c.second_head.new.desk) c.second_head.ensures.others c.second_head.ensures.rest.written
-    p (c.in-Err-Read.ensures.gives (inputs Video2) there)
+    p _ c.in-Err-Read.field-0-is (c.in-Err-Read.ensures.gives (inputs Video2) there)
 
 pub returns-in-Err-Refused-clause-stops : goal.returns-in-Err-Refused-clause-stops
 returns-in-Err-Refused-clause-stops g c = λ p inputs told.
@@ -44,4 +44,4 @@ returns-in-Err-Refused-clause-stops g c = λ p inputs told.
     let there = still_there c.of_turns.ensures c.cut_behind.ensures.head inputs old mid told c.head.ensures.others c.head.ensures.rest.written in
     second_refused c.of_turns.ensures c.cut_behind.ensures.head inputs old mid told c.head.ensures.others c.head.ensures.rest.written
     c.in_ok-a.a (c.in_ok-a.ensures.gives (inputs Video) (told Video refl)) (outside c.second_head.new.desk) c.second_head.ensures.others c.second_head.ensures.rest.written
-    p _ (c.in-Err-Refused.ensures.gives (inputs Video2) there)
+    p _ _ c.in-Err-Refused.field-0-is (c.in-Err-Refused.ensures.gives (inputs Video2) there)
