@@ -1,6 +1,9 @@
-use Rattle.std.proofs.Common.{refl}
+use Rattle.std.proofs.Common.{refl, subst}
 use Rattle.h263_outside.specs.declared.desk.Role.TheVariants.{Video, Video2}
+use Rattle.y4m.specs.declared.fault.Y4mFault.{Y4mFault}
+use Rattle.call_report.specs.declared.status.Status.TheVariants.{Video2Refused}
 use Rattle.call_report.specs.Status.{video_stop}
+use Rattle.desk_program.specs.Ends.{Ended}
 use Rattle.duplex_command.specs.Begin.{duplex_begin}
 use Rattle.duplex_command.specs.declared.heads.Heads.{Heads}
 use Rattle.duplex_command.proofs.Heading.{both_read, first_stops, second_lost, second_refused, still_there, stops_so}
@@ -42,6 +45,7 @@ returns-in-Err-Refused-clause-stops g c = λ p inputs told.
     let old = outside c.args.desk.now in
     let mid = outside c.head.new.desk in
     let there = still_there c.of_turns.ensures c.cut_behind.ensures.head inputs old mid told c.head.ensures.others c.head.ensures.rest.written in
-    second_refused c.of_turns.ensures c.cut_behind.ensures.head inputs old mid told c.head.ensures.others c.head.ensures.rest.written
+    subst (λ (f : Y4mFault). Ended (duplex_begin p inputs) (Video2Refused f) inputs old (outside c.second_head.new.desk)) c.in-Err-Refused.fault-is
+    (second_refused c.of_turns.ensures c.cut_behind.ensures.head inputs old mid told c.head.ensures.others c.head.ensures.rest.written
     c.in_ok-a.a (c.in_ok-a.ensures.gives (inputs Video) (told Video refl)) (outside c.second_head.new.desk) c.second_head.ensures.others c.second_head.ensures.rest.written
-    p _ _ c.in-Err-Refused.field-0-is (c.in-Err-Refused.ensures.gives (inputs Video2) there)
+    p _ c.in-Err-Refused.fault c.in-Err-Refused.field-0-is (c.in-Err-Refused.ensures.gives (inputs Video2) there))
