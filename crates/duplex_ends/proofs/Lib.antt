@@ -3,3 +3,5 @@ mod Said
 mod Agreeing
 mod Later
 mod Runs
+mod Pairs
+mod Returning

@@ -21,6 +21,12 @@ get_left [] ys k x is = absurd (cc is)
 get_left (a ∷ xs) ys zero x is = is
 get_left (a ∷ xs) ys (suc k) x is = get_left xs ys k x is
 
+-- and what stands there in both, where the first list has the place
+pub get_before : {X : Type 0} (xs ys : List X) (k : ℕ) → k < length xs → slice_get (xs ++ ys) k ≡ slice_get xs k
+get_before [] ys k few = absurd (omega (arith, few))
+get_before (a ∷ xs) ys zero few = refl
+get_before (a ∷ xs) ys (suc k) few = get_before xs ys k (omega (arith, few))
+
 pub get_map : {X Y : Type 0} (f : X → Y) (xs : List X) (k : ℕ) (x : X) → slice_get xs k ≡ Some x → slice_get (map f xs) k ≡ Some (f x)
 get_map f [] k x is = absurd (cc is)
 get_map f (a ∷ xs) zero x is = ap (option_map f) is
@@ -104,6 +110,7 @@ to_end said first (suc count) is = by_first said (drop first said) (first_is sai
     first_is [] first few = absurd (omega (arith, few))
     first_is (m ∷ said) zero few = (m, refl, refl)
     first_is (m ∷ said) (suc first) few = first_is said first (omega (arith, few))
+
     by_first : (all l : List Carried) → (m : Carried) × (slice_get said first ≡ Some m) × (l ≡ m ∷ drop (first + 1) said) → AreNumbered said (first ∷ range_with_len (first + 1) count) l
     by_first all l (m, at, is_l) =
         subst (λ (l : List Carried). AreNumbered said (first ∷ range_with_len (first + 1) count) l) (sym is_l)
@@ -123,6 +130,7 @@ last_numbered said loaded few =
   where
     place : (n : ℕ) → loaded ≤ n → max loaded (n - 4) ≡ loaded + (n - loaded - 4)
     place n few = omega (arith, few)
+
     long : (xs : List Carried) (k : ℕ) → length (drop k xs) ≡ length xs - k
     long xs zero = omega arith
     long [] (suc k) = omega arith

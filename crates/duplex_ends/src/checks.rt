@@ -1,5 +1,5 @@
 //! Which events of one party's pictures are refused, before anything is done.
-ghost use Rattle.std.specs.Prelude.{◌≡◌, ◌+◌, ◌<◌, ◌≤◌, ℕ, OnOk, length};
+ghost use Rattle.std.specs.Prelude.{◌≡◌, ◌+◌, ◌<◌, ◌≤◌, ℕ, length, nat_le};
 ghost use Rattle.h263_types.specs.declared.params.Params.{Params};
 ghost use Rattle.call_model.specs.IdealCall.{Deliver, Play, Send};
 ghost use Rattle.call_encoding.specs.Frames.{Frame};
@@ -27,13 +27,20 @@ pub fn check_send(own: &PartyEnds) -> Result<(), Refusal>
     check_capture(own.params.clock.half(), &own.sender, &own.receiver)
 }
 
+// A message about this picture comes too late.
+fn is_late(half: u32, about: u32, sent: u32) -> bool
+    ensures { result ≡ nat_le (about + half) sent }
+{
+    half <= sent && about <= sent - half
+}
+
 // The first of the messages of a header that is far, by the count of pictures that were sent.
 fn check_header(half: u32, sent: u32, header: &[Option<Carried>]) -> Result<(), Refusal>
     ensures { result ≡ first_far half sent (carried_in header.now) }
 {
     'header: for place in header {
         if let Some(carried) = place {
-            if half <= sent && carried.about <= sent - half {
+            if is_late(half, carried.about, sent) {
                 return Err(Refusal::Far {
                     given: carried.about,
                     other: sent,

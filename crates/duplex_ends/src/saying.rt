@@ -1,5 +1,5 @@
 //! Messages on their way into a picture header, and out of it.
-ghost use Rattle.std.specs.Prelude.{◌≡◌, ◌++◌, ◌≤◌, List, length, map, take};
+ghost use Rattle.std.specs.Prelude.{◌≡◌, ◌++◌, ◌≤◌, List, map, take};
 ghost use Rattle.back_messages.specs.MessageBytes.{text_of};
 ghost use Rattle.back_messages.specs.Text.{IsMessage};
 ghost use Rattle.call_encoding.specs.Messages.{written};
@@ -43,10 +43,8 @@ pub fn bytes_of(message: &Message, clock: Clock) -> MessageBytes
 }
 
 /// Puts the messages of a picture header into these places, and answers how many there are.
-pub fn put_messages(header: &[Option<Carried>], messages: &mut [Message]) -> usize
-    requires { length header.now ≤ length messages.old }
-    ensures few { result ≤ length header.now }
-    ensures long { length messages.new ≡ length messages.old }
+pub fn put_messages(header: &[Option<Carried>; 4], messages: &mut [Message; 4]) -> usize
+    ensures few { result ≤ 4 }
     ensures messages { take result messages.new ≡ map message_in (carried_in header.now) }
 {
     let mut count = 0;
