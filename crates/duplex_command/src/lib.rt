@@ -5,13 +5,16 @@
 //! What an event does to the ends of both parties is `duplex_ends`'s.
 #![tactic(auto)]
 
+mod begin;
 mod event;
+mod heads;
 pub mod laws;
 mod second;
 mod show;
 mod station;
 mod talk;
 
+pub use begin::Duplex;
 pub use second::{second_result, second_status};
 pub use station::Station;
 pub use talk::Talk;
