@@ -37,7 +37,7 @@ use Rattle.duplex_command.specs.Duplex.{DuplexState, after_line, capture_step, e
 use Rattle.duplex_command.specs.Lines.{HasTaken, IsChecked, fault_at, fault_of, line_size, line_turn}
 use Rattle.duplex_command.specs.Standing.{StationReady, StationsReady, StationsStand, place_in}
 use Rattle.duplex_command.specs.Turning.{IsPartyTurn, IsRead, TakesFrame}
-use Rattle.duplex_command.proofs.LineTurning.{double_not, line_goes, line_refused}
+use Rattle.duplex_command.proofs.LineTurning.{double_not, line_goes, line_refused, place_same}
 use Rattle.duplex_command.proofs.PartyTurns.{was_cut, went_on}
 
 -- ---- at some point of the call
@@ -70,11 +70,6 @@ station_kept station ends room r params sent =
 -- what was asked, by what the line says
 pub asked : (r : Result Unit Told) (event said : Line) (refusal : Event → Option Refusal) → event ≡ said → IsChecked r event refusal → IsChecked r said refusal
 asked r event said refusal is checked = subst (λ (e : Line). IsChecked r e refusal) is checked
-
--- a party's video stands where it stood, where both do
-pub place_same : (y : Party) (s t : DuplexState) → s.video_a ≡ t.video_a → s.video_b ≡ t.video_b → place_of y s ≡ place_of y t
-place_same A s t a b = a
-place_same B s t a b = b
 
 -- ---- the line of a party
 
