@@ -115,4 +115,5 @@ module _ (x : Party) (s : DuplexState) (trace : List ℕ) where
   event_at_second inputs (says.Back k) = line_refused trace _
   event_at_second inputs says.Play =
       event_unless Play (refusal_at x s Play) _ _
-      (line_goes trace (after_line (with_next x s) trace) _ _ (shown_texts x (seen_of x s).played _ (seen_of x (with_next x s)).plays))
+      (line_goes trace (after_line (with_next x s) trace) (play_texts Pictures x (seen_of x (with_next x s)) (seen_of x s).played) (play_texts Pictures2 x (seen_of x (with_next x s)) (seen_of x s).played)
+      (shown_texts x (seen_of x s).played _ (seen_of x (with_next x s)).plays))

@@ -10,9 +10,10 @@ use Rattle.loss_trace.specs.declared.reader.TraceReader.{TraceReader}
 use Rattle.loss_trace.specs.Reader.{BytesGive, Moves}
 use Rattle.call_report.specs.declared.status.Status.{Status}
 use Rattle.call_report.specs.declared.status.Status.TheVariants.{Ok as Fine, TraceRefused, WriteFault}
-use Rattle.call_report.specs.Status.{phase}
+use Rattle.call_report.specs.Status.{Phase, phase}
+use Rattle.call_report.specs.Status.Phase.{finished, refused, unread, unwritten, starved, unasked, unopened}
 use Rattle.desk_program.specs.Run.{Step}
-use Rattle.desk_program.specs.Ends.{Ended, Falls, GainsFronts, GivesUp, HasCause, IsStop, KeepsRoles, OnEnd, Tells, TurnGives, Went, step_texts, turn_status}
+use Rattle.desk_program.specs.Ends.{Ended, Falls, GainsFronts, GivesUp, HasCause, IsStop, KeepsRoles, OnEnd, OnGoing, OnSettled, OnceSettled, Tells, TurnGives, Went, step_texts, turn_status}
 use Rattle.desk_program.specs.Laws.{TurnLaws}
 use Rattle.duplex_call.specs.declared.line.Party.{Party}
 use Rattle.duplex_call.specs.declared.line.Party.TheVariants.{A}
@@ -33,6 +34,26 @@ says r known old new rest buf left is gives = subst (λ (q : Result (Option (ℕ
 
 pub moved : (r known : Result (Option (ℕ × ℕ)) TraceStop) (old new : TraceReader) → r ≡ known → Moves r old new → Moves known old new
 moved r known old new is moves = subst (λ (q : Result (Option (ℕ × ℕ)) TraceStop). Moves q old new) is moves
+
+-- what holds in any case holds where it is asked
+pub where_going : (r : Result Bool Status) (P : Type 0) → P → OnGoing r P
+where_going (Ok true) P p = p
+where_going (Ok false) P p = tt
+where_going (Err status) P p = tt
+
+pub where_settled : (r : Result Bool Status) (P : Type 0) → P → OnSettled r P
+where_settled (Ok true) P p = tt
+where_settled (Ok false) P p = p
+where_settled (Err status) P p = by_phase (phase status)
+  where
+    by_phase : (ph : Phase) → OnceSettled ph P
+    by_phase finished = p
+    by_phase refused = p
+    by_phase unread = tt
+    by_phase unwritten = tt
+    by_phase starved = tt
+    by_phase unasked = tt
+    by_phase (unopened role) = tt
 
 module _ (x y : Talk) (old new : Outside) where
   -- one that gives up
