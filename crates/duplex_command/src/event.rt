@@ -108,8 +108,8 @@ fn party_turn<D: Desk>(
 ) -> Result<bool, Status>
     requires opens { PartyOpens Video Pictures (D.outside desk.old).attached }
     requires ready { StationsReady own.old far.old (length frame.old) }
-    ensures { TakesEvent Video Pictures Status.VideoRefused own.old far.old own.new far.new said result
-        (D.outside desk.old) (D.outside desk.new) (length frame.old) }
+    ensures { TakesEvent Video Pictures Status.VideoRefused own.old far.old own.new far.new said
+        result (D.outside desk.old) (D.outside desk.new) (length frame.old) }
 {
     desk_program_laws::of_turns();
     laws::of_refusals();
