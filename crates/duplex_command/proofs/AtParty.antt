@@ -21,7 +21,8 @@ use Rattle.duplex_command.specs.declared.event.Said.{Said}
 use Rattle.duplex_command.specs.declared.station.Station.{Station}
 use Rattle.duplex_command.specs.Duplex.{DuplexState, event_step, may_read, party_step}
 use Rattle.duplex_command.specs.Exchange.{for_second, second_result, second_step}
-use Rattle.duplex_command.specs.Lines.{HasTaken, line_size}
+use Rattle.call_command.specs.Call.{line_size}
+use Rattle.call_command.specs.Standing.{HasTaken}
 use Rattle.duplex_command.specs.Standing.{StationsReady, StationsStand}
 use Rattle.duplex_command.specs.Turning.{IsPartyTurn, IsRead, TakesEvent, TakesLine}
 use Rattle.duplex_command.proofs.Exchanged.{event_at_second, line_taken}

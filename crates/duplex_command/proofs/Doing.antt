@@ -34,7 +34,10 @@ use Rattle.duplex_ends.specs.Ways.{call_in, sides}
 use Rattle.duplex_ends.specs.declared.party.PartyEnds.{PartyEnds}
 use Rattle.duplex_command.specs.declared.station.Station.{Station}
 use Rattle.duplex_command.specs.Duplex.{DuplexState, after_line, capture_step, event_step, may_read, place_of, play_step, play_texts, quiet_step, refusal_at, seen_of, unless, with_frame, with_next}
-use Rattle.duplex_command.specs.Lines.{HasTaken, IsChecked, fault_at, fault_of, line_size, line_turn}
+use Rattle.call_command.specs.Call.{line_size, line_turn}
+use Rattle.call_command.specs.Refused.{fault_at, fault_of}
+use Rattle.call_command.specs.Standing.{HasTaken}
+use Rattle.call_command.specs.Turning.{IsChecked}
 use Rattle.duplex_command.specs.Standing.{StationReady, StationsReady, StationsStand, place_in}
 use Rattle.duplex_command.specs.Turning.{IsPartyTurn, IsRead, TakesFrame}
 use Rattle.duplex_command.proofs.LineTurning.{double_not, line_goes, line_refused, place_same}

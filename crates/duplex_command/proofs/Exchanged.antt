@@ -20,7 +20,7 @@ use Rattle.h263_planes.specs.Picture.{Picture}
 use Rattle.desk_program.specs.Run.{End, Step, Turn}
 use Rattle.desk_program.specs.Run.Step.{Goes, Ends}
 use Rattle.desk_program.specs.Texts.{and_of, no_texts, of}
-use Rattle.duplex_command.specs.Lines.{line_size, line_turn, refused_line}
+use Rattle.call_command.specs.Call.{line_size, line_turn, refused_line}
 use Rattle.loss_trace.specs.declared.fault.TraceFault.{TraceFault}
 use Rattle.duplex_call.specs.declared.line.Party.{Party}
 use Rattle.duplex_call.specs.Duplex.{WayRuns}

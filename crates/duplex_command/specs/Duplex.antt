@@ -32,8 +32,8 @@ use Rattle.duplex_call.specs.Lines.{party_event}
 use Rattle.duplex_call.specs.Refused.{refusal_of}
 use Rattle.one_way.specs.Counts.{call_text_of}
 use Rattle.duplex_ends.specs.Ways.{call_in, sides, with_whole}
-use Rattle.duplex_command.specs.Lines.{bad_line, line_size, line_turn, refused_line}
-use Rattle.duplex_command.specs.Lines.{fault_of}
+use Rattle.call_command.specs.Call.{bad_line, line_size, line_turn, refused_line}
+use Rattle.call_command.specs.Refused.{fault_of}
 
 -- where a party's video stands: the byte of its next frame, and how many frames may still come
 pub record VideoPlace : Type 0 where
