@@ -4,18 +4,21 @@ ghost use Rattle.std.specs.Prelude.{◌≡◌, ℕ, List};
 ghost use Rattle.h263_types.specs.declared.params.Params.{Params};
 ghost use Rattle.h263_outside.specs.declared.desk.Role.{Role};
 ghost use Rattle.y4m.specs.declared.fault.Y4mFault.{Y4mFault};
-ghost use Rattle.call_report.specs.declared.status.Status.TheVariants.{VideoRefused};
+ghost use Rattle.call_report.specs.declared.status.Status.TheVariants.{VideoRefused, Video2Refused};
 ghost use Rattle.desk_program.specs.Run.{run_from};
 ghost use Rattle.audit_command.specs.Audit.{audit_begin, audit_step};
 
 use crate::Auditing;
 use log_command::laws::no_video_refused as none_over_a_log;
 
-/// There is no video that could be refused.
+/// There is no video that could be refused, nor a second one.
 pub fn no_video_refused()
-    ensures { (p : Params) (inputs : Role → List ℕ) (fault : Y4mFault)
+    ensures first { (p : Params) (inputs : Role → List ℕ) (fault : Y4mFault)
         → (run_from (audit_begin p inputs) audit_step 16777216 inputs).last.status
         ≡ VideoRefused fault → ⊥ }
+    ensures second { (p : Params) (inputs : Role → List ℕ) (fault : Y4mFault)
+        → (run_from (audit_begin p inputs) audit_step 16777216 inputs).last.status
+        ≡ Video2Refused fault → ⊥ }
 {
     none_over_a_log::<Auditing>()
 }

@@ -18,3 +18,4 @@ mod Talking
 mod Acting
 mod Conversing
 mod FaultOfVideo
+mod NoSecond

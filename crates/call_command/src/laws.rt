@@ -9,7 +9,7 @@ ghost use Rattle.h263_outside.specs.declared.desk.Role.TheVariants.{Video};
 ghost use Rattle.y4m.specs.declared.fault.Y4mFault.{Y4mFault};
 ghost use Rattle.y4m.specs.Head.{head_of};
 ghost use Rattle.y4m.specs.Video.{video_fault, video_frames};
-ghost use Rattle.call_report.specs.declared.status.Status.TheVariants.{VideoRefused};
+ghost use Rattle.call_report.specs.declared.status.Status.TheVariants.{VideoRefused, Video2Refused};
 ghost use Rattle.desk_program.specs.Run.{run_from};
 ghost use Rattle.call_command.specs.declared.terms.Terms.{Terms};
 ghost use Rattle.call_command.specs.Call.{call_begin, call_step, most_turns};
@@ -46,6 +46,13 @@ pub fn refused_videos()
 {
     frame_by_frame();
 }
+
+/// There is no second video that could be refused.
+pub fn no_second_video()
+    ensures { (t : Terms) (inputs : Role → List ℕ) (fault : Y4mFault)
+        → (run_from (call_begin t inputs) call_step (most_turns t.plain) inputs).last.status
+        ≡ Video2Refused fault → ⊥ }
+{}
 
 /// A call by both ends, with a new receiver, is the ideal call, turn by turn.
 pub fn talks_agree()

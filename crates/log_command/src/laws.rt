@@ -2,14 +2,17 @@
 ghost use Rattle.std.specs.Prelude.{◌≡◌, ℕ, List};
 ghost use Rattle.h263_outside.specs.declared.desk.Role.{Role};
 ghost use Rattle.y4m.specs.declared.fault.Y4mFault.{Y4mFault};
-ghost use Rattle.call_report.specs.declared.status.Status.TheVariants.{VideoRefused};
+ghost use Rattle.call_report.specs.declared.status.Status.TheVariants.{VideoRefused, Video2Refused};
 ghost use Rattle.log_command.specs.Log.{log_run};
 
 use crate::LogCommand;
 
-/// There is no video that could be refused.
+/// There is no video that could be refused, nor a second one.
 pub fn no_video_refused<C: LogCommand>()
-    ensures { (setup : C.Setup) (inputs : Role → List ℕ) (fault : Y4mFault)
+    ensures first { (setup : C.Setup) (inputs : Role → List ℕ) (fault : Y4mFault)
         → (log_run C.rules (C.first setup) (C.head setup) inputs).last.status
         ≡ VideoRefused fault → ⊥ }
+    ensures second { (setup : C.Setup) (inputs : Role → List ℕ) (fault : Y4mFault)
+        → (log_run C.rules (C.first setup) (C.head setup) inputs).last.status
+        ≡ Video2Refused fault → ⊥ }
 {}

@@ -3,7 +3,7 @@
 ghost use Rattle.std.specs.Prelude.{◌≡◌, ℕ, List};
 ghost use Rattle.h263_outside.specs.declared.desk.Role.{Role};
 ghost use Rattle.y4m.specs.declared.fault.Y4mFault.{Y4mFault};
-ghost use Rattle.call_report.specs.declared.status.Status.TheVariants.{VideoRefused};
+ghost use Rattle.call_report.specs.declared.status.Status.TheVariants.{VideoRefused, Video2Refused};
 ghost use Rattle.desk_program.specs.Run.{run_from};
 ghost use Rattle.rate_command.specs.declared.rate.Bucket.{Bucket};
 ghost use Rattle.rate_command.specs.Rate.{rate_begin, rate_step};
@@ -11,11 +11,14 @@ ghost use Rattle.rate_command.specs.Rate.{rate_begin, rate_step};
 use crate::Metering;
 use log_command::laws::no_video_refused as none_over_a_log;
 
-/// There is no video that could be refused.
+/// There is no video that could be refused, nor a second one.
 pub fn no_video_refused()
-    ensures { (b : Bucket) (inputs : Role → List ℕ) (fault : Y4mFault)
+    ensures first { (b : Bucket) (inputs : Role → List ℕ) (fault : Y4mFault)
         → (run_from (rate_begin b inputs) rate_step 16777216 inputs).last.status
         ≡ VideoRefused fault → ⊥ }
+    ensures second { (b : Bucket) (inputs : Role → List ℕ) (fault : Y4mFault)
+        → (run_from (rate_begin b inputs) rate_step 16777216 inputs).last.status
+        ≡ Video2Refused fault → ⊥ }
 {
     none_over_a_log::<Metering>()
 }

@@ -3,7 +3,7 @@ ghost use Rattle.std.specs.Prelude.{◌≡◌, ℕ, List};
 ghost use Rattle.h263_types.specs.declared.params.Params.{Params};
 ghost use Rattle.h263_outside.specs.declared.desk.Role.{Role};
 ghost use Rattle.y4m.specs.declared.fault.Y4mFault.{Y4mFault};
-ghost use Rattle.call_report.specs.declared.status.Status.TheVariants.{VideoRefused};
+ghost use Rattle.call_report.specs.declared.status.Status.TheVariants.{VideoRefused, Video2Refused};
 ghost use Rattle.desk_program.specs.Run.{run_from};
 ghost use Rattle.call_model.specs.Receiving.{ReceiverEntry};
 ghost use Rattle.recv_command.specs.Join.{join_begin, join_step, joined_state, through};
@@ -12,20 +12,26 @@ ghost use Rattle.recv_command.specs.Recv.{recv_begin, recv_step};
 use crate::{Joining, Receiving};
 use log_command::laws::no_video_refused as none_over_a_log;
 
-/// There is no video that could be refused.
+/// There is no video that could be refused, nor a second one.
 pub fn no_video_refused()
-    ensures { (p : Params) (inputs : Role → List ℕ) (fault : Y4mFault)
+    ensures first { (p : Params) (inputs : Role → List ℕ) (fault : Y4mFault)
         → (run_from (recv_begin p inputs) recv_step 16777216 inputs).last.status
         ≡ VideoRefused fault → ⊥ }
+    ensures second { (p : Params) (inputs : Role → List ℕ) (fault : Y4mFault)
+        → (run_from (recv_begin p inputs) recv_step 16777216 inputs).last.status
+        ≡ Video2Refused fault → ⊥ }
 {
     none_over_a_log::<Receiving>()
 }
 
 /// Nor is there one with a joiner.
 pub fn no_joined_video_refused()
-    ensures { (p : Params) (inputs : Role → List ℕ) (fault : Y4mFault)
+    ensures first { (p : Params) (inputs : Role → List ℕ) (fault : Y4mFault)
         → (run_from (join_begin p inputs) join_step 16777216 inputs).last.status
         ≡ VideoRefused fault → ⊥ }
+    ensures second { (p : Params) (inputs : Role → List ℕ) (fault : Y4mFault)
+        → (run_from (join_begin p inputs) join_step 16777216 inputs).last.status
+        ≡ Video2Refused fault → ⊥ }
 {
     none_over_a_log::<Joining>()
 }

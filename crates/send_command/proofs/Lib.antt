@@ -8,3 +8,4 @@ pub mod Framing
 pub mod Starting
 pub mod Keeping
 pub mod Refusing
+pub mod NoSecond

@@ -1,4 +1,7 @@
 use Rattle.rate_command.proofs.laws.no_video_refused.Goals as goal
 
-pub returns : goal.returns
-returns c = λ b inputs fault ends. c.no_video_refused.ensures b inputs fault ends
+pub returns-clause-first : goal.returns-clause-first
+returns-clause-first c = λ b inputs fault ends. c.no_video_refused.ensures.first b inputs fault ends
+
+pub returns-clause-second : goal.returns-clause-second
+returns-clause-second c = λ b inputs fault ends. c.no_video_refused.ensures.second b inputs fault ends
