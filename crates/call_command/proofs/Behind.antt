@@ -294,6 +294,7 @@ asks_frame x y line event r mid new is t none = subst (λ (e : Line). TakesLine 
   lasts = t.lasts;
   falls = t.falls;
   ready = t.ready;
+  answers = t.answers;
   stop = t.stop;
   cause = t.cause;
   rest = t.rest;

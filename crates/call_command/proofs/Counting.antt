@@ -22,7 +22,7 @@ use Rattle.one_way.specs.Laws.{WayLaws}
 use Rattle.call_command.specs.declared.world.World.{World}
 use Rattle.call_command.specs.Call.{CallState, by_ends, may_read, talk_step, trace_step, video_step}
 use Rattle.call_command.specs.Standing.{EndsStand, HasDone, Parts, PartsReady, PartsStand, more_of, parts_of, source_of, state_of}
-use Rattle.call_command.specs.Turning.{IsBegun, IsTurn, LeavesEnds, TakesTurn, names_of}
+use Rattle.call_command.specs.Turning.{IsAnswer, IsBegun, IsTurn, LeavesEnds, TakesTurn, names_of}
 
 -- ---- which step it is
 
@@ -133,6 +133,15 @@ pub video_cause : (stop : VideoStop) (old new : Faults) → (IsErrOf {T = Bool} 
 video_cause video.Read old new rose = rose refl
 video_cause (video.Refused fault) old new rose = tt
 
+pub video_answers : (plain : Bool) (stop : VideoStop) → IsAnswer plain (video_stop stop)
+video_answers plain video.Read = tt
+video_answers plain (video.Refused fault) = tt
+
+pub trace_answers : (plain : Bool) → plain ≡ false → (stop : TraceStop) → IsAnswer plain (trace_stop stop)
+trace_answers plain recorded trace.Read = tt
+trace_answers plain recorded (trace.Bad line) = recorded
+trace_answers plain recorded (trace.TooMany line) = recorded
+
 pub trace_halts : (stop : TraceStop) → IsStop (trace_stop stop)
 trace_halts trace.Read = tt
 trace_halts (trace.Bad line) = tt
@@ -155,18 +164,19 @@ module _ (x y : World) (mid new : Outside) (Begins : Outside → CallState → (
     (step : CallState → (Role → List ℕ) → Step CallState) (reads : CallState → Bool) (more : ℕ) where
   -- one that gives up
   pub gave_up : (r : Result Bool Status) (status : Status) → IsErrAnd r (λ z. z ≡ status) → names_of y ≡ names_of x
-      → IsStop status → HasCause status mid.faults new.faults → KeepsRoles mid new
+      → IsAnswer x.terms.plain status → IsStop status → HasCause status mid.faults new.faults → KeepsRoles mid new
       → ((old : Outside) (s : CallState) (inputs : Role → List ℕ) → Begins old s inputs → GivesUp (phase status) status (step s inputs) (reads s) inputs old new)
       → LeavesEnds x y
       → IsTurn x y r mid new Begins step reads more
-  gave_up (Ok b) status is names stop cause rest gives keeps = absurd is
-  gave_up (Err z) status is names stop cause rest gives keeps = subst (λ (w : Status). IsTurn x y (Err w) mid new Begins step reads more) (sym is) (record {
+  gave_up (Ok b) status is names answers stop cause rest gives keeps = absurd is
+  gave_up (Err z) status is names answers stop cause rest gives keeps = subst (λ (w : Status). IsTurn x y (Err w) mid new Begins step reads more) (sym is) (record {
     gives = gives;
     whole = λ old s inputs k. tt;
     keeps = once (phase status) (LeavesEnds x y) keeps;
     lasts = names;
     falls = tt;
     ready = tt;
+    answers = answers;
     stop = stop;
     cause = cause;
     rest = rest;
@@ -186,6 +196,7 @@ module _ (x y : World) (mid new : Outside) (Begins : Outside → CallState → (
         lasts = names;
         falls = tt;
         ready = tt;
+        answers = tt;
         stop = tt;
         cause = rose;
         rest = rest;
@@ -202,6 +213,7 @@ module _ (x y : World) (mid new : Outside) (Begins : Outside → CallState → (
     lasts = names;
     falls = falls;
     ready = ready;
+    answers = tt;
     stop = tt;
     cause = tt;
     rest = rest;
@@ -220,6 +232,7 @@ module _ (x y : World) (mid new : Outside) (Begins : Outside → CallState → (
     lasts = names;
     falls = tt;
     ready = tt;
+    answers = tt;
     stop = tt;
     cause = tt;
     rest = rest;
@@ -234,12 +247,12 @@ begun x now P at old s inputs b = subst (λ (o : Outside). P o s inputs) (sym b.
 
 module _ (x y : World) (old new : Outside) where
   pub turn_gave_up : (r : Result Bool Status) (status : Status) → IsErrAnd r (λ z. z ≡ status) → names_of y ≡ names_of x
-      → IsStop status → HasCause status old.faults new.faults → KeepsRoles old new
+      → IsAnswer x.terms.plain status → IsStop status → HasCause status old.faults new.faults → KeepsRoles old new
       → ((s : CallState) (inputs : Role → List ℕ) → PartsStand (parts_of x) s inputs → Tells old inputs → GivesUp (phase status) status (talk_step s inputs) (may_read s) inputs old new)
       → LeavesEnds x y
       → TakesTurn x y r old new
-  turn_gave_up r status is names stop cause rest gives keeps =
-      gave_up x y old new _ _ _ _ r status is names stop cause rest
+  turn_gave_up r status is names answers stop cause rest gives keeps =
+      gave_up x y old new _ _ _ _ r status is names answers stop cause rest
       (begun (parts_of x) old (λ o s inputs. GivesUp (phase status) status (talk_step s inputs) (may_read s) inputs o new) gives)
       keeps
 

@@ -9,7 +9,8 @@ use Rattle.call_command.specs.declared.call.Begun.{Begun}
 use Rattle.call_command.specs.declared.world.World.{World}
 use Rattle.call_command.specs.declared.terms.Terms.{Terms}
 use Rattle.one_way.specs.Both.{steady}
-use Rattle.call_command.specs.Turning.{names_of}
+use Rattle.call_report.specs.declared.status.Status.{Status}
+use Rattle.call_command.specs.Turning.{IsAnswer, names_of}
 use Rattle.call_command.specs.Call.{CallState, first_state, most_turns, talk_step}
 use Rattle.call_command.specs.Standing.{CallOpens, PartsReady, PartsStand, parts_of}
 
@@ -22,6 +23,9 @@ WorldReady m attached = PartsReady (parts_of m) attached
 -- the same is lent, and the pace of the sender and what was asked for are the same
 pub record WorldStays (first now : World) : Type 0 where
   pub names : names_of now ≡ names_of first
+
+abbrev pub WorldAnswers : World → Status → Type 0
+WorldAnswers first status = IsAnswer first.terms.plain status
 
 -- the state before the first event
 abbrev pub IsFirst : Terms → ℕ → CallState → (Role → List ℕ) → Type 0

@@ -1,5 +1,5 @@
 -- What a turn does, by what it answers.
-use Rattle.std.specs.Prelude.{◌≡◌, ℕ, ◌+◌, ◌<◌, Bool, true, List, [], Some, None, Result, Ok, Option, IfErr, OnErr}
+use Rattle.std.specs.Prelude.{◌≡◌, ℕ, ◌+◌, ◌<◌, Bool, true, false, List, [], Some, None, Result, Ok, Option, IfErr, OnErr}
 use Rattle.h263_outside.specs.Desk.{Outside}
 use Rattle.h263_outside.specs.declared.desk.Role.{Role}
 use Rattle.h263_outside.specs.declared.desk.Role.TheVariants.{Video, Events}
@@ -7,6 +7,7 @@ use Rattle.h263_types.specs.declared.pace.FixedPace.{FixedPace}
 use Rattle.loss_trace.specs.declared.event.Event.{Event as Line}
 use Rattle.loss_trace.specs.declared.event.Event.TheVariants as says
 use Rattle.call_report.specs.declared.status.Status.{Status}
+use Rattle.call_report.specs.declared.status.Status.TheVariants.{Ok as Fine, OutOfMemory, Usage, ReadFault, WriteFault, VideoRefused, TraceRefused, LogRefused, OpenFault, Video2Refused}
 use Rattle.call_model.specs.IdealCall.{Event, Send, Deliver, Play, Back}
 use Rattle.call_model.specs.Refusals.{Refusal}
 use Rattle.desk_program.specs.Run.{Step}
@@ -36,6 +37,20 @@ names_of m =
       pace = m.sender.now.pace;
     }
 
+-- With what a call can end. It reads no log and no second video, and over its plain trace there is
+-- no trace to be refused.
+abbrev pub IsAnswer : (plain : Bool) → Status → Type 0
+IsAnswer plain Fine = Unit {0}
+IsAnswer plain OutOfMemory = Unit {0}
+IsAnswer plain ReadFault = Unit {0}
+IsAnswer plain WriteFault = Unit {0}
+IsAnswer plain (VideoRefused fault) = Unit {0}
+IsAnswer plain (TraceRefused fault) = plain ≡ false
+IsAnswer plain Usage = ⊥
+IsAnswer plain (LogRefused fault) = ⊥
+IsAnswer plain (OpenFault role) = ⊥
+IsAnswer plain (Video2Refused fault) = ⊥
+
 -- both ends stand for what they stood for
 abbrev pub LeavesEnds : World → World → Type 0
 LeavesEnds x y = (s : CallState) → EndsStand x.terms x.sender.now x.receiver.now s → EndsStand y.terms y.sender.now y.receiver.now s
@@ -58,6 +73,7 @@ pub record IsTurn (x y : World) (result : Result Bool Status) (mid new : Outside
   pub lasts : names_of y ≡ names_of x
   pub falls : Falls result more (more_of (parts_of y))
   pub ready : OnGoing result (PartsReady (parts_of y) new.attached)
+  pub answers : IsAnswer x.terms.plain (turn_status result)
   pub stop : IfErr result IsStop
   pub cause : HasCause (turn_status result) mid.faults new.faults
   pub rest : KeepsRoles mid new

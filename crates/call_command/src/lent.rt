@@ -12,6 +12,7 @@ ghost use Rattle.one_way.specs.Both.{steady};
 ghost use Rattle.call_command.specs.Call.{call_step, may_read, most_turns};
 ghost use Rattle.call_command.specs.Converse.{IsFirst, talk_end, talk_of};
 ghost use Rattle.call_command.specs.Standing.{CallOpens, EndsStand, source_of};
+ghost use Rattle.call_command.specs.Turning.{IsAnswer};
 
 use crate::carrier::Carrier;
 use crate::world::World;
@@ -29,7 +30,7 @@ use y4m::Y4mReader;
 impl<'a> Turns for World<'a> {
     ghost use Rattle.std.specs.Prelude.{Some};
     ghost use Rattle.call_command.specs.Call.{CallState, may_read, talk_step};
-    ghost use Rattle.call_command.specs.Converse.{WorldReady, WorldStands, WorldStays};
+    ghost use Rattle.call_command.specs.Converse.{WorldAnswers, WorldReady, WorldStands, WorldStays};
     ghost use Rattle.call_command.specs.Standing.{more_of, parts_of, source_of};
     ghost use Rattle.call_command.specs.Turning.{LeavesEnds};
 
@@ -50,6 +51,8 @@ impl<'a> Turns for World<'a> {
     ghost stays = { WorldStays };
 
     ghost leaves = { LeavesEnds };
+
+    ghost answers = { WorldAnswers };
 
     fn turn<D: Desk>(&mut self, desk: &mut D) -> Result<bool, Status> {
         if self.terms.plain {
@@ -105,6 +108,7 @@ pub fn converse<D: Desk>(
         → receiver_end.Stands receiver.old before → Tells (D.outside desk.old) inputs
         → IsReadOut result (Some (source_of (record { params = params.now; plain = plain })))
         (D.outside desk.new) }
+    ensures answers { IsAnswer plain result }
     ensures pace { sender.new.pace ≡ sender.old.pace }
     ensures later { IsLater result }
     ensures cause { HasCause result (D.outside desk.old).faults (D.outside desk.new).faults }

@@ -124,6 +124,6 @@ pub fn tell_counts<D: Desk>(
         (D.outside desk.new).faults.write) }
     ensures rest { OnlyWrites (D.outside desk.old) (D.outside desk.new) }
 {
-    let line = way.line(receiver.played(), sender.sent());
+    let line = way.line("played", receiver.played(), sender.sent());
     put_line(desk, &line)
 }

@@ -22,6 +22,7 @@ pub fn take_turns<D: Desk, M: Turns>(desk: &mut D, machine: &mut M) -> Status
         (M.more machine.old) (D.outside desk.old)
         → AfterAll result (LeftIn M.stands M.leaves final machine.new) }
     ensures stays { (first : M) → M.stays first machine.old → M.stays first machine.new }
+    ensures answers { (first : M) → M.stays first machine.old → M.answers first result }
     ensures later { IsLater result }
     ensures cause { HasCause result (D.outside desk.old).faults (D.outside desk.new).faults }
     ensures rest { KeepsRoles (D.outside desk.old) (D.outside desk.new) }

@@ -1,6 +1,7 @@
 //! A machine that takes one event after another.
 ghost use Rattle.std.specs.Prelude.{◌≡◌, ℕ, Bool, true, List, Option, IfErr, IfSome, Some, []};
 ghost use Rattle.h263_outside.specs.declared.desk.Role.{Role};
+ghost use Rattle.call_report.specs.declared.status.Status.{Status};
 ghost use Rattle.desk_program.specs.Run.{Step};
 ghost use Rattle.desk_program.specs.Ends.{Tells, TurnGives, Falls, OnGoing, OnEnd, OnSettled, turn_status, HasCause, IsStop, KeepsRoles};
 
@@ -42,6 +43,10 @@ pub trait Turns {
     /// before that turn.
     ghost leaves: { Self → Self → Type 0 } = { λ last now. Unit {0} };
 
+    /// With which statuses a run can end, by what the machine was at first. A machine all of whose
+    /// inputs are told to it says it by its `step`, and nothing here.
+    ghost answers: { Self → Status → Type 0 } = { λ first status. Unit {0} };
+
     /// Takes one event. False at the end.
     fn turn<D: Desk>(&mut self, desk: &mut D) -> Result<bool, Status>
         requires { ready self.old (D.outside desk.old).attached }
@@ -56,6 +61,8 @@ pub trait Turns {
             (IfSome (reading self.old) (λ role. (D.outside desk.new).left role ≡ Some [])) }
         ensures stays { (first : Self) → stays first self.old → stays first self.new }
         ensures leaves { OnSettled result (leaves self.old self.new) }
+        ensures answers { (first : Self) → stays first self.old
+            → answers first (turn_status result) }
         ensures stop { IfErr result IsStop }
         ensures cause { HasCause
             (turn_status result) (D.outside desk.old).faults (D.outside desk.new).faults }

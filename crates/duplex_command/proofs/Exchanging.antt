@@ -38,69 +38,70 @@ input_too Pictures2 is = is
 -- ---- the desk
 
 -- the exchanged desk tells what the desk tells, exchanged
-pub tells : (name : ℕ) (o : Outside) (inputs : Role → List ℕ) → Tells o inputs → Tells (exchanged_outside name o) (for_second inputs)
-tells name o inputs told = λ r is. told (exchanged r) (input_too r is)
+pub told_at_second : (name : ℕ) (o : Outside) (inputs : Role → List ℕ) → Tells o inputs → Tells (exchanged_outside name o) (for_second inputs)
+told_at_second name o inputs told = λ r is. told (exchanged r) (input_too r is)
 
 -- what is the same with both exchanged is the same
 pub unexchanged : {A : Type 0} (f g : Role → A) → for_second f ≡ for_second g → f ≡ g
 unexchanged {A = A} f g same = fun_ext (λ r. subst (λ (q : Role). f q ≡ g q) (twice r) (ap (λ (h : Role → A). h (exchanged r)) same))
 
-module _ (a b : ℕ) (old new : Outside) (kept : KeepsRoles (exchanged_outside a old) (exchanged_outside b new)) where
-  tail : List ℕ → List ℕ
-  tail [] = []
-  tail (x ∷ xs) = xs
+-- the loans below the first one
+abbrev pub loans_below : List ℕ → List ℕ
+loans_below [] = []
+loans_below (x ∷ xs) = xs
 
+module _ (a b : ℕ) (old new : Outside) (kept : KeepsRoles (exchanged_outside a old) (exchanged_outside b new)) where
   -- the desk's own roles and loans are kept
-  pub keeps : KeepsRoles old new
-  keeps = record {
+  pub roles_at_second : KeepsRoles old new
+  roles_at_second = record {
     attached = unexchanged new.attached old.attached kept.attached;
     name = unexchanged new.name old.name kept.name;
     faults = kept.faults;
-    loans = ap tail kept.loans;
+    loans = ap loans_below kept.loans;
   }
 
 -- ---- answers
 
-pub causes : (result : Result Bool Status) (old new : Outside) → HasCause (turn_status result) old.faults new.faults → HasCause (turn_status (second_result result)) old.faults new.faults
-causes (Ok goes) old new c = c
-causes (Err Fine) old new c = c
-causes (Err OutOfMemory) old new c = c
-causes (Err Usage) old new c = c
-causes (Err ReadFault) old new c = c
-causes (Err WriteFault) old new c = c
-causes (Err (VideoRefused fault)) old new c = c
-causes (Err (TraceRefused fault)) old new c = c
-causes (Err (LogRefused fault)) old new c = c
-causes (Err (OpenFault role)) old new c = c
-causes (Err (Video2Refused fault)) old new c = c
+pub cause_at_second : (result : Result Bool Status) (old new : Outside) → HasCause (turn_status result) old.faults new.faults → HasCause (turn_status (second_result result)) old.faults new.faults
+cause_at_second (Ok goes) old new c = c
+cause_at_second (Err Fine) old new c = c
+cause_at_second (Err OutOfMemory) old new c = c
+cause_at_second (Err Usage) old new c = c
+cause_at_second (Err ReadFault) old new c = c
+cause_at_second (Err WriteFault) old new c = c
+cause_at_second (Err (VideoRefused fault)) old new c = c
+cause_at_second (Err (TraceRefused fault)) old new c = c
+cause_at_second (Err (LogRefused fault)) old new c = c
+cause_at_second (Err (OpenFault role)) old new c = c
+cause_at_second (Err (Video2Refused fault)) old new c = c
 
-pub stops : (result : Result Bool Status) → IfErr result IsStop → IfErr (second_result result) IsStop
-stops (Ok goes) s = s
-stops (Err Fine) s = s
-stops (Err OutOfMemory) s = s
-stops (Err Usage) s = s
-stops (Err ReadFault) s = s
-stops (Err WriteFault) s = s
-stops (Err (VideoRefused fault)) s = s
-stops (Err (TraceRefused fault)) s = s
-stops (Err (LogRefused fault)) s = s
-stops (Err (OpenFault role)) s = s
-stops (Err (Video2Refused fault)) s = s
+pub stop_at_second : (result : Result Bool Status) → IfErr result IsStop → IfErr (second_result result) IsStop
+stop_at_second (Ok goes) s = s
+stop_at_second (Err Fine) s = s
+stop_at_second (Err OutOfMemory) s = s
+stop_at_second (Err Usage) s = s
+stop_at_second (Err ReadFault) s = s
+stop_at_second (Err WriteFault) s = s
+stop_at_second (Err (VideoRefused fault)) s = s
+stop_at_second (Err (TraceRefused fault)) s = s
+stop_at_second (Err (LogRefused fault)) s = s
+stop_at_second (Err (OpenFault role)) s = s
+stop_at_second (Err (Video2Refused fault)) s = s
 
-pub falls : (result : Result Bool Status) (old new : ℕ) → Falls result old new → Falls (second_result result) old new
-falls (Ok true) old new f = f
-falls (Ok false) old new f = f
-falls (Err status) old new f = f
+pub falls_at_second : (result : Result Bool Status) (old new : ℕ) → Falls result old new → Falls (second_result result) old new
+falls_at_second (Ok true) old new f = f
+falls_at_second (Ok false) old new f = f
+falls_at_second (Err status) old new f = f
 
-pub going : (result : Result Bool Status) (p : Type 0) → OnGoing result p → OnGoing (second_result result) p
-going (Ok true) p is = is
-going (Ok false) p is = is
-going (Err status) p is = is
+pub going_at_second : (result : Result Bool Status) (p : Type 0) → OnGoing result p → OnGoing (second_result result) p
+going_at_second (Ok true) p is = is
+going_at_second (Ok false) p is = is
+going_at_second (Err status) p is = is
 
-pub ending : (result : Result Bool Status) (p : Type 0) → OnEnd result p → OnEnd (second_result result) p
-ending (Ok true) p is = is
-ending (Ok false) p is = is
-ending (Err status) p is = is
+pub ending_at_second : (result : Result Bool Status) (p : Type 0) → OnEnd result p → OnEnd (second_result result) p
+ending_at_second (Ok true) p is = is
+ending_at_second (Ok false) p is = is
+ending_at_second (Err status) p is = is
 
 -- ---- a turn
 
@@ -173,17 +174,17 @@ module _ {State : Type 0} (stands : State → (Role → List ℕ) → Type 0) (r
 -- What a turn gives of the desk with both exchanged, one of the second party gives of the desk
 -- itself. The names are those of the loans on which the exchanged desk stood and stands.
 module _ {State : Type 0} (stands : State → (Role → List ℕ) → Type 0) (reads : State → Bool) (now : Bool) (inputs : Role → List ℕ) (a b : ℕ) (old new : Outside) (step : Step State) where
-  pub turn_is_exchanged : (result : Result Bool Status) → TurnGives result step (λ s rest. stands s (for_second rest)) reads now (for_second inputs) (exchanged_outside a old) (exchanged_outside b new)
+  pub turn_at_second : (result : Result Bool Status) → TurnGives result step (λ s rest. stands s (for_second rest)) reads now (for_second inputs) (exchanged_outside a old) (exchanged_outside b new)
       → TurnGives (second_result result) (second_step step) stands reads now inputs old new
-  turn_is_exchanged (Ok true) g = went stands reads inputs a b old new step now g
-  turn_is_exchanged (Ok false) g = ended stands reads inputs a b old new step Fine g
-  turn_is_exchanged (Err Fine) g = g
-  turn_is_exchanged (Err OutOfMemory) g = unexchanged new.written old.written g
-  turn_is_exchanged (Err Usage) g = g
-  turn_is_exchanged (Err ReadFault) g = lost stands reads inputs a b old new step now g
-  turn_is_exchanged (Err WriteFault) g = fronts stands reads inputs a b old new step g
-  turn_is_exchanged (Err (VideoRefused fault)) g = ended stands reads inputs a b old new step (VideoRefused fault) g
-  turn_is_exchanged (Err (TraceRefused fault)) g = ended stands reads inputs a b old new step (TraceRefused fault) g
-  turn_is_exchanged (Err (LogRefused fault)) g = ended stands reads inputs a b old new step (LogRefused fault) g
-  turn_is_exchanged (Err (OpenFault role)) g = g
-  turn_is_exchanged (Err (Video2Refused fault)) g = ended stands reads inputs a b old new step (Video2Refused fault) g
+  turn_at_second (Ok true) g = went stands reads inputs a b old new step now g
+  turn_at_second (Ok false) g = ended stands reads inputs a b old new step Fine g
+  turn_at_second (Err Fine) g = g
+  turn_at_second (Err OutOfMemory) g = unexchanged new.written old.written g
+  turn_at_second (Err Usage) g = g
+  turn_at_second (Err ReadFault) g = lost stands reads inputs a b old new step now g
+  turn_at_second (Err WriteFault) g = fronts stands reads inputs a b old new step g
+  turn_at_second (Err (VideoRefused fault)) g = ended stands reads inputs a b old new step (VideoRefused fault) g
+  turn_at_second (Err (TraceRefused fault)) g = ended stands reads inputs a b old new step (TraceRefused fault) g
+  turn_at_second (Err (LogRefused fault)) g = ended stands reads inputs a b old new step (LogRefused fault) g
+  turn_at_second (Err (OpenFault role)) g = g
+  turn_at_second (Err (Video2Refused fault)) g = ended stands reads inputs a b old new step (Video2Refused fault) g

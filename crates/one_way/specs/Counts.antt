@@ -30,22 +30,28 @@ abbrev pub count_of : {Picture : Type 0} → (CallMark → ℕ) → List (Shown 
 count_of one [] = 0
 count_of one (shown ∷ plays) = count_of one plays + one shown.mark
 
--- the line of these counts
-abbrev pub counts_text : ℕ → ℕ → ℕ → ℕ → ℕ → Text
-counts_text played sent exact patched held =
+-- the line of these counts, with this word for the pictures that were played
+abbrev pub counts_text_of : Text → ℕ → ℕ → ℕ → ℕ → ℕ → Text
+counts_text_of word played sent exact patched held =
     counts
-    ((codes "played", played)
+    ((word, played)
     ∷ (codes "sent", sent)
     ∷ (codes "exact", exact)
     ∷ (codes "patched", patched)
     ∷ (codes "held", held)
     ∷ [])
 
+abbrev pub counts_text : ℕ → ℕ → ℕ → ℕ → ℕ → Text
+counts_text = counts_text_of (codes "played")
+
 -- the line of a call: how many pictures were played and sent, and how the plays were marked
-abbrev pub call_text : Seen → Text
-call_text seen =
-    counts_text seen.played (length seen.coded) (count_of one_exact seen.plays)
+abbrev pub call_text_of : Text → Seen → Text
+call_text_of word seen =
+    counts_text_of word seen.played (length seen.coded) (count_of one_exact seen.plays)
     (count_of one_patched seen.plays) (count_of one_held seen.plays)
+
+abbrev pub call_text : Seen → Text
+call_text = call_text_of (codes "played")
 
 -- ---- as they are counted
 
@@ -68,5 +74,9 @@ pub record AreCounted {Picture : Type 0} (tally : Tally) (plays : List (Shown Pi
   pub held : tally.held ≡ count_of one_held plays
 
 -- the line of these counts, with those of the pictures that were played and sent
+abbrev pub counts_with : Text → Tally → ℕ → ℕ → Text
+counts_with word tally played sent =
+    counts_text_of word played sent tally.exact tally.patched tally.held
+
 abbrev pub counts_of : Tally → ℕ → ℕ → Text
-counts_of tally played sent = counts_text played sent tally.exact tally.patched tally.held
+counts_of = counts_with (codes "played")

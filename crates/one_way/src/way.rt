@@ -21,7 +21,7 @@ ghost use Rattle.receiver_end.specs.Answers.{mark_of};
 ghost use Rattle.receiver_end.specs.Decoding.{decoding};
 ghost use Rattle.receiver_end.specs.State as receiver_end;
 ghost use Rattle.one_way.specs.Both.{State, both_after, carrying, steady};
-ghost use Rattle.one_way.specs.Counts.{counts_of, total_of};
+ghost use Rattle.one_way.specs.Counts.{counts_with, total_of};
 ghost use Rattle.one_way.specs.Network.{AreRoomy, IsAmongLast, IsKeeping, said_in, told_by};
 ghost use Rattle.one_way.specs.Seen.{reference_in};
 ghost use Rattle.one_way.specs.Way.{CanSend, HoldsWay, IsNewWay, MayHappenNow};
@@ -236,11 +236,13 @@ impl Way {
         self.references.get(number)
     }
 
-    /// The line of the counts, with those of the pictures that were played and sent.
-    pub fn line(&self, played: u32, sent: u32) -> Line
-        ensures { report.text_of result ≡ counts_of self.now.tally played sent }
+    /// The line of the counts, with those of the pictures that were played, which this word names,
+    /// and sent.
+    pub fn line(&self, word: &str, played: u32, sent: u32) -> Line
+        requires { length word.now ≤ 16 }
+        ensures { report.text_of result ≡ counts_with word.now self.now.tally played sent }
     {
-        self.tally.line(played, sent)
+        self.tally.line(word, played, sent)
     }
 }
 

@@ -77,3 +77,9 @@ returns-in-Err-clause-leaves g c = λ final before.
     let p = c.loop-status.invariant.ends final before in
     left_err m.step m.reads final (outside c.loop-status.desk) (outside c.turn.new.desk) _ _ p m.stands m.leaves c.loop-status.machine c.turn.new.self p.kept (phase c.in-Err.status) c.in-Err.status
     (c.in-Err.ensures.gives p.state p.rest p.kept p.told) c.in-Err.ensures.leaves
+
+pub returns-in-Ok-false-clause-answers : goal.returns-in-Ok-false-clause-answers
+returns-in-Ok-false-clause-answers g c = λ first k. c.in-Ok-false.ensures.answers first (c.loop-status.invariant.stays first k)
+
+pub returns-in-Err-clause-answers : goal.returns-in-Err-clause-answers
+returns-in-Err-clause-answers g c = λ first k. c.in-Err.ensures.answers first (c.loop-status.invariant.stays first k)

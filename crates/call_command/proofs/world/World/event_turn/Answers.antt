@@ -31,7 +31,7 @@ returns-in-Err g c =
     let x = parts_of m in
     let status = TraceRefused c.fault_at-fault.result in
     gave_up m _ old old (IsRead x c.args.line old) (λ s inputs. event_step by_ends s inputs (inputs Events) c.args.event) (λ _. true) (more_of x + 1)
-    (Err status) status refl refl tt tt (roles_same old)
+    (Err status) status refl refl c.requires.recorded tt tt (roles_same old)
     (λ o s inputs b.
     line_is_refused x s inputs b.stood c.of_turns.ensures o old b.taken c.in-Err.refusal c.args.line b.number c.fault_at-fault.result c.fault_at-fault.ensures c.args.event
     (c.in-Err.ensures.refusal s.before s.frames s.past b.stood.begun (done_here x s inputs b.stood)))

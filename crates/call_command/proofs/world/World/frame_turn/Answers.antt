@@ -28,7 +28,7 @@ use Rattle.call_command.specs.declared.carrier.Carrier.{Carrier}
 use Rattle.call_command.specs.Call.{CallState, may_read}
 use Rattle.call_command.specs.Standing.{PartsStand, parts_of, state_of}
 use Rattle.call_command.specs.Turning.{Names, names_of}
-use Rattle.call_command.proofs.Counting.{counts_are, keeps_then, plainly, reads_keep, turn_gave_up, turn_goes_on, turn_is_over, turn_was_cut, video_cause, video_stops, writes_keep}
+use Rattle.call_command.proofs.Counting.{counts_are, keeps_then, plainly, reads_keep, turn_gave_up, turn_goes_on, turn_is_over, turn_was_cut, video_answers, video_cause, video_stops, writes_keep}
 use Rattle.call_command.proofs.Framing.{among_last, at, count_of, may_deliver, may_play, may_send, stands_after, texts_are}
 use Rattle.call_command.proofs.FrameTurning.{end_cut, frame_cut, frame_goes, frame_stops, given, gives_so, lent, video_ends}
 use Rattle.call_command.proofs.Readying.{can_still, few_mbs, plain_keeps, ready_so}
@@ -42,7 +42,7 @@ returns-in_err-frame g c =
     let m = c.args.self.now in
     let x = parts_of m in
     let stop = c.in_err-frame.field-0.0 in
-    turn_gave_up m _ old mid c.from_residual.result (video_stop stop) c.from_residual.ensures.1 refl (video_stops stop)
+    turn_gave_up m _ old mid c.from_residual.result (video_stop stop) c.from_residual.ensures.1 refl (video_answers m.terms.plain stop) (video_stops stop)
     (video_cause stop old.faults mid.faults c.in_err-frame.ensures.cause) (reads_keep old mid c.frame.ensures.rest)
     (λ s inputs k told.
     let here = state_of x s.before s.frames s.past in

@@ -16,7 +16,7 @@ use Rattle.call_command.specs.Call.{CallState, by_ends, event_step, may_read, ta
 use Rattle.call_command.specs.Standing.{PartsStand, more_of, parts_of, state_of}
 use Rattle.call_command.specs.Turning.{IsRead}
 use Rattle.call_command.proofs.Behind.{stood_behind}
-use Rattle.call_command.proofs.Counting.{cause_since, counts_are, keeps_then, line_by_line, reads_keep, trace_cause, trace_halts, turn_gave_up, turn_is_over, turn_was_cut, writes_keep}
+use Rattle.call_command.proofs.Counting.{cause_since, counts_are, keeps_then, line_by_line, reads_keep, trace_answers, trace_cause, trace_halts, turn_gave_up, turn_is_over, turn_was_cut, writes_keep}
 use Rattle.call_command.proofs.LineTurning.{found_could, found_is, found_number, found_taken, read_out, trace_cut, trace_ends, trace_stops}
 use Rattle.call_command.proofs.Readying.{ready_so}
 use Rattle.call_command.proofs.world.World.line_turn.Goals as goal
@@ -36,7 +36,7 @@ returns-in_err-line g c =
     let m = c.args.self.now in
     let x = parts_of m in
     let stop = c.in_err-line.field-0.0 in
-    turn_gave_up m _ old mid c.from_residual.result (trace_stop stop) c.from_residual.ensures.1 refl (trace_halts stop)
+    turn_gave_up m _ old mid c.from_residual.result (trace_stop stop) c.from_residual.ensures.1 refl (trace_answers m.terms.plain c.requires.recorded stop) (trace_halts stop)
     (trace_cause stop old.faults mid.faults c.in_err-line.ensures.cause) (reads_keep old mid c.next.ensures.rest)
     (λ s inputs k told.
     let here = state_of x s.before s.frames s.past in
@@ -145,6 +145,7 @@ returns g c =
           (subst (λ (b : Bool). (if b then x.video.more else 16777216 - c.next.new.self.lines) + 1 ≡ (if b then x.video.more else 16777216 - reader.lines)) (sym c.requires.recorded)
           (omega (arith, moves.2, c.next.new.self.few))) t.falls;
       ready = t.ready;
+      answers = t.answers;
       stop = t.stop;
       cause = cause_since _ old.faults mid.faults new.faults c.next.ensures.rest.faults c.calls.ensures.rose_since t.cause;
       rest = keeps_then old mid new (reads_keep old mid c.next.ensures.rest) t.rest;

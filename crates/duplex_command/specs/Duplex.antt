@@ -1,0 +1,225 @@
+-- A call of two parties over a trace, line by line: what it reads, writes and answers.
+use Rattle.std.specs.Prelude.{ℕ, ◌+◌, ◌-◌, Bool, false, not, nat_lt, codes, List, [], ◌∷◌, length, Option, Some, None, Result, Ok, Err, if◌then◌else◌}
+use Rattle.h263_types.specs.declared.format.Format.{Format}
+use Rattle.h263_types.specs.declared.params.Params.{Params}
+use Rattle.h263_planes.specs.Layout.{picture_of}
+use Rattle.h263_planes.specs.Picture.{Picture}
+use Rattle.h263_outside.specs.declared.desk.Role.{Role}
+use Rattle.h263_outside.specs.declared.desk.Role.TheVariants.{Video, Events, Pictures, Report, Video2, Pictures2}
+use Rattle.y4m.specs.declared.fault.Y4mFault.{Y4mFault}
+use Rattle.y4m.specs.Frame.{next_frame, frame_size}
+use Rattle.y4m.specs.Text.{frame_text}
+use Rattle.loss_trace.specs.declared.event.Event.{Event as Line}
+use Rattle.loss_trace.specs.declared.event.Event.TheVariants as says
+use Rattle.loss_trace.specs.declared.fault.TraceFault.TheVariants.{BadLine, TooMany, NoFrame}
+use Rattle.loss_trace.specs.Lines.{first_line, is_closed}
+use Rattle.call_report.specs.declared.status.Status.{Status}
+use Rattle.call_report.specs.declared.status.Status.TheVariants.{Ok as Fine, VideoRefused, Video2Refused}
+use Rattle.call_report.specs.Text.{Text, picture_text}
+use Rattle.call_model.specs.Coding.{Shown}
+use Rattle.call_model.specs.IdealCall.{Event, Send, Deliver, Play, Back}
+use Rattle.call_model.specs.Refusals.{Refusal}
+use Rattle.call_encoding.specs.Frames.{Frame}
+use Rattle.receiver_end.specs.Answers.{mark_of}
+use Rattle.desk_program.specs.Run.{Turn, End, Step, refusal}
+use Rattle.desk_program.specs.Run.Step.{Goes, Ends}
+use Rattle.desk_program.specs.Texts.{no_texts, on, then_also, of, and_of}
+use Rattle.one_way.specs.Seen.{Seen, in_call, reference_in}
+use Rattle.duplex_call.specs.declared.line.Party.{Party}
+use Rattle.duplex_call.specs.declared.line.Party.TheVariants.{A, B}
+use Rattle.duplex_call.specs.Duplex.{WayRuns, no_runs, with_shot, with_delivery, with_play}
+use Rattle.duplex_call.specs.Lines.{party_event}
+use Rattle.duplex_call.specs.Refused.{refusal_of}
+use Rattle.one_way.specs.Counts.{call_text_of}
+use Rattle.duplex_ends.specs.Ways.{call_in, sides, with_whole}
+use Rattle.duplex_command.specs.Lines.{bad_line, line_size, line_turn, refused_line}
+use Rattle.duplex_command.specs.Lines.{fault_of}
+
+-- where a party's video stands: the byte of its next frame, and how many frames may still come
+pub record VideoPlace : Type 0 where
+  pub at : ℕ
+  pub more : ℕ
+
+pub record DuplexState : Type 0 where
+  -- each party's parameters, with the format of its video
+  pub params : Party → Params
+  -- what both ways have met, and where both videos stand
+  pub ways : WayRuns Frame
+  pub video_a : VideoPlace
+  pub video_b : VideoPlace
+  -- how many lines of the trace were read, and whether the last of them had no newline
+  pub lines : ℕ
+  pub ended : Bool
+
+-- ---- what belongs to a party
+
+abbrev pub video_of : Party → Role
+video_of A = Video
+video_of B = Video2
+
+abbrev pub pictures_of : Party → Role
+pictures_of A = Pictures
+pictures_of B = Pictures2
+
+-- its letter
+abbrev pub letter_of : Party → ℕ
+letter_of A = 97
+letter_of B = 98
+
+-- how its video is refused
+abbrev pub refused_video : Party → Y4mFault → Status
+refused_video A fault = VideoRefused fault
+refused_video B fault = Video2Refused fault
+
+abbrev pub place_of : Party → DuplexState → VideoPlace
+place_of A s = s.video_a
+place_of B s = s.video_b
+
+abbrev pub with_place : Party → VideoPlace → DuplexState → DuplexState
+with_place A place s = record s { video_a = place }
+with_place B place s = record s { video_b = place }
+
+-- what is seen of its pictures, by the ideal call
+abbrev pub seen_of : Party → DuplexState → Seen
+seen_of x s = in_call (call_in s.params x s.ways)
+
+-- ---- texts
+
+-- the picture n of a party that was shown with its mark, and the line that tells its reference besides
+abbrev pub shown_texts : Role → Party → ℕ → Option ℕ → Shown Picture → Role → List ℕ
+shown_texts pictures x n reference shown =
+    then_also (on pictures (frame_text (mark_of shown.mark) shown.picture))
+    (on Report (picture_text n (Some (mark_of shown.mark)) (Some reference) (Some (letter_of x))))
+
+-- those of the newest play
+abbrev pub newest_texts : Role → Party → ℕ → Option ℕ → List (Shown Picture) → Role → List ℕ
+newest_texts pictures x n reference [] = no_texts
+newest_texts pictures x n reference (shown ∷ plays) = shown_texts pictures x n reference shown
+
+-- what is written where picture n of the party was played
+abbrev pub play_texts : Role → Party → Seen → ℕ → Role → List ℕ
+play_texts pictures x seen n = newest_texts pictures x n (reference_in seen.coded n) seen.plays
+
+-- the line of a party's counts
+abbrev pub played_word : Party → Text
+played_word A = codes "a played"
+played_word B = codes "b played"
+
+abbrev pub counts_of : Party → (Party → Params) → WayRuns Frame → Text
+counts_of x p ways = call_text_of (played_word x) (in_call (call_in p x ways))
+
+-- those of both parties
+abbrev pub both_counts : (Party → Params) → WayRuns Frame → Role → List ℕ
+both_counts p ways = then_also (on Report (counts_of A p ways)) (on Report (counts_of B p ways))
+
+-- the trace is at its end
+abbrev pub all_played : DuplexState → End
+all_played s = record { status = Fine; taken = λ _. Some 0; texts = both_counts s.params s.ways }
+
+-- ---- a line
+
+-- after the line
+abbrev pub after_line : DuplexState → List ℕ → DuplexState
+after_line s trace = record s { lines = s.lines + 1; ended = not (is_closed trace) }
+
+-- the line says this event, which is refused or has its step
+abbrev pub unless : DuplexState → List ℕ → Event → Option Refusal → Step DuplexState → Step DuplexState
+unless s trace e None step = step
+unless s trace e (Some refusal) step = Ends (refused_line trace (fault_of (s.lines + 1) e refusal))
+
+-- a line that reads and writes nothing else: both ways are then these
+abbrev pub quiet_step : DuplexState → List ℕ → WayRuns Frame → Step DuplexState
+quiet_step s trace ways = Goes (after_line (record s { ways = ways }) trace) (line_turn trace no_texts)
+
+module _ (x : Party) (s : DuplexState) where
+  -- the first refusal of an event, as far as it is told before a frame is read
+  abbrev pub refusal_at : Event → Option Refusal
+  refusal_at e = refusal_of (sides s.params) (length (seen_of x s).coded + 1) x e s.ways
+
+  -- the frame of these planes is sent, which has taken so many bytes of the party's video
+  abbrev pub with_frame : ℕ → List ℕ → DuplexState
+  with_frame size planes =
+      with_place x (record { at = (place_of x s).at + size; more = (place_of x s).more - 1 })
+      (record s { ways = with_shot (sides s.params) x (picture_of (s.params x).format planes) s.ways })
+
+  -- the next picture is played
+  abbrev pub with_next : DuplexState
+  with_next = record s { ways = with_play (sides s.params) x s.ways }
+
+-- What a line says is done, for the party whose pictures it is about: its video stands in one role,
+-- and what is shown of its pictures goes to another.
+module _ (video pictures : Role) (refuses : Y4mFault → Status) (x : Party) (s : DuplexState) (trace : List ℕ) where
+  -- the frame is sent that the line asks for, or refused
+  abbrev pub captured_step : ℕ → Result (List ℕ) Y4mFault → Step DuplexState
+  captured_step size (Ok planes) =
+      Goes (after_line (with_frame x s size planes) trace)
+      (record { taken = and_of (of Events (line_size trace)) (of video size); whole = is_closed trace; texts = no_texts })
+  captured_step size (Err fault) = Ends (refusal (refuses fault))
+
+  -- the video is read once it is known that the event isn't far
+  abbrev pub capture_step : List ℕ → Step DuplexState
+  capture_step [] = Ends (refused_line trace (NoFrame (s.lines + 1)))
+  capture_step (b ∷ rest) =
+      captured_step (frame_size (s.params x).format (b ∷ rest))
+      (next_frame (place_of x s).more (s.params x).format (place_of x s).at (b ∷ rest))
+
+  abbrev pub play_step : Step DuplexState
+  play_step =
+      Goes (after_line (with_next x s) trace)
+      (line_turn trace (play_texts pictures x (seen_of x (with_next x s)) (seen_of x s).played))
+
+  -- a party's line says neither nothing nor that a message comes back
+  abbrev pub event_step : (Role → List ℕ) → Line → Step DuplexState
+  event_step inputs says.Nothing = quiet_step s trace s.ways
+  event_step inputs says.Send = unless s trace Send (refusal_at x s Send) (capture_step (inputs video))
+  event_step inputs (says.Packet n j) =
+      unless s trace (Deliver n j) (refusal_at x s (Deliver n j))
+      (quiet_step s trace (with_delivery (sides s.params) x n j s.ways))
+  event_step inputs (says.All n) =
+      unless s trace (Deliver n 0) (refusal_at x s (Deliver n 0))
+      (quiet_step s trace (with_whole s.params x n s.ways))
+  event_step inputs (says.Back k) = unless s trace (Back k) (refusal_at x s (Back k)) (quiet_step s trace s.ways)
+  event_step inputs says.Play = unless s trace Play (refusal_at x s Play) play_step
+
+-- what a party's line says is done
+abbrev pub party_step : Party → DuplexState → (Role → List ℕ) → Line → Step DuplexState
+party_step x s inputs event = event_step (video_of x) (pictures_of x) (refused_video x) x s (inputs Events) inputs event
+
+-- a line is bad, or empty, or says an event of a party
+abbrev pub line_step : DuplexState → (Role → List ℕ) → Option (Option (Party × Line)) → Step DuplexState
+line_step s inputs None = Ends (bad_line (BadLine (s.lines + 1)))
+line_step s inputs (Some None) = quiet_step s (inputs Events) s.ways
+line_step s inputs (Some (Some said)) = party_step said.0 s inputs said.1
+
+-- a trace has 16,777,216 lines at most
+abbrev pub trace_step : DuplexState → (Role → List ℕ) → List ℕ → Step DuplexState
+trace_step s inputs [] = Ends (all_played s)
+trace_step s inputs (b ∷ trace) =
+    if nat_lt s.lines 16777216
+    then line_step s inputs (party_event (first_line (b ∷ trace)))
+    else Ends (bad_line (TooMany (s.lines + 1)))
+
+-- ---- a turn
+
+abbrev pub duplex_step : DuplexState → (Role → List ℕ) → Step DuplexState
+duplex_step s inputs = trace_step s inputs (inputs Events)
+
+-- it may still read: the last line had its newline
+abbrev pub may_read : DuplexState → Bool
+may_read s = not s.ended
+
+-- how many turns there may be at most
+abbrev pub most_turns : ℕ
+most_turns = 16777216
+
+-- before the first line, where the videos' first frames are at these bytes
+abbrev pub first_state : (Party → Params) → ℕ → ℕ → DuplexState
+first_state params at_a at_b =
+    record {
+      params = params;
+      ways = no_runs;
+      video_a = record { at = at_a; more = 1048576 };
+      video_b = record { at = at_b; more = 1048576 };
+      lines = 0;
+      ended = false;
+    }

@@ -1,0 +1,98 @@
+-- What a turn of a party does, by what it answers, on a desk where it is the first party.
+use Rattle.std.specs.Prelude.{◌≡◌, ℕ, ◌+◌, Bool, true, List, length, Some, None, Result, IfErr}
+use Rattle.h263_types.specs.declared.params.Params.{Params}
+use Rattle.h263_planes.specs.Picture.{Picture}
+use Rattle.h263_outside.specs.Desk.{Outside}
+use Rattle.h263_outside.specs.declared.desk.Role.{Role}
+use Rattle.h263_outside.specs.declared.desk.Role.TheVariants.{Video, Events, Pictures, Report}
+use Rattle.y4m.specs.Text.{frame_text}
+use Rattle.loss_trace.specs.declared.reader.TraceReader.{TraceReader}
+use Rattle.call_report.specs.declared.status.Status.{Status}
+use Rattle.call_report.specs.declared.status.Status.TheVariants.{VideoRefused}
+use Rattle.call_report.specs.Text.{picture_text}
+use Rattle.call_model.specs.IdealCall.{Send}
+use Rattle.call_encoding.specs.Frames.{Frame}
+use Rattle.desk_program.specs.Run.{Step, behind}
+use Rattle.desk_program.specs.Ends.{HasCause, IsStop, KeepsRoles, OnEnd, OnGoing, TurnGives, turn_status}
+use Rattle.desk_program.specs.Texts.{of, on, then_also}
+use Rattle.duplex_command.specs.Lines.{line_size}
+use Rattle.duplex_command.specs.Lines.{HasTaken}
+use Rattle.duplex_call.specs.declared.line.Party.{Party}
+use Rattle.duplex_call.specs.declared.line.Party.TheVariants.{A}
+use Rattle.duplex_call.specs.Duplex.{WayRuns}
+use Rattle.duplex_call.specs.Refused.{refusal_of}
+use Rattle.duplex_ends.specs.Pair.{HoldsPair}
+use Rattle.duplex_ends.specs.Ways.{call_in, sides}
+use Rattle.duplex_command.specs.declared.event.Said.{Said}
+use Rattle.duplex_command.specs.declared.show.Row.{Row}
+use Rattle.duplex_command.specs.declared.station.Station.{Station}
+use Rattle.duplex_command.specs.Duplex.{DuplexState, after_line, capture_step, event_step, letter_of, may_read, party_step, refusal_at}
+use Rattle.duplex_command.specs.Standing.{StationsReady, StationsStand}
+
+-- what is left of the trace after its first line
+abbrev pub after_first : (Role → List ℕ) → List ℕ
+after_first inputs = behind inputs (of Events (line_size (inputs Events))) Events
+
+-- A line was read, which has this number: the stations stood at the state before it, the reader of
+-- the trace has passed it, and nothing else was done since the desk was the old one.
+pub record IsRead (x : Party) (own far : Station) (line : ℕ) (trace : TraceReader) (now old : Outside)
+    (s : DuplexState) (inputs : Role → List ℕ) : Type 0 where
+  pub stood : StationsStand x own far trace (after_line s (inputs Events)) (after_first inputs)
+  pub number : line ≡ s.lines + 1
+  pub taken : HasTaken inputs old now
+
+-- A party takes a step after a line was read. `Begins` says at which states, readers of the trace and
+-- inputs it begins, over a desk that was another one before the line. The other roles of the desk
+-- are not touched.
+pub record IsPartyTurn (x : Party) (own far : Station) (result : Result Bool Status) (mid new : Outside) (room : ℕ)
+    (Begins : TraceReader → Outside → DuplexState → (Role → List ℕ) → Type 0)
+    (step : DuplexState → (Role → List ℕ) → Step DuplexState) : Type 0 where
+  pub gives : (trace : TraceReader) (old : Outside) (s : DuplexState) (inputs : Role → List ℕ) → Begins trace old s inputs
+      → TurnGives result (step s inputs) (λ next rest. StationsStand x own far trace next (rest Events)) may_read true inputs old new
+  pub goes_on : OnEnd result ⊥
+  pub ready : OnGoing result (StationsReady own far room)
+  pub stop : IfErr result IsStop
+  pub cause : HasCause (turn_status result) mid.faults new.faults
+  pub rest : KeepsRoles mid new
+
+-- the line says an event of this party
+abbrev pub TakesEvent : Station → Station → Station → Station → Said → Result Bool Status → Outside → Outside → ℕ → Type 0
+TakesEvent own far own_new far_new said result mid new room =
+    IsPartyTurn said.party own_new far_new result mid new room (λ trace. IsRead said.party own far said.line trace mid)
+    (λ s inputs. event_step Video Pictures VideoRefused said.party s (inputs Events) inputs said.event)
+
+-- the line says an event of a party, on the desk of both; the first party is a
+abbrev pub TakesLine : Station → Station → Station → Station → Said → Result Bool Status → Outside → Outside → ℕ → Type 0
+TakesLine a b a_new b_new said result mid new room =
+    IsPartyTurn A a_new b_new result mid new room (λ trace. IsRead A a b said.line trace mid)
+    (λ s inputs. party_step said.party s inputs said.event)
+
+-- ---- a frame
+
+-- the frame is asked for that may be captured
+pub record IsAsked (x : Party) (own far : Station) (line : ℕ) (trace : TraceReader) (now old : Outside)
+    (s : DuplexState) (inputs : Role → List ℕ) : Type 0 where
+  pub read : IsRead x own far line trace now old s inputs
+  pub none : refusal_at x s Send ≡ None
+
+-- at some point of the call of both parties the first one's next picture may be captured
+pub record MayCapture (own far : Station) (room : ℕ) : Type 0 where
+  pub stations : StationsReady own far room
+  pub params : Party → Params
+  pub party : Party
+  pub ways : WayRuns Frame
+  pub holds : HoldsPair params party own.ends far.ends ways
+  pub none : refusal_of (sides params) (length (call_in params party ways).coded + 1) party Send ways ≡ None
+
+abbrev pub TakesFrame : Party → Station → Station → Station → ℕ → Result Bool Status → Outside → Outside → ℕ → Type 0
+TakesFrame x own far own_new line result mid new room =
+    IsPartyTurn x own_new far result mid new room (λ trace. IsAsked x own far line trace mid)
+    (λ s inputs. capture_step Video Pictures VideoRefused x s (inputs Events) (inputs Video))
+
+-- ---- texts
+
+-- the picture that is shown, and its line
+abbrev pub row_texts : Row → Picture → Role → List ℕ
+row_texts row picture =
+    then_also (on Pictures (frame_text row.mark picture))
+    (on Report (picture_text row.number (Some row.mark) (Some row.reference) (Some (letter_of row.party))))

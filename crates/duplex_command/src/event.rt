@@ -1,0 +1,157 @@
+//! What a line says is done, for the party whose pictures it is about.
+ghost use Rattle.std.specs.Prelude.{◌≡◌, ◌+◌, ℕ, length, true};
+ghost use Rattle.h263_outside.specs.declared.desk.Role.TheVariants.{Video};
+ghost use Rattle.h263_types.specs.declared.params.Params.{Params};
+ghost use Rattle.call_encoding.specs.Frames.{Frame};
+ghost use Rattle.duplex_command.specs.Lines.{fault_at};
+ghost use Rattle.duplex_command.specs.Lines.{IsChecked};
+ghost use Rattle.duplex_call.specs.declared.line.Party.{Party};
+ghost use Rattle.duplex_call.specs.Duplex.{WayRuns};
+ghost use Rattle.duplex_call.specs.Refused.{refusal_of};
+ghost use Rattle.duplex_ends.specs.Pair.{AreInCall, HoldsPair, IsInCall};
+ghost use Rattle.duplex_ends.specs.Ways.{call_in, sides};
+ghost use Rattle.duplex_command.specs.declared.station.Station.{Station};
+ghost use Rattle.duplex_command.specs.Standing.{DuplexOpens, PartyOpens, StationReady, StationsReady};
+ghost use Rattle.duplex_command.specs.Turning.{MayCapture, TakesEvent, TakesFrame, TakesLine};
+
+use crate::show::play_next;
+use crate::{Station, laws, second_result};
+use call_report::Status;
+use desk_program::laws as desk_program_laws;
+use duplex_call::Party;
+use duplex_ends::{check_delivery, check_play, check_send, deliver, deliver_all};
+use h263_outside::{Desk, Second, laws as outside_laws};
+use h263_planes::PictureRef;
+use loss_trace::{Event, TraceFault};
+use one_way::Refusal;
+
+/// What the line of this number says: an event of a party's pictures.
+#[derive(Clone, Copy)]
+pub struct Said {
+    pub line: u32,
+    pub party: Party,
+    pub event: Event,
+}
+
+// The refusal of an event, with its line.
+fn fault_at(line: u32, refusal: Refusal) -> TraceFault
+    ensures { result ≡ fault_at line refusal }
+{
+    match refusal {
+        Refusal::NotSent => TraceFault::NotSent { line },
+        Refusal::NotSaid => TraceFault::NotSaid { line },
+        Refusal::Far { given, other } => TraceFault::Far { line, given, other },
+        Refusal::PlayBeforeSend => TraceFault::PlayBeforeSend { line },
+        Refusal::NoFrame => TraceFault::NoFrame { line },
+    }
+}
+
+// Why the event is not done, if it isn't.
+fn check(event: Event, own: &Station, far: &Station) -> Result<(), Refusal>
+    requires { AreInCall own.now.ends far.now.ends }
+    ensures { (p : Party → Params) (x : Party) (ways : WayRuns Frame)
+        → HoldsPair p x own.now.ends far.now.ends ways → IsChecked result event
+        (λ e. refusal_of (sides p) (length (call_in p x ways).coded + 1) x e ways) }
+{
+    match event {
+        Event::Nothing => Ok(()),
+        Event::Send => check_send(&own.ends),
+        Event::Packet { number, .. } => check_delivery(&own.ends, &far.ends, number),
+        Event::All { number } => check_delivery(&own.ends, &far.ends, number),
+        Event::Back { .. } => Err(Refusal::NotSaid),
+        Event::Play => check_play(&own.ends),
+    }
+}
+
+// `S`, which isn't too far ahead of the play: the party's next frame is read and sent.
+fn send_frame<D: Desk>(
+    desk: &mut D,
+    said: Said,
+    own: &mut Station,
+    frame: &mut [u8],
+) -> Result<bool, Status>
+    requires video { (D.outside desk.old).attached Video ≡ true }
+    requires station { StationReady own.old (length frame.old) }
+    requires held { IsInCall own.old.ends }
+    ensures { (far : Station) → MayCapture own.old far (length frame.old)
+        → TakesFrame said.party own.old far own.new said.line result
+        (D.outside desk.old) (D.outside desk.new) (length frame.old) }
+{
+    desk_program_laws::of_turns();
+    outside_laws::calls();
+    laws::of_the_video();
+    laws::of_refusals();
+    let format = own.ends.params.format;
+    let planes = &mut frame[..format.size() as usize];
+    if !own.video.frame(desk, planes)? {
+        return Err(Status::TraceRefused {
+            fault: TraceFault::NoFrame { line: said.line },
+        });
+    }
+    own.ends.send(PictureRef::new(format, planes));
+    Ok(true)
+}
+
+// What the line says that was read last is done, or refused, over a desk where its party is the
+// first one. The frame's room is for either video.
+fn party_turn<D: Desk>(
+    desk: &mut D,
+    said: Said,
+    own: &mut Station,
+    far: &mut Station,
+    frame: &mut [u8],
+) -> Result<bool, Status>
+    requires opens { PartyOpens (D.outside desk.old).attached }
+    requires ready { StationsReady own.old far.old (length frame.old) }
+    ensures { TakesEvent own.old far.old own.new far.new said result
+        (D.outside desk.old) (D.outside desk.new) (length frame.old) }
+{
+    desk_program_laws::of_turns();
+    laws::of_refusals();
+    if let Err(refusal) = check(said.event, own, far) {
+        let fault = fault_at(said.line, refusal);
+        return Err(Status::TraceRefused { fault });
+    }
+    match said.event {
+        Event::Nothing => Ok(true),
+        Event::Send => send_frame(desk, said, own, frame),
+        Event::Packet { number, place } => {
+            deliver(&mut own.ends, &mut far.ends, number, place);
+            Ok(true)
+        }
+        Event::All { number } => {
+            deliver_all(&mut own.ends, &mut far.ends, number);
+            Ok(true)
+        }
+        // Refused above.
+        Event::Back { .. } => Ok(true),
+        Event::Play => {
+            play_next(desk, said.party, &mut own.ends, &mut far.ends)?;
+            Ok(true)
+        }
+    }
+}
+
+/// What the line says that was read last is done, or refused. The second party's turn is one of the
+/// first's on the desk with both exchanged. The frame's room is for either video.
+pub fn event_turn<D: Desk>(
+    desk: &mut D,
+    said: Said,
+    a: &mut Station,
+    b: &mut Station,
+    frame: &mut [u8],
+) -> Result<bool, Status>
+    requires opens { DuplexOpens (D.outside desk.old).attached }
+    requires ready { StationsReady a.old b.old (length frame.old) }
+    ensures { TakesLine a.old b.old a.new b.new said result
+        (D.outside desk.old) (D.outside desk.new) (length frame.old) }
+{
+    duplex_ends::laws::of_pairs();
+    match said.party {
+        Party::A => party_turn(desk, said, a, b, frame),
+        Party::B => {
+            let mut second = Second::new(desk);
+            second_result(party_turn(&mut second, said, b, a, frame))
+        }
+    }
+}

@@ -1,0 +1,140 @@
+//! What a call of two parties writes: of a picture that is played the picture and its line, and at
+//! the end the counts of both parties.
+ghost use Rattle.std.specs.Prelude.{◌≡◌, ◌<◌, ◌+◌, ℕ, true, OnOk, OnErr, IfErr};
+ghost use Rattle.h263_outside.specs.Desk.{OnlyWrites, Rose};
+ghost use Rattle.h263_outside.specs.declared.desk.Role.TheVariants.{Pictures, Report};
+ghost use Rattle.h263_planes.specs.Lent.{picture as lent};
+ghost use Rattle.h263_types.specs.declared.params.Params.{Params};
+ghost use Rattle.call_model.specs.IdealCall.{Play};
+ghost use Rattle.call_encoding.specs.Frames.{Frame};
+ghost use Rattle.desk_program.specs.Ends.{Gains, GainsFronts};
+ghost use Rattle.one_way.specs.Seen.{in_call};
+ghost use Rattle.duplex_call.specs.declared.line.Party.{Party};
+ghost use Rattle.duplex_call.specs.declared.line.Party.TheVariants.{A};
+ghost use Rattle.duplex_call.specs.Duplex.{MayHappenOf, WayRuns, with_play};
+ghost use Rattle.duplex_ends.specs.Pair.{HoldsPair, MayHappenNow};
+ghost use Rattle.duplex_ends.specs.Ways.{call_in, sides};
+ghost use Rattle.duplex_command.specs.Duplex.{both_counts, letter_of, play_texts};
+ghost use Rattle.duplex_command.specs.Turning.{row_texts};
+
+use call_report::{Status, picture_line};
+use desk_program::{laws as desk_program_laws, put_line, put_picture};
+use duplex_call::Party;
+use duplex_ends::{PartyEnds, laws as duplex_ends_laws, play};
+use h263_outside::{Desk, laws as outside_laws};
+use h263_planes::PictureRef;
+use h263_types::Mark;
+
+/// What is told of a picture that is shown: its party, its number, its mark, and the reference of
+/// the picture that was sent.
+#[derive(Clone, Copy)]
+pub struct Row {
+    party: Party,
+    number: u32,
+    mark: Mark,
+    reference: Option<u32>,
+}
+
+// The letter of a party.
+fn letter(party: Party) -> u8
+    ensures value { result ≡ letter_of party }
+    ensures ascii { result < 128 }
+{
+    match party {
+        Party::A => b'a',
+        Party::B => b'b',
+    }
+}
+
+// Writes the picture that is shown, and its line.
+fn show<D: Desk>(desk: &mut D, row: &Row, picture: PictureRef<'_>) -> Result<(), Status>
+    requires pictures { (D.outside desk.old).attached Pictures ≡ true }
+    requires report { (D.outside desk.old).attached Report ≡ true }
+    ensures ok { OnOk result (Gains (row_texts row.now (lent picture.entry))
+        (D.outside desk.old).written (D.outside desk.new).written) }
+    ensures err { OnErr result (GainsFronts (row_texts row.now (lent picture.entry))
+        (D.outside desk.old).written (D.outside desk.new).written) }
+    ensures kind { IfErr result (λ status. status ≡ Status.WriteFault) }
+    ensures cause { OnErr result (Rose (D.outside desk.old).faults.write
+        (D.outside desk.new).faults.write) }
+    ensures rest { OnlyWrites (D.outside desk.old) (D.outside desk.new) }
+{
+    outside_laws::calls();
+    desk_program_laws::of_turns();
+    put_picture(desk, row.mark, picture)?;
+    let letter = letter(row.party);
+    let line = picture_line(
+        row.number,
+        Some(row.mark),
+        Some(row.reference),
+        Some(letter),
+    );
+    put_line(desk, &line)
+}
+
+/// Plays the party's next picture, which was sent, and writes it with its line.
+pub fn play_next<D: Desk>(
+    desk: &mut D,
+    party: Party,
+    own: &mut PartyEnds,
+    far: &mut PartyEnds,
+) -> Result<(), Status>
+    requires pictures { (D.outside desk.old).attached Pictures ≡ true }
+    requires report { (D.outside desk.old).attached Report ≡ true }
+    requires near { MayHappenNow own.old far.old Play }
+    ensures own_params { own.new.params ≡ own.old.params }
+    ensures far_params { far.new.params ≡ far.old.params }
+    ensures own_sent { own.new.sender ≡ own.old.sender }
+    ensures far_sent { far.new.sender ≡ far.old.sender }
+    ensures holds { (p : Party → Params) (x : Party) (ways : WayRuns Frame) (left : ℕ)
+        → HoldsPair p x own.old far.old ways → MayHappenOf (sides p) left x Play ways
+        → HoldsPair p x own.new far.new (with_play (sides p) x ways) }
+    ensures ok { (p : Party → Params) (ways : WayRuns Frame) (left : ℕ)
+        → HoldsPair p party own.old far.old ways → MayHappenOf (sides p) left party Play ways
+        → OnOk result (Gains (play_texts Pictures party
+        (in_call (call_in p party (with_play (sides p) party ways))) (call_in p party ways).played)
+        (D.outside desk.old).written (D.outside desk.new).written) }
+    ensures err { (p : Party → Params) (ways : WayRuns Frame) (left : ℕ)
+        → HoldsPair p party own.old far.old ways → MayHappenOf (sides p) left party Play ways
+        → OnErr result (GainsFronts (play_texts Pictures party
+        (in_call (call_in p party (with_play (sides p) party ways))) (call_in p party ways).played)
+        (D.outside desk.old).written (D.outside desk.new).written) }
+    ensures kind { IfErr result (λ status. status ≡ Status.WriteFault) }
+    ensures cause { OnErr result (Rose (D.outside desk.old).faults.write
+        (D.outside desk.new).faults.write) }
+    ensures rest { OnlyWrites (D.outside desk.old) (D.outside desk.new) }
+{
+    duplex_ends_laws::of_pairs();
+    duplex_ends_laws::of_plays();
+    let number = own.played();
+    let reference = own.reference_of_next();
+    let mark = play(own, far);
+    let row = Row {
+        party,
+        number,
+        mark,
+        reference,
+    };
+    show(desk, &row, own.shown())
+}
+
+/// Writes the counts of both parties, at the end of the trace.
+pub fn tell_counts<D: Desk>(desk: &mut D, a: &PartyEnds, b: &PartyEnds) -> Result<(), Status>
+    requires { (D.outside desk.old).attached Report ≡ true }
+    ensures ok { (p : Party → Params) (ways : WayRuns Frame) → HoldsPair p A a.now b.now ways
+        → OnOk result (Gains (both_counts p ways)
+        (D.outside desk.old).written (D.outside desk.new).written) }
+    ensures err { (p : Party → Params) (ways : WayRuns Frame) → HoldsPair p A a.now b.now ways
+        → OnErr result (GainsFronts (both_counts p ways)
+        (D.outside desk.old).written (D.outside desk.new).written) }
+    ensures kind { IfErr result (λ status. status ≡ Status.WriteFault) }
+    ensures cause { OnErr result (Rose (D.outside desk.old).faults.write
+        (D.outside desk.new).faults.write) }
+    ensures rest { OnlyWrites (D.outside desk.old) (D.outside desk.new) }
+{
+    outside_laws::calls();
+    desk_program_laws::of_turns();
+    duplex_ends_laws::of_pairs();
+    put_line(desk, &a.line("a played"))?;
+    put_line(desk, &b.line("b played"))
+}

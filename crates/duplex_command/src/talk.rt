@@ -1,0 +1,75 @@
+//! The machine of a call of two parties: one line of its trace is a turn.
+use crate::Station;
+use crate::event::{Said, event_turn};
+use crate::show::tell_counts;
+use call_report::Status;
+use desk_program::{Turns, laws as desk_program_laws};
+use duplex_call::party_line;
+use h263_outside::{Desk, laws as outside_laws};
+use loss_trace::laws::exact_lines;
+use loss_trace::{TraceFault, TraceReader};
+
+/// The machine of a call of two parties: both of them, the reader of its trace, and room for a frame
+/// of either video. It must be finished.
+pub struct Talk {
+    pub a: Station,
+    pub b: Station,
+    pub trace: TraceReader,
+    pub frame: Vec<u8>,
+}
+
+impl Talk {
+    /// Gives back what the ends hold.
+    pub fn finish(self) {
+        let Talk {
+            a,
+            b,
+            trace: _,
+            frame: _,
+        } = self;
+        a.finish();
+        b.finish();
+    }
+}
+
+impl Turns for Talk {
+    ghost use Rattle.std.specs.Prelude.{Some};
+    ghost use Rattle.h263_outside.specs.declared.desk.Role.TheVariants.{Events};
+    ghost use Rattle.duplex_command.specs.Duplex.{DuplexState, duplex_step, may_read};
+    ghost use Rattle.duplex_command.specs.Standing.{TalkReady, TalkStands, more_of};
+
+    ghost State = { DuplexState };
+
+    ghost step = { duplex_step };
+
+    ghost reads = { may_read };
+
+    ghost stands = { TalkStands };
+
+    ghost more = { more_of };
+
+    ghost ready = { TalkReady };
+
+    ghost reading = { λ _. Some Events };
+
+    fn turn<D: Desk>(&mut self, desk: &mut D) -> Result<bool, Status> {
+        desk_program_laws::of_turns();
+        outside_laws::calls();
+        exact_lines();
+        let mut bytes = [0; 64];
+        let Some((line, length)) = self.trace.raw(desk, &mut bytes)? else {
+            tell_counts(desk, &self.a.ends, &self.b.ends)?;
+            return Ok(false);
+        };
+        match party_line(&bytes[..length as usize]) {
+            Ok(Some((party, event))) => {
+                let said = Said { line, party, event };
+                event_turn(desk, said, &mut self.a, &mut self.b, &mut self.frame)
+            }
+            Ok(None) => Ok(true),
+            Err(_) => Err(Status::TraceRefused {
+                fault: TraceFault::BadLine { line },
+            }),
+        }
+    }
+}

@@ -1,0 +1,6 @@
+pub mod Headers
+pub mod Ways
+pub mod Pair
+pub mod Shown
+pub mod Bringing
+pub mod Laws

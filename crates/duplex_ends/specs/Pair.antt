@@ -1,0 +1,81 @@
+-- What the ends of both parties have done of a call of two.
+use Rattle.std.specs.Prelude.{◌≡◌, ℕ, ◌≤◌, List, [], drop, length}
+use Rattle.h263_types.specs.declared.params.Params.{Params}
+use Rattle.h263_types.specs.Clocks as clocks
+use Rattle.h263_types.specs.Params.{IsParams}
+use Rattle.call_encoding.specs.Frames.{Frame}
+use Rattle.call_model.specs.IdealCall.{Event}
+use Rattle.call_rings.specs.Keeping.{period_of}
+use Rattle.receiver_end.specs.State as receiver_end
+use Rattle.sender_end.specs.Stands as sender_end
+use Rattle.duplex_call.specs.declared.line.Party.{Party}
+use Rattle.duplex_call.specs.Duplex.{MayHappenOf, WayRun, WayRuns, other, way}
+use Rattle.duplex_call.specs.Waiting.{Waits}
+use Rattle.one_way.specs.Both.{steady}
+use Rattle.one_way.specs.Counts.{total_of}
+use Rattle.one_way.specs.Way.{CanSend, HoldsWay, IsNewWay}
+use Rattle.duplex_ends.specs.declared.party.PartyEnds.{PartyEnds}
+use Rattle.duplex_ends.specs.Headers.{HasHeaders, HoldsHeaders, kept_by}
+use Rattle.duplex_ends.specs.Ways.{sides, told_by}
+
+-- The ends of one party's pictures, which have these parameters, have done what its way says. The
+-- headers carry what was said of the other way, whose pictures have those parameters, and what was
+-- said of it since the last capture waits.
+pub record HoldsParty (p q : Params) (own : PartyEnds) (w far : WayRun Frame) : Type 0 where
+  pub params : own.params ≡ p
+  pub done : HoldsWay p own.way own.sender own.receiver [] w.frames w.past
+  pub can : CanSend own.way own.sender
+  pub period : period_of own.way.packets ≡ clocks.period_of p.clock
+  pub sent : own.sender.sent ≡ length w.frames
+  pub few : own.sender.sent ≤ 1048576
+  pub counted : total_of own.way.tally ≡ own.receiver.played
+  pub kept : kept_by own.carried ≡ clocks.period_of p.clock
+  pub carries : HasHeaders own.carried (told_by q far) w.carried
+  pub headers : length w.carried ≡ length w.frames
+  pub loaded : w.loaded ≤ length (told_by q far)
+  pub waits : Waits own.waiting (drop w.loaded (told_by q far))
+
+-- The ends of both parties have done what both ways say: the first ones are those of this party's
+-- pictures.
+pub record HoldsPair (p : Party → Params) (x : Party) (own far : PartyEnds) (ways : WayRuns Frame) : Type 0 where
+  pub in_range : (y : Party) → IsParams (p y)
+  pub clock : (p x).clock ≡ (p (other x)).clock
+  pub own_holds : HoldsParty (p x) (p (other x)) own (way x ways) (way (other x) ways)
+  pub far_holds : HoldsParty (p (other x)) (p x) far (way (other x) ways) (way x ways)
+
+-- the ends of both parties are at some point of a call
+pub record AreInCall (own far : PartyEnds) : Type 0 where
+  pub params : Party → Params
+  pub party : Party
+  pub ways : WayRuns Frame
+  pub holds : HoldsPair params party own far ways
+
+-- those of one party are
+pub record IsInCall (own : PartyEnds) : Type 0 where
+  pub far : PartyEnds
+  pub both : AreInCall own far
+
+-- and an event of the first party's pictures may happen there
+pub record MayHappenNow (own far : PartyEnds) (e : Event) : Type 0 where
+  pub params : Party → Params
+  pub party : Party
+  pub ways : WayRuns Frame
+  pub left : ℕ
+  pub holds : HoldsPair params party own far ways
+  pub may : MayHappenOf (sides params) left party e ways
+
+-- ---- before the first event
+
+pub record IsNewParty (p : Params) (own : PartyEnds) : Type 0 where
+  pub params : own.params ≡ p
+  pub sender_params : own.sender.params ≡ p
+  pub receiver_params : own.receiver.params ≡ p
+  pub quant : own.sender.pace.quant ≡ p.quant
+  pub sent : own.sender.sent ≡ 0
+  pub played : own.receiver.played ≡ 0
+  pub sends : sender_end.Stands (steady p) own.sender []
+  pub receives : receiver_end.Stands own.receiver []
+  pub way_is : IsNewWay p (clocks.period_of p.clock) own.way
+  pub kept : kept_by own.carried ≡ clocks.period_of p.clock
+  pub holds : HoldsHeaders own.carried []
+  pub waits : Waits own.waiting []

@@ -1,0 +1,78 @@
+//! Which events of one party's pictures are refused, before anything is done.
+ghost use Rattle.std.specs.Prelude.{◌≡◌, ◌+◌, ◌<◌, ◌≤◌, ℕ, length, nat_le};
+ghost use Rattle.h263_types.specs.declared.params.Params.{Params};
+ghost use Rattle.call_model.specs.IdealCall.{Deliver, Play, Send};
+ghost use Rattle.call_encoding.specs.Frames.{Frame};
+ghost use Rattle.one_way.specs.Refused.{IsAllowed};
+ghost use Rattle.duplex_call.specs.declared.line.Party.{Party};
+ghost use Rattle.duplex_call.specs.Duplex.{WayRuns};
+ghost use Rattle.duplex_call.specs.Refused.{refusal_of};
+ghost use Rattle.duplex_ends.specs.Bringing.{carried_in, first_far};
+ghost use Rattle.duplex_ends.specs.Pair.{AreInCall, HoldsPair, IsInCall};
+ghost use Rattle.duplex_ends.specs.Ways.{call_in, sides};
+
+use crate::{PartyEnds, laws};
+use duplex_call::Carried;
+use one_way::{Refusal, check_capture, check_packet, laws as one_way_laws};
+
+/// Whether the party's next picture may be captured: it may not where half a period is on the way.
+/// A frame for it is looked for afterwards.
+pub fn check_send(own: &PartyEnds) -> Result<(), Refusal>
+    requires { IsInCall own.now }
+    ensures { (p : Party → Params) (x : Party) (far : PartyEnds) (ways : WayRuns Frame)
+        → HoldsPair p x own.now far ways → IsAllowed result Send
+        (refusal_of (sides p) (length (call_in p x ways).coded + 1) x Send ways) }
+{
+    laws::of_pairs();
+    check_capture(own.params.clock.half(), &own.sender, &own.receiver)
+}
+
+// A message about this picture comes too late.
+fn is_late(half: u32, about: u32, sent: u32) -> bool
+    ensures { result ≡ nat_le (about + half) sent }
+{
+    half <= sent && about <= sent - half
+}
+
+// The first of the messages of a header that is far, by the count of pictures that were sent.
+fn check_header(half: u32, sent: u32, header: &[Option<Carried>]) -> Result<(), Refusal>
+    ensures { result ≡ first_far half sent (carried_in header.now) }
+{
+    'header: for place in header {
+        if let Some(carried) = place {
+            if is_late(half, carried.about, sent) {
+                return Err(Refusal::Far {
+                    given: carried.about,
+                    other: sent,
+                });
+            }
+        }
+    }
+    Ok(())
+}
+
+/// Whether packets of a picture may be delivered: it was sent, and lies less than half a period
+/// behind the play; then, in their order, each message of its header is about a picture of the
+/// other party that lies less than half a period behind its capture.
+pub fn check_delivery(own: &PartyEnds, far: &PartyEnds, number: u32) -> Result<(), Refusal>
+    requires { AreInCall own.now far.now }
+    ensures { (p : Party → Params) (x : Party) (ways : WayRuns Frame) (left place : ℕ)
+        → HoldsPair p x own.now far.now ways → IsAllowed result (Deliver number place)
+        (refusal_of (sides p) left x (Deliver number place) ways) }
+{
+    laws::of_pairs();
+    let half = own.params.clock.half();
+    check_packet(half, number, &own.sender, &own.receiver)?;
+    check_header(half, far.sender.sent(), &own.carried.get(number))
+}
+
+/// Whether the party's next picture may be played: it was sent.
+pub fn check_play(own: &PartyEnds) -> Result<(), Refusal>
+    requires { IsInCall own.now }
+    ensures { (p : Party → Params) (x : Party) (far : PartyEnds) (ways : WayRuns Frame) (left : ℕ)
+        → HoldsPair p x own.now far ways
+        → IsAllowed result Play (refusal_of (sides p) left x Play ways) }
+{
+    laws::of_pairs();
+    one_way::check_play(&own.sender, &own.receiver)
+}

@@ -1,0 +1,113 @@
+//! Events that concern both parties: a packet reaches the other party, and brings it the messages
+//! of its picture's header; a picture is played.
+ghost use Rattle.std.specs.Prelude.{◌≡◌, ◌+◌, ℕ, []};
+ghost use Rattle.h263_types.specs.declared.params.Params.{Params};
+ghost use Rattle.call_model.specs.IdealCall.{Deliver, Play};
+ghost use Rattle.call_encoding.specs.Frames.{Frame};
+ghost use Rattle.receiver_end.specs.Answers.{mark_of};
+ghost use Rattle.duplex_call.specs.declared.line.Party.{Party};
+ghost use Rattle.duplex_call.specs.Duplex.{MayHappenOf, WayRuns, brings, brought, other, way};
+ghost use Rattle.duplex_call.specs.Duplex.{with_delivery, with_play};
+ghost use Rattle.one_way.specs.Way.{CanSend, HoldsWay};
+ghost use Rattle.duplex_ends.specs.Pair.{HoldsPair, MayHappenNow};
+ghost use Rattle.duplex_ends.specs.Shown.{shown_next};
+ghost use Rattle.duplex_ends.specs.Ways.{sides, with_whole};
+
+use crate::bringing::bring_header;
+use crate::saying::put_by;
+use crate::{PartyEnds, laws};
+use h263_types::Mark;
+use one_way::laws as one_way_laws;
+
+// Brings the other party the messages of a picture's header, where there is a packet at this place.
+fn bring_carried(own: &PartyEnds, far: &mut PartyEnds, number: u32, place: u32)
+    requires { MayHappenNow own.now far.old (Deliver number place) }
+    ensures others { far.new ≡ record far.old { sender = far.new.sender } }
+    ensures params { far.new.sender.params ≡ far.old.sender.params }
+    ensures sent { far.new.sender.sent ≡ far.old.sender.sent }
+    ensures ready { CanSend far.old.way far.old.sender → CanSend far.old.way far.new.sender }
+    ensures holds { (p : Party → Params) (x : Party) (ways : WayRuns Frame) (left : ℕ)
+        → HoldsPair p x own.now far.old ways
+        → MayHappenOf (sides p) left x (Deliver number place) ways
+        → HoldsWay (p (other x)) far.old.way far.new.sender far.old.receiver []
+        (way (other x) ways).frames (brought (brings (sides p) x (way x ways) number place)
+        (way (other x) ways).past) }
+{
+    one_way_laws::of_the_ends();
+    one_way_laws::of_near_events();
+    one_way_laws::of_messages();
+    laws::of_said();
+    if place >= own.way.count(number) {
+        return;
+    }
+    let header = own.carried.get(number);
+    bring_header(&mut far.sender, own.params.clock, &header);
+}
+
+/// Delivers the packet at a place of a picture, if there is one, and the messages of the picture's
+/// header with it.
+pub fn deliver(own: &mut PartyEnds, far: &mut PartyEnds, number: u32, place: u32)
+    requires { MayHappenNow own.old far.old (Deliver number place) }
+    ensures own_params { own.new.params ≡ own.old.params }
+    ensures far_params { far.new.params ≡ far.old.params }
+    ensures own_sent { own.new.sender ≡ own.old.sender }
+    ensures far_sent { far.new.sender.sent ≡ far.old.sender.sent }
+    ensures own_played { own.new.receiver.played ≡ own.old.receiver.played }
+    ensures far_played { far.new.receiver ≡ far.old.receiver }
+    ensures holds { (p : Party → Params) (x : Party) (ways : WayRuns Frame) (left : ℕ)
+        → HoldsPair p x own.old far.old ways
+        → MayHappenOf (sides p) left x (Deliver number place) ways
+        → HoldsPair p x own.new far.new (with_delivery (sides p) x number place ways) }
+{
+    one_way_laws::of_the_ends();
+    one_way_laws::of_near_events();
+    laws::of_said();
+    bring_carried(own, far, number, place);
+    let said = own.way.deliver(&mut own.receiver, number, place);
+    put_by(&mut far.waiting, own.params.clock, number, said);
+}
+
+/// Delivers all packets of a picture in their order.
+pub fn deliver_all(own: &mut PartyEnds, far: &mut PartyEnds, number: u32)
+    requires { MayHappenNow own.old far.old (Deliver number 0) }
+    ensures own_params { own.new.params ≡ own.old.params }
+    ensures far_params { far.new.params ≡ far.old.params }
+    ensures own_sent { own.new.sender ≡ own.old.sender }
+    ensures far_sent { far.new.sender.sent ≡ far.old.sender.sent }
+    ensures own_played { own.new.receiver.played ≡ own.old.receiver.played }
+    ensures far_played { far.new.receiver ≡ far.old.receiver }
+    ensures holds { (p : Party → Params) (x : Party) (ways : WayRuns Frame) (left : ℕ)
+        → HoldsPair p x own.old far.old ways
+        → MayHappenOf (sides p) left x (Deliver number 0) ways
+        → HoldsPair p x own.new far.new (with_whole p x number ways) }
+{
+    one_way_laws::of_messages();
+    let count = own.way.count(number);
+    'packets: for place in 0..count {
+        deliver(own, far, number, place);
+    }
+}
+
+/// Plays the next picture, and answers its mark. What is said of it waits with the other party.
+pub fn play(own: &mut PartyEnds, far: &mut PartyEnds) -> Mark
+    requires { MayHappenNow own.old far.old Play }
+    ensures own_params { own.new.params ≡ own.old.params }
+    ensures far_params { far.new.params ≡ far.old.params }
+    ensures own_sent { own.new.sender ≡ own.old.sender }
+    ensures far_sent { far.new.sender ≡ far.old.sender }
+    ensures own_played { own.new.receiver.played ≡ own.old.receiver.played + 1 }
+    ensures far_played { far.new.receiver ≡ far.old.receiver }
+    ensures mark { (p : Party → Params) (x : Party) (ways : WayRuns Frame)
+        → HoldsPair p x own.old far.old ways → result ≡ mark_of (shown_next p x ways).mark }
+    ensures holds { (p : Party → Params) (x : Party) (ways : WayRuns Frame) (left : ℕ)
+        → HoldsPair p x own.old far.old ways → MayHappenOf (sides p) left x Play ways
+        → HoldsPair p x own.new far.new (with_play x ways) }
+{
+    one_way_laws::of_the_ends();
+    one_way_laws::of_near_events();
+    laws::of_said();
+    let number = own.receiver.played();
+    let played = own.way.play(&mut own.receiver);
+    put_by(&mut far.waiting, own.params.clock, number, played.message);
+    played.mark
+}

@@ -1,0 +1,58 @@
+//! Messages on their way into a picture header, and out of it.
+ghost use Rattle.std.specs.Prelude.{◌≡◌, ◌++◌, ◌≤◌, List, map, take};
+ghost use Rattle.back_messages.specs.MessageBytes.{text_of};
+ghost use Rattle.back_messages.specs.Text.{IsMessage};
+ghost use Rattle.call_encoding.specs.Messages.{written};
+ghost use Rattle.coded_call.specs.Bytes.{AreBytes};
+ghost use Rattle.duplex_call.specs.declared.carrier.Carried.{Carried};
+ghost use Rattle.duplex_call.specs.Waiting.{Waits};
+ghost use Rattle.duplex_ends.specs.Bringing.{carried_in, message_in, said_as};
+
+use back_messages::{Message, MessageBytes, read, write};
+use coded_call::laws::said_bytes;
+use duplex_call::{Carried, Carrier};
+use h263_types::Clock;
+
+/// What was said of picture `about`, if anything was, waits for the next header.
+pub fn put_by(waiting: &mut Carrier, clock: Clock, about: u32, said: Option<MessageBytes>)
+    ensures { (before : List Carried) → Waits waiting.old before
+        → Waits waiting.new (before ++ said_as clock about said) }
+{
+    let Some(said) = said else {
+        return;
+    };
+    if let Ok(message) = read(said.text(), clock) {
+        waiting.say(Carried { about, message });
+    }
+}
+
+// What a slice holds are bytes: a law that speaks of numbers asks for it.
+fn are_bytes(bytes: &[u8])
+    ensures { AreBytes bytes.now }
+{}
+
+/// The bytes of a message of a picture header: those that are written of it.
+pub fn bytes_of(message: &Message, clock: Clock) -> MessageBytes
+    requires { IsMessage clock message.now }
+    ensures { text_of result ≡ written message.now }
+{
+    said_bytes();
+    let said = write(message);
+    are_bytes(said.text());
+    said
+}
+
+/// Puts the messages of a picture header into these places, and answers how many there are.
+pub fn put_messages(header: &[Option<Carried>; 4], messages: &mut [Message; 4]) -> usize
+    ensures few { result ≤ 4 }
+    ensures messages { take result messages.new ≡ map message_in (carried_in header.now) }
+{
+    let mut count = 0;
+    'header: for place in header {
+        if let Some(carried) = place {
+            messages[count] = carried.message;
+            count += 1;
+        }
+    }
+    count
+}
