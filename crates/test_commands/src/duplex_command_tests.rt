@@ -282,7 +282,13 @@ fn refused_videos(rt: HostRuntime) -> Result<(), Fail> {
 // ---- the trace cut anywhere
 
 // A line of the trace; what it shows of a and of b, and its line of the report; the counts after it.
-type Turn = (&'static [u8], Parts<'static>, Parts<'static>, &'static [u8], &'static [u8]);
+type Turn = (
+    &'static [u8],
+    Parts<'static>,
+    Parts<'static>,
+    &'static [u8],
+    &'static [u8],
+);
 
 const TURNS: [Turn; 6] = [
     (
@@ -330,6 +336,7 @@ const TURNS: [Turn; 6] = [
 ];
 
 // What stands before a line, and is shown and told before it.
+#[derive(Drop)]
 struct Before {
     trace: Vec<u8>,
     pictures: Vec<u8>,
@@ -386,8 +393,12 @@ b played 0 sent 0 exact 0 patched 0 held 0\n",
         }
         number += 1;
         before.trace.extend_from_slice(line)?;
-        before.pictures.extend_from_slice(&joined(alloc, pictures)?)?;
-        before.pictures2.extend_from_slice(&joined(alloc, pictures2)?)?;
+        before
+            .pictures
+            .extend_from_slice(&joined(alloc, pictures)?)?;
+        before
+            .pictures2
+            .extend_from_slice(&joined(alloc, pictures2)?)?;
         before.report.extend_from_slice(report)?;
         before.counts = *counts;
     }
@@ -401,9 +412,21 @@ b played 0 sent 0 exact 0 patched 0 held 0\n",
 // fails, and what it writes on the three outputs.
 type Stretch<'a> = (u64, u64, Status, Parts<'a>, Parts<'a>, Parts<'a>);
 
-const fn no(role: Role) -> Status {
-    Status::OpenFault { role }
-}
+const NO_REPORT: Status = Status::OpenFault { role: Role::Report };
+
+const NO_VIDEO: Status = Status::OpenFault { role: Role::Video };
+
+const NO_VIDEO_2: Status = Status::OpenFault { role: Role::Video2 };
+
+const NO_EVENTS: Status = Status::OpenFault { role: Role::Events };
+
+const NO_PICTURES: Status = Status::OpenFault {
+    role: Role::Pictures,
+};
+
+const NO_PICTURES_2: Status = Status::OpenFault {
+    role: Role::Pictures2,
+};
 
 const READ: &[u8] = b"read fault\n";
 
@@ -425,30 +448,128 @@ const GREY_PIECE: &[u8] = &[128; 4096];
 // planes in five pieces and its line of the report are written. The end of the trace is met, and the
 // counts of both parties are written.
 const STRETCHES: &[Stretch] = &[
-    (0, 1, no(Role::Report), NOTHING, NOTHING, NOTHING),
-    (1, 2, no(Role::Video), NOTHING, NOTHING, &[b"cannot open video\n"]),
-    (2, 3, no(Role::Video2), NOTHING, NOTHING, &[b"cannot open video 2\n"]),
-    (3, 4, no(Role::Events), NOTHING, NOTHING, &[b"cannot open events\n"]),
-    (4, 5, no(Role::Pictures), NOTHING, NOTHING, &[b"cannot open pictures\n"]),
-    (5, 6, no(Role::Pictures2), NOTHING, NOTHING, &[b"cannot open pictures 2\n"]),
+    (0, 1, NO_REPORT, NOTHING, NOTHING, NOTHING),
+    (1, 2, NO_VIDEO, NOTHING, NOTHING, &[b"cannot open video\n"]),
+    (
+        2,
+        3,
+        NO_VIDEO_2,
+        NOTHING,
+        NOTHING,
+        &[b"cannot open video 2\n"],
+    ),
+    (
+        3,
+        4,
+        NO_EVENTS,
+        NOTHING,
+        NOTHING,
+        &[b"cannot open events\n"],
+    ),
+    (
+        4,
+        5,
+        NO_PICTURES,
+        NOTHING,
+        NOTHING,
+        &[b"cannot open pictures\n"],
+    ),
+    (
+        5,
+        6,
+        NO_PICTURES_2,
+        NOTHING,
+        NOTHING,
+        &[b"cannot open pictures 2\n"],
+    ),
     (6, 44, Status::ReadFault, NOTHING, NOTHING, &[READ]),
     (44, 45, Status::WriteFault, NOTHING, NOTHING, NOTHING),
     (45, 46, Status::WriteFault, HEAD_ALONE, NOTHING, NOTHING),
     (46, 73, Status::ReadFault, HEAD_ALONE, HEAD_ALONE, &[READ]),
     (73, 74, Status::WriteFault, HEAD_ALONE, HEAD_ALONE, NOTHING),
-    (74, 75, Status::WriteFault, &[SHOWN_HEAD, EXACT], HEAD_ALONE, NOTHING),
-    (75, 76, Status::WriteFault, &[SHOWN_HEAD, EXACT, PIECE], HEAD_ALONE, NOTHING),
-    (76, 77, Status::WriteFault, &[SHOWN_HEAD, EXACT, PIECE, PIECE], HEAD_ALONE, NOTHING),
+    (
+        74,
+        75,
+        Status::WriteFault,
+        &[SHOWN_HEAD, EXACT],
+        HEAD_ALONE,
+        NOTHING,
+    ),
+    (
+        75,
+        76,
+        Status::WriteFault,
+        &[SHOWN_HEAD, EXACT, PIECE],
+        HEAD_ALONE,
+        NOTHING,
+    ),
+    (
+        76,
+        77,
+        Status::WriteFault,
+        &[SHOWN_HEAD, EXACT, PIECE, PIECE],
+        HEAD_ALONE,
+        NOTHING,
+    ),
     (79, 80, Status::WriteFault, SHOWN, HEAD_ALONE, NOTHING),
-    (80, 99, Status::ReadFault, SHOWN, HEAD_ALONE, &[A_LINE, READ]),
+    (
+        80,
+        99,
+        Status::ReadFault,
+        SHOWN,
+        HEAD_ALONE,
+        &[A_LINE, READ],
+    ),
     (99, 100, Status::WriteFault, SHOWN, HEAD_ALONE, &[A_LINE]),
-    (100, 101, Status::WriteFault, SHOWN, &[SHOWN_HEAD, HELD], &[A_LINE]),
-    (101, 102, Status::WriteFault, SHOWN, &[SHOWN_HEAD, HELD, GREY_PIECE], &[A_LINE]),
+    (
+        100,
+        101,
+        Status::WriteFault,
+        SHOWN,
+        &[SHOWN_HEAD, HELD],
+        &[A_LINE],
+    ),
+    (
+        101,
+        102,
+        Status::WriteFault,
+        SHOWN,
+        &[SHOWN_HEAD, HELD, GREY_PIECE],
+        &[A_LINE],
+    ),
     (105, 106, Status::WriteFault, SHOWN, HELD_SHOWN, &[A_LINE]),
-    (106, 107, Status::ReadFault, SHOWN, HELD_SHOWN, &[A_LINE, B_LINE, READ]),
-    (107, 108, Status::WriteFault, SHOWN, HELD_SHOWN, &[A_LINE, B_LINE]),
-    (108, 109, Status::WriteFault, SHOWN, HELD_SHOWN, &[A_LINE, B_LINE, A_COUNTS]),
-    (109, 110, Status::Ok, SHOWN, HELD_SHOWN, &[A_LINE, B_LINE, A_COUNTS, B_COUNTS]),
+    (
+        106,
+        107,
+        Status::ReadFault,
+        SHOWN,
+        HELD_SHOWN,
+        &[A_LINE, B_LINE, READ],
+    ),
+    (
+        107,
+        108,
+        Status::WriteFault,
+        SHOWN,
+        HELD_SHOWN,
+        &[A_LINE, B_LINE],
+    ),
+    (
+        108,
+        109,
+        Status::WriteFault,
+        SHOWN,
+        HELD_SHOWN,
+        &[A_LINE, B_LINE, A_COUNTS],
+    ),
+    (
+        109,
+        110,
+        Status::Ok,
+        SHOWN,
+        HELD_SHOWN,
+        &[A_LINE, B_LINE, A_COUNTS, B_COUNTS],
+    ),
 ];
 
 // For the calls up to the first that isn't made.
