@@ -1,9 +1,10 @@
-"""The chart of a report: a row of pictures, and an arc from each to the picture that it is predicted from."""
+"""The chart of a report: a row of pictures, and an arc from each to the picture that it is predicted from. A call of
+two parties has a row of each."""
 
 from . import svg
-from .report import MARKS, Picture, Report
+from .report import MARKS, Picture, Rows
 
-MARGIN, BASE = 20, 20
+MARGIN, BASE, GAP = 20, 20, 12
 _SHAPES = {  # how a mark looks where colours can't be told apart: how much of the square is filled
     "exact": 1.0,
     "patched": 0.5,
@@ -12,25 +13,35 @@ _SHAPES = {  # how a mark looks where colours can't be told apart: how much of t
 }
 
 
-def chart_of(report: Report) -> str:
+def chart_of(rows: Rows) -> str:
     """The whole drawing."""
-    count = len(report.pictures)
+    count = max(map(len, rows.by_letter.values()))
     cell = 24 if count <= 60 else 12 if count <= 240 else 5
-    longest = max((p.number - p.reference for p in report.pictures if p.reference is not None), default=0)
-    top = MARGIN + min(longest * cell / 2, 160) + 8
-    parts = [_square(picture, cell, top) for picture in report.pictures]
-    parts += [_arc(picture, cell, top) for picture in report.pictures if picture.reference is not None]
-    every = 1 if cell == 24 else 10 if cell == 12 else 50
-    parts += [
-        svg.text(_middle(number, cell), top + cell + 14, str(number), size=10) for number in range(0, count, every)
-    ]
-    below = top + cell + 36
-    marks = [(svg.COLOURS[mark], mark) for mark in MARKS if any(p.mark == mark for p in report.pictures)]
+    parts: list[str] = []
+    below = MARGIN
+    for letter, pictures in rows.by_letter.items():
+        longest = max((p.number - p.reference for p in pictures if p.reference is not None), default=0)
+        top = below + min(longest * cell / 2, 160) + 8
+        parts += _row(letter, pictures, cell, top)
+        below = top + cell + 14 + GAP
+    below += 22 - GAP
+    shown = {picture.mark for pictures in rows.by_letter.values() for picture in pictures}
+    marks = [(svg.COLOURS[mark], mark) for mark in MARKS if mark in shown]
     parts.append(svg.legend(MARGIN, below, marks or [(svg.COLOURS[None], "sent")]))
-    words = [line for line in report.rest if line]
+    words = [line for line in rows.rest if line]
     parts += [svg.text(MARGIN, below + 18 * row, line, "start") for row, line in enumerate(words, 1)]
     width = max(2 * MARGIN + count * cell, 400)
     return svg.drawing(width, below + 18 * len(words) + BASE, parts, "The pictures of a call and their references")
+
+
+def _row(letter: str, pictures: list[Picture], cell: int, top: float) -> list[str]:
+    # The pictures of one party, with their arcs above and their numbers below.
+    parts = [svg.text(MARGIN / 2, top + cell / 2 + 4, letter, size=12)] if letter else []
+    parts += [_square(picture, cell, top) for picture in pictures]
+    parts += [_arc(picture, cell, top) for picture in pictures if picture.reference is not None]
+    every = 1 if cell == 24 else 10 if cell == 12 else 50
+    numbers = range(0, len(pictures), every)
+    return parts + [svg.text(_middle(number, cell), top + cell + 14, str(number), size=10) for number in numbers]
 
 
 def _middle(number: int, cell: int) -> float:

@@ -1,4 +1,5 @@
-"""The report of `call`, `send` and `recv`: a line a picture, and one of counts at the end."""
+"""The report of `call`, `send`, `recv` and `duplex`: a line a picture, and counts at the end. A line
+of `duplex` begins with the letter of the party whose picture it is."""
 
 import re
 from dataclasses import dataclass
@@ -7,7 +8,7 @@ from typing import Iterable, Optional
 from .errors import BadInput
 
 MARKS = ("exact", "patched", "held")
-_PICTURE = re.compile(r"(\d{1,7})(?: (exact|patched|held))?(?: (intra)| from (\d{1,7}))?")
+_PICTURE = re.compile(r"(?:([ab]) )?(\d{1,7})(?: (exact|patched|held))?(?: (intra)| from (\d{1,7}))?")
 
 
 @dataclass(frozen=True)
@@ -29,30 +30,54 @@ class Report:
     rest: list[str]
 
 
-def read_report(lines: Iterable[str], path: str) -> Report:
-    """Reads a report. The pictures count up from 0, and each reference is an earlier one."""
-    pictures: list[Picture] = []
+@dataclass(frozen=True)
+class Rows:
+    """A report of any command: the pictures of each party by its letter, a before b. The pictures of a
+    command with one party have the empty letter."""
+
+    by_letter: dict[str, list[Picture]]
+    rest: list[str]
+
+
+def read_rows(lines: Iterable[str], path: str) -> Rows:
+    """Reads a report. A party's pictures count up from 0, and each reference is an earlier one."""
+    found: dict[str, list[Picture]] = {}
     rest: list[str] = []
     for number, line in enumerate(lines, 1):
         text = line.rstrip("\n")
-        found = _PICTURE.fullmatch(text)
-        if not found or rest:
+        fields = _PICTURE.fullmatch(text)
+        if not fields or rest:
             rest.append(text)
             continue
-        picture = Picture(
-            number=int(found[1]),
-            mark=found[2],
-            is_intra=found[3] is not None,
-            reference=None if found[4] is None else int(found[4]),
-        )
-        if picture.number != len(pictures):
-            raise BadInput(path, f"line {number}", f"picture {len(pictures)} is wanted here")
-        if picture.reference is not None and picture.reference >= picture.number:
-            raise BadInput(path, f"line {number}", "the reference isn't an earlier picture")
-        pictures.append(picture)
-    if not pictures:
+        row = found.setdefault(fields[1] or "", [])
+        row.append(_picture(fields, len(row), path, number))
+    if not found:
         raise BadInput(path, "line 1", "the report has no picture")
-    return Report(pictures, rest)
+    if len(found) > 1 and "" in found:
+        raise BadInput(path, "line 1", "some of its lines have a party's letter, and some have none")
+    return Rows(dict(sorted(found.items())), rest)
+
+
+def _picture(fields: re.Match[str], wanted: int, path: str, number: int) -> Picture:
+    picture = Picture(
+        number=int(fields[2]),
+        mark=fields[3],
+        is_intra=fields[4] is not None,
+        reference=None if fields[5] is None else int(fields[5]),
+    )
+    if picture.number != wanted:
+        raise BadInput(path, f"line {number}", f"picture {wanted} is wanted here")
+    if picture.reference is not None and picture.reference >= picture.number:
+        raise BadInput(path, f"line {number}", "the reference isn't an earlier picture")
+    return picture
+
+
+def read_report(lines: Iterable[str], path: str) -> Report:
+    """Reads a report of one party."""
+    rows = read_rows(lines, path)
+    if "" not in rows.by_letter:
+        raise BadInput(path, "line 1", "this is the report of two parties")
+    return Report(rows.by_letter[""], rows.rest)
 
 
 def text_of(report: Report) -> str:

@@ -1,13 +1,16 @@
-"""Traces of a call, the lines of `call --trace`: `S`, `D n.i`, `D n.*`, `B k`, `P`."""
+"""Traces of a call, the lines of `call --trace`: `S`, `D n.i`, `D n.*`, `B k`, `P`; and those of `duplex`, which have
+no `B`, and a party's letter first: `a S`."""
 
 import random
 import re
 from dataclasses import dataclass
-from typing import Iterator
+from typing import Iterator, Sequence
 
 from .loss import GilbertElliott
 
 LINE = re.compile(r"|S|P|B \d{1,7}|D \d{1,7}\.(?:\d{1,7}|\*)")
+PARTY_LINE = re.compile(r"|[ab] (?:S|P|D \d{1,7}\.(?:\d{1,7}|\*))")
+PARTIES = ("a", "b")
 
 
 @dataclass(frozen=True)
@@ -56,6 +59,39 @@ def trace(pictures: int, network: Network, loss: Loss, seed: int) -> Iterator[st
         said = tick - wait - network.back
         if said >= 0 and not back.is_lost():
             yield f"B {said}"
+
+
+def duplex_trace(pictures: int, network: Network, losses: Sequence[Loss], seed: int) -> Iterator[str]:
+    """The lines of a duplex call of this many pictures each way, with the losses of a's pictures and of b's.
+
+    Both parties capture at the same time, then what arrives is delivered, then both play. The letter of a line is
+    that of the party whose picture it is about. What is drawn for a party's pictures is drawn apart from the other's.
+    """
+    ways = [_Way(letter, network, loss, seed) for letter, loss in zip(PARTIES, losses)]
+    wait = network.delay + network.hold
+    for tick in range(pictures + wait):
+        if tick < pictures:
+            for way in ways:
+                way.capture(tick)
+                yield f"{way.letter} S"
+        for way in ways:
+            yield from (f"{way.letter} {line}" for line in way.arrivals.pop(tick, []))
+        if tick >= wait:
+            yield from (f"{way.letter} P" for way in ways)
+
+
+class _Way:
+    # One way of a duplex call: what arrives of a party's pictures, by its time.
+
+    def __init__(self, letter: str, network: Network, loss: Loss, seed: int) -> None:
+        self.letter, self._network = letter, network
+        self.arrivals: dict[int, list[str]] = {}
+        self._forth = GilbertElliott(loss.packets, loss.burst, random.Random(f"packets {letter} {seed}"))
+        self._late = random.Random(f"delays {letter} {seed}")
+
+    def capture(self, picture: int) -> None:
+        for delay, line in _deliveries(picture, self._network, self._forth, self._late):
+            self.arrivals.setdefault(picture + delay, []).append(line)
 
 
 def _deliveries(picture: int, network: Network, forth: GilbertElliott, late: random.Random) -> list[tuple[int, str]]:

@@ -20,10 +20,10 @@ use Rattle.call_command.specs.declared.terms.Terms.{Terms}
 use Rattle.one_way.specs.Both.{steady}
 use Rattle.one_way.specs.Laws.{WayLaws}
 use Rattle.call_command.specs.Call.{CallState, call_step, first_state, may_read, most_turns, talk_step}
-use Rattle.call_command.specs.Converse.{IsFirst, WorldStands, WorldStays, talk_end, talk_of}
+use Rattle.call_command.specs.Converse.{IsFirst, WorldAnswers, WorldStands, WorldStays, talk_end, talk_of}
 use Rattle.call_command.specs.Laws.{TalkIsTheCall}
 use Rattle.call_command.specs.Standing.{EndsStand, IsFresh, more_of, parts_of}
-use Rattle.call_command.specs.Turning.{LeavesEnds, names_of}
+use Rattle.call_command.specs.Turning.{IsAnswer, LeavesEnds, names_of}
 use Rattle.call_command.proofs.Counting.{ends_stand}
 use Rattle.call_command.proofs.Starting.{stands_first}
 
@@ -125,7 +125,11 @@ left_standing status s w = after_all status (LeftIn WorldStands LeavesEnds s w) 
 pub stays_itself : {old new : World} → ((first : World) → WorldStays first old → WorldStays first new) → names_of new ≡ names_of old
 stays_itself {old} {new} stays = (stays old (record { names = refl })).names
 
--- and so does what was lent
+-- how it is answered, likewise
+pub answers_itself : {w : World} (status : Status) → ((first : World) → WorldStays first w → WorldAnswers first status) → IsAnswer w.terms.plain status
+answers_itself {w} status answers = answers w (record { names = refl })
+
+-- what was lent stands, too
 pub lent_stand : (status : Status) (s : CallState) (t u : Terms) (sender their_sender : State) (receiver their_receiver : Kept)
     → u ≡ t → their_sender ≡ sender → their_receiver ≡ receiver
     → AfterAll status (EndsStand u their_sender their_receiver s) → AfterAll status (EndsStand t sender receiver s)

@@ -13,7 +13,7 @@ use Rattle.call_model.specs.Receiving.{ReceiverEntry, ReceiverRun}
 use Rattle.call_model.specs.Sending.{Capture, SenderEntry}
 use Rattle.call_decoding.specs.Rules.{rules_of}
 use Rattle.call_decoding.specs.Styles as styles
-use Rattle.call_encoding.specs.Frames as frames
+use Rattle.call_encoding.specs.Frames as videos
 use Rattle.coded_call.specs.Coding as coded
 use Rattle.receiver_end.specs.State as receiver_end
 use Rattle.receiver_end.specs.declared.kept.Kept.{Kept}
@@ -51,8 +51,8 @@ module _ {Frame Style Mb Picture Fault MessageFault : Type 0} (coding : Coding F
       ∙ ap (λ (l : List ReceiverEntry). to_receiver coding rules w e ++ l) (heard_same past near.1)
 
 -- a way holds for more frames
-module _ (p : Params) (law : LaterFramesBoth (coded.coding p) (rules_of p)) (way : Way) (sender : State) (receiver : Kept) (frames : List frames.Frame) (past : List Event) where
-  pub holds_later : (later : List frames.Frame) → HoldsWay p way sender receiver [] frames past → HoldsWay p way sender receiver [] (frames ++ later) past
+module _ (p : Params) (law : LaterFramesBoth (coded.coding p) (rules_of p)) (way : Way) (sender : State) (receiver : Kept) (frames : List videos.Frame) (past : List Event) where
+  pub holds_later : (later : List videos.Frame) → HoldsWay p way sender receiver [] frames past → HoldsWay p way sender receiver [] (frames ++ later) past
   holds_later later h =
       let begun = receiver_end.run_of p [] in
       let both = law begun (steady p) frames later past h.near in
@@ -60,7 +60,7 @@ module _ (p : Params) (law : LaterFramesBoth (coded.coding p) (rules_of p)) (way
         joined = record {
           sender_params = h.joined.sender_params;
           receiver_params = h.joined.receiver_params;
-          sends = subst (λ (l : List (SenderEntry frames.Frame)). sender_end.Stands (steady p) sender l)
+          sends = subst (λ (l : List (SenderEntry videos.Frame)). sender_end.Stands (steady p) sender l)
               (sym (sent_same (coded.coding p) (rules_of p) law begun (steady p) frames later past h.near)) h.joined.sends;
           receives = subst (λ (l : List ReceiverEntry). receiver_end.Stands receiver (l ++ []))
               (sym (heard_same (coded.coding p) (rules_of p) law begun (steady p) frames later past h.near)) h.joined.receives;

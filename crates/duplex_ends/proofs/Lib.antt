@@ -5,3 +5,7 @@ mod Later
 mod Runs
 mod Pairs
 mod Returning
+mod Deliveries
+mod Captures
+mod Screen
+mod Refusals

@@ -1,5 +1,5 @@
 -- Messages in places, and by their numbers.
-use Rattle.std.proofs.Common.{◌≡◌, ⊤, ◌⊎◌, inl, inr, ℕ, zero, suc, ◌+◌, ◌-◌, ◌<◌, ◌≤◌, List, [], ◌∷◌, ◌++◌, length, Option, Some, None, refl, sym, ap, subst, ◌∙◌, arith}
+use Rattle.std.proofs.Common.{◌≡◌, ◌⊎◌, inl, inr, ℕ, zero, suc, ◌+◌, ◌-◌, ◌<◌, ◌≤◌, List, [], ◌∷◌, ◌++◌, length, Option, Some, None, refl, sym, ap, subst, ◌∙◌, arith}
 use Rattle.std.specs.Prelude.{drop, get_or, map, max, slice_get, slice_index_or}
 use Rattle.std.specs.Option.{option_map, option_map_or}
 use Rattle.std.specs.List.{range_with_len}
@@ -101,20 +101,25 @@ numbered_still said more (k ∷ ks) (m ∷ messages) are = (get_left said more k
 numbered_still said more [] (m ∷ messages) are = absurd are
 numbered_still said more (k ∷ ks) [] are = absurd are
 
+-- what stands first after some
+first_is : (said : List Carried) (first : ℕ) → first < length said → (m : Carried) × (slice_get said first ≡ Some m) × (drop first said ≡ m ∷ drop (first + 1) said)
+first_is [] first few = absurd (omega (arith, few))
+first_is (m ∷ said) zero few = (m, refl, refl)
+first_is (m ∷ said) (suc first) few =
+    let r = first_is said first (omega (arith, few)) in
+    (r.0, r.1, r.2 ∙ ap (λ (k : ℕ). r.0 ∷ drop k (m ∷ said)) (suc_more first))
+  where
+    suc_more : (k : ℕ) → suc (k + 1) ≡ suc k + 1
+    suc_more k = omega arith
+
 -- so many numbers up to the last
 to_end : (said : List Carried) (first count : ℕ) → first + count ≡ length said → AreNumbered said (range_with_len first count) (drop first said)
 to_end said first zero is = subst (λ (l : List Carried). AreNumbered said [] l) (sym (drop_all first said (omega (arith, is)))) tt
-to_end said first (suc count) is = by_first said (drop first said) (first_is said first (omega (arith, is)))
+to_end said first (suc count) is = by_first (first_is said first (omega (arith, is))) (to_end said (first + 1) count (omega (arith, is)))
   where
-    first_is : (said : List Carried) (first : ℕ) → first < length said → (m : Carried) × (slice_get said first ≡ Some m) × (drop first said ≡ m ∷ drop (first + 1) said)
-    first_is [] first few = absurd (omega (arith, few))
-    first_is (m ∷ said) zero few = (m, refl, refl)
-    first_is (m ∷ said) (suc first) few = first_is said first (omega (arith, few))
-
-    by_first : (all l : List Carried) → (m : Carried) × (slice_get said first ≡ Some m) × (l ≡ m ∷ drop (first + 1) said) → AreNumbered said (first ∷ range_with_len (first + 1) count) l
-    by_first all l (m, at, is_l) =
-        subst (λ (l : List Carried). AreNumbered said (first ∷ range_with_len (first + 1) count) l) (sym is_l)
-        (at, to_end said (first + 1) count (omega (arith, is)))
+    by_first : (m : Carried) × (slice_get said first ≡ Some m) × (drop first said ≡ m ∷ drop (first + 1) said) → AreNumbered said (range_with_len (first + 1) count) (drop (first + 1) said)
+        → AreNumbered said (first ∷ range_with_len (first + 1) count) (drop first said)
+    by_first x rest = subst (λ (l : List Carried). AreNumbered said (first ∷ range_with_len (first + 1) count) l) (sym x.2) (x.1, rest)
 
 -- the last four of what was said since the load have their numbers
 pub last_numbered : (said : List Carried) (loaded : ℕ) → loaded ≤ length said → AreNumbered said (numbers_carried loaded (length said)) (last_four (drop loaded said))

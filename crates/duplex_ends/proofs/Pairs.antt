@@ -1,5 +1,5 @@
 -- The ends of both parties before the first event, and their counts.
-use Rattle.std.proofs.Common.{◌≡◌, ⊤, ℕ, ◌*◌, ◌+◌, ◌<◌, ◌≤◌, List, [], ◌∷◌, length, refl, sym, ap, subst, ◌∙◌, arith}
+use Rattle.std.proofs.Common.{◌≡◌, ℕ, ◌*◌, ◌+◌, ◌<◌, ◌≤◌, List, [], ◌∷◌, length, refl, sym, ap, subst, ◌∙◌, arith}
 use Rattle.h263_types.specs.Sizes.{mbs_of}
 use Rattle.h263_types.specs.declared.params.Params.{Params}
 use Rattle.h263_types.specs.Params.{IsParams}
@@ -48,6 +48,7 @@ first_party p q own in_range new =
       period = new.way_is.period;
       sent = new.sent;
       few = omega (arith, new.sent);
+      behind = omega (arith, new.played, new.sent);
       counted = new.way_is.total ∙ sym new.played;
       kept = new.kept;
       carries = record { headers = []; holds = new.holds; count = refl; each = λ n. tt; few = λ n. omega arith };

@@ -18,16 +18,7 @@ use Rattle.one_way.specs.declared.way.Way.{Way}
 use Rattle.one_way.specs.Both.{State, both_after, steady}
 use Rattle.one_way.specs.Laws.{EventLaws}
 use Rattle.one_way.specs.Way.{HoldsWay, MayHappenNow}
-use Rattle.duplex_ends.specs.Bringing.{MayReturnAll}
-
--- Some messages have come back, and these are left.
-pub record IsReturning (p : Params) (way : Way) (sender : State) (receiver : Kept) (frames : List Frame)
-    (whole : List Event) (messages : List Carried) : Type 0 where
-  pub past : List Event
-  pub left : List ℕ
-  pub holds : HoldsWay p way sender receiver [] frames past
-  pub may : MayReturnAll p (both_after p (steady p) frames [] past) left messages
-  pub same : brought left past ≡ whole
+use Rattle.duplex_ends.specs.Bringing.{IsReturning, MayReturnAll}
 
 -- what one message that comes back owes
 abbrev pub BringsBack : Params → Way → State → State → List ℕ → Type 0

@@ -1,5 +1,5 @@
 -- What an event leaves of what was said, and of the ends of a party.
-use Rattle.std.proofs.Common.{◌≡◌, ⊤, ℕ, zero, suc, ◌+◌, ◌<◌, ◌≤◌, Bool, true, false, List, [], ◌∷◌, ◌++◌, length, Option, Some, None, Ok, refl, sym, ap, subst, ◌∙◌, arith}
+use Rattle.std.proofs.Common.{◌≡◌, ℕ, zero, suc, ◌+◌, ◌<◌, ◌≤◌, Bool, true, false, List, [], ◌∷◌, ◌++◌, length, Option, Some, None, Ok, refl, sym, ap, subst, ◌∙◌, arith}
 use Rattle.std.specs.Prelude.{drop, map, slice_get, slice_index_or}
 use Rattle.std.proofs.lemmas.List.{append-nil}
 use Rattle.h263_bits.specs.Bits.{bits_of}
@@ -26,6 +26,7 @@ use Rattle.coded_call.specs.Coding.{coding}
 use Rattle.reference_selector.specs.Messages.{message_of}
 use Rattle.call_rings.specs.Keeping.{period_of}
 use Rattle.duplex_call.specs.declared.carrier.Carried.{Carried}
+use Rattle.duplex_call.specs.declared.carrier.Carrier.{Carrier}
 use Rattle.duplex_call.specs.Duplex.{WayRun, brought}
 use Rattle.duplex_call.specs.Waiting.{Waits}
 use Rattle.one_way.specs.Both.{both_after, steady}
@@ -113,6 +114,10 @@ module _ (p : Params) (laws : SaidLaws p) where
 
 -- ---- the ends of a party
 
+longer : {X : Type 0} (xs ys : List X) → length (xs ++ ys) ≡ length xs + length ys
+longer [] ys = omega arith
+longer (x ∷ xs) ys = omega (arith, longer xs ys)
+
 -- The ends have done more, and more was said of the other way.
 module _ (p q : Params) (own : PartyEnds) (w far : WayRun Frame) (h : HoldsParty p q own w far) where
   pub headers_still : (now : WayRun Frame) (more : List Carried) → told_by q now ≡ told_by q far ++ more → HasHeaders own.carried (told_by q now) w.carried
@@ -127,11 +132,11 @@ module _ (p q : Params) (own : PartyEnds) (w far : WayRun Frame) (h : HoldsParty
 
   pub party_more : (new : PartyEnds) (past : List Event) (now : WayRun Frame) (more : List Carried)
       → new.params ≡ own.params → new.carried ≡ own.carried → period_of new.way.packets ≡ period_of own.way.packets
-      → new.sender.sent ≡ own.sender.sent → total_of new.way.tally ≡ new.receiver.played
+      → new.sender.sent ≡ own.sender.sent → new.receiver.played ≤ own.sender.sent → total_of new.way.tally ≡ new.receiver.played
       → HoldsWay p new.way new.sender new.receiver [] w.frames past → CanSend new.way new.sender
       → told_by q now ≡ told_by q far ++ more → Waits new.waiting (drop w.loaded (told_by q far) ++ more)
       → HoldsParty p q new (record w { past = past }) now
-  party_more new past now more params carried period sent counted done can grows waits =
+  party_more new past now more params carried period sent behind counted done can grows waits =
       let long : length (told_by q now) ≡ length (told_by q far) + length more = ap (λ (l : List Carried). length l) grows ∙ longer (told_by q far) more in
       record {
         params = params ∙ h.params;
@@ -140,6 +145,7 @@ module _ (p q : Params) (own : PartyEnds) (w far : WayRun Frame) (h : HoldsParty
         period = period ∙ h.period;
         sent = sent ∙ h.sent;
         few = omega (arith, sent, h.few);
+        behind = omega (arith, behind, sent);
         counted = counted;
         kept = ap kept_by carried ∙ h.kept;
         carries = subst (λ (ring : CarriedRing). HasHeaders ring (told_by q now) w.carried) (sym carried) (headers_still now more grows);
@@ -148,7 +154,41 @@ module _ (p q : Params) (own : PartyEnds) (w far : WayRun Frame) (h : HoldsParty
         waits = subst (λ (l : List Carried). Waits new.waiting l)
             (sym (drop_left w.loaded (told_by q far) more h.loaded) ∙ ap (λ (l : List Carried). drop w.loaded l) (sym grows)) waits;
       }
-    where
-      longer : {X : Type 0} (xs ys : List X) → length (xs ++ ys) ≡ length xs + length ys
-      longer [] ys = omega arith
-      longer (x ∷ xs) ys = omega (arith, longer xs ys)
+
+  -- nothing more was said of the other way
+  pub party_same : (now : WayRun Frame) → told_by q now ≡ told_by q far → HoldsParty p q own w now
+  party_same now same = record {
+    params = h.params;
+    done = h.done;
+    can = h.can;
+    period = h.period;
+    sent = h.sent;
+    few = h.few;
+    behind = h.behind;
+    counted = h.counted;
+    kept = h.kept;
+    carries = subst (λ (l : List Carried). HasHeaders own.carried l w.carried) (sym same) h.carries;
+    headers = h.headers;
+    loaded = omega (arith, h.loaded, ap (λ (l : List Carried). length l) same);
+    waits = subst (λ (l : List Carried). Waits own.waiting (drop w.loaded l)) (sym same) h.waits;
+  }
+
+  -- more was said of it, and waits
+  pub party_waits : (waiting : Carrier) (now : WayRun Frame) (more : List Carried) → told_by q now ≡ told_by q far ++ more
+      → Waits waiting (drop w.loaded (told_by q far) ++ more) → HoldsParty p q (record own { waiting = waiting }) w now
+  party_waits waiting now more grows waits = record {
+    params = h.params;
+    done = h.done;
+    can = h.can;
+    period = h.period;
+    sent = h.sent;
+    few = h.few;
+    behind = h.behind;
+    counted = h.counted;
+    kept = h.kept;
+    carries = headers_still now more grows;
+    headers = h.headers;
+    loaded = omega (arith, h.loaded, ap (λ (l : List Carried). length l) grows, longer (told_by q far) more);
+    waits = subst (λ (l : List Carried). Waits waiting l)
+        (sym (drop_left w.loaded (told_by q far) more h.loaded) ∙ ap (λ (l : List Carried). drop w.loaded l) (sym grows)) waits;
+  }

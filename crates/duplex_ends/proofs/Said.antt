@@ -1,6 +1,6 @@
 -- What a receiver says fits a picture header.
-use Rattle.std.proofs.Common.{◌≡◌, ⊤, ℕ, zero, suc, ◌*◌, ◌+◌, ◌<◌, Bool, true, false, List, [], ◌∷◌, ◌++◌, length, Some, None, Result, Ok, Err, refl, sym, ap, subst, ◌∙◌, arith}
-use Rattle.std.specs.Prelude.{map, slice_get, ◌&&◌, if◌then◌else◌}
+use Rattle.std.proofs.Common.{◌≡◌, ℕ, zero, suc, ◌*◌, ◌+◌, ◌<◌, Bool, true, false, List, [], ◌∷◌, ◌++◌, length, Some, None, Result, Ok, Err, refl, sym, ap, subst, ◌∙◌, arith}
+use Rattle.std.specs.Prelude.{⊤, map, slice_get, ◌&&◌, if◌then◌else◌}
 use Rattle.std.proofs.Math.Nat.{mod-lt}
 use Rattle.h263_bits.specs.Bits.{bits_of}
 use Rattle.h263_types.specs.declared.clock.Clock.{Clock}
@@ -22,6 +22,7 @@ use Rattle.call_encoding.specs.Messages.{as_read, marked, write_message}
 use Rattle.call_encoding.specs.Frames.{Frame}
 use Rattle.coded_call.specs.Coding.{coding}
 use Rattle.reference_selector.specs.Messages.{message_of}
+use Rattle.one_way.specs.Both.{steady}
 use Rattle.duplex_call.specs.declared.carrier.Carried.{Carried}
 use Rattle.duplex_call.specs.Duplex.{WayRun}
 use Rattle.duplex_ends.specs.Bringing.{AreOfClock}
@@ -108,7 +109,7 @@ module _ (p : Params) (lawful : IsCoding (coding p) (rules_of p))
 
   -- all that was said of a way's pictures fits a header
   pub told_fit : (w : WayRun Frame) → AreOfClock p.clock (told_by p w)
-  told_fit w = fit _ (flagged (coding p) rules _ w.frames w.past)
+  told_fit w = fit _ (flagged (coding p) rules (steady p) w.frames w.past)
 
   -- the last of them is read from its bytes
   last_flagged : (count : ℕ) (notes : List NumberedMessage) (note : NumberedMessage) → AreFlagged count (notes ++ note ∷ []) → length (note_flags note) ≡ count
@@ -116,16 +117,16 @@ module _ (p : Params) (lawful : IsCoding (coding p) (rules_of p))
   last_flagged count (x ∷ notes) note are = last_flagged count notes note are.1
 
   pub reads_last : (w : WayRun Frame) (notes : List NumberedMessage) (note : NumberedMessage)
-      → (ideal (coding p) rules (λ _. p.quant) w.frames w.past).said ≡ notes ++ note ∷ []
+      → (ideal (coding p) rules (steady p) w.frames w.past).said ≡ notes ++ note ∷ []
       → message_in p.clock (write_message (travelling rules note)) ≡ Ok (marked (travelling rules note))
   reads_last w notes note is =
-      reads_note note (last_flagged rules.flags notes note (subst (λ (l : List NumberedMessage). AreFlagged rules.flags l) is (flagged (coding p) rules _ w.frames w.past)))
+      reads_note note (last_flagged rules.flags notes note (subst (λ (l : List NumberedMessage). AreFlagged rules.flags l) is (flagged (coding p) rules (steady p) w.frames w.past)))
 
 -- ---- of one header
 
 get_fits : (clock : Clock) (said : List Carried) (k : ℕ) (m : Carried) → AreOfClock clock said → slice_get said k ≡ Some m → IsMessage clock m.message
 get_fits clock [] k m are at = absurd (cc at)
-get_fits clock (x ∷ said) zero m are at = subst (λ (y : Carried). IsMessage clock y.message) (cc at) are.0
+get_fits clock (x ∷ said) zero m are at = let same : x ≡ m = cc at in subst (λ (y : Carried). IsMessage clock y.message) same are.0
 get_fits clock (x ∷ said) (suc k) m are at = get_fits clock said k m are.1 at
 
 pub numbered_fit : (clock : Clock) (said : List Carried) (ks : List ℕ) (messages : List Carried) → AreOfClock clock said → AreNumbered said ks messages → AreOfClock clock messages

@@ -10,10 +10,17 @@ use Rattle.back_messages.specs.declared.message.Message.{Message}
 use Rattle.back_messages.specs.declared.message.MessageFault.{MessageFault}
 use Rattle.back_messages.specs.declared.writing.MessageBytes.{MessageBytes}
 use Rattle.call_model.specs.JoinedRun.{Joined, SaidMessage}
+use Rattle.call_model.specs.IdealCall.{Event}
 use Rattle.call_decoding.specs.Rules.{rules_of}
 use Rattle.call_decoding.specs.Styles.{Style}
+use Rattle.call_encoding.specs.Frames.{Frame}
 use Rattle.call_encoding.specs.Messages.{written}
+use Rattle.receiver_end.specs.declared.kept.Kept.{Kept}
 use Rattle.duplex_call.specs.declared.carrier.Carried.{Carried}
+use Rattle.duplex_call.specs.Duplex.{brought}
+use Rattle.one_way.specs.declared.way.Way.{Way}
+use Rattle.one_way.specs.Both.{State, both_after, steady}
+use Rattle.one_way.specs.Way.{HoldsWay}
 use Rattle.one_way.specs.declared.refusals.Refusal.{Refusal}
 use Rattle.one_way.specs.declared.refusals.Refusal.TheVariants.{Far}
 
@@ -53,6 +60,15 @@ MayReturnAll p both [] [] = ⊤
 MayReturnAll p both (k ∷ ks) (m ∷ messages) = MayReturn p both k m × MayReturnAll p both ks messages
 MayReturnAll p both [] (m ∷ messages) = ⊥
 MayReturnAll p both (k ∷ ks) [] = ⊥
+
+-- Some messages have come back, and these are left.
+pub record IsReturning (p : Params) (way : Way) (sender : State) (receiver : Kept) (frames : List Frame)
+    (whole : List Event) (messages : List Carried) : Type 0 where
+  pub past : List Event
+  pub left : List ℕ
+  pub holds : HoldsWay p way sender receiver [] frames past
+  pub may : MayReturnAll p (both_after p (steady p) frames [] past) left messages
+  pub same : brought left past ≡ whole
 
 -- the first of these messages that is about a picture half a period or more behind this count, told
 -- by that picture

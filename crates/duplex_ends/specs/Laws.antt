@@ -14,7 +14,7 @@ use Rattle.duplex_ends.specs.declared.party.PartyEnds.{PartyEnds}
 use Rattle.duplex_ends.specs.Bringing.{AreOfClock}
 use Rattle.duplex_ends.specs.Pair.{HoldsPair, IsNewParty}
 use Rattle.duplex_ends.specs.Shown.{shown_next}
-use Rattle.duplex_ends.specs.Ways.{call_by, call_in, told_by}
+use Rattle.duplex_ends.specs.Ways.{call_by, call_in, sides, told_by}
 
 pub record PairLaws (p : Party → Params) : Type 0 where
   -- new ends have done nothing
@@ -40,6 +40,6 @@ pub record SaidLaws (p : Params) : Type 0 where
 
 -- what a play leaves of the ideal call of its party's pictures
 pub record AfterPlay (p : Party → Params) (x : Party) (ways : WayRuns Frame) : Type 0 where
-  pub coded : (call_in p x (with_play x ways)).coded ≡ (call_in p x ways).coded
-  pub played : (call_in p x (with_play x ways)).played ≡ (call_in p x ways).played + 1
-  pub plays : (call_in p x (with_play x ways)).plays ≡ shown_next p x ways ∷ (call_in p x ways).plays
+  pub coded : (call_in p x (with_play (sides p) x ways)).coded ≡ (call_in p x ways).coded
+  pub played : (call_in p x (with_play (sides p) x ways)).played ≡ (call_in p x ways).played + 1
+  pub plays : (call_in p x (with_play (sides p) x ways)).plays ≡ shown_next p x ways ∷ (call_in p x ways).plays

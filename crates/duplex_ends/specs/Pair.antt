@@ -28,6 +28,7 @@ pub record HoldsParty (p q : Params) (own : PartyEnds) (w far : WayRun Frame) : 
   pub period : period_of own.way.packets ≡ clocks.period_of p.clock
   pub sent : own.sender.sent ≡ length w.frames
   pub few : own.sender.sent ≤ 1048576
+  pub behind : own.receiver.played ≤ own.sender.sent
   pub counted : total_of own.way.tally ≡ own.receiver.played
   pub kept : kept_by own.carried ≡ clocks.period_of p.clock
   pub carries : HasHeaders own.carried (told_by q far) w.carried
@@ -63,6 +64,11 @@ pub record MayHappenNow (own far : PartyEnds) (e : Event) : Type 0 where
   pub left : ℕ
   pub holds : HoldsPair params party own far ways
   pub may : MayHappenOf (sides params) left party e ways
+
+-- so it may, for some ends of the other party
+pub record MayHappenToOne (own : PartyEnds) (e : Event) : Type 0 where
+  pub far : PartyEnds
+  pub now : MayHappenNow own far e
 
 -- ---- before the first event
 

@@ -1,5 +1,5 @@
 //! Which events of one party's pictures are refused, before anything is done.
-ghost use Rattle.std.specs.Prelude.{◌≡◌, ◌+◌, ◌<◌, ◌≤◌, ℕ, length, nat_le};
+ghost use Rattle.std.specs.Prelude.{◌≡◌, ◌+◌, ◌<◌, ◌∷◌, [], ℕ, OnOk, length, nat_le};
 ghost use Rattle.h263_types.specs.declared.params.Params.{Params};
 ghost use Rattle.call_model.specs.IdealCall.{Deliver, Play, Send};
 ghost use Rattle.call_encoding.specs.Frames.{Frame};
@@ -8,7 +8,7 @@ ghost use Rattle.duplex_call.specs.declared.line.Party.{Party};
 ghost use Rattle.duplex_call.specs.Duplex.{WayRuns};
 ghost use Rattle.duplex_call.specs.Refused.{refusal_of};
 ghost use Rattle.duplex_ends.specs.Bringing.{carried_in, first_far};
-ghost use Rattle.duplex_ends.specs.Pair.{AreInCall, HoldsPair, IsInCall};
+ghost use Rattle.duplex_ends.specs.Pair.{AreInCall, HoldsPair, IsInCall, MayHappenNow};
 ghost use Rattle.duplex_ends.specs.Ways.{call_in, sides};
 
 use crate::{PartyEnds, laws};
@@ -19,11 +19,14 @@ use one_way::{Refusal, check_capture, check_packet, laws as one_way_laws};
 /// A frame for it is looked for afterwards.
 pub fn check_send(own: &PartyEnds) -> Result<(), Refusal>
     requires { IsInCall own.now }
-    ensures { (p : Party → Params) (x : Party) (far : PartyEnds) (ways : WayRuns Frame)
+    ensures may { (far : PartyEnds) → AreInCall own.now far
+        → OnOk result (MayHappenNow own.now far Send) }
+    ensures refusal { (p : Party → Params) (x : Party) (far : PartyEnds) (ways : WayRuns Frame)
         → HoldsPair p x own.now far ways → IsAllowed result Send
         (refusal_of (sides p) (length (call_in p x ways).coded + 1) x Send ways) }
 {
-    laws::of_pairs();
+    one_way_laws::ends_agree();
+    laws::of_refusals();
     check_capture(own.params.clock.half(), &own.sender, &own.receiver)
 }
 
@@ -34,19 +37,25 @@ fn is_late(half: u32, about: u32, sent: u32) -> bool
     half <= sent && about <= sent - half
 }
 
+// Whether the message at one place of a header is near, if there is one.
+fn check_place(half: u32, sent: u32, place: &Option<Carried>) -> Result<(), Refusal>
+    ensures { result ≡ first_far half sent (carried_in (place.now ∷ [])) }
+{
+    match place {
+        Some(carried) if is_late(half, carried.about, sent) => Err(Refusal::Far {
+            given: carried.about,
+            other: sent,
+        }),
+        _ => Ok(()),
+    }
+}
+
 // The first of the messages of a header that is far, by the count of pictures that were sent.
-fn check_header(half: u32, sent: u32, header: &[Option<Carried>]) -> Result<(), Refusal>
+fn check_header(half: u32, sent: u32, header: &[Option<Carried>; 4]) -> Result<(), Refusal>
     ensures { result ≡ first_far half sent (carried_in header.now) }
 {
     'header: for place in header {
-        if let Some(carried) = place {
-            if is_late(half, carried.about, sent) {
-                return Err(Refusal::Far {
-                    given: carried.about,
-                    other: sent,
-                });
-            }
-        }
+        check_place(half, sent, place)?;
     }
     Ok(())
 }
@@ -56,23 +65,35 @@ fn check_header(half: u32, sent: u32, header: &[Option<Carried>]) -> Result<(), 
 /// other party that lies less than half a period behind its capture.
 pub fn check_delivery(own: &PartyEnds, far: &PartyEnds, number: u32) -> Result<(), Refusal>
     requires { AreInCall own.now far.now }
-    ensures { (p : Party → Params) (x : Party) (ways : WayRuns Frame) (left place : ℕ)
+    ensures may { (place : ℕ) → OnOk result
+        (MayHappenNow own.now far.now (Deliver number place)) }
+    ensures refusal { (p : Party → Params) (x : Party) (ways : WayRuns Frame) (left place : ℕ)
         → HoldsPair p x own.now far.now ways → IsAllowed result (Deliver number place)
         (refusal_of (sides p) left x (Deliver number place) ways) }
 {
+    one_way_laws::ends_agree();
+    one_way_laws::of_near_events();
+    one_way_laws::of_the_way();
     laws::of_pairs();
+    laws::of_refusals();
     let half = own.params.clock.half();
-    check_packet(half, number, &own.sender, &own.receiver)?;
-    check_header(half, far.sender.sent(), &own.carried.get(number))
+    match check_packet(half, number, &own.sender, &own.receiver) {
+        Ok(()) => check_header(half, far.sender.sent(), &own.carried.get(number)),
+        Err(refusal) => Err(refusal),
+    }
 }
 
 /// Whether the party's next picture may be played: it was sent.
 pub fn check_play(own: &PartyEnds) -> Result<(), Refusal>
     requires { IsInCall own.now }
-    ensures { (p : Party → Params) (x : Party) (far : PartyEnds) (ways : WayRuns Frame) (left : ℕ)
+    ensures ahead { OnOk result (own.now.receiver.played < own.now.sender.sent) }
+    ensures may { (far : PartyEnds) → AreInCall own.now far
+        → OnOk result (MayHappenNow own.now far Play) }
+    ensures refusal { (p : Party → Params) (x : Party) (far : PartyEnds) (ways : WayRuns Frame) (left : ℕ)
         → HoldsPair p x own.now far ways
         → IsAllowed result Play (refusal_of (sides p) left x Play ways) }
 {
-    laws::of_pairs();
+    one_way_laws::ends_agree();
+    laws::of_refusals();
     one_way::check_play(&own.sender, &own.receiver)
 }

@@ -9,45 +9,50 @@ ghost use Rattle.duplex_call.specs.declared.line.Party.{Party};
 ghost use Rattle.duplex_call.specs.Duplex.{MayHappenOf, WayRuns, brings, brought, other, way};
 ghost use Rattle.duplex_call.specs.Duplex.{with_delivery, with_play};
 ghost use Rattle.one_way.specs.Way.{CanSend, HoldsWay};
-ghost use Rattle.duplex_ends.specs.Pair.{HoldsPair, MayHappenNow};
+ghost use Rattle.duplex_ends.specs.Pair.{AreInCall, HoldsPair, MayHappenNow, MayHappenToOne};
 ghost use Rattle.duplex_ends.specs.Shown.{shown_next};
 ghost use Rattle.duplex_ends.specs.Ways.{sides, with_whole};
+ghost use Rattle.one_way.specs.declared.way.Way.{Way};
+ghost use Rattle.duplex_ends.specs.declared.party.PartyEnds.{PartyEnds};
 
 use crate::bringing::bring_header;
 use crate::saying::put_by;
 use crate::{PartyEnds, laws};
-use h263_types::Mark;
+use h263_types::{FixedPace, Mark};
 use one_way::laws as one_way_laws;
+use sender_end::Sender;
 
-// Brings the other party the messages of a picture's header, where there is a packet at this place.
-fn bring_carried(own: &PartyEnds, far: &mut PartyEnds, number: u32, place: u32)
-    requires { MayHappenNow own.now far.old (Deliver number place) }
-    ensures others { far.new ≡ record far.old { sender = far.new.sender } }
-    ensures params { far.new.sender.params ≡ far.old.sender.params }
-    ensures sent { far.new.sender.sent ≡ far.old.sender.sent }
-    ensures ready { CanSend far.old.way far.old.sender → CanSend far.old.way far.new.sender }
+// Brings the other party's sender the messages of a picture's header, where there is a packet at
+// this place.
+fn bring_carried(own: &PartyEnds, sender: &mut Sender<FixedPace>, number: u32, place: u32)
+    requires { MayHappenToOne own.now (Deliver number place) }
+    ensures params { sender.new.params ≡ sender.old.params }
+    ensures sent { sender.new.sent ≡ sender.old.sent }
+    ensures ready { (way : Way) → CanSend way sender.old → CanSend way sender.new }
     ensures holds { (p : Party → Params) (x : Party) (ways : WayRuns Frame) (left : ℕ)
-        → HoldsPair p x own.now far.old ways
+        (far : PartyEnds) → HoldsPair p x own.now far ways → far.sender ≡ sender.old
         → MayHappenOf (sides p) left x (Deliver number place) ways
-        → HoldsWay (p (other x)) far.old.way far.new.sender far.old.receiver []
+        → HoldsWay (p (other x)) far.way sender.new far.receiver []
         (way (other x) ways).frames (brought (brings (sides p) x (way x ways) number place)
         (way (other x) ways).past) }
 {
     one_way_laws::of_the_ends();
     one_way_laws::of_near_events();
+    one_way_laws::of_the_way();
     one_way_laws::of_messages();
     laws::of_said();
     if place >= own.way.count(number) {
         return;
     }
     let header = own.carried.get(number);
-    bring_header(&mut far.sender, own.params.clock, &header);
+    bring_header(sender, own.params.clock, &header);
 }
 
 /// Delivers the packet at a place of a picture, if there is one, and the messages of the picture's
 /// header with it.
 pub fn deliver(own: &mut PartyEnds, far: &mut PartyEnds, number: u32, place: u32)
     requires { MayHappenNow own.old far.old (Deliver number place) }
+    ensures ready { AreInCall own.new far.new }
     ensures own_params { own.new.params ≡ own.old.params }
     ensures far_params { far.new.params ≡ far.old.params }
     ensures own_sent { own.new.sender ≡ own.old.sender }
@@ -61,8 +66,9 @@ pub fn deliver(own: &mut PartyEnds, far: &mut PartyEnds, number: u32, place: u32
 {
     one_way_laws::of_the_ends();
     one_way_laws::of_near_events();
+    one_way_laws::of_the_way();
     laws::of_said();
-    bring_carried(own, far, number, place);
+    bring_carried(own, &mut far.sender, number, place);
     let said = own.way.deliver(&mut own.receiver, number, place);
     put_by(&mut far.waiting, own.params.clock, number, said);
 }
@@ -70,6 +76,7 @@ pub fn deliver(own: &mut PartyEnds, far: &mut PartyEnds, number: u32, place: u32
 /// Delivers all packets of a picture in their order.
 pub fn deliver_all(own: &mut PartyEnds, far: &mut PartyEnds, number: u32)
     requires { MayHappenNow own.old far.old (Deliver number 0) }
+    ensures ready { AreInCall own.new far.new }
     ensures own_params { own.new.params ≡ own.old.params }
     ensures far_params { far.new.params ≡ far.old.params }
     ensures own_sent { own.new.sender ≡ own.old.sender }
@@ -81,6 +88,8 @@ pub fn deliver_all(own: &mut PartyEnds, far: &mut PartyEnds, number: u32)
         → MayHappenOf (sides p) left x (Deliver number 0) ways
         → HoldsPair p x own.new far.new (with_whole p x number ways) }
 {
+    one_way_laws::of_the_ends();
+    one_way_laws::of_near_events();
     one_way_laws::of_messages();
     let count = own.way.count(number);
     'packets: for place in 0..count {
@@ -91,20 +100,23 @@ pub fn deliver_all(own: &mut PartyEnds, far: &mut PartyEnds, number: u32)
 /// Plays the next picture, and answers its mark. What is said of it waits with the other party.
 pub fn play(own: &mut PartyEnds, far: &mut PartyEnds) -> Mark
     requires { MayHappenNow own.old far.old Play }
+    ensures ready { AreInCall own.new far.new }
     ensures own_params { own.new.params ≡ own.old.params }
     ensures far_params { far.new.params ≡ far.old.params }
     ensures own_sent { own.new.sender ≡ own.old.sender }
     ensures far_sent { far.new.sender ≡ far.old.sender }
     ensures own_played { own.new.receiver.played ≡ own.old.receiver.played + 1 }
     ensures far_played { far.new.receiver ≡ far.old.receiver }
-    ensures mark { (p : Party → Params) (x : Party) (ways : WayRuns Frame)
-        → HoldsPair p x own.old far.old ways → result ≡ mark_of (shown_next p x ways).mark }
+    ensures mark { (p : Party → Params) (x : Party) (ways : WayRuns Frame) (left : ℕ)
+        → HoldsPair p x own.old far.old ways → MayHappenOf (sides p) left x Play ways
+        → result ≡ mark_of (shown_next p x ways).mark }
     ensures holds { (p : Party → Params) (x : Party) (ways : WayRuns Frame) (left : ℕ)
         → HoldsPair p x own.old far.old ways → MayHappenOf (sides p) left x Play ways
-        → HoldsPair p x own.new far.new (with_play x ways) }
+        → HoldsPair p x own.new far.new (with_play (sides p) x ways) }
 {
     one_way_laws::of_the_ends();
     one_way_laws::of_near_events();
+    laws::of_pairs();
     laws::of_said();
     let number = own.receiver.played();
     let played = own.way.play(&mut own.receiver);

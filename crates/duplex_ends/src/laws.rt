@@ -8,6 +8,8 @@ ghost use Rattle.call_encoding.specs.Frames.{Frame};
 ghost use Rattle.coded_call.specs.Coding.{coding};
 ghost use Rattle.duplex_call.specs.declared.line.Party.{Party};
 ghost use Rattle.duplex_call.specs.Duplex.{WayRuns};
+ghost use Rattle.duplex_call.specs.Refused.{NoneWhereItMayHappenOf};
+ghost use Rattle.duplex_ends.specs.Ways.{sides};
 ghost use Rattle.duplex_ends.specs.Laws.{AfterPlay, PairLaws, SaidLaws};
 
 use back_messages::MessageFault;
@@ -15,6 +17,7 @@ use back_messages::laws::exact_text;
 use call_decoding::{Pictured, Styled};
 use call_encoding::Framed;
 use coded_call::laws::{is_coding, said_bytes};
+use duplex_call::laws::two_way_refusals;
 use h263_bits::Fault;
 use h263_types::Mb;
 use one_way::laws as one_way_laws;
@@ -33,6 +36,13 @@ pub(crate) fn later_calls()
     ensures { (p : Params) → LaterFrames (coding p) (rules_of p) }
 {
     call_model::laws::later_frames::<Framed, Styled, Mb, Pictured, Fault, MessageFault>();
+}
+
+/// An event has no refusal exactly where it may happen.
+pub(crate) fn of_refusals()
+    ensures { (p : Party → Params) → NoneWhereItMayHappenOf (sides p) }
+{
+    two_way_refusals::<Pictured, Framed, Styled, Mb, Pictured, Fault, MessageFault>();
 }
 
 /// What a receiver says is read from its bytes, as a picture header carries it.

@@ -45,7 +45,7 @@ pub struct PartyEnds {
 
 impl PartyEnds {
     ghost use Rattle.duplex_ends.specs.declared.party.PartyEnds.{PartyEnds};
-    ghost use Rattle.duplex_ends.specs.Pair.{HoldsPair, IsInCall, IsNewParty};
+    ghost use Rattle.duplex_ends.specs.Pair.{AreInCall, HoldsPair, IsInCall, IsNewParty, MayHappenNow};
     ghost use Rattle.duplex_ends.specs.Shown.{on_screen};
     ghost use Rattle.duplex_ends.specs.Ways.{call_in, sides};
 
@@ -83,6 +83,8 @@ impl PartyEnds {
         requires held { IsInCall self.old }
         requires frame { (lent frame).format ≡ self.old.params.format }
         requires left { self.old.sender.sent < 1048576 }
+        ensures ready { (far : PartyEnds) → MayHappenNow self.old far Send
+            → AreInCall self.new far }
         ensures params { self.new.params ≡ self.old.params }
         ensures sent { self.new.sender.sent ≡ self.old.sender.sent + 1 }
         ensures receiver { self.new.receiver ≡ self.old.receiver }
@@ -91,8 +93,12 @@ impl PartyEnds {
             → MayHappenOf (sides p) left x Send ways
             → HoldsPair p x self.new far (with_shot (sides p) x (lent frame.entry) ways) }
     {
-        laws::of_pairs();
+        one_way_laws::of_the_ends();
+        one_way_laws::of_near_events();
         one_way_laws::of_the_way();
+        one_way_laws::later_frames();
+        laws::later_calls();
+        laws::of_said();
         let header = self.waiting.load();
         let mut messages = [NO_MESSAGE; 4];
         let count = put_messages(&header, &mut messages);
@@ -108,6 +114,7 @@ impl PartyEnds {
             → result ≡ reference_in (call_in p x ways).coded (call_in p x ways).played }
     {
         laws::of_pairs();
+        one_way_laws::ends_agree();
         self.way.reference_of(self.receiver.played())
     }
 
@@ -117,7 +124,8 @@ impl PartyEnds {
             → HoldsPair p x self.now far ways → lent result ≡ on_screen p x ways }
         ensures format { (lent result).format ≡ self.now.receiver.params.format }
     {
-        laws::of_pairs();
+        one_way_laws::of_the_way();
+        one_way_laws::ends_agree();
         self.receiver.shown()
     }
 
@@ -143,6 +151,7 @@ impl PartyEnds {
             → report.text_of result ≡ call_text_of word.now (in_call (call_in p x ways)) }
     {
         laws::of_pairs();
+        one_way_laws::ends_agree();
         self.way
             .line(word, self.receiver.played(), self.sender.sent())
     }

@@ -3,7 +3,7 @@ use Rattle.call_command.specs.declared.world.World.{World}
 use Rattle.call_command.specs.Call.{call_step, first_state, may_read, most_turns}
 use Rattle.call_command.specs.Converse.{talk_end}
 use Rattle.call_command.specs.Turning.{Names}
-use Rattle.call_command.proofs.Conversing.{alone_under_way, ends_in, left_standing, lent_first, lent_stand, stays_itself, under_way}
+use Rattle.call_command.proofs.Conversing.{alone_under_way, answers_itself, ends_in, left_standing, lent_first, lent_stand, stays_itself, under_way}
 use Rattle.call_command.proofs.lent.converse.Goals as goal
 
 pub returns-in-Ok-clause-gives : goal.returns-in-Ok-clause-gives
@@ -64,6 +64,9 @@ returns-in-Ok-clause-pace g c =
     let sender_is = sym (ap (λ (n : Names). n.sender) names) in
     let pace_is = ap (λ (n : Names). n.pace) names in
     search (rules, sender_is, pace_is)
+
+pub returns-in-Ok-clause-answers : goal.returns-in-Ok-clause-answers
+returns-in-Ok-clause-answers g c = answers_itself c.take_turns-status.result c.take_turns-status.ensures.answers
 
 pub returns-in-Ok-clause-alone : goal.returns-in-Ok-clause-alone
 returns-in-Ok-clause-alone g c = λ run inputs start receives u.

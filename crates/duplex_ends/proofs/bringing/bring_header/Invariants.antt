@@ -7,8 +7,7 @@ use Rattle.one_way.specs.declared.way.Way.{Way}
 use Rattle.one_way.specs.Both.{both_after, steady}
 use Rattle.one_way.specs.Way.{CanSend, HoldsWay}
 use Rattle.duplex_call.specs.Duplex.{brought}
-use Rattle.duplex_ends.specs.Bringing.{AreOfClock, MayReturnAll, carried_in}
-use Rattle.duplex_ends.proofs.Returning.{IsReturning}
+use Rattle.duplex_ends.specs.Bringing.{AreOfClock, IsReturning, MayReturnAll, carried_in}
 use Rattle.duplex_ends.proofs.bringing.bring_header.Given as goal
 
 -- the messages that are left

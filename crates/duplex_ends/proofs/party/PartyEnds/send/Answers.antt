@@ -1,0 +1,105 @@
+use Rattle.std.proofs.Common.{◌≡◌, ◌+◌, ◌<◌, ◌≤◌, ℕ, List, [], ◌∷◌, ◌++◌, length, Option, Some, take, refl, sym, ap, subst, ◌∙◌, arith}
+use Rattle.std.specs.Prelude.{drop, map, slice_get}
+use Rattle.h263_types.specs.declared.clock.Clock.{Clock}
+use Rattle.h263_types.specs.declared.params.Params.{Params}
+use Rattle.h263_planes.specs.Lent.{picture as lent}
+use Rattle.picture_header.specs.Ranges.{AreMessages}
+use Rattle.back_messages.specs.declared.message.Message.{Message}
+use Rattle.call_encoding.specs.Frames.{Frame}
+use Rattle.call_encoding.specs.Messages.{marked}
+use Rattle.call_model.specs.IdealCall.{Send}
+use Rattle.duplex_call.specs.declared.carrier.Carried.{Carried}
+use Rattle.duplex_call.specs.Duplex.{messages_at, other, way, with_shot}
+use Rattle.duplex_call.specs.Waiting.{last_four, placed}
+use Rattle.one_way.specs.Both.{carrying}
+use Rattle.one_way.specs.Counts.{total_of}
+use Rattle.duplex_ends.specs.declared.party.PartyEnds.{PartyEnds}
+use Rattle.duplex_ends.specs.Bringing.{carried_in, message_in}
+use Rattle.duplex_ends.specs.Pair.{AreInCall}
+use Rattle.duplex_ends.specs.Ways.{sides, told_by}
+use Rattle.duplex_ends.proofs.Agreeing.{agree, ideally}
+use Rattle.duplex_ends.proofs.Captures.{frame, near_send, numbers, party_sent, said, same_messages, shot, waiting, waiting_few, waiting_fit}
+use Rattle.duplex_ends.proofs.Deliveries.{with_one}
+use Rattle.duplex_ends.proofs.Later.{holds_later}
+use Rattle.duplex_ends.proofs.Lists.{carried_placed, get_last, last_few}
+use Rattle.duplex_ends.proofs.Runs.{party_same, told_sent}
+use Rattle.duplex_ends.proofs.party.PartyEnds.send.Goals as goal
+
+pub send-coded-requires-clause-back : goal.send-coded-requires-clause-back
+send-coded-requires-clause-back c =
+    let e = c.requires.held.both in
+    let p = e.params in
+    let x = e.party in
+    let w = way x e.ways in
+    let v = way (other x) e.ways in
+    let one = e.holds.own_holds in
+    let told = told_by (p (other x)) v in
+    let fit : AreMessages (p (other x)).clock (map message_in (last_four (drop w.loaded told))) =
+    waiting_fit (p (other x)).clock told w.loaded ((c.of_said.ensures (p (other x)) (e.holds.in_range (other x))).fit v)
+    in
+    let is : take c.put_messages-count.result c.put_messages-count.new.messages ≡ map message_in (last_four (drop w.loaded told)) =
+    c.put_messages-count.ensures.messages
+    ∙ ap (λ (l : List (Option Carried)). map message_in (carried_in l)) (c.load-header.ensures.places (drop w.loaded told) one.waits)
+    ∙ ap (λ (l : List Carried). map message_in l) (carried_placed (last_four (drop w.loaded told)) (last_few (drop w.loaded told)))
+    in
+    let clock : (p (other x)).clock ≡ c.args.self.now.sender.params.clock = sym e.holds.clock ∙ ap (λ (q : Params). q.clock) (sym one.done.joined.sender_params) in
+    subst (λ (l : List Message). AreMessages c.args.self.now.sender.params.clock l) (sym is)
+    (subst (λ (clock : Clock). AreMessages clock (map message_in (last_four (drop w.loaded told)))) clock fit)
+
+pub send-coded-requires-clause-frame : goal.send-coded-requires-clause-frame
+send-coded-requires-clause-frame c =
+    let one = c.requires.held.both.holds.own_holds in
+    c.requires.frame ∙ ap (λ (p : Params). p.format) (one.params ∙ sym one.done.joined.sender_params)
+
+pub send-coded-requires-clause-ready : goal.send-coded-requires-clause-ready
+send-coded-requires-clause-ready c = c.requires.held.both.holds.own_holds.can
+
+pub returns-clause-holds : goal.returns-clause-holds
+returns-clause-holds c = λ p x far ways left h may.
+    let P = p x in
+    let Q = p (other x) in
+    let w = way x ways in
+    let v = way (other x) ways in
+    let one = h.own_holds in
+    let two = h.far_holds in
+    let own = c.args.self.now in
+    let picture = lent c.args.frame in
+    let told = told_by Q v in
+    let next = shot P Q own w v one picture in
+    let new_frame = frame P Q own w v one picture in
+    let messages = waiting P Q own w v one picture in
+    let loaded : c.load-header.result ≡ placed messages = c.load-header.ensures.places (drop w.loaded told) one.waits in
+    let back : take c.put_messages-count.result c.put_messages-count.new.messages ≡ map marked (messages_at (said P Q own w v one picture) (numbers P Q own w v one picture)) =
+    c.put_messages-count.ensures.messages
+    ∙ ap (λ (l : List (Option Carried)). map message_in (carried_in l)) loaded
+    ∙ ap (λ (l : List Carried). map message_in l) (carried_placed messages (last_few (drop w.loaded told)))
+    ∙ sym (same_messages P Q own w v one picture)
+    in
+    let at : slice_get next.frames own.sender.sent ≡ Some (carrying picture (take c.put_messages-count.result c.put_messages-count.new.messages)) =
+    ap (λ (k : ℕ). slice_get next.frames k) one.sent ∙ get_last w.frames new_frame
+    ∙ ap (λ (l : List Message). let f : Option Frame = Some (carrying picture l) in f) (sym back)
+    in
+    let calls = c.of_the_ends.ensures P (h.in_range x) in
+    let nears = c.of_near_events.ensures P (h.in_range x) in
+    let later = c.later_frames.ensures P in
+    let coded = (c.of_the_way.ensures P).sent own.sender own.receiver [] w.frames w.past one.done.joined in
+    let near = near_send P Q own w v one picture later (agree P (h.in_range x) calls nears own.way own.sender own.receiver w one.done) coded left may in
+    let held = holds_later P later own.way own.sender own.receiver w.frames w.past (new_frame ∷ []) one.done in
+    let done = c.send-coded.ensures.holds P own.receiver [] next.frames w.past held at near in
+    let number : c.send-coded.result.number ≡ length one.carries.headers =
+    c.send-coded.ensures.number P own.receiver [] next.frames w.past held ∙ one.sent ∙ sym one.headers ∙ sym one.carries.count
+    in
+    let new : PartyEnds = record own { sender = c.send-coded.new.sender; way = c.send-coded.new.self; carried = c.note.new.self; waiting = c.load-header.new.self } in
+    with_one p x new far ways next h.in_range h.clock
+    (party_sent P Q own w v one picture new refl done (c.send-coded.ensures.ready) c.send-coded.ensures.kept c.send-coded.ensures.sent c.requires.left refl
+    (ap total_of c.send-coded.ensures.tally) c.note.ensures.kept (c.note.ensures.holds one.carries.headers messages one.carries.holds number loaded) c.load-header.ensures.none)
+    (party_same Q P far v w two next
+    (told_sent P (c.later_calls.ensures P) w (new_frame ∷ []) next.carried next.loaded (ideally P (h.in_range x) calls nears own.way own.sender own.receiver w one.done)))
+
+pub returns-clause-ready : goal.returns-clause-ready
+returns-clause-ready c = λ far e. record {
+  params = e.params;
+  party = e.party;
+  ways = with_shot (sides e.params) e.party (lent c.args.frame) e.ways;
+  holds = returns-clause-holds c e.params e.party far e.ways e.left e.holds e.may;
+}
