@@ -29,7 +29,7 @@ use Rattle.duplex_command.specs.Exchange.{for_second, second_end, second_status,
 
 -- ---- role by role
 
-line_taken : (n : ℕ) → for_second (of Events n) ≡ of Events n
+pub line_taken : (n : ℕ) → for_second (of Events n) ≡ of Events n
 line_taken n = fun_ext by_role
   where
     by_role : (r : Role) → of Events n (exchanged r) ≡ of Events n r

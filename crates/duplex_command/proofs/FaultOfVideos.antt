@@ -8,7 +8,7 @@ use Rattle.y4m.specs.declared.fault.Y4mFault.{Y4mFault}
 use Rattle.y4m.specs.Frame.{next_frame, frame_size}
 use Rattle.y4m.specs.Head.{head_of, head_size}
 use Rattle.y4m.specs.Laws.{FrameLaws}
-use Rattle.y4m.specs.Video.{fault_of, fault_behind, video_fault}
+use Rattle.y4m.specs.Video.{fault_of, fault_behind, most_frames, video_fault}
 use Rattle.loss_trace.specs.declared.event.Event.{Event as Line}
 use Rattle.loss_trace.specs.declared.event.Event.TheVariants as says
 use Rattle.loss_trace.specs.Lines.{first_line}
@@ -114,7 +114,7 @@ module _ (frame_laws : FrameLaws) (fault : Y4mFault) where
     at_party x y later (says.All n) ends =
         at_end (inputs Events) x (Deliver n 0) (refusal_at y s (Deliver n 0)) _ (at_quiet (inputs Events) x later _) ends
     at_party x y later (says.Back k) ends =
-        at_end (inputs Events) x (Back k) (refusal_at y s (Back k)) _ (at_quiet (inputs Events) x later _) ends
+        at_end (inputs Events) x (Back k) (refusal_at y s (Back k)) (quiet_step s (inputs Events) s.ways) (at_quiet (inputs Events) x later s.ways) ends
     at_party x y later says.Play ends =
         at_end (inputs Events) x Play (refusal_at y s Play) _ (at_play (inputs Events) x y later) ends
 
@@ -159,7 +159,10 @@ module _ (frame_laws : FrameLaws) (fault : Y4mFault) where
         by_heads : (a b : Result Format Y4mFault) → Ends A a b → fault_behind a (head_size (inputs Video)) (drop (head_size (inputs Video)) (inputs Video)) ≡ Some fault
         by_heads (Err broken) b ends = ap (λ (x : Y4mFault). Some x) (first_is broken fault ends)
         by_heads (Ok f) (Err broken) ends = absurd (cc ends)
-        by_heads (Ok f) (Ok g) ends = run_refused most_turns A _ (behind inputs (heads_taken inputs)) ends
+        by_heads (Ok f) (Ok g) ends =
+            let size = head_size (inputs Video) in
+            let taken : size + 0 ≡ size = omega arith in
+            subst (λ (n : ℕ). fault_of f most_frames size (drop n (inputs Video)) ≡ Some fault) taken (run_refused most_turns A _ (behind inputs (heads_taken inputs)) ends)
 
     pub second_refused : (duplex_run p inputs).last.status ≡ Video2Refused fault → video_fault (inputs Video2) ≡ Some fault
     unfolding video_fault
@@ -168,4 +171,7 @@ module _ (frame_laws : FrameLaws) (fault : Y4mFault) where
         by_heads : (a b : Result Format Y4mFault) → Ends B a b → fault_behind b (head_size (inputs Video2)) (drop (head_size (inputs Video2)) (inputs Video2)) ≡ Some fault
         by_heads (Err broken) b ends = absurd (cc ends)
         by_heads (Ok f) (Err broken) ends = ap (λ (x : Y4mFault). Some x) (second_is broken fault ends)
-        by_heads (Ok f) (Ok g) ends = run_refused most_turns B _ (behind inputs (heads_taken inputs)) ends
+        by_heads (Ok f) (Ok g) ends =
+            let size = head_size (inputs Video2) in
+            let taken : 0 + size ≡ size = omega arith in
+            subst (λ (n : ℕ). fault_of g most_frames size (drop n (inputs Video2)) ≡ Some fault) taken (run_refused most_turns B _ (behind inputs (heads_taken inputs)) ends)

@@ -62,8 +62,8 @@ pub record TalkReady (m : Talk) (attached : Role → Bool) : Type 0 where
   pub opens : DuplexOpens attached
   pub stations : StationsReady m.a m.b (length m.frame.items)
 
--- what the first party needs of a desk
-pub record PartyOpens (attached : Role → Bool) : Type 0 where
-  pub video : attached Video ≡ true
-  pub pictures : attached Pictures ≡ true
-  pub report : attached Report ≡ true
+-- what a party needs of a desk where its video and pictures stand in these roles
+pub record PartyOpens (video pictures : Role) (attached : Role → Bool) : Type 0 where
+  pub video_opens : attached video ≡ true
+  pub pictures_opens : attached pictures ≡ true
+  pub report_opens : attached Report ≡ true

@@ -6,6 +6,7 @@ use Rattle.h263_outside.specs.Desk.{Outside}
 use Rattle.h263_outside.specs.declared.desk.Role.{Role}
 use Rattle.h263_outside.specs.declared.desk.Role.TheVariants.{Video, Events, Pictures, Report}
 use Rattle.y4m.specs.Text.{frame_text}
+use Rattle.y4m.specs.declared.fault.Y4mFault.{Y4mFault}
 use Rattle.loss_trace.specs.declared.reader.TraceReader.{TraceReader}
 use Rattle.call_report.specs.declared.status.Status.{Status}
 use Rattle.call_report.specs.declared.status.Status.TheVariants.{VideoRefused}
@@ -55,11 +56,11 @@ pub record IsPartyTurn (x : Party) (own far : Station) (result : Result Bool Sta
   pub cause : HasCause (turn_status result) mid.faults new.faults
   pub rest : KeepsRoles mid new
 
--- the line says an event of this party
-abbrev pub TakesEvent : Station → Station → Station → Station → Said → Result Bool Status → Outside → Outside → ℕ → Type 0
-TakesEvent own far own_new far_new said result mid new room =
+-- the line says an event of this party, whose video and pictures stand in these roles
+abbrev pub TakesEvent : (video pictures : Role) (refuses : Y4mFault → Status) → Station → Station → Station → Station → Said → Result Bool Status → Outside → Outside → ℕ → Type 0
+TakesEvent video pictures refuses own far own_new far_new said result mid new room =
     IsPartyTurn said.party own_new far_new result mid new room (λ trace. IsRead said.party own far said.line trace mid)
-    (λ s inputs. event_step Video Pictures VideoRefused said.party s (inputs Events) inputs said.event)
+    (λ s inputs. event_step video pictures refuses said.party s (inputs Events) inputs said.event)
 
 -- the line says an event of a party, on the desk of both; the first party is a
 abbrev pub TakesLine : Station → Station → Station → Station → Said → Result Bool Status → Outside → Outside → ℕ → Type 0

@@ -1,6 +1,7 @@
 //! What a line says is done, for the party whose pictures it is about.
 ghost use Rattle.std.specs.Prelude.{◌≡◌, ◌+◌, ℕ, length, true};
-ghost use Rattle.h263_outside.specs.declared.desk.Role.TheVariants.{Video};
+ghost use Rattle.h263_outside.specs.declared.desk.Role.TheVariants.{Pictures, Pictures2, Video, Video2};
+ghost use Rattle.h263_types.specs.Sizes.{size_of_picture};
 ghost use Rattle.h263_types.specs.declared.params.Params.{Params};
 ghost use Rattle.call_encoding.specs.Frames.{Frame};
 ghost use Rattle.duplex_command.specs.Lines.{fault_at};
@@ -11,7 +12,7 @@ ghost use Rattle.duplex_call.specs.Refused.{refusal_of};
 ghost use Rattle.duplex_ends.specs.Pair.{AreInCall, HoldsPair, IsInCall};
 ghost use Rattle.duplex_ends.specs.Ways.{call_in, sides};
 ghost use Rattle.duplex_command.specs.declared.station.Station.{Station};
-ghost use Rattle.duplex_command.specs.Standing.{DuplexOpens, PartyOpens, StationReady, StationsReady};
+ghost use Rattle.duplex_command.specs.Standing.{DuplexOpens, PartyOpens, StationsReady};
 ghost use Rattle.duplex_command.specs.Turning.{MayCapture, TakesEvent, TakesFrame, TakesLine};
 
 use crate::show::play_next;
@@ -19,7 +20,9 @@ use crate::{Station, laws, second_result};
 use call_report::Status;
 use desk_program::laws as desk_program_laws;
 use duplex_call::Party;
-use duplex_ends::{check_delivery, check_play, check_send, deliver, deliver_all};
+use duplex_ends::{
+    check_delivery, check_play, check_send, deliver, deliver_all, laws as duplex_ends_laws,
+};
 use h263_outside::{Desk, Second, laws as outside_laws};
 use h263_planes::PictureRef;
 use loss_trace::{Event, TraceFault};
@@ -68,27 +71,28 @@ fn send_frame<D: Desk>(
     desk: &mut D,
     said: Said,
     own: &mut Station,
-    frame: &mut [u8],
+    planes: &mut [u8],
 ) -> Result<bool, Status>
     requires video { (D.outside desk.old).attached Video ≡ true }
-    requires station { StationReady own.old (length frame.old) }
+    requires format { own.old.video.format ≡ own.old.ends.params.format }
+    requires sent { own.old.ends.sender.sent + own.old.video.more ≡ 1048576 }
+    requires size { length planes.old ≡ size_of_picture own.old.ends.params.format }
     requires held { IsInCall own.old.ends }
-    ensures { (far : Station) → MayCapture own.old far (length frame.old)
+    ensures { (far : Station) (room : ℕ) → MayCapture own.old far room
         → TakesFrame said.party own.old far own.new said.line result
-        (D.outside desk.old) (D.outside desk.new) (length frame.old) }
+        (D.outside desk.old) (D.outside desk.new) room }
 {
     desk_program_laws::of_turns();
     outside_laws::calls();
     laws::of_the_video();
     laws::of_refusals();
-    let format = own.ends.params.format;
-    let planes = &mut frame[..format.size() as usize];
     if !own.video.frame(desk, planes)? {
         return Err(Status::TraceRefused {
             fault: TraceFault::NoFrame { line: said.line },
         });
     }
-    own.ends.send(PictureRef::new(format, planes));
+    let picture = PictureRef::new(own.ends.params.format, planes);
+    own.ends.send(picture);
     Ok(true)
 }
 
@@ -101,9 +105,9 @@ fn party_turn<D: Desk>(
     far: &mut Station,
     frame: &mut [u8],
 ) -> Result<bool, Status>
-    requires opens { PartyOpens (D.outside desk.old).attached }
+    requires opens { PartyOpens Video Pictures (D.outside desk.old).attached }
     requires ready { StationsReady own.old far.old (length frame.old) }
-    ensures { TakesEvent own.old far.old own.new far.new said result
+    ensures { TakesEvent Video Pictures Status.VideoRefused own.old far.old own.new far.new said result
         (D.outside desk.old) (D.outside desk.new) (length frame.old) }
 {
     desk_program_laws::of_turns();
@@ -114,7 +118,10 @@ fn party_turn<D: Desk>(
     }
     match said.event {
         Event::Nothing => Ok(true),
-        Event::Send => send_frame(desk, said, own, frame),
+        Event::Send => {
+            let size = own.video.format().size() as usize;
+            send_frame(desk, said, own, &mut frame[..size])
+        }
         Event::Packet { number, place } => {
             deliver(&mut own.ends, &mut far.ends, number, place);
             Ok(true)
@@ -132,8 +139,25 @@ fn party_turn<D: Desk>(
     }
 }
 
-/// What the line says that was read last is done, or refused. The second party's turn is one of the
-/// first's on the desk with both exchanged. The frame's room is for either video.
+// The same where its party is the second one: it is a turn of the first on the desk with both
+// exchanged.
+fn second_turn<D: Desk>(
+    desk: &mut D,
+    said: Said,
+    own: &mut Station,
+    far: &mut Station,
+    frame: &mut [u8],
+) -> Result<bool, Status>
+    requires opens { PartyOpens Video2 Pictures2 (D.outside desk.old).attached }
+    requires ready { StationsReady own.old far.old (length frame.old) }
+    ensures { TakesEvent Video2 Pictures2 Status.Video2Refused own.old far.old own.new far.new said
+        result (D.outside desk.old) (D.outside desk.new) (length frame.old) }
+{
+    let mut second = Second::new(desk);
+    second_result(party_turn(&mut second, said, own, far, frame))
+}
+
+/// What the line says that was read last is done, or refused. The frame's room is for either video.
 pub fn event_turn<D: Desk>(
     desk: &mut D,
     said: Said,
@@ -146,12 +170,9 @@ pub fn event_turn<D: Desk>(
     ensures { TakesLine a.old b.old a.new b.new said result
         (D.outside desk.old) (D.outside desk.new) (length frame.old) }
 {
-    duplex_ends::laws::of_pairs();
+    duplex_ends_laws::of_pairs();
     match said.party {
         Party::A => party_turn(desk, said, a, b, frame),
-        Party::B => {
-            let mut second = Second::new(desk);
-            second_result(party_turn(&mut second, said, b, a, frame))
-        }
+        Party::B => second_turn(desk, said, b, a, frame),
     }
 }

@@ -1,4 +1,4 @@
-use Rattle.std.proofs.Common.{refl, subst}
+use Rattle.std.proofs.Common.{refl, subst, sym}
 use Rattle.h263_outside.specs.declared.desk.Role.TheVariants.{Video, Video2}
 use Rattle.y4m.specs.declared.fault.Y4mFault.{Y4mFault}
 use Rattle.call_report.specs.declared.status.Status.TheVariants.{Video2Refused}
@@ -45,7 +45,7 @@ returns-in-Err-Refused-clause-stops g c = λ p inputs told.
     let old = outside c.args.desk.now in
     let mid = outside c.head.new.desk in
     let there = still_there c.of_turns.ensures c.cut_behind.ensures.head inputs old mid told c.head.ensures.others c.head.ensures.rest.written in
-    subst (λ (f : Y4mFault). Ended (duplex_begin p inputs) (Video2Refused f) inputs old (outside c.second_head.new.desk)) c.in-Err-Refused.fault-is
+    subst (λ (f : Y4mFault). Ended (duplex_begin p inputs) (Video2Refused f) inputs old (outside c.second_head.new.desk)) (sym c.in-Err-Refused.fault-is)
     (second_refused c.of_turns.ensures c.cut_behind.ensures.head inputs old mid told c.head.ensures.others c.head.ensures.rest.written
     c.in_ok-a.a (c.in_ok-a.ensures.gives (inputs Video) (told Video refl)) (outside c.second_head.new.desk) c.second_head.ensures.others c.second_head.ensures.rest.written
     p _ c.in-Err-Refused.fault c.in-Err-Refused.field-0-is (c.in-Err-Refused.ensures.gives (inputs Video2) there))

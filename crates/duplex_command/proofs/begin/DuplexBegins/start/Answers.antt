@@ -13,7 +13,7 @@ returns-in_err-heads-clause-ends g c = λ inputs told.
     let p = c.args.setup.now in
     let old = outside c.args.desk.now in
     let new = outside c.read_heads.new.desk in
-    ends_so c.from_residual-in_err-heads.result c.in_err-heads.field-0.0 (duplex_run p inputs) inputs old.written new c.from_residual-in_err-heads.ensures.1
+    ends_so c.from_residual.result c.in_err-heads.field-0.0 (duplex_run p inputs) inputs old.written new c.from_residual.ensures.1
     (c.of_runs.ensures.gives_up (duplex_begin p inputs) duplex_step most_turns inputs old new c.in_err-heads.field-0.0 (c.in_err-heads.ensures.stops p inputs told))
 
 pub returns-in_err-talk-clause-ends : goal.returns-in_err-talk-clause-ends

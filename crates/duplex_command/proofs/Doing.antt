@@ -1,0 +1,190 @@
+-- A line that was read: it is refused, or its event is done, over a desk where its party is the first one.
+use Rattle.std.proofs.Common.{◌≡◌, ℕ, ◌+◌, ◌-◌, ◌≤◌, ◌↔◌, true, List, [], ◌++◌, length, drop, Option, None, Some, Result, Ok, Err, refl, sym, ap, subst, ◌∙◌, arith}
+use Rattle.h263_types.specs.declared.params.Params.{Params}
+use Rattle.h263_outside.specs.Desk.{Outside}
+use Rattle.h263_outside.specs.declared.desk.Role.{Role}
+use Rattle.h263_outside.specs.declared.desk.Role.TheVariants.{Video, Events, Pictures}
+use Rattle.y4m.specs.declared.reader.Y4mReader.{Y4mReader}
+use Rattle.loss_trace.specs.declared.event.Event.{Event as Line}
+use Rattle.loss_trace.specs.declared.event.Event.TheVariants as says
+use Rattle.loss_trace.specs.declared.fault.TraceFault.{TraceFault}
+use Rattle.loss_trace.specs.declared.reader.TraceReader.{TraceReader}
+use Rattle.loss_trace.specs.Lines.{is_closed}
+use Rattle.call_report.specs.declared.status.Status.TheVariants.{TraceRefused, VideoRefused}
+use Rattle.desk_program.specs.Run.{Step, behind}
+use Rattle.desk_program.specs.Run.Step.{Goes}
+use Rattle.desk_program.specs.Ends.{Ended, Gains, GainsFronts, TurnGives, Went, step_texts}
+use Rattle.desk_program.specs.Laws.{TurnLaws}
+use Rattle.desk_program.specs.Texts.{and_of, no_texts, of}
+use Rattle.call_model.specs.IdealCall.{Event, Send, Deliver, Play, Back}
+use Rattle.call_model.specs.Refusals.{Refusal, NotSaid}
+use Rattle.call_encoding.specs.Frames.{Frame}
+use Rattle.h263_planes.specs.Layout.{picture_of}
+use Rattle.one_way.specs.declared.refusals.Refusal.{Refusal as Told}
+use Rattle.one_way.specs.Refused.{IsAllowed, told_as}
+use Rattle.one_way.specs.Seen.{in_call}
+use Rattle.duplex_call.specs.declared.line.Party.{Party}
+use Rattle.duplex_call.specs.declared.line.Party.TheVariants.{A, B}
+use Rattle.duplex_call.specs.Duplex.{MayHappenOf, WayRuns, other, with_play, with_shot}
+use Rattle.duplex_call.specs.Refused.{NoneWhereItMayHappenOf, refusal_of}
+use Rattle.duplex_ends.specs.Pair.{AreInCall, HoldsPair, IsInCall, MayHappenNow}
+use Rattle.duplex_ends.specs.Ways.{call_in, sides}
+use Rattle.duplex_ends.specs.declared.party.PartyEnds.{PartyEnds}
+use Rattle.duplex_command.specs.declared.station.Station.{Station}
+use Rattle.duplex_command.specs.Duplex.{DuplexState, after_line, capture_step, event_step, may_read, place_of, play_step, play_texts, quiet_step, refusal_at, seen_of, unless, with_frame, with_next}
+use Rattle.duplex_command.specs.Lines.{HasTaken, IsChecked, fault_at, fault_of, line_size, line_turn}
+use Rattle.duplex_command.specs.Standing.{StationsStand, place_in}
+use Rattle.duplex_command.specs.Turning.{IsRead, after_first}
+use Rattle.duplex_command.proofs.LineTurning.{double_not, line_goes, line_refused}
+
+-- ---- at some point of the call
+
+-- so many pictures are asked for
+abbrev pub one_left : (Party → Params) → Party → WayRuns Frame → ℕ
+one_left p x ways = length (call_in p x ways).coded + 1
+
+abbrev pub Refusals : Type 0
+Refusals = (p : Party → Params) → NoneWhereItMayHappenOf (sides p)
+
+pub may_happen : Refusals → (p : Party → Params) (x : Party) (ways : WayRuns Frame) (e : Event) → refusal_of (sides p) (one_left p x ways) x e ways ≡ None
+    → MayHappenOf (sides p) (one_left p x ways) x e ways
+may_happen laws p x ways e none = (laws p (one_left p x ways) x e ways).0 none
+
+-- an event that is not refused may happen at some point
+pub may_now : Refusals → (own far : PartyEnds) (k : AreInCall own far) (e : Event) → refusal_of (sides k.params) (one_left k.params k.party k.ways) k.party e k.ways ≡ None
+    → MayHappenNow own far e
+may_now laws own far k e none = record {
+  params = k.params;
+  party = k.party;
+  ways = k.ways;
+  left = one_left k.params k.party k.ways;
+  holds = k.holds;
+  may = may_happen laws k.params k.party k.ways e none;
+}
+
+pub is_in_call : (own far : PartyEnds) → AreInCall own far → IsInCall own
+is_in_call own far k = record { far = far; both = k }
+
+-- what was asked, by what the line says
+pub asked : (r : Result Unit Told) (event said : Line) (refusal : Event → Option Refusal) → event ≡ said → IsChecked r event refusal → IsChecked r said refusal
+asked r event said refusal is checked = subst (λ (e : Line). IsChecked r e refusal) is checked
+
+-- a party's video stands where it stood, where both do
+pub place_same : (y : Party) (s t : DuplexState) → s.video_a ≡ t.video_a → s.video_b ≡ t.video_b → place_of y s ≡ place_of y t
+place_same A s t a b = a
+place_same B s t a b = b
+
+-- ---- the line of a party
+
+module _ (x : Party) (own far : Station) (line : ℕ) (trace_new : TraceReader) (before mid : Outside) (s : DuplexState) (inputs : Role → List ℕ) (b : IsRead x own far line trace_new mid before s inputs) where
+  abbrev trace : List ℕ
+  trace = inputs Events
+
+  abbrev taken_line : Role → ℕ
+  taken_line = of Events (line_size trace)
+
+  abbrev step_of : Line → Step DuplexState
+  step_of event = event_step Video Pictures VideoRefused x s trace inputs event
+
+  -- ---- a refused event
+
+  module _ (laws : TurnLaws) (told : Told) (fault : TraceFault) (fault_is : fault ≡ fault_at line told) where
+    event_refused : (e : Event) (step : Step DuplexState) → IsAllowed (Err told) e (refusal_at x s e) → Ended (unless s trace e (refusal_at x s e) step) (TraceRefused fault) inputs before mid
+    event_refused e step refused =
+        let told_so = refused.2 in
+        line_refused laws s inputs before mid b.taken (TraceRefused fault) (fault_of (s.lines + 1) e refused.0) _
+        (ap (λ (f : TraceFault). TraceRefused f) fault_is ∙ (λ i. TraceRefused (fault_at (b.number i) (told_so i))))
+        (ap (λ (o : Option Refusal). unless s trace e o step) refused.1)
+
+    pub line_is_refused : (event : Line) → IsChecked (Err told) event (λ e. refusal_at x s e) → Ended (step_of event) (TraceRefused fault) inputs before mid
+    line_is_refused says.Nothing refused = absurd refused
+    line_is_refused says.Send refused = event_refused Send _ refused
+    line_is_refused (says.Packet n j) refused = event_refused (Deliver n j) _ refused
+    line_is_refused (says.All n) refused = event_refused (Deliver n 0) _ refused
+    line_is_refused (says.Back m) refused = event_refused (Back m) (quiet_step s trace s.ways) refused
+    line_is_refused says.Play refused = event_refused Play _ refused
+
+  -- ---- an event that may happen
+
+  pub step_is : (e : Event) (step : Step DuplexState) → refusal_at x s e ≡ None → unless s trace e (refusal_at x s e) step ≡ step
+  step_is e step none = ap (λ (o : Option Refusal). unless s trace e o step) none
+
+  -- the stations where both ways are these
+  pub stands_event : (own_new far_new : Station) (ways : WayRuns Frame) → own_new.video ≡ own.video → far_new.video ≡ far.video
+      → HoldsPair s.params x own_new.ends far_new.ends ways
+      → StationsStand x own_new far_new trace_new (after_line (record s { ways = ways }) trace) (behind inputs taken_line Events)
+  stands_event own_new far_new ways own_same far_same holds = record {
+    own_place = place_same x (after_line (record s { ways = ways }) trace) (after_line s trace) refl refl ∙ b.stood.own_place ∙ ap place_in (sym own_same);
+    far_place = place_same (other x) (after_line (record s { ways = ways }) trace) (after_line s trace) refl refl ∙ b.stood.far_place ∙ ap place_in (sym far_same);
+    lines = b.stood.lines;
+    ended = b.stood.ended;
+    over = b.stood.over;
+    holds = holds;
+  }
+
+  -- the reader of the video is where the state before the line says
+  pub own_place : place_of x s ≡ place_in own.video
+  own_place = place_same x s (after_line s trace) refl refl ∙ b.stood.own_place
+
+  pub format_is : own.video.format ≡ own.ends.params.format → own.video.format ≡ (s.params x).format
+  format_is is = is ∙ ap (λ (p : Params). p.format) b.stood.holds.own_holds.params
+
+  pub event_goes : TurnLaws → (own_new far_new : Station) (event : Line) (ways : WayRuns Frame) → own_new.video ≡ own.video → far_new.video ≡ far.video
+      → step_of event ≡ quiet_step s trace ways → HoldsPair s.params x own_new.ends far_new.ends ways
+      → Went (step_of event) (λ next rest. StationsStand x own_new far_new trace_new next (rest Events)) may_read true inputs before mid
+  event_goes laws own_new far_new event ways own_same far_same is holds =
+      line_goes laws s inputs before mid b.taken (record s { ways = ways }) _ (λ next rest. StationsStand x own_new far_new trace_new next (rest Events)) is
+      (stands_event own_new far_new ways own_same far_same holds)
+
+  -- ---- the next picture was played
+
+  module _ (new : Outside) (still : new.left ≡ mid.left) (none : refusal_at x s Play ≡ None) where
+    abbrev shown : Role → List ℕ
+    shown = play_texts Pictures x (seen_of x (with_next x s)) (seen_of x s).played
+
+    play_is : step_of says.Play ≡ Goes (after_line (with_next x s) trace) (line_turn trace shown)
+    play_is = step_is Play (play_step Video Pictures VideoRefused x s trace) none
+
+    pub play_goes : (stands : DuplexState → (Role → List ℕ) → Type 0) → stands (after_line (with_next x s) trace) (behind inputs taken_line)
+        → Gains shown mid.written new.written → Went (step_of says.Play) stands may_read true inputs before new
+    play_goes stands kept gains = record {
+      next = after_line (with_next x s) trace;
+      turn = line_turn trace shown;
+      could = refl;
+      is = play_is;
+      kept = kept;
+      whole = sym (double_not (is_closed trace));
+      left = λ r input. ap (λ (l : Role → Option (List ℕ)). l r) still ∙ b.taken.left r input;
+      written = subst (λ (w : Role → Option (List ℕ)). Gains shown w new.written) b.taken.written gains;
+    }
+
+    pub play_cut : GainsFronts shown mid.written new.written → GainsFronts (step_texts (step_of says.Play)) before.written new.written
+    play_cut gains =
+        subst (λ (step : Step DuplexState). GainsFronts (step_texts step) before.written new.written) (sym play_is)
+        (subst (λ (w : Role → Option (List ℕ)). GainsFronts shown w new.written) b.taken.written gains)
+
+  -- ---- the frame that the line asks for was sent
+
+  pub stands_sent : (own_new : Station) (size : ℕ) (out : List ℕ) → own_new.video.at ≡ (place_of x s).at + size → own_new.video.more + 1 ≡ (place_of x s).more
+      → HoldsPair s.params x own_new.ends far.ends (with_shot (sides s.params) x (picture_of (s.params x).format out) s.ways)
+      → StationsStand x own_new far trace_new (after_line (with_frame x s size out) trace) (behind inputs (and_of taken_line (of Video size)) Events)
+  stands_sent own_new size out place fewer holds = by_party x (place_same (other x) s (after_line s trace) refl refl ∙ b.stood.far_place) b.stood.lines b.stood.ended place_is holds
+    where
+      less : (a b : ℕ) → a + 1 ≡ b → b - 1 ≡ a
+      less a b is = omega (arith, is)
+
+      place_is : record { at = (place_of x s).at + size; more = (place_of x s).more - 1 } ≡ place_in own_new.video
+      place_is = let few = less own_new.video.more (place_of x s).more fewer in λ i. record { at = sym place i; more = few i }
+
+      nothing_more : (n : ℕ) → n + 0 ≡ n
+      nothing_more n = omega arith
+
+      over : trace_new.ended ≡ true → drop (line_size trace + 0) trace ≡ []
+      over ended = ap (λ (n : ℕ). drop n trace) (nothing_more (line_size trace)) ∙ b.stood.over ended
+
+      by_party : (y : Party) → place_of (other y) s ≡ place_in far.video → s.lines + 1 ≡ trace_new.lines → (after_line s trace).ended ≡ trace_new.ended
+          → record { at = (place_of y s).at + size; more = (place_of y s).more - 1 } ≡ place_in own_new.video
+          → HoldsPair s.params y own_new.ends far.ends (with_shot (sides s.params) y (picture_of (s.params y).format out) s.ways)
+          → StationsStand y own_new far trace_new (after_line (with_frame y s size out) trace) (behind inputs (and_of taken_line (of Video size)) Events)
+      by_party A far_place lines ended own_place holds = record { own_place = own_place; far_place = far_place; lines = lines; ended = ended; over = over; holds = holds }
+      by_party B far_place lines ended own_place holds = record { own_place = own_place; far_place = far_place; lines = lines; ended = ended; over = over; holds = holds }

@@ -1,0 +1,307 @@
+-- The turns of lines, by what the reader of the trace says and what was written.
+use Rattle.std.proofs.Common.{◌≡◌, ◌≢◌, ℕ, zero, suc, ◌+◌, ◌<◌, ◌≤◌, Bool, true, false, not, List, [], ◌∷◌, ◌++◌, length, take, drop, codes, Option, Some, None, Ok, Err, refl, sym, ap, ◌∙◌, subst, arith, lit≤, length-append}
+use Rattle.std.specs.Prelude.{min, if◌then◌else◌}
+use Rattle.std.specs.Str.{bytes_eq}
+use Rattle.std.proofs.lemmas.Bool.{lt-ltb, le-ltb, ltb-false}
+use Rattle.h263_outside.specs.Desk.{Outside, IsInput}
+use Rattle.h263_outside.specs.declared.desk.Role.{Role}
+use Rattle.h263_outside.specs.declared.desk.Role.TheVariants.{Video, Events, Pictures, Wire, Report, Video2, Pictures2}
+use Rattle.loss_trace.specs.declared.event.Event.{Event as Line}
+use Rattle.loss_trace.specs.declared.event.Event.TheVariants as says
+use Rattle.loss_trace.specs.declared.fault.TraceFault.{TraceFault}
+use Rattle.loss_trace.specs.declared.fault.TraceFault.TheVariants.{BadLine, TooMany}
+use Rattle.loss_trace.specs.declared.fault.TraceStop.{TraceStop}
+use Rattle.loss_trace.specs.declared.fault.TraceStop.TheVariants as stops
+use Rattle.loss_trace.specs.declared.reader.TraceReader.{TraceReader}
+use Rattle.loss_trace.specs.Line.{IsLine, IsPart, Number, Part, Spell, Word, parts_of}
+use Rattle.loss_trace.specs.Lines.{first_line, is_closed, behind_line}
+use Rattle.loss_trace.specs.Reader.{BytesGive, Moves, Passes}
+use Rattle.loss_trace.specs.Reading.{event_in}
+use Rattle.call_report.specs.declared.status.Status.{Status}
+use Rattle.call_report.specs.declared.status.Status.TheVariants.{Ok as Fine, TraceRefused}
+use Rattle.call_report.specs.Status.{phase, trace_stop}
+use Rattle.desk_program.specs.Run.{End, Step, behind}
+use Rattle.desk_program.specs.Run.Step.{Goes, Ends}
+use Rattle.desk_program.specs.Ends.{Tells, Gains, GainsFronts, Went, Ended, EndsBy, GivesUp, step_texts}
+use Rattle.desk_program.specs.Texts.{no_bytes, no_texts, of}
+use Rattle.desk_program.specs.Laws.{TurnLaws}
+use Rattle.duplex_call.specs.declared.line.Party.{Party}
+use Rattle.duplex_call.specs.declared.line.Party.TheVariants.{A, B}
+use Rattle.duplex_call.specs.Lines.{lettered, of_party, party_event}
+use Rattle.duplex_command.specs.Duplex.{DuplexState, after_line, all_played, both_counts, duplex_step, line_step, may_read, quiet_step, trace_step}
+use Rattle.duplex_command.specs.Lines.{HasTaken, bad_line, line_size, line_turn, refused_line}
+use Rattle.duplex_command.specs.Standing.{StationsStand}
+use Rattle.duplex_command.specs.declared.station.Station.{Station}
+use Rattle.duplex_command.proofs.Cutting.{trace_part}
+
+-- ---- the bytes of a line
+
+drop_all : (xs : List ℕ) (k : ℕ) → length xs ≤ k → drop k xs ≡ []
+drop_all [] zero few = refl
+drop_all [] (suc k) few = refl
+drop_all (x ∷ xs) zero few = absurd (omega (arith, few))
+drop_all (x ∷ xs) (suc k) few = drop_all xs k (omega (arith, few))
+
+drop_min : (k : ℕ) (xs : List ℕ) → drop (min k (length xs)) xs ≡ drop k xs
+drop_min zero xs = ap (λ (n : ℕ). drop n xs) (none (length xs))
+  where
+    none : (n : ℕ) → min 0 n ≡ 0
+    none n = omega arith
+drop_min (suc k) [] = nothing (min (suc k) 0)
+  where
+    nothing : (n : ℕ) → drop {A = ℕ} n [] ≡ []
+    nothing zero = refl
+    nothing (suc n) = refl
+drop_min (suc k) (x ∷ xs) = ap (λ (n : ℕ). drop n (x ∷ xs)) (one_more k (length xs)) ∙ drop_min k xs
+  where
+    one_more : (a b : ℕ) → min (suc a) (suc b) ≡ suc (min a b)
+    one_more a b = omega arith
+
+-- after the line
+pub line_gone : (trace : List ℕ) → drop (line_size trace) trace ≡ behind_line trace
+line_gone trace = drop_min (length (first_line trace) + 1) trace
+
+-- after one that has no newline there is nothing
+nothing_behind : (trace : List ℕ) → is_closed trace ≡ false → drop (line_size trace) trace ≡ []
+nothing_behind trace open_end =
+    line_gone trace ∙ drop_all trace (length (first_line trace) + 1) (omega (arith, ltb-false (length (first_line trace)) (length trace) open_end))
+
+pub double_not : (b : Bool) → not (not b) ≡ b
+double_not true = refl
+double_not false = refl
+
+-- ---- a line of more than 64 bytes says no event
+
+most_of : Part → ℕ
+most_of (Word word) = length word
+most_of (Number n) = 7
+
+most : List Part → ℕ
+most [] = 0
+most (part ∷ parts) = most_of part + most parts
+
+part_len : (part : Part) (bytes : List ℕ) → IsPart part bytes → length bytes ≤ most_of part
+part_len (Word word) bytes is = omega (arith, ap (λ (l : List ℕ). length l) is)
+part_len (Number n) bytes is = is.few
+
+parts_len : (parts : List Part) (bytes : List ℕ) → Spell parts bytes → length bytes ≤ most parts
+parts_len [] bytes none = omega (arith, ap (λ (l : List ℕ). length l) none)
+parts_len (part ∷ parts) bytes (front, rest, whole, is, h) =
+    omega (arith, ap (λ (l : List ℕ). length l) whole, length-append front rest, part_len part front is, parts_len parts rest h)
+
+event_len : (event : Line) → most (parts_of event) ≤ 17
+event_len says.Nothing = lit≤ tt
+event_len says.Send = lit≤ tt
+event_len (says.Packet n i) = lit≤ tt
+event_len (says.All n) = lit≤ tt
+event_len (says.Back n) = lit≤ tt
+event_len says.Play = lit≤ tt
+
+ReadLines : Type 0
+ReadLines = (line : List ℕ) (event : Line) → event_in line ≡ Some event → IsLine event line
+
+module _ (read : ReadLines) where
+  none_or : (rest : List ℕ) (o : Option Line) → event_in rest ≡ o → 17 < length rest → o ≡ None
+  none_or rest None is long = refl
+  none_or rest (Some event) is long = absurd (omega (arith, parts_len (parts_of event) rest (read rest event is), event_len event, long))
+
+  long_lettered : (x : Party) (line : List ℕ) → 64 < length line → lettered x (drop 2 line) ≡ None
+  long_lettered x line long = ap (of_party x) (none_or (drop 2 line) (event_in (drop 2 line)) refl (two_less line long))
+    where
+      two_less : (l : List ℕ) → 64 < length l → 17 < length (drop 2 l)
+      two_less [] long = absurd (omega (arith, long))
+      two_less (a ∷ []) long = absurd (omega (arith, long))
+      two_less (a ∷ b ∷ l) long = omega (arith, long)
+
+  choice : {X : Type 0} (c : Bool) (x y z : X) → x ≡ z → y ≡ z → (if c then x else y) ≡ z
+  choice true x y z one two = one
+  choice false x y z one two = two
+
+  pub long_is_bad : (line : List ℕ) → 64 < length line → party_event line ≡ None
+  long_is_bad [] long = absurd (omega (arith, long))
+  long_is_bad (b ∷ line) long =
+      choice (bytes_eq (take 2 (b ∷ line)) (codes "a ")) (lettered A (drop 2 (b ∷ line))) _ None (long_lettered A (b ∷ line) long)
+      (choice (bytes_eq (take 2 (b ∷ line)) (codes "b ")) (lettered B (drop 2 (b ∷ line))) None None (long_lettered B (b ∷ line) long) refl)
+
+-- ---- which step it is
+
+abbrev chosen : Bool → DuplexState → (Role → List ℕ) → Option (Option (Party × Line)) → Step DuplexState
+chosen b s inputs o = if b then line_step s inputs o else Ends (bad_line (TooMany (s.lines + 1)))
+
+line_is : (s : DuplexState) (inputs : Role → List ℕ) (trace : List ℕ) (o : Option (Option (Party × Line))) → 0 < length trace → s.lines < 16777216 → party_event (first_line trace) ≡ o
+    → trace_step s inputs trace ≡ line_step s inputs o
+line_is s inputs [] o some few is = absurd (omega arith)
+line_is s inputs (b ∷ trace) o some few is =
+    ap (λ (t : Bool). chosen t s inputs (party_event (first_line (b ∷ trace)))) (lt-ltb s.lines 16777216 few)
+    ∙ ap (line_step s inputs) is
+
+many_is : (s : DuplexState) (inputs : Role → List ℕ) (trace : List ℕ) → 0 < length trace → s.lines ≡ 16777216
+    → trace_step s inputs trace ≡ Ends (bad_line (TooMany (s.lines + 1)))
+many_is s inputs [] some many = absurd (omega arith)
+many_is s inputs (b ∷ trace) some many =
+    ap (λ (t : Bool). chosen t s inputs (party_event (first_line (b ∷ trace)))) (le-ltb s.lines 16777216 (omega (arith, many)))
+
+-- ---- a line that is done, or refused
+
+abbrev step_of : End → Step DuplexState
+step_of last = Ends last
+
+module _ (laws : TurnLaws) (s : DuplexState) (inputs : Role → List ℕ) (before mid : Outside) (taken : HasTaken inputs before mid) where
+  abbrev trace : List ℕ
+  trace = inputs Events
+
+  -- a refused line is taken, and nothing of the videos
+  pub line_refused : (status : Status) (fault : TraceFault) (step : Step DuplexState) → status ≡ TraceRefused fault → step ≡ step_of (refused_line trace fault)
+      → Ended step status inputs before mid
+  line_refused status fault step status_is is = record {
+    last = refused_line trace fault;
+    is = is;
+    by = subst (λ (z : Status). EndsBy (refused_line trace fault) z inputs before mid) (sym status_is)
+        (laws.ends (TraceRefused fault) (of Events (line_size trace)) no_texts inputs before mid taken.left (laws.no_text before.written mid.written taken.written));
+  }
+
+  -- one that is done goes on
+  pub line_goes : (next : DuplexState) (step : Step DuplexState) (stands : DuplexState → (Role → List ℕ) → Type 0)
+      → step ≡ Goes (after_line next trace) (line_turn trace no_texts)
+      → stands (after_line next trace) (behind inputs (of Events (line_size trace))) → Went step stands may_read true inputs before mid
+  line_goes next step stands is kept = record {
+    next = after_line next trace;
+    turn = line_turn trace no_texts;
+    could = refl;
+    is = is;
+    kept = kept;
+    whole = sym (double_not (is_closed trace));
+    left = taken.left;
+    written = laws.no_text before.written mid.written taken.written;
+  }
+
+-- ---- the reader of the trace
+
+-- after a line the stations stand where it was passed
+pub passed : (x : Party) (own far : Station) (s : DuplexState) (trace : List ℕ) (old after : TraceReader) (left : Option (List ℕ))
+    → StationsStand x own far old s trace → after.lines ≡ old.lines + 1 → Passes trace after left
+    → StationsStand x own far after (after_line s trace) (drop (line_size trace) trace)
+passed x own far s trace old after left k lines passes = record {
+  own_place = k.own_place;
+  far_place = k.far_place;
+  lines = ap (λ (n : ℕ). n + 1) k.lines ∙ sym lines;
+  ended = sym passes.ends;
+  over = λ ended. nothing_behind trace (open_end (is_closed trace) (sym passes.ends ∙ ended));
+  holds = k.holds;
+}
+  where
+    open_end : (b : Bool) → not b ≡ true → b ≡ false
+    open_end true is = absurd (cc is)
+    open_end false is = refl
+
+-- the reader is where the state says
+pub record IsReadAt (s : DuplexState) (reader : TraceReader) : Type 0 where
+  pub lines_are : s.lines ≡ reader.lines
+  pub ended_is : s.ended ≡ reader.ended
+
+module _ (laws : TurnLaws) (s : DuplexState) (inputs : Role → List ℕ) (old mid : Outside) (told : Tells old inputs) (others : (r : Role) → r ≢ Events → mid.left r ≡ old.left r) (same : mid.written ≡ old.written) (reader after : TraceReader) (at : IsReadAt s reader) where
+  going : reader.ended ≡ false → may_read s ≡ true
+  going is = ap not (at.ended_is ∙ is)
+
+  -- of the other inputs nothing was taken
+  bad_ends : (fault : TraceFault) (step : Step DuplexState) → step ≡ step_of (bad_line fault) → Ended step (TraceRefused fault) inputs old mid
+  bad_ends fault step is = record {
+    last = bad_line fault;
+    is = is;
+    by = record { known = refl; left = left_at; written = laws.no_text old.written mid.written same };
+  }
+    where
+      zero_is : (k : ℕ) → 0 ≡ k → 0 ≡ 0 + k
+      zero_is k is = omega (arith, is)
+
+      left_at : (r : Role) → IsInput r → (k : ℕ) → (bad_line fault).taken r ≡ Some k → mid.left r ≡ Some (behind inputs (λ _. 0 + k) r)
+      left_at Video input k said = others Video (λ same. cc) ∙ told Video input ∙ ap (λ (n : ℕ). Some (drop n (inputs Video))) (zero_is k (cc said))
+      left_at Events input k said = absurd (cc said)
+      left_at Video2 input k said = others Video2 (λ same. cc) ∙ told Video2 input ∙ ap (λ (n : ℕ). Some (drop n (inputs Video2))) (zero_is k (cc said))
+      left_at Pictures input k said = absurd (cc input)
+      left_at Wire input k said = absurd (cc input)
+      left_at Report input k said = absurd (cc input)
+      left_at Pictures2 input k said = absurd (cc input)
+
+  pub trace_stops : ReadLines → (buf : List ℕ) (stop : TraceStop) → BytesGive (Err stop) reader (inputs Events) buf after (mid.left Events) → Moves {A = ℕ} (Err stop) reader after
+      → GivesUp (phase (trace_stop stop)) (trace_stop stop) (duplex_step s inputs) (may_read s) inputs old mid
+  trace_stops read buf stops.Read e moves = record {
+    part = of Events e.taken;
+    partly = trace_part s inputs e.taken e.free;
+    could = going moves.0;
+    left = laws.one_read Events e.taken old mid inputs told e.gone others;
+    written = same;
+  }
+  trace_stops read buf (stops.Bad line) e moves =
+      bad_ends (BadLine line) _
+      (line_is s inputs (inputs Events) None (some_bytes (inputs Events) e.0) (omega (arith, moves.1, at.lines_are)) (long_is_bad read (first_line (inputs Events)) e.0)
+      ∙ ap (λ (n : ℕ). step_of (bad_line (BadLine n))) (ap (λ (n : ℕ). n + 1) at.lines_are ∙ sym moves.2))
+    where
+      some_bytes : (trace : List ℕ) → 64 < length (first_line trace) → 0 < length trace
+      some_bytes [] long = absurd (omega (arith, long))
+      some_bytes (b ∷ trace) long = omega arith
+  trace_stops read buf (stops.TooMany line) e moves =
+      bad_ends (TooMany line) _
+      (many_is s inputs (inputs Events) e.0 (at.lines_are ∙ moves.1)
+      ∙ ap (λ (n : ℕ). step_of (bad_line (TooMany n))) (omega (arith, at.lines_are, moves.1, moves.2)))
+
+  -- after a line
+  module _ (buf : List ℕ) (found : ℕ × ℕ) (e : BytesGive (Ok (Some found)) reader (inputs Events) buf after (mid.left Events)) (moves : Moves (Ok (Some found)) reader after) (few : after.lines ≤ 16777216) where
+    pub found_is : (o : Option (Option (Party × Line))) → party_event (take found.1 buf) ≡ o → duplex_step s inputs ≡ line_step s inputs o
+    found_is o said = line_is s inputs (inputs Events) o e.0.some (omega (arith, moves.2, few, at.lines_are)) (ap party_event (sym e.2) ∙ said)
+
+    pub found_number : found.0 ≡ s.lines + 1
+    found_number = moves.1 ∙ ap (λ (n : ℕ). n + 1) (sym at.lines_are)
+
+    pub found_taken : HasTaken inputs old mid
+    found_taken = record {
+      left = laws.one_read Events (line_size (inputs Events)) old mid inputs told (e.0.gone ∙ ap (λ (l : List ℕ). Some l) (sym (line_gone (inputs Events)))) others;
+      written = same;
+    }
+
+    pub found_could : may_read s ≡ true
+    found_could = going moves.0
+
+    -- a line that says nothing
+    pub found_bad : party_event (take found.1 buf) ≡ None → Ended (duplex_step s inputs) (TraceRefused (BadLine found.0)) inputs old mid
+    found_bad said = bad_ends (BadLine found.0) _ (found_is None said ∙ ap (λ (n : ℕ). step_of (bad_line (BadLine n))) (sym found_number))
+
+    -- an empty line
+    pub found_empty : party_event (take found.1 buf) ≡ Some None → (stands : DuplexState → (Role → List ℕ) → Type 0)
+        → stands (after_line s (inputs Events)) (behind inputs (of Events (line_size (inputs Events))))
+        → Went (duplex_step s inputs) stands may_read (may_read s) inputs old mid
+    found_empty said stands kept =
+        subst (λ (b : Bool). Went (duplex_step s inputs) stands may_read b inputs old mid) (sym found_could)
+        (line_goes laws s inputs old mid found_taken s _ stands (found_is (Some None) said) kept)
+
+  -- ---- the end of the trace: it was read out before, or is now
+
+  module _ (buf : List ℕ) (e : BytesGive (Ok None) reader (inputs Events) buf after (mid.left Events)) (over : reader.ended ≡ true → inputs Events ≡ []) (new : Outside) (still : new.left ≡ mid.left) where
+    nothing : inputs Events ≡ []
+    nothing = by_end reader.ended refl
+      where
+        by_end : (b : Bool) → reader.ended ≡ b → inputs Events ≡ []
+        by_end true is = over is
+        by_end false is = e.1 is
+
+    end_is : duplex_step s inputs ≡ step_of (all_played s)
+    end_is = ap (trace_step s inputs) nothing
+
+    told_still : Tells new inputs
+    told_still r input = ap (λ (l : Role → Option (List ℕ)). l r) still ∙ laws.none_read Events old mid inputs told nothing (e.0 ∙ ap (λ (l : List ℕ). Some l) nothing) others r input
+
+    pub read_out : new.left Events ≡ Some []
+    read_out = told_still Events refl ∙ ap (λ (l : List ℕ). Some l) nothing
+
+    pub trace_ends : Gains (both_counts s.params s.ways) mid.written new.written → Ended (duplex_step s inputs) Fine inputs old new
+    trace_ends gains = record {
+      last = all_played s;
+      is = end_is;
+      by = laws.ends Fine no_bytes (both_counts s.params s.ways) inputs old new told_still
+          (subst (λ (w : Role → Option (List ℕ)). Gains (both_counts s.params s.ways) w new.written) same gains);
+    }
+
+    pub trace_cut : GainsFronts (both_counts s.params s.ways) mid.written new.written → GainsFronts (step_texts (duplex_step s inputs)) old.written new.written
+    trace_cut gains =
+        subst (λ (x : Step DuplexState). GainsFronts (step_texts x) old.written new.written) (sym end_is)
+        (subst (λ (w : Role → Option (List ℕ)). GainsFronts (both_counts s.params s.ways) w new.written) same gains)

@@ -1,0 +1,37 @@
+use Rattle.std.proofs.Common.{ℕ, List, ◌∙◌, subst}
+use Rattle.std.proofs.lemmas.Result.{on_err_weaker, on_ok_weaker}
+use Rattle.h263_outside.specs.declared.desk.Role.{Role}
+use Rattle.h263_planes.specs.Lent.{picture}
+use Rattle.desk_program.specs.Ends.{Gains, GainsFronts}
+use Rattle.duplex_call.specs.Duplex.{with_play}
+use Rattle.duplex_ends.specs.Ways.{sides}
+use Rattle.duplex_command.proofs.Writing.{row_is}
+use Rattle.duplex_command.proofs.show.play_next.Goals as goal
+
+pub returns-clause-ok : goal.returns-clause-ok
+returns-clause-ok g c = λ p ways left holds may.
+    let outside = g.D.Desk.outside in
+    let x = c.args.party in
+    let own = c.args.own.now in
+    let far = c.args.far.now in
+    let after = c.play-mark.ensures.holds p x ways left holds may in
+    let row = row_is p x ways (c.of_plays.ensures p x ways) c.played-number.result c.play-mark.result c.reference_of_next-reference.result (picture c.shown.result)
+    (c.played-number.ensures ∙ (c.of_pairs.ensures p).played x own far ways holds) (c.play-mark.ensures.mark p x ways holds)
+    (c.reference_of_next-reference.ensures p x far ways left holds may)
+    (c.shown.ensures.holds p x c.play-mark.new.far (with_play (sides p) x ways) after)
+    in
+    on_ok_weaker c.show.result (λ gains. subst (λ (t : Role → List ℕ). Gains t (outside c.args.desk.now).written (outside c.show.new.desk).written) row gains) c.show.ensures.ok
+
+pub returns-clause-err : goal.returns-clause-err
+returns-clause-err g c = λ p ways left holds may.
+    let outside = g.D.Desk.outside in
+    let x = c.args.party in
+    let own = c.args.own.now in
+    let far = c.args.far.now in
+    let after = c.play-mark.ensures.holds p x ways left holds may in
+    let row = row_is p x ways (c.of_plays.ensures p x ways) c.played-number.result c.play-mark.result c.reference_of_next-reference.result (picture c.shown.result)
+    (c.played-number.ensures ∙ (c.of_pairs.ensures p).played x own far ways holds) (c.play-mark.ensures.mark p x ways holds)
+    (c.reference_of_next-reference.ensures p x far ways left holds may)
+    (c.shown.ensures.holds p x c.play-mark.new.far (with_play (sides p) x ways) after)
+    in
+    on_err_weaker c.show.result (λ gains. subst (λ (t : Role → List ℕ). GainsFronts t (outside c.args.desk.now).written (outside c.show.new.desk).written) row gains) c.show.ensures.err
