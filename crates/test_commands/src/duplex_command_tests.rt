@@ -408,9 +408,9 @@ b played 0 sent 0 exact 0 patched 0 held 0\n",
 
 // ---- where a call of the desk fails
 
-// The first of some calls of the desk and the one after them: how the call ends where one of these
-// fails, and what it writes on the three outputs.
-type Stretch<'a> = (u64, u64, Status, Parts<'a>, Parts<'a>, Parts<'a>);
+// Calls of the desk: how the call of two parties ends where one of these fails, and what it writes
+// on the three outputs.
+type Failing<'a> = (&'a [u64], Status, Parts<'a>, Parts<'a>, Parts<'a>);
 
 const NO_REPORT: Status = Status::OpenFault { role: Role::Report };
 
@@ -447,124 +447,116 @@ const GREY_PIECE: &[u8] = &[128; 4096];
 // read byte by byte; a frame's line is too, and its planes are in five pieces. A picture's line, its
 // planes in five pieces and its line of the report are written. The end of the trace is met, and the
 // counts of both parties are written.
-const STRETCHES: &[Stretch] = &[
-    (0, 1, NO_REPORT, NOTHING, NOTHING, NOTHING),
-    (1, 2, NO_VIDEO, NOTHING, NOTHING, &[b"cannot open video\n"]),
+const FAILING: &[Failing] = &[
+    (&[0], NO_REPORT, NOTHING, NOTHING, NOTHING),
+    (&[1], NO_VIDEO, NOTHING, NOTHING, &[b"cannot open video\n"]),
     (
-        2,
-        3,
+        &[2],
         NO_VIDEO_2,
         NOTHING,
         NOTHING,
         &[b"cannot open video 2\n"],
     ),
     (
-        3,
-        4,
+        &[3],
         NO_EVENTS,
         NOTHING,
         NOTHING,
         &[b"cannot open events\n"],
     ),
     (
-        4,
-        5,
+        &[4],
         NO_PICTURES,
         NOTHING,
         NOTHING,
         &[b"cannot open pictures\n"],
     ),
     (
-        5,
-        6,
+        &[5],
         NO_PICTURES_2,
         NOTHING,
         NOTHING,
         &[b"cannot open pictures 2\n"],
     ),
-    (6, 44, Status::ReadFault, NOTHING, NOTHING, &[READ]),
-    (44, 45, Status::WriteFault, NOTHING, NOTHING, NOTHING),
-    (45, 46, Status::WriteFault, HEAD_ALONE, NOTHING, NOTHING),
-    (46, 73, Status::ReadFault, HEAD_ALONE, HEAD_ALONE, &[READ]),
-    (73, 74, Status::WriteFault, HEAD_ALONE, HEAD_ALONE, NOTHING),
+    (&[6, 43], Status::ReadFault, NOTHING, NOTHING, &[READ]),
+    (&[44], Status::WriteFault, NOTHING, NOTHING, NOTHING),
+    (&[45], Status::WriteFault, HEAD_ALONE, NOTHING, NOTHING),
     (
-        74,
-        75,
+        &[46, 72],
+        Status::ReadFault,
+        HEAD_ALONE,
+        HEAD_ALONE,
+        &[READ],
+    ),
+    (&[73], Status::WriteFault, HEAD_ALONE, HEAD_ALONE, NOTHING),
+    (
+        &[74],
         Status::WriteFault,
         &[SHOWN_HEAD, EXACT],
         HEAD_ALONE,
         NOTHING,
     ),
     (
-        75,
-        76,
+        &[75],
         Status::WriteFault,
         &[SHOWN_HEAD, EXACT, PIECE],
         HEAD_ALONE,
         NOTHING,
     ),
     (
-        76,
-        77,
+        &[76],
         Status::WriteFault,
         &[SHOWN_HEAD, EXACT, PIECE, PIECE],
         HEAD_ALONE,
         NOTHING,
     ),
-    (79, 80, Status::WriteFault, SHOWN, HEAD_ALONE, NOTHING),
+    (&[79], Status::WriteFault, SHOWN, HEAD_ALONE, NOTHING),
     (
-        80,
-        99,
+        &[80, 98],
         Status::ReadFault,
         SHOWN,
         HEAD_ALONE,
         &[A_LINE, READ],
     ),
-    (99, 100, Status::WriteFault, SHOWN, HEAD_ALONE, &[A_LINE]),
+    (&[99], Status::WriteFault, SHOWN, HEAD_ALONE, &[A_LINE]),
     (
-        100,
-        101,
+        &[100],
         Status::WriteFault,
         SHOWN,
         &[SHOWN_HEAD, HELD],
         &[A_LINE],
     ),
     (
-        101,
-        102,
+        &[101],
         Status::WriteFault,
         SHOWN,
         &[SHOWN_HEAD, HELD, GREY_PIECE],
         &[A_LINE],
     ),
-    (105, 106, Status::WriteFault, SHOWN, HELD_SHOWN, &[A_LINE]),
+    (&[105], Status::WriteFault, SHOWN, HELD_SHOWN, &[A_LINE]),
     (
-        106,
-        107,
+        &[106],
         Status::ReadFault,
         SHOWN,
         HELD_SHOWN,
         &[A_LINE, B_LINE, READ],
     ),
     (
-        107,
-        108,
+        &[107],
         Status::WriteFault,
         SHOWN,
         HELD_SHOWN,
         &[A_LINE, B_LINE],
     ),
     (
-        108,
-        109,
+        &[108],
         Status::WriteFault,
         SHOWN,
         HELD_SHOWN,
         &[A_LINE, B_LINE, A_COUNTS],
     ),
     (
-        109,
-        110,
+        &[109],
         Status::Ok,
         SHOWN,
         HELD_SHOWN,
@@ -572,17 +564,17 @@ const STRETCHES: &[Stretch] = &[
     ),
 ];
 
-// For the calls up to the first that isn't made.
+// The first and the last of each row of reads, up to the first call that isn't made.
 #[test]
 fn each_call_of_a_duplex_call(rt: HostRuntime) -> Result<(), Fail> {
     let params = Params::of(Format::Qcif);
-    for (first, after, ends, pictures, pictures2, report) in STRETCHES {
-        for failing in *first..*after {
+    for (calls, ends, pictures, pictures2, report) in FAILING {
+        for failing in *calls {
             let case = Case {
                 video: ONE,
                 video2: ONE,
                 events: &[b"a S\na D 0.*\na P\nb S\nb P\n"],
-                failing,
+                failing: *failing,
                 ends: *ends,
                 pictures,
                 pictures2,
