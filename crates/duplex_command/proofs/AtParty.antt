@@ -82,7 +82,7 @@ stands_so (Ok true) step P Q reads now inputs old new so w = record {
 stands_so (Ok false) step P Q reads now inputs old new so w = w
 stands_so (Err status) step P Q reads now inputs old new so w = w
 
-ready_so : (r : Result Bool Status) (P Q : Type 0) → (P → Q) → OnGoing r P → OnGoing r Q
+pub ready_so : (r : Result Bool Status) (P Q : Type 0) → (P → Q) → OnGoing r P → OnGoing r Q
 ready_so (Ok true) P Q so p = so p
 ready_so (Ok false) P Q so p = tt
 ready_so (Err status) P Q so p = tt

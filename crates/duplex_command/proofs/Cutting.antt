@@ -60,8 +60,7 @@ module _ (s : DuplexState) (trace : List ℕ) where
   turn_unless e None step is = is
   turn_unless e (Some r) step is = tt
 
--- where a video stands in a role that is not the trace's
-module _ (video pictures : Role) (refuses : Y4mFault → Status) (none : (n : ℕ) → of video n Events ≡ 0) (x : Party) (s : DuplexState) (trace : List ℕ) where
+module _ (video pictures : Role) (refuses : Y4mFault → Status) (x : Party) (s : DuplexState) (trace : List ℕ) where
   turn_captured : (size : ℕ) (r : Result (List ℕ) Y4mFault) → IsLineTurn trace (captured_step video pictures refuses x s trace size r)
   turn_captured size (Ok planes) = (refl, more_size (line_size trace) (of video size Events))
   turn_captured size (Err fault) = tt

@@ -1,7 +1,8 @@
 -- A line that was read: it is refused, or its event is done, over a desk where its party is the first one.
-use Rattle.std.proofs.Common.{◌≡◌, ℕ, ◌+◌, ◌-◌, ◌≤◌, ◌↔◌, true, List, [], ◌++◌, length, drop, Option, None, Some, Result, Ok, Err, refl, sym, ap, subst, ◌∙◌, arith}
+use Rattle.std.proofs.Common.{◌≡◌, ℕ, ◌+◌, ◌-◌, ◌≤◌, Bool, true, List, [], ◌++◌, length, drop, Option, None, Some, Result, Ok, Err, IsErrAnd, refl, sym, ap, subst, ◌∙◌, arith}
+use Rattle.h263_types.specs.Sizes.{size_of_picture}
 use Rattle.h263_types.specs.declared.params.Params.{Params}
-use Rattle.h263_outside.specs.Desk.{Outside}
+use Rattle.h263_outside.specs.Desk.{Outside, Rose}
 use Rattle.h263_outside.specs.declared.desk.Role.{Role}
 use Rattle.h263_outside.specs.declared.desk.Role.TheVariants.{Video, Events, Pictures}
 use Rattle.y4m.specs.declared.reader.Y4mReader.{Y4mReader}
@@ -10,10 +11,11 @@ use Rattle.loss_trace.specs.declared.event.Event.TheVariants as says
 use Rattle.loss_trace.specs.declared.fault.TraceFault.{TraceFault}
 use Rattle.loss_trace.specs.declared.reader.TraceReader.{TraceReader}
 use Rattle.loss_trace.specs.Lines.{is_closed}
-use Rattle.call_report.specs.declared.status.Status.TheVariants.{TraceRefused, VideoRefused}
+use Rattle.call_report.specs.declared.status.Status.{Status}
+use Rattle.call_report.specs.declared.status.Status.TheVariants.{TraceRefused, VideoRefused, WriteFault}
 use Rattle.desk_program.specs.Run.{Step, behind}
 use Rattle.desk_program.specs.Run.Step.{Goes}
-use Rattle.desk_program.specs.Ends.{Ended, Gains, GainsFronts, TurnGives, Went, step_texts}
+use Rattle.desk_program.specs.Ends.{Ended, Gains, GainsFronts, KeepsRoles, TurnGives, Went, step_texts}
 use Rattle.desk_program.specs.Laws.{TurnLaws}
 use Rattle.desk_program.specs.Texts.{and_of, no_texts, of}
 use Rattle.call_model.specs.IdealCall.{Event, Send, Deliver, Play, Back}
@@ -27,15 +29,16 @@ use Rattle.duplex_call.specs.declared.line.Party.{Party}
 use Rattle.duplex_call.specs.declared.line.Party.TheVariants.{A, B}
 use Rattle.duplex_call.specs.Duplex.{MayHappenOf, WayRuns, other, with_play, with_shot}
 use Rattle.duplex_call.specs.Refused.{NoneWhereItMayHappenOf, refusal_of}
-use Rattle.duplex_ends.specs.Pair.{AreInCall, HoldsPair, IsInCall, MayHappenNow}
+use Rattle.duplex_ends.specs.Pair.{AreInCall, HoldsPair, IsInCall}
 use Rattle.duplex_ends.specs.Ways.{call_in, sides}
 use Rattle.duplex_ends.specs.declared.party.PartyEnds.{PartyEnds}
 use Rattle.duplex_command.specs.declared.station.Station.{Station}
 use Rattle.duplex_command.specs.Duplex.{DuplexState, after_line, capture_step, event_step, may_read, place_of, play_step, play_texts, quiet_step, refusal_at, seen_of, unless, with_frame, with_next}
 use Rattle.duplex_command.specs.Lines.{HasTaken, IsChecked, fault_at, fault_of, line_size, line_turn}
-use Rattle.duplex_command.specs.Standing.{StationsStand, place_in}
-use Rattle.duplex_command.specs.Turning.{IsRead, after_first}
-use Rattle.duplex_command.proofs.LineTurning.{double_not, line_goes, line_refused}
+use Rattle.duplex_command.specs.Standing.{StationReady, StationsReady, StationsStand, place_in}
+use Rattle.duplex_command.specs.Turning.{IsPartyTurn, IsRead, TakesFrame}
+use Rattle.duplex_command.proofs.LineTurning.{double_not, line_goes, line_refused, place_same}
+use Rattle.duplex_command.proofs.PartyTurns.{was_cut, went_on}
 
 -- ---- at some point of the call
 
@@ -50,29 +53,23 @@ pub may_happen : Refusals → (p : Party → Params) (x : Party) (ways : WayRuns
     → MayHappenOf (sides p) (one_left p x ways) x e ways
 may_happen laws p x ways e none = (laws p (one_left p x ways) x e ways).0 none
 
--- an event that is not refused may happen at some point
-pub may_now : Refusals → (own far : PartyEnds) (k : AreInCall own far) (e : Event) → refusal_of (sides k.params) (one_left k.params k.party k.ways) k.party e k.ways ≡ None
-    → MayHappenNow own far e
-may_now laws own far k e none = record {
-  params = k.params;
-  party = k.party;
-  ways = k.ways;
-  left = one_left k.params k.party k.ways;
-  holds = k.holds;
-  may = may_happen laws k.params k.party k.ways e none;
-}
-
 pub is_in_call : (own far : PartyEnds) → AreInCall own far → IsInCall own
 is_in_call own far k = record { far = far; both = k }
+
+-- a station is as ready as it was, where its ends have the same parameters and sent the same
+pub station_kept : (station : Station) (ends : PartyEnds) (room : ℕ) → StationReady station room → ends.params ≡ station.ends.params → ends.sender.sent ≡ station.ends.sender.sent
+    → StationReady (record station { ends = ends }) room
+station_kept station ends room r params sent =
+    let same = ap (λ (p : Params). p.format) params in
+    record {
+      format = r.format ∙ sym same;
+      frame = omega (arith, r.frame, ap size_of_picture same);
+      sent = omega (arith, r.sent, sent);
+    }
 
 -- what was asked, by what the line says
 pub asked : (r : Result Unit Told) (event said : Line) (refusal : Event → Option Refusal) → event ≡ said → IsChecked r event refusal → IsChecked r said refusal
 asked r event said refusal is checked = subst (λ (e : Line). IsChecked r e refusal) is checked
-
--- a party's video stands where it stood, where both do
-pub place_same : (y : Party) (s t : DuplexState) → s.video_a ≡ t.video_a → s.video_b ≡ t.video_b → place_of y s ≡ place_of y t
-place_same A s t a b = a
-place_same B s t a b = b
 
 -- ---- the line of a party
 
@@ -188,3 +185,41 @@ module _ (x : Party) (own far : Station) (line : ℕ) (trace_new : TraceReader) 
           → StationsStand y own_new far trace_new (after_line (with_frame y s size out) trace) (behind inputs (and_of taken_line (of Video size)) Events)
       by_party A far_place lines ended own_place holds = record { own_place = own_place; far_place = far_place; lines = lines; ended = ended; over = over; holds = holds }
       by_party B far_place lines ended own_place holds = record { own_place = own_place; far_place = far_place; lines = lines; ended = ended; over = over; holds = holds }
+
+-- ---- what a line's turn is, by what the line says
+
+module _ (x : Party) (own far own_new far_new : Station) (line room : ℕ) (event said : Line) (mid new : Outside) where
+  abbrev LineTurn : Line → Result Bool Status → Type 0
+  LineTurn e r =
+      IsPartyTurn x own_new far_new r mid new room (λ trace. IsRead x own far line trace mid) (λ s inputs. event_step Video Pictures VideoRefused x s (inputs Events) inputs e)
+
+  -- one whose event is done
+  pub event_done : event ≡ said → StationsReady own_new far_new room → KeepsRoles mid new
+      → ((trace : TraceReader) (old : Outside) (s : DuplexState) (inputs : Role → List ℕ) → IsRead x own far line trace mid old s inputs
+      → Went (event_step Video Pictures VideoRefused x s (inputs Events) inputs said) (λ next rest. StationsStand x own_new far_new trace next (rest Events)) may_read true inputs old new)
+      → LineTurn event (Ok true)
+  event_done is ready rest gives = subst (λ (e : Line). LineTurn e (Ok true)) (sym is) (went_on x own_new far_new mid new room _ _ ready rest gives)
+
+  -- one that can't write
+  pub event_cut : event ≡ said → (r : Result Bool Status) (status : Status) → IsErrAnd r (λ z. z ≡ status) → status ≡ WriteFault → Rose mid.faults.write new.faults.write → KeepsRoles mid new
+      → ((trace : TraceReader) (old : Outside) (s : DuplexState) (inputs : Role → List ℕ) → IsRead x own far line trace mid old s inputs
+      → GainsFronts (step_texts (event_step Video Pictures VideoRefused x s (inputs Events) inputs said)) old.written new.written)
+      → LineTurn event r
+  event_cut is r status answer kind rose rest gives = subst (λ (e : Line). LineTurn e r) (sym is) (was_cut x own_new far_new mid new room _ _ r status answer kind rose rest gives)
+
+-- one that asks for a frame
+pub frame_asked : (x : Party) (own far own_new : Station) (line room : ℕ) (event : Line) (r : Result Bool Status) (mid new : Outside) → event ≡ says.Send
+    → TakesFrame x own far own_new line r mid new room
+    → ((trace : TraceReader) (old : Outside) (s : DuplexState) (inputs : Role → List ℕ) → IsRead x own far line trace mid old s inputs → refusal_at x s Send ≡ None)
+    → LineTurn x own far own_new far line room event says.Send mid new event r
+frame_asked x own far own_new line room event r mid new is t none = subst (λ (e : Line). LineTurn x own far own_new far line room event says.Send mid new e r) (sym is) (record {
+  gives = λ trace old s inputs b.
+      subst (λ (step : Step DuplexState). TurnGives r step (λ next rest. StationsStand x own_new far trace next (rest Events)) may_read true inputs old new)
+      (sym (ap (λ (o : Option Refusal). unless s (inputs Events) Send o (capture_step Video Pictures VideoRefused x s (inputs Events) (inputs Video))) (none trace old s inputs b)))
+      (t.gives trace old s inputs (record { read = b; none = none trace old s inputs b }));
+  goes_on = t.goes_on;
+  ready = t.ready;
+  stop = t.stop;
+  cause = t.cause;
+  rest = t.rest;
+})

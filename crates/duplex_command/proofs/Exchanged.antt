@@ -68,10 +68,14 @@ shown_texts x n reference (shown ∷ plays) = fun_ext by_role
 
 -- ---- step by step
 
-ends_so : (status : Status) (a b : Role → Option ℕ) → a ≡ b → Ends {State = DuplexState} (record { status = status; taken = a; texts = no_texts }) ≡ Ends (record { status = status; taken = b; texts = no_texts })
-ends_so status a b same = ap (λ (taken : Role → Option ℕ). Ends (record { status = status; taken = taken; texts = no_texts })) same
+-- a step that ends
+abbrev step_of : End → Step DuplexState
+step_of last = Ends last
 
-line_refused : (trace : List ℕ) (fault : TraceFault) → second_step (Ends {State = DuplexState} (refused_line trace fault)) ≡ Ends (refused_line trace fault)
+ends_so : (status : Status) (a b : Role → Option ℕ) → a ≡ b → step_of (record { status = status; taken = a; texts = no_texts }) ≡ step_of (record { status = status; taken = b; texts = no_texts })
+ends_so status a b same = ap (λ (taken : Role → Option ℕ). step_of (record { status = status; taken = taken; texts = no_texts })) same
+
+line_refused : (trace : List ℕ) (fault : TraceFault) → second_step (step_of (refused_line trace fault)) ≡ step_of (refused_line trace fault)
 line_refused trace fault =
     ends_so (TraceRefused fault) (λ r. Some (of Events (line_size trace) (exchanged r))) (λ r. Some (of Events (line_size trace) r))
     (ap (λ (taken : Role → ℕ). λ r. Some (taken r)) (line_taken (line_size trace)))
@@ -111,4 +115,5 @@ module _ (x : Party) (s : DuplexState) (trace : List ℕ) where
   event_at_second inputs (says.Back k) = line_refused trace _
   event_at_second inputs says.Play =
       event_unless Play (refusal_at x s Play) _ _
-      (line_goes trace (after_line (with_next x s) trace) _ _ (shown_texts x (seen_of x s).played _ (seen_of x (with_next x s)).plays))
+      (line_goes trace (after_line (with_next x s) trace) (play_texts Pictures x (seen_of x (with_next x s)) (seen_of x s).played) (play_texts Pictures2 x (seen_of x (with_next x s)) (seen_of x s).played)
+      (shown_texts x (seen_of x s).played _ (seen_of x (with_next x s)).plays))

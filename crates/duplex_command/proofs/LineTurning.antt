@@ -27,8 +27,9 @@ use Rattle.desk_program.specs.Texts.{no_bytes, no_texts, of}
 use Rattle.desk_program.specs.Laws.{TurnLaws}
 use Rattle.duplex_call.specs.declared.line.Party.{Party}
 use Rattle.duplex_call.specs.declared.line.Party.TheVariants.{A, B}
+use Rattle.duplex_call.specs.Duplex.{other}
 use Rattle.duplex_call.specs.Lines.{lettered, of_party, party_event}
-use Rattle.duplex_command.specs.Duplex.{DuplexState, after_line, all_played, both_counts, duplex_step, line_step, may_read, quiet_step, trace_step}
+use Rattle.duplex_command.specs.Duplex.{DuplexState, after_line, all_played, both_counts, duplex_step, line_step, may_read, place_of, trace_step}
 use Rattle.duplex_command.specs.Lines.{HasTaken, bad_line, line_size, line_turn, refused_line}
 use Rattle.duplex_command.specs.Standing.{StationsStand}
 use Rattle.duplex_command.specs.declared.station.Station.{Station}
@@ -72,11 +73,11 @@ double_not false = refl
 
 -- ---- a line of more than 64 bytes says no event
 
-most_of : Part → ℕ
+abbrev most_of : Part → ℕ
 most_of (Word word) = length word
 most_of (Number n) = 7
 
-most : List Part → ℕ
+abbrev most : List Part → ℕ
 most [] = 0
 most (part ∷ parts) = most_of part + most parts
 
@@ -97,7 +98,7 @@ event_len (says.All n) = lit≤ tt
 event_len (says.Back n) = lit≤ tt
 event_len says.Play = lit≤ tt
 
-ReadLines : Type 0
+abbrev pub ReadLines : Type 0
 ReadLines = (line : List ℕ) (event : Line) → event_in line ≡ Some event → IsLine event line
 
 module _ (read : ReadLines) where
@@ -177,16 +178,21 @@ module _ (laws : TurnLaws) (s : DuplexState) (inputs : Role → List ℕ) (befor
 
 -- ---- the reader of the trace
 
+-- a party's video stands where it stood, where both do
+pub place_same : (y : Party) (s t : DuplexState) → s.video_a ≡ t.video_a → s.video_b ≡ t.video_b → place_of y s ≡ place_of y t
+place_same A s t a b = a
+place_same B s t a b = b
+
 -- after a line the stations stand where it was passed
-pub passed : (x : Party) (own far : Station) (s : DuplexState) (trace : List ℕ) (old after : TraceReader) (left : Option (List ℕ))
-    → StationsStand x own far old s trace → after.lines ≡ old.lines + 1 → Passes trace after left
-    → StationsStand x own far after (after_line s trace) (drop (line_size trace) trace)
-passed x own far s trace old after left k lines passes = record {
-  own_place = k.own_place;
-  far_place = k.far_place;
+pub passed : (x : Party) (own far : Station) (s : DuplexState) (rest : List ℕ) (old after : TraceReader) (left : Option (List ℕ))
+    → StationsStand x own far old s rest → after.lines ≡ old.lines + 1 → Passes rest after left
+    → StationsStand x own far after (after_line s rest) (drop (line_size rest) rest)
+passed x own far s rest old after left k lines passes = record {
+  own_place = place_same x (after_line s rest) s refl refl ∙ k.own_place;
+  far_place = place_same (other x) (after_line s rest) s refl refl ∙ k.far_place;
   lines = ap (λ (n : ℕ). n + 1) k.lines ∙ sym lines;
   ended = sym passes.ends;
-  over = λ ended. nothing_behind trace (open_end (is_closed trace) (sym passes.ends ∙ ended));
+  over = λ ended. nothing_behind rest (open_end (is_closed rest) (sym passes.ends ∙ ended));
   holds = k.holds;
 }
   where

@@ -1,5 +1,5 @@
 -- The kinds of turns of a party, and how the answers of two steps add up.
-use Rattle.std.proofs.Common.{◌≡◌, ℕ, Bool, true, false, List, Option, Result, Ok, Err, IsErrAnd, IsErrOf, IfErr, OnErr, OnOk, refl, sym, subst, ◌∙◌, arith}
+use Rattle.std.proofs.Common.{◌≡◌, ℕ, ◌≤◌, Bool, true, false, List, Option, Result, Ok, Err, IsErrAnd, IsErrOf, IfErr, OnErr, OnOk, refl, sym, subst, ◌∙◌, arith}
 use Rattle.h263_outside.specs.Desk.{Faults, NoneFalls, OnlyReads, OnlyWrites, Outside, Rose}
 use Rattle.h263_outside.specs.declared.desk.Role.{Role}
 use Rattle.h263_outside.specs.declared.desk.Role.TheVariants.{Events}

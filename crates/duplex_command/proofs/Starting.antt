@@ -55,6 +55,9 @@ in_range p f g is B = in_format p g is
 place_first : (v w : Y4mReader) (n : ℕ) → v ≡ w → w.at ≡ n → w.more ≡ most_frames → record { at = n; more = 1048576 } ≡ place_in v
 place_first v w n is at more = (λ i. record { at = sym at i; more = sym more i }) ∙ ap place_in (sym is)
 
+pub fits : (f g : Format) (long room : ℕ) → f ≡ g → long ≡ room → size_of_picture f ≤ room → size_of_picture g ≤ long
+fits f g long room same is le = subst (λ (h : Format). size_of_picture h ≤ long) same (subst (λ (n : ℕ). size_of_picture f ≤ n) (sym is) le)
+
 not_ended : (ended : Bool) (l : List ℕ) → ended ≡ false → ended ≡ true → l ≡ []
 not_ended ended l none over = absurd (cc (none, over))
 

@@ -1,34 +1,33 @@
 -- What a turn of a party does, by what it answers, on a desk where it is the first party.
-use Rattle.std.specs.Prelude.{◌≡◌, ℕ, ◌+◌, Bool, true, List, length, Some, None, Result, IfErr}
-use Rattle.h263_types.specs.declared.params.Params.{Params}
+use Rattle.std.specs.Prelude.{◌≡◌, ℕ, ◌+◌, Bool, true, List, [], Some, None, Result, IfErr}
 use Rattle.h263_planes.specs.Picture.{Picture}
 use Rattle.h263_outside.specs.Desk.{Outside}
 use Rattle.h263_outside.specs.declared.desk.Role.{Role}
 use Rattle.h263_outside.specs.declared.desk.Role.TheVariants.{Video, Events, Pictures, Report}
 use Rattle.y4m.specs.Text.{frame_text}
 use Rattle.y4m.specs.declared.fault.Y4mFault.{Y4mFault}
+use Rattle.loss_trace.specs.declared.event.Event.{Event as Line}
+use Rattle.loss_trace.specs.declared.event.Event.TheVariants as says
 use Rattle.loss_trace.specs.declared.reader.TraceReader.{TraceReader}
 use Rattle.call_report.specs.declared.status.Status.{Status}
 use Rattle.call_report.specs.declared.status.Status.TheVariants.{VideoRefused}
 use Rattle.call_report.specs.Text.{picture_text}
-use Rattle.call_model.specs.IdealCall.{Send}
-use Rattle.call_encoding.specs.Frames.{Frame}
+use Rattle.call_model.specs.IdealCall.{Send, Deliver, Play}
 use Rattle.desk_program.specs.Run.{Step, behind}
-use Rattle.desk_program.specs.Ends.{HasCause, IsStop, KeepsRoles, OnEnd, OnGoing, TurnGives, turn_status}
+use Rattle.desk_program.specs.Ends.{Falls, HasCause, IsStop, KeepsRoles, OnEnd, OnGoing, Tells, TurnGives, turn_status}
 use Rattle.desk_program.specs.Texts.{of, on, then_also}
 use Rattle.duplex_command.specs.Lines.{line_size}
 use Rattle.duplex_command.specs.Lines.{HasTaken}
 use Rattle.duplex_call.specs.declared.line.Party.{Party}
 use Rattle.duplex_call.specs.declared.line.Party.TheVariants.{A}
-use Rattle.duplex_call.specs.Duplex.{WayRuns}
-use Rattle.duplex_call.specs.Refused.{refusal_of}
-use Rattle.duplex_ends.specs.Pair.{HoldsPair}
-use Rattle.duplex_ends.specs.Ways.{call_in, sides}
+use Rattle.duplex_ends.specs.Pair.{MayHappenNow}
+use Rattle.duplex_ends.specs.declared.party.PartyEnds.{PartyEnds}
 use Rattle.duplex_command.specs.declared.event.Said.{Said}
 use Rattle.duplex_command.specs.declared.show.Row.{Row}
 use Rattle.duplex_command.specs.declared.station.Station.{Station}
-use Rattle.duplex_command.specs.Duplex.{DuplexState, after_line, capture_step, event_step, letter_of, may_read, party_step, refusal_at}
-use Rattle.duplex_command.specs.Standing.{StationsReady, StationsStand}
+use Rattle.duplex_command.specs.declared.talk.Talk.{Talk}
+use Rattle.duplex_command.specs.Duplex.{DuplexState, after_line, capture_step, duplex_step, event_step, letter_of, may_read, party_step, refusal_at}
+use Rattle.duplex_command.specs.Standing.{StationsReady, StationsStand, TalkReady, TalkStands, more_of}
 
 -- what is left of the trace after its first line
 abbrev pub after_first : (Role → List ℕ) → List ℕ
@@ -76,14 +75,19 @@ pub record IsAsked (x : Party) (own far : Station) (line : ℕ) (trace : TraceRe
   pub read : IsRead x own far line trace now old s inputs
   pub none : refusal_at x s Send ≡ None
 
--- at some point of the call of both parties the first one's next picture may be captured
+-- the event that the line says may happen at some point of the call of both parties
+abbrev pub MayBeDone : PartyEnds → PartyEnds → Line → Type 0
+MayBeDone own far says.Nothing = Unit {0}
+MayBeDone own far says.Send = MayHappenNow own far Send
+MayBeDone own far (says.Packet n j) = MayHappenNow own far (Deliver n j)
+MayBeDone own far (says.All n) = MayHappenNow own far (Deliver n 0)
+MayBeDone own far (says.Back k) = ⊥
+MayBeDone own far says.Play = MayHappenNow own far Play
+
+-- and a frame may be captured
 pub record MayCapture (own far : Station) (room : ℕ) : Type 0 where
   pub stations : StationsReady own far room
-  pub params : Party → Params
-  pub party : Party
-  pub ways : WayRuns Frame
-  pub holds : HoldsPair params party own.ends far.ends ways
-  pub none : refusal_of (sides params) (length (call_in params party ways).coded + 1) party Send ways ≡ None
+  pub may : MayHappenNow own.ends far.ends Send
 
 abbrev pub TakesFrame : Party → Station → Station → Station → ℕ → Result Bool Status → Outside → Outside → ℕ → Type 0
 TakesFrame x own far own_new line result mid new room =
@@ -97,3 +101,17 @@ abbrev pub row_texts : Row → Picture → Role → List ℕ
 row_texts row picture =
     then_also (on Pictures (frame_text row.mark picture))
     (on Report (picture_text row.number (Some row.mark) (Some row.reference) (Some (letter_of row.party))))
+
+-- ---- a whole turn
+
+pub record TakesTurn (x y : Talk) (result : Result Bool Status) (old new : Outside) : Type 0 where
+  pub gives : (s : DuplexState) (inputs : Role → List ℕ) → TalkStands x s inputs → Tells old inputs
+      → TurnGives result (duplex_step s inputs) (TalkStands y) may_read (may_read s) inputs old new
+  -- at the end the trace is read out
+  pub whole : (s : DuplexState) (inputs : Role → List ℕ) → TalkStands x s inputs → Tells old inputs
+      → OnEnd result (new.left Events ≡ Some [])
+  pub falls : Falls result (more_of x) (more_of y)
+  pub ready : OnGoing result (TalkReady y new.attached)
+  pub stop : IfErr result IsStop
+  pub cause : HasCause (turn_status result) old.faults new.faults
+  pub rest : KeepsRoles old new

@@ -1,6 +1,7 @@
 //! How a call of two parties begins.
-ghost use Rattle.std.specs.Prelude.{IfOk};
+ghost use Rattle.std.specs.Prelude.{◌≤◌, IfOk};
 ghost use Rattle.h263_types.specs.Params.{IsParams};
+ghost use Rattle.h263_types.specs.Sizes.{size_of_picture};
 ghost use Rattle.duplex_command.specs.Begin.{IsNewTalk};
 
 use crate::heads::{Heads, read_heads, write_heads};
@@ -9,9 +10,17 @@ use call_report::Status;
 use desk_program::{Begins, laws as desk_program_laws};
 use duplex_ends::{PartyEnds, laws as duplex_ends_laws};
 use h263_outside::{Desk, OutOfMemory};
-use h263_types::Params;
+use h263_types::{Format, Params};
 use loss_trace::TraceReader;
 use std::alloc::Global;
+
+// Room for a picture of either format.
+fn room_for(a: Format, b: Format) -> u32
+    ensures first { size_of_picture a ≤ result }
+    ensures second { size_of_picture b ≤ result }
+{
+    a.size().max(b.size())
+}
 
 // Starts the ends of both parties, each with the format of its video.
 fn start_talk(alloc: Global, setup: &Params, heads: &Heads) -> Result<Talk, OutOfMemory>
@@ -26,8 +35,7 @@ fn start_talk(alloc: Global, setup: &Params, heads: &Heads) -> Result<Talk, OutO
         format: heads.b.format(),
         ..*setup
     };
-    let room = a.format.size().max(b.format.size());
-    let frame = vec![in alloc; 0; room as usize]?;
+    let frame = vec![in alloc; 0; room_for(a.format, b.format) as usize]?;
     let first = PartyEnds::start(alloc, &a)?;
     match PartyEnds::start(alloc, &b) {
         Ok(second) => Ok(Talk {

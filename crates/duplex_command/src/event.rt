@@ -1,5 +1,5 @@
 //! What a line says is done, for the party whose pictures it is about.
-ghost use Rattle.std.specs.Prelude.{◌≡◌, ◌+◌, ℕ, length, true};
+ghost use Rattle.std.specs.Prelude.{◌≡◌, ◌+◌, ℕ, OnOk, length, true};
 ghost use Rattle.h263_outside.specs.declared.desk.Role.TheVariants.{Pictures, Pictures2, Video, Video2};
 ghost use Rattle.h263_types.specs.Sizes.{size_of_picture};
 ghost use Rattle.h263_types.specs.declared.params.Params.{Params};
@@ -13,7 +13,7 @@ ghost use Rattle.duplex_ends.specs.Pair.{AreInCall, HoldsPair, IsInCall};
 ghost use Rattle.duplex_ends.specs.Ways.{call_in, sides};
 ghost use Rattle.duplex_command.specs.declared.station.Station.{Station};
 ghost use Rattle.duplex_command.specs.Standing.{DuplexOpens, PartyOpens, StationsReady};
-ghost use Rattle.duplex_command.specs.Turning.{MayCapture, TakesEvent, TakesFrame, TakesLine};
+ghost use Rattle.duplex_command.specs.Turning.{MayBeDone, MayCapture, TakesEvent, TakesFrame, TakesLine};
 
 use crate::show::play_next;
 use crate::{Station, laws, second_result};
@@ -52,7 +52,8 @@ fn fault_at(line: u32, refusal: Refusal) -> TraceFault
 // Why the event is not done, if it isn't.
 fn check(event: Event, own: &Station, far: &Station) -> Result<(), Refusal>
     requires { AreInCall own.now.ends far.now.ends }
-    ensures { (p : Party → Params) (x : Party) (ways : WayRuns Frame)
+    ensures may { OnOk result (MayBeDone own.now.ends far.now.ends event) }
+    ensures refusal { (p : Party → Params) (x : Party) (ways : WayRuns Frame)
         → HoldsPair p x own.now.ends far.now.ends ways → IsChecked result event
         (λ e. refusal_of (sides p) (length (call_in p x ways).coded + 1) x e ways) }
 {
@@ -107,8 +108,8 @@ fn party_turn<D: Desk>(
 ) -> Result<bool, Status>
     requires opens { PartyOpens Video Pictures (D.outside desk.old).attached }
     requires ready { StationsReady own.old far.old (length frame.old) }
-    ensures { TakesEvent Video Pictures Status.VideoRefused own.old far.old own.new far.new said result
-        (D.outside desk.old) (D.outside desk.new) (length frame.old) }
+    ensures { TakesEvent Video Pictures Status.VideoRefused own.old far.old own.new far.new said
+        result (D.outside desk.old) (D.outside desk.new) (length frame.old) }
 {
     desk_program_laws::of_turns();
     laws::of_refusals();

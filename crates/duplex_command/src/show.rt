@@ -12,7 +12,7 @@ ghost use Rattle.one_way.specs.Seen.{in_call};
 ghost use Rattle.duplex_call.specs.declared.line.Party.{Party};
 ghost use Rattle.duplex_call.specs.declared.line.Party.TheVariants.{A};
 ghost use Rattle.duplex_call.specs.Duplex.{MayHappenOf, WayRuns, with_play};
-ghost use Rattle.duplex_ends.specs.Pair.{HoldsPair, MayHappenNow};
+ghost use Rattle.duplex_ends.specs.Pair.{AreInCall, HoldsPair, MayHappenNow};
 ghost use Rattle.duplex_ends.specs.Ways.{call_in, sides};
 ghost use Rattle.duplex_command.specs.Duplex.{both_counts, letter_of, play_texts};
 ghost use Rattle.duplex_command.specs.Turning.{row_texts};
@@ -82,6 +82,7 @@ pub fn play_next<D: Desk>(
     requires pictures { (D.outside desk.old).attached Pictures ≡ true }
     requires report { (D.outside desk.old).attached Report ≡ true }
     requires near { MayHappenNow own.old far.old Play }
+    ensures ready { AreInCall own.new far.new }
     ensures own_params { own.new.params ≡ own.old.params }
     ensures far_params { far.new.params ≡ far.old.params }
     ensures own_sent { own.new.sender ≡ own.old.sender }

@@ -1,13 +1,16 @@
 //! The machine of a call of two parties: one line of its trace is a turn.
+ghost use Rattle.std.specs.Prelude.{◌≡◌, ◌≤◌, MatchResult, None, Some, length, take};
+ghost use Rattle.duplex_call.specs.Lines.{party_event};
+
 use crate::Station;
 use crate::event::{Said, event_turn};
 use crate::show::tell_counts;
 use call_report::Status;
 use desk_program::{Turns, laws as desk_program_laws};
-use duplex_call::party_line;
+use duplex_call::{Party, party_line};
 use h263_outside::{Desk, laws as outside_laws};
 use loss_trace::laws::exact_lines;
-use loss_trace::{TraceFault, TraceReader};
+use loss_trace::{BadLine, Event, TraceFault, TraceReader};
 
 /// The machine of a call of two parties: both of them, the reader of its trace, and room for a frame
 /// of either video. It must be finished.
@@ -18,7 +21,19 @@ pub struct Talk {
     pub frame: Vec<u8>,
 }
 
+// What the line of this length says at the start of a buffer.
+fn line_in(bytes: &[u8], size: u32) -> Result<Option<(Party, Event)>, BadLine>
+    ensures { size ≤ length bytes.now → MatchResult result
+        (λ said. party_event (take size bytes.now) ≡ Some said)
+        (λ _. party_event (take size bytes.now) ≡ None) }
+{
+    party_line(&bytes[..bytes.len().min(size as usize)])
+}
+
 impl Talk {
+    ghost use Rattle.duplex_command.specs.Standing.{TalkReady};
+    ghost use Rattle.duplex_command.specs.Turning.{TakesTurn};
+
     /// Gives back what the ends hold.
     pub fn finish(self) {
         let Talk {
@@ -29,6 +44,31 @@ impl Talk {
         } = self;
         a.finish();
         b.finish();
+    }
+
+    // The next line is done, or refused. False at the end of the trace.
+    fn line_turn<D: Desk>(&mut self, desk: &mut D) -> Result<bool, Status>
+        requires { TalkReady self.old (D.outside desk.old).attached }
+        ensures { TakesTurn self.old self.new result (D.outside desk.old) (D.outside desk.new) }
+    {
+        desk_program_laws::of_turns();
+        outside_laws::calls();
+        exact_lines();
+        let mut bytes = [0; 64];
+        let Some((line, length)) = self.trace.raw(desk, &mut bytes)? else {
+            tell_counts(desk, &self.a.ends, &self.b.ends)?;
+            return Ok(false);
+        };
+        match line_in(&bytes, length) {
+            Ok(Some((party, event))) => {
+                let said = Said { line, party, event };
+                event_turn(desk, said, &mut self.a, &mut self.b, &mut self.frame)
+            }
+            Ok(None) => Ok(true),
+            Err(_) => Err(Status::TraceRefused {
+                fault: TraceFault::BadLine { line },
+            }),
+        }
     }
 }
 
@@ -53,23 +93,6 @@ impl Turns for Talk {
     ghost reading = { λ _. Some Events };
 
     fn turn<D: Desk>(&mut self, desk: &mut D) -> Result<bool, Status> {
-        desk_program_laws::of_turns();
-        outside_laws::calls();
-        exact_lines();
-        let mut bytes = [0; 64];
-        let Some((line, length)) = self.trace.raw(desk, &mut bytes)? else {
-            tell_counts(desk, &self.a.ends, &self.b.ends)?;
-            return Ok(false);
-        };
-        match party_line(&bytes[..length as usize]) {
-            Ok(Some((party, event))) => {
-                let said = Said { line, party, event };
-                event_turn(desk, said, &mut self.a, &mut self.b, &mut self.frame)
-            }
-            Ok(None) => Ok(true),
-            Err(_) => Err(Status::TraceRefused {
-                fault: TraceFault::BadLine { line },
-            }),
-        }
+        self.line_turn(desk)
     }
 }

@@ -94,12 +94,7 @@ returns g c = λ far room m.
         sent = omega (arith, c.requires.sent, send.ensures.sent, moves.1);
       };
       far_ready = m.stations.far_ready;
-      ends = record {
-        params = m.params;
-        party = m.party;
-        ways = with_shot (sides m.params) m.party shown m.ways;
-        holds = send.ensures.holds m.params m.party far.ends m.ways (one_left m.params m.party m.ways) m.holds (may_happen laws m.params m.party m.ways Send m.none);
-      };
+      ends = send.ensures.ready far.ends m.may;
     })
     (reads_keep old mid c.frame.ensures.rest)
     (λ trace o s inputs b.

@@ -16,7 +16,7 @@ returns-clause-ok g c = λ p ways left holds may.
     let far = c.args.far.now in
     let after = c.play-mark.ensures.holds p x ways left holds may in
     let row = row_is p x ways (c.of_plays.ensures p x ways) c.played-number.result c.play-mark.result c.reference_of_next-reference.result (picture c.shown.result)
-    (c.played-number.ensures ∙ (c.of_pairs.ensures p).played x own far ways holds) (c.play-mark.ensures.mark p x ways holds)
+    (c.played-number.ensures ∙ (c.of_pairs.ensures p).played x own far ways holds) (c.play-mark.ensures.mark p x ways left holds may)
     (c.reference_of_next-reference.ensures p x far ways left holds may)
     (c.shown.ensures.holds p x c.play-mark.new.far (with_play (sides p) x ways) after)
     in
@@ -30,7 +30,7 @@ returns-clause-err g c = λ p ways left holds may.
     let far = c.args.far.now in
     let after = c.play-mark.ensures.holds p x ways left holds may in
     let row = row_is p x ways (c.of_plays.ensures p x ways) c.played-number.result c.play-mark.result c.reference_of_next-reference.result (picture c.shown.result)
-    (c.played-number.ensures ∙ (c.of_pairs.ensures p).played x own far ways holds) (c.play-mark.ensures.mark p x ways holds)
+    (c.played-number.ensures ∙ (c.of_pairs.ensures p).played x own far ways holds) (c.play-mark.ensures.mark p x ways left holds may)
     (c.reference_of_next-reference.ensures p x far ways left holds may)
     (c.shown.ensures.holds p x c.play-mark.new.far (with_play (sides p) x ways) after)
     in

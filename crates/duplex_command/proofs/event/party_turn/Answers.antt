@@ -1,0 +1,198 @@
+use Rattle.std.proofs.Common.{◌≡◌, ℕ, ◌+◌, ◌≤◌, Bool, true, List, length, Option, None, Ok, Err, refl, sym, ap, subst, ◌∙◌, arith}
+use Rattle.h263_outside.specs.Desk.{Outside}
+use Rattle.h263_outside.specs.declared.desk.Role.{Role}
+use Rattle.h263_outside.specs.declared.desk.Role.TheVariants.{Video, Events, Pictures}
+use Rattle.h263_types.specs.declared.params.Params.{Params}
+use Rattle.loss_trace.specs.declared.event.Event.{Event as Line}
+use Rattle.loss_trace.specs.declared.event.Event.TheVariants as says
+use Rattle.call_report.specs.declared.status.Status.TheVariants.{TraceRefused, VideoRefused}
+use Rattle.call_model.specs.IdealCall.{Event, Send, Deliver, Play}
+use Rattle.call_encoding.specs.Frames.{Frame}
+use Rattle.duplex_call.specs.declared.line.Party.{Party}
+use Rattle.duplex_call.specs.Duplex.{WayRuns, with_delivery, with_play}
+use Rattle.duplex_call.specs.Refused.{refusal_of}
+use Rattle.duplex_ends.specs.Pair.{HoldsPair, MayHappenNow}
+use Rattle.duplex_ends.specs.Ways.{sides, with_whole}
+use Rattle.duplex_command.specs.declared.station.Station.{Station}
+use Rattle.duplex_command.specs.Duplex.{event_step}
+use Rattle.duplex_command.specs.Standing.{StationsStand}
+use Rattle.duplex_command.specs.Turning.{IsRead, MayBeDone}
+use Rattle.duplex_command.proofs.Doing.{asked, event_cut, event_done, event_goes, frame_asked, is_in_call, line_is_refused, may_happen, one_left, play_cut, play_goes, stands_event, station_kept, step_is}
+use Rattle.duplex_command.proofs.PartyTurns.{gave_up, roles_same, writes_keep}
+use Rattle.duplex_command.proofs.event.party_turn.Goals as goal
+
+pub check-requires : goal.check-requires
+check-requires g c = c.requires.ready.ends
+
+pub returns-in-Err : goal.returns-in-Err
+returns-in-Err g c =
+    let old = g.D.Desk.outside c.args.desk.now in
+    let own = c.args.own.now in
+    let far = c.args.far.now in
+    let said = c.args.said in
+    let x = said.party in
+    let status = TraceRefused c.fault_at-fault.result in
+    gave_up x own far old old (length c.args.frame.now) (λ trace. IsRead x own far said.line trace old) (λ s inputs. event_step Video Pictures VideoRefused x s (inputs Events) inputs said.event)
+    (Err status) status refl tt tt (roles_same old)
+    (λ trace o s inputs b.
+    line_is_refused x own far said.line trace o old s inputs b c.of_turns.ensures c.in-Err.refusal c.fault_at-fault.result c.fault_at-fault.ensures said.event
+    (c.in-Err.ensures.refusal s.params x s.ways b.stood.holds))
+
+pub returns-in-Nothing : goal.returns-in-Nothing
+returns-in-Nothing g c =
+    let old = g.D.Desk.outside c.args.desk.now in
+    let own = c.args.own.now in
+    let far = c.args.far.now in
+    let said = c.args.said in
+    let x = said.party in
+    event_done x own far own far said.line (length c.args.frame.now) said.event says.Nothing old old c.in-Nothing.is c.requires.ready (roles_same old)
+    (λ trace o s inputs b. event_goes x own far said.line trace o old s inputs b c.of_turns.ensures own far says.Nothing s.ways refl refl refl b.stood.holds)
+
+pub returns-in-Back : goal.returns-in-Back
+returns-in-Back g c =
+    let may : ⊥ = subst (λ (e : Line). MayBeDone c.args.own.now.ends c.args.far.now.ends e) c.in-Back.is c.in_default.ensures.may in
+    absurd may
+
+-- ---- a frame
+
+pub send_frame-requires-clause-held : goal.send_frame-requires-clause-held
+send_frame-requires-clause-held g c = is_in_call c.args.own.now.ends c.args.far.now.ends c.requires.ready.ends
+
+pub returns-in-Send : goal.returns-in-Send
+returns-in-Send g c =
+    let outside = g.D.Desk.outside in
+    let own = c.args.own.now in
+    let far = c.args.far.now in
+    let said = c.args.said in
+    let x = said.party in
+    let room = length c.args.frame.now in
+    let may : MayHappenNow own.ends far.ends Send = subst (λ (e : Line). MayBeDone own.ends far.ends e) c.in-Send.is c.in_default.ensures.may in
+    frame_asked x own far c.send_frame.new.own said.line room said.event c.send_frame.result (outside c.args.desk.now) (outside c.send_frame.new.desk) c.in-Send.is
+    (c.send_frame.ensures far room (record { stations = c.requires.ready; may = may }))
+    (λ trace o s inputs b. asked (Ok c.in_default.field-0) said.event says.Send (λ e. refusal_of (sides s.params) (one_left s.params x s.ways) x e s.ways) c.in-Send.is
+    (c.in_default.ensures.refusal s.params x s.ways b.stood.holds))
+
+-- ---- packets
+
+pub deliver-requires : goal.deliver-requires
+deliver-requires g c = subst (λ (e : Line). MayBeDone c.args.own.now.ends c.args.far.now.ends e) c.in-Packet.is c.in_default.ensures.may
+
+pub returns-in-Packet : goal.returns-in-Packet
+returns-in-Packet g c =
+    let old = g.D.Desk.outside c.args.desk.now in
+    let own = c.args.own.now in
+    let far = c.args.far.now in
+    let said = c.args.said in
+    let x = said.party in
+    let n = c.in-Packet.number in
+    let j = c.in-Packet.place in
+    let done = c.deliver in
+    let room = length c.args.frame.now in
+    let r = c.requires.ready in
+    let own_new : Station = record own { ends = done.new.own } in
+    let far_new : Station = record far { ends = done.new.far } in
+    event_done x own far own_new far_new said.line room said.event (says.Packet n j) old old c.in-Packet.is
+    (record {
+      own_ready = station_kept own done.new.own room r.own_ready done.ensures.own_params (ap (λ s. s.sent) done.ensures.own_sent);
+      far_ready = station_kept far done.new.far room r.far_ready done.ensures.far_params done.ensures.far_sent;
+      ends = done.ensures.ready;
+    })
+    (roles_same old)
+    (λ trace o s inputs b.
+    let none : refusal_of (sides s.params) (one_left s.params x s.ways) x (Deliver n j) s.ways ≡ None =
+    asked (Ok c.in_default.field-0) said.event (says.Packet n j) (λ e. refusal_of (sides s.params) (one_left s.params x s.ways) x e s.ways) c.in-Packet.is
+    (c.in_default.ensures.refusal s.params x s.ways b.stood.holds)
+    in
+    event_goes x own far said.line trace o old s inputs b c.of_turns.ensures own_new far_new (says.Packet n j) (with_delivery (sides s.params) x n j s.ways) refl refl
+    (step_is x own far said.line trace o old s inputs b (Deliver n j) _ none)
+    (done.ensures.holds s.params x s.ways (one_left s.params x s.ways) b.stood.holds (may_happen c.of_refusals.ensures s.params x s.ways (Deliver n j) none)))
+
+pub deliver_all-requires : goal.deliver_all-requires
+deliver_all-requires g c = subst (λ (e : Line). MayBeDone c.args.own.now.ends c.args.far.now.ends e) c.in-All.is c.in_default.ensures.may
+
+pub returns-in-All : goal.returns-in-All
+returns-in-All g c =
+    let old = g.D.Desk.outside c.args.desk.now in
+    let own = c.args.own.now in
+    let far = c.args.far.now in
+    let said = c.args.said in
+    let x = said.party in
+    let n = c.in-All.number in
+    let done = c.deliver_all in
+    let room = length c.args.frame.now in
+    let r = c.requires.ready in
+    let own_new : Station = record own { ends = done.new.own } in
+    let far_new : Station = record far { ends = done.new.far } in
+    event_done x own far own_new far_new said.line room said.event (says.All n) old old c.in-All.is
+    (record {
+      own_ready = station_kept own done.new.own room r.own_ready done.ensures.own_params (ap (λ s. s.sent) done.ensures.own_sent);
+      far_ready = station_kept far done.new.far room r.far_ready done.ensures.far_params done.ensures.far_sent;
+      ends = done.ensures.ready;
+    })
+    (roles_same old)
+    (λ trace o s inputs b.
+    let none : refusal_of (sides s.params) (one_left s.params x s.ways) x (Deliver n 0) s.ways ≡ None =
+    asked (Ok c.in_default.field-0) said.event (says.All n) (λ e. refusal_of (sides s.params) (one_left s.params x s.ways) x e s.ways) c.in-All.is
+    (c.in_default.ensures.refusal s.params x s.ways b.stood.holds)
+    in
+    event_goes x own far said.line trace o old s inputs b c.of_turns.ensures own_new far_new (says.All n) (with_whole s.params x n s.ways) refl refl
+    (step_is x own far said.line trace o old s inputs b (Deliver n 0) _ none)
+    (done.ensures.holds s.params x s.ways (one_left s.params x s.ways) b.stood.holds (may_happen c.of_refusals.ensures s.params x s.ways (Deliver n 0) none)))
+
+-- ---- a play
+
+pub play_next-requires-clause-near : goal.play_next-requires-clause-near
+play_next-requires-clause-near g c = subst (λ (e : Line). MayBeDone c.args.own.now.ends c.args.far.now.ends e) c.in-Play.is c.in_default.ensures.may
+
+pub returns-in_err-play_next-in-Play : goal.returns-in_err-play_next-in-Play
+returns-in_err-play_next-in-Play g c =
+    let outside = g.D.Desk.outside in
+    let old = outside c.args.desk.now in
+    let new = outside c.play_next.new.desk in
+    let own = c.args.own.now in
+    let far = c.args.far.now in
+    let said = c.args.said in
+    let x = said.party in
+    let own_new : Station = record own { ends = c.play_next.new.own } in
+    let far_new : Station = record far { ends = c.play_next.new.far } in
+    let failed = c.in_err-play_next-in-Play in
+    event_cut x own far own_new far_new said.line (length c.args.frame.now) said.event says.Play old new c.in-Play.is
+    c.from_residual.result failed.field-0.0 c.from_residual.ensures.1 failed.ensures.kind failed.ensures.cause (writes_keep old new c.play_next.ensures.rest)
+    (λ trace o s inputs b.
+    let none : refusal_of (sides s.params) (one_left s.params x s.ways) x Play s.ways ≡ None =
+    asked (Ok c.in_default.field-0) said.event says.Play (λ e. refusal_of (sides s.params) (one_left s.params x s.ways) x e s.ways) c.in-Play.is
+    (c.in_default.ensures.refusal s.params x s.ways b.stood.holds)
+    in
+    play_cut x own far said.line trace o old s inputs b new c.play_next.ensures.rest.left none
+    (failed.ensures.err s.params s.ways (one_left s.params x s.ways) b.stood.holds (may_happen c.of_refusals.ensures s.params x s.ways Play none)))
+
+pub returns-in_ok-play_next-in-Play : goal.returns-in_ok-play_next-in-Play
+returns-in_ok-play_next-in-Play g c =
+    let outside = g.D.Desk.outside in
+    let old = outside c.args.desk.now in
+    let new = outside c.play_next.new.desk in
+    let own = c.args.own.now in
+    let far = c.args.far.now in
+    let said = c.args.said in
+    let x = said.party in
+    let room = length c.args.frame.now in
+    let r = c.requires.ready in
+    let done = c.play_next.ensures in
+    let own_new : Station = record own { ends = c.play_next.new.own } in
+    let far_new : Station = record far { ends = c.play_next.new.far } in
+    event_done x own far own_new far_new said.line room said.event says.Play old new c.in-Play.is
+    (record {
+      own_ready = station_kept own c.play_next.new.own room r.own_ready done.own_params (ap (λ s. s.sent) done.own_sent);
+      far_ready = station_kept far c.play_next.new.far room r.far_ready done.far_params (ap (λ s. s.sent) done.far_sent);
+      ends = done.ready;
+    })
+    (writes_keep old new done.rest)
+    (λ trace o s inputs b.
+    let none : refusal_of (sides s.params) (one_left s.params x s.ways) x Play s.ways ≡ None =
+    asked (Ok c.in_default.field-0) said.event says.Play (λ e. refusal_of (sides s.params) (one_left s.params x s.ways) x e s.ways) c.in-Play.is
+    (c.in_default.ensures.refusal s.params x s.ways b.stood.holds)
+    in
+    let may = may_happen c.of_refusals.ensures s.params x s.ways Play none in
+    play_goes x own far said.line trace o old s inputs b new done.rest.left none (λ next rest. StationsStand x own_new far_new trace next (rest Events))
+    (stands_event x own far said.line trace o old s inputs b own_new far_new (with_play (sides s.params) x s.ways) refl refl (done.holds s.params x s.ways (one_left s.params x s.ways) b.stood.holds may))
+    (c.in_ok-play_next-in-Play.ensures.ok s.params s.ways (one_left s.params x s.ways) b.stood.holds may))
