@@ -1,8 +1,10 @@
 -- What words ask for: a command with its parameters, and the words by which roles are attached.
 use Rattle.std.specs.Prelude.{ℕ, true, false, ◌&&◌, ◌≤◌, List, [], ◌∷◌, Option, Some, None, Result, Ok, Err, is_some, nat_le, IfSome, if◌then◌else◌, codes, find, option_and_then, option_map}
+use Rattle.std.specs.List.{AllByRecursion}
 use Rattle.std.specs.Str.{bytes_eq}
+use Rattle.h263_outside.specs.Desk.{is_role}
 use Rattle.h263_outside.specs.declared.desk.Role.{Role}
-use Rattle.h263_outside.specs.declared.desk.Role.TheVariants.{Video, Events, Pictures, Wire, Report, Video2, Pictures2}
+use Rattle.h263_outside.specs.declared.desk.Role.TheVariants.{Video, Events, Pictures, Wire, Video2, Pictures2}
 use Rattle.h263_types.specs.Params.{IsParams, default_params, ranges, verdict_of}
 use Rattle.h263_types.specs.declared.format.Format.TheVariants.{Qcif}
 use Rattle.h263_types.specs.declared.params.Params.{Params}
@@ -10,7 +12,7 @@ use Rattle.h263_types.specs.declared.params.ParamFault.{ParamFault}
 use Rattle.command_words.specs.Simple.{Text, Options, taken, value}
 use Rattle.command_words.specs.Values.{byte_in, clock_in, format_in, number_in, value_or}
 use Rattle.command_words.specs.declared.command.Command.{Command}
-use Rattle.command_words.specs.declared.command.Command.TheVariants.{Call, Send, Recv, Demo, Rate, Audit}
+use Rattle.command_words.specs.declared.command.Command.TheVariants.{Call, Send, Recv, Demo, Rate, Audit, Duplex}
 
 -- the value of each name that is given one
 abbrev pub Lookup : Type 0
@@ -78,33 +80,19 @@ params_of given = option_and_then in_range
 
 -- ---- commands
 
--- a command, and the words by which its roles are attached
-pub record Asked : Type 0 where
-  pub command : Command
-  pub video : Option Text
-  pub events : Option Text
-  pub pictures : Option Text
-  pub wire : Option Text
-
 -- the first word of a command, the names of its positional words and of its options, and what their values ask for
 pub record Row : Type 0 where
   pub word : Text
   pub places : List Text
   pub options : Options
-  pub asks : Lookup → Option Asked
+  pub asks : Lookup → Option Command
 
 -- options that each take a value
 abbrev pub taking_values : List Text → Options
 taking_values names = record { valued = names; switches = [] }
 
-abbrev pub call_of : Lookup → Option Asked
-call_of given = option_map (λ params. record {
-  command = Call params (is_some (given (codes "trace")));
-  video = given (codes "in");
-  events = given (codes "trace");
-  pictures = given (codes "out");
-  wire = None;
-}) (params_of given)
+abbrev pub call_of : Lookup → Option Command
+call_of given = option_map (λ params. Call params (is_some (given (codes "trace")))) (params_of given)
 
 abbrev pub call : Row
 call = record {
@@ -126,17 +114,8 @@ target_in text = option_and_then some_target (option_and_then (number_in 6) text
 abbrev pub target_or_none : Option Text → Option (Option ℕ)
 target_or_none text = if is_some text then option_map (λ n. Some n) (target_in text) else Some None
 
-abbrev pub send_with : Lookup → Params → Option ℕ → Asked
-send_with given params target = record {
-  command = Send params target;
-  video = given (codes "in");
-  events = given (codes "log");
-  pictures = None;
-  wire = given (codes "wire");
-}
-
-abbrev pub send_of : Lookup → Option Asked
-send_of given = option_and_then (λ params. option_map (send_with given params)
+abbrev pub send_of : Lookup → Option Command
+send_of given = option_and_then (λ params. option_map (λ target. Send params target)
     (target_or_none (given (codes "target")))) (params_of given)
 
 abbrev pub send : Row
@@ -148,14 +127,8 @@ send = record {
   asks = send_of;
 }
 
-abbrev pub recv_of : Lookup → Option Asked
-recv_of given = option_map (λ params. record {
-  command = Recv params (is_some (given (codes "join")));
-  video = None;
-  events = given (codes "log");
-  pictures = given (codes "out");
-  wire = given (codes "wire");
-}) (params_of given)
+abbrev pub recv_of : Lookup → Option Command
+recv_of given = option_map (λ params. Recv params (is_some (given (codes "join")))) (params_of given)
 
 abbrev pub recv : Row
 recv = record {
@@ -178,17 +151,8 @@ seed_in text = option_and_then (number_in 9) text
 abbrev pub frames_in : Option Text → Option ℕ
 frames_in text = option_and_then frames_in_range (option_and_then (number_in 5) text)
 
-abbrev pub demo_with : Params → ℕ → ℕ → Asked
-demo_with params seed frames = record {
-  command = Demo params seed frames;
-  video = None;
-  events = None;
-  pictures = None;
-  wire = None;
-}
-
-abbrev pub demo_of : Lookup → Option Asked
-demo_of given = option_and_then (λ params. option_and_then (λ seed. option_map (demo_with params seed)
+abbrev pub demo_of : Lookup → Option Command
+demo_of given = option_and_then (λ params. option_and_then (λ seed. option_map (λ frames. Demo params seed frames)
     (frames_in (given (codes "frames")))) (seed_in (given (codes "seed")))) (params_of given)
 
 abbrev pub demo : Row
@@ -204,17 +168,8 @@ demo = record {
 abbrev pub bucket_in : Option Text → Option ℕ
 bucket_in text = option_and_then (number_in 6) text
 
-abbrev pub rate_with : Option Text → ℕ → ℕ → Asked
-rate_with log target bucket = record {
-  command = Rate target bucket;
-  video = None;
-  events = log;
-  pictures = None;
-  wire = None;
-}
-
-abbrev pub rate_of : Lookup → Option Asked
-rate_of given = option_and_then (λ target. option_map (rate_with (given (codes "log")) target)
+abbrev pub rate_of : Lookup → Option Command
+rate_of given = option_and_then (λ target. option_map (λ bucket. Rate target bucket)
     (bucket_in (given (codes "bucket")))) (target_in (given (codes "target")))
 
 abbrev pub rate : Row
@@ -225,14 +180,8 @@ rate = record {
   asks = rate_of;
 }
 
-abbrev pub audit_of : Lookup → Option Asked
-audit_of given = option_map (λ params. record {
-  command = Audit params;
-  video = None;
-  events = given (codes "log");
-  pictures = None;
-  wire = None;
-}) (params_of given)
+abbrev pub audit_of : Lookup → Option Command
+audit_of given = option_map (λ params. Audit params) (params_of given)
 
 abbrev pub audit : Row
 audit = record {
@@ -242,17 +191,38 @@ audit = record {
   asks = audit_of;
 }
 
+-- a call of two parties has a trace
+abbrev pub duplex_of : Lookup → Option Command
+duplex_of given = option_and_then (λ trace. option_map (λ params. Duplex params) (params_of given)) (given (codes "trace"))
+
+abbrev pub duplex : Row
+duplex = record {
+  word = codes "duplex";
+  places = codes "in1" ∷ codes "in2" ∷ codes "out1" ∷ codes "out2" ∷ [];
+  options = call.options;
+  asks = duplex_of;
+}
+
 -- the commands
 abbrev pub rows : List Row
-rows = call ∷ send ∷ recv ∷ demo ∷ rate ∷ audit ∷ []
+rows = call ∷ send ∷ recv ∷ demo ∷ rate ∷ audit ∷ duplex ∷ []
 
 -- the command with this first word
 abbrev pub row_named : Text → Option Row
 row_named first = find (λ row. bytes_eq row.word first) rows
 
+-- a command, and the value that its words give to each name
+pub record Asked : Type 0 where
+  pub command : Command
+  pub given : Lookup
+
+abbrev pub asking : Lookup → Command → Asked
+asking given command = record { command = command; given = given }
+
 -- what the words after the first ask for
 abbrev pub asked_by : Row → List Text → Option Asked
-asked_by row words = option_and_then (λ given. row.asks (value given)) (taken row.places row.options words)
+asked_by row words = option_and_then (λ given. option_map (asking (value given)) (row.asks (value given)))
+    (taken row.places row.options words)
 
 -- what the words ask for, where they are a command whose parameters are in their ranges
 abbrev pub asked : List Text → Option Asked
@@ -261,15 +231,48 @@ asked (first ∷ words) = option_and_then (λ row. asked_by row words) (row_name
 
 -- ---- what the caller reads
 
+-- roles that are attached by words, in their order, and the name of the word of each
+abbrev pub Roles : Type 0
+Roles = List (Role × Text)
+
+-- of a call over its plain trace, and over a recorded one
+abbrev pub plain_roles : Roles
+plain_roles = (Video, codes "in") ∷ (Pictures, codes "out") ∷ []
+
+abbrev pub traced_roles : Roles
+traced_roles = (Video, codes "in") ∷ (Events, codes "trace") ∷ (Pictures, codes "out") ∷ []
+
+abbrev pub send_roles : Roles
+send_roles = (Video, codes "in") ∷ (Events, codes "log") ∷ (Wire, codes "wire") ∷ []
+
+abbrev pub recv_roles : Roles
+recv_roles = (Events, codes "log") ∷ (Pictures, codes "out") ∷ (Wire, codes "wire") ∷ []
+
+-- of a command that reads a log and writes the report alone
+abbrev pub log_roles : Roles
+log_roles = (Events, codes "log") ∷ []
+
+abbrev pub duplex_roles : Roles
+duplex_roles = (Video, codes "in1") ∷ (Video2, codes "in2") ∷ (Events, codes "trace")
+    ∷ (Pictures, codes "out1") ∷ (Pictures2, codes "out2") ∷ []
+
+abbrev pub roles : Command → Roles
+roles (Call params false) = plain_roles
+roles (Call params true) = traced_roles
+roles (Send params target) = send_roles
+roles (Recv params join) = recv_roles
+roles (Demo params seed frames) = []
+roles (Rate target bucket) = log_roles
+roles (Audit params) = log_roles
+roles (Duplex params) = duplex_roles
+
+-- the name of a role's word, where there is one
+abbrev pub name_in : Roles → Role → Option Text
+name_in named role = option_map (λ r. r.1) (find (λ r. is_role r.0 role) named)
+
 -- the word by which a role is attached
 abbrev pub word_for : Asked → Role → Option Text
-word_for a Video = a.video
-word_for a Events = a.events
-word_for a Pictures = a.pictures
-word_for a Wire = a.wire
-word_for a Report = None
-word_for a Video2 = None
-word_for a Pictures2 = None
+word_for a role = option_and_then a.given (name_in (roles a.command) role)
 
 -- the numbers of a command are in their ranges
 abbrev pub IsCommand : Command → Type 0
@@ -279,20 +282,12 @@ IsCommand (Recv params join) = IsParams params
 IsCommand (Demo params seed frames) = IsParams params × (seed ≤ 999999999) × (1 ≤ frames) × (frames ≤ 10000)
 IsCommand (Rate target bucket) = (1 ≤ target) × (target ≤ 999999) × (bucket ≤ 999999)
 IsCommand (Audit params) = IsParams params
+IsCommand (Duplex params) = IsParams params
 
 -- the words by which a command's roles are attached are all there
 abbrev pub IsGiven : Option Text → Type 0
 IsGiven None = ⊥
 IsGiven (Some text) = Unit {0}
 
-abbrev pub HasNamesOf : Command → Asked → Type 0
-HasNamesOf (Call params true) a = IsGiven a.video × IsGiven a.events × IsGiven a.pictures
-HasNamesOf (Call params false) a = IsGiven a.video × IsGiven a.pictures
-HasNamesOf (Send params target) a = IsGiven a.video × IsGiven a.events × IsGiven a.wire
-HasNamesOf (Recv params join) a = IsGiven a.events × IsGiven a.pictures × IsGiven a.wire
-HasNamesOf (Demo params seed frames) a = Unit {0}
-HasNamesOf (Rate target bucket) a = IsGiven a.events
-HasNamesOf (Audit params) a = IsGiven a.events
-
 abbrev pub HasNames : Asked → Type 0
-HasNames a = HasNamesOf a.command a
+HasNames a = AllByRecursion (λ r. IsGiven (a.given r.1)) (roles a.command)

@@ -1,8 +1,8 @@
 //! The commands.
 use h263_types::Params;
 
-/// What the program is asked for. Each parameter is in its range; of `call` and `send` the format
-/// is QCIF until the video is read.
+/// What the program is asked for. Each parameter is in its range; of `call`, `send` and `duplex`
+/// the format is QCIF until the video is read.
 #[derive(Clone, Copy, Debug, PartialEq, Eq)]
 pub enum Command {
     /// Both ends over a trace, or over the plain trace of the video where `traced` is false.
@@ -34,6 +34,10 @@ pub enum Command {
     },
     /// The audit of a log.
     Audit {
+        params: Params,
+    },
+    /// The call of two parties over a trace.
+    Duplex {
         params: Params,
     },
 }

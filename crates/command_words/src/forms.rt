@@ -13,6 +13,7 @@ pub(crate) enum Form {
     Demo,
     Rate,
     Audit,
+    Duplex,
 }
 
 static CALL_PLACES: [&str; 2] = ["in", "out"];
@@ -45,6 +46,8 @@ static AUDIT_PLACES: [&str; 1] = ["log"];
 
 static AUDIT_OPTIONS: [&str; 4] = ["format", "slots", "lead", "clock"];
 
+static DUPLEX_PLACES: [&str; 4] = ["in1", "in2", "out1", "out2"];
+
 static RECV_SWITCHES: [&str; 1] = ["join"];
 
 static NO_SWITCHES: [&str; 0] = [];
@@ -61,6 +64,7 @@ impl Form {
             "demo" => Some(Form::Demo),
             "rate" => Some(Form::Rate),
             "audit" => Some(Form::Audit),
+            "duplex" => Some(Form::Duplex),
             _ => None,
         }
     }
@@ -76,6 +80,7 @@ impl Form {
             Form::Demo => DEMO_PLACES.as_slice(),
             Form::Rate => RATE_PLACES.as_slice(),
             Form::Audit => AUDIT_PLACES.as_slice(),
+            Form::Duplex => DUPLEX_PLACES.as_slice(),
         }
     }
 
@@ -83,7 +88,7 @@ impl Form {
         ensures { texts result.now ≡ (row_of self).options.valued }
     {
         match self {
-            Form::Call => CALL_OPTIONS.as_slice(),
+            Form::Call | Form::Duplex => CALL_OPTIONS.as_slice(),
             Form::Send => SEND_OPTIONS.as_slice(),
             Form::Recv => RECV_OPTIONS.as_slice(),
             Form::Demo => DEMO_OPTIONS.as_slice(),
@@ -99,6 +104,7 @@ impl Form {
             Form::Recv => RECV_SWITCHES.as_slice(),
             Form::Call | Form::Send => NO_SWITCHES.as_slice(),
             Form::Demo | Form::Rate | Form::Audit => NO_SWITCHES.as_slice(),
+            Form::Duplex => NO_SWITCHES.as_slice(),
         }
     }
 }

@@ -1,9 +1,9 @@
-//! The words of the program's commands: `call`, `send`, `recv`, `demo`, `rate` and
-//! `audit`.
+//! The words of the program's commands: `call`, `send`, `recv`, `demo`, `rate`, `audit` and
+//! `duplex`.
 //!
 //! The first word names a command; the others are read with `clap` as one simple command for each
-//! first word. [`Words`] are a [`Command`] with its parameters and the names of its roles; words
-//! that are none give a [`WordStop`].
+//! first word. [`Words`] are a [`Command`] with its parameters and the words by which its roles are
+//! attached; words that are no command give a [`WordStop`].
 //!
 //! ```rust
 //! let read = Words::read(alloc, &["call", "in", "out", "--slots", "4", "--lead", "1"])?;
@@ -16,6 +16,7 @@
 mod command;
 mod forms;
 pub mod laws;
+mod names;
 mod simple;
 mod values;
 mod words;

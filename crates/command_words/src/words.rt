@@ -4,7 +4,7 @@ ghost use Rattle.std.specs.Prelude.{drop, option_map, codes};
 ghost use Rattle.h263_types.specs.Params.{IsParams};
 ghost use Rattle.clap.specs.Words.{first_value, found_of};
 ghost use Rattle.command_words.specs.Asked.{asked, asked_by, call_of, send_of, recv_of, demo_of};
-ghost use Rattle.command_words.specs.Asked.{rate_of, audit_of};
+ghost use Rattle.command_words.specs.Asked.{rate_of, audit_of, duplex_of};
 ghost use Rattle.command_words.specs.Asked.{params_of, coding_of, timing_of, word_for, IsCommand};
 ghost use Rattle.command_words.specs.Asked.{seed_in, frames_in, target_in, target_or_none};
 ghost use Rattle.command_words.specs.Asked.{bucket_in};
@@ -13,6 +13,7 @@ ghost use Rattle.command_words.specs.View.{asked_of, row_of};
 
 use crate::command::Command;
 use crate::forms::Form;
+use crate::names::name_of;
 use crate::simple::{WordStop, parse};
 use crate::values::{byte_or, clock_or, format_or, number_of, number_or};
 use clap::ArgMatches;
@@ -21,13 +22,10 @@ use h263_types::{Format, Params};
 use std::alloc::Global;
 
 /// A command, and the words by which its roles are attached.
-#[derive(Clone, Copy, Debug)]
+#[derive(Debug, Drop)]
 pub struct Words<'a> {
     command: Command,
-    video: Option<&'a str>,
-    events: Option<&'a str>,
-    pictures: Option<&'a str>,
-    wire: Option<&'a str>,
+    given: ArgMatches<'a>,
 }
 
 fn coding(given: &ArgMatches<'_>, base: Params) -> Option<Params>
@@ -66,21 +64,15 @@ fn params(given: &ArgMatches<'_>) -> Option<Params>
     }
 }
 
-fn call_words<'a>(given: &ArgMatches<'a>) -> Option<Words<'a>>
-    ensures value { option_map asked_of result ≡ call_of (first_value (found_of given.now)) }
-    ensures ready { IfSome result (λ w. IsCommand w.command) }
+fn call(given: &ArgMatches<'_>) -> Option<Command>
+    ensures value { result ≡ call_of (first_value (found_of given.now)) }
+    ensures ready { IfSome result IsCommand }
 {
     let params = params(given)?;
-    let events = given.get_str("trace");
-    Some(Words {
-        command: Command::Call {
-            params,
-            traced: events.is_some(),
-        },
-        video: given.get_str("in"),
-        events,
-        pictures: given.get_str("out"),
-        wire: None,
+    let trace = given.get_str("trace");
+    Some(Command::Call {
+        params,
+        traced: trace.is_some(),
     })
 }
 
@@ -106,38 +98,25 @@ fn target_or_none(given: &ArgMatches<'_>) -> Option<Option<u32>>
     }
 }
 
-fn send_words<'a>(given: &ArgMatches<'a>) -> Option<Words<'a>>
-    ensures value { option_map asked_of result ≡ send_of (first_value (found_of given.now)) }
-    ensures ready { IfSome result (λ w. IsCommand w.command) }
+fn send(given: &ArgMatches<'_>) -> Option<Command>
+    ensures value { result ≡ send_of (first_value (found_of given.now)) }
+    ensures ready { IfSome result IsCommand }
 {
-    let command = Command::Send {
+    Some(Command::Send {
         params: params(given)?,
         target: target_or_none(given)?,
-    };
-    Some(Words {
-        command,
-        video: given.get_str("in"),
-        events: given.get_str("log"),
-        pictures: None,
-        wire: given.get_str("wire"),
     })
 }
 
-fn recv_words<'a>(given: &ArgMatches<'a>) -> Option<Words<'a>>
-    ensures value { option_map asked_of result ≡ recv_of (first_value (found_of given.now)) }
-    ensures ready { IfSome result (λ w. IsCommand w.command) }
+fn recv(given: &ArgMatches<'_>) -> Option<Command>
+    ensures value { result ≡ recv_of (first_value (found_of given.now)) }
+    ensures ready { IfSome result IsCommand }
 {
     let params = params(given)?;
     let join = given.get_str("join");
-    Some(Words {
-        command: Command::Recv {
-            params,
-            join: join.is_some(),
-        },
-        video: None,
-        events: given.get_str("log"),
-        pictures: given.get_str("out"),
-        wire: given.get_str("wire"),
+    Some(Command::Recv {
+        params,
+        join: join.is_some(),
     })
 }
 
@@ -161,21 +140,14 @@ fn frames(given: &ArgMatches<'_>) -> Option<u32>
     }
 }
 
-fn demo_words<'a>(given: &ArgMatches<'a>) -> Option<Words<'a>>
-    ensures value { option_map asked_of result ≡ demo_of (first_value (found_of given.now)) }
-    ensures ready { IfSome result (λ w. IsCommand w.command) }
+fn demo(given: &ArgMatches<'_>) -> Option<Command>
+    ensures value { result ≡ demo_of (first_value (found_of given.now)) }
+    ensures ready { IfSome result IsCommand }
 {
-    let command = Command::Demo {
+    Some(Command::Demo {
         params: params(given)?,
         seed: seed(given)?,
         frames: frames(given)?,
-    };
-    Some(Words {
-        command,
-        video: None,
-        events: None,
-        pictures: None,
-        wire: None,
     })
 }
 
@@ -186,50 +158,47 @@ fn bucket(given: &ArgMatches<'_>) -> Option<u32>
     number_of(given.get_str("bucket")?, 6)
 }
 
-fn rate_words<'a>(given: &ArgMatches<'a>) -> Option<Words<'a>>
-    ensures value { option_map asked_of result ≡ rate_of (first_value (found_of given.now)) }
-    ensures ready { IfSome result (λ w. IsCommand w.command) }
+fn rate(given: &ArgMatches<'_>) -> Option<Command>
+    ensures value { result ≡ rate_of (first_value (found_of given.now)) }
+    ensures ready { IfSome result IsCommand }
 {
-    let command = Command::Rate {
+    Some(Command::Rate {
         target: target(given)?,
         bucket: bucket(given)?,
-    };
-    Some(Words {
-        command,
-        video: None,
-        events: given.get_str("log"),
-        pictures: None,
-        wire: None,
     })
 }
 
-fn audit_words<'a>(given: &ArgMatches<'a>) -> Option<Words<'a>>
-    ensures value { option_map asked_of result ≡ audit_of (first_value (found_of given.now)) }
-    ensures ready { IfSome result (λ w. IsCommand w.command) }
+fn audit(given: &ArgMatches<'_>) -> Option<Command>
+    ensures value { result ≡ audit_of (first_value (found_of given.now)) }
+    ensures ready { IfSome result IsCommand }
 {
     let params = params(given)?;
-    Some(Words {
-        command: Command::Audit { params },
-        video: None,
-        events: given.get_str("log"),
-        pictures: None,
-        wire: None,
-    })
+    Some(Command::Audit { params })
+}
+
+// The call of two parties has a trace.
+fn duplex(given: &ArgMatches<'_>) -> Option<Command>
+    ensures value { result ≡ duplex_of (first_value (found_of given.now)) }
+    ensures ready { IfSome result IsCommand }
+{
+    let _trace = given.get_str("trace")?;
+    let params = params(given)?;
+    Some(Command::Duplex { params })
 }
 
 // What the values of a command's words ask for.
-fn words_of<'a>(form: Form, given: &ArgMatches<'a>) -> Option<Words<'a>>
-    ensures value { option_map asked_of result
-        ≡ (row_of form).asks (first_value (found_of given.now)) }
-    ensures ready { IfSome result (λ w. IsCommand w.command) }
+fn command_of(form: Form, given: &ArgMatches<'_>) -> Option<Command>
+    ensures value { result ≡ (row_of form).asks (first_value (found_of given.now)) }
+    ensures ready { IfSome result IsCommand }
 {
     match form {
-        Form::Call => call_words(given),
-        Form::Send => send_words(given),
-        Form::Recv => recv_words(given),
-        Form::Demo => demo_words(given),
-        Form::Rate => rate_words(given),
-        Form::Audit => audit_words(given),
+        Form::Call => call(given),
+        Form::Send => send(given),
+        Form::Recv => recv(given),
+        Form::Demo => demo(given),
+        Form::Rate => rate(given),
+        Form::Audit => audit(given),
+        Form::Duplex => duplex(given),
     }
 }
 
@@ -254,7 +223,10 @@ impl<'a> Words<'a> {
             return Err(WordStop::Usage);
         };
         let given = parse(alloc, form, words)?;
-        words_of(form, &given).ok_or(WordStop::Usage)
+        let Some(command) = command_of(form, &given) else {
+            return Err(WordStop::Usage);
+        };
+        Ok(Words { command, given })
     }
 
     /// The command.
@@ -268,12 +240,6 @@ impl<'a> Words<'a> {
     pub fn name(&self, role: Role) -> Option<&'a str>
         ensures { option_map (λ s. s.now) result ≡ word_for (asked_of self.now) role }
     {
-        match role {
-            Role::Video => self.video,
-            Role::Events => self.events,
-            Role::Pictures => self.pictures,
-            Role::Wire => self.wire,
-            Role::Report | Role::Video2 | Role::Pictures2 => None,
-        }
+        self.given.get_str(name_of(self.command, role)?)
     }
 }

@@ -1,30 +1,50 @@
 -- A run by what its words ask for.
-use Rattle.std.proofs.Common.{◌≡◌, ◌⊎◌, inl, inr, ℕ, Bool, true, false, List, [], ◌∷◌, ◌||◌, Option, Some, None, IfSome, if◌then◌else◌, refl, sym, ap, ◌∙◌, subst}
+use Rattle.std.proofs.Common.{◌≡◌, ◌⊎◌, inl, inr, ℕ, Bool, true, false, List, [], ◌∷◌, ◌||◌, Option, Some, None, IfSome, if◌then◌else◌, option_and_then, refl, sym, ap, ◌∙◌, subst}
 use Rattle.h263_outside.specs.Desk.{Outside, NoneAttached, OnlyAttaches, OnlyWrites, SomeRose, Rose, with_role, is_role}
 use Rattle.h263_outside.specs.declared.desk.Role.{Role}
-use Rattle.h263_outside.specs.declared.desk.Role.TheVariants.{Video, Report}
+use Rattle.h263_outside.specs.declared.desk.Role.TheVariants.{Video, Video2, Report}
 use Rattle.y4m.specs.declared.fault.Y4mFault.{Y4mFault}
 use Rattle.y4m.specs.Video.{video_fault}
 use Rattle.call_report.specs.declared.status.Status.{Status}
-use Rattle.call_report.specs.declared.status.Status.TheVariants.{OutOfMemory, Usage, VideoRefused, OpenFault}
+use Rattle.call_report.specs.declared.status.Status.TheVariants.{OutOfMemory, Usage, VideoRefused, Video2Refused, OpenFault}
 use Rattle.command_words.specs.declared.command.Command.{Command}
 use Rattle.command_words.specs.declared.simple.WordStop.{WordStop}
 use Rattle.command_words.specs.declared.simple.WordStop.TheVariants as stops
 use Rattle.command_words.specs.Simple.{Text}
-use Rattle.command_words.specs.Asked.{Asked, asked}
+use Rattle.command_words.specs.Asked.{Asked, asked, name_in, roles, word_for}
 use Rattle.desk_program.specs.Ends.{HasCause}
 use Rattle.desk_program.specs.Attached.{AreAttached}
 use Rattle.desk_program.specs.Lines.{Finishes}
 use Rattle.desk_program.specs.Promises.{IsSettled, IsNotUsage}
-use Rattle.h263rps.specs.Output.{word_stop, command_of, roles_of, source_of, run_of, output_of, order_from, source_from}
+use Rattle.h263rps.specs.Output.{the_word, word_stop, command_of, roles_of, source_of, run_of, output_of, order_from, source_from}
 use Rattle.h263rps.specs.Promises.{IsRunOf, IsRun}
 use Rattle.h263rps.proofs.Promised.{some_since, nothing_done, report_unopened, words_unread, usage_told, since_attached}
 
 -- ---- a command
 
--- where its run refuses the video, the video has that fault
-abbrev pub IsRefusedRightly : Command → Type 0
-IsRefusedRightly c = (inputs : Role → List ℕ) (fault : Y4mFault) → (run_of c inputs).last.status ≡ VideoRefused fault → video_fault (inputs Video) ≡ Some fault
+-- where its run refuses a video, the video has that fault
+pub record IsRefusedRightly (c : Command) : Type 0 where
+  pub first : (inputs : Role → List ℕ) (fault : Y4mFault) → (run_of c inputs).last.status ≡ VideoRefused fault → video_fault (inputs Video) ≡ Some fault
+  pub second : (inputs : Role → List ℕ) (fault : Y4mFault) → (run_of c inputs).last.status ≡ Video2Refused fault → video_fault (inputs Video2) ≡ Some fault
+
+-- the word by which a role is attached, where the command is this one
+pub word_is : (a : Asked) (c : Command) (role : Role) → a.command ≡ c → the_word (word_for a role) ≡ the_word (option_and_then a.given (name_in (roles c) role))
+word_is a c role is = ap (λ (k : Command). the_word (option_and_then a.given (name_in (roles k) role))) is
+
+-- there is no second video
+pub one_video : (c : Command)
+    → ((inputs : Role → List ℕ) (fault : Y4mFault) → (run_of c inputs).last.status ≡ VideoRefused fault → video_fault (inputs Video) ≡ Some fault)
+    → ((inputs : Role → List ℕ) (fault : Y4mFault) → (run_of c inputs).last.status ≡ Video2Refused fault → ⊥) → IsRefusedRightly c
+one_video c first none = record { first = first; second = λ inputs fault ends. absurd (none inputs fault ends) }
+
+-- there is no video
+pub no_video : (c : Command)
+    → ((inputs : Role → List ℕ) (fault : Y4mFault) → (run_of c inputs).last.status ≡ VideoRefused fault → ⊥)
+    → ((inputs : Role → List ℕ) (fault : Y4mFault) → (run_of c inputs).last.status ≡ Video2Refused fault → ⊥) → IsRefusedRightly c
+no_video c none none2 = record {
+  first = λ inputs fault ends. absurd (none inputs fault ends);
+  second = λ inputs fault ends. absurd (none2 inputs fault ends);
+}
 
 -- a command was carried out
 pub as_run : (a : Asked) (c : Command) → a.command ≡ c → IsRefusedRightly c → (result : Status) (old new : Outside)
@@ -33,7 +53,8 @@ as_run a c e rightly result old new run words = record {
   run = subst (λ (k : Command). IsRunOf (run_of k) ((Report, []) ∷ roles_of k a) (source_of k) result old new) (sym e) run;
   usage = λ u. absurd (subst IsNotUsage u words);
   no_command = λ n. absurd (cc n);
-  refused = λ inputs told fault r. rightly inputs fault (sym (run.texts inputs told (subst IsSettled (sym r) tt)).known ∙ r);
+  refused = λ inputs told fault r. rightly.first inputs fault (sym (run.texts inputs told (subst IsSettled (sym r) tt)).known ∙ r);
+  second_refused = λ inputs told fault r. rightly.second inputs fault (sym (run.texts inputs told (subst IsSettled (sym r) tt)).known ∙ r);
 }
 
 -- Usage was told, since there is no command
@@ -43,11 +64,16 @@ usage_run mid new are rest result told = record {
   usage = λ u. refl;
   no_command = λ n. ends told;
   refused = λ inputs tells fault r. absurd (not_refused told fault r);
+  second_refused = λ inputs tells fault r. absurd (not_second told fault r);
 }
   where
     not_refused : Finishes Usage result mid new → (fault : Y4mFault) → result ≡ VideoRefused fault → ⊥
     not_refused (inl told) fault r = absurd (cc (told.same, r))
     not_refused (inr cut) fault r = absurd (cc (cut.fault, r))
+
+    not_second : Finishes Usage result mid new → (fault : Y4mFault) → result ≡ Video2Refused fault → ⊥
+    not_second (inl told) fault r = absurd (cc (told.same, r))
+    not_second (inr cut) fault r = absurd (cc (cut.fault, r))
 
     ends : Finishes Usage result mid new → (result ≡ Usage) ⊎ (result ≡ OutOfMemory) ⊎ SomeRose mid.faults new.faults
     ends (inl told) = inl told.same
@@ -71,11 +97,16 @@ unread_run o mid new are rest result told = record {
   usage = λ u. absurd (not_usage told u);
   no_command = λ n. ends told;
   refused = λ inputs tells fault r. absurd (not_refused told fault r);
+  second_refused = λ inputs tells fault r. absurd (not_second told fault r);
 }
   where
     not_refused : Finishes OutOfMemory result mid new → (fault : Y4mFault) → result ≡ VideoRefused fault → ⊥
     not_refused (inl told) fault r = absurd (cc (told.same, r))
     not_refused (inr cut) fault r = absurd (cc (cut.fault, r))
+
+    not_second : Finishes OutOfMemory result mid new → (fault : Y4mFault) → result ≡ Video2Refused fault → ⊥
+    not_second (inl told) fault r = absurd (cc (told.same, r))
+    not_second (inr cut) fault r = absurd (cc (cut.fault, r))
 
     not_usage : Finishes OutOfMemory result mid new → result ≡ Usage → ⊥
     not_usage (inl told) u = absurd (cc (told.same, u))
@@ -93,6 +124,7 @@ starved_run o old new none same = record {
   usage = λ u. absurd (cc u);
   no_command = λ n. inr (inl refl);
   refused = λ inputs told fault r. absurd (cc r);
+  second_refused = λ inputs told fault r. absurd (cc r);
 }
 
 unopened_run : (o : Option Asked) (old new : Outside) → NoneAttached new.attached → new.written ≡ old.written → Rose old.faults.attach new.faults.attach → IsRun o (OpenFault Report) old new
@@ -102,6 +134,7 @@ unopened_run o old new none same rose = record {
   usage = λ u. absurd (cc u);
   no_command = λ n. inr (inr (inl rose));
   refused = λ inputs told fault r. absurd (cc r);
+  second_refused = λ inputs told fault r. absurd (cc r);
 }
 
 -- the report could not be attached
@@ -128,6 +161,7 @@ run_since o old mid new result attaches run = record {
   usage = run.usage;
   no_command = λ n. ends (run.no_command n);
   refused = λ inputs told fault r. run.refused inputs (λ role input. ap (λ (l : Role → Option (List ℕ)). l role) attaches.left ∙ told role input) fault r;
+  second_refused = λ inputs told fault r. run.second_refused inputs (λ role input. ap (λ (l : Role → Option (List ℕ)). l role) attaches.left ∙ told role input) fault r;
 }
   where
     ends : (result ≡ Usage) ⊎ (result ≡ OutOfMemory) ⊎ SomeRose mid.faults new.faults → (result ≡ Usage) ⊎ (result ≡ OutOfMemory) ⊎ SomeRose old.faults new.faults

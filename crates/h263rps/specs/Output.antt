@@ -1,18 +1,18 @@
 -- What the program makes of its words and of its inputs.
-use Rattle.std.specs.Prelude.{ℕ, Bool, true, false, not, List, [], ◌∷◌, Option, Some, None}
+use Rattle.std.specs.Prelude.{ℕ, Bool, true, false, not, List, [], ◌∷◌, Option, Some, None, map}
 use Rattle.std.specs.declared.io.ErrorKind.{ErrorKind}
 use Rattle.std.specs.declared.io.ErrorKind.TheVariants as kinds
 use Rattle.h263_outside.specs.declared.desk.Role.{Role}
-use Rattle.h263_outside.specs.declared.desk.Role.TheVariants.{Video, Events, Pictures, Wire, Report}
+use Rattle.h263_outside.specs.declared.desk.Role.TheVariants.{Video, Events, Report}
 use Rattle.h263_types.specs.declared.params.Params.{Params}
 use Rattle.call_report.specs.declared.status.Status.{Status}
 use Rattle.call_report.specs.declared.status.Status.TheVariants.{OutOfMemory, Usage}
 use Rattle.command_words.specs.declared.simple.WordStop.{WordStop}
 use Rattle.command_words.specs.declared.simple.WordStop.TheVariants as stops
 use Rattle.command_words.specs.declared.command.Command.{Command}
-use Rattle.command_words.specs.declared.command.Command.TheVariants.{Call, Send, Recv, Demo, Rate, Audit}
+use Rattle.command_words.specs.declared.command.Command.TheVariants.{Call, Send, Recv, Demo, Rate, Audit, Duplex}
 use Rattle.command_words.specs.Simple.{Text}
-use Rattle.command_words.specs.Asked.{Asked, asked}
+use Rattle.command_words.specs.Asked.{Asked, asked, roles}
 use Rattle.desk_program.specs.Run.{Run, run_from, refusal}
 use Rattle.recv_command.specs.Recv.{recv_begin, recv_step}
 use Rattle.recv_command.specs.Join.{join_begin, join_step}
@@ -26,6 +26,7 @@ use Rattle.call_command.specs.Call.{call_begin, call_step, most_turns}
 use Rattle.demo_command.specs.declared.terms.DemoTerms.{DemoTerms}
 use Rattle.demo_command.specs.Demo.{demo_begin, demo_step}
 use Rattle.demo_command.specs.Demo as demo
+use Rattle.duplex_command.specs.Begin.{duplex_run}
 
 -- ---- the words
 
@@ -52,15 +53,7 @@ the_word (Some word) = word
 
 -- the roles of a command in their order, with their words
 abbrev pub roles_of : Command → Asked → List (Role × Text)
-roles_of (Call params false) a = (Video, the_word a.video) ∷ (Pictures, the_word a.pictures) ∷ []
-roles_of (Call params true) a =
-    (Video, the_word a.video) ∷ (Events, the_word a.events) ∷ (Pictures, the_word a.pictures) ∷ []
-roles_of (Send params target) a = (Video, the_word a.video) ∷ (Events, the_word a.events) ∷ (Wire, the_word a.wire) ∷ []
-roles_of (Recv params join) a =
-    (Events, the_word a.events) ∷ (Pictures, the_word a.pictures) ∷ (Wire, the_word a.wire) ∷ []
-roles_of (Demo params seed frames) a = []
-roles_of (Rate target bucket) a = (Events, the_word a.events) ∷ []
-roles_of (Audit params) a = (Events, the_word a.events) ∷ []
+roles_of c a = map (λ r. (r.0, the_word (a.given r.1))) (roles c)
 
 -- the report comes first, by the empty word
 abbrev pub order_from : Option Asked → List (Role × Text)
@@ -76,6 +69,7 @@ source_of (Recv params join) = Some Events
 source_of (Demo params seed frames) = None
 source_of (Rate target bucket) = Some Events
 source_of (Audit params) = Some Events
+source_of (Duplex params) = Some Events
 
 abbrev pub source_from : Option Asked → Option Role
 source_from None = None
@@ -117,6 +111,7 @@ run_of (Demo params seed frames) inputs =
 run_of (Rate target bucket) inputs =
     run_from (rate_begin (bucket_of target bucket) inputs) rate_step 16777216 inputs
 run_of (Audit params) inputs = run_from (audit_begin params inputs) audit_step 16777216 inputs
+run_of (Duplex params) inputs = duplex_run params inputs
 
 -- what a command gives where the inputs hold these bytes: texts turn by turn, and a status. Where
 -- none was asked for it is Usage.

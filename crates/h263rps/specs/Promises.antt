@@ -3,11 +3,11 @@ use Rattle.std.specs.Prelude.{ℕ, ◌≡◌, ◌⊎◌, true, false, List, Opti
 use Rattle.h263_outside.specs.Desk.{Outside, SomeRose, is_role}
 use Rattle.h263_outside.specs.Gains.{Front}
 use Rattle.h263_outside.specs.declared.desk.Role.{Role}
-use Rattle.h263_outside.specs.declared.desk.Role.TheVariants.{Video, Report}
+use Rattle.h263_outside.specs.declared.desk.Role.TheVariants.{Video, Video2, Report}
 use Rattle.y4m.specs.declared.fault.Y4mFault.{Y4mFault}
 use Rattle.y4m.specs.Video.{video_fault}
 use Rattle.call_report.specs.declared.status.Status.{Status}
-use Rattle.call_report.specs.declared.status.Status.TheVariants.{OutOfMemory, Usage, VideoRefused}
+use Rattle.call_report.specs.declared.status.Status.TheVariants.{OutOfMemory, Usage, VideoRefused, Video2Refused}
 use Rattle.call_report.specs.Status.{code_of, phase, before_reading}
 use Rattle.command_words.specs.Asked.{Asked}
 use Rattle.desk_program.specs.Run.{Run, text_of}
@@ -58,6 +58,9 @@ pub record IsRun (asked : Option Asked) (result : Status) (old new : Outside) : 
   -- a refused video has that fault, and no earlier one
   pub refused : (inputs : Role → List ℕ) → Tells old inputs → (fault : Y4mFault) → result ≡ VideoRefused fault
       → video_fault (inputs Video) ≡ Some fault
+  -- and so has the second video
+  pub second_refused : (inputs : Role → List ℕ) → Tells old inputs → (fault : Y4mFault) → result ≡ Video2Refused fault
+      → video_fault (inputs Video2) ≡ Some fault
 
 -- the exit status is that of a run with these words
 pub record IsExit (asked : Option Asked) (code : ℕ) (old new : Outside) : Type 0 where

@@ -17,6 +17,7 @@ use call_command::{Call, Terms, laws as call_command_laws};
 use command_words::{Command, Words};
 use demo_command::{Demo, DemoTerms, laws as demo_command_laws};
 use desk_program::{Acts, perform};
+use duplex_command::{Duplex, laws as duplex_command_laws};
 use h263_outside::{Desk, Role};
 use h263_types::Params;
 use rate_command::{Bucket, Rate, laws as rate_command_laws};
@@ -60,6 +61,7 @@ fn call<D: Desk>(alloc: Global, words: &Words<'_>, params: Params, desk: &mut D)
     ensures { IsRun (Some (asked_of words.now)) result (D.outside desk.old) (D.outside desk.new) }
 {
     call_command_laws::refused_videos();
+    call_command_laws::no_second_video();
     let order = [
         (Role::Video, word_of(words, Role::Video)),
         (Role::Pictures, word_of(words, Role::Pictures)),
@@ -80,6 +82,7 @@ fn traced_call<D: Desk>(alloc: Global, words: &Words<'_>, params: Params, desk: 
     ensures { IsRun (Some (asked_of words.now)) result (D.outside desk.old) (D.outside desk.new) }
 {
     call_command_laws::refused_videos();
+    call_command_laws::no_second_video();
     let order = [
         (Role::Video, word_of(words, Role::Video)),
         (Role::Events, word_of(words, Role::Events)),
@@ -107,6 +110,7 @@ fn send<D: Desk>(
     ensures { IsRun (Some (asked_of words.now)) result (D.outside desk.old) (D.outside desk.new) }
 {
     send_command_laws::refused_videos();
+    send_command_laws::no_second_video();
     let order = [
         (Role::Video, word_of(words, Role::Video)),
         (Role::Events, word_of(words, Role::Events)),
@@ -199,6 +203,25 @@ fn audit<D: Desk>(alloc: Global, words: &Words<'_>, params: Params, desk: &mut D
     carry_out::<D, Audit>(alloc, &params, &order, desk)
 }
 
+// A call of two parties.
+fn duplex<D: Desk>(alloc: Global, words: &Words<'_>, params: Params, desk: &mut D) -> Status
+    requires report { AreAttached ((Report, []) ∷ []) (D.outside desk.old) }
+    requires names { HasNames (asked_of words.now) }
+    requires command { IsCommand words.now.command }
+    requires is { words.now.command ≡ commands.Duplex params }
+    ensures { IsRun (Some (asked_of words.now)) result (D.outside desk.old) (D.outside desk.new) }
+{
+    duplex_command_laws::refused_videos();
+    let order = [
+        (Role::Video, word_of(words, Role::Video)),
+        (Role::Video2, word_of(words, Role::Video2)),
+        (Role::Events, word_of(words, Role::Events)),
+        (Role::Pictures, word_of(words, Role::Pictures)),
+        (Role::Pictures2, word_of(words, Role::Pictures2)),
+    ];
+    carry_out::<D, Duplex>(alloc, &params, &order, desk)
+}
+
 /// Runs the command that the words ask for.
 pub fn command<D: Desk>(alloc: Global, words: &Words<'_>, desk: &mut D) -> Status
     requires report { AreAttached ((Report, []) ∷ []) (D.outside desk.old) }
@@ -228,5 +251,6 @@ pub fn command<D: Desk>(alloc: Global, words: &Words<'_>, desk: &mut D) -> Statu
         } => demo(alloc, words, params, seed, frames, desk),
         Command::Rate { target, bucket } => rate(alloc, words, target, bucket, desk),
         Command::Audit { params } => audit(alloc, words, params, desk),
+        Command::Duplex { params } => duplex(alloc, words, params, desk),
     }
 }

@@ -9,7 +9,7 @@ use loss_trace::TraceFault;
 use std::process::Abort;
 use std::test::Fail;
 use test_desks::{
-    BLANK, Case, Differs, EXACT, FRAME, HEAD, HELD, NEVER, NOTHING, Parts, SHOWN_HEAD, USAGE,
+    BLANK, Case, Differs, EXACT, FRAME, HEAD, HELD, NOTHING, Parts, SHOWN_HEAD, USAGE,
     desk_of, difference, joined,
 };
 use test_fixtures::codec::{FLAT_PACKET, SKIPPED_PACKET};
@@ -295,13 +295,11 @@ fn check_log(
     report: Parts,
 ) -> Result<(), OutOfMemory> {
     let case = Case {
-        video: NOTHING,
         events: &[log],
-        failing: NEVER,
-        ends: Status::Ok,
         pictures,
         wire,
         report,
+        ..BLANK
     };
     check(rt, alloc, words, 4096, &case)
 }

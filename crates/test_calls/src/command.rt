@@ -8,6 +8,7 @@ use call_command::{Call, Terms};
 use call_report::Status;
 use command_words::{Command, Words};
 use desk_program::{attach_role, finish, perform};
+use duplex_command::Duplex;
 use h263_outside::{Desk, Role};
 use recv_command::{Join, Recv};
 use send_command::{Send, Sending};
@@ -18,8 +19,8 @@ fn name_of<'a>(words: &Words<'a>, role: Role) -> &'a str {
     words.name(role).unwrap_or("")
 }
 
-/// Runs the command that the words ask for, where it is one of one end, a call over a trace, or an
-/// audit.
+/// Runs the command that the words ask for, where it is one of one end, a call over a trace, also of
+/// two parties, or an audit.
 pub fn run<D: Desk>(alloc: Global, words: &Words<'_>, desk: &mut D) -> Status
     requires none { NoneAttached (D.outside desk.old).attached }
     requires command { IsCommand (asked_of words.now).command }
@@ -62,6 +63,16 @@ pub fn run<D: Desk>(alloc: Global, words: &Words<'_>, desk: &mut D) -> Status
                 plain: false,
             };
             perform::<D, Call>(alloc, &terms, &order, desk)
+        }
+        Command::Duplex { params } => {
+            let order = [
+                (Role::Video, name_of(words, Role::Video)),
+                (Role::Video2, name_of(words, Role::Video2)),
+                (Role::Events, name_of(words, Role::Events)),
+                (Role::Pictures, name_of(words, Role::Pictures)),
+                (Role::Pictures2, name_of(words, Role::Pictures2)),
+            ];
+            perform::<D, Duplex>(alloc, &params, &order, desk)
         }
         Command::Audit { params } => {
             let order = [(Role::Events, name_of(words, Role::Events))];

@@ -11,10 +11,11 @@ use h263_outside::{MemoryDesk, Role};
 use std::alloc::Global;
 use std::fs;
 
-// The most bytes that one call of the desk moves, and more than an output has.
-const PIECE: usize = 4096;
+/// The most bytes that one call of the desk moves.
+pub const PIECE: usize = 4096;
 
-const ROOM: usize = 10_000_000;
+/// More bytes than an output has.
+pub const ROOM: usize = 10_000_000;
 
 // Puts the file on the desk by whose name the words attach the role, if they do.
 fn put_input(
@@ -105,11 +106,13 @@ pub fn compare_run(rt: &HostRuntime, report: &str, words: &str) -> Result<bool, 
     let words = Words::read(alloc, &list)?;
     let mut desk = desk_of(rt, &words)?;
     put_input(rt, &words, Role::Video, &mut desk)?;
+    put_input(rt, &words, Role::Video2, &mut desk)?;
     let status = run(alloc, &words, &mut desk);
     let pictures = compare_output(rt, &words, Role::Pictures, &desk)?;
+    let pictures2 = compare_output(rt, &words, Role::Pictures2, &desk)?;
     let wire = compare_output(rt, &words, Role::Wire, &desk)?;
     let told = compare_file(rt, report, &report_of(alloc, &desk, status)?)?;
-    Ok(pictures && wire && told)
+    Ok(pictures && pictures2 && wire && told)
 }
 
 /// Runs the audit of these words over a log, and compares the report with this one.

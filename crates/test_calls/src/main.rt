@@ -1,5 +1,5 @@
-//! A test of `send`, `recv`, `call` and `audit`, by calls and logs that an independent program made
-//! and by worked calls over traces.
+//! A test of `send`, `recv`, `call`, `audit` and `duplex`, by calls and logs that an independent
+//! program made and by worked calls over traces.
 //!
 //! Each command is run by its words over a desk in memory, and all that it writes is compared byte
 //! for byte; the stored reports end with a line for the number that the process ends with. Where
@@ -8,14 +8,17 @@
 #![tactic(auto)]
 
 mod audited;
+mod by_hand;
 mod command;
 mod compare;
+mod duplex;
 mod recorded;
 mod sent;
 mod stop;
 mod video;
 
 use audited::audited_calls;
+use duplex::duplex_calls;
 use recorded::recorded_calls;
 use sent::sent_calls;
 use std::io;
@@ -37,7 +40,8 @@ fn compare_calls(rt: &HostRuntime) -> io::Result<bool> {
     let sent = sent_calls(rt)?;
     let audited = audited_calls(rt)?;
     let recorded = recorded_calls(rt)?;
-    Ok(sent && audited && recorded)
+    let duplex = duplex_calls(rt)?;
+    Ok(sent && audited && recorded && duplex)
 }
 
 fn main(rt: HostRuntime) -> ExitCode {

@@ -10,7 +10,7 @@ use h263_types::{Clock, Format, Params};
 use std::alloc::Global;
 use std::process::Abort;
 use std::test::Fail;
-use test_desks::{Case, NEVER, NOTHING, Parts, run};
+use test_desks::{BLANK, Case, NEVER, NOTHING, Parts, run};
 use test_fixtures::codec::{FLAT_PACKET, LATER_PACKET, SKIPPED_PACKET};
 
 // Picture 0 of sub-QCIF, the last macroblocks of another picture 0, and picture 1, which refers to
@@ -56,8 +56,8 @@ fn check_audits(
             failing: *failing,
             ends: *ends,
             pictures: NOTHING,
-            wire: NOTHING,
             report: &[*report],
+            ..BLANK
         };
         let found = run::<Audit>(alloc, params, order, piece, &case)?;
         assert_eq!(rt; found, None, "where call {failing} fails");

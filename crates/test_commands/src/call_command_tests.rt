@@ -18,8 +18,8 @@ use std::alloc::Global;
 use std::process::Abort;
 use std::test::Fail;
 use test_desks::{
-    Case, Differs, EXACT, FRAME, HEAD, HELD, NEVER, NOTHING, Parts, SHOWN_HEAD, joined, repeated,
-    run,
+    BLANK, Case, Differs, EXACT, FRAME, HEAD, HELD, NEVER, NOTHING, Parts, SHOWN_HEAD, joined,
+    repeated, run,
 };
 use y4m::{Y4mFault, Y4mReader};
 
@@ -80,8 +80,8 @@ fn check_plain(
             failing: NEVER,
             ends: *ends,
             pictures,
-            wire: NOTHING,
             report: &[*report],
+            ..BLANK
         };
         let found = differs(alloc, params, true, piece, &case)?;
         assert_eq!(rt; found, None, "where {ends:?}");
@@ -183,8 +183,8 @@ fn check_traced(rt: &impl Abort, alloc: Global, table: &[Traced]) -> Result<(), 
             failing: NEVER,
             ends: *ends,
             pictures,
-            wire: NOTHING,
             report: &[*report],
+            ..BLANK
         };
         for piece in [1, 4096] {
             let found = differs(alloc, &params, false, piece, &case)?;
@@ -322,8 +322,8 @@ fn check_failing(
                 failing,
                 ends: *ends,
                 pictures,
-                wire: NOTHING,
                 report,
+                ..BLANK
             };
             let found = differs(alloc, &params, plain, 4096, &case)?;
             assert_eq!(rt; found, None, "where call {failing} fails");

@@ -4,7 +4,7 @@ use h263_outside::Role;
 use h263_types::{Clock, Format, Params};
 
 // Words after the program's name that are no command.
-static USAGE: [&[&str]; 66] = [
+static USAGE: [&[&str]; 76] = [
     &[],
     &[""],
     &["convert", "in", "out"],
@@ -73,6 +73,26 @@ static USAGE: [&[&str]; 66] = [
     &["recv", "log", "out", "wire", "--lead", "--join"],
     &["call", "in", "out", "--join"],
     &["audit", "log", "--join"],
+    &["duplex", "in1", "in2", "out1", "out2"],
+    &["duplex", "in1", "in2", "out1", "--trace", "t"],
+    &["duplex", "in1", "in2", "out1", "out2", "t", "--trace", "t"],
+    &["duplex", "in1", "in2", "out1", "out2", "--trace"],
+    &[
+        "duplex", "in1", "in2", "out1", "out2", "--trace", "t", "--trace", "t",
+    ],
+    &[
+        "duplex", "in1", "in2", "out1", "out2", "--trace", "t", "--format", "cif",
+    ],
+    &[
+        "duplex", "in1", "in2", "out1", "out2", "--trace", "t", "--join",
+    ],
+    &[
+        "duplex", "in1", "in2", "out1", "out2", "--trace", "t", "--target", "9",
+    ],
+    &[
+        "duplex", "in1", "in2", "out1", "out2", "--trace", "t", "--lead", "15",
+    ],
+    &["Duplex", "in1", "in2", "out1", "out2", "--trace", "t"],
 ];
 
 #[test]
@@ -191,45 +211,56 @@ fn a_switch_stands_anywhere(rt: HostRuntime) {
     }
 }
 
-// Words, and the names of video, events, pictures and wire.
-static NAMED: [(&[&str], &[Option<&str>]); 11] = [
+// Words, and the names of video, events, pictures and wire, and of the second video and pictures.
+static NAMED: [(&[&str], &[Option<&str>]); 13] = [
     (
         &["call", "in", "out"],
-        &[Some("in"), None, Some("out"), None],
+        &[Some("in"), None, Some("out"), None, None, None],
     ),
-    (&["call", "", "-"], &[Some(""), None, Some("-"), None]),
+    (
+        &["call", "", "-"],
+        &[Some(""), None, Some("-"), None, None, None],
+    ),
     (
         &["call", "--", "-a", "--b=c"],
-        &[Some("-a"), None, Some("--b=c"), None],
+        &[Some("-a"), None, Some("--b=c"), None, None, None],
     ),
     (
         &["call", "in", "--trace=", "out"],
-        &[Some("in"), Some(""), Some("out"), None],
+        &[Some("in"), Some(""), Some("out"), None, None, None],
     ),
     (
         &["call", "in", "--trace", "-", "out"],
-        &[Some("in"), Some("-"), Some("out"), None],
+        &[Some("in"), Some("-"), Some("out"), None, None, None],
     ),
     (
         &["send", "a", "b", "c"],
-        &[Some("a"), Some("b"), None, Some("c")],
+        &[Some("a"), Some("b"), None, Some("c"), None, None],
     ),
     (
         &["recv", "a", "b", "c"],
-        &[None, Some("a"), Some("b"), Some("c")],
+        &[None, Some("a"), Some("b"), Some("c"), None, None],
     ),
     (
         &["recv", "a", "b", "--", "--join"],
-        &[None, Some("a"), Some("b"), Some("--join")],
+        &[None, Some("a"), Some("b"), Some("--join"), None, None],
     ),
-    (&["demo", "0", "1"], &[None, None, None, None]),
+    (&["demo", "0", "1"], &[None, None, None, None, None, None]),
     (
         &["rate", "--bucket", "0", "a", "--target", "1"],
-        &[None, Some("a"), None, None],
+        &[None, Some("a"), None, None, None, None],
     ),
     (
         &["audit", "--format=cif", "a"],
-        &[None, Some("a"), None, None],
+        &[None, Some("a"), None, None, None, None],
+    ),
+    (
+        &["duplex", "a", "b", "c", "d", "--trace", "t"],
+        &[Some("a"), Some("t"), Some("c"), None, Some("b"), Some("d")],
+    ),
+    (
+        &["duplex", "--trace=", "--", "", "-b", "--c", "d"],
+        &[Some(""), Some(""), Some("--c"), None, Some("-b"), Some("d")],
     ),
 ];
 
@@ -237,7 +268,14 @@ static NAMED: [(&[&str], &[Option<&str>]); 11] = [
 fn names_by_role(rt: HostRuntime) {
     for (words, names) in &NAMED {
         let read = Words::read(rt.alloc(), words).expect(&rt, "a command");
-        let roles = [Role::Video, Role::Events, Role::Pictures, Role::Wire];
+        let roles = [
+            Role::Video,
+            Role::Events,
+            Role::Pictures,
+            Role::Wire,
+            Role::Video2,
+            Role::Pictures2,
+        ];
         for (role, name) in roles.iter().zip(names.iter()) {
             assert_eq!(rt; read.name(*role), *name, "{words:?}");
         }
@@ -275,6 +313,18 @@ static AUDITED: [&str; 6] = [
     "--slots=64",
     "--lead",
     "62",
+];
+
+static BOTH: [&str; 9] = [
+    "duplex",
+    "--trace",
+    "t",
+    "in1",
+    "in2",
+    "--messages",
+    "2",
+    "out1",
+    "out2",
 ];
 
 #[test]
@@ -322,6 +372,12 @@ fn one_command_of_each(rt: HostRuntime) {
             ..Params::of(Format::SubQcif)
         },
     };
+    let duplex = Command::Duplex {
+        params: Params {
+            messages: 2,
+            ..params
+        },
+    };
     let table = [
         (PLAIN.as_slice(), call),
         (SENDING.as_slice(), send),
@@ -331,6 +387,7 @@ fn one_command_of_each(rt: HostRuntime) {
         (MADE.as_slice(), demo),
         (MEASURED.as_slice(), rate),
         (AUDITED.as_slice(), audit),
+        (BOTH.as_slice(), duplex),
     ];
     for (words, command) in table {
         let read = Words::read(rt.alloc(), words).expect(&rt, "a command");

@@ -12,6 +12,8 @@ mod command_words_tests;
 #[cfg(test)]
 mod demo_command_tests;
 #[cfg(test)]
+mod duplex_command_tests;
+#[cfg(test)]
 mod event_logs_tests;
 #[cfg(test)]
 mod loss_trace_tests;

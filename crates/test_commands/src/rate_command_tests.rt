@@ -8,7 +8,7 @@ use rate_command::{Bucket, Rate};
 use std::alloc::Global;
 use std::process::Abort;
 use std::test::Fail;
-use test_desks::{Case, NEVER, NOTHING, Parts, run};
+use test_desks::{BLANK, Case, NEVER, NOTHING, Parts, run};
 
 // The heads of the entries of 342 and of 31 bytes, and of a play.
 const OF_342: &[u8] = b"K\x01\x56";
@@ -60,8 +60,8 @@ fn check_rates(
             failing: *failing,
             ends: *ends,
             pictures: NOTHING,
-            wire: NOTHING,
             report: &[*report],
+            ..BLANK
         };
         let found = run::<Rate>(alloc, &bucket, order, piece, &case)?;
         assert_eq!(rt; found, None, "where call {failing} fails");

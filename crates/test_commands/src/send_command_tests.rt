@@ -9,7 +9,7 @@ use send_command::{Send, Sending};
 use std::alloc::Global;
 use std::process::Abort;
 use std::test::Fail;
-use test_desks::{Case, Differs, FRAME, HEAD, NEVER, NOTHING, Parts, run};
+use test_desks::{BLANK, Case, Differs, FRAME, HEAD, NEVER, NOTHING, Parts, run};
 use test_fixtures::codec::{FLAT_PACKET, SKIPPED_PACKET};
 use y4m::Y4mFault;
 
@@ -91,9 +91,9 @@ fn check_senders(
             events: log,
             failing: *failing,
             ends: *ends,
-            pictures: NOTHING,
             wire,
             report: &[*report],
+            ..BLANK
         };
         let found = differs(alloc, piece, target, &case)?;
         assert_eq!(rt; found, None, "where {ends:?}");
@@ -268,9 +268,9 @@ fn each_failing_call(rt: HostRuntime) -> Result<(), Fail> {
                 events: ACKNOWLEDGED,
                 failing,
                 ends: *ends,
-                pictures: NOTHING,
                 wire,
                 report: &[*report],
+                ..BLANK
             };
             let found = differs(rt.alloc(), 4096, None, &case)?;
             assert_eq!(rt; found, None, "where call {failing} fails");

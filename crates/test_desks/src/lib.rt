@@ -101,10 +101,12 @@ pub fn writing(
 #[derive(Clone, Copy)]
 pub struct Case<'a> {
     pub video: Parts<'a>,
+    pub video2: Parts<'a>,
     pub events: Parts<'a>,
     pub failing: u64,
     pub ends: Status,
     pub pictures: Parts<'a>,
+    pub pictures2: Parts<'a>,
     pub wire: Parts<'a>,
     pub report: Parts<'a>,
 }
@@ -112,10 +114,12 @@ pub struct Case<'a> {
 /// A run that is given nothing, ends well and writes nothing.
 pub const BLANK: Case<'static> = Case {
     video: NOTHING,
+    video2: NOTHING,
     events: NOTHING,
     failing: NEVER,
     ends: Status::Ok,
     pictures: NOTHING,
+    pictures2: NOTHING,
     wire: NOTHING,
     report: NOTHING,
 };
@@ -125,6 +129,7 @@ pub const BLANK: Case<'static> = Case {
 pub enum Differs {
     Status(Status),
     Pictures,
+    Pictures2,
     Wire,
     Report,
 }
@@ -136,6 +141,7 @@ pub fn desk_of(alloc: Global, piece: usize, case: &Case) -> Result<MemoryDesk, O
 {
     let mut desk = MemoryDesk::new(alloc, piece, 200_000)?;
     desk.put(Role::Video, &joined(alloc, case.video)?)?;
+    desk.put(Role::Video2, &joined(alloc, case.video2)?)?;
     desk.put(Role::Events, &joined(alloc, case.events)?)?;
     desk.fail(case.failing)?;
     Ok(desk)
@@ -156,6 +162,9 @@ pub fn difference(
     }
     if desk.text(Role::Pictures) != joined(alloc, case.pictures)?.as_slice() {
         return Ok(Some(Differs::Pictures));
+    }
+    if desk.text(Role::Pictures2) != joined(alloc, case.pictures2)?.as_slice() {
+        return Ok(Some(Differs::Pictures2));
     }
     if desk.text(Role::Wire) != joined(alloc, case.wire)?.as_slice() {
         return Ok(Some(Differs::Wire));

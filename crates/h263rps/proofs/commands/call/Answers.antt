@@ -1,11 +1,11 @@
-use Rattle.std.proofs.Common.{ℕ, false, List, [], ◌∷◌, subst}
+use Rattle.std.proofs.Common.{ℕ, false, List, [], ◌∷◌, ◌∙◌, subst}
 use Rattle.h263_outside.specs.declared.desk.Role.{Role}
 use Rattle.h263_outside.specs.declared.desk.Role.TheVariants.{Video, Pictures, Report}
 use Rattle.command_words.specs.declared.command.Command.TheVariants.{Call}
 use Rattle.command_words.specs.View.{asked_of}
 use Rattle.h263rps.specs.Output.{run_of, source_of, terms_of}
 use Rattle.h263rps.specs.Promises.{IsRunOf}
-use Rattle.h263rps.proofs.Asked.{as_run}
+use Rattle.h263rps.proofs.Asked.{as_run, one_video, word_is}
 use Rattle.h263rps.proofs.commands.call.Goals as goal
 
 pub returns : goal.returns
@@ -14,7 +14,8 @@ returns g c =
     let a = asked_of c.args.words.now in
     let asked = Call c.args.params false in
     let done = c.carry_out in
-    as_run a asked c.requires.is (c.refused_videos.ensures (terms_of c.args.params false)) done.result (outside c.args.desk.now) (outside done.new.desk)
+    as_run a asked c.requires.is (one_video asked (c.refused_videos.ensures (terms_of c.args.params false)) (c.no_second_video.ensures (terms_of c.args.params false)))
+    done.result (outside c.args.desk.now) (outside done.new.desk)
     (subst (λ (roles : List (Role × List ℕ)). IsRunOf (run_of asked) ((Report, []) ∷ roles) (source_of asked) done.result (outside c.args.desk.now) (outside done.new.desk))
-    (λ i. (Video, c.word_of.ensures i) ∷ (Pictures, c.word_of-2.ensures i) ∷ []) done.ensures.run)
+    (λ i. (Video, (c.word_of.ensures ∙ word_is a asked Video c.requires.is) i) ∷ (Pictures, (c.word_of-2.ensures ∙ word_is a asked Pictures c.requires.is) i) ∷ []) done.ensures.run)
     done.ensures.words

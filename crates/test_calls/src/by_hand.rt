@@ -1,0 +1,138 @@
+//! A call of two parties against two senders and two receivers that are joined by hand.
+ghost use Rattle.std.specs.Prelude.{◌≡◌, ◌≤◌, ◌+◌, length};
+ghost use Rattle.h263_types.specs.declared.clock.Clock.TheVariants.{Standard};
+ghost use Rattle.h263_types.specs.declared.format.Format.TheVariants.{Qcif};
+ghost use Rattle.h263_types.specs.Params.{default_params};
+ghost use Rattle.picture_header.specs.Ranges.{AreMessages};
+
+use crate::command::run;
+use crate::compare::{PIECE, ROOM};
+use crate::stop::Stop;
+use crate::video::{made_picture, made_video};
+use back_messages::Message;
+use call_report::Status;
+use command_words::Words;
+use h263_outside::{MemoryDesk, OutOfMemory, Role};
+use h263_planes::PictureRef;
+use h263_types::{FixedPace, Format, Params};
+use sender_end::Sender;
+use std::alloc::Global;
+
+// The seeds of a's video, of two pictures, and of b's, of one.
+const SEED_A: u32 = 1;
+
+const SEED_B: u32 = 2;
+
+// a's picture 0 is acknowledged in the header of b's, and that one in the header of a's picture 1,
+// which refers to picture 0.
+const TRACE: &[u8] = b"a S\na D 0.*\nb S\nb D 0.*\na S\na D 1.*\na P\na P\nb P\n";
+
+const REPORT: &[u8] = b"a 0 exact intra\na 1 exact from 0\nb 0 exact intra\n\
+a played 2 sent 2 exact 2 patched 0 held 0\nb played 1 sent 1 exact 1 patched 0 held 0\n";
+
+// The ACK of picture 0, its bytes, and its entry in a log.
+const ACK_0: Message = Message::Ack { tr: 0, marks: None };
+
+const ACK_0_BYTES: &[u8] = b"\xC0\x04\x00";
+
+const ACK_0_ENTRY: &[u8] = b"B\x00\x03\xC0\x04\x00";
+
+const PLAY: &[u8] = b"P\x00\x00";
+
+// Codes a frame with these messages in its header, and appends its packets to the log.
+fn code(
+    sender: &mut Sender<FixedPace>,
+    frame: &[u8],
+    back: &[Message],
+    log: &mut Vec<u8>,
+) -> Result<(), OutOfMemory>
+    requires params { sender.old.params ≡ default_params Qcif }
+    requires early { sender.old.sent ≤ 1 }
+    requires frame { length frame.now ≡ 38016 }
+    requires few { length back.now ≤ 4 }
+    requires back { AreMessages Standard back.now }
+    ensures params { sender.new.params ≡ sender.old.params }
+    ensures sent { sender.new.sent ≡ sender.old.sent + 1 }
+{
+    let coded = sender.code(PictureRef::new(Format::Qcif, frame), back);
+    'packets: for place in 0..coded.packets {
+        let packet = sender.packet(place);
+        log.push(b'K')?;
+        log.extend_from_slice(&(packet.len() as u16).to_be_bytes())?;
+        log.extend_from_slice(packet)?;
+    }
+    Ok(())
+}
+
+// What a's receiver hears and plays, and what b's.
+fn code_a(alloc: Global, sender: &mut Sender<FixedPace>) -> Result<Vec<u8>, OutOfMemory>
+    requires params { sender.old.params ≡ default_params Qcif }
+    requires new { sender.old.sent ≡ 0 }
+{
+    let mut log = Vec::new(alloc);
+    let frames = [
+        made_picture(alloc, SEED_A, 0)?,
+        made_picture(alloc, SEED_A, 1)?,
+    ];
+    code(sender, &frames[0], &[], &mut log)?;
+    let _noted = sender.feedback(ACK_0_BYTES);
+    code(sender, &frames[1], &[ACK_0], &mut log)?;
+    log.extend_from_slice(PLAY)?;
+    log.extend_from_slice(PLAY)?;
+    Ok(log)
+}
+
+fn code_b(alloc: Global, sender: &mut Sender<FixedPace>) -> Result<Vec<u8>, OutOfMemory>
+    requires params { sender.old.params ≡ default_params Qcif }
+    requires new { sender.old.sent ≡ 0 }
+{
+    let mut log = Vec::new(alloc);
+    let frame = made_picture(alloc, SEED_B, 0)?;
+    code(sender, &frame, &[ACK_0], &mut log)?;
+    log.extend_from_slice(PLAY)?;
+    Ok(log)
+}
+
+// The log of what arrives of a's pictures, or of b's.
+fn log_of(alloc: Global, is_first: bool) -> Result<Vec<u8>, OutOfMemory> {
+    let params = Params::of(Format::Qcif);
+    let pace = FixedPace {
+        quant: params.quant,
+    };
+    let mut sender = Sender::start(alloc, &params, pace)?;
+    let log = if is_first {
+        code_a(alloc, &mut sender)
+    } else {
+        code_b(alloc, &mut sender)
+    };
+    sender.finish();
+    log
+}
+
+// Whether a receiver over this log shows these pictures, and says first that picture 0 is complete.
+fn received(alloc: Global, log: &[u8], pictures: &[u8]) -> Result<bool, Stop> {
+    let words = Words::read(alloc, &["recv", "log", "out", "wire"])?;
+    let mut desk = MemoryDesk::new(alloc, PIECE, ROOM)?;
+    desk.put(Role::Events, log)?;
+    let status = run(alloc, &words, &mut desk);
+    let said = desk.text(Role::Wire).starts_with(ACK_0_ENTRY);
+    Ok(said && status == Status::Ok && desk.text(Role::Pictures) == pictures)
+}
+
+/// Compares what a call of two parties shows with what two receivers show of the packets of two
+/// senders.
+pub fn joined_by_hand(rt: &HostRuntime) -> Result<bool, Stop> {
+    let alloc = rt.alloc();
+    let list = ["duplex", "in1", "in2", "out1", "out2", "--trace", "t"];
+    let words = Words::read(alloc, &list)?;
+    let mut desk = MemoryDesk::new(alloc, PIECE, ROOM)?;
+    desk.put(Role::Video, &made_video(alloc, SEED_A, 2)?)?;
+    desk.put(Role::Video2, &made_video(alloc, SEED_B, 1)?)?;
+    desk.put(Role::Events, TRACE)?;
+    let status = run(alloc, &words, &mut desk);
+    let told = status == Status::Ok && desk.text(Role::Report) == REPORT;
+    let first = received(alloc, &log_of(alloc, true)?, desk.text(Role::Pictures))?;
+    let second = received(alloc, &log_of(alloc, false)?, desk.text(Role::Pictures2))?;
+    println!(rt; "by hand: {told} {first} {second}")?;
+    Ok(told && first && second)
+}

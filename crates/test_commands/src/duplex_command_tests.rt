@@ -1,0 +1,588 @@
+//! Calls of two parties over a desk in memory.
+ghost use Rattle.std.specs.Prelude.{◌<◌};
+ghost use Rattle.h263_types.specs.Params.{IsParams};
+
+use call_report::Status;
+use duplex_command::Duplex;
+use h263_outside::{OutOfMemory, Role};
+use h263_types::{Clock, Format, Params};
+use loss_trace::TraceFault;
+use std::alloc::Global;
+use std::process::Abort;
+use std::test::Fail;
+use test_desks::{BLANK, Case, EXACT, FRAME, HEAD, HELD, NOTHING, Parts, SHOWN_HEAD, joined, run};
+use y4m::Y4mFault;
+
+// Bytes of a plane of luma, and of pictures flat 100, 64 and 128.
+const LUMA: &[u8] = &[64; 12_288];
+
+const FLAT: &[u8] = &[100; 18_432];
+
+const PICTURE: &[u8] = &[64; 18_432];
+
+const GREY: &[u8] = &[128; 18_432];
+
+const HEAD_ALONE: Parts<'static> = &[SHOWN_HEAD];
+
+const ONE: Parts<'static> = &[HEAD, FRAME, PICTURE];
+
+const SHOWN: Parts<'static> = &[SHOWN_HEAD, EXACT, PICTURE];
+
+const HELD_SHOWN: Parts<'static> = &[SHOWN_HEAD, HELD, GREY];
+
+// Runs a call of two parties, and compares how it ends and all that it writes.
+fn check(
+    rt: &impl Abort,
+    alloc: Global,
+    params: &Params,
+    piece: usize,
+    case: &Case,
+) -> Result<(), OutOfMemory>
+    requires piece { 0 < piece }
+    requires params { IsParams params.now }
+{
+    let order = &[
+        (Role::Video, "in1"),
+        (Role::Video2, "in2"),
+        (Role::Events, "trace"),
+        (Role::Pictures, "out1"),
+        (Role::Pictures2, "out2"),
+    ];
+    let found = run::<Duplex>(alloc, params, order, piece, case)?;
+    let (ends, failing) = (case.ends, case.failing);
+    assert_eq!(rt; found, None, "where call {failing} fails, {ends:?}");
+    Ok(())
+}
+
+const TWO_FLAT: Parts<'static> = &[HEAD, FRAME, FLAT, FRAME, FLAT];
+
+// The message of a's picture 0 rides in b's, and a's picture 1 refers to it.
+const WORKED: Case<'static> = Case {
+    video: TWO_FLAT,
+    video2: TWO_FLAT,
+    events: &[b"a S\na D 0.*\nb S\nb D 0.*\na S\na D 1.*\na P\na P\nb P\n"],
+    pictures: &[SHOWN_HEAD, EXACT, FLAT, EXACT, FLAT],
+    pictures2: &[SHOWN_HEAD, EXACT, FLAT],
+    report: &[
+        b"a 0 exact intra\na 1 exact from 0\nb 0 exact intra\n",
+        b"a played 2 sent 2 exact 2 patched 0 held 0\n",
+        b"b played 1 sent 1 exact 1 patched 0 held 0\n",
+    ],
+    ..BLANK
+};
+
+// The head of a video in QCIF, that of the video that is shown, and a picture.
+const HEAD_QCIF: &[u8] = b"YUV4MPEG2 W176 H144\n";
+
+const SHOWN_QCIF: &[u8] = b"YUV4MPEG2 W176 H144 F30000:1001 Ip C420jpeg\n";
+
+const FLAT_QCIF: &[u8] = &[100; 38_016];
+
+// The parties send in different formats; either may be the greater one.
+const FORMATS: Case<'static> = Case {
+    video: &[HEAD_QCIF, FRAME, FLAT_QCIF],
+    video2: ONE,
+    events: &[b"a S\nb S\n\na D 0.*\nb D 0.*\nb P\na P"],
+    pictures: &[SHOWN_QCIF, EXACT, FLAT_QCIF],
+    pictures2: SHOWN,
+    report: &[
+        b"b 0 exact intra\na 0 exact intra\n",
+        b"a played 1 sent 1 exact 1 patched 0 held 0\n",
+        b"b played 1 sent 1 exact 1 patched 0 held 0\n",
+    ],
+    ..BLANK
+};
+
+const OTHER_FORMATS: Case<'static> = Case {
+    video: ONE,
+    video2: &[HEAD_QCIF, FRAME, FLAT_QCIF],
+    pictures: SHOWN,
+    pictures2: &[SHOWN_QCIF, EXACT, FLAT_QCIF],
+    ..FORMATS
+};
+
+#[test]
+fn two_flat_videos(rt: HostRuntime) -> Result<(), Fail> {
+    let params = Params::of(Format::Qcif);
+    let custom = Params {
+        clock: Clock::Custom,
+        messages: 2,
+        ..params
+    };
+    for case in [WORKED, FORMATS, OTHER_FORMATS] {
+        for piece in [1, 4096] {
+            check(&rt, rt.alloc(), &params, piece, &case)?;
+        }
+        check(&rt, rt.alloc(), &custom, 4096, &case)?;
+    }
+    Ok(())
+}
+
+// ---- lines
+
+// A message doesn't come back by a line, and each line has its party's letter and a space.
+const NO_LINES: [&[u8]; 17] = [
+    b"a B 0\n",
+    b"b B 0\n",
+    b" a S\n",
+    b"a  S\n",
+    b"a S \n",
+    b"c S\n",
+    b"A S\n",
+    b"aS\n",
+    b"a\n",
+    b"b \n",
+    b"S\n",
+    b"a s\n",
+    b"a D 0\n",
+    b"a D 0.\n",
+    b"b D .0\n",
+    b"b P\r\n",
+    b"a D 0000000000000000000000000000000000000000000000000000000000.0*\n",
+];
+
+#[test]
+fn lines_that_are_none(rt: HostRuntime) -> Result<(), Fail> {
+    let params = Params::of(Format::Qcif);
+    for line in &NO_LINES {
+        let fault = TraceFault::BadLine { line: 1 };
+        let case = Case {
+            video: ONE,
+            video2: ONE,
+            events: &[*line],
+            ends: Status::TraceRefused { fault },
+            pictures: HEAD_ALONE,
+            pictures2: HEAD_ALONE,
+            report: &[b"trace refused: bad line at line 1\n"],
+            ..BLANK
+        };
+        check(&rt, rt.alloc(), &params, 4096, &case)?;
+    }
+    Ok(())
+}
+
+const EARLY: Status = Status::TraceRefused {
+    fault: TraceFault::PlayBeforeSend { line: 2 },
+};
+
+const EARLY_LINE: &[u8] = b"trace refused: play before send at line 2\n";
+
+const NOT_SENT: Status = Status::TraceRefused {
+    fault: TraceFault::NotSent { line: 2 },
+};
+
+const NOT_SENT_LINE: &[u8] = b"trace refused: not sent at line 2\n";
+
+const NO_FRAME: Status = Status::TraceRefused {
+    fault: TraceFault::NoFrame { line: 3 },
+};
+
+const NO_FRAME_LINE: &[u8] = b"trace refused: no frame at line 3\n";
+
+// What the other party sent is not the party's own. The videos have one frame each.
+const REFUSED: [(&[u8], Status, &[u8]); 8] = [
+    (b"b S\na P\n", EARLY, EARLY_LINE),
+    (b"a S\nb P\n", EARLY, EARLY_LINE),
+    (b"b S\na D 0.0\n", NOT_SENT, NOT_SENT_LINE),
+    (b"a S\nb D 0.0\n", NOT_SENT, NOT_SENT_LINE),
+    (b"a S\nb D 0.*\n", NOT_SENT, NOT_SENT_LINE),
+    (b"\na D 1048575.255\n", NOT_SENT, NOT_SENT_LINE),
+    (b"b S\na S\na S\n", NO_FRAME, NO_FRAME_LINE),
+    (b"a S\nb S\nb S\n", NO_FRAME, NO_FRAME_LINE),
+];
+
+#[test]
+fn refused_lines_of_each_party(rt: HostRuntime) -> Result<(), Fail> {
+    let params = Params::of(Format::Qcif);
+    for (trace, ends, report) in &REFUSED {
+        let case = Case {
+            video: ONE,
+            video2: ONE,
+            events: &[*trace],
+            ends: *ends,
+            pictures: HEAD_ALONE,
+            pictures2: HEAD_ALONE,
+            report: &[*report],
+            ..BLANK
+        };
+        check(&rt, rt.alloc(), &params, 4096, &case)?;
+    }
+    Ok(())
+}
+
+// ---- videos
+
+// The second frame ends after its first plane.
+const CUT: Parts<'static> = &[HEAD, FRAME, PICTURE, FRAME, LUMA];
+
+const RIFF: Parts<'static> = &[b"RIFF"];
+
+const NOT_Y4M: Y4mFault = Y4mFault::NotY4m { at: 0 };
+
+const SHORT: Y4mFault = Y4mFault::ShortFrame { at: 30_751 };
+
+// Neither head is written where either was refused, and a's is refused before b's. Behind the heads
+// a video is refused where its party sends.
+const REFUSED_VIDEOS: [Case<'static>; 5] = [
+    Case {
+        video: RIFF,
+        video2: RIFF,
+        ends: Status::VideoRefused { fault: NOT_Y4M },
+        report: &[b"video refused: not y4m at byte 0\n"],
+        ..BLANK
+    },
+    Case {
+        video: RIFF,
+        video2: ONE,
+        ends: Status::VideoRefused { fault: NOT_Y4M },
+        report: &[b"video refused: not y4m at byte 0\n"],
+        ..BLANK
+    },
+    Case {
+        video: ONE,
+        video2: RIFF,
+        ends: Status::Video2Refused { fault: NOT_Y4M },
+        report: &[b"video 2 refused: not y4m at byte 0\n"],
+        ..BLANK
+    },
+    Case {
+        video: CUT,
+        video2: CUT,
+        events: &[b"b S\na S\na S\nb S\n"],
+        ends: Status::VideoRefused { fault: SHORT },
+        pictures: HEAD_ALONE,
+        pictures2: HEAD_ALONE,
+        report: &[b"video refused: short frame at byte 30751\n"],
+        ..BLANK
+    },
+    Case {
+        video: CUT,
+        video2: CUT,
+        events: &[b"b S\na S\na D 0.*\na P\nb S\na S\n"],
+        ends: Status::Video2Refused { fault: SHORT },
+        pictures: SHOWN,
+        pictures2: HEAD_ALONE,
+        report: &[
+            b"a 0 exact intra\n",
+            b"video 2 refused: short frame at byte 30751\n",
+        ],
+        ..BLANK
+    },
+];
+
+#[test]
+fn refused_videos(rt: HostRuntime) -> Result<(), Fail> {
+    let params = Params::of(Format::Qcif);
+    for case in &REFUSED_VIDEOS {
+        check(&rt, rt.alloc(), &params, 4096, case)?;
+    }
+    Ok(())
+}
+
+// ---- the trace cut anywhere
+
+// A line of the trace; what it shows of a and of b, and its line of the report; the counts after it.
+type Turn = (
+    &'static [u8],
+    Parts<'static>,
+    Parts<'static>,
+    &'static [u8],
+    &'static [u8],
+);
+
+const TURNS: [Turn; 6] = [
+    (
+        b"a S\n",
+        NOTHING,
+        NOTHING,
+        b"",
+        b"a played 0 sent 1 exact 0 patched 0 held 0\nb played 0 sent 0 exact 0 patched 0 held 0\n",
+    ),
+    (
+        b"b S\n",
+        NOTHING,
+        NOTHING,
+        b"",
+        b"a played 0 sent 1 exact 0 patched 0 held 0\nb played 0 sent 1 exact 0 patched 0 held 0\n",
+    ),
+    (
+        b"b P\n",
+        NOTHING,
+        &[HELD, GREY],
+        b"b 0 held intra\n",
+        b"a played 0 sent 1 exact 0 patched 0 held 0\nb played 1 sent 1 exact 0 patched 0 held 1\n",
+    ),
+    (
+        b"\n",
+        NOTHING,
+        NOTHING,
+        b"",
+        b"a played 0 sent 1 exact 0 patched 0 held 0\nb played 1 sent 1 exact 0 patched 0 held 1\n",
+    ),
+    (
+        b"a D 0.*\n",
+        NOTHING,
+        NOTHING,
+        b"",
+        b"a played 0 sent 1 exact 0 patched 0 held 0\nb played 1 sent 1 exact 0 patched 0 held 1\n",
+    ),
+    (
+        b"a P\n",
+        &[EXACT, PICTURE],
+        NOTHING,
+        b"a 0 exact intra\n",
+        b"a played 1 sent 1 exact 1 patched 0 held 0\nb played 1 sent 1 exact 0 patched 0 held 1\n",
+    ),
+];
+
+// What stands before a line, and is shown and told before it.
+#[derive(Drop)]
+struct Before {
+    trace: Vec<u8>,
+    pictures: Vec<u8>,
+    pictures2: Vec<u8>,
+    report: Vec<u8>,
+    counts: &'static [u8],
+}
+
+// Runs the call whose trace ends in the line of this number, cut after so many of its bytes.
+fn check_cut(
+    rt: &impl Abort,
+    alloc: Global,
+    line: u32,
+    cut: &[u8],
+    before: &Before,
+) -> Result<(), OutOfMemory> {
+    let params = Params::of(Format::Qcif);
+    let fault = TraceFault::BadLine { line };
+    let refused = format!(in alloc; "trace refused: bad line at line {line}\n")?;
+    let (ends, last) = if cut.is_empty() {
+        (Status::Ok, before.counts)
+    } else {
+        (Status::TraceRefused { fault }, refused.as_bytes())
+    };
+    let case = Case {
+        video: ONE,
+        video2: ONE,
+        events: &[&before.trace, cut],
+        ends,
+        pictures: &[&before.pictures],
+        pictures2: &[&before.pictures2],
+        report: &[&before.report, last],
+        ..BLANK
+    };
+    check(rt, alloc, &params, 4096, &case)
+}
+
+// Cuts each line before each of its bytes but the last, which is its newline.
+#[test]
+fn traces_that_are_cut(rt: HostRuntime) -> Result<(), Fail> {
+    let alloc = rt.alloc();
+    let mut before = Before {
+        trace: Vec::new(alloc),
+        pictures: SHOWN_HEAD.to_vec(alloc)?,
+        pictures2: SHOWN_HEAD.to_vec(alloc)?,
+        report: Vec::new(alloc),
+        counts: b"a played 0 sent 0 exact 0 patched 0 held 0\n\
+b played 0 sent 0 exact 0 patched 0 held 0\n",
+    };
+    let mut number = 1;
+    for (line, pictures, pictures2, report, counts) in &TURNS {
+        for cut in 0..line.len() - 1 {
+            check_cut(&rt, alloc, number, &line[..cut], &before)?;
+        }
+        number += 1;
+        before.trace.extend_from_slice(line)?;
+        before
+            .pictures
+            .extend_from_slice(&joined(alloc, pictures)?)?;
+        before
+            .pictures2
+            .extend_from_slice(&joined(alloc, pictures2)?)?;
+        before.report.extend_from_slice(report)?;
+        before.counts = *counts;
+    }
+    check_cut(&rt, alloc, number, b"", &before)?;
+    Ok(())
+}
+
+// ---- where a call of the desk fails
+
+// Calls of the desk: how the call of two parties ends where one of these fails, and what it writes
+// on the three outputs.
+type Failing<'a> = (&'a [u64], Status, Parts<'a>, Parts<'a>, Parts<'a>);
+
+const NO_REPORT: Status = Status::OpenFault { role: Role::Report };
+
+const NO_VIDEO: Status = Status::OpenFault { role: Role::Video };
+
+const NO_VIDEO_2: Status = Status::OpenFault { role: Role::Video2 };
+
+const NO_EVENTS: Status = Status::OpenFault { role: Role::Events };
+
+const NO_PICTURES: Status = Status::OpenFault {
+    role: Role::Pictures,
+};
+
+const NO_PICTURES_2: Status = Status::OpenFault {
+    role: Role::Pictures2,
+};
+
+const READ: &[u8] = b"read fault\n";
+
+const A_LINE: &[u8] = b"a 0 exact intra\n";
+
+const B_LINE: &[u8] = b"b 0 held intra\n";
+
+const A_COUNTS: &[u8] = b"a played 1 sent 1 exact 1 patched 0 held 0\n";
+
+const B_COUNTS: &[u8] = b"b played 1 sent 1 exact 0 patched 0 held 1\n";
+
+// One of the pieces in which a picture is written.
+const PIECE: &[u8] = &[64; 4096];
+
+const GREY_PIECE: &[u8] = &[128; 4096];
+
+// Six roles are attached; both heads are read byte by byte, and written. Each line of the trace is
+// read byte by byte; a frame's line is too, and its planes are in five pieces. A picture's line, its
+// planes in five pieces and its line of the report are written. The end of the trace is met, and the
+// counts of both parties are written.
+const FAILING: &[Failing] = &[
+    (&[0], NO_REPORT, NOTHING, NOTHING, NOTHING),
+    (&[1], NO_VIDEO, NOTHING, NOTHING, &[b"cannot open video\n"]),
+    (
+        &[2],
+        NO_VIDEO_2,
+        NOTHING,
+        NOTHING,
+        &[b"cannot open video 2\n"],
+    ),
+    (
+        &[3],
+        NO_EVENTS,
+        NOTHING,
+        NOTHING,
+        &[b"cannot open events\n"],
+    ),
+    (
+        &[4],
+        NO_PICTURES,
+        NOTHING,
+        NOTHING,
+        &[b"cannot open pictures\n"],
+    ),
+    (
+        &[5],
+        NO_PICTURES_2,
+        NOTHING,
+        NOTHING,
+        &[b"cannot open pictures 2\n"],
+    ),
+    (&[6, 43], Status::ReadFault, NOTHING, NOTHING, &[READ]),
+    (&[44], Status::WriteFault, NOTHING, NOTHING, NOTHING),
+    (&[45], Status::WriteFault, HEAD_ALONE, NOTHING, NOTHING),
+    (
+        &[46, 72],
+        Status::ReadFault,
+        HEAD_ALONE,
+        HEAD_ALONE,
+        &[READ],
+    ),
+    (&[73], Status::WriteFault, HEAD_ALONE, HEAD_ALONE, NOTHING),
+    (
+        &[74],
+        Status::WriteFault,
+        &[SHOWN_HEAD, EXACT],
+        HEAD_ALONE,
+        NOTHING,
+    ),
+    (
+        &[75],
+        Status::WriteFault,
+        &[SHOWN_HEAD, EXACT, PIECE],
+        HEAD_ALONE,
+        NOTHING,
+    ),
+    (
+        &[76],
+        Status::WriteFault,
+        &[SHOWN_HEAD, EXACT, PIECE, PIECE],
+        HEAD_ALONE,
+        NOTHING,
+    ),
+    (&[79], Status::WriteFault, SHOWN, HEAD_ALONE, NOTHING),
+    (
+        &[80, 98],
+        Status::ReadFault,
+        SHOWN,
+        HEAD_ALONE,
+        &[A_LINE, READ],
+    ),
+    (&[99], Status::WriteFault, SHOWN, HEAD_ALONE, &[A_LINE]),
+    (
+        &[100],
+        Status::WriteFault,
+        SHOWN,
+        &[SHOWN_HEAD, HELD],
+        &[A_LINE],
+    ),
+    (
+        &[101],
+        Status::WriteFault,
+        SHOWN,
+        &[SHOWN_HEAD, HELD, GREY_PIECE],
+        &[A_LINE],
+    ),
+    (&[105], Status::WriteFault, SHOWN, HELD_SHOWN, &[A_LINE]),
+    (
+        &[106],
+        Status::ReadFault,
+        SHOWN,
+        HELD_SHOWN,
+        &[A_LINE, B_LINE, READ],
+    ),
+    (
+        &[107],
+        Status::WriteFault,
+        SHOWN,
+        HELD_SHOWN,
+        &[A_LINE, B_LINE],
+    ),
+    (
+        &[108],
+        Status::WriteFault,
+        SHOWN,
+        HELD_SHOWN,
+        &[A_LINE, B_LINE, A_COUNTS],
+    ),
+    (
+        &[109],
+        Status::Ok,
+        SHOWN,
+        HELD_SHOWN,
+        &[A_LINE, B_LINE, A_COUNTS, B_COUNTS],
+    ),
+];
+
+// The first and the last of each row of reads, up to the first call that isn't made.
+#[test]
+fn each_call_of_a_duplex_call(rt: HostRuntime) -> Result<(), Fail> {
+    let params = Params::of(Format::Qcif);
+    for (calls, ends, pictures, pictures2, report) in FAILING {
+        for failing in *calls {
+            let case = Case {
+                video: ONE,
+                video2: ONE,
+                events: &[b"a S\na D 0.*\na P\nb S\nb P\n"],
+                failing: *failing,
+                ends: *ends,
+                pictures,
+                pictures2,
+                report,
+                ..BLANK
+            };
+            check(&rt, rt.alloc(), &params, 4096, &case)?;
+        }
+    }
+    Ok(())
+}
