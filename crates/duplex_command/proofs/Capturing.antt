@@ -1,5 +1,5 @@
 -- What a line `S` makes of the frame that is read for it, over a desk where its party is the first one.
-use Rattle.std.proofs.Common.{◌≡◌, ◌≢◌, ℕ, zero, suc, ◌+◌, ◌-◌, ◌<◌, ◌≤◌, Bool, true, false, List, [], ◌∷◌, length, take, drop, Option, Some, Result, Ok, Err, IsErr, refl, sym, ap, subst, ◌∙◌, arith}
+use Rattle.std.proofs.Common.{◌≡◌, ◌≢◌, ℕ, zero, suc, ◌+◌, ◌<◌, ◌≤◌, Bool, true, false, List, [], ◌∷◌, length, take, drop, Option, Some, Result, Ok, Err, IsErr, refl, sym, ap, subst, ◌∙◌, arith}
 use Rattle.std.specs.Prelude.{◌&&◌, nat_le}
 use Rattle.std.proofs.lemmas.Bool.{leb-true}
 use Rattle.h263_types.specs.declared.format.Format.{Format}
@@ -22,7 +22,9 @@ use Rattle.desk_program.specs.Texts.{no_texts, of, and_of}
 use Rattle.desk_program.specs.Laws.{TurnLaws}
 use Rattle.duplex_call.specs.declared.line.Party.{Party}
 use Rattle.duplex_command.specs.Duplex.{DuplexState, VideoPlace, after_line, capture_step, captured_step, may_read, place_of, with_frame}
-use Rattle.duplex_command.specs.Lines.{HasTaken, VideoLaws, line_size, refused_line}
+use Rattle.call_command.specs.Call.{line_size, refused_line}
+use Rattle.call_command.specs.Laws.{VideoLaws}
+use Rattle.call_command.specs.Standing.{HasTaken}
 use Rattle.duplex_command.specs.Standing.{place_in}
 use Rattle.duplex_command.proofs.Cutting.{and_false}
 use Rattle.duplex_command.proofs.LineTurning.{double_not}

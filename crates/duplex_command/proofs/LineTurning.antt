@@ -1,5 +1,5 @@
 -- The turns of lines, by what the reader of the trace says and what was written.
-use Rattle.std.proofs.Common.{◌≡◌, ◌≢◌, ℕ, zero, suc, ◌+◌, ◌<◌, ◌≤◌, Bool, true, false, not, List, [], ◌∷◌, ◌++◌, length, take, drop, codes, Option, Some, None, Ok, Err, refl, sym, ap, ◌∙◌, subst, arith, lit≤, length-append}
+use Rattle.std.proofs.Common.{◌≡◌, ◌≢◌, ℕ, zero, suc, ◌+◌, ◌<◌, ◌≤◌, Bool, true, false, not, List, [], ◌∷◌, length, take, drop, codes, Option, Some, None, Ok, Err, refl, sym, ap, ◌∙◌, subst, arith, lit≤, length-append}
 use Rattle.std.specs.Prelude.{min, if◌then◌else◌}
 use Rattle.std.specs.Str.{bytes_eq}
 use Rattle.std.proofs.lemmas.Bool.{lt-ltb, le-ltb, ltb-false}
@@ -30,7 +30,8 @@ use Rattle.duplex_call.specs.declared.line.Party.TheVariants.{A, B}
 use Rattle.duplex_call.specs.Duplex.{other}
 use Rattle.duplex_call.specs.Lines.{lettered, of_party, party_event}
 use Rattle.duplex_command.specs.Duplex.{DuplexState, after_line, all_played, both_counts, duplex_step, line_step, may_read, place_of, trace_step}
-use Rattle.duplex_command.specs.Lines.{HasTaken, bad_line, line_size, line_turn, refused_line}
+use Rattle.call_command.specs.Call.{bad_line, line_size, line_turn, refused_line}
+use Rattle.call_command.specs.Standing.{HasTaken}
 use Rattle.duplex_command.specs.Standing.{StationsStand}
 use Rattle.duplex_command.specs.declared.station.Station.{Station}
 use Rattle.duplex_command.proofs.Cutting.{trace_part}

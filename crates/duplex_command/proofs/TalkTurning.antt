@@ -21,7 +21,7 @@ use Rattle.duplex_call.specs.Lines.{party_event}
 use Rattle.duplex_command.specs.declared.event.Said.{Said}
 use Rattle.duplex_command.specs.declared.talk.Talk.{Talk}
 use Rattle.duplex_command.specs.Duplex.{DuplexState, after_line, duplex_step, line_step, may_read, party_step}
-use Rattle.duplex_command.specs.Lines.{line_size}
+use Rattle.call_command.specs.Call.{line_size}
 use Rattle.duplex_command.specs.Standing.{DuplexOpens, StationsReady, StationsStand, TalkReady, TalkStands, more_of}
 use Rattle.duplex_command.specs.Turning.{IsRead, TakesLine, TakesTurn}
 use Rattle.duplex_command.proofs.AtParty.{ready_so}

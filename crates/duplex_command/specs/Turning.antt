@@ -16,8 +16,8 @@ use Rattle.call_model.specs.IdealCall.{Send, Deliver, Play}
 use Rattle.desk_program.specs.Run.{Step, behind}
 use Rattle.desk_program.specs.Ends.{Falls, HasCause, IsStop, KeepsRoles, OnEnd, OnGoing, Tells, TurnGives, turn_status}
 use Rattle.desk_program.specs.Texts.{of, on, then_also}
-use Rattle.duplex_command.specs.Lines.{line_size}
-use Rattle.duplex_command.specs.Lines.{HasTaken}
+use Rattle.call_command.specs.Call.{line_size}
+use Rattle.call_command.specs.Standing.{HasTaken}
 use Rattle.duplex_call.specs.declared.line.Party.{Party}
 use Rattle.duplex_call.specs.declared.line.Party.TheVariants.{A}
 use Rattle.duplex_ends.specs.Pair.{MayHappenNow}

@@ -4,8 +4,8 @@ ghost use Rattle.h263_outside.specs.declared.desk.Role.TheVariants.{Pictures, Pi
 ghost use Rattle.h263_types.specs.Sizes.{size_of_picture};
 ghost use Rattle.h263_types.specs.declared.params.Params.{Params};
 ghost use Rattle.call_encoding.specs.Frames.{Frame};
-ghost use Rattle.duplex_command.specs.Lines.{fault_at};
-ghost use Rattle.duplex_command.specs.Lines.{IsChecked};
+ghost use Rattle.call_command.specs.Refused.{fault_at};
+ghost use Rattle.call_command.specs.Turning.{IsChecked};
 ghost use Rattle.duplex_call.specs.declared.line.Party.{Party};
 ghost use Rattle.duplex_call.specs.Duplex.{WayRuns};
 ghost use Rattle.duplex_call.specs.Refused.{refusal_of};
@@ -17,6 +17,7 @@ ghost use Rattle.duplex_command.specs.Turning.{MayBeDone, MayCapture, TakesEvent
 
 use crate::show::play_next;
 use crate::{Station, laws, second_result};
+use call_command::laws as call_command_laws;
 use call_report::Status;
 use desk_program::laws as desk_program_laws;
 use duplex_call::Party;
@@ -85,7 +86,7 @@ fn send_frame<D: Desk>(
 {
     desk_program_laws::of_turns();
     outside_laws::calls();
-    laws::of_the_video();
+    call_command_laws::of_the_video();
     laws::of_refusals();
     if !own.video.frame(desk, planes)? {
         return Err(Status::TraceRefused {

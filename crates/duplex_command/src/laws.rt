@@ -10,7 +10,6 @@ ghost use Rattle.duplex_call.specs.declared.line.Party.{Party};
 ghost use Rattle.duplex_call.specs.Duplex.{AllMayHappenOf, Lettered, way, ways_after};
 ghost use Rattle.duplex_call.specs.FourStores.{Follows};
 ghost use Rattle.duplex_call.specs.Refused.{NoneWhereItMayHappenOf};
-ghost use Rattle.duplex_command.specs.Lines.{VideoLaws};
 ghost use Rattle.duplex_ends.specs.Ways.{sides};
 ghost use Rattle.duplex_command.specs.Begin.{duplex_run};
 ghost use Rattle.h263_planes.specs.Picture.{Picture};
@@ -25,20 +24,13 @@ use coded_call::laws::is_coding;
 use duplex_call::laws::{four_stores as four_stores_of, two_way_refusals};
 use h263_bits::Fault;
 use h263_types::Mb;
-use y4m::laws::{cut_behind, frame_by_frame};
+use y4m::laws::frame_by_frame;
 
 /// An event of a party has no refusal exactly where it may happen.
 pub fn of_refusals()
     ensures { (p : Party → Params) → NoneWhereItMayHappenOf (sides p) }
 {
     two_way_refusals::<Pictured, Framed, Styled, Mb, Pictured, Fault, MessageFault>();
-}
-
-/// A whole head or frame stays what it is where the text after it is cut.
-pub fn of_the_video()
-    ensures { VideoLaws }
-{
-    cut_behind();
 }
 
 /// A video that is refused has that fault, and no earlier one: that of the first party (`first`),
