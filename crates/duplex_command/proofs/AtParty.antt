@@ -1,12 +1,12 @@
 -- A turn of a party as one of the call of both.
-use Rattle.std.proofs.Common.{◌≡◌, ℕ, Bool, true, false, List, Option, Result, Ok, Err, IfErr, refl, sym, ap, subst, ◌∙◌}
-use Rattle.h263_outside.specs.Desk.{Outside, exchanged, exchanged_outside}
+use Rattle.std.proofs.Common.{ℕ, Bool, true, false, List, Option, Result, Ok, Err, ap, subst}
+use Rattle.h263_outside.specs.Desk.{Outside, exchanged_outside}
 use Rattle.h263_outside.specs.declared.desk.Role.{Role}
 use Rattle.h263_outside.specs.declared.desk.Role.TheVariants.{Video, Events, Pictures, Video2, Pictures2}
 use Rattle.loss_trace.specs.declared.event.Event.{Event as Line}
 use Rattle.loss_trace.specs.declared.reader.TraceReader.{TraceReader}
 use Rattle.call_report.specs.declared.status.Status.{Status}
-use Rattle.call_report.specs.declared.status.Status.TheVariants.{Ok as Fine, OutOfMemory, Usage, ReadFault, WriteFault, VideoRefused, TraceRefused, LogRefused, OpenFault, Video2Refused}
+use Rattle.call_report.specs.declared.status.Status.TheVariants.{VideoRefused, Video2Refused}
 use Rattle.desk_program.specs.Run.{Step, behind}
 use Rattle.desk_program.specs.Ends.{OnGoing, Tells, TurnGives}
 use Rattle.desk_program.specs.Texts.{of}
@@ -20,11 +20,10 @@ use Rattle.duplex_ends.specs.declared.party.PartyEnds.{PartyEnds}
 use Rattle.duplex_command.specs.declared.event.Said.{Said}
 use Rattle.duplex_command.specs.declared.station.Station.{Station}
 use Rattle.duplex_command.specs.Duplex.{DuplexState, event_step, may_read, party_step}
-use Rattle.duplex_command.specs.Exchange.{for_second, second_result, second_step}
+use Rattle.duplex_command.specs.Exchange.{for_second, second_result}
 use Rattle.call_command.specs.Call.{line_size}
-use Rattle.call_command.specs.Standing.{HasTaken}
 use Rattle.duplex_command.specs.Standing.{StationsReady, StationsStand}
-use Rattle.duplex_command.specs.Turning.{IsPartyTurn, IsRead, TakesEvent, TakesLine}
+use Rattle.duplex_command.specs.Turning.{IsRead, TakesEvent, TakesLine}
 use Rattle.duplex_command.proofs.Exchanged.{event_at_second, line_taken}
 use Rattle.duplex_command.proofs.Exchanging.{cause_at_second, ending_at_second, going_at_second, roles_at_second, stop_at_second, told_at_second, turn_at_second}
 

@@ -1,5 +1,5 @@
 -- What a desk has of a call on it with both parties exchanged.
-use Rattle.std.proofs.Common.{◌≡◌, ◌≢◌, ℕ, List, Option, Result, OnErr, OnOk, Ok, Err, refl, sym, ap, ◌∙◌, subst}
+use Rattle.std.proofs.Common.{◌≡◌, ◌≢◌, ℕ, List, Result, OnErr, OnOk, Ok, Err, refl, sym, ap, ◌∙◌, subst}
 use Rattle.h263_outside.specs.Desk.{OnlyReads, OnlyWrites, Outside, exchanged, exchanged_outside}
 use Rattle.h263_outside.specs.Gains.{Front, gained}
 use Rattle.h263_outside.specs.declared.desk.Role.{Role}

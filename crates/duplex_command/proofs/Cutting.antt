@@ -16,12 +16,12 @@ use Rattle.desk_program.specs.Run.{Step, Turn}
 use Rattle.desk_program.specs.Run.Step.{Goes, Ends}
 use Rattle.desk_program.specs.Ends.{IsPart, holds, step_turns}
 use Rattle.desk_program.specs.Texts.{of}
-use Rattle.call_model.specs.IdealCall.{Event, Send, Deliver, Play, Back}
+use Rattle.call_model.specs.IdealCall.{Event, Send, Deliver, Play}
 use Rattle.call_model.specs.Refusals.{Refusal}
 use Rattle.call_command.specs.Call.{bad_line, line_size}
 use Rattle.duplex_call.specs.declared.line.Party.{Party}
 use Rattle.duplex_call.specs.Lines.{party_event}
-use Rattle.duplex_command.specs.Duplex.{DuplexState, capture_step, captured_step, event_step, line_step, party_step, pictures_of, place_of, refusal_at, refused_video, trace_step, unless, video_of}
+use Rattle.duplex_command.specs.Duplex.{DuplexState, capture_step, captured_step, event_step, line_step, pictures_of, place_of, refusal_at, refused_video, trace_step, unless, video_of}
 
 -- ---- a line
 

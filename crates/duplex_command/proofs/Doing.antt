@@ -1,11 +1,10 @@
 -- A line that was read: it is refused, or its event is done, over a desk where its party is the first one.
-use Rattle.std.proofs.Common.{◌≡◌, ℕ, ◌+◌, ◌-◌, ◌≤◌, Bool, true, List, [], ◌++◌, length, drop, Option, None, Some, Result, Ok, Err, IsErrAnd, refl, sym, ap, subst, ◌∙◌, arith}
+use Rattle.std.proofs.Common.{◌≡◌, ℕ, ◌+◌, ◌-◌, Bool, true, List, [], length, drop, Option, None, Result, Ok, Err, IsErrAnd, refl, sym, ap, subst, ◌∙◌, arith}
 use Rattle.h263_types.specs.Sizes.{size_of_picture}
 use Rattle.h263_types.specs.declared.params.Params.{Params}
 use Rattle.h263_outside.specs.Desk.{Outside, Rose}
 use Rattle.h263_outside.specs.declared.desk.Role.{Role}
 use Rattle.h263_outside.specs.declared.desk.Role.TheVariants.{Video, Events, Pictures}
-use Rattle.y4m.specs.declared.reader.Y4mReader.{Y4mReader}
 use Rattle.loss_trace.specs.declared.event.Event.{Event as Line}
 use Rattle.loss_trace.specs.declared.event.Event.TheVariants as says
 use Rattle.loss_trace.specs.declared.fault.TraceFault.{TraceFault}
@@ -17,17 +16,16 @@ use Rattle.desk_program.specs.Run.{Step, behind}
 use Rattle.desk_program.specs.Run.Step.{Goes}
 use Rattle.desk_program.specs.Ends.{Ended, Gains, GainsFronts, KeepsRoles, TurnGives, Went, step_texts}
 use Rattle.desk_program.specs.Laws.{TurnLaws}
-use Rattle.desk_program.specs.Texts.{and_of, no_texts, of}
+use Rattle.desk_program.specs.Texts.{and_of, of}
 use Rattle.call_model.specs.IdealCall.{Event, Send, Deliver, Play, Back}
-use Rattle.call_model.specs.Refusals.{Refusal, NotSaid}
+use Rattle.call_model.specs.Refusals.{Refusal}
 use Rattle.call_encoding.specs.Frames.{Frame}
 use Rattle.h263_planes.specs.Layout.{picture_of}
 use Rattle.one_way.specs.declared.refusals.Refusal.{Refusal as Told}
-use Rattle.one_way.specs.Refused.{IsAllowed, told_as}
-use Rattle.one_way.specs.Seen.{in_call}
+use Rattle.one_way.specs.Refused.{IsAllowed}
 use Rattle.duplex_call.specs.declared.line.Party.{Party}
 use Rattle.duplex_call.specs.declared.line.Party.TheVariants.{A, B}
-use Rattle.duplex_call.specs.Duplex.{MayHappenOf, WayRuns, other, with_play, with_shot}
+use Rattle.duplex_call.specs.Duplex.{MayHappenOf, WayRuns, other, with_shot}
 use Rattle.duplex_call.specs.Refused.{NoneWhereItMayHappenOf, refusal_of}
 use Rattle.duplex_ends.specs.Pair.{AreInCall, HoldsPair, IsInCall}
 use Rattle.duplex_ends.specs.Ways.{call_in, sides}
@@ -36,7 +34,6 @@ use Rattle.duplex_command.specs.declared.station.Station.{Station}
 use Rattle.duplex_command.specs.Duplex.{DuplexState, after_line, capture_step, event_step, may_read, place_of, play_step, play_texts, quiet_step, refusal_at, seen_of, unless, with_frame, with_next}
 use Rattle.call_command.specs.Call.{line_size, line_turn}
 use Rattle.call_command.specs.Refused.{fault_at, fault_of}
-use Rattle.call_command.specs.Standing.{HasTaken}
 use Rattle.call_command.specs.Turning.{IsChecked}
 use Rattle.duplex_command.specs.Standing.{StationReady, StationsReady, StationsStand, place_in}
 use Rattle.duplex_command.specs.Turning.{IsPartyTurn, IsRead, TakesFrame}

@@ -1,6 +1,5 @@
 -- What a line of the second party says is done as it is for the first, with both exchanged.
-use Rattle.std.proofs.Common.{◌≡◌, ℕ, ◌+◌, List, [], ◌∷◌, Option, Some, None, Result, Ok, Err, refl, ap, ◌∙◌}
-use Rattle.std.specs.Prelude.{Bool}
+use Rattle.std.proofs.Common.{◌≡◌, ℕ, List, [], ◌∷◌, Option, Some, None, Result, Ok, Err, refl, ap}
 use mathlib.Core.Path.{fun_ext}
 use Rattle.h263_outside.specs.Desk.{exchanged}
 use Rattle.h263_outside.specs.declared.desk.Role.{Role}
@@ -13,19 +12,19 @@ use Rattle.loss_trace.specs.declared.event.Event.TheVariants as says
 use Rattle.call_report.specs.declared.status.Status.{Status}
 use Rattle.call_report.specs.declared.status.Status.TheVariants.{TraceRefused, VideoRefused, Video2Refused}
 use Rattle.call_model.specs.Coding.{Shown}
-use Rattle.call_model.specs.IdealCall.{Event, Send, Deliver, Play, Back}
+use Rattle.call_model.specs.IdealCall.{Event, Send, Deliver, Play}
 use Rattle.call_model.specs.Refusals.{Refusal}
 use Rattle.call_encoding.specs.Frames.{Frame}
 use Rattle.h263_planes.specs.Picture.{Picture}
-use Rattle.desk_program.specs.Run.{End, Step, Turn}
+use Rattle.desk_program.specs.Run.{End, Step}
 use Rattle.desk_program.specs.Run.Step.{Goes, Ends}
 use Rattle.desk_program.specs.Texts.{and_of, no_texts, of}
 use Rattle.call_command.specs.Call.{line_size, line_turn, refused_line}
 use Rattle.loss_trace.specs.declared.fault.TraceFault.{TraceFault}
 use Rattle.duplex_call.specs.declared.line.Party.{Party}
 use Rattle.duplex_call.specs.Duplex.{WayRuns}
-use Rattle.duplex_command.specs.Duplex.{DuplexState, after_line, capture_step, captured_step, event_step, newest_texts, place_of, play_step, play_texts, quiet_step, refusal_at, seen_of, unless, with_frame, with_next}
-use Rattle.duplex_command.specs.Exchange.{for_second, second_end, second_status, second_step, second_turn}
+use Rattle.duplex_command.specs.Duplex.{DuplexState, after_line, capture_step, captured_step, event_step, newest_texts, place_of, play_texts, quiet_step, refusal_at, seen_of, unless, with_frame, with_next}
+use Rattle.duplex_command.specs.Exchange.{for_second, second_step}
 
 -- ---- role by role
 

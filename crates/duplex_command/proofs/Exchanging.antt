@@ -1,5 +1,5 @@
 -- A turn of the second party, by that of the first on the desk with both exchanged.
-use Rattle.std.proofs.Common.{◌≡◌, ℕ, ◌+◌, Bool, true, false, List, [], ◌∷◌, drop, Option, Some, Result, Ok, Err, IfErr, refl, sym, ap, ◌∙◌, subst}
+use Rattle.std.proofs.Common.{◌≡◌, ℕ, ◌+◌, Bool, true, false, List, [], ◌∷◌, drop, Some, Result, Ok, Err, IfErr, refl, sym, ap, ◌∙◌, subst}
 use Rattle.std.specs.Prelude.{◌&&◌, nat_le}
 use mathlib.Core.Path.{fun_ext}
 use Rattle.h263_outside.specs.Desk.{Outside, IsInput, exchanged, exchanged_outside}
@@ -8,7 +8,7 @@ use Rattle.h263_outside.specs.declared.desk.Role.{Role}
 use Rattle.h263_outside.specs.declared.desk.Role.TheVariants.{Video, Events, Pictures, Wire, Report, Video2, Pictures2}
 use Rattle.call_report.specs.declared.status.Status.{Status}
 use Rattle.call_report.specs.declared.status.Status.TheVariants.{Ok as Fine, OutOfMemory, Usage, ReadFault, WriteFault, VideoRefused, TraceRefused, LogRefused, OpenFault, Video2Refused}
-use Rattle.desk_program.specs.Run.{Turn, End, Step, behind}
+use Rattle.desk_program.specs.Run.{Turn, Step, behind}
 use Rattle.desk_program.specs.Run.Step.{Goes, Ends}
 use Rattle.desk_program.specs.Ends.{Ended, Falls, Gains, GainsFronts, HasCause, IsPart, IsStop, KeepsRoles, Lost, OnEnd, OnGoing, Tells, TurnGives, Went, holds, step_texts, step_turns, turn_status}
 use Rattle.duplex_command.specs.Exchange.{for_second, second_end, second_result, second_status, second_step, second_turn}

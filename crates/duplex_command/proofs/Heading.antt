@@ -15,7 +15,7 @@ use Rattle.y4m.specs.Head.{head_of, head_size}
 use Rattle.y4m.specs.Reader.{HeadGives}
 use Rattle.y4m.specs.Text.{head_text}
 use Rattle.call_report.specs.declared.status.Status.{Status}
-use Rattle.call_report.specs.declared.status.Status.TheVariants.{ReadFault, VideoRefused, Video2Refused}
+use Rattle.call_report.specs.declared.status.Status.TheVariants.{VideoRefused, Video2Refused}
 use Rattle.call_report.specs.Status.{phase, video_stop}
 use Rattle.desk_program.specs.Run.{Step, behind, refusal}
 use Rattle.desk_program.specs.Ends.{Ended, Gains, GainsFronts, GivesUp, IsPart, Lost, Tells, step_turns}

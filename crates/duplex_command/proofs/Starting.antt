@@ -1,5 +1,5 @@
 -- Before the first line: both parties stand where nothing has happened.
-use Rattle.std.proofs.Common.{◌≡◌, ℕ, ◌+◌, ◌-◌, ◌≤◌, Bool, true, false, List, [], length, Option, Some, None, Result, Ok, Err, refl, sym, ap, ◌∙◌, subst, arith}
+use Rattle.std.proofs.Common.{◌≡◌, ℕ, ◌+◌, ◌-◌, ◌≤◌, Bool, true, false, List, [], length, Option, Result, Ok, Err, refl, sym, ap, ◌∙◌, subst, arith}
 use Rattle.std.specs.Prelude.{IfErr, IsErrAnd}
 use Rattle.h263_types.specs.declared.format.Format.{Format}
 use Rattle.h263_types.specs.declared.params.Params.{Params}
@@ -7,18 +7,15 @@ use Rattle.h263_types.specs.Params.{IsParams}
 use Rattle.h263_types.specs.Sizes.{size_of_picture}
 use Rattle.h263_outside.specs.Desk.{Outside}
 use Rattle.h263_outside.specs.declared.desk.Role.{Role}
-use Rattle.h263_outside.specs.declared.desk.Role.TheVariants.{Video, Events, Pictures, Report, Video2, Pictures2}
-use Rattle.y4m.specs.declared.fault.Y4mFault.{Y4mFault}
+use Rattle.h263_outside.specs.declared.desk.Role.TheVariants.{Video, Events, Video2}
 use Rattle.y4m.specs.declared.reader.Y4mReader.{Y4mReader}
-use Rattle.y4m.specs.Head.{head_of, head_size}
+use Rattle.y4m.specs.Head.{head_size}
 use Rattle.y4m.specs.Video.{most_frames}
 use Rattle.call_report.specs.declared.status.Status.{Status}
 use Rattle.call_report.specs.declared.status.Status.TheVariants.{WriteFault}
 use Rattle.call_report.specs.Status.{phase}
 use Rattle.desk_program.specs.Run.{Run, Step, behind}
-use Rattle.desk_program.specs.Run.Step.{Goes}
-use Rattle.desk_program.specs.Ends.{Gains, GainsFronts, GivesUp, HasEnded, Tells, Went, silent, step_texts}
-use Rattle.desk_program.specs.Texts.{no_texts}
+use Rattle.desk_program.specs.Ends.{Gains, GainsFronts, GivesUp, HasEnded, Went, silent, step_texts}
 use Rattle.duplex_call.specs.declared.line.Party.{Party}
 use Rattle.duplex_call.specs.declared.line.Party.TheVariants.{A, B}
 use Rattle.duplex_call.specs.Duplex.{no_runs}
@@ -28,7 +25,7 @@ use Rattle.duplex_command.specs.declared.heads.Heads.{Heads}
 use Rattle.duplex_command.specs.declared.station.Station.{Station}
 use Rattle.duplex_command.specs.declared.talk.Talk.{Talk}
 use Rattle.duplex_command.specs.Begin.{HaveHeads, IsNewTalk, duplex_begin, heads_step, heads_taken, heads_text, in_formats}
-use Rattle.duplex_command.specs.Duplex.{DuplexState, VideoPlace, first_state, may_read, most_turns, place_of}
+use Rattle.duplex_command.specs.Duplex.{DuplexState, first_state, may_read, most_turns}
 use Rattle.duplex_command.specs.Standing.{StationReady, StationsReady, TalkStands, more_of, place_in}
 
 -- parameters stay in their ranges in another format

@@ -10,7 +10,6 @@ use Rattle.h263_types.specs.Sizes.{size_of_picture}
 use Rattle.y4m.specs.declared.fault.Y4mFault.{Y4mFault}
 use Rattle.y4m.specs.Head.{head_of, head_size}
 use Rattle.y4m.specs.Text.{head_text}
-use Rattle.y4m.specs.Video.{most_frames}
 use Rattle.call_report.specs.declared.status.Status.TheVariants.{VideoRefused, Video2Refused}
 use Rattle.desk_program.specs.Run.{Run, Step, behind, refusal, run_from}
 use Rattle.desk_program.specs.Run.Step.{Goes, Ends}

@@ -1,5 +1,5 @@
 -- A turn of the second party is a turn of the first where both have changed places.
-use Rattle.std.specs.Prelude.{ℕ, Bool, List, Result, Ok, Err}
+use Rattle.std.specs.Prelude.{Bool, Result, Ok, Err}
 use Rattle.h263_outside.specs.Desk.{exchanged}
 use Rattle.h263_outside.specs.declared.desk.Role.{Role}
 use Rattle.call_report.specs.declared.status.Status.{Status}

@@ -41,9 +41,9 @@ pub record IsRead (x : Party) (own far : Station) (line : ℕ) (trace : TraceRea
   pub number : line ≡ s.lines + 1
   pub taken : HasTaken inputs old now
 
--- A party takes a step after a line was read. `Begins` says at which states, readers of the trace and
--- inputs it begins, over a desk that was another one before the line. The other roles of the desk
--- are not touched.
+-- A party takes a step after a line was read, and is then these stations, with so much room for a
+-- frame. `Begins` says at which readers of the trace, desks before the line, states and inputs the
+-- step begins. It never ends the call.
 pub record IsPartyTurn (x : Party) (own far : Station) (result : Result Bool Status) (mid new : Outside) (room : ℕ)
     (Begins : TraceReader → Outside → DuplexState → (Role → List ℕ) → Type 0)
     (step : DuplexState → (Role → List ℕ) → Step DuplexState) : Type 0 where
@@ -56,12 +56,13 @@ pub record IsPartyTurn (x : Party) (own far : Station) (result : Result Bool Sta
   pub rest : KeepsRoles mid new
 
 -- the line says an event of this party, whose video and pictures stand in these roles
-abbrev pub TakesEvent : (video pictures : Role) (refuses : Y4mFault → Status) → Station → Station → Station → Station → Said → Result Bool Status → Outside → Outside → ℕ → Type 0
+abbrev pub TakesEvent : (video pictures : Role) (refuses : Y4mFault → Status)
+    → Station → Station → Station → Station → Said → Result Bool Status → Outside → Outside → ℕ → Type 0
 TakesEvent video pictures refuses own far own_new far_new said result mid new room =
     IsPartyTurn said.party own_new far_new result mid new room (λ trace. IsRead said.party own far said.line trace mid)
     (λ s inputs. event_step video pictures refuses said.party s (inputs Events) inputs said.event)
 
--- the line says an event of a party, on the desk of both; the first party is a
+-- the line says an event of either party, on the desk of both: a is the first one
 abbrev pub TakesLine : Station → Station → Station → Station → Said → Result Bool Status → Outside → Outside → ℕ → Type 0
 TakesLine a b a_new b_new said result mid new room =
     IsPartyTurn A a_new b_new result mid new room (λ trace. IsRead A a b said.line trace mid)

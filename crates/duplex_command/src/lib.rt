@@ -2,7 +2,13 @@
 //! their messages travel in the picture headers of the other way.
 //!
 //! `specs/Duplex` says what it does with each line of the trace, by the ideal calls of both ways.
-//! What an event does to the ends of both parties is `duplex_ends`'s.
+//! A turn is written once, for the first party: the second one's is that turn over the desk with
+//! both exchanged. What an event does to the ends of both parties is `duplex_ends`'s.
+//!
+//! ```rust
+//! let order = &[(Role::Video, "a.y4m"), (Role::Video2, "b.y4m"), (Role::Events, "trace")];
+//! let status = perform::<D, Duplex>(alloc, &params, order, desk);
+//! ```
 #![tactic(auto)]
 
 mod begin;

@@ -21,7 +21,8 @@ pub struct Talk {
     pub frame: Vec<u8>,
 }
 
-// What the line of this length says at the start of a buffer.
+// What the line of this size says at the start of a buffer. It fits where the desk tells what is
+// left of the trace; of another desk nothing is known.
 fn line_in(bytes: &[u8], size: u32) -> Result<Option<(Party, Event)>, BadLine>
     ensures { size ≤ length bytes.now → MatchResult result
         (λ said. party_event (take size bytes.now) ≡ Some said)

@@ -1,6 +1,5 @@
-use Rattle.std.proofs.Common.{◌≡◌, ◌≤◌, length, refl, rules, subst, sym, ◌∙◌, ap}
+use Rattle.std.proofs.Common.{◌≡◌, length, refl, rules, subst}
 use Rattle.h263_types.specs.declared.format.Format.{Format}
-use Rattle.h263_types.specs.Sizes.{size_of_picture}
 use Rattle.duplex_ends.specs.Pair.{IsNewParty}
 use Rattle.duplex_command.proofs.Starting.{fits}
 use Rattle.duplex_command.proofs.begin.start_talk.Goals as goal

@@ -1,8 +1,6 @@
-use Rattle.std.proofs.Common.{◌≡◌, ℕ, Bool, Result, Ok, Err, OnOk, refl, sym, subst}
+use Rattle.std.proofs.Common.{Ok, Err, OnOk, refl, sym, subst}
 use Rattle.loss_trace.specs.declared.event.Event.{Event as Line}
-use Rattle.loss_trace.specs.declared.event.Event.TheVariants as says
-use Rattle.call_model.specs.IdealCall.{Event}
-use Rattle.call_model.specs.Refusals.{Refusal, NotSaid}
+use Rattle.call_model.specs.Refusals.{NotSaid}
 use Rattle.one_way.specs.declared.refusals.Refusal.TheVariants as told
 use Rattle.duplex_call.specs.Refused.{refusal_of}
 use Rattle.duplex_ends.specs.Ways.{sides}

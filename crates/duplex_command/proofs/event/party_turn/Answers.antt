@@ -1,17 +1,12 @@
-use Rattle.std.proofs.Common.{◌≡◌, ℕ, ◌+◌, ◌≤◌, Bool, true, List, length, Option, None, Ok, Err, refl, sym, ap, subst, ◌∙◌, arith}
-use Rattle.h263_outside.specs.Desk.{Outside}
-use Rattle.h263_outside.specs.declared.desk.Role.{Role}
+use Rattle.std.proofs.Common.{◌≡◌, length, None, Ok, Err, refl, ap, subst}
 use Rattle.h263_outside.specs.declared.desk.Role.TheVariants.{Video, Events, Pictures}
-use Rattle.h263_types.specs.declared.params.Params.{Params}
 use Rattle.loss_trace.specs.declared.event.Event.{Event as Line}
 use Rattle.loss_trace.specs.declared.event.Event.TheVariants as says
 use Rattle.call_report.specs.declared.status.Status.TheVariants.{TraceRefused, VideoRefused}
-use Rattle.call_model.specs.IdealCall.{Event, Send, Deliver, Play}
-use Rattle.call_encoding.specs.Frames.{Frame}
-use Rattle.duplex_call.specs.declared.line.Party.{Party}
-use Rattle.duplex_call.specs.Duplex.{WayRuns, with_delivery, with_play}
+use Rattle.call_model.specs.IdealCall.{Send, Deliver, Play}
+use Rattle.duplex_call.specs.Duplex.{with_delivery, with_play}
 use Rattle.duplex_call.specs.Refused.{refusal_of}
-use Rattle.duplex_ends.specs.Pair.{HoldsPair, MayHappenNow}
+use Rattle.duplex_ends.specs.Pair.{MayHappenNow}
 use Rattle.duplex_ends.specs.Ways.{sides, with_whole}
 use Rattle.duplex_command.specs.declared.station.Station.{Station}
 use Rattle.duplex_command.specs.Duplex.{event_step}

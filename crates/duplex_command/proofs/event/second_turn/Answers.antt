@@ -1,7 +1,6 @@
 use Rattle.std.proofs.Common.{◌≡◌, length, rules, sym, subst}
-use Rattle.h263_outside.specs.Desk.{Outside}
-use Rattle.h263_outside.specs.declared.desk.Role.TheVariants.{Video, Pictures, Video2, Pictures2}
-use Rattle.call_report.specs.declared.status.Status.TheVariants.{VideoRefused, Video2Refused}
+use Rattle.h263_outside.specs.declared.desk.Role.TheVariants.{Video2, Pictures2}
+use Rattle.call_report.specs.declared.status.Status.TheVariants.{Video2Refused}
 use Rattle.duplex_command.specs.Exchange.{second_result}
 use Rattle.duplex_command.specs.Standing.{PartyOpens}
 use Rattle.duplex_command.specs.Turning.{TakesEvent}

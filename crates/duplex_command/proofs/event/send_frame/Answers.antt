@@ -1,6 +1,4 @@
-use Rattle.std.proofs.Common.{◌≡◌, ℕ, ◌+◌, ◌≤◌, Bool, true, false, List, length, Ok, Err, refl, sym, ap, subst, ◌∙◌, arith}
-use Rattle.h263_outside.specs.Desk.{Outside}
-use Rattle.h263_outside.specs.declared.desk.Role.{Role}
+use Rattle.std.proofs.Common.{◌≡◌, Bool, true, false, Ok, Err, refl, sym, ap, subst, ◌∙◌, arith}
 use Rattle.h263_outside.specs.declared.desk.Role.TheVariants.{Video, Events, Pictures}
 use Rattle.h263_types.specs.Sizes.{size_of_picture}
 use Rattle.h263_types.specs.declared.params.Params.{Params}
@@ -9,16 +7,14 @@ use Rattle.h263_planes.specs.Lent.{picture}
 use Rattle.h263_planes.specs.Picture.{Picture}
 use Rattle.y4m.specs.Reader.{Moves}
 use Rattle.loss_trace.specs.declared.fault.TraceFault.TheVariants.{NoFrame}
-use Rattle.loss_trace.specs.declared.reader.TraceReader.{TraceReader}
 use Rattle.call_report.specs.declared.status.Status.TheVariants.{TraceRefused, VideoRefused}
 use Rattle.call_report.specs.Status.{video_stop}
 use Rattle.call_model.specs.IdealCall.{Send}
-use Rattle.desk_program.specs.Run.{Step}
 use Rattle.duplex_call.specs.Duplex.{with_shot}
 use Rattle.duplex_ends.specs.Pair.{HoldsPair}
 use Rattle.duplex_ends.specs.Ways.{sides}
 use Rattle.duplex_command.specs.declared.station.Station.{Station}
-use Rattle.duplex_command.specs.Duplex.{DuplexState, capture_step}
+use Rattle.duplex_command.specs.Duplex.{capture_step}
 use Rattle.duplex_command.specs.Standing.{StationsStand}
 use Rattle.duplex_command.specs.Turning.{IsAsked}
 use Rattle.duplex_command.proofs.Capturing.{frame_missing, frame_sent, frame_stops, given, gives_so}

@@ -1,4 +1,4 @@
-use Rattle.std.proofs.Common.{◌≡◌, rules, subst}
+use Rattle.std.proofs.Common.{rules, subst}
 use Rattle.h263_types.specs.declared.format.Format.{Format}
 use Rattle.call_report.specs.declared.status.Status.TheVariants.{OutOfMemory}
 use Rattle.desk_program.specs.Ends.{Gains, GainsFronts}
