@@ -9,8 +9,7 @@ use call_report::Status;
 use desk_program::{Turns, laws as desk_program_laws};
 use duplex_call::{Party, party_line};
 use h263_outside::{Desk, laws as outside_laws};
-use loss_trace::laws::exact_lines;
-use loss_trace::{BadLine, Event, TraceFault, TraceReader};
+use loss_trace::{BadLine, Event, TraceFault, TraceReader, laws as loss_trace_laws};
 
 /// The machine of a call of two parties: both of them, the reader of its trace, and room for a frame
 /// of either video. It must be finished.
@@ -54,7 +53,7 @@ impl Talk {
     {
         desk_program_laws::of_turns();
         outside_laws::calls();
-        exact_lines();
+        loss_trace_laws::exact_lines();
         let mut bytes = [0; 64];
         let Some((line, length)) = self.trace.raw(desk, &mut bytes)? else {
             tell_counts(desk, &self.a.ends, &self.b.ends)?;
