@@ -2,6 +2,8 @@
 ghost use Rattle.std.specs.Prelude.{◌≡◌, IfOk, OnOk};
 ghost use Rattle.h263_types.specs.Params.{IsParams};
 ghost use Rattle.h263_types.specs.declared.params.Params.{Params};
+ghost use Rattle.h263_types.specs.declared.format.Format.TheVariants.{SubQcif};
+ghost use Rattle.back_messages.specs.Text.{IsMessage};
 ghost use Rattle.duplex_ends.specs.declared.party.PartyEnds.{PartyEnds};
 ghost use Rattle.duplex_ends.specs.Pair.{AreInCall};
 
@@ -14,7 +16,6 @@ use h263_outside::OutOfMemory;
 use h263_planes::PictureRef;
 use h263_types::{FixedPace, Format, Mark, Params};
 use one_way::Refusal;
-use receiver_end::{Heard, Receiver};
 use sender_end::Sender;
 use std::alloc::Global;
 use std::process::Abort;
@@ -322,5 +323,55 @@ const NO_PACKET: [(Party, Step); 9] = [
 #[test]
 fn no_packet_brings_no_message(rt: HostRuntime) -> Result<(), Fail> {
     assert_steps(&rt, rt.alloc(), &NO_PACKET)?;
+    Ok(())
+}
+
+// The acknowledgement of picture 0, as it is said, and how a picture begins whose header carries it:
+// the packet's data from the payload header on.
+const ACK_0: [u8; 3] = [0xC0, 0x04, 0x00];
+
+const CARRIES_ACK_0: [u8; 15] = [
+    0x80, 0x02, 0x1C, 0x90, 0x31, 0x00, 0x11, 0xDC, 0x00, 0x40, 0x05, 0x08, 0x19, 0xB2, 0x00,
+];
+
+// Whether the first picture of a sender, flat 100 with this message in its header, is one packet of
+// so many bytes whose data begins so.
+fn begins_so(
+    alloc: Global,
+    sender: &mut Sender<FixedPace>,
+    message: Message,
+    len: usize,
+    data: &[u8],
+) -> Result<bool, OutOfMemory>
+    requires message { IsMessage sender.old.params.clock message }
+    requires sent { sender.old.sent ≡ 0 }
+    requires format { sender.old.params.format ≡ SubQcif }
+{
+    let format = Format::SubQcif;
+    let frame = vec![in alloc; 100; format.size() as usize]?;
+    let coded = sender.code(PictureRef::new(format, frame.as_slice()), &[message]);
+    if coded.packets != 1 {
+        return Ok(false);
+    }
+    let packet = sender.packet(0);
+    let Some(rest) = packet.get(12..) else {
+        return Ok(false);
+    };
+    Ok(packet.len() == len && rest.starts_with(data))
+}
+
+#[test]
+fn acknowledgement_in_a_packet(rt: HostRuntime) -> Result<(), Fail> {
+    let params = Params::of(Format::SubQcif);
+    let Ok(message) = read(&ACK_0, params.clock) else {
+        fail!(rt; "no message");
+    };
+    let pace = FixedPace {
+        quant: params.quant,
+    };
+    let mut sender = Sender::start(rt.alloc(), &params, pace)?;
+    let right = begins_so(rt.alloc(), &mut sender, message, 345, &CARRIES_ACK_0[..14]);
+    sender.finish();
+    assert!(rt; right?);
     Ok(())
 }
