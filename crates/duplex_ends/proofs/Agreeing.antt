@@ -1,12 +1,12 @@
 -- What the ends of one way have done is what its ideal call says.
-use Rattle.std.proofs.Common.{◌≡◌, ℕ, ◌+◌, ◌<◌, List, [], ◌∷◌, ◌++◌, length, Some, refl, sym, ap, subst, ◌∙◌, arith}
-use Rattle.std.specs.Prelude.{map, slice_get}
+use Rattle.std.proofs.Common.{◌≡◌, ℕ, List, [], length, Some, ap, ◌∙◌, arith}
+use Rattle.std.specs.Prelude.{slice_get}
 use Rattle.h263_types.specs.declared.blocks.Mb.{Mb}
 use Rattle.h263_types.specs.declared.params.Params.{Params}
 use Rattle.h263_types.specs.Params.{IsParams}
 use Rattle.h263_planes.specs.Picture.{Picture}
 use Rattle.call_model.specs.CodedPictures.{Coded}
-use Rattle.call_model.specs.IdealCall.{AllMayHappen, Back, Call, Deliver, Event, MayHappen, NumberedMessage, Play}
+use Rattle.call_model.specs.IdealCall.{AllMayHappen, Deliver, MayHappen, NumberedMessage, Play}
 use Rattle.call_model.specs.JoinedRun.{Joined, SaidMessage}
 use Rattle.call_model.specs.Lawful.{IsPace}
 use Rattle.call_model.specs.TwoStores.{Agree, told_of}

@@ -1,6 +1,6 @@
 -- A picture that is captured, with the messages that wait.
-use Rattle.std.proofs.Common.{◌≡◌, ◌⊎◌, inl, inr, ℕ, zero, suc, ◌+◌, ◌<◌, ◌≤◌, List, [], ◌∷◌, ◌++◌, length, Some, refl, sym, ap, subst, ◌∙◌, arith}
-use Rattle.std.specs.Prelude.{drop, map, slice_get, slice_index_or}
+use Rattle.std.proofs.Common.{◌≡◌, ◌⊎◌, inl, inr, ℕ, zero, suc, ◌+◌, ◌<◌, ◌≤◌, List, [], ◌∷◌, ◌++◌, length, refl, sym, ap, subst, ◌∙◌, arith}
+use Rattle.std.specs.Prelude.{drop, map, slice_index_or}
 use Rattle.std.proofs.lemmas.Bool.{cases_lt}
 use Rattle.std.proofs.lemmas.List.{drop_all}
 use Rattle.h263_types.specs.declared.blocks.Mb.{Mb}
@@ -8,10 +8,9 @@ use Rattle.h263_types.specs.declared.clock.Clock.{Clock}
 use Rattle.h263_types.specs.declared.params.Params.{Params}
 use Rattle.h263_planes.specs.Picture.{Picture}
 use Rattle.picture_header.specs.Ranges.{AreMessages}
-use Rattle.back_messages.specs.declared.message.Message.{Message}
 use Rattle.call_model.specs.Coding as call
 use Rattle.call_model.specs.CodedPictures.{Coded}
-use Rattle.call_model.specs.IdealCall.{Event, MayHappen, Send}
+use Rattle.call_model.specs.IdealCall.{MayHappen, Send}
 use Rattle.call_model.specs.JoinedRun.{Joined}
 use Rattle.call_model.specs.LaterFrames.{LaterFramesBoth}
 use Rattle.call_model.specs.TwoStores.{Agree, travelling}

@@ -1,6 +1,6 @@
 -- A packet that is delivered, and the messages of its picture's header.
-use Rattle.std.proofs.Common.{◌≡◌, ◌⊎◌, inl, inr, ℕ, zero, suc, ◌+◌, ◌*◌, ◌<◌, ◌≤◌, Bool, true, false, List, [], ◌∷◌, ◌++◌, length, take, Option, Some, None, refl, sym, ap, subst, ◌∙◌, arith}
-use Rattle.std.specs.Prelude.{map, nat_le, nat_lt, slice_get, slice_index_or, if◌then◌else◌}
+use Rattle.std.proofs.Common.{◌≡◌, ℕ, zero, suc, ◌+◌, ◌<◌, ◌≤◌, Bool, List, [], ◌∷◌, length, take, Option, Some, None, refl, sym, ap, ◌∙◌, arith}
+use Rattle.std.specs.Prelude.{nat_le, nat_lt, slice_get, slice_index_or, if◌then◌else◌}
 use Rattle.std.specs.Option.{option_map_or}
 use Rattle.std.proofs.lemmas.Bool.{and_from, le-leb, le-ltb, lt-ltb}
 use Rattle.h263_types.specs.Clocks as clocks
@@ -10,7 +10,7 @@ use Rattle.h263_types.specs.Params.{IsParams}
 use Rattle.h263_planes.specs.Picture.{Picture}
 use Rattle.call_model.specs.Coding.{Header, Slice}
 use Rattle.call_model.specs.CodedPictures.{Coded}
-use Rattle.call_model.specs.IdealCall.{Back, Deliver, Event, MayHappen, NumberedMessage, slices_at}
+use Rattle.call_model.specs.IdealCall.{Deliver, MayHappen, NumberedMessage, slices_at}
 use Rattle.call_model.specs.JoinedRun.{Joined}
 use Rattle.call_model.specs.Sending as call
 use Rattle.call_model.specs.TwoStores.{Agree, told_of}
@@ -27,17 +27,16 @@ use Rattle.duplex_call.specs.declared.carrier.Carried.{Carried}
 use Rattle.duplex_call.specs.declared.line.Party.{Party}
 use Rattle.duplex_call.specs.declared.line.Party.TheVariants.{A, B}
 use Rattle.duplex_call.specs.Duplex.{MayBeBrought, MayHappenOf, WayRun, WayRuns, brings, brought, other, way, with_delivery, with_way}
-use Rattle.duplex_call.specs.Waiting.{placed}
 use Rattle.one_way.specs.Both.{both_after, steady}
-use Rattle.one_way.specs.Laws.{CallLaws, NearLaws, WayLaws}
+use Rattle.one_way.specs.Laws.{CallLaws, NearLaws}
 use Rattle.one_way.specs.Network.{HasPackets, IsAmongLast}
 use Rattle.one_way.specs.Way.{HoldsWay, MayHappenNow}
 use Rattle.duplex_ends.specs.declared.party.PartyEnds.{PartyEnds}
-use Rattle.duplex_ends.specs.Bringing.{MayReturnAll, message_in}
-use Rattle.duplex_ends.specs.Headers.{AreNumbered, HoldsHeaders, kept_by}
+use Rattle.duplex_ends.specs.Bringing.{MayReturnAll}
+use Rattle.duplex_ends.specs.Headers.{AreNumbered, kept_by}
 use Rattle.duplex_ends.specs.Pair.{HoldsPair, HoldsParty}
 use Rattle.duplex_ends.specs.Ways.{call_by, carried_as, sides, told_by, with_places}
-use Rattle.duplex_ends.proofs.Agreeing.{agree, delivers, steady_is, told_at}
+use Rattle.duplex_ends.proofs.Agreeing.{agree, delivers, told_at}
 use Rattle.duplex_ends.proofs.Lists.{get_map}
 use Rattle.duplex_ends.proofs.Runs.{coded_still, said_still}
 

@@ -1,16 +1,15 @@
 -- Messages in places, and by their numbers.
-use Rattle.std.proofs.Common.{◌≡◌, ◌⊎◌, inl, inr, ℕ, zero, suc, ◌+◌, ◌-◌, ◌<◌, ◌≤◌, List, [], ◌∷◌, ◌++◌, length, Option, Some, None, refl, sym, ap, subst, ◌∙◌, arith}
-use Rattle.std.specs.Prelude.{drop, get_or, map, max, slice_get, slice_index_or}
+use Rattle.std.proofs.Common.{◌≡◌, ℕ, zero, suc, ◌+◌, ◌-◌, ◌<◌, ◌≤◌, List, [], ◌∷◌, ◌++◌, length, Option, Some, refl, sym, ap, subst, ◌∙◌, arith}
+use Rattle.std.specs.Prelude.{drop, map, max, slice_get, slice_index_or}
 use Rattle.std.specs.Option.{option_map, option_map_or}
 use Rattle.std.specs.List.{range_with_len}
-use Rattle.std.proofs.lemmas.List.{drop-drop, drop_more, drop_all}
-use Rattle.std.proofs.lemmas.Option.{slice_get-get_or}
+use Rattle.std.proofs.lemmas.List.{drop-drop, drop_all}
 use Rattle.back_messages.specs.declared.message.Message.{Message}
 use Rattle.call_model.specs.Coding as call
 use Rattle.duplex_call.specs.declared.carrier.Carried.{Carried}
 use Rattle.duplex_call.specs.Duplex.{messages_at, numbers_carried}
 use Rattle.duplex_call.specs.Waiting.{last_four, placed}
-use Rattle.duplex_ends.specs.Bringing.{AreOfClock, carried_in, message_in}
+use Rattle.duplex_ends.specs.Bringing.{carried_in, message_in}
 use Rattle.duplex_ends.specs.Headers.{AreNumbered}
 
 -- ---- lists

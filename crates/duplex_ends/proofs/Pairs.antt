@@ -1,5 +1,5 @@
 -- The ends of both parties before the first event, and their counts.
-use Rattle.std.proofs.Common.{◌≡◌, ℕ, ◌*◌, ◌+◌, ◌<◌, ◌≤◌, List, [], ◌∷◌, length, refl, sym, ap, subst, ◌∙◌, arith}
+use Rattle.std.proofs.Common.{◌≡◌, ◌*◌, List, [], length, refl, sym, ap, subst, ◌∙◌, arith}
 use Rattle.h263_types.specs.Sizes.{mbs_of}
 use Rattle.h263_types.specs.declared.params.Params.{Params}
 use Rattle.h263_types.specs.Params.{IsParams}

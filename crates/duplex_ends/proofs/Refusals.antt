@@ -5,7 +5,7 @@ use Rattle.std.specs.Option.{option_map_or}
 use Rattle.h263_types.specs.declared.params.Params.{Params}
 use Rattle.call_encoding.specs.Frames.{Frame}
 use Rattle.call_model.specs.Coding.{Rules}
-use Rattle.call_model.specs.IdealCall.{Back, Deliver, Event, Play, NumberedMessage, about}
+use Rattle.call_model.specs.IdealCall.{Back, Deliver, Event, Play, about}
 use Rattle.call_model.specs.Refusals as call
 use Rattle.call_model.specs.Refusals.{first_refusal}
 use Rattle.call_decoding.specs.Rules.{rules_of}
@@ -15,7 +15,7 @@ use Rattle.duplex_call.specs.Duplex.{WayRun}
 use Rattle.duplex_call.specs.Refused.{first_of, heard_refusal, own_refusal}
 use Rattle.one_way.specs.declared.refusals.Refusal.{Refusal}
 use Rattle.one_way.specs.declared.refusals.Refusal.TheVariants.{Far}
-use Rattle.one_way.specs.Refused.{IsAllowed, told_as}
+use Rattle.one_way.specs.Refused.{IsAllowed}
 use Rattle.duplex_ends.specs.Bringing.{first_far}
 use Rattle.duplex_ends.specs.Headers.{AreNumbered}
 use Rattle.duplex_ends.specs.Ways.{call_by, carried_as, sides, told_by}

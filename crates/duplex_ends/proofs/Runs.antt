@@ -1,29 +1,22 @@
 -- What an event leaves of what was said, and of the ends of a party.
-use Rattle.std.proofs.Common.{◌≡◌, ℕ, zero, suc, ◌+◌, ◌<◌, ◌≤◌, Bool, true, false, List, [], ◌∷◌, ◌++◌, length, Option, Some, None, Ok, refl, sym, ap, subst, ◌∙◌, arith}
-use Rattle.std.specs.Prelude.{drop, map, slice_get, slice_index_or}
-use Rattle.std.proofs.lemmas.List.{append-nil}
-use Rattle.h263_bits.specs.Bits.{bits_of}
+use Rattle.std.proofs.Common.{◌≡◌, ℕ, ◌+◌, ◌≤◌, List, [], ◌∷◌, ◌++◌, length, Option, Some, None, refl, sym, ap, subst, ◌∙◌, arith}
+use Rattle.std.specs.Prelude.{drop, map, slice_index_or}
 use Rattle.h263_types.specs.declared.blocks.Mb.{Mb}
-use Rattle.h263_types.specs.declared.clock.Clock.{Clock}
 use Rattle.h263_types.specs.declared.params.Params.{Params}
-use Rattle.h263_types.specs.Params.{IsParams}
 use Rattle.h263_planes.specs.Picture.{Picture}
 use Rattle.back_messages.specs.MessageBytes.{text_of}
 use Rattle.back_messages.specs.Text as back
-use Rattle.back_messages.specs.declared.message.Message.{Message}
 use Rattle.back_messages.specs.declared.writing.MessageBytes.{MessageBytes}
 use Rattle.call_model.specs.Coding.{Coding, Rules}
 use Rattle.call_model.specs.IdealCall.{AllMayHappen, Back, Call, Event, NumberedMessage, Send, about, ideal}
-use Rattle.call_model.specs.JoinedRun.{Joined, SaidMessage}
+use Rattle.call_model.specs.JoinedRun.{SaidMessage}
 use Rattle.call_model.specs.LaterFrames.{LaterFrames}
-use Rattle.call_model.specs.Lawful.{IsCoding}
 use Rattle.call_model.specs.TwoStores.{Agree, told_of, travelling}
 use Rattle.call_decoding.specs.Rules.{rules_of}
 use Rattle.call_decoding.specs.Styles.{Style}
 use Rattle.call_encoding.specs.Frames.{Frame}
 use Rattle.call_encoding.specs.Messages.{marked, write_message}
 use Rattle.coded_call.specs.Coding.{coding}
-use Rattle.reference_selector.specs.Messages.{message_of}
 use Rattle.call_rings.specs.Keeping.{period_of}
 use Rattle.duplex_call.specs.declared.carrier.Carried.{Carried}
 use Rattle.duplex_call.specs.declared.carrier.Carrier.{Carrier}
@@ -40,7 +33,7 @@ use Rattle.duplex_ends.specs.Headers.{HasHeaders, kept_by}
 use Rattle.duplex_ends.specs.Laws.{SaidLaws}
 use Rattle.duplex_ends.specs.Pair.{HoldsParty}
 use Rattle.duplex_ends.specs.Ways.{call_by, carried_as, told_by}
-use Rattle.duplex_ends.proofs.Lists.{after_same, drop_left, map_long, map_more, numbered_still}
+use Rattle.duplex_ends.proofs.Lists.{after_same, drop_left, map_more, numbered_still}
 
 -- ---- messages that come back
 

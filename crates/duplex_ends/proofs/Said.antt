@@ -1,6 +1,6 @@
 -- What a receiver says fits a picture header.
-use Rattle.std.proofs.Common.{◌≡◌, ℕ, zero, suc, ◌*◌, ◌+◌, ◌<◌, Bool, true, false, List, [], ◌∷◌, ◌++◌, length, Some, None, Result, Ok, Err, refl, sym, ap, subst, ◌∙◌, arith}
-use Rattle.std.specs.Prelude.{⊤, map, slice_get, ◌&&◌, if◌then◌else◌}
+use Rattle.std.proofs.Common.{◌≡◌, ℕ, zero, suc, ◌+◌, ◌<◌, Bool, true, false, List, [], ◌∷◌, ◌++◌, length, Some, None, Result, Ok, Err, refl, sym, ap, subst, ◌∙◌, arith}
+use Rattle.std.specs.Prelude.{⊤, map, slice_get, if◌then◌else◌}
 use Rattle.std.proofs.Math.Nat.{mod-lt}
 use Rattle.h263_bits.specs.Bits.{bits_of}
 use Rattle.h263_types.specs.declared.clock.Clock.{Clock}
@@ -12,7 +12,7 @@ use Rattle.back_messages.specs.declared.message.MessageFault.{MessageFault}
 use Rattle.back_messages.specs.Text.{IsMessage, message_in, message_text}
 use Rattle.call_model.specs.Coding as call
 use Rattle.call_model.specs.Coding.{Coding, Rules, period}
-use Rattle.call_model.specs.IdealCall.{Back, Deliver, Event, Got, Lost, NumberedMessage, Play, Send, full_flags, ideal, note_flags}
+use Rattle.call_model.specs.IdealCall.{Back, Deliver, Event, Got, Lost, NumberedMessage, Play, Send, ideal, note_flags}
 use Rattle.call_model.specs.Lawful.{IsCoding, IsInPeriod}
 use Rattle.call_model.specs.Numbers.{flags_of}
 use Rattle.call_model.specs.Sending.{message_flags}

@@ -1,5 +1,5 @@
 -- What the ends of both parties have done of a call of two.
-use Rattle.std.specs.Prelude.{◌≡◌, ℕ, ◌≤◌, List, [], drop, length}
+use Rattle.std.specs.Prelude.{◌≡◌, ℕ, ◌≤◌, [], drop, length}
 use Rattle.h263_types.specs.declared.params.Params.{Params}
 use Rattle.h263_types.specs.Clocks as clocks
 use Rattle.h263_types.specs.Params.{IsParams}

@@ -1,5 +1,4 @@
 -- What a play shows, as the ideal call says it.
-use Rattle.std.specs.Prelude.{ℕ}
 use Rattle.h263_types.specs.declared.params.Params.{Params}
 use Rattle.h263_planes.specs.Picture.{Picture}
 use Rattle.call_model.specs.Coding.{Shown, pictures_of}

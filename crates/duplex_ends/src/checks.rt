@@ -89,8 +89,8 @@ pub fn check_play(own: &PartyEnds) -> Result<(), Refusal>
     ensures ahead { OnOk result (own.now.receiver.played < own.now.sender.sent) }
     ensures may { (far : PartyEnds) → AreInCall own.now far
         → OnOk result (MayHappenNow own.now far Play) }
-    ensures refusal { (p : Party → Params) (x : Party) (far : PartyEnds) (ways : WayRuns Frame) (left : ℕ)
-        → HoldsPair p x own.now far ways
+    ensures refusal { (p : Party → Params) (x : Party) (far : PartyEnds) (ways : WayRuns Frame)
+        (left : ℕ) → HoldsPair p x own.now far ways
         → IsAllowed result Play (refusal_of (sides p) left x Play ways) }
 {
     one_way_laws::ends_agree();

@@ -66,7 +66,6 @@ pub fn deliver(own: &mut PartyEnds, far: &mut PartyEnds, number: u32, place: u32
 {
     one_way_laws::of_the_ends();
     one_way_laws::of_near_events();
-    one_way_laws::of_the_way();
     laws::of_said();
     bring_carried(own, &mut far.sender, number, place);
     let said = own.way.deliver(&mut own.receiver, number, place);

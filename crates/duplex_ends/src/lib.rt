@@ -6,8 +6,8 @@
 //! packets of that picture. So a delivery and a play take the ends of both parties, `own` those of
 //! the picture's party.
 //!
-//! `specs/Pair` says what both have done, by the definitions of `duplex_call`. The `check` functions
-//! tell a refusal before anything is done.
+//! `specs/Pair` says what both have done, by the definitions of `duplex_call`. The `check`
+//! functions tell a refusal before anything is done.
 //!
 //! ```rust
 //! let mut a = PartyEnds::start(alloc, &params)?;

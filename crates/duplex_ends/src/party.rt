@@ -9,7 +9,7 @@ ghost use Rattle.call_encoding.specs.Frames.{Frame};
 ghost use Rattle.one_way.specs.Counts.{call_text_of};
 ghost use Rattle.one_way.specs.Seen.{in_call, reference_in};
 ghost use Rattle.duplex_call.specs.declared.line.Party.{Party};
-ghost use Rattle.duplex_call.specs.Duplex.{MayHappenOf, WayRuns, way, with_shot};
+ghost use Rattle.duplex_call.specs.Duplex.{MayHappenOf, WayRuns, with_shot};
 
 use crate::saying::put_messages;
 use crate::{CarriedRing, laws};
@@ -45,7 +45,8 @@ pub struct PartyEnds {
 
 impl PartyEnds {
     ghost use Rattle.duplex_ends.specs.declared.party.PartyEnds.{PartyEnds};
-    ghost use Rattle.duplex_ends.specs.Pair.{AreInCall, HoldsPair, IsInCall, IsNewParty, MayHappenNow};
+    ghost use Rattle.duplex_ends.specs.Pair.{AreInCall, HoldsPair, IsInCall, IsNewParty};
+    ghost use Rattle.duplex_ends.specs.Pair.{MayHappenNow};
     ghost use Rattle.duplex_ends.specs.Shown.{on_screen};
     ghost use Rattle.duplex_ends.specs.Ways.{call_in, sides};
 

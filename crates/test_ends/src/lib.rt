@@ -21,6 +21,8 @@ mod call_rings_tests;
 #[cfg(test)]
 mod duplex_call_tests;
 #[cfg(test)]
+mod duplex_ends_tests;
+#[cfg(test)]
 mod joined_ends;
 #[cfg(test)]
 mod make_input_tests;

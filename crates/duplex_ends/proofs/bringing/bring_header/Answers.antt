@@ -1,4 +1,4 @@
-use Rattle.std.proofs.Common.{◌≡◌, ◌+◌, ◌<◌, ◌≤◌, [], ◌∷◌, List, None, Some, Option, drop, get_or, length, ap, subst, ◌∙◌, arith, refl}
+use Rattle.std.proofs.Common.{◌≡◌, ◌+◌, [], ◌∷◌, List, None, Some, Option, drop, ap, subst, ◌∙◌, arith, refl}
 use Rattle.std.proofs.lemmas.List.{drop_more, drop_all}
 use Rattle.h263_types.specs.declared.pace.FixedPace.{FixedPace}
 use Rattle.h263_types.specs.declared.clock.Clock.{Clock}

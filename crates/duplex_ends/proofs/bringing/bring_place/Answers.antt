@@ -1,4 +1,4 @@
-use Rattle.std.proofs.Common.{[], ◌∷◌, List, Option, ap, subst, ◌∙◌}
+use Rattle.std.proofs.Common.{[], ◌∷◌, Option, subst, ◌∙◌}
 use Rattle.duplex_call.specs.declared.carrier.Carried.{Carried}
 use Rattle.duplex_ends.specs.Bringing.{IsReturning, carried_in}
 use Rattle.duplex_ends.proofs.Returning.{one_back}

@@ -1,4 +1,4 @@
-use Rattle.std.proofs.Common.{◌≡◌, ◌+◌, ℕ, length, [], List, Option, None, Result, Err, sym, ap, subst, ◌∙◌}
+use Rattle.std.proofs.Common.{◌≡◌, ◌+◌, length, [], List, Option, None, Result, Err, sym, ap, subst, ◌∙◌}
 use Rattle.std.specs.Prelude.{slice_index_or}
 use Rattle.h263_types.specs.declared.clock.Clock.{Clock}
 use Rattle.h263_types.specs.declared.params.Params.{Params}
@@ -8,9 +8,8 @@ use Rattle.call_model.specs.Refusals as call
 use Rattle.call_model.specs.Refusals.{first_refusal}
 use Rattle.call_decoding.specs.Rules.{rules_of}
 use Rattle.duplex_call.specs.declared.carrier.Carried.{Carried}
-use Rattle.duplex_call.specs.declared.line.Party.{Party}
 use Rattle.duplex_call.specs.Duplex.{other, way}
-use Rattle.duplex_call.specs.Refused.{first_of, heard_refusal, own_refusal, refusal_of}
+use Rattle.duplex_call.specs.Refused.{heard_refusal, own_refusal, refusal_of}
 use Rattle.one_way.specs.declared.refusals.Refusal.{Refusal}
 use Rattle.one_way.specs.Refused.{IsAllowed, refusal_after}
 use Rattle.one_way.specs.Seen.{Seen, in_call}

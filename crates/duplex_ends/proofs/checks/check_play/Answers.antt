@@ -1,5 +1,4 @@
-use Rattle.std.proofs.Common.{◌≡◌, ◌+◌, length, [], ap, subst, ◌∙◌}
-use Rattle.h263_types.specs.declared.params.Params.{Params}
+use Rattle.std.proofs.Common.{◌+◌, length, [], subst}
 use Rattle.call_model.specs.IdealCall.{Play}
 use Rattle.call_model.specs.Refusals as call
 use Rattle.call_model.specs.Refusals.{first_refusal}

@@ -1,14 +1,13 @@
-use Rattle.std.proofs.Common.{◌≡◌, ◌≤◌, ◌<◌, ℕ, List, [], Option, sym, ap, subst, ◌∙◌, arith}
+use Rattle.std.proofs.Common.{◌≡◌, ℕ, List, [], Option, sym, ap, subst, ◌∙◌, arith}
 use Rattle.std.specs.Prelude.{slice_index_or}
 use Rattle.h263_types.specs.declared.clock.Clock.{Clock}
 use Rattle.h263_types.specs.declared.params.Params.{Params}
-use Rattle.call_model.specs.IdealCall.{slices_at}
 use Rattle.duplex_call.specs.declared.carrier.Carried.{Carried}
-use Rattle.duplex_call.specs.Duplex.{brings, brought, other, way}
+use Rattle.duplex_call.specs.Duplex.{brought, other, way}
 use Rattle.one_way.specs.Both.{State, both_after, steady}
 use Rattle.one_way.specs.Way.{HoldsWay}
 use Rattle.duplex_ends.specs.Bringing.{AreOfClock, MayReturnAll, carried_in}
-use Rattle.duplex_ends.specs.Ways.{call_by, sides, told_by}
+use Rattle.duplex_ends.specs.Ways.{told_by}
 use Rattle.duplex_ends.proofs.Deliveries.{brings_all, brings_none, count_so, header_there, may_return}
 use Rattle.duplex_ends.proofs.Lists.{carried_placed}
 use Rattle.duplex_ends.proofs.Said.{numbered_fit}

@@ -1,10 +1,8 @@
-use Rattle.std.proofs.Common.{◌≡◌, ◌+◌, ◌≤◌, ℕ, zero, suc, length, refl, subst, ◌∙◌, arith}
-use Rattle.h263_types.specs.declared.params.Params.{Params}
-use Rattle.call_model.specs.IdealCall.{Deliver, slices_at}
-use Rattle.duplex_call.specs.declared.line.Party.{Party}
-use Rattle.duplex_call.specs.Duplex.{MayHappenOf, other, way}
-use Rattle.duplex_ends.specs.Pair.{HoldsPair, MayHappenNow}
-use Rattle.duplex_ends.specs.Ways.{call_in, sides, with_places}
+use Rattle.std.proofs.Common.{◌≡◌, ◌+◌, ℕ, suc, length, refl, subst, ◌∙◌, arith}
+use Rattle.call_model.specs.IdealCall.{slices_at}
+use Rattle.duplex_call.specs.Duplex.{other, way}
+use Rattle.duplex_ends.specs.Pair.{HoldsPair}
+use Rattle.duplex_ends.specs.Ways.{call_in, with_places}
 use Rattle.duplex_ends.proofs.Deliveries.{count_so, may_places}
 use Rattle.duplex_ends.proofs.events.deliver_all.Goals as goal
 

@@ -1,4 +1,4 @@
-use Rattle.std.proofs.Common.{◌≡◌, ◌<◌, ◌≤◌, ℕ}
+use Rattle.std.proofs.Common.{◌≡◌, ℕ}
 use Rattle.h263_types.specs.declared.params.Params.{Params}
 use Rattle.call_encoding.specs.Frames.{Frame}
 use Rattle.call_model.specs.IdealCall.{Deliver}

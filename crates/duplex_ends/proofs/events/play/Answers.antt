@@ -1,4 +1,4 @@
-use Rattle.std.proofs.Common.{◌≡◌, ◌+◌, ◌^◌, ◌<◌, ◌≤◌, ℕ, List, [], ◌∷◌, ◌++◌, length, refl, sym, ap, subst, ◌∙◌, arith}
+use Rattle.std.proofs.Common.{◌≡◌, ℕ, List, [], ◌∷◌, ◌++◌, refl, sym, ap, subst, ◌∙◌, arith}
 use Rattle.std.specs.Prelude.{drop}
 use Rattle.std.proofs.lemmas.List.{append-nil}
 use Rattle.h263_types.specs.declared.params.Params.{Params}
@@ -15,7 +15,6 @@ use Rattle.duplex_call.specs.Duplex.{WayRun, other, way, with_play}
 use Rattle.duplex_call.specs.Waiting.{Waits}
 use Rattle.duplex_ends.specs.declared.party.PartyEnds.{PartyEnds}
 use Rattle.duplex_ends.specs.Bringing.{said_as}
-use Rattle.duplex_ends.specs.Shown.{shown_next}
 use Rattle.duplex_ends.specs.Ways.{sides, told_by}
 use Rattle.duplex_ends.proofs.Agreeing.{agree, plays}
 use Rattle.duplex_ends.proofs.Deliveries.{with_one}

@@ -1,4 +1,4 @@
-use Rattle.std.proofs.Common.{◌≡◌, ◌+◌, ◌≤◌, ◌++◌, drop, length, map, take}
+use Rattle.std.proofs.Common.{◌≡◌, ◌≤◌, ◌++◌, drop, length, map, take}
 use Rattle.duplex_ends.specs.Bringing.{carried_in, message_in}
 use Rattle.duplex_ends.proofs.saying.put_messages.Given as goal
 

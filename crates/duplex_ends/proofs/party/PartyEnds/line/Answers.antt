@@ -1,5 +1,4 @@
-use Rattle.std.proofs.Common.{◌≡◌, length, ap, ◌∙◌}
-use Rattle.call_report.specs.View as report
+use Rattle.std.proofs.Common.{length, ap, ◌∙◌}
 use Rattle.duplex_call.specs.Duplex.{way}
 use Rattle.one_way.specs.Counts.{count_of, counts_text_of, one_exact, one_held, one_patched}
 use Rattle.one_way.specs.Seen.{Seen}

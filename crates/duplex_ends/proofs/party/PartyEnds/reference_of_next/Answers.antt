@@ -1,5 +1,4 @@
 use Rattle.std.proofs.Common.{◌≡◌, ◌<◌, ℕ, [], refl, ap, ◌∙◌, arith}
-use Rattle.call_model.specs.CodedPictures.{Coded}
 use Rattle.duplex_call.specs.Duplex.{way}
 use Rattle.one_way.specs.Seen.{Seen, reference_in}
 use Rattle.duplex_ends.specs.Ways.{call_in}

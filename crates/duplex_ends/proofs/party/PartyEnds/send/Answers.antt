@@ -1,4 +1,4 @@
-use Rattle.std.proofs.Common.{◌≡◌, ◌+◌, ◌<◌, ◌≤◌, ℕ, List, [], ◌∷◌, ◌++◌, length, Option, Some, take, refl, sym, ap, subst, ◌∙◌, arith}
+use Rattle.std.proofs.Common.{◌≡◌, ℕ, List, [], ◌∷◌, length, Option, Some, take, refl, sym, ap, subst, ◌∙◌}
 use Rattle.std.specs.Prelude.{drop, map, slice_get}
 use Rattle.h263_types.specs.declared.clock.Clock.{Clock}
 use Rattle.h263_types.specs.declared.params.Params.{Params}
@@ -7,7 +7,6 @@ use Rattle.picture_header.specs.Ranges.{AreMessages}
 use Rattle.back_messages.specs.declared.message.Message.{Message}
 use Rattle.call_encoding.specs.Frames.{Frame}
 use Rattle.call_encoding.specs.Messages.{marked}
-use Rattle.call_model.specs.IdealCall.{Send}
 use Rattle.duplex_call.specs.declared.carrier.Carried.{Carried}
 use Rattle.duplex_call.specs.Duplex.{messages_at, other, way, with_shot}
 use Rattle.duplex_call.specs.Waiting.{last_four, placed}
@@ -15,10 +14,9 @@ use Rattle.one_way.specs.Both.{carrying}
 use Rattle.one_way.specs.Counts.{total_of}
 use Rattle.duplex_ends.specs.declared.party.PartyEnds.{PartyEnds}
 use Rattle.duplex_ends.specs.Bringing.{carried_in, message_in}
-use Rattle.duplex_ends.specs.Pair.{AreInCall}
 use Rattle.duplex_ends.specs.Ways.{sides, told_by}
 use Rattle.duplex_ends.proofs.Agreeing.{agree, ideally}
-use Rattle.duplex_ends.proofs.Captures.{frame, near_send, numbers, party_sent, said, same_messages, shot, waiting, waiting_few, waiting_fit}
+use Rattle.duplex_ends.proofs.Captures.{frame, near_send, numbers, party_sent, said, same_messages, shot, waiting, waiting_fit}
 use Rattle.duplex_ends.proofs.Deliveries.{with_one}
 use Rattle.duplex_ends.proofs.Later.{holds_later}
 use Rattle.duplex_ends.proofs.Lists.{carried_placed, get_last, last_few}

@@ -1,6 +1,5 @@
-use Rattle.std.proofs.Common.{◌≡◌, List, [], ap, ◌∙◌}
-use Rattle.h263_planes.specs.Picture.{Picture}
-use Rattle.call_model.specs.Coding.{Shown, pictures_of}
+use Rattle.std.proofs.Common.{[], ap, ◌∙◌}
+use Rattle.call_model.specs.Coding.{pictures_of}
 use Rattle.call_model.specs.IdealCall.{shown_last}
 use Rattle.call_decoding.specs.Rules.{rules_of}
 use Rattle.coded_call.specs.Coding.{coding}
