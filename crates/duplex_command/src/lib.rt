@@ -2,7 +2,15 @@
 //! their messages travel in the picture headers of the other way.
 //!
 //! `specs/Duplex` says what it does with each line of the trace, by the ideal calls of both ways.
-//! What an event does to the ends of both parties is `duplex_ends`'s.
+//! What an event does to the ends of both parties is `duplex_ends`'s. `specs/Begin` says how it
+//! begins: both heads are read, and then those of the pictures written.
+//!
+//! ```rust
+//! let videos = [(Role::Video, "a.y4m"), (Role::Video2, "b.y4m")];
+//! let pictures = [(Role::Pictures, "a_shown.y4m"), (Role::Pictures2, "b_shown.y4m")];
+//! let order = &[videos[0], videos[1], (Role::Events, "trace"), pictures[0], pictures[1]];
+//! let status = perform::<D, Duplex>(alloc, &params, order, desk);
+//! ```
 #![tactic(auto)]
 
 mod begin;
