@@ -63,8 +63,7 @@ pub struct Duplex;
 impl Begins for Duplex {
     ghost use Rattle.std.specs.Prelude.{Some};
     ghost use Rattle.h263_outside.specs.declared.desk.Role.TheVariants.{Events};
-    ghost use Rattle.duplex_command.specs.Begin.{duplex_run};
-    ghost use Rattle.duplex_command.specs.Begin.{MayBegin};
+    ghost use Rattle.duplex_command.specs.Begin.{MayBegin, duplex_run};
 
     type Setup = Params;
 

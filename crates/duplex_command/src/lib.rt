@@ -3,10 +3,13 @@
 //!
 //! `specs/Duplex` says what it does with each line of the trace, by the ideal calls of both ways.
 //! A turn is written once, for the first party: the second one's is that turn over the desk with
-//! both exchanged. What an event does to the ends of both parties is `duplex_ends`'s.
+//! both exchanged. What an event does to the ends of both parties is `duplex_ends`'s. `specs/Begin`
+//! says how it begins: both heads are read, and then those of the pictures written.
 //!
 //! ```rust
-//! let order = &[(Role::Video, "a.y4m"), (Role::Video2, "b.y4m"), (Role::Events, "trace")];
+//! let videos = [(Role::Video, "a.y4m"), (Role::Video2, "b.y4m")];
+//! let pictures = [(Role::Pictures, "a_shown.y4m"), (Role::Pictures2, "b_shown.y4m")];
+//! let order = &[videos[0], videos[1], (Role::Events, "trace"), pictures[0], pictures[1]];
 //! let status = perform::<D, Duplex>(alloc, &params, order, desk);
 //! ```
 #![tactic(auto)]
