@@ -12,7 +12,7 @@ class GilbertElliott:
     """
 
     def __init__(self, rate: float, burst: float, draws: random.Random) -> None:
-        if not 0 <= rate < 1 or burst < 1:
+        if not (0 <= rate < 1 <= burst):  # nor what is no number
             raise ValueError("the rate is from 0 to below 1, and the burst 1 at least")
         self._leave_bad = 1 / burst
         self._leave_good = rate / (1 - rate) / burst

@@ -1,8 +1,9 @@
 """Made input, the formula of docs/FORMATS.md: two moving ridges in Y, slopes in Cb and Cr."""
 
 import random
+from typing import BinaryIO
 
-from .y4m import Size
+from .y4m import Size, write_frame, write_head
 
 
 def _ridge(value: int) -> int:
@@ -25,3 +26,12 @@ def with_noise(size: Size, samples: bytes, noise: int, draws: random.Random) -> 
     luma, cb, cr = size.planes(samples)
     noisy = bytes(min(max(value + draws.randint(-noise, noise), 0), 255) for value in luma)
     return noisy + cb + cr
+
+
+def write_video(file: BinaryIO, size: Size, frames: int, noise: int, seed: int = 1) -> None:
+    """A whole video. The seed makes the frames, and where there is noise it is drawn from it, too."""
+    draws = random.Random(seed)
+    write_head(file, size)
+    for number in range(frames):
+        frame = made_frame(size, seed, number)
+        write_frame(file, with_noise(size, frame, noise, draws) if noise else frame)

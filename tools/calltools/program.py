@@ -15,6 +15,7 @@ def add_option(parser: argparse.ArgumentParser) -> None:
 
 def named(asked: argparse.Namespace) -> Path:
     """The program that is named, or the gate's. The launcher may compile at each run."""
-    if not os.access(asked.program, os.X_OK):
+    if not (asked.program.is_file() and os.access(asked.program, os.X_OK)):
         raise BadInput(str(asked.program), "no program", "rt ci proves and builds it")
-    return asked.program
+    # A name without a folder would be looked for in PATH alone.
+    return asked.program.absolute()

@@ -8,6 +8,8 @@ from .errors import BadInput
 
 FORMATS = {"sub-qcif": (128, 96), "qcif": (176, 144), "cif": (352, 288)}
 MOST_LINE = 256
+# Of a picture that is read, in samples.
+MOST_SIDE = 16_384
 COLOURS = {"C420", "C420jpeg", "C420mpeg2", "C420paldv"}
 
 
@@ -72,6 +74,8 @@ class Y4mReader:
         if not (width.isdecimal() and height.isdecimal()):
             raise BadInput(self._path, "the head", "the width or the height is missing")
         size = Size(int(width), int(height))
+        if max(size.width, size.height) > MOST_SIDE:
+            raise BadInput(self._path, "the head", f"a side of more than {MOST_SIDE:,} samples")
         if not size.luma or size.width % 2 or size.height % 2:
             raise BadInput(self._path, "the head", f"{width} x {height} has no planes of half the size")
         return size
