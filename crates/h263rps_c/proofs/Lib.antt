@@ -3,3 +3,4 @@ mod HandleValues
 mod MessagesRead
 mod BeforeFirst
 mod Untaken
+mod RefusalNumbers

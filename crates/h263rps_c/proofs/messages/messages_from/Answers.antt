@@ -1,4 +1,4 @@
-use Rattle.std.proofs.Common.{rules, arith, ◌≡◌, ◌<◌, refl, sym, ap, ◌∙◌, subst, length, take, drop}
+use Rattle.std.proofs.Common.{rules, arith, ◌≡◌, ◌<◌, refl, subst, length, take}
 use Rattle.picture_header.specs.Ranges.{AreMessages}
 use Rattle.h263rps_c.specs.Messages.{messages_of}
 use Rattle.h263rps_c.proofs.MessagesRead.{all_read, next_in_range, next_message, no_message, none_yet}
