@@ -511,6 +511,24 @@ class BadPageTest(Room):
         for told, words in cases:
             self.assert_refused(told, BURST, *words)
 
+    def test_words_of_the_other_kind_of_call(self) -> None:
+        """A folder has its videos, and a report has no other folder."""
+        of_report, of_folder = "go with a report", "--other goes with a folder"
+        cases: list[tuple[str, tuple]] = [
+            (of_report, (self.room, "--shown", VIDEO)),
+            (of_report, (self.room, "--trace", TRACE)),
+            (of_folder, (BURST, "--shown", VIDEO, "--other", self.room)),
+            ("--packets goes with --trace", (BURST, "--shown", VIDEO, "--packets", TRACE)),
+        ]
+        for told, (call, *words) in cases:
+            run = subprocess.run(
+                [TOOLS / "page_of_call", call, self.room / "page.html", *words],
+                capture_output=True,
+                text=True,
+            )
+            self.assertEqual((run.returncode, run.stdout), (2, ""), words)
+            self.assertIn(told, run.stderr)
+
     def test_bad_settings_of_records(self) -> None:
         """Each fault is told with its place, and no name leads out of the folder."""
         folder = whole_folder(self.room / "call")

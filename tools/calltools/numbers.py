@@ -29,10 +29,6 @@ class Numbers:
         self._sequence = 0  # of the newest packet, likewise
         self.newest = 0
 
-    @property
-    def is_empty(self) -> bool:
-        return self._first_stamp is None
-
     def place(self, reference: int, sequence: int, timestamp: int) -> tuple[int, float]:
         """The packet's picture, and its time of capture in seconds from the first one's."""
         if self._first_stamp is None:

@@ -5,9 +5,6 @@ from typing import Optional, Sequence
 
 from .y4m import FORMATS, Size
 
-# What became of a packet. `passed` is one of which nobody says whether it came.
-FATES = ("taken", "lost", "late", "early", "again", "passed")
-
 
 @dataclass(frozen=True)
 class Picture:
@@ -23,7 +20,8 @@ class Picture:
 
 @dataclass(frozen=True)
 class Packet:
-    """A packet of a picture, or where `is_all` all that it has."""
+    """A packet of a picture, or where `is_all` all that it has. `fate` is taken, lost, late, early,
+    again, or passed where nobody says whether it came."""
 
     picture: int
     fate: str
