@@ -9,8 +9,8 @@ use loss_trace::TraceFault;
 use std::process::Abort;
 use std::test::Fail;
 use test_desks::{
-    BLANK, Case, Differs, EXACT, FRAME, HEAD, HELD, NOTHING, Parts, SHOWN_HEAD, USAGE,
-    desk_of, difference, joined,
+    BLANK, Case, Differs, EXACT, FRAME, HEAD, HELD, NOTHING, Parts, SHOWN_HEAD, USAGE, desk_of,
+    difference, joined,
 };
 use test_fixtures::codec::{FLAT_PACKET, SKIPPED_PACKET};
 use y4m::Y4mFault;
