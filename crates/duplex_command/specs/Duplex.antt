@@ -92,7 +92,7 @@ shown_texts pictures x n reference shown =
 
 -- those of the newest play
 abbrev pub newest_texts : Role → Party → ℕ → Option ℕ → List (Shown Picture) → Role → List ℕ
-newest_texts pictures x n reference [] = no_texts
+newest_texts _ x n reference [] = no_texts
 newest_texts pictures x n reference (shown ∷ plays) = shown_texts pictures x n reference shown
 
 -- what is written where picture n of the party was played
