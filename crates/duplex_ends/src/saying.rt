@@ -9,7 +9,7 @@ ghost use Rattle.duplex_call.specs.Waiting.{Waits};
 ghost use Rattle.duplex_ends.specs.Bringing.{carried_in, message_in, said_as};
 
 use back_messages::{Message, MessageBytes, read, write};
-use coded_call::laws::said_bytes;
+use coded_call::laws as coded_call_laws;
 use duplex_call::{Carried, Carrier};
 use h263_types::Clock;
 
@@ -36,7 +36,7 @@ pub fn bytes_of(message: &Message, clock: Clock) -> MessageBytes
     requires { IsMessage clock message.now }
     ensures { text_of result ≡ written message.now }
 {
-    said_bytes();
+    coded_call_laws::said_bytes();
     let said = write(message);
     are_bytes(said.text());
     said
