@@ -14,6 +14,9 @@ returns-in-Err g c =
     report_failed (command_of (texts c.args.words.now)) (outside c.args.desk.now) (outside c.attach_role.new.desk) c.in-Err.status
     (failed.err ∙ c.requires) failed.rest.written failed.cause failed.kind
 
+pub command-requires-clause-names : goal.command-requires-clause-names
+command-requires-clause-names g c = c.names_are_given.ensures (texts c.args.words.now) (asked_of c.in-Ok.words) c.in-Ok.ensures.answer
+
 pub returns-in-Ok : goal.returns-in-Ok
 returns-in-Ok g c =
     let outside = g.D.Desk.outside in
