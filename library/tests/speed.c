@@ -1,5 +1,7 @@
 /* Times: speed IN.y4m PICTURES. The video is CIF; its frames go to and fro. Of the calls alone, so
  * the file is read before. */
+#define _POSIX_C_SOURCE 200809L
+
 #include "h263rps.h"
 
 #include <stdio.h>
