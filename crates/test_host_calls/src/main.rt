@@ -1,11 +1,15 @@
-//! A test of `demo` and `call` on the host's own files and standard output, one after the other: a
-//! call on made input, of which some pictures are lost; the call of `examples/` over its trace with
-//! a burst of losses; and one whose trace asks for a frame too many. What they report is stored, and
-//! the process ends with the status of the last. Where another ends with one that isn't 0, or
-//! memory runs out before, it ends with status 1.
+//! A test of `demo`, `call` and `duplex` on the host's own files and standard output, one after the
+//! other: a call on made input, of which some pictures are lost; the call of `examples/` over its
+//! trace with a burst of losses; that of two parties; and one whose trace asks for a frame too many.
+//! What they report is stored, and the process ends with the status of the last. Where another ends
+//! with one that isn't 0, or memory runs out before, it ends with status 1.
 #![tactic(auto)]
 
+ghost use Rattle.std.specs.Prelude.{[], ◌∷◌};
 ghost use Rattle.h263_outside.specs.Desk.{NoneAttached};
+ghost use Rattle.h263_outside.specs.declared.desk.Role.TheVariants.{Report};
+ghost use Rattle.h263_types.specs.Params.{IsParams};
+ghost use Rattle.desk_program.specs.Attached.{AreAttached};
 ghost use Rattle.command_words.specs.Asked.{IsCommand};
 ghost use Rattle.command_words.specs.View.{asked_of};
 
@@ -14,7 +18,9 @@ use call_report::Status;
 use command_words::{Command, Words};
 use demo_command::{Demo, DemoTerms};
 use desk_program::{attach_role, finish, perform};
+use duplex_command::Duplex;
 use h263_outside::{Desk, HostDesk, Role};
+use h263_types::Params;
 use std::alloc::Global;
 use std::io;
 use std::process::ExitCode;
@@ -33,9 +39,38 @@ static BURST: [&str; 9] = [
     "1200",
 ];
 
+static DUPLEX: [&str; 11] = [
+    "duplex",
+    "moving.y4m",
+    "moving.y4m",
+    "out.y4m",
+    "out2.y4m",
+    "--trace",
+    "duplex.trace",
+    "--quant",
+    "3",
+    "--limit",
+    "1200",
+];
+
 static REFUSED: [&str; 5] = ["call", "video.y4m", "out.y4m", "--trace", "no_frame.trace"];
 
-// Runs the words' command, where it is a call on made input or over a trace.
+// A call of two parties.
+fn run_duplex<D: Desk>(alloc: Global, words: &Words<'_>, params: &Params, desk: &mut D) -> Status
+    requires report { AreAttached ((Report, []) ∷ []) (D.outside desk.old) }
+    requires params { IsParams params.now }
+{
+    let order = [
+        (Role::Video, words.name(Role::Video).unwrap_or("")),
+        (Role::Video2, words.name(Role::Video2).unwrap_or("")),
+        (Role::Events, words.name(Role::Events).unwrap_or("")),
+        (Role::Pictures, words.name(Role::Pictures).unwrap_or("")),
+        (Role::Pictures2, words.name(Role::Pictures2).unwrap_or("")),
+    ];
+    perform::<D, Duplex>(alloc, params, &order, desk)
+}
+
+// Runs the words' command, where it is a call on made input, over a trace, or of two parties.
 fn run_command<D: Desk>(alloc: Global, words: &Words<'_>, desk: &mut D) -> Status
     requires none { NoneAttached (D.outside desk.old).attached }
     requires command { IsCommand (asked_of words.now).command }
@@ -71,6 +106,7 @@ fn run_command<D: Desk>(alloc: Global, words: &Words<'_>, desk: &mut D) -> Statu
             };
             perform::<D, Call>(alloc, &terms, &order, desk)
         }
+        Command::Duplex { params } => run_duplex(alloc, words, &params, desk),
         _ => finish(desk, Status::Usage),
     }
 }
@@ -89,8 +125,9 @@ fn run_words(rt: &HostRuntime, words: &[&str]) -> io::Result<u8> {
 fn run_all(rt: &HostRuntime) -> io::Result<u8> {
     let made = run_words(rt, MADE.as_slice())?;
     let burst = run_words(rt, BURST.as_slice())?;
+    let duplex = run_words(rt, DUPLEX.as_slice())?;
     let refused = run_words(rt, REFUSED.as_slice())?;
-    if made == 0 && burst == 0 {
+    if made == 0 && burst == 0 && duplex == 0 {
         Ok(refused)
     } else {
         Ok(1)
