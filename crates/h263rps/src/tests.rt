@@ -285,14 +285,14 @@ fn sent(alloc: Global, video: Parts, log: &[u8]) -> Result<Vec<u8>, OutOfMemory>
 }
 
 // Runs the words over a log.
-fn check_log(
+fn check_log<'x>(
     rt: &impl Abort,
     alloc: Global,
     words: &[&str],
-    log: &[u8],
-    pictures: Parts,
-    wire: Parts,
-    report: Parts,
+    log: &'x [u8],
+    pictures: Parts<'x>,
+    wire: Parts<'x>,
+    report: Parts<'x>,
 ) -> Result<(), OutOfMemory> {
     let case = Case {
         events: &[log],

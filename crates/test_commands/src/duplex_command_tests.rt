@@ -346,12 +346,12 @@ struct Before {
 }
 
 // Runs the call whose trace ends in the line of this number, cut after so many of its bytes.
-fn check_cut(
+fn check_cut<'x>(
     rt: &impl Abort,
     alloc: Global,
     line: u32,
-    cut: &[u8],
-    before: &Before,
+    cut: &'x [u8],
+    before: &'x Before,
 ) -> Result<(), OutOfMemory> {
     let params = Params::of(Format::Qcif);
     let fault = TraceFault::BadLine { line };

@@ -1,4 +1,4 @@
-//! Nothing to run: tests of files and words, and of the commands over a desk in memory.
+//! Nothing to run: tests of the commands over a desk in memory.
 #![tactic(auto)]
 
 #[cfg(test)]
@@ -6,22 +6,12 @@ mod audit_command_tests;
 #[cfg(test)]
 mod call_command_tests;
 #[cfg(test)]
-mod call_report_tests;
-#[cfg(test)]
-mod command_words_tests;
-#[cfg(test)]
 mod demo_command_tests;
 #[cfg(test)]
 mod duplex_command_tests;
-#[cfg(test)]
-mod event_logs_tests;
-#[cfg(test)]
-mod loss_trace_tests;
 #[cfg(test)]
 mod rate_command_tests;
 #[cfg(test)]
 mod recv_command_tests;
 #[cfg(test)]
 mod send_command_tests;
-#[cfg(test)]
-mod y4m_tests;

@@ -1,7 +1,7 @@
 use Rattle.std.proofs.Common.{◌≡◌, true}
 use Rattle.h263_outside.specs.Memory.{memory_outside}
 use Rattle.h263_outside.specs.declared.desk.Role.TheVariants.{Video}
-use Rattle.test_commands.proofs.y4m_tests.pass_frames.Given as goal
+use Rattle.test_files.proofs.y4m_tests.pass_frames.Given as goal
 
 abbrev pub invariant-frames : goal.invariant-frames
 invariant-frames g l = record {
