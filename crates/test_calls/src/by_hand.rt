@@ -1,15 +1,13 @@
 //! A call of two parties against two senders and two receivers that are joined by hand.
-ghost use Rattle.std.specs.Prelude.{◌≡◌, ◌≤◌, ◌+◌, length};
-ghost use Rattle.h263_types.specs.declared.clock.Clock.TheVariants.{Standard};
+ghost use Rattle.std.specs.Prelude.{◌≡◌, ◌≤◌, ◌+◌, IfSome, length};
 ghost use Rattle.h263_types.specs.declared.format.Format.TheVariants.{Qcif};
-ghost use Rattle.h263_types.specs.Params.{default_params};
-ghost use Rattle.picture_header.specs.Ranges.{AreMessages};
+ghost use Rattle.back_messages.specs.Text.{IsMessage};
 
 use crate::command::run;
 use crate::compare::{PIECE, ROOM};
 use crate::stop::Stop;
 use crate::video::{made_picture, made_video};
-use back_messages::Message;
+use back_messages::{Message, read};
 use call_report::Status;
 use command_words::Words;
 use h263_outside::{MemoryDesk, OutOfMemory, Role};
@@ -30,32 +28,18 @@ const TRACE: &[u8] = b"a S\na D 0.*\nb S\nb D 0.*\na S\na D 1.*\na P\na P\nb P\n
 const REPORT: &[u8] = b"a 0 exact intra\na 1 exact from 0\nb 0 exact intra\n\
 a played 2 sent 2 exact 2 patched 0 held 0\nb played 1 sent 1 exact 1 patched 0 held 0\n";
 
-// The ACK of picture 0, its bytes, and its entry in a log.
-const ACK_0: Message = Message::Ack { tr: 0, marks: None };
-
-const ACK_0_BYTES: &[u8] = b"\xC0\x04\x00";
+// The ACK of picture 0, and its entry in a log.
+const ACK_0: &[u8] = b"\xC0\x04\x00";
 
 const ACK_0_ENTRY: &[u8] = b"B\x00\x03\xC0\x04\x00";
 
 const PLAY: &[u8] = b"P\x00\x00";
 
-// Codes a frame with these messages in its header, and appends its packets to the log.
-fn code(
-    sender: &mut Sender<FixedPace>,
-    frame: &[u8],
-    back: &[Message],
-    log: &mut Vec<u8>,
-) -> Result<(), OutOfMemory>
-    requires params { sender.old.params ≡ default_params Qcif }
-    requires early { sender.old.sent ≤ 1 }
-    requires frame { length frame.now ≡ 38016 }
-    requires few { length back.now ≤ 4 }
-    requires back { AreMessages Standard back.now }
-    ensures params { sender.new.params ≡ sender.old.params }
-    ensures sent { sender.new.sent ≡ sender.old.sent + 1 }
+// Appends the packets of the picture that was coded last to the log.
+fn log_packets(sender: &Sender<FixedPace>, count: u32, log: &mut Vec<u8>) -> Result<(), OutOfMemory>
+    requires { count ≡ length sender.now.packets }
 {
-    let coded = sender.code(PictureRef::new(Format::Qcif, frame), back);
-    'packets: for place in 0..coded.packets {
+    'packets: for place in 0..count {
         let packet = sender.packet(place);
         log.push(b'K')?;
         log.extend_from_slice(&(packet.len() as u16).to_be_bytes())?;
@@ -64,31 +48,70 @@ fn code(
     Ok(())
 }
 
-// What a's receiver hears and plays, and what b's.
-fn code_a(alloc: Global, sender: &mut Sender<FixedPace>) -> Result<Vec<u8>, OutOfMemory>
-    requires params { sender.old.params ≡ default_params Qcif }
+// Codes a frame with this message in its header, if there is one, and appends its packets to the
+// log.
+fn code(
+    sender: &mut Sender<FixedPace>,
+    frame: &[u8],
+    message: Option<Message>,
+    log: &mut Vec<u8>,
+) -> Result<(), OutOfMemory>
+    requires format { sender.old.params.format ≡ Qcif }
+    requires early { sender.old.sent ≤ 1 }
+    requires message { IfSome message (IsMessage sender.old.params.clock) }
+    ensures params { sender.new.params ≡ sender.old.params }
+    ensures sent { sender.new.sent ≤ sender.old.sent + 1 }
+{
+    let format = Format::Qcif;
+    if frame.len() != format.size() as usize {
+        return Ok(());
+    }
+    let picture = PictureRef::new(format, frame);
+    match message {
+        Some(message) => {
+            let coded = sender.code(picture, &[message]);
+            log_packets(sender, coded.packets, log)
+        }
+        None => {
+            let coded = sender.code(picture, &[]);
+            log_packets(sender, coded.packets, log)
+        }
+    }
+}
+
+// What a's receiver hears and plays. The second picture carries the message.
+fn code_a(
+    alloc: Global,
+    sender: &mut Sender<FixedPace>,
+    message: Message,
+) -> Result<Vec<u8>, OutOfMemory>
+    requires format { sender.old.params.format ≡ Qcif }
     requires new { sender.old.sent ≡ 0 }
+    requires message { IsMessage sender.old.params.clock message }
 {
     let mut log = Vec::new(alloc);
-    let frames = [
-        made_picture(alloc, SEED_A, 0)?,
-        made_picture(alloc, SEED_A, 1)?,
-    ];
-    code(sender, &frames[0], &[], &mut log)?;
-    let _noted = sender.feedback(ACK_0_BYTES);
-    code(sender, &frames[1], &[ACK_0], &mut log)?;
+    code(sender, &made_picture(alloc, SEED_A, 0)?, None, &mut log)?;
+    let _noted = sender.feedback(ACK_0);
+    let frame = made_picture(alloc, SEED_A, 1)?;
+    code(sender, &frame, Some(message), &mut log)?;
     log.extend_from_slice(PLAY)?;
     log.extend_from_slice(PLAY)?;
     Ok(log)
 }
 
-fn code_b(alloc: Global, sender: &mut Sender<FixedPace>) -> Result<Vec<u8>, OutOfMemory>
-    requires params { sender.old.params ≡ default_params Qcif }
+// What b's receiver hears and plays. Its picture carries the message.
+fn code_b(
+    alloc: Global,
+    sender: &mut Sender<FixedPace>,
+    message: Message,
+) -> Result<Vec<u8>, OutOfMemory>
+    requires format { sender.old.params.format ≡ Qcif }
     requires new { sender.old.sent ≡ 0 }
+    requires message { IsMessage sender.old.params.clock message }
 {
     let mut log = Vec::new(alloc);
     let frame = made_picture(alloc, SEED_B, 0)?;
-    code(sender, &frame, &[ACK_0], &mut log)?;
+    code(sender, &frame, Some(message), &mut log)?;
     log.extend_from_slice(PLAY)?;
     Ok(log)
 }
@@ -96,14 +119,17 @@ fn code_b(alloc: Global, sender: &mut Sender<FixedPace>) -> Result<Vec<u8>, OutO
 // The log of what arrives of a's pictures, or of b's.
 fn log_of(alloc: Global, is_first: bool) -> Result<Vec<u8>, OutOfMemory> {
     let params = Params::of(Format::Qcif);
+    let Ok(message) = read(ACK_0, params.clock) else {
+        return Ok(Vec::new(alloc));
+    };
     let pace = FixedPace {
         quant: params.quant,
     };
     let mut sender = Sender::start(alloc, &params, pace)?;
     let log = if is_first {
-        code_a(alloc, &mut sender)
+        code_a(alloc, &mut sender, message)
     } else {
-        code_b(alloc, &mut sender)
+        code_b(alloc, &mut sender, message)
     };
     sender.finish();
     log

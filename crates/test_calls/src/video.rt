@@ -1,6 +1,4 @@
 //! Videos in Y4M, and the videos that are shown of them.
-ghost use Rattle.std.specs.Prelude.{◌≡◌, IfOk, length};
-
 use h263_outside::OutOfMemory;
 use h263_planes::PictureMut;
 use h263_types::Format;
@@ -75,9 +73,7 @@ pub fn shown_video(
 }
 
 /// Picture `number` of a seed, in QCIF.
-pub fn made_picture(alloc: Global, seed: u32, number: u32) -> Result<Vec<u8>, OutOfMemory>
-    ensures { IfOk result (λ bytes. length bytes.items ≡ 38016) }
-{
+pub fn made_picture(alloc: Global, seed: u32, number: u32) -> Result<Vec<u8>, OutOfMemory> {
     let mut bytes = vec![in alloc; 0; 38_016]?;
     let mut picture = PictureMut::new(Format::Qcif, bytes.as_mut_slice());
     frame(Format::Qcif, seed, number, &mut picture);
