@@ -9,8 +9,8 @@ use loss_trace::TraceFault;
 use std::process::Abort;
 use std::test::Fail;
 use test_desks::{
-    BLANK, Case, Differs, EXACT, FRAME, HEAD, HELD, NOTHING, Parts, SHOWN_HEAD, USAGE, desk_of,
-    difference, joined,
+    BLANK, Case, Differs, EXACT, FRAME, HEAD, HELD, NEVER, NOTHING, Parts, SHOWN_HEAD, USAGE,
+    desk_of, difference, joined,
 };
 use test_fixtures::codec::{FLAT_PACKET, SKIPPED_PACKET};
 use y4m::Y4mFault;
@@ -285,21 +285,25 @@ fn sent(alloc: Global, video: Parts, log: &[u8]) -> Result<Vec<u8>, OutOfMemory>
 }
 
 // Runs the words over a log.
-fn check_log<'x>(
+fn check_log(
     rt: &impl Abort,
     alloc: Global,
     words: &[&str],
-    log: &'x [u8],
-    pictures: Parts<'x>,
-    wire: Parts<'x>,
-    report: Parts<'x>,
+    log: &[u8],
+    pictures: Parts,
+    wire: Parts,
+    report: Parts,
 ) -> Result<(), OutOfMemory> {
     let case = Case {
+        video: NOTHING,
+        video2: NOTHING,
         events: &[log],
+        failing: NEVER,
+        ends: Status::Ok,
         pictures,
+        pictures2: NOTHING,
         wire,
         report,
-        ..BLANK
     };
     check(rt, alloc, words, 4096, &case)
 }

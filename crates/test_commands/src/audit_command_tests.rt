@@ -10,7 +10,7 @@ use h263_types::{Clock, Format, Params};
 use std::alloc::Global;
 use std::process::Abort;
 use std::test::Fail;
-use test_desks::{BLANK, Case, NEVER, NOTHING, Parts, run};
+use test_desks::{Case, NEVER, NOTHING, Parts, run};
 use test_fixtures::codec::{FLAT_PACKET, LATER_PACKET, SKIPPED_PACKET};
 
 // Picture 0 of sub-QCIF, the last macroblocks of another picture 0, and picture 1, which refers to
@@ -57,7 +57,9 @@ fn check_audits(
             ends: *ends,
             pictures: NOTHING,
             report: &[*report],
-            ..BLANK
+            video2: NOTHING,
+            pictures2: NOTHING,
+            wire: NOTHING,
         };
         let found = run::<Audit>(alloc, params, order, piece, &case)?;
         assert_eq!(rt; found, None, "where call {failing} fails");

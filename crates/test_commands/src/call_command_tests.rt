@@ -81,7 +81,9 @@ fn check_plain(
             ends: *ends,
             pictures,
             report: &[*report],
-            ..BLANK
+            video2: NOTHING,
+            pictures2: NOTHING,
+            wire: NOTHING,
         };
         let found = differs(alloc, params, true, piece, &case)?;
         assert_eq!(rt; found, None, "where {ends:?}");
@@ -184,7 +186,9 @@ fn check_traced(rt: &impl Abort, alloc: Global, table: &[Traced]) -> Result<(), 
             ends: *ends,
             pictures,
             report: &[*report],
-            ..BLANK
+            video2: NOTHING,
+            pictures2: NOTHING,
+            wire: NOTHING,
         };
         for piece in [1, 4096] {
             let found = differs(alloc, &params, false, piece, &case)?;

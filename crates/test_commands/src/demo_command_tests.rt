@@ -9,7 +9,7 @@ use h263_types::{Clock, Format, Params};
 use std::alloc::Global;
 use std::process::Abort;
 use std::test::Fail;
-use test_desks::{BLANK, Case, NEVER, NOTHING, run};
+use test_desks::{Case, NEVER, NOTHING, run};
 
 // Compares the report of a call: no other line is written, and no picture.
 fn check_demo(
@@ -28,7 +28,9 @@ fn check_demo(
         ends: Status::Ok,
         pictures: NOTHING,
         report: &[report.as_bytes()],
-        ..BLANK
+        video2: NOTHING,
+        pictures2: NOTHING,
+        wire: NOTHING,
     };
     assert_eq!(rt; run::<Demo>(alloc, terms, &[], 4096, &case)?, None);
     Ok(())

@@ -10,7 +10,9 @@ use loss_trace::TraceFault;
 use std::alloc::Global;
 use std::process::Abort;
 use std::test::Fail;
-use test_desks::{BLANK, Case, EXACT, FRAME, HEAD, HELD, NOTHING, Parts, SHOWN_HEAD, joined, run};
+use test_desks::{
+    BLANK, Case, EXACT, FRAME, HEAD, HELD, NEVER, NOTHING, Parts, SHOWN_HEAD, joined, run,
+};
 use y4m::Y4mFault;
 
 // Bytes of a plane of luma, and of pictures flat 100, 64 and 128.
@@ -346,30 +348,36 @@ struct Before {
 }
 
 // Runs the call whose trace ends in the line of this number, cut after so many of its bytes.
-fn check_cut<'x>(
+fn check_cut(
     rt: &impl Abort,
     alloc: Global,
     line: u32,
-    cut: &'x [u8],
-    before: &'x Before,
+    cut: &[u8],
+    before: &Before,
 ) -> Result<(), OutOfMemory> {
     let params = Params::of(Format::Qcif);
-    let fault = TraceFault::BadLine { line };
-    let refused = format!(in alloc; "trace refused: bad line at line {line}\n")?;
-    let (ends, last) = if cut.is_empty() {
-        (Status::Ok, before.counts)
+    let mut trace = before.trace.clone()?;
+    trace.extend_from_slice(cut)?;
+    let mut report = before.report.clone()?;
+    let mut ends = Status::Ok;
+    if cut.is_empty() {
+        report.extend_from_slice(before.counts)?;
     } else {
-        (Status::TraceRefused { fault }, refused.as_bytes())
-    };
+        let last = format!(in alloc; "trace refused: bad line at line {line}\n")?;
+        report.extend_from_slice(last.as_bytes())?;
+        let fault = TraceFault::BadLine { line };
+        ends = Status::TraceRefused { fault };
+    }
     let case = Case {
         video: ONE,
         video2: ONE,
-        events: &[&before.trace, cut],
+        events: &[&trace],
+        failing: NEVER,
         ends,
         pictures: &[&before.pictures],
         pictures2: &[&before.pictures2],
-        report: &[&before.report, last],
-        ..BLANK
+        wire: NOTHING,
+        report: &[&report],
     };
     check(rt, alloc, &params, 4096, &case)
 }

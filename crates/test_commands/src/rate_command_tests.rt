@@ -8,7 +8,7 @@ use rate_command::{Bucket, Rate};
 use std::alloc::Global;
 use std::process::Abort;
 use std::test::Fail;
-use test_desks::{BLANK, Case, NEVER, NOTHING, Parts, run};
+use test_desks::{Case, NEVER, NOTHING, Parts, run};
 
 // The heads of the entries of 342 and of 31 bytes, and of a play.
 const OF_342: &[u8] = b"K\x01\x56";
@@ -61,7 +61,9 @@ fn check_rates(
             ends: *ends,
             pictures: NOTHING,
             report: &[*report],
-            ..BLANK
+            video2: NOTHING,
+            pictures2: NOTHING,
+            wire: NOTHING,
         };
         let found = run::<Rate>(alloc, &bucket, order, piece, &case)?;
         assert_eq!(rt; found, None, "where call {failing} fails");

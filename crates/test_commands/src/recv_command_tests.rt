@@ -10,7 +10,7 @@ use recv_command::{Join, Recv};
 use std::alloc::Global;
 use std::process::Abort;
 use std::test::Fail;
-use test_desks::{BLANK, Case, EXACT, HELD, NEVER, NOTHING, Parts, SHOWN_HEAD, run};
+use test_desks::{Case, EXACT, HELD, NEVER, NOTHING, Parts, SHOWN_HEAD, run};
 use test_fixtures::codec::FLAT_PACKET;
 
 // The packet of picture 0, flat 100, of sub-QCIF.
@@ -64,7 +64,9 @@ fn check_receivers(
             pictures,
             wire: &[*wire],
             report: &[*report],
-            ..BLANK
+            video: NOTHING,
+            video2: NOTHING,
+            pictures2: NOTHING,
         };
         let found = if join {
             run::<Join>(alloc, params, order, piece, &case)?

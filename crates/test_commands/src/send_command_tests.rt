@@ -93,7 +93,9 @@ fn check_senders(
             ends: *ends,
             wire,
             report: &[*report],
-            ..BLANK
+            video2: NOTHING,
+            pictures: NOTHING,
+            pictures2: NOTHING,
         };
         let found = differs(alloc, piece, target, &case)?;
         assert_eq!(rt; found, None, "where {ends:?}");
