@@ -24,7 +24,7 @@ FORMATS = {"sub-qcif": 1, "qcif": 2, "cif": 3}
 CLOCKS = {"standard": 0, "custom": 1}
 HEARD = ("taken", "completed", "late", "early", "repeat", "refused")
 MARKS = ("exact", "patched", "held")
-NOTED = ("noted", "old", "refused")
+NOTED = ("noted", "old", "no message")
 STATUS = (
     "ok", "not started", "started", "other end", "bad params", "no memory", "ended",
     "wrong length", "bad messages", "no packet", "short room",
@@ -62,10 +62,16 @@ class Params(ctypes.Structure):
         params = cls()
         _must("defaults", _library().h263rps_raw_defaults(FORMATS[format], ctypes.byref(params)))
         for name, value in changed.items():
-            if name not in PARAMS:
-                raise TypeError(f"there is no parameter {name}")
             setattr(params, name, value)
         return params
+
+    def __setattr__(self, name: str, value: int) -> None:
+        # ctypes would take any name, and cut a number to its field: a quant of 264 to 8.
+        if name not in PARAMS:
+            raise TypeError(f"there is no parameter {name}")
+        if dict(self._fields_)[name](value).value != value:
+            raise ValueError(f"{name}: {value} is out of its range")
+        super().__setattr__(name, value)
 
 
 class _Message(ctypes.Structure):

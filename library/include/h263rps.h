@@ -173,8 +173,8 @@ enum h263rps_message_fault {
 /* ---- structs ------------------------------------------------------------------------------- */
 
 /* An end of a call. All zeros before its start and after its finish: `h263rps_end e = {0};`. It is
- * written by these functions alone, and never copied: of two copies the second one that is used
- * uses memory that was freed. One that isn't finished leaks. */
+ * written by these functions alone, and never copied: once one copy is finished, the other leads to
+ * freed memory. One that isn't finished leaks. */
 typedef struct h263rps_end {
     uint32_t kind; /* 0 where it is empty */
     void *at;

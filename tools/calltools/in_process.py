@@ -142,7 +142,8 @@ class SendInProcess(InProcess):
             self._captures += 1
             self._code()
         else:
-            self._counts[self._end.feedback(body).kind] += 1
+            noted = self._end.feedback(body).kind
+            self._counts["refused" if noted == "no message" else noted] += 1
 
     def _code(self) -> None:
         if not self._captures or not self._frames or self.is_over:
