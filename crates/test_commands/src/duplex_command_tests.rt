@@ -399,7 +399,7 @@ b played 0 sent 0 exact 0 patched 0 held 0\n",
         for cut in 0..line.len() - 1 {
             check_cut(&rt, alloc, number, &line[..cut], &before)?;
         }
-        number += 1;
+        number = number.wrapping_add(1);
         before.trace.extend_from_slice(line)?;
         before
             .pictures
