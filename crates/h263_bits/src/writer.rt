@@ -35,8 +35,9 @@ fn put_part(bytes: &mut [u8], at: u32, part: u32, count: u32)
     bytes[k] = with_part(bytes[k], at % 8, part, count);
 }
 
-// Writes the n bits of a number after the first `at` bits.
-fn put_bits(bytes: &mut [u8], at: u32, value: u32, n: u32)
+// Writes the n bits of a number after the first `at` bits, part by part, each within a byte.
+#[inline(never)]
+fn put_parts(bytes: &mut [u8], at: u32, value: u32, n: u32)
     requires few { n ≤ 32 }
     requires fits { value < 2 ^ n }
     requires room { at + n ≤ 8 * length bytes.old }
@@ -50,6 +51,48 @@ fn put_bits(bytes: &mut [u8], at: u32, value: u32, n: u32)
         let part = (value >> (left - count)) % (1 << count);
         put_part(bytes, place, part, count);
         left -= count;
+    }
+}
+
+// The first `used` bits of a byte, then the n bits of a number, then zeros.
+#[inline(always)]
+fn word_of(old: u8, used: u32, value: u32, n: u32) -> u64
+    requires used { used < 8 }
+    requires few { n ≤ 32 }
+    requires fits { value < 2 ^ n }
+    ensures { take (used + n) (spelled 64 result) ≡ take used (spelled 8 old) ++ spelled n value }
+{
+    let kept = (old as u64 >> (8 - used)) << n;
+    ((kept + value as u64) << (32 - n)) << (32 - used)
+}
+
+// Writes the n bits of a number after the first `at` bits, in one store of eight bytes: at most 39
+// of its 64 bits are wanted, and it clears those after them.
+#[inline(always)]
+fn put_word(bytes: &mut [u8], at: u32, value: u32, n: u32)
+    requires few { n ≤ 32 }
+    requires fits { value < 2 ^ n }
+    requires room { at / 8 + 8 ≤ length bytes.old }
+    ensures { take (at + n) (bits_of bytes.new) ≡ take at (bits_of bytes.old) ++ spelled n value }
+{
+    let k = (at / 8) as usize;
+    let word = word_of(bytes[k], at % 8, value, n);
+    bytes[k..k + 8].copy_from_slice(&word.to_be_bytes());
+}
+
+// Writes the n bits of a number after the first `at` bits.
+#[inline(always)]
+fn put_bits(bytes: &mut [u8], at: u32, value: u32, n: u32)
+    requires few { n ≤ 32 }
+    requires fits { value < 2 ^ n }
+    requires room { at + n ≤ 8 * length bytes.old }
+    requires short { length bytes.old ≤ 65535 }
+    ensures { take (at + n) (bits_of bytes.new) ≡ take at (bits_of bytes.old) ++ spelled n value }
+{
+    if (at / 8) as usize + 8 <= bytes.len() {
+        put_word(bytes, at, value, n);
+    } else {
+        put_parts(bytes, at, value, n);
     }
 }
 
