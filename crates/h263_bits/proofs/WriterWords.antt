@@ -8,7 +8,7 @@ use Rattle.std.proofs.Math.Nat.{pow-suc}
 use Rattle.std.proofs.lemmas.Nat.{pow-add, pow_pos, shl-shr, shl_below, shl_whole, shr_below, shr_split, mul-add-lt}
 use Rattle.std.proofs.lemmas.List.{length-take, take-append-drop}
 use Rattle.h263_bits.specs.Bits.{spelled, bits_of}
-use Rattle.h263_bits.proofs.BitLists.{spelled-low, spelled-append, length-bits_of}
+use Rattle.h263_bits.proofs.BitLists.{spelled-low, spelled-append}
 use Rattle.h263_bits.proofs.WriterLemmas.{take-bits_of, take-bits_of-part, take-spelled}
 
 -- ---- the bits of the bytes of a number

@@ -1,5 +1,4 @@
-use Rattle.std.proofs.Common.{◌≡◌, ◌∙◌, ap, arith}
-use Rattle.std.specs.Int.{bytes_high_first}
+use Rattle.std.proofs.Common.{◌∙◌}
 use Rattle.h263_bits.proofs.WriterWords.{word_takes}
 use Rattle.h263_bits.proofs.writer.put_word.Goals as goal
 
