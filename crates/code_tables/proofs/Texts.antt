@@ -1,10 +1,8 @@
 -- The words as the code has them are the texts of the standard.
-use Rattle.std.proofs.lemmas.Int.{ints}
 use Rattle.std.proofs.lemmas.List.{get_or-map}
-use Rattle.code_tables.specs.Tables.{cbpy_texts, magnitude_texts, sign_text}
-use Rattle.std.proofs.lemmas.Bool.{ne_eqb}
-use Rattle.std.proofs.Common.{eqb, false, ◌≡◌, ◌⊎◌, ℕ, zero, suc, ◌+◌, ◌<◌, Bool, refl, ap, sym, ◌∙◌, subst, arith, inl, inr, List, [], length, get_or}
-use Rattle.std.specs.Prelude.{ℤ, pos, negsuc, slice_index_or, map, ◌<ℤ◌}
+use Rattle.code_tables.specs.Tables.{cbpy_texts, magnitude_texts}
+use Rattle.std.proofs.Common.{◌≡◌, ◌⊎◌, ℕ, zero, suc, ◌+◌, ◌<◌, Bool, refl, ap, sym, ◌∙◌, subst, arith, inl, inr, List, [], length, get_or}
+use Rattle.std.specs.Prelude.{ℤ, pos, negsuc, slice_index_or, map}
 use Rattle.h263_types.specs.declared.Kind.TheVariants as kinds
 use Rattle.h263_bits.specs.Bits.{spelled}
 use Rattle.code_tables.specs.declared.code.Code.{Code}
@@ -91,14 +89,3 @@ pattern_text n lt = place_text CBPY cbpy_texts n cbpy_same lt
 
 pub magnitude_text : (n : ℕ) → n < 33 → word_of (code_at MAGNITUDES n) ≡ text_at magnitude_texts n
 magnitude_text n lt = place_text MAGNITUDES magnitude_texts n magnitudes_same lt
-
-pub minus_text : (z : ℤ) → z <ℤ pos 0 → sign_text z ≡ spelled 1 1
-unfolding spelled
-minus_text (pos n) below = absurd (omega (arith, ints))
-minus_text (negsuc n) below = refl
-
-pub plus_text : (z : ℤ) → pos 0 <ℤ z → sign_text z ≡ spelled 1 0
-unfolding spelled
-plus_text (pos zero) above = absurd (omega (arith, ints))
-plus_text (pos (suc n)) above = let some : eqb (suc n) 0 ≡ false = ne_eqb (suc n) 0 (λ (e : suc n ≡ 0). omega (arith, e)) in rw some refl
-plus_text (negsuc n) above = absurd (omega (arith, ints))

@@ -11,7 +11,7 @@ ghost use Rattle.code_tables.specs.EventWords.{IsEventFault};
 ghost use Rattle.code_tables.specs.Tables.{cbpy, cbpy_texts, cbpy_text, magnitude_texts, size_of, sign_text, mvd_text, cbpy_words, magnitude_words, tcoef_words, mvd, mvd_words, Coefficient as Event, signed, level_of, mvd_parts, event, event_parts, byte_of, escape_fields, event_text, IsEvent};
 ghost use Rattle.code_tables.specs.Events.{event_of_code, coefficient_of};
 
-use crate::code::{Coefficient, Level, read_code, write_code};
+use crate::code::{Coefficient, Level, read_code, write_code, write_signed_code};
 use crate::event_tables::{EVENTS, EVENTS_FAST, LAST_0_STARTS, LAST_1_STARTS, LEVELS};
 use crate::tables::{CBPY, CBPY_FAST, MAGNITUDES, MAGNITUDES_FAST};
 use h263_bits::{BitReader, BitWriter, Fault, FaultKind};
@@ -201,15 +201,6 @@ pub fn write_cbpy(writer: &mut BitWriter<'_>, intra: bool, cbpy: u8)
     }
 }
 
-fn write_magnitude(writer: &mut BitWriter<'_>, size: usize)
-    requires size { size < 33 }
-    requires room { len_of writer.old + length (text_at magnitude_texts size) ≤ room_of writer.old }
-    ensures bits { Appends writer.old writer.new (text_at magnitude_texts size) }
-    ensures len { len_of writer.new ≡ len_of writer.old + length (text_at magnitude_texts size) }
-{
-    write_code(writer, &MAGNITUDES, size);
-}
-
 // The size of a number.
 fn size(value: i8) -> usize
     ensures { result ≡ size_of value }
@@ -221,19 +212,6 @@ fn size(value: i8) -> usize
     }
 }
 
-// The sign after a size: none at 0, 1 for minus.
-fn write_sign(writer: &mut BitWriter<'_>, value: i8)
-    requires room { len_of writer.old + length (sign_text value) ≤ room_of writer.old }
-    ensures bits { Appends writer.old writer.new (sign_text value) }
-    ensures len { len_of writer.new ≡ len_of writer.old + length (sign_text value) }
-{
-    if value < 0 {
-        writer.put(1, 1);
-    } else if value > 0 {
-        writer.put(0, 1);
-    }
-}
-
 /// Writes MVD, a difference of vectors in half samples, -32 to 31.
 pub fn write_mvd(writer: &mut BitWriter<'_>, value: i8)
     requires low { negsuc 31 ≤ℤ value }
@@ -242,8 +220,12 @@ pub fn write_mvd(writer: &mut BitWriter<'_>, value: i8)
     ensures bits { Appends writer.old writer.new (mvd_text value) }
     ensures len { len_of writer.new ≡ len_of writer.old + length (mvd_text value) }
 {
-    write_magnitude(writer, size(value));
-    write_sign(writer, value);
+    let size = size(value);
+    if size == 0 {
+        write_code(writer, &MAGNITUDES, size);
+    } else {
+        write_signed_code(writer, &MAGNITUDES, size, value < 0);
+    }
 }
 
 // The place of a size from 1 on in a row of a table.
@@ -274,20 +256,6 @@ fn triple_place(last: bool, run: usize, size: usize) -> Option<usize>
     } else {
         row_place(&LAST_0_STARTS, run, size)
     }
-}
-
-// Writes a word of an event and its sign.
-fn write_level(writer: &mut BitWriter<'_>, place: usize, level: i8)
-    requires place { place < 103 }
-    requires room { len_of writer.old + length (word_of (code_at EVENTS place) ++ sign_text level)
-        ≤ room_of writer.old }
-    ensures bits { Appends writer.old writer.new
-        (word_of (code_at EVENTS place) ++ sign_text level) }
-    ensures len { len_of writer.new
-        ≡ len_of writer.old + length (word_of (code_at EVENTS place) ++ sign_text level) }
-{
-    write_code(writer, &EVENTS, place);
-    write_sign(writer, level);
 }
 
 // LEVEL in two's complement.
@@ -325,7 +293,7 @@ pub fn write_event(writer: &mut BitWriter<'_>, event: &Coefficient)
         ≡ len_of writer.old + length (event_text (coefficient_of event.now)) }
 {
     match triple_place(event.last, event.run as usize, size(event.level)) {
-        Some(place) => write_level(writer, place, event.level),
+        Some(place) => write_signed_code(writer, &EVENTS, place, event.level < 0),
         None => write_escape(writer, event),
     }
 }

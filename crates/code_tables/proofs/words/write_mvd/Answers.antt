@@ -1,47 +1,62 @@
-use Rattle.std.proofs.Common.{◌≡◌, ◌+◌, ◌≤◌, ◌++◌, length, length-append, subst, ap, ◌∙◌, w8, arith, ℕ}
-use Rattle.std.specs.Prelude.{ℤ}
+use Rattle.std.proofs.Common.{◌≡◌, ◌<◌, ◌+◌, ◌≤◌, ◌++◌, ◌∷◌, [], Bool, List, length, length-append, subst, sym, ap, ◌∙◌, w8, arith}
+use Rattle.std.specs.Prelude.{ℤ, pos, int_lt}
 use Rattle.std.proofs.lemmas.Int.{to_z-of_z}
 use Rattle.h263_bits.specs.Written.{Appends, len_of, room_of}
-use Rattle.code_tables.specs.Words.{text_at}
-use Rattle.code_tables.specs.Tables.{magnitude_texts, size_of, sign_text, mvd_text}
-use Rattle.h263_bits.proofs.SyntaxLaws.{appends_both}
+use Rattle.code_tables.specs.declared.tables.TheConstants.{MAGNITUDES}
+use Rattle.code_tables.specs.Words.{code_at, word_of}
+use Rattle.code_tables.specs.Tables.{size_of, mvd_text}
+use Rattle.code_tables.proofs.SignedTexts.{no_difference, signed_difference, size_below}
 use Rattle.code_tables.proofs.words.write_mvd.Goals as goal
 
-pub write_magnitude-requires-clause-room : goal.write_magnitude-requires-clause-room
-unfolding mvd_text
-write_magnitude-requires-clause-room c =
+pub write_code-requires-clause-room : goal.write_code-requires-clause-room
+write_code-requires-clause-room c =
     let v = c.args.value in
-    let same : c.size.result ≡ size_of v = c.size.ensures ∙ ap size_of (to_z-of_z w8 v c.ranges.value) in
-    let room : len_of c.args.writer.now + length (text_at magnitude_texts (size_of v) ++ sign_text v) ≤ room_of c.args.writer.now = c.requires.room in
-    let parts : length (text_at magnitude_texts (size_of v) ++ sign_text v) ≡ length (text_at magnitude_texts (size_of v)) + length (sign_text v) = length-append _ _ in
-    rw same (omega (arith, room, parts))
+    let none : c.size-size.result ≡ 0 = omega (arith, c.if-size-eq0.true) in
+    let text = no_difference v c.size-size.result (c.size-size.ensures ∙ ap size_of (to_z-of_z w8 v c.ranges.value)) none in
+    subst (λ (t : List Bool). len_of c.args.writer.now + length t ≤ room_of c.args.writer.now) (sym text) c.requires.room
 
-pub write_sign-requires : goal.write_sign-requires
-unfolding mvd_text
-write_sign-requires c =
+pub write_signed_code-requires-clause-room : goal.write_signed_code-requires-clause-room
+write_signed_code-requires-clause-room c =
     let v = c.args.value in
-    let same : c.size.result ≡ size_of v = c.size.ensures ∙ ap size_of (to_z-of_z w8 v c.ranges.value) in
-    let room : len_of c.args.writer.now + length (text_at magnitude_texts (size_of v) ++ sign_text v) ≤ room_of c.args.writer.now = c.requires.room in
-    let parts : length (text_at magnitude_texts (size_of v) ++ sign_text v) ≡ length (text_at magnitude_texts (size_of v)) + length (sign_text v) = length-append _ _ in
-    let now : len_of c.write_magnitude.new.writer ≡ len_of c.args.writer.now + length (text_at magnitude_texts (size_of v)) = c.write_magnitude.ensures.len ∙ ap (λ (n : ℕ). len_of c.args.writer.now + length (text_at magnitude_texts n)) same in
-    let same_room : room_of c.write_magnitude.new.writer ≡ room_of c.args.writer.now = c.write_magnitude.ensures.bits.room in
-    record { room = rw (to_z-of_z w8 v c.ranges.value) (omega (arith, room, parts, now, same_room)) }
+    let n = c.size-size.result in
+    let same : n ≡ size_of v = c.size-size.ensures ∙ ap size_of (to_z-of_z w8 v c.ranges.value) in
+    let some : 0 < n = omega (arith, c.if-size-eq0.false) in
+    let text = signed_difference v n same some (omega (arith, same, size_below v c.requires.low c.requires.high)) in
+    let long : length (mvd_text v) ≡ length (word_of (code_at MAGNITUDES n)) + 1 = ap length (sym text) ∙ length-append _ _ in
+    omega (arith, c.requires.room, long)
 
-pub returns-clause-bits : goal.returns-clause-bits
-unfolding mvd_text
-returns-clause-bits c =
+pub returns-then-size-eq0-clause-bits : goal.returns-then-size-eq0-clause-bits
+returns-then-size-eq0-clause-bits c =
     let v = c.args.value in
-    let same : c.size.result ≡ size_of v = c.size.ensures ∙ ap size_of (to_z-of_z w8 v c.ranges.value) in
-    let first : Appends c.args.writer.now c.write_magnitude.new.writer (text_at magnitude_texts (size_of v)) = subst (λ (n : ℕ). Appends c.args.writer.now c.write_magnitude.new.writer (text_at magnitude_texts n)) same c.write_magnitude.ensures.bits in
-    let second : Appends c.write_magnitude.new.writer c.write_sign.new.writer (sign_text v) = subst (λ (z : ℤ). Appends c.write_magnitude.new.writer c.write_sign.new.writer (sign_text z)) (to_z-of_z w8 v c.ranges.value) c.write_sign.ensures.bits in
-    appends_both _ _ _ _ _ first second
+    let none : c.size-size.result ≡ 0 = omega (arith, c.if-size-eq0.true) in
+    let text = no_difference v c.size-size.result (c.size-size.ensures ∙ ap size_of (to_z-of_z w8 v c.ranges.value)) none in
+    subst (λ (t : List Bool). Appends c.args.writer.now c.write_code.new.writer t) text c.write_code.ensures.bits
 
-pub returns-clause-len : goal.returns-clause-len
-unfolding mvd_text
-returns-clause-len c =
+pub returns-then-size-eq0-clause-len : goal.returns-then-size-eq0-clause-len
+returns-then-size-eq0-clause-len c =
     let v = c.args.value in
-    let same : c.size.result ≡ size_of v = c.size.ensures ∙ ap size_of (to_z-of_z w8 v c.ranges.value) in
-    let parts : length (text_at magnitude_texts (size_of v) ++ sign_text v) ≡ length (text_at magnitude_texts (size_of v)) + length (sign_text v) = length-append _ _ in
-    let now : len_of c.write_magnitude.new.writer ≡ len_of c.args.writer.now + length (text_at magnitude_texts (size_of v)) = c.write_magnitude.ensures.len ∙ ap (λ (n : ℕ). len_of c.args.writer.now + length (text_at magnitude_texts n)) same in
-    let after : len_of c.write_sign.new.writer ≡ len_of c.write_magnitude.new.writer + length (sign_text v) = c.write_sign.ensures.len ∙ ap (λ (z : ℤ). len_of c.write_magnitude.new.writer + length (sign_text z)) (to_z-of_z w8 v c.ranges.value) in
-    omega (arith, parts, now, after)
+    let none : c.size-size.result ≡ 0 = omega (arith, c.if-size-eq0.true) in
+    let text = no_difference v c.size-size.result (c.size-size.ensures ∙ ap size_of (to_z-of_z w8 v c.ranges.value)) none in
+    subst (λ (t : List Bool). len_of c.write_code.new.writer ≡ len_of c.args.writer.now + length t) text c.write_code.ensures.len
+
+pub returns-else-size-eq0-clause-bits : goal.returns-else-size-eq0-clause-bits
+returns-else-size-eq0-clause-bits c =
+    let v = c.args.value in
+    let n = c.size-size.result in
+    let back = to_z-of_z w8 v c.ranges.value in
+    let same : n ≡ size_of v = c.size-size.ensures ∙ ap size_of back in
+    let some : 0 < n = omega (arith, c.if-size-eq0.false) in
+    let text = signed_difference v n same some (omega (arith, same, size_below v c.requires.low c.requires.high)) in
+    let bits : Appends c.args.writer.now c.write_signed_code.new.writer (word_of (code_at MAGNITUDES n) ++ int_lt v (pos 0) ∷ []) =
+    subst (λ (z : ℤ). Appends c.args.writer.now c.write_signed_code.new.writer (word_of (code_at MAGNITUDES n) ++ int_lt z (pos 0) ∷ [])) back c.write_signed_code.ensures.bits in
+    subst (λ (t : List Bool). Appends c.args.writer.now c.write_signed_code.new.writer t) text bits
+
+pub returns-else-size-eq0-clause-len : goal.returns-else-size-eq0-clause-len
+returns-else-size-eq0-clause-len c =
+    let v = c.args.value in
+    let n = c.size-size.result in
+    let same : n ≡ size_of v = c.size-size.ensures ∙ ap size_of (to_z-of_z w8 v c.ranges.value) in
+    let some : 0 < n = omega (arith, c.if-size-eq0.false) in
+    let text = signed_difference v n same some (omega (arith, same, size_below v c.requires.low c.requires.high)) in
+    let long : length (mvd_text v) ≡ length (word_of (code_at MAGNITUDES n)) + 1 = ap length (sym text) ∙ length-append _ _ in
+    omega (arith, c.write_signed_code.ensures.len, long)
