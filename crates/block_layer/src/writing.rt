@@ -1,8 +1,9 @@
 //! Writes blocks.
-ghost use Rattle.std.specs.Prelude.{◌≡◌, ℕ, ◌+◌, ◌<◌, ◌≤◌, ◌++◌, List, Bool, [], length, slice_index_or, pos, negsuc, ◌≤ℤ◌, true, false, if◌then◌else◌, not, ◌==◌};
+ghost use Rattle.std.specs.Prelude.{◌≡◌, ℕ, ◌+◌, ◌<◌, ◌≤◌, ◌++◌, List, Bool, ℤ, [], length, slice_index_or, pos, negsuc, ◌≤ℤ◌, true, false, if◌then◌else◌, not, ◌==◌};
 ghost use Rattle.h263_bits.specs.Bits.{spelled};
 ghost use Rattle.h263_bits.specs.Written.{Appends, len_of, room_of};
 ghost use Rattle.h263_types.specs.Blocks.{IsIntraBlock, IsInterBlock};
+ghost use Rattle.h263_types.specs.Marks.{marks_of};
 ghost use Rattle.code_tables.specs.Events.{coefficient_of};
 ghost use Rattle.code_tables.specs.Tables.{size_of};
 ghost use Rattle.block_layer.specs.Text.{none_left, events_of, events_text, dc_code, is_coded, levels_text, coded_text, intra_text, inter_text, IsIntraText, IsInterText};
@@ -30,7 +31,7 @@ pub fn is_intra_coded(block: &Block) -> bool
     ensures coded { result ≡ is_coded block.now.levels }
     ensures whole { length block.now.levels ≡ 64 }
 {
-    block.marks() >> 1 != 0
+    is_intra_coded_by(block.marks())
 }
 
 /// Whether a block of an inter macroblock is coded: a level isn't 0.
@@ -38,21 +39,38 @@ pub fn is_inter_coded(block: &Block) -> bool
     ensures coded { result ≡ not (none_left block.now.levels) }
     ensures whole { length block.now.levels ≡ 64 }
 {
-    block.marks() != 0
+    is_inter_coded_by(block.marks())
+}
+
+/// Whether a block of an intra macroblock is coded, by its marks.
+#[inline(always)]
+pub fn is_intra_coded_by(marks: u64) -> bool
+    ensures { (levels : List ℤ) → marks ≡ marks_of levels → result ≡ is_coded levels }
+{
+    marks >> 1 != 0
+}
+
+/// Whether a block of an inter macroblock is coded, by its marks.
+#[inline(always)]
+pub fn is_inter_coded_by(marks: u64) -> bool
+    ensures { (levels : List ℤ) → marks ≡ marks_of levels → result ≡ not (none_left levels) }
+{
+    marks != 0
 }
 
 // Writes the events of the levels from a place on: one for each that isn't 0.
-fn write_levels(writer: &mut BitWriter<'_>, block: &Block, from: usize)
+fn write_levels(writer: &mut BitWriter<'_>, block: &Block, marks: u64, from: usize)
     requires from { from < 64 }
     requires levels { AreWritten from block.now.levels }
+    requires marks { marks ≡ marks_of block.now.levels }
+    requires whole { length block.now.levels ≡ 64 }
     requires room { len_of writer.old + length (levels_text from block.now.levels)
         ≤ room_of writer.old }
     ensures bits { Appends writer.old writer.new (levels_text from block.now.levels) }
     ensures len { len_of writer.new
         ≡ len_of writer.old + length (levels_text from block.now.levels) }
-    ensures whole { length block.now.levels ≡ 64 }
 {
-    let mut left = block.marks() >> from;
+    let mut left = marks >> from;
     let mut place = from;
     'events: while left != 0 {
         let run = left.trailing_zeros();
@@ -88,8 +106,21 @@ pub fn write_intra(writer: &mut BitWriter<'_>, block: &Block)
     ensures len { len_of writer.new ≡ len_of writer.old + length (intra_text block.now.levels) }
 {
     code_tables_laws::in_a_syntax();
+    write_intra_by(writer, block, block.marks());
+}
+
+/// Writes a block of an intra macroblock, whose marks are given, as [`write_intra`] does.
+#[tactic(auto, unfolding(crate::specs::Text::intra_text))]
+pub fn write_intra_by(writer: &mut BitWriter<'_>, block: &Block, marks: u64)
+    requires block { IsIntraBlock block.now }
+    requires marks { marks ≡ marks_of block.now.levels }
+    requires whole { length block.now.levels ≡ 64 }
+    requires room { len_of writer.old + length (intra_text block.now.levels) ≤ room_of writer.old }
+    ensures bits { Appends writer.old writer.new (intra_text block.now.levels) }
+    ensures len { len_of writer.new ≡ len_of writer.old + length (intra_text block.now.levels) }
+{
     writer.put(dc_bits(block), 8);
-    write_levels(writer, block, 1);
+    write_levels(writer, block, marks, 1);
 }
 
 /// Writes a coded block of an inter macroblock: the events of its levels, of which one at least
@@ -105,5 +136,19 @@ pub fn write_inter(writer: &mut BitWriter<'_>, block: &Block)
     ensures len { len_of writer.new ≡ len_of writer.old + length (inter_text block.now.levels) }
 {
     code_tables_laws::in_a_syntax();
-    write_levels(writer, block, 0);
+    write_inter_by(writer, block, block.marks());
+}
+
+/// Writes the events of a block of an inter macroblock, whose marks are given. There are none where
+/// the block isn't coded.
+#[tactic(auto, unfolding(crate::specs::Text::inter_text))]
+pub fn write_inter_by(writer: &mut BitWriter<'_>, block: &Block, marks: u64)
+    requires block { IsInterBlock block.now }
+    requires marks { marks ≡ marks_of block.now.levels }
+    requires whole { length block.now.levels ≡ 64 }
+    requires room { len_of writer.old + length (inter_text block.now.levels) ≤ room_of writer.old }
+    ensures bits { Appends writer.old writer.new (inter_text block.now.levels) }
+    ensures len { len_of writer.new ≡ len_of writer.old + length (inter_text block.now.levels) }
+{
+    write_levels(writer, block, marks, 0);
 }

@@ -14,7 +14,7 @@ events-init c = record {
   room = refl;
   text = ap (λ (l : List Bool). written c.args.writer.now ++ l) (text_is c.args.from c.args.block.now.levels);
   len = ap (λ (l : List Bool). c.args.writer.now.len + length l) (text_is c.args.from c.args.block.now.levels);
-  marked = ap (λ n. n / 2 ^ c.args.from) c.marks.ensures.marks ∙ behind c.args.from c.args.block.now.levels;
+  marked = ap (λ n. n / 2 ^ c.args.from) c.requires.marks ∙ behind c.args.from c.args.block.now.levels;
   since = omega arith;
   within = omega arith;
 }
@@ -22,12 +22,12 @@ events-init c = record {
 pub event_at-requires-clause-place : goal.event_at-requires-clause-place
 event_at-requires-clause-place c =
     let e = c.events in
-    (next e.place (count_trailing_zeros 64 e.left) e.left c.args.block.now.levels c.marks.ensures.whole e.invariant.marked c.events-test.true refl).inside
+    (next e.place (count_trailing_zeros 64 e.left) e.left c.args.block.now.levels c.requires.whole e.invariant.marked c.events-test.true refl).inside
 
 pub event_at-requires-clause-size : goal.event_at-requires-clause-size
 event_at-requires-clause-size c =
     let e = c.events in
-    let n = next e.place (count_trailing_zeros 64 e.left) e.left c.args.block.now.levels c.marks.ensures.whole e.invariant.marked c.events-test.true refl in
+    let n = next e.place (count_trailing_zeros 64 e.left) e.left c.args.block.now.levels c.requires.whole e.invariant.marked c.events-test.true refl in
     c.requires.levels.sizes (e.place + count_trailing_zeros 64 e.left) (omega arith) (omega (arith, n.inside))
 
 pub write_event-requires-clause-event : goal.write_event-requires-clause-event
@@ -35,7 +35,7 @@ write_event-requires-clause-event c =
     let e = c.events in
     let levels = c.args.block.now.levels in
     let run = count_trailing_zeros 64 e.left in
-    let n = next e.place run e.left levels c.marks.ensures.whole e.invariant.marked c.events-test.true refl in
+    let n = next e.place run e.left levels c.requires.whole e.invariant.marked c.events-test.true refl in
     subst IsEvent (sym c.event_at.ensures) (record {
       run = omega (arith, n.inside);
       some = some_size (level_at levels (e.place + run)) n.some;
@@ -47,7 +47,7 @@ write_event-requires-clause-room c =
     let e = c.events in
     let levels = c.args.block.now.levels in
     let run = count_trailing_zeros 64 e.left in
-    let n = next e.place run e.left levels c.marks.ensures.whole e.invariant.marked c.events-test.true refl in
+    let n = next e.place run e.left levels c.requires.whole e.invariant.marked c.events-test.true refl in
     rw c.event_at.ensures (omega (arith, n.length))
 
 pub events-preserved : goal.events-preserved
@@ -55,7 +55,7 @@ events-preserved c =
     let e = c.events in
     let levels = c.args.block.now.levels in
     let run = count_trailing_zeros 64 e.left in
-    let n = next e.place run e.left levels c.marks.ensures.whole e.invariant.marked c.events-test.true refl in
+    let n = next e.place run e.left levels c.requires.whole e.invariant.marked c.events-test.true refl in
     let bits = c.write_event.ensures.bits in
     let len = rw c.event_at.ensures at c.write_event.ensures.len in
     record {
