@@ -1,14 +1,20 @@
 -- Blocks that are written one after the other.
-use Rattle.std.proofs.Common.{◌≡◌, ℕ, ◌+◌, ◌<◌, ◌≤◌, Bool, true, false, not, List, [], ◌∷◌, ◌++◌, length, drop, refl, sym, ap, ◌∙◌, append_assoc, add-one, length-append}
+use Rattle.std.proofs.Common.{◌≡◌, ℕ, zero, suc, ◌+◌, ◌<◌, ◌≤◌, Bool, List, [], ◌∷◌, ◌++◌, length, drop, refl, sym, ap, ◌∙◌, append_assoc, add-one, length-append, arith}
 use Rattle.std.specs.Prelude.{ℤ, slice_index_or}
 use Rattle.std.proofs.Math.Seq.{drop-cons}
 use Rattle.std.proofs.lemmas.List.{drop_all, append-nil}
 use Rattle.h263_types.specs.declared.blocks.Block.{Block}
 use Rattle.macroblock_layer.specs.Written.{levels_at, blocks_text}
 
-pub not_coded : (none : Bool) → not none ≡ false → none ≡ true
-not_coded true e = refl
-not_coded false e = cc
+-- a fact of each of the six
+pub six : (P : ℕ → Type 0) → P 0 → P 1 → P 2 → P 3 → P 4 → P 5 → (k : ℕ) → k < 6 → P k
+six P a b c d e f zero lt = a
+six P a b c d e f (suc zero) lt = b
+six P a b c d e f (suc (suc zero)) lt = c
+six P a b c d e f (suc (suc (suc zero))) lt = d
+six P a b c d e f (suc (suc (suc (suc zero)))) lt = e
+six P a b c d e f (suc (suc (suc (suc (suc zero))))) lt = f
+six P a b c d e f (suc (suc (suc (suc (suc (suc k)))))) lt = absurd (omega arith)
 
 -- the text of the blocks that are left
 abbrev pub left : (List ℤ → List Bool) → List Block → ℕ → List Bool

@@ -1,6 +1,6 @@
 -- The text that is written of a macroblock: without stuffing, of a plain class where the quantiser
 -- is as before, and of a Q class else.
-use Rattle.std.specs.Prelude.{ℕ, ◌+◌, ◌*◌, ◌≤◌, List, [], ◌∷◌, ◌++◌, slice_index_or, Bool, true, false, not, ◌==◌, if◌then◌else◌, ℤ, pos, ◌-ℤ◌}
+use Rattle.std.specs.Prelude.{◌≡◌, ◌<◌, ℕ, ◌+◌, ◌*◌, ◌≤◌, List, [], ◌∷◌, ◌++◌, slice_index_or, Bool, true, false, not, ◌==◌, if◌then◌else◌, ℤ, pos, ◌-ℤ◌}
 use Rattle.h263_types.specs.declared.Kind.{Kind}
 use Rattle.h263_types.specs.declared.Kind.TheVariants as kinds
 use Rattle.h263_types.specs.declared.vector.Vector.{Vector}
@@ -8,6 +8,7 @@ use Rattle.h263_types.specs.declared.vector.Reach.{Reach}
 use Rattle.h263_types.specs.declared.blocks.Block.{Block}
 use Rattle.h263_types.specs.declared.blocks.Mb.{Mb}
 use Rattle.h263_types.specs.declared.blocks.Mb.TheVariants.{Skip, Intra, Inter}
+use Rattle.h263_types.specs.Marks.{marks_of}
 use Rattle.h263_types.specs.Vectors.{IsWithin}
 use Rattle.code_tables.specs.declared.macroblock.MbClass.{MbClass}
 use Rattle.code_tables.specs.declared.macroblock.MbClass.TheVariants as classes
@@ -22,6 +23,10 @@ use Rattle.macroblock_layer.specs.Text.{wrapped}
 -- the levels of a block of the six
 abbrev pub levels_at : List Block → ℕ → List ℤ
 levels_at blocks k = (slice_index_or blocks k (record { levels = [] })).levels
+
+-- the marks of the six blocks
+abbrev pub AreMarksOf : List Block → List ℕ → Type 0
+AreMarksOf blocks marks = (k : ℕ) → k < 6 → slice_index_or marks k 0 ≡ marks_of (levels_at blocks k)
 
 -- whether a block of an inter macroblock is coded: a level isn't 0
 abbrev pub has_levels : List ℤ → Bool

@@ -1,30 +1,32 @@
 //! Writes macroblocks.
-ghost use Rattle.std.specs.Prelude.{◌≡◌, ◌≢◌, ℕ, ◌+◌, ◌*◌, ◌<◌, ◌≤◌, ◌++◌, List, Bool, true, false, [], length, All, slice_index_or, pos, negsuc, ◌≤ℤ◌, ◌+ℤ◌, ◌-ℤ◌, ◌==◌, if◌then◌else◌};
+ghost use Rattle.std.specs.Prelude.{◌≡◌, ◌≢◌, ℕ, ◌+◌, ◌*◌, ◌<◌, ◌≤◌, ◌++◌, List, Bool, ℤ, true, false, [], length, All, slice_index_or, pos, negsuc, ◌≤ℤ◌, ◌+ℤ◌, ◌-ℤ◌, ◌==◌, if◌then◌else◌};
 ghost use Rattle.h263_bits.specs.Written.{Appends, len_of, room_of};
 ghost use Rattle.h263_types.specs.declared.Kind.TheVariants as kinds;
 ghost use Rattle.h263_types.specs.declared.vector.Reach.{Reach};
 ghost use Rattle.h263_types.specs.declared.blocks.Block.{Block};
 ghost use Rattle.h263_types.specs.Blocks.{IsQuant, IsVector, IsIntraBlock, IsInterBlock, IsIntraMb, IsInterMb, IsMb, IsOfKind, AreWhole};
+ghost use Rattle.h263_types.specs.Marks.{marks_of};
 ghost use Rattle.code_tables.specs.declared.macroblock.MbClass.{MbClass};
 ghost use Rattle.code_tables.specs.declared.macroblock.Mcbpc.TheVariants.{Word};
 ghost use Rattle.code_tables.specs.Mcbpc.{IsInTable};
 ghost use Rattle.code_tables.specs.Tables.{bit_of, cbpy_text};
 ghost use Rattle.block_layer.specs.Text.{none_left, is_coded, intra_text, inter_text};
 ghost use Rattle.macroblock_layer.specs.Text.{wrapped, IsMbText};
-ghost use Rattle.macroblock_layer.specs.Written.{levels_at, coded_in, cbpy_of, cbpc_of, class_of, cod_text, class_text, step_text, head_text, vector_text, blocks_text, intra_mb_text, inter_mb_text, mb_text, IsNear, IsStepped, IsReached};
+ghost use Rattle.macroblock_layer.specs.Written.{levels_at, AreMarksOf, coded_in, cbpy_of, cbpc_of, class_of, cod_text, class_text, step_text, head_text, vector_text, blocks_text, intra_mb_text, inter_mb_text, mb_text, IsNear, IsStepped, IsReached};
 
 use crate::laws;
 use crate::reading::wrapped;
-use block_layer::{is_inter_coded, is_intra_coded, write_inter, write_intra};
+use block_layer::{is_inter_coded_by, is_intra_coded_by, write_inter_by, write_intra_by};
 use code_tables::{MbClass, Mcbpc, write_cbpy, write_dquant, write_mcbpc, write_mvd};
 use h263_bits::BitWriter;
 use h263_types::{Block, Kind, Mb, Vector};
 
-// Which of the six blocks are coded.
+// Which of the six blocks are coded, and the marks by which that was found.
 #[derive(Clone, Copy)]
 struct Pattern {
     cbpy: u8,
     cbpc: u8,
+    marks: [u64; 6],
 }
 
 fn cbpy(a: bool, b: bool, c: bool, d: bool) -> u8
@@ -41,15 +43,29 @@ fn cbpc(a: bool, b: bool) -> u8
     2 * a as u8 + b as u8
 }
 
-// Whether a block is coded. In an intra macroblock INTRADC isn't looked at.
-fn is_coded_in(intra: bool, block: &Block) -> bool
-    ensures coded { result ≡ coded_in intra block.now.levels }
-    ensures whole { length block.now.levels ≡ 64 }
+// The marks of the six blocks.
+fn marks_of_six(blocks: &[Block; 6]) -> [u64; 6]
+    ensures marks { AreMarksOf blocks.now result }
+    ensures whole { AreWhole blocks.now }
+{
+    [
+        blocks[0].marks(),
+        blocks[1].marks(),
+        blocks[2].marks(),
+        blocks[3].marks(),
+        blocks[4].marks(),
+        blocks[5].marks(),
+    ]
+}
+
+// Whether a block is coded, by its marks. In an intra macroblock INTRADC isn't looked at.
+fn is_coded_in(intra: bool, marks: u64) -> bool
+    ensures { (levels : List ℤ) → marks ≡ marks_of levels → result ≡ coded_in intra levels }
 {
     if intra {
-        is_intra_coded(block)
+        is_intra_coded_by(marks)
     } else {
-        is_inter_coded(block)
+        is_inter_coded_by(marks)
     }
 }
 
@@ -57,19 +73,22 @@ fn is_coded_in(intra: bool, block: &Block) -> bool
 fn pattern_of(intra: bool, blocks: &[Block; 6]) -> Pattern
     ensures cbpy { result.cbpy ≡ cbpy_of (coded_in intra) blocks.now }
     ensures cbpc { result.cbpc ≡ cbpc_of (coded_in intra) blocks.now }
+    ensures marks { AreMarksOf blocks.now result.marks }
     ensures cbpy_below { result.cbpy < 16 }
     ensures cbpc_below { result.cbpc < 4 }
     ensures whole { AreWhole blocks.now }
 {
-    let a = is_coded_in(intra, &blocks[0]);
-    let b = is_coded_in(intra, &blocks[1]);
-    let c = is_coded_in(intra, &blocks[2]);
-    let d = is_coded_in(intra, &blocks[3]);
-    let e = is_coded_in(intra, &blocks[4]);
-    let f = is_coded_in(intra, &blocks[5]);
+    let marks = marks_of_six(blocks);
+    let a = is_coded_in(intra, marks[0]);
+    let b = is_coded_in(intra, marks[1]);
+    let c = is_coded_in(intra, marks[2]);
+    let d = is_coded_in(intra, marks[3]);
+    let e = is_coded_in(intra, marks[4]);
+    let f = is_coded_in(intra, marks[5]);
     Pattern {
         cbpy: cbpy(a, b, c, d),
         cbpc: cbpc(e, f),
+        marks,
     }
 }
 
@@ -177,41 +196,33 @@ fn write_vector(writer: &mut BitWriter<'_>, predictor: Vector, vector: Vector)
     write_mvd(writer, difference_along(vector, predictor));
 }
 
-fn write_intra_blocks(writer: &mut BitWriter<'_>, blocks: &[Block; 6])
+fn write_intra_blocks(writer: &mut BitWriter<'_>, blocks: &[Block; 6], marks: [u64; 6])
     requires blocks { All (λ (b : Block). IsIntraBlock b) blocks.now }
+    requires marks { AreMarksOf blocks.now marks }
+    requires whole { AreWhole blocks.now }
     requires room { len_of writer.old + length (blocks_text intra_text blocks.now)
         ≤ room_of writer.old }
     ensures bits { Appends writer.old writer.new (blocks_text intra_text blocks.now) }
     ensures len { len_of writer.new
         ≡ len_of writer.old + length (blocks_text intra_text blocks.now) }
 {
-    'all: for block in blocks {
-        write_intra(writer, block);
+    'all: for k in 0..6 {
+        write_intra_by(writer, &blocks[k], marks[k]);
     }
 }
 
-fn write_inter_block(writer: &mut BitWriter<'_>, block: &Block)
-    requires block { IsInterBlock block.now }
-    requires room { len_of writer.old + length (inter_text block.now.levels) ≤ room_of writer.old }
-    ensures bits { Appends writer.old writer.new (inter_text block.now.levels) }
-    ensures len { len_of writer.new ≡ len_of writer.old + length (inter_text block.now.levels) }
-{
-    block_layer::laws::in_a_syntax();
-    if is_inter_coded(block) {
-        write_inter(writer, block);
-    }
-}
-
-fn write_inter_blocks(writer: &mut BitWriter<'_>, blocks: &[Block; 6])
+fn write_inter_blocks(writer: &mut BitWriter<'_>, blocks: &[Block; 6], marks: [u64; 6])
     requires blocks { All (λ (b : Block). IsInterBlock b) blocks.now }
+    requires marks { AreMarksOf blocks.now marks }
+    requires whole { AreWhole blocks.now }
     requires room { len_of writer.old + length (blocks_text inter_text blocks.now)
         ≤ room_of writer.old }
     ensures bits { Appends writer.old writer.new (blocks_text inter_text blocks.now) }
     ensures len { len_of writer.new
         ≡ len_of writer.old + length (blocks_text inter_text blocks.now) }
 {
-    'all: for block in blocks {
-        write_inter_block(writer, block);
+    'all: for k in 0..6 {
+        write_inter_by(writer, &blocks[k], marks[k]);
     }
 }
 
@@ -231,7 +242,7 @@ fn write_intra_mb(writer: &mut BitWriter<'_>, kind: Kind, quant: u8, new: u8, bl
     block_layer::laws::in_a_syntax();
     let pattern = pattern_of(true, blocks);
     write_head(writer, kind, quant, new, true, pattern);
-    write_intra_blocks(writer, blocks);
+    write_intra_blocks(writer, blocks, pattern.marks);
 }
 
 #[tactic(auto, unfolding(crate::specs::Written::inter_mb_text))]
@@ -257,7 +268,7 @@ fn write_inter_mb(
     let pattern = pattern_of(false, blocks);
     write_head(writer, Kind::P, quant, new, false, pattern);
     write_vector(writer, predictor, vector);
-    write_inter_blocks(writer, blocks);
+    write_inter_blocks(writer, blocks, pattern.marks);
 }
 
 /// Writes a macroblock of a picture of this kind (H.263, 5.3), whose quantiser is within 2 of
