@@ -5,8 +5,8 @@ use Rattle.std.specs.Option.{option_map}
 use Rattle.std.specs.List.{list_any, list_all}
 use Rattle.std.proofs.lemmas.Bool.{ltb-true, leb-true, le-leb, eqb-true}
 use Rattle.std.proofs.lemmas.List.{take_at, length-append, length-take, take-append-drop}
-use Rattle.std.proofs.lemmas.Nat.{shr_below}
-use Rattle.std.proofs.Math.Nat.{mod-eq_of_lt, pow-le-pow_right}
+use Rattle.std.proofs.lemmas.Nat.{shr_below, shr-shr}
+use Rattle.std.proofs.Math.Nat.{mod-eq_of_lt}
 use Rattle.std.proofs.lemmas.Bool.Decides.{nat_tests}
 use Rattle.std.proofs.Math.Seq.{drop-cons, take-length}
 use Rattle.h263_bits.specs.declared.fault.Fault.{Fault}
@@ -16,7 +16,7 @@ use Rattle.h263_bits.specs.Reading.{Bits, skip, err, ◌>>=◌}
 use Rattle.h263_bits.specs.Syntax.{IsIn, is_prefix_free, begins, found, is_cut, taken, word_at}
 use Rattle.h263_bits.proofs.SyntaxLaws.{length-spelled, number-spelled, spelled-number, number-lt, number-middle, take-take, begins_parts, begins_itself, and_both, found_again}
 use Rattle.code_tables.specs.declared.code.Code.{Code}
-use Rattle.code_tables.specs.Words.{word_of, listed, is_code, starts, goes_on_from, first_place, names, is_fast}
+use Rattle.code_tables.specs.Words.{word_of, listed, is_code, starts, goes_on_from, first_place, code_at, names, are_named}
 
 pub same_answer : (a b : Bool) → (a ≡ true → b ≡ true) → (b ≡ true → a ≡ true) → a ≡ b
 same_answer true true p q = refl
@@ -163,14 +163,14 @@ fits_in cs i bits d s =
     let le : length (word_of (get_or cs i d)) ≤ length bits = subst (λ (j : ℕ). length (word_of (get_or cs j d)) ≤ length bits) (omega arith) (begins_by_number _ bits s.there).0 in
     omega (arith, le, length-spelled (get_or cs i d).len (get_or cs i d).bits)
 
--- ---- the table for the first eight bits
+-- ---- the tables for the first bits of words
 
-fast_at : (codes : List Code) (front i : ℕ) (ks : List ℕ) → is_fast codes front ks ≡ true → i < length ks → names codes (front + i) (get_or ks i 0) ≡ true
-fast_at codes front i [] e h = absurd (omega arith)
-fast_at codes front zero (k ∷ ks) e h = rw (add-zero front) (and_both (names codes front k) (is_fast codes (front + 1) ks) e).0
-fast_at codes front (suc i) (k ∷ ks) e h =
-    let m : names codes (front + 1 + i) (get_or ks i 0) ≡ true = fast_at codes (front + 1) i ks (and_both (names codes front k) (is_fast codes (front + 1) ks) e).1 (omega arith) in
-    subst (λ (f : ℕ). names codes f (get_or ks i 0) ≡ true) (omega arith) m
+named_at : (codes : List Code) (width front i : ℕ) (ks : List ℕ) → are_named codes width front ks ≡ true → i < length ks → names codes width (front + i) (get_or ks i 0) ≡ true
+named_at codes width front i [] e h = absurd (omega arith)
+named_at codes width front zero (k ∷ ks) e h = rw (add-zero front) (and_both (names codes width front k) (are_named codes width (front + 1) ks) e).0
+named_at codes width front (suc i) (k ∷ ks) e h =
+    let m : names codes width (front + 1 + i) (get_or ks i 0) ≡ true = named_at codes width (front + 1) i ks (and_both (names codes width front k) (are_named codes width (front + 1) ks) e).1 (omega arith) in
+    subst (λ (f : ℕ). names codes width f (get_or ks i 0) ≡ true) (omega arith) m
 
 named : (b : Bool) (a : Bool) → (a || b) ≡ true → a ≡ false → b ≡ true
 named b true e h = absurd cc
@@ -192,21 +192,31 @@ code_ok (c ∷ cs) (suc i) e h = code_ok cs i (and_both (is_code c) (list_all is
 lt-leb-false : (a b : ℕ) → b < a → leb a b ≡ false
 lt-leb-false a b h = grind (arith, nat_tests)
 
--- what the table names for the next eight bits is the word that they begin with
-pub fast_stands : (codes : List Code) (fast : List ℕ) (bits : List Bool) (front : ℕ) → list_all is_code codes ≡ true → is_prefix_free (listed 0 codes) ≡ true → is_fast codes 0 fast ≡ true → length fast ≡ 256
-    → 8 ≤ length bits → front ≡ number (take 8 bits) → get_or fast front 0 < length codes → StandsAt codes 0 (get_or fast front 0) bits (record { bits = 0; len = 0 })
-fast_stands codes fast bits front ok apart quick size enough e lt =
-    let k = get_or fast front 0 in
+-- what a table names for some bits begins them, where it is a place
+pub starts_there : (codes : List Code) (width seen : ℕ) (ks : List ℕ) → are_named codes width 0 ks ≡ true → seen < length ks → get_or ks seen 0 < length codes → starts seen width (code_at codes (get_or ks seen 0)) ≡ true
+starts_there codes width seen ks all h lt =
+    let yes : names codes width seen (get_or ks seen 0) ≡ true = subst (λ (j : ℕ). names codes width j (get_or ks seen 0) ≡ true) (zero-add seen) (named_at codes width 0 seen ks all h) in
+    named _ _ yes (lt-leb-false (length codes) (get_or ks seen 0) lt)
+
+-- a code that begins the first bits of some bits begins them all
+pub starts_more : (c : Code) (seen k more : ℕ) → starts (seen / 2 ^ more) k c ≡ true → starts seen (k + more) c ≡ true
+starts_more c seen k more e =
+    let p = and_both (leb c.len k) (eqb (seen / 2 ^ more / 2 ^ (k - c.len)) c.bits) e in
+    let le = leb-true c.len k p.0 in
+    let far : more + (k - c.len) ≡ k + more - c.len = omega arith in
+    both_and _ _ (le-leb c.len (k + more) (omega arith)) (eq-eqb (seen / 2 ^ (k + more - c.len)) c.bits (ap (λ (j : ℕ). seen / 2 ^ j) (sym far) ∙ sym (shr-shr seen more (k - c.len)) ∙ eqb-true _ _ p.1))
+
+-- No word begins another, so the code that the next bits begin with is the word that is read.
+pub named_stands : (codes : List Code) (bits : List Bool) (n seen k : ℕ) → list_all is_code codes ≡ true → is_prefix_free (listed 0 codes) ≡ true → n ≤ length bits → seen ≡ number (take n bits)
+    → k < length codes → starts seen n (code_at codes k) ≡ true → StandsAt codes 0 k bits (record { bits = 0; len = 0 })
+named_stands codes bits n seen k ok apart enough e lt there =
     let code = get_or codes k (record { bits = 0; len = 0 }) in
-    let few : front < 256 = subst (λ (j : ℕ). j < 256) (sym e) (omega (arith, number-lt (take 8 bits), pow-le-pow_right {n = 2} (omega arith) {i = length (take 8 bits)} {j = 8} (omega (arith, length-take 8 bits)))) in
-    let yes : names codes front k ≡ true = subst (λ (j : ℕ). names codes j k ≡ true) (zero-add front) (fast_at codes 0 front fast quick (omega (arith, size))) in
-    let there : starts front 8 code ≡ true = named _ _ yes (lt-leb-false (length codes) k lt) in
     let c = number_of_code code (code_ok codes k ok lt) in
-    let p = and_both (leb code.len 8) (eqb (front / 2 ^ (8 - code.len)) code.bits) there in
-    let le = leb-true code.len 8 p.0 in
+    let p = and_both (leb code.len n) (eqb (seen / 2 ^ (n - code.len)) code.bits) there in
+    let le = leb-true code.len n p.0 in
     let len : length (word_of code) ≡ code.len = length-spelled code.len code.bits in
     let begin : begins (word_of code) bits ≡ true = begins_from_number (word_of code) bits (omega (arith, len))
-    (ap (λ (j : ℕ). number (take j bits)) len ∙ front_number bits code.len 8 le enough ∙ ap (λ (v : ℕ). v / 2 ^ (8 - code.len)) (sym e) ∙ eqb-true _ _ p.1 ∙ sym c.2) in
+    (ap (λ (j : ℕ). number (take j bits)) len ∙ front_number bits code.len n le enough ∙ ap (λ (v : ℕ). v / 2 ^ (n - code.len)) (sym e) ∙ eqb-true _ _ p.1 ∙ sym c.2) in
     let word : found (listed 0 codes) bits ≡ Some (word_of code, k) = ap (found (listed 0 codes)) (begins_parts (word_of code) bits begin) ∙ found_again (listed 0 codes) (word_of code, k) (drop (length (word_of code)) bits) apart (subst (λ (j : ℕ). IsIn (word_of code, j) (listed 0 codes)) (zero-add k) (listed_in codes 0 k (record { bits = 0; len = 0 }) lt)) in
     let z : k ≡ k - 0 = omega arith in
     record { from = omega arith; within = omega (arith, lt); word = subst (λ (j : ℕ). found (listed 0 codes) bits ≡ Some (word_of (get_or codes j (record { bits = 0; len = 0 })), k)) z word; there = subst (λ (j : ℕ). begins (word_of (get_or codes j (record { bits = 0; len = 0 }))) bits ≡ true) z begin }

@@ -2,8 +2,8 @@
 //! events of TCOEF, read and written.
 //!
 //! `specs/` has each table as the standard prints it, and says which bits spell which value. A
-//! reader finds exactly that, or the first fault at its place: most words by a look at eight bits,
-//! and all others by a search. A writer writes the word at a place of the table. [`Mcbpc`] with its
+//! reader finds exactly that, or the first fault at its place: words by a look at twelve bits, and
+//! what begins with none by a search. A writer writes the word at a place of the table. [`Mcbpc`] with its
 //! [`MbClass`] and [`Coefficient`] are the values that aren't numbers.
 //!
 //! ```rust

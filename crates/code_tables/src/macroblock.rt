@@ -53,7 +53,7 @@ fn read_intra_mcbpc(reader: &mut BitReader<'_>) -> Result<Mcbpc, Fault>
     ensures { Gives
         (λ (m : Mcbpc). m) result reader.new (word_at (mcbpc_words kinds.I) reader.old) }
 {
-    let place = read_code(reader, &INTRA_MCBPC, &INTRA_MCBPC_FAST)?;
+    let place = read_code(reader, &INTRA_MCBPC, &INTRA_MCBPC_FAST, &[])?;
     Ok(symbol_at(&INTRA_MCBPC_SYMBOLS, place))
 }
 
@@ -61,7 +61,7 @@ fn read_inter_mcbpc(reader: &mut BitReader<'_>) -> Result<Mcbpc, Fault>
     ensures { Gives
         (λ (m : Mcbpc). m) result reader.new (word_at (mcbpc_words kinds.P) reader.old) }
 {
-    let place = read_code(reader, &INTER_MCBPC, &INTER_MCBPC_FAST)?;
+    let place = read_code(reader, &INTER_MCBPC, &INTER_MCBPC_FAST, &[])?;
     Ok(symbol_at(&INTER_MCBPC_SYMBOLS, place))
 }
 
@@ -90,7 +90,7 @@ pub fn read_mcbpc(reader: &mut BitReader<'_>, kind: Kind) -> Result<Mcbpc, Fault
 fn read_step(reader: &mut BitReader<'_>) -> Result<i8, Fault>
     ensures { Gives (λ (s : ℤ). s) result reader.new (word_at dquant_words reader.old) }
 {
-    let place = read_code(reader, &STEPS, &STEPS_FAST)?;
+    let place = read_code(reader, &STEPS, &STEPS_FAST, &[])?;
     Ok(step_at(&STEP_SYMBOLS, place))
 }
 

@@ -1,4 +1,5 @@
-//! The codes of each table, and for each prefix of eight bits the code that it begins with, or 255.
+//! The codes of each table, and for each prefix of eight or of twelve bits the code that it begins
+//! with, or 255.
 
 use crate::code::Code;
 use crate::macroblock::{MbClass, Mcbpc};
@@ -85,6 +86,15 @@ pub const MAGNITUDES_FAST: [u8; 256] = [
     0, 0, 0, 0, 0, 0, 0, 0, 0, 0, 0, 0, 0, 0, 0, 0, 0, 0, 0, 0, 0, 0, 0, 0, 0, 0, 0, 0, 0, 0, 0, 0,
     0, 0, 0, 0, 0, 0, 0, 0, 0, 0, 0, 0, 0, 0, 0, 0, 0, 0, 0, 0, 0, 0, 0, 0, 0, 0, 0, 0, 0, 0, 0, 0,
     0, 0, 0, 0,
+];
+
+/// By twelve bits, the place of the word of `MAGNITUDES` of more than eight bits that they begin
+/// with, where there is one. The prefixes that are left out are higher, and begin with none.
+pub const MAGNITUDES_LONG: [u8; 96] = [
+    255, 255, 32, 31, 30, 30, 29, 29, 28, 28, 27, 27, 26, 26, 25, 25, 24, 24, 24, 24, 23, 23, 23,
+    23, 22, 22, 22, 22, 21, 21, 21, 21, 20, 20, 20, 20, 19, 19, 19, 19, 18, 18, 18, 18, 17, 17, 17,
+    17, 16, 16, 16, 16, 15, 15, 15, 15, 14, 14, 14, 14, 13, 13, 13, 13, 12, 12, 12, 12, 11, 11, 11,
+    11, 10, 10, 10, 10, 10, 10, 10, 10, 9, 9, 9, 9, 9, 9, 9, 9, 8, 8, 8, 8, 8, 8, 8, 8,
 ];
 
 /// MCBPC of I pictures: the words of the classes in their order, CBPC 0 to 3 each, and stuffing.

@@ -12,15 +12,15 @@ ghost use Rattle.code_tables.specs.Tables.{cbpy, cbpy_texts, cbpy_text, magnitud
 ghost use Rattle.code_tables.specs.Events.{event_of_code, coefficient_of};
 
 use crate::code::{Coefficient, Level, read_code, write_code, write_signed_code};
-use crate::event_tables::{EVENTS, EVENTS_FAST, LAST_0_STARTS, LAST_1_STARTS, LEVELS};
-use crate::tables::{CBPY, CBPY_FAST, MAGNITUDES, MAGNITUDES_FAST};
+use crate::event_tables::{EVENTS, EVENTS_FAST, EVENTS_LONG, LAST_0_STARTS, LAST_1_STARTS, LEVELS};
+use crate::tables::{CBPY, CBPY_FAST, MAGNITUDES, MAGNITUDES_FAST, MAGNITUDES_LONG};
 use h263_bits::{BitReader, BitWriter, Fault, FaultKind};
 
 fn read_pattern(reader: &mut BitReader<'_>) -> Result<usize, Fault>
     ensures reads { Gives (λ (i : ℕ). i) result reader.new (word_at cbpy_words reader.old) }
     ensures below { IfOk result (λ i. i < 16) }
 {
-    read_code(reader, &CBPY, &CBPY_FAST)
+    read_code(reader, &CBPY, &CBPY_FAST, &[])
 }
 
 /// CBPY, the pattern of the luminance blocks, 0 to 15 (H.263 5.3.5). An inter macroblock has the
@@ -51,7 +51,7 @@ fn read_magnitude(reader: &mut BitReader<'_>) -> Result<usize, Fault>
     ensures reads { Gives (λ (i : ℕ). i) result reader.new (word_at magnitude_words reader.old) }
     ensures below { IfOk result (λ i. i < 33) }
 {
-    read_code(reader, &MAGNITUDES, &MAGNITUDES_FAST)
+    read_code(reader, &MAGNITUDES, &MAGNITUDES_FAST, &MAGNITUDES_LONG)
 }
 
 // A size with its sign, 1 for minus.
@@ -111,7 +111,7 @@ fn read_event_word(reader: &mut BitReader<'_>) -> Result<Option<Level>, Fault>
     ensures reads { Gives event_of_code result reader.new (word_at tcoef_words reader.old) }
     ensures small { IfOk result (λ o. IfSome o (λ level. level.size < 128)) }
 {
-    let place = read_code(reader, &EVENTS, &EVENTS_FAST)?;
+    let place = read_code(reader, &EVENTS, &EVENTS_FAST, &EVENTS_LONG)?;
     Ok(level_at(&LEVELS, place))
 }
 
