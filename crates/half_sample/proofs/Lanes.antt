@@ -1,8 +1,66 @@
 -- The averages, as the lanes compute them.
-use Rattle.std.proofs.Common.{◌≡◌, ℕ, zero, suc, ◌+◌, ◌-◌, ◌/◌, ◌%◌, ◌^◌, ◌<◌, ◌≤◌, List, [], ◌∷◌, map, length, get_or, refl, ap, ◌∙◌, arith, w8, Fits, replicate, zero-add}
+use Rattle.std.proofs.Common.{◌≡◌, ℕ, zero, suc, min, max, ◌+◌, ◌-◌, ◌/◌, ◌%◌, ◌^◌, ◌<◌, ◌≤◌, List, [], ◌∷◌, map, length, get_or, refl, sym, ◌∙◌, arith, w8, Fits, replicate, subst, take}
+use Rattle.std.proofs.Math.Seq.{take-length}
 use lib.Lanes.{zip2, Each1, chunk}
-use Rattle.std.proofs.lemmas.Simd.{get_or-chunk}
+use Rattle.std.specs.Int.RustNames.{bit_or, bit_xor}
+use Rattle.std.specs.Int.Bits.{bit_and, xor_add_and}
+use Rattle.std.proofs.lemmas.Nat.{and_mask}
+use Rattle.std.proofs.lemmas.Nat.Bits.{bit_at_lowest, bit_at_and, bit_at_or}
+use Rattle.std.proofs.lemmas.Simd.{chunk-fits, below_from_Fits}
 use Rattle.half_sample.specs.Averages.{average, average4}
+
+-- ---- the lowest bits
+
+low_and : (a b : ℕ) → bit_and a b % 2 ≡ min (a % 2) (b % 2)
+low_and a b = sym (bit_at_lowest (bit_and a b)) ∙ bit_at_and a b 0 ∙ cc (bit_at_lowest a, bit_at_lowest b)
+
+low_or : (a b : ℕ) → bit_or a b % 2 ≡ max (a % 2) (b % 2)
+low_or a b = sym (bit_at_lowest (bit_or a b)) ∙ bit_at_or a b 0 ∙ cc (bit_at_lowest a, bit_at_lowest b)
+
+low_xor : (a b : ℕ) → bit_xor a b % 2 ≡ (a + b) % 2
+low_xor a b = omega (arith, xor_add_and a b)
+
+-- ---- a lane
+
+-- what the lanes of eight bits do
+abbrev pub minus : ℕ → ℕ → ℕ
+minus a b = (a + (2 ^ 8 - b)) % 2 ^ 8
+
+-- The average of two that is rounded down: an odd sum was rounded up.
+one_of_two : (r x y : ℕ) → r ≤ 1 → x < 256 → y < 256 → minus (average 0 x y) (bit_and (bit_xor x y) r) ≡ average r x y
+one_of_two zero x y hr hx hy = let none : bit_and (bit_xor x y) 0 ≡ (bit_xor x y) % 1 = and_mask (bit_xor x y) 0 in omega (arith, none, hx, hy)
+one_of_two (suc zero) x y hr hx hy = let odd : bit_and (bit_xor x y) 1 ≡ (bit_xor x y) % 2 = and_mask (bit_xor x y) 1 in omega (arith, odd, low_xor x y, hx, hy)
+one_of_two (suc (suc r)) x y hr hx hy = absurd (omega (arith, hr))
+
+-- The average of four by three averages of two, each rounded up. Say e = 1 where x + y is odd, f = 1 where u + v is, and
+-- t = 1 where the sum of their averages is. Then the average of the averages is (x + y + u + v + e + f + 2 t) / 4, a
+-- whole number: roundings have added e + f + 2 t quarters. (x + y + u + v + 2) / 4 is to have two quarters at most, so the
+-- average is too high by 1 where they are three or four: where t and one of e and f are 1.
+abbrev pub excess_up : ℕ → ℕ → ℕ → ℕ → ℕ
+excess_up x y u v = bit_and (bit_and (bit_or (bit_xor x y) (bit_xor u v)) (bit_xor (average 0 x y) (average 0 u v))) 1
+
+one_up : (x y u v : ℕ) → x < 256 → y < 256 → u < 256 → v < 256 → minus (average 0 (average 0 x y) (average 0 u v)) (excess_up x y u v) ≡ average4 0 x y u v
+one_up x y u v hx hy hu hv =
+    let e = bit_xor x y in
+    let f = bit_xor u v in
+    let t = bit_xor (average 0 x y) (average 0 u v) in
+    let low : excess_up x y u v ≡ (bit_and (bit_or e f) t) % 2 = and_mask (bit_and (bit_or e f) t) 1 in
+    omega (arith, low, low_and (bit_or e f) t, low_or e f, low_xor x y, low_xor u v, low_xor (average 0 x y) (average 0 u v), hx, hy, hu, hv)
+
+-- (x + y + u + v + 1) / 4 is to have one quarter at most: it is too high by 1 where they are two or more, so where t is
+-- 1, or e and f are.
+abbrev pub excess_down : ℕ → ℕ → ℕ → ℕ → ℕ
+excess_down x y u v = bit_and (bit_or (bit_and (bit_xor x y) (bit_xor u v)) (bit_xor (average 0 x y) (average 0 u v))) 1
+
+one_down : (x y u v : ℕ) → x < 256 → y < 256 → u < 256 → v < 256 → minus (average 0 (average 0 x y) (average 0 u v)) (excess_down x y u v) ≡ average4 1 x y u v
+one_down x y u v hx hy hu hv =
+    let e = bit_xor x y in
+    let f = bit_xor u v in
+    let t = bit_xor (average 0 x y) (average 0 u v) in
+    let low : excess_down x y u v ≡ (bit_or (bit_and e f) t) % 2 = and_mask (bit_or (bit_and e f) t) 1 in
+    omega (arith, low, low_or (bit_and e f) t, low_and e f, low_xor x y, low_xor u v, low_xor (average 0 x y) (average 0 u v), hx, hy, hu, hv)
+
+-- ---- all lanes
 
 -- what the lanes of sixteen bits do
 abbrev pub plus : ℕ → ℕ → ℕ
@@ -14,65 +72,90 @@ down a b = a / 2 ^ b
 abbrev pub wide : List ℕ → List ℕ
 wide xs = map (λ (k : ℕ). k) xs
 
+abbrev pub mean_l : ℕ → List ℕ → List ℕ → List ℕ
+mean_l n xs ys = zip2 down (zip2 plus (zip2 plus (wide xs) (wide ys)) (replicate n 1)) (replicate n 1)
+
+one_mean : (x y : ℕ) → x < 256 → y < 256 → down (plus (plus x y) 1) 1 ≡ average 0 x y
+one_mean x y hx hy = omega (arith, hx, hy)
+
+pub mean_fits : (n : ℕ) (xs ys : List ℕ) → Each1 (λ x. x < 256) xs → Each1 (λ x. x < 256) ys → Each1 (Fits w8) (mean_l n xs ys)
+mean_fits zero [] ys hx hy = tt
+mean_fits zero (x ∷ xs) [] hx hy = tt
+mean_fits zero (x ∷ xs) (y ∷ ys) hx hy = tt
+mean_fits (suc n) [] ys hx hy = tt
+mean_fits (suc n) (x ∷ xs) [] hx hy = tt
+mean_fits (suc n) (x ∷ xs) (y ∷ ys) hx hy = (record { fits = omega (arith, hx.0, hy.0) }, mean_fits n xs ys hx.1 hy.1)
+
+pub mean_is : (n : ℕ) (xs ys : List ℕ) → length xs ≡ n → length ys ≡ n → Each1 (λ x. x < 256) xs → Each1 (λ x. x < 256) ys → wide (mean_l n xs ys) ≡ zip2 (average 0) xs ys
+mean_is zero [] ys ex ey hx hy = refl
+mean_is zero (x ∷ xs) ys ex ey hx hy = absurd (omega arith)
+mean_is (suc n) [] ys ex ey hx hy = absurd (omega arith)
+mean_is (suc n) (x ∷ xs) [] ex ey hx hy = absurd (omega arith)
+mean_is (suc n) (x ∷ xs) (y ∷ ys) ex ey hx hy = cc (one_mean x y hx.0 hy.0, mean_is n xs ys (omega arith) (omega arith) hx.1 hy.1)
+
+pub mean_small : (xs ys : List ℕ) → Each1 (λ x. x < 256) xs → Each1 (λ x. x < 256) ys → Each1 (λ x. x < 256) (zip2 (average 0) xs ys)
+mean_small [] ys hx hy = tt
+mean_small (x ∷ xs) [] hx hy = tt
+mean_small (x ∷ xs) (y ∷ ys) hx hy = (omega (arith, hx.0, hy.0), mean_small xs ys hx.1 hy.1)
+
 abbrev pub two_l : ℕ → ℕ → List ℕ → List ℕ → List ℕ
-two_l n r xs ys = zip2 down (zip2 plus (zip2 plus (wide xs) (wide ys)) (replicate n (1 - r))) (replicate n 1)
+two_l n r xs ys = zip2 minus (zip2 (average 0) xs ys) (zip2 bit_and (zip2 bit_xor xs ys) (replicate n r))
 
-abbrev pub four_l : ℕ → ℕ → List ℕ → List ℕ → List ℕ → List ℕ → List ℕ
-four_l n r xs ys us vs =
-    zip2 down (zip2 plus (zip2 plus (zip2 plus (wide xs) (wide ys)) (zip2 plus (wide us) (wide vs))) (replicate n (2 - r))) (replicate n 2)
-
--- their lanes are the averages, and bytes
-one_of_two : (r x y : ℕ) → r ≤ 1 → x < 256 → y < 256 → down (plus (plus x y) (1 - r)) 1 ≡ average r x y
-one_of_two r x y hr hx hy = omega (arith, hr, hx, hy)
-
-one_of_four : (r x y u v : ℕ) → r ≤ 1 → x < 256 → y < 256 → u < 256 → v < 256 → down (plus (plus (plus x y) (plus u v)) (2 - r)) 2 ≡ average4 r x y u v
-one_of_four r x y u v hr hx hy hu hv = omega (arith, hr, hx, hy, hu, hv)
-
-pub two_fit : (n r : ℕ) (xs ys : List ℕ) → r ≤ 1 → Each1 (Fits w8) xs → Each1 (Fits w8) ys → Each1 (Fits w8) (two_l n r xs ys)
-two_fit zero r [] ys hr hx hy = tt
-two_fit zero r (x ∷ xs) [] hr hx hy = tt
-two_fit zero r (x ∷ xs) (y ∷ ys) hr hx hy = tt
-two_fit (suc n) r [] ys hr hx hy = tt
-two_fit (suc n) r (x ∷ xs) [] hr hx hy = tt
-two_fit (suc n) r (x ∷ xs) (y ∷ ys) hr hx hy = (record { fits = omega (arith, hr, hx.0.fits, hy.0.fits) }, two_fit n r xs ys hr hx.1 hy.1)
-
-pub two_at : (n r : ℕ) (xs ys : List ℕ) (i : ℕ) → r ≤ 1 → length xs ≡ n → length ys ≡ n → Each1 (Fits w8) xs → Each1 (Fits w8) ys → i < n →
+pub two_at : (n r : ℕ) (xs ys : List ℕ) (i : ℕ) → r ≤ 1 → length xs ≡ n → length ys ≡ n → Each1 (λ x. x < 256) xs → Each1 (λ x. x < 256) ys → i < n →
     get_or (two_l n r xs ys) i 0 ≡ average r (get_or xs i 0) (get_or ys i 0)
 two_at zero r xs ys i hr ex ey hx hy hi = absurd (omega arith)
 two_at (suc n) r [] ys i hr ex ey hx hy hi = absurd (omega arith)
 two_at (suc n) r (x ∷ xs) [] i hr ex ey hx hy hi = absurd (omega arith)
-two_at (suc n) r (x ∷ xs) (y ∷ ys) zero hr ex ey hx hy hi = one_of_two r x y hr hx.0.fits hy.0.fits
+two_at (suc n) r (x ∷ xs) (y ∷ ys) zero hr ex ey hx hy hi = one_of_two r x y hr hx.0 hy.0
 two_at (suc n) r (x ∷ xs) (y ∷ ys) (suc i) hr ex ey hx hy hi = two_at n r xs ys i hr (omega arith) (omega arith) hx.1 hy.1 (omega arith)
 
-pub four_fit : (n r : ℕ) (xs ys us vs : List ℕ) → r ≤ 1 → Each1 (Fits w8) xs → Each1 (Fits w8) ys → Each1 (Fits w8) us → Each1 (Fits w8) vs →
-    Each1 (Fits w8) (four_l n r xs ys us vs)
-four_fit n r [] ys us vs hr hx hy hu hv = tt
-four_fit n r (x ∷ xs) [] us vs hr hx hy hu hv = tt
-four_fit n r (x ∷ xs) (y ∷ ys) [] vs hr hx hy hu hv = tt
-four_fit n r (x ∷ xs) (y ∷ ys) (u ∷ us) [] hr hx hy hu hv = tt
-four_fit zero r (x ∷ xs) (y ∷ ys) (u ∷ us) (v ∷ vs) hr hx hy hu hv = tt
-four_fit (suc n) r (x ∷ xs) (y ∷ ys) (u ∷ us) (v ∷ vs) hr hx hy hu hv =
-    (record { fits = omega (arith, hr, hx.0.fits, hy.0.fits, hu.0.fits, hv.0.fits) }, four_fit n r xs ys us vs hr hx.1 hy.1 hu.1 hv.1)
+-- the averages of four, less their excess
+abbrev pub less_l : List ℕ → List ℕ → List ℕ → List ℕ → List ℕ → List ℕ
+less_l xs ys us vs excess = zip2 minus (zip2 (average 0) (zip2 (average 0) xs ys) (zip2 (average 0) us vs)) excess
 
-pub four_at : (n r : ℕ) (xs ys us vs : List ℕ) (i : ℕ) → r ≤ 1 → length xs ≡ n → length ys ≡ n → length us ≡ n → length vs ≡ n →
-    Each1 (Fits w8) xs → Each1 (Fits w8) ys → Each1 (Fits w8) us → Each1 (Fits w8) vs → i < n →
-    get_or (four_l n r xs ys us vs) i 0 ≡ average4 r (get_or xs i 0) (get_or ys i 0) (get_or us i 0) (get_or vs i 0)
-four_at zero r xs ys us vs i hr ex ey eu ev hx hy hu hv hi = absurd (omega arith)
-four_at (suc n) r [] ys us vs i hr ex ey eu ev hx hy hu hv hi = absurd (omega arith)
-four_at (suc n) r (x ∷ xs) [] us vs i hr ex ey eu ev hx hy hu hv hi = absurd (omega arith)
-four_at (suc n) r (x ∷ xs) (y ∷ ys) [] vs i hr ex ey eu ev hx hy hu hv hi = absurd (omega arith)
-four_at (suc n) r (x ∷ xs) (y ∷ ys) (u ∷ us) [] i hr ex ey eu ev hx hy hu hv hi = absurd (omega arith)
-four_at (suc n) r (x ∷ xs) (y ∷ ys) (u ∷ us) (v ∷ vs) zero hr ex ey eu ev hx hy hu hv hi =
-    one_of_four r x y u v hr hx.0.fits hy.0.fits hu.0.fits hv.0.fits
-four_at (suc n) r (x ∷ xs) (y ∷ ys) (u ∷ us) (v ∷ vs) (suc i) hr ex ey eu ev hx hy hu hv hi =
-    four_at n r xs ys us vs i hr (omega arith) (omega arith) (omega arith) (omega arith) hx.1 hy.1 hu.1 hv.1 (omega arith)
+abbrev pub up_l : ℕ → List ℕ → List ℕ → List ℕ → List ℕ → List ℕ
+up_l n xs ys us vs =
+    less_l xs ys us vs
+    (zip2 bit_and (zip2 bit_and (zip2 bit_or (zip2 bit_xor xs ys) (zip2 bit_xor us vs)) (zip2 bit_xor (zip2 (average 0) xs ys) (zip2 (average 0) us vs))) (replicate n 1))
 
--- a sample of a load of the first n
-pub loaded : (n : ℕ) (xs : List ℕ) (i : ℕ) → i < n → get_or (chunk 0 n xs) i 0 ≡ get_or xs i 0
-loaded n xs i hi = get_or-chunk 0 n xs i 0 hi ∙ ap (λ (k : ℕ). get_or xs k 0) (zero-add i)
+abbrev pub down_l : ℕ → List ℕ → List ℕ → List ℕ → List ℕ → List ℕ
+down_l n xs ys us vs =
+    less_l xs ys us vs
+    (zip2 bit_and (zip2 bit_or (zip2 bit_and (zip2 bit_xor xs ys) (zip2 bit_xor us vs)) (zip2 bit_xor (zip2 (average 0) xs ys) (zip2 (average 0) us vs))) (replicate n 1))
 
--- a lane that was made wider has its number
-pub narrow_at : (xs : List ℕ) (i : ℕ) → get_or (wide xs) i 0 ≡ get_or xs i 0
-narrow_at [] i = refl
-narrow_at (x ∷ xs) zero = refl
-narrow_at (x ∷ xs) (suc i) = narrow_at xs i
+-- what holds of each four samples holds of each four lanes
+abbrev LaneByLane : (ℕ → List ℕ → List ℕ → List ℕ → List ℕ → List ℕ) → ℕ → Type 0
+LaneByLane f r =
+    (n : ℕ) (xs ys us vs : List ℕ) (i : ℕ) → length xs ≡ n → length ys ≡ n → length us ≡ n → length vs ≡ n →
+    Each1 (λ x. x < 256) xs → Each1 (λ x. x < 256) ys → Each1 (λ x. x < 256) us → Each1 (λ x. x < 256) vs → i < n →
+    get_or (f n xs ys us vs) i 0 ≡ average4 r (get_or xs i 0) (get_or ys i 0) (get_or us i 0) (get_or vs i 0)
+
+pub up_at : LaneByLane up_l 0
+up_at zero xs ys us vs i ex ey eu ev hx hy hu hv hi = absurd (omega arith)
+up_at (suc n) [] ys us vs i ex ey eu ev hx hy hu hv hi = absurd (omega arith)
+up_at (suc n) (x ∷ xs) [] us vs i ex ey eu ev hx hy hu hv hi = absurd (omega arith)
+up_at (suc n) (x ∷ xs) (y ∷ ys) [] vs i ex ey eu ev hx hy hu hv hi = absurd (omega arith)
+up_at (suc n) (x ∷ xs) (y ∷ ys) (u ∷ us) [] i ex ey eu ev hx hy hu hv hi = absurd (omega arith)
+up_at (suc n) (x ∷ xs) (y ∷ ys) (u ∷ us) (v ∷ vs) zero ex ey eu ev hx hy hu hv hi = one_up x y u v hx.0 hy.0 hu.0 hv.0
+up_at (suc n) (x ∷ xs) (y ∷ ys) (u ∷ us) (v ∷ vs) (suc i) ex ey eu ev hx hy hu hv hi =
+    up_at n xs ys us vs i (omega arith) (omega arith) (omega arith) (omega arith) hx.1 hy.1 hu.1 hv.1 (omega arith)
+
+pub down_at : LaneByLane down_l 1
+down_at zero xs ys us vs i ex ey eu ev hx hy hu hv hi = absurd (omega arith)
+down_at (suc n) [] ys us vs i ex ey eu ev hx hy hu hv hi = absurd (omega arith)
+down_at (suc n) (x ∷ xs) [] us vs i ex ey eu ev hx hy hu hv hi = absurd (omega arith)
+down_at (suc n) (x ∷ xs) (y ∷ ys) [] vs i ex ey eu ev hx hy hu hv hi = absurd (omega arith)
+down_at (suc n) (x ∷ xs) (y ∷ ys) (u ∷ us) [] i ex ey eu ev hx hy hu hv hi = absurd (omega arith)
+down_at (suc n) (x ∷ xs) (y ∷ ys) (u ∷ us) (v ∷ vs) zero ex ey eu ev hx hy hu hv hi = one_down x y u v hx.0 hy.0 hu.0 hv.0
+down_at (suc n) (x ∷ xs) (y ∷ ys) (u ∷ us) (v ∷ vs) (suc i) ex ey eu ev hx hy hu hv hi =
+    down_at n xs ys us vs i (omega arith) (omega arith) (omega arith) (omega arith) hx.1 hy.1 hu.1 hv.1 (omega arith)
+
+-- ---- loads
+
+-- a load of a row that is as long as the vector
+pub load_is : (n : ℕ) (xs : List ℕ) → length xs ≡ n → chunk 0 n xs ≡ xs
+load_is n xs e = subst (λ (k : ℕ). take k xs ≡ xs) e (take-length xs)
+
+-- what was loaded is samples
+pub load_small : (n : ℕ) (xs : List ℕ) → ((k : ℕ) → Fits w8 (get_or xs k 0)) → Each1 (λ x. x < 256) (chunk 0 n xs)
+load_small n xs h = below_from_Fits w8 (chunk 0 n xs) (chunk-fits w8 0 n xs h)

@@ -1,5 +1,5 @@
 -- From a moved block to its moved samples, and that they lie inside the plane.
-use Rattle.std.proofs.Common.{◌≡◌, ℕ, suc, min, negsuc, refl, ◌+◌, ◌*◌, ◌/◌, ◌%◌, ◌≤◌, ◌<◌, ℤ, pos, ◌+ℤ◌, Bool, cond, not, nat_eq, arith, ap, ◌∙◌, sym, subst, unsigned_abs}
+use Rattle.std.proofs.Common.{◌≡◌, ℕ, zero, suc, min, negsuc, refl, ◌+◌, ◌*◌, ◌/◌, ◌%◌, ◌≤◌, ◌<◌, ℤ, pos, ◌+ℤ◌, Bool, cond, not, nat_eq, arith, ap, ◌∙◌, sym, subst, unsigned_abs}
 use Rattle.std.proofs.lemmas.Int.{ints}
 use Rattle.std.proofs.lemmas.Bool.Decides.{nat_tests}
 use Rattle.std.specs.Int.{int_shr}
@@ -12,7 +12,7 @@ use Rattle.h263_planes.specs.Picture.{Picture}
 use Rattle.h263_planes.specs.declared.Plane.{Plane}
 use Rattle.h263_planes.specs.declared.Plane.TheVariants.{Y, Cb, Cr}
 use Rattle.h263_planes.specs.Samples.{Inside}
-use Rattle.half_sample.specs.Prediction.{interpolated, predicted_sample, moved, whole_part, is_half, IsColour}
+use Rattle.half_sample.specs.Prediction.{interpolated, predicted_sample, moved, whole_part, is_half, one_below, IsColour}
 
 -- a sample further in the block moves as far
 moved_more : (a x i : ℕ) (whole : ℤ) → pos x ≡ pos a +ℤ whole → x + i ≡ moved (a + i) whole
@@ -56,6 +56,40 @@ luma_inside f mb v {x} {y} {hx} {hy} r ex ey ehx ehy =
     let across = luma_ends (16 * (mb % columns_of f)) (width_of f) x hx v.x r.0.2 ex ehx in
     let down = luma_ends (16 * (mb / columns_of f)) (height_of f) y hy v.y r.1.2 ey ehy in
     record { in_row = across; in_plane = omega arith }
+
+-- a component that leads one whole sample further
+further : (v : ℤ) → (int_shr (v +ℤ pos 2) 1 ≡ int_shr v 1 +ℤ pos 1) × (unsigned_abs (v +ℤ pos 2) % 2 ≡ unsigned_abs v % 2)
+further (pos n) = let e : pos n +ℤ pos 2 ≡ pos (n + 2) = omega (arith, ints) in subst (λ (w : ℤ). (int_shr w 1 ≡ int_shr (pos n) 1 +ℤ pos 1) × (unsigned_abs w % 2 ≡ n % 2)) (sym e) (omega (arith, ints), omega arith)
+further (negsuc zero) = (refl, refl)
+further (negsuc (suc zero)) = (refl, refl)
+further (negsuc (suc (suc n))) =
+    let e : negsuc (suc (suc n)) +ℤ pos 2 ≡ negsuc n = omega (arith, ints) in
+    subst (λ (w : ℤ). (int_shr w 1 ≡ int_shr (negsuc (suc (suc n))) 1 +ℤ pos 1) × (unsigned_abs w % 2 ≡ suc (suc (suc n)) % 2)) (sym e) (omega (arith, ints), omega arith)
+
+still_half : (v : ℤ) {half : Bool} → half ≡ is_half Y v → half ≡ is_half Y (v +ℤ pos 2)
+still_half v h = h ∙ ap (λ (n : ℕ). nat_eq n 1) (sym (further v).1)
+
+one_further : (at : ℕ) (v : ℤ) {y : ℕ} → pos y ≡ whole_place at v → pos (y + 1) ≡ whole_place at (v +ℤ pos 2)
+one_further at v h = omega (arith, ints, h, (further v).0)
+
+-- a row further down, they are those of the vector one whole sample further down
+pub sample_below : (p : Picture) (r ax ay i j : ℕ) (v : Vector) {x y : ℕ} {hx hy : Bool} →
+    pos x ≡ pos ax +ℤ whole_part Y v.x → pos y ≡ pos ay +ℤ whole_part Y v.y → hx ≡ is_half Y v.x → hy ≡ is_half Y v.y →
+    interpolated p Y hx hy r (x + i) (y + (j + 1)) ≡ predicted_sample p Y (ax + i) (ay + j) (one_below v) r
+sample_below p r ax ay i j v {x} {y} {hx} {hy} ex ey ehx ehy =
+    let next : y + (j + 1) ≡ y + 1 + j = omega arith in
+    ap (λ (k : ℕ). interpolated p Y hx hy r (x + i) k) next
+    ∙ block_sample p Y r ax ay i j (one_below v) ex (one_further ay v.y ey) ehx (still_half v.y ehy)
+
+-- what sixteen rows and one more read ends inside where the vector one whole sample further down is in reach too
+pub taller_inside : (f : Format) (mb : ℕ) (v : Vector) {x y : ℕ} {hx hy : Bool} → InReach f mb v.x v.y → InReach f mb v.x (v.y +ℤ pos 2) →
+    pos x ≡ whole_place (16 * (mb % columns_of f)) v.x → pos y ≡ whole_place (16 * (mb / columns_of f)) v.y → hx ≡ is_half Y v.x → hy ≡ is_half Y v.y →
+    Inside f Y x (y + 16 + cond hy 1 0) (16 + cond hx 1 0)
+taller_inside f mb v {x} {y} {hx} {hy} r below ex ey ehx ehy =
+    let top = 16 * (mb / columns_of f) in
+    let across = luma_ends (16 * (mb % columns_of f)) (width_of f) x hx v.x r.0.2 ex ehx in
+    let down = luma_ends top (height_of f) (y + 1) hy (v.y +ℤ pos 2) below.1.2 (one_further top v.y ey) (still_half v.y ehy) in
+    record { in_row = across; in_plane = omega (arith, down) }
 
 -- four of its rows read no further down
 pub quarter_inside : (f : Format) (first y half : ℕ) → first < 4 → {x n : ℕ} → Inside f Y x (y + 15 + half) n → Inside f Y x (y + first + 12 + half) n

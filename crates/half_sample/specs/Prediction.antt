@@ -48,6 +48,10 @@ predicted_sample p plane x y v r =
     interpolated p plane (is_half plane v.x)
     (is_half plane v.y) r (moved x (whole_part plane v.x)) (moved y (whole_part plane v.y))
 
+-- the vector one whole luma sample further down
+abbrev pub one_below : Vector → Vector
+one_below v = record { x = v.x; y = v.y +ℤ pos 2 }
+
 -- the samples of macroblock `at` in a plane, by rows of n, are those that a vector predicts
 abbrev pub ArePredicted : ℕ → Picture → Plane → ℕ → Vector → ℕ → List ℕ → Type 0
 ArePredicted n p plane at v r samples =

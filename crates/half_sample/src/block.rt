@@ -48,10 +48,10 @@ pub(crate) fn row<const N: usize>(
     }
 }
 
-// A block of N x N predicted samples, row by row. Called with a case that is known, it has a loop
-// for this case alone.
+// H rows of N predicted samples. Called with a case that is known, it has a loop for this case
+// alone.
 #[inline(always)]
-fn block_of<const N: usize>(
+fn block_of<const N: usize, const H: usize>(
     reference: PictureRef<'_>,
     plane: Plane,
     x: u32,
@@ -61,25 +61,26 @@ fn block_of<const N: usize>(
     rounding: u8,
     out: &mut [u8],
 )
-    requires inside { ReadsInside (picture reference).format plane half_x half_y x (y + (N - 1)) N }
+    requires inside { ReadsInside (picture reference).format plane half_x half_y x (y + (H - 1)) N }
     requires x { x < 65536 }
     requires y { y < 60000 }
     requires rounding { rounding ≤ 1 }
     requires length { N ≤ 16 }
-    requires out { length out.old ≡ N * N }
-    ensures { (j i : ℕ) → j < N → i < N → slice_index out.new (N * j + i)
+    requires rows { H ≤ 17 }
+    requires out { length out.old ≡ N * H }
+    ensures { (j i : ℕ) → j < H → i < N → slice_index out.new (N * j + i)
         ≡ interpolated (picture reference.entry) plane half_x half_y rounding (x + i) (y + j) }
 {
-    for j in 0..N {
+    for j in 0..H {
         let at = N * j;
         let samples = row::<N>(reference, plane, x, y + j as u32, half_x, half_y, rounding);
         out[at..at + N].copy_from_slice(&samples);
     }
 }
 
-// A block of N x N predicted samples, 8 x 8 or 16 x 16.
+// H rows of N predicted samples, 8 or 16.
 #[inline(always)]
-pub(crate) fn block<const N: usize>(
+pub(crate) fn block<const N: usize, const H: usize>(
     reference: PictureRef<'_>,
     plane: Plane,
     x: u32,
@@ -89,23 +90,24 @@ pub(crate) fn block<const N: usize>(
     rounding: u8,
     out: &mut [u8],
 )
-    requires inside { ReadsInside (picture reference).format plane half_x half_y x (y + (N - 1)) N }
+    requires inside { ReadsInside (picture reference).format plane half_x half_y x (y + (H - 1)) N }
     requires x { x < 65536 }
     requires y { y < 60000 }
     requires rounding { rounding ≤ 1 }
     requires length { N ≤ 16 }
-    requires out { length out.old ≡ N * N }
-    ensures { (j i : ℕ) → j < N → i < N → slice_index out.new (N * j + i)
+    requires rows { H ≤ 17 }
+    requires out { length out.old ≡ N * H }
+    ensures { (j i : ℕ) → j < H → i < N → slice_index out.new (N * j + i)
         ≡ interpolated (picture reference.entry) plane half_x half_y rounding (x + i) (y + j) }
 {
     match (half_x, half_y, rounding) {
-        (false, false, _) => block_of::<N>(reference, plane, x, y, false, false, 0, out),
-        (true, false, 0) => block_of::<N>(reference, plane, x, y, true, false, 0, out),
-        (true, false, _) => block_of::<N>(reference, plane, x, y, true, false, 1, out),
-        (false, true, 0) => block_of::<N>(reference, plane, x, y, false, true, 0, out),
-        (false, true, _) => block_of::<N>(reference, plane, x, y, false, true, 1, out),
-        (true, true, 0) => block_of::<N>(reference, plane, x, y, true, true, 0, out),
-        (true, true, _) => block_of::<N>(reference, plane, x, y, true, true, 1, out),
+        (false, false, _) => block_of::<N, H>(reference, plane, x, y, false, false, 0, out),
+        (true, false, 0) => block_of::<N, H>(reference, plane, x, y, true, false, 0, out),
+        (true, false, _) => block_of::<N, H>(reference, plane, x, y, true, false, 1, out),
+        (false, true, 0) => block_of::<N, H>(reference, plane, x, y, false, true, 0, out),
+        (false, true, _) => block_of::<N, H>(reference, plane, x, y, false, true, 1, out),
+        (true, true, 0) => block_of::<N, H>(reference, plane, x, y, true, true, 0, out),
+        (true, true, _) => block_of::<N, H>(reference, plane, x, y, true, true, 1, out),
     }
 }
 

@@ -1,11 +1,11 @@
 //! The predicted samples of a macroblock.
-ghost use Rattle.std.specs.Prelude.{◌≤◌, ◌<◌};
+ghost use Rattle.std.specs.Prelude.{◌≤◌, ◌<◌, pos, ◌+ℤ◌, drop};
 ghost use Rattle.h263_types.specs.Sizes.{mbs_of};
 ghost use Rattle.h263_types.specs.Vectors.{InReach};
 ghost use Rattle.h263_planes.specs.Lent.{picture};
 ghost use Rattle.h263_planes.specs.declared.Plane.TheVariants.{Y};
 ghost use Rattle.half_sample.specs.Macroblock.{IsPredicted};
-ghost use Rattle.half_sample.specs.Prediction.{ArePredicted, IsColour, IsQuarter};
+ghost use Rattle.half_sample.specs.Prediction.{one_below, ArePredicted, IsColour, IsQuarter};
 
 use crate::block::{block, quarter};
 use crate::place::{chroma_place, is_chroma_half, is_luma_half, luma_place};
@@ -50,7 +50,38 @@ pub fn luma(reference: PictureRef<'_>, mb: u32, vector: Vector, rounding: u8, ou
     ensures { ArePredicted 16 (picture reference.entry) Y mb vector rounding out.new }
 {
     let (column, row) = mb_place(reference.format(), mb);
-    block::<16>(
+    block::<16, 16>(
+        reference,
+        Plane::Y,
+        luma_place(16 * column, vector.x),
+        luma_place(16 * row, vector.y),
+        is_luma_half(vector.x),
+        is_luma_half(vector.y),
+        rounding,
+        out,
+    );
+}
+
+/// The luma samples that a vector predicts for macroblock `mb`, by rows from the top, and one row
+/// more below them: the last sixteen rows are those that the vector one whole sample further down
+/// predicts.
+pub fn luma_and_below(
+    reference: PictureRef<'_>,
+    mb: u32,
+    vector: Vector,
+    rounding: u8,
+    out: &mut [u8; 272],
+)
+    requires mb { mb < mbs_of (picture reference).format }
+    requires reach { InReach (picture reference).format mb vector.x vector.y }
+    requires below { InReach (picture reference).format mb vector.x (vector.y +ℤ pos 2) }
+    requires rounding { rounding ≤ 1 }
+    ensures upper { ArePredicted 16 (picture reference.entry) Y mb vector rounding out.new }
+    ensures lower { ArePredicted 16
+        (picture reference.entry) Y mb (one_below vector) rounding (drop 16 out.new) }
+{
+    let (column, row) = mb_place(reference.format(), mb);
+    block::<16, 17>(
         reference,
         Plane::Y,
         luma_place(16 * column, vector.x),
@@ -108,7 +139,7 @@ pub fn chroma(
     ensures { ArePredicted 8 (picture reference.entry) plane mb vector rounding out.new }
 {
     let (column, row) = mb_place(reference.format(), mb);
-    block::<8>(
+    block::<8, 8>(
         reference,
         plane,
         chroma_place(8 * column, vector.x),

@@ -41,11 +41,6 @@ is_square xs f long same =
 
 -- ---- the differences that a vector leaves
 
--- from the first row on
-pub all_predicted : (block : List ℕ) (reference : Picture) (mb rounding : ℕ) (v : Vector) → rows_from block (predicted_of reference mb rounding v) 0 ≡ difference_of block reference mb rounding v
-unfolding difference_of rows_from
-all_predicted block reference mb rounding v = refl
-
 -- a vector by which the samples differ by n, with its cost
 abbrev pub costing : Vector → ℕ → Candidate
 costing v n = record { vector = v; cost = pos n -ℤ pos (lead_of v) }
@@ -84,25 +79,6 @@ one_row_more f block row j add hj hb hr same =
     row_cut block (square f) j add hj hb (length-square f)
     ∙ ap (λ (r : List ℕ). differences (chunk (16 * j) 16 block) r + differences (drop (16 * (j + 1)) block) (drop (16 * (j + 1)) (square f))) (row_is f row j hj hr same)
     ∙ ap (λ (b : List ℕ). differences b row + differences (drop (16 * (j + 1)) block) (drop (16 * (j + 1)) (square f))) (sym (part_is block (16 * j) 16))
-
--- a row that is stored as one of four
-pub stored_row : (f : ℕ → ℕ → ℕ) (block out : List ℕ) (first k j : ℕ) →
-    ((xs ys us vs : List ℕ) → length xs ≡ length us → differences (xs ++ ys) (us ++ vs) ≡ differences xs us + differences ys vs) →
-    j ≡ first + 4 * k → j < 16 → k < 4 → length block ≡ 256 → length out ≡ 64 → ((m i : ℕ) → m < 4 → i < 16 → get_or out (16 * m + i) 0 ≡ f i (first + 4 * m)) →
-    differences (slice_range block (16 * j) (16 * j + 16)) (slice_range out (16 * k) (16 * k + 16)) + rows_from block (square f) (j + 1) ≡ rows_from block (square f) j
-unfolding rows_from
-stored_row f block out first k j add e hj hk hb ho same =
-    let part : slice_range out (16 * k) (16 * k + 16) ≡ chunk (16 * k) 16 out = part_is out (16 * k) 16 in
-    let long : length (slice_range out (16 * k) (16 * k + 16)) ≡ 16 = ap length part ∙ length-chunk (16 * k) 16 out (omega arith) in
-    sym (one_row_more f block (slice_range out (16 * k) (16 * k + 16)) j add hj hb long
-    (λ i hi. ap (λ (l : List ℕ). get_or l i 0) part ∙ get_or-take 16 (drop (16 * k) out) i 0 hi ∙ get_or-drop (16 * k) out i 0 ∙ same k i hk hi ∙ ap (f i) (sym e)))
-
--- the rows from the next one on have no more differences than those from a row on
-pub two_rows_fall : (f : ℕ → ℕ → ℕ) (block : List ℕ) (j : ℕ) →
-    ((xs ys us vs : List ℕ) → length xs ≡ length us → differences (xs ++ ys) (us ++ vs) ≡ differences xs us + differences ys vs) →
-    j < 16 → length block ≡ 256 → rows_from block (square f) (j + 1) ≤ rows_from block (square f) j
-unfolding rows_from
-two_rows_fall f block j add hj hb = omega (arith, row_cut block (square f) j add hj hb (length-square f))
 
 pub one_row_of : (p : Picture) (block row : List ℕ) (x y j : ℕ) →
     ((xs ys us vs : List ℕ) → length xs ≡ length us → differences (xs ++ ys) (us ++ vs) ≡ differences xs us + differences ys vs) →

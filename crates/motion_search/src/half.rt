@@ -1,33 +1,19 @@
 //! The neighbours half a sample away.
-ghost use Rattle.std.specs.Prelude.{◌≡◌, ℕ, ◌+◌, ◌/◌, ◌<◌, ◌≤◌, ◌↔◌, ℤ, if◌then◌else◌};
+ghost use Rattle.std.specs.Prelude.{◌≡◌, ℕ, ◌<◌, ◌≤◌, ◌↔◌, ℤ, if◌then◌else◌};
 ghost use Rattle.h263_types.specs.Sizes.{mbs_of};
 ghost use Rattle.h263_types.specs.Vectors.{InReach, IsWithin};
-ghost use Rattle.h263_types.specs.Blocks.{IsVector};
 ghost use Rattle.h263_planes.specs.Lent.{picture};
 ghost use Rattle.motion_search.specs.Order.{first_of};
 ghost use Rattle.motion_search.specs.Cost.{candidate_of, IsCost};
 ghost use Rattle.motion_search.specs.Vectors.{around, in_reach};
 ghost use Rattle.motion_search.specs.Best.{best_near, IsCandidate};
 
-use crate::candidate::{Candidate, is_settled};
+use crate::around::{differences_around, neighbour};
+use crate::candidate::{Candidate, first, is_settled, with_differences};
 use crate::predicted::better_predicted;
-use crate::within::is_within;
+use crate::within::{are_within, is_within};
 use h263_planes::PictureRef;
 use h263_types::{Reach, Vector, reach};
-
-// The neighbour in place `n` of the eight around a vector, by rows from the top: of the nine places
-// the middle one is the vector's own.
-fn neighbour(vector: Vector, n: u32) -> Vector
-    requires vector { IsVector vector }
-    requires n { n < 8 }
-    ensures { result ≡ around vector (n + n / 4) }
-{
-    let k = n + n / 4;
-    Vector {
-        x: vector.x + (k % 3) as i8 - 1,
-        y: vector.y + (k / 3) as i8 - 1,
-    }
-}
 
 // The first of the best one and a vector, where that is in reach.
 fn better_in_reach(
@@ -54,6 +40,58 @@ fn better_in_reach(
     }
 }
 
+// The first of a candidate and those of its neighbours that are in reach, each by itself: at the
+// picture's edge.
+fn best_at_edge(
+    block: &[u8; 256],
+    reference: PictureRef<'_>,
+    mb: u32,
+    rounding: u8,
+    reach: Reach,
+    best: Candidate,
+) -> Candidate
+    requires mb { mb < mbs_of (picture reference).format }
+    requires reach { (x y : ℤ) → InReach (picture reference).format mb x y ↔ IsWithin reach x y }
+    requires rounding { rounding ≤ 1 }
+    requires candidate { IsCandidate block.now (picture reference) mb rounding best }
+    requires cost { IsCost best.cost }
+    ensures best { result ≡ best_near block.now (picture reference.entry) mb rounding best }
+    ensures cost { IsCost result.cost }
+{
+    let mut first = best;
+    for n in 0..8u32 {
+        let vector = neighbour(best.vector, n);
+        first = better_in_reach(block, reference, mb, rounding, reach, vector, first);
+    }
+    first
+}
+
+// The first of a candidate and its neighbours, all of which are in reach.
+fn best_inside(
+    block: &[u8; 256],
+    reference: PictureRef<'_>,
+    mb: u32,
+    rounding: u8,
+    best: Candidate,
+) -> Candidate
+    requires mb { mb < mbs_of (picture reference).format }
+    requires inside { (k : ℕ) → k < 9
+        → InReach (picture reference).format mb (around best.vector k).x (around best.vector k).y }
+    requires rounding { rounding ≤ 1 }
+    requires candidate { IsCandidate block.now (picture reference) mb rounding best }
+    requires cost { IsCost best.cost }
+    ensures best { result ≡ best_near block.now (picture reference.entry) mb rounding best }
+    ensures cost { IsCost result.cost }
+{
+    let sums = differences_around(block, reference, mb, rounding, best.vector);
+    let mut so_far = best;
+    for n in 0..8u32 {
+        let vector = neighbour(best.vector, n);
+        so_far = first(so_far, with_differences(vector, sums[n as usize]));
+    }
+    so_far
+}
+
 // The first of a candidate and its neighbours.
 pub(crate) fn best_of_neighbours(
     block: &[u8; 256],
@@ -73,10 +111,11 @@ pub(crate) fn best_of_neighbours(
         return best;
     }
     let reach = reach(reference.format(), mb);
-    let mut first = best;
-    for n in 0..8u32 {
-        let vector = neighbour(best.vector, n);
-        first = better_in_reach(block, reference, mb, rounding, reach, vector, first);
+    let up_left = neighbour(best.vector, 0);
+    let down_right = neighbour(best.vector, 7);
+    if are_within(reach, up_left, down_right) {
+        best_inside(block, reference, mb, rounding, best)
+    } else {
+        best_at_edge(block, reference, mb, rounding, reach, best)
     }
-    first
 }

@@ -18,6 +18,7 @@ ghost use Rattle.h263_planes.specs.Lent.{picture};
 ghost use Rattle.motion_search.specs.Cost.{samples_of, IsCost};
 ghost use Rattle.motion_search.specs.Best.{best_vector};
 
+mod around;
 mod candidate;
 mod half;
 pub mod laws;

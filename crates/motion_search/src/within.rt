@@ -12,6 +12,14 @@ pub(crate) fn is_within(reach: Reach, vector: Vector) -> bool
     is_across(reach, vector) && is_down(reach, vector)
 }
 
+// Whether two vectors are.
+#[inline(always)]
+pub(crate) fn are_within(reach: Reach, one: Vector, other: Vector) -> bool
+    ensures { IsTrue result ↔ (IsWithin reach one.x one.y × IsWithin reach other.x other.y) }
+{
+    is_within(reach, one) && is_within(reach, other)
+}
+
 #[inline(always)]
 fn is_across(reach: Reach, vector: Vector) -> bool
     ensures { IsTrue result ↔ ((reach.left ≤ℤ vector.x) × (vector.x ≤ℤ reach.right)) }

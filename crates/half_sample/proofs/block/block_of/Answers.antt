@@ -10,7 +10,7 @@ loop-j-preserved g c =
     let n = g.row.N in
     let j = c.loop-j.j in
     let row = c.copy_from_slice.new.self in
-    let more : n * suc j ≤ n * n = mul-le-mul_left n (omega (arith, c.loop-j-test.true)) in
+    let more : n * suc j ≤ n * g.row.H = mul-le-mul_left n (omega (arith, c.loop-j-test.true)) in
     let room : n * j + n ≤ length c.loop-j.out = omega (arith, more, c.loop-j.invariant.0) in
     let long : length row ≡ n = omega arith in (
       same_length c.loop-j.out row (n * j) _ (omega arith) (omega arith) ∙ c.loop-j.invariant.0,

@@ -1,7 +1,7 @@
 use Rattle.std.proofs.Common.{arith}
 use Rattle.std.proofs.lemmas.Int.{ints}
 use Rattle.motion_search.proofs.Squares.{same_vectors}
-use Rattle.motion_search.proofs.half.neighbour.Goals as goal
+use Rattle.motion_search.proofs.around.neighbour.Goals as goal
 
 pub returns : goal.returns
 returns c =

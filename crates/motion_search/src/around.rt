@@ -1,0 +1,161 @@
+//! The differences that the eight vectors half a sample away leave.
+ghost use Rattle.std.specs.Prelude.{◌≡◌, ℕ, ◌+◌, ◌*◌, ◌/◌, ◌<◌, ◌≤◌, pos, ◌+ℤ◌, length, slice_index, slice_range};
+ghost use Rattle.h263_types.specs.Sizes.{mbs_of};
+ghost use Rattle.h263_types.specs.Vectors.{InReach};
+ghost use Rattle.h263_types.specs.Blocks.{IsVector};
+ghost use Rattle.h263_planes.specs.Lent.{picture};
+ghost use Rattle.sad_kernel.specs.Differences.{differences};
+ghost use Rattle.motion_search.specs.Cost.{difference_of};
+ghost use Rattle.motion_search.specs.Rows.{rows_from};
+ghost use Rattle.half_sample.specs.Prediction.{one_below};
+ghost use Rattle.motion_search.specs.Vectors.{around};
+
+use crate::lent::differences_of_four;
+use h263_planes::PictureRef;
+use h263_types::Vector;
+use half_sample::{luma, luma_and_below};
+use sad_kernel::laws as sad_kernel_laws;
+
+// The neighbour in place `n` of the eight around a vector, by rows from the top: of the nine places
+// the middle one is the vector's own.
+pub(crate) fn neighbour(vector: Vector, n: u32) -> Vector
+    requires vector { IsVector vector }
+    requires n { n < 8 }
+    ensures { result ≡ around vector (n + n / 4) }
+{
+    let k = n + n / 4;
+    Vector {
+        x: vector.x + (k % 3) as i8 - 1,
+        y: vector.y + (k / 3) as i8 - 1,
+    }
+}
+
+// Sixteen of seventeen rows, from a sample on.
+#[inline(always)]
+fn sixteen_rows(rows: &[u8; 272], at: usize) -> &[u8]
+    requires { at ≤ 16 }
+    ensures value { result.now ≡ slice_range rows.now at (at + 256) }
+    ensures length { length result.now ≡ 256 }
+{
+    &rows[at..at + 256]
+}
+
+// Row `j` of sixteen.
+#[inline(always)]
+fn stored_row(samples: &[u8], j: u32) -> &[u8]
+    requires samples { length samples.now ≡ 256 }
+    requires j { j < 16 }
+    ensures value { result.now ≡ slice_range samples.now (16 * j) (16 * j + 16) }
+    ensures length { length result.now ≡ 16 }
+{
+    let at = 16 * j as usize;
+    &samples[at..at + 16]
+}
+
+// The differences of rows `j`, `j + 4`, `j + 8` and `j + 12` of a block from those of another.
+#[inline(always)]
+fn four_rows_of(block: &[u8; 256], samples: &[u8], j: u32) -> u32
+    requires samples { length samples.now ≡ 256 }
+    requires j { j < 4 }
+    ensures value { result + (rows_from block.now samples.now (j + 1)
+        + rows_from block.now samples.now (j + 5) + rows_from block.now samples.now (j + 9)
+        + rows_from block.now samples.now (j + 13)) ≡ rows_from block.now samples.now j
+        + rows_from block.now samples.now (j + 4) + rows_from block.now samples.now (j + 8)
+        + rows_from block.now samples.now (j + 12) }
+    ensures most { result ≤ 16320 }
+{
+    sad_kernel_laws::parts_add();
+    let top = stored_row(samples, j);
+    let second = stored_row(samples, j + 4);
+    let third = stored_row(samples, j + 8);
+    let fourth = stored_row(samples, j + 12);
+    differences_of_four(block, j, top, second, third, fourth)
+}
+
+// The differences of two blocks. The compiler adds up all sixteen rows before it adds the lanes of
+// the sum.
+#[inline(always)]
+fn differences_of_all(block: &[u8; 256], samples: &[u8]) -> u32
+    requires samples { length samples.now ≡ 256 }
+    ensures value { result ≡ differences block.now samples.now }
+    ensures most { result ≤ 65280 }
+{
+    four_rows_of(block, samples, 0)
+        + four_rows_of(block, samples, 1)
+        + four_rows_of(block, samples, 2)
+        + four_rows_of(block, samples, 3)
+}
+
+// The differences of a block from what a vector predicts.
+pub(crate) fn differences_of_one(
+    block: &[u8; 256],
+    reference: PictureRef<'_>,
+    mb: u32,
+    rounding: u8,
+    vector: Vector,
+) -> u32
+    requires mb { mb < mbs_of (picture reference).format }
+    requires reach { InReach (picture reference).format mb vector.x vector.y }
+    requires rounding { rounding ≤ 1 }
+    ensures value { result ≡ difference_of block.now (picture reference.entry) mb rounding vector }
+    ensures most { result ≤ 65280 }
+{
+    let mut samples = [0; 256];
+    luma(reference, mb, vector, rounding, &mut samples);
+    differences_of_all(block, &samples)
+}
+
+// The differences of a block from what a vector predicts, and from what the vector one whole sample
+// further down does: both predict fifteen rows in common, and each is computed once.
+fn differences_of_two(
+    block: &[u8; 256],
+    reference: PictureRef<'_>,
+    mb: u32,
+    rounding: u8,
+    vector: Vector,
+) -> (u32, u32)
+    requires mb { mb < mbs_of (picture reference).format }
+    requires reach { InReach (picture reference).format mb vector.x vector.y }
+    requires below { InReach (picture reference).format mb vector.x (vector.y +ℤ pos 2) }
+    requires rounding { rounding ≤ 1 }
+    ensures upper { result.0
+        ≡ difference_of block.now (picture reference.entry) mb rounding vector }
+    ensures lower { result.1
+        ≡ difference_of block.now (picture reference.entry) mb rounding (one_below vector) }
+    ensures most { (result.0 ≤ 65280) × (result.1 ≤ 65280) }
+{
+    let mut rows = [0; 272];
+    luma_and_below(reference, mb, vector, rounding, &mut rows);
+    let upper = differences_of_all(block, sixteen_rows(&rows, 0));
+    let lower = differences_of_all(block, sixteen_rows(&rows, 16));
+    (upper, lower)
+}
+
+// The differences of a block from what the eight neighbours of a vector predict, where all of them
+// are in reach. Each one above and the one below it are taken together.
+pub(crate) fn differences_around(
+    block: &[u8; 256],
+    reference: PictureRef<'_>,
+    mb: u32,
+    rounding: u8,
+    vector: Vector,
+) -> [u32; 8]
+    requires mb { mb < mbs_of (picture reference).format }
+    requires vector { IsVector vector }
+    requires inside { (k : ℕ) → k < 9
+        → InReach (picture reference).format mb (around vector k).x (around vector k).y }
+    requires rounding { rounding ≤ 1 }
+    ensures value { (n : ℕ) → n < 8 → slice_index result n ≡ difference_of
+        block.now (picture reference.entry) mb rounding (around vector (n + n / 4)) }
+    ensures most { (n : ℕ) → n < 8 → slice_index result n ≤ 65280 }
+{
+    let r = rounding;
+    let (up_left, down_left) = differences_of_two(block, reference, mb, r, neighbour(vector, 0));
+    let (up, down) = differences_of_two(block, reference, mb, r, neighbour(vector, 1));
+    let (up_right, down_right) = differences_of_two(block, reference, mb, r, neighbour(vector, 2));
+    let left = differences_of_one(block, reference, mb, r, neighbour(vector, 3));
+    let right = differences_of_one(block, reference, mb, r, neighbour(vector, 4));
+    [
+        up_left, up, up_right, left, right, down_left, down, down_right,
+    ]
+}
