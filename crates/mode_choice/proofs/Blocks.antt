@@ -1,11 +1,14 @@
 -- The samples of a macroblock by its six blocks, and by its square of luma.
-use Rattle.std.proofs.Common.{◌≡◌, ℕ, zero, suc, ◌+◌, ◌*◌, ◌/◌, ◌%◌, ◌<◌, List, [], ◌∷◌, get_or, length, lit<, arith, ap, ◌∙◌, ℤ, pos, ◌-ℤ◌}
+use Rattle.std.proofs.Common.{◌≡◌, ℕ, zero, suc, ◌+◌, ◌*◌, ◌/◌, ◌%◌, ◌<◌, List, [], ◌∷◌, get_or, length, lit<, arith, ap, sym, subst, map, ◌∙◌, ℤ, pos, ◌-ℤ◌}
+use Rattle.std.specs.List.{range_with_len}
 use Rattle.std.proofs.lemmas.Int.{ints}
 use Rattle.std.proofs.lemmas.List.FromFn.{fill_by_all, get_or-map-range_with_len, length-map-range_with_len}
 use Rattle.h263_types.specs.declared.vector.Vector.{Vector}
 use Rattle.h263_types.specs.Sizes.{columns_of}
 use Rattle.h263_planes.specs.declared.Plane.{Plane}
 use Rattle.h263_planes.specs.declared.Plane.TheVariants.{Y, Cb, Cr}
+use Rattle.h263_planes.specs.declared.blocks.Corner.{Corner}
+use Rattle.h263_planes.specs.Blocks.{corner_of}
 use Rattle.h263_planes.specs.Picture.{Picture}
 use Rattle.h263_planes.specs.Samples.{sample_at}
 use Rattle.half_sample.specs.Prediction.{ArePredicted, predicted_sample, moved, whole_part}
@@ -53,6 +56,15 @@ samples_long p mb b = length-map-range_with_len (λ (k : ℕ). pos (sample_in_bl
 pub sample_of : (p : Picture) (mb b k : ℕ) → k < 64 → get_or (samples_of p mb b) k (pos 0) ≡ pos (sample_in_block p mb b k)
 unfolding samples_of
 sample_of p mb b k h = get_or-map-range_with_len (λ (k : ℕ). pos (sample_in_block p mb b k)) 0 64 k k (pos 0) h (omega arith)
+
+-- the 8 x 8 samples of a plane from the corner of a block on are the block's
+pub square_is_block : (p : Picture) (mb b : ℕ) (corner : Corner) (plane : Plane) (samples : List ℤ) → corner ≡ corner_of p.format mb b → corner.plane ≡ plane → length samples ≡ 64 →
+    ((k : ℕ) → k < 64 → get_or samples k (pos 0) ≡ pos (sample_at p plane (corner.x + k % 8) (corner.y + k / 8))) → samples ≡ samples_of p mb b
+unfolding samples_of
+square_is_block p mb b corner plane samples e same long each =
+    subst (λ (corner : Corner). samples ≡ map (λ k. pos (sample_at p corner.plane (corner.x + k % 8) (corner.y + k / 8))) (range_with_len 0 64)) e
+    (fill_by_all (λ (k : ℕ). pos (sample_at p corner.plane (corner.x + k % 8) (corner.y + k / 8))) samples 64 (pos 0) long
+    (λ k h. each k h ∙ ap (λ (plane : Plane). pos (sample_at p plane (corner.x + k % 8) (corner.y + k / 8))) (sym same)))
 
 -- what is left of a block at each place is the list of its residuals
 pub residuals_are : (p q : Picture) (r mb : ℕ) (v : Vector) (b : ℕ) (residuals : List ℤ) (predicted : List ℕ) → length residuals ≡ 64 →

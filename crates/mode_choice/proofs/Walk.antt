@@ -1,5 +1,5 @@
 -- Where the levels of a block stand.
-use Rattle.std.proofs.Common.{◌≡◌, ◌≢◌, ℕ, zero, suc, ◌<◌, ℤ, pos, List, [], ◌∷◌, get_or, slice_index, slice_set, replicate, Bool, true, false, cond, nat_eq, nat_lt, refl, ap, sym, ◌∙◌, arith, lit<, ltb-true, length-set, get_or-set_same, get_or-set_other}
+use Rattle.std.proofs.Common.{◌≡◌, ◌≢◌, ℕ, zero, suc, ◌<◌, ℤ, pos, List, [], ◌∷◌, get_or, slice_index, slice_set, replicate, Bool, true, false, cond, nat_eq, nat_lt, refl, ap, sym, ◌∙◌, arith, lit<, ltb-true, length-set, get_or-set_same, get_or-set_other, to_z, of_z, w16}
 use Rattle.std.specs.List.{list_all}
 use Rattle.std.specs.Int.{bit_at}
 use Rattle.std.proofs.lemmas.Int.{ints}
@@ -8,13 +8,15 @@ use Rattle.std.proofs.lemmas.Bool.Decides.{Decides-int_eq, nat_tests}
 use Rattle.std.proofs.lemmas.List.{get_or-replicate}
 use Rattle.std.proofs.lemmas.List.Elements.{All-set, All-replicate}
 use Rattle.std.proofs.lemmas.Nat.Bits.{bit_at-zero}
-use Rattle.h263_types.specs.Blocks.{IsLevel}
+use Rattle.h263_types.specs.Blocks.{IsLevel, IsQuant}
 use Rattle.h263_types.specs.Marks.{EachIsMarked, IsMark, is_zero, marks_of, without}
+use Rattle.quantiser.specs.Factors.{HasSameLevels, IsWord, limited_to_word}
 use Rattle.quantiser.specs.Zigzag.{IsOneOrder, order, block_place_of, zigzag_place_of}
 use Rattle.idct8.specs.Transform.{entry, forward_at}
 use Rattle.mode_choice.specs.Choice.{coefficient_at}
 use Rattle.mode_choice.specs.Walk.{AreSet, level_by, level_in}
 use Rattle.mode_choice.specs.declared.coefficients.Coding.{Coding}
+use Rattle.mode_choice.specs.declared.coefficients.Coding.TheVariants.{Intra, Inter}
 use Rattle.mode_choice.proofs.Levels.{is_forward}
 
 -- ---- places
@@ -36,6 +38,19 @@ block_place_below k = places_below order refl k
 
 pub zero_level : IsLevel (pos 0)
 zero_level = record { low = omega (arith, ints); high = omega (arith, ints) }
+
+-- ---- coefficients of 16 bits
+
+pub zero_word : IsWord (pos 0)
+zero_word = record { low = omega (arith, ints); high = omega (arith, ints) }
+
+pub word_kept : (z : ℤ) → IsWord z → to_z w16 (of_z w16 z) ≡ z
+word_kept z h = omega (arith, ints)
+
+-- a coefficient that is limited to 16 bits has the same level
+pub same_level : HasSameLevels → (coding : Coding) (quant : ℕ) (z : ℤ) → IsQuant quant → level_by coding quant (limited_to_word z) ≡ level_by coding quant z
+same_level same Intra quant z h = (same quant z h).1
+same_level same Inter quant z h = (same quant z h).0
 
 -- ---- the walk over the marks
 

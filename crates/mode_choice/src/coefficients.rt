@@ -1,11 +1,14 @@
 //! The levels of a block's coefficients, by rows and then in the zigzag order.
 ghost use Rattle.std.specs.Prelude.{◌≡◌, ℕ, ◌≤◌, ◌<◌, pos, All, length, nat_lt, slice_index_or, if◌then◌else◌};
 ghost use Rattle.h263_types.specs.Blocks.{IsCoefficient, IsLevel, IsQuant};
-ghost use Rattle.quantiser.specs.Levels.{factor_of};
+ghost use Rattle.quantiser.specs.Factors.{IsFactor, IsWord, limited_to_word};
 ghost use Rattle.mode_choice.specs.Walk.{least_of, level_by, level_in};
 
 use h263_types::{Block, laws as types_laws};
-use quantiser::{factor, laws as quantiser_laws, level_inter_by, level_intra_by, zigzag_place};
+use quantiser::{
+    Factor, factor_of, laws as quantiser_laws, level_inter_by, level_intra_by, limited,
+    zigzag_place,
+};
 
 // How a block is coded: by itself, or as what a prediction leaves.
 #[derive(Clone, Copy, Debug)]
@@ -66,7 +69,7 @@ fn kept(level: i16, k: usize, keep: u8) -> i16
 }
 
 // The levels of all coefficients, by rows. There is no branch on any of them, so that they are
-// taken together.
+// taken together: eight at a time, since the coefficients are limited to 16 bits first.
 #[inline(always)]
 fn levels_by_rows(coding: Coding, quant: u8, coefficients: &[i32; 64]) -> [i16; 64]
     requires quant { IsQuant quant }
@@ -78,20 +81,39 @@ fn levels_by_rows(coding: Coding, quant: u8, coefficients: &[i32; 64]) -> [i16; 
     ensures range { All IsLevel result }
 {
     types_laws::one_more::<i16>();
-    let factor = factor(quant);
+    quantiser_laws::limited_coefficients();
+    let factor = factor_of(quant);
+    let limited = limited_by_rows(coefficients);
     let mut levels = [0; 64];
     for at in 0..64 {
-        levels[at] = level(coding, quant, factor, coefficients[at]);
+        levels[at] = level(coding, quant, factor, limited[at]);
     }
     levels
 }
 
-// The level of a coefficient, by the quantiser's factor.
+// The coefficients, each limited to 16 bits.
 #[inline(always)]
-fn level(coding: Coding, quant: u8, factor: u32, coefficient: i32) -> i16
+fn limited_by_rows(coefficients: &[i32; 64]) -> [i16; 64]
+    requires { (at : ℕ) → at < 64 → IsCoefficient (slice_index_or coefficients.now at (pos 0)) }
+    ensures long { length result ≡ 64 }
+    ensures limited { (at : ℕ) → at < 64 → slice_index_or result at (pos 0)
+        ≡ limited_to_word (slice_index_or coefficients.now at (pos 0)) }
+    ensures range { All IsWord result }
+{
+    types_laws::one_more::<i16>();
+    let mut words = [0; 64];
+    for at in 0..64 {
+        words[at] = limited(coefficients[at]);
+    }
+    words
+}
+
+// The level of a coefficient of 16 bits, by the quantiser's factor.
+#[inline(always)]
+fn level(coding: Coding, quant: u8, factor: Factor, coefficient: i16) -> i16
     requires quant { IsQuant quant }
-    requires factor { factor ≡ factor_of quant }
-    requires coefficient { IsCoefficient coefficient }
+    requires factor { IsFactor quant factor }
+    requires coefficient { IsWord coefficient }
     ensures level { result ≡ level_by coding quant coefficient }
     ensures range { IsLevel result }
 {

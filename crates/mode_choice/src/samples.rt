@@ -1,16 +1,17 @@
 //! The samples of a block.
-ghost use Rattle.std.specs.Prelude.{◌≡◌, ℕ, ◌%◌, ◌/◌, ◌<◌, pos, ◌-ℤ◌, All, length, slice_index, slice_index_or, nat_eq, if◌then◌else◌};
+ghost use Rattle.std.specs.Prelude.{◌≡◌, ℕ, ◌+◌, ◌%◌, ◌/◌, ◌<◌, pos, ◌-ℤ◌, All, length, slice_index, slice_index_or, nat_eq, if◌then◌else◌};
 ghost use Rattle.h263_types.specs.Sizes.{mbs_of};
 ghost use Rattle.h263_planes.specs.Lent.{picture};
-ghost use Rattle.h263_planes.specs.Samples.{IsPicture};
+ghost use Rattle.h263_planes.specs.Samples.{Inside, IsPicture, sample_at};
 ghost use Rattle.idct8.specs.Ranges.{IsSample};
 ghost use Rattle.mode_choice.specs.Choice.{sample_in_block, samples_of};
 
-use h263_planes::{PictureRef, block_corner};
+use h263_planes::{PictureRef, Plane, block_corner};
 use h263_types::laws as types_laws;
 use std::simd::prelude::*;
 
-// The samples of block `block` of macroblock `mb`, by rows.
+// The samples of block `block` of macroblock `mb`, by rows. Each plane has code of its own, in which
+// its begin and its width are known before the first row.
 pub(crate) fn block_samples(frame: PictureRef<'_>, mb: u32, block: u32) -> [i16; 64]
     requires mb { mb < mbs_of (picture frame).format }
     requires block { block < 6 }
@@ -19,10 +20,26 @@ pub(crate) fn block_samples(frame: PictureRef<'_>, mb: u32, block: u32) -> [i16;
     ensures whole { IsPicture (picture frame.entry) }
 {
     let corner = block_corner(frame.format(), mb, block);
+    match corner.plane {
+        Plane::Y => square(frame, Plane::Y, corner.x, corner.y),
+        Plane::Cb => square(frame, Plane::Cb, corner.x, corner.y),
+        Plane::Cr => square(frame, Plane::Cr, corner.x, corner.y),
+    }
+}
+
+// The 8 x 8 samples of a plane from column `x` of row `y` on, by rows.
+#[inline(always)]
+fn square(frame: PictureRef<'_>, plane: Plane, x: u32, y: u32) -> [i16; 64]
+    requires { Inside (picture frame).format plane x (y + 7) 8 }
+    ensures long { length result ≡ 64 }
+    ensures samples { (k : ℕ) → k < 64 → slice_index_or result k (pos 0)
+        ≡ pos (sample_at (picture frame.entry) plane (x + k % 8) (y + k / 8)) }
+    ensures range { All IsSample result }
+{
     let mut samples = [0; 64];
-    for y in 0..8u32 {
-        let row = frame.row(corner.plane, corner.x, corner.y + y, 8);
-        put_row(&mut samples, y as usize, row);
+    for j in 0..8u32 {
+        let row = frame.row(plane, x, y + j, 8);
+        put_row(&mut samples, j as usize, row);
     }
     samples
 }

@@ -1,41 +1,46 @@
--- A quotient by a product: exact for sizes up to 127 steps of up to 62.
-use Rattle.std.proofs.Common.{◌≡◌, ℕ, ◌+◌, ◌-◌, ◌*◌, ◌/◌, ◌%◌, ◌<◌, ◌≤◌, Bool, true, false, min, nat_lt, ltb-true, refl, sym, ap, subst, ◌∙◌, arith}
+-- A quotient by a product, and no more steps than 127.
+use Rattle.std.proofs.Common.{◌≡◌, ℕ, ◌+◌, ◌-◌, ◌*◌, ◌/◌, ◌%◌, ◌^◌, ◌<◌, ◌≤◌, Bool, true, false, min, nat_lt, ltb-true, refl, sym, ap, subst, ◌∙◌, arith}
 use Rattle.std.proofs.lemmas.Bool.Decides.{nat_tests}
 use Rattle.std.proofs.lemmas.Nat.{div-mul-add}
-use Rattle.std.proofs.Math.Nat.{div-lt_iff_lt-mul, mul-le-mul, mul-le-mul_left}
+use Rattle.std.proofs.Math.Nat.{div-div-eq-div-mul, div-lt_iff_lt-mul, mul-le-mul, mul-le-mul_left, pow-le-pow_right}
 use Rattle.h263_types.specs.Blocks.{IsQuant}
-use Rattle.quantiser.specs.Levels.{factor_of}
+use Rattle.quantiser.specs.declared.coefficients.Factor.{Factor}
+use Rattle.quantiser.specs.Factors.{IsFactor}
 
 not_less : (m n : ℕ) → nat_lt m n ≡ false → n ≤ m
 not_less m n e = grind (arith, nat_tests)
 
--- a number whose product with d is a little more than 2 ^ 19, and the quotient a of n by d with its rest r
-low : (n d m e a r : ℕ) → d * a + r ≡ n → m * d ≡ 524288 + e → a * 524288 ≤ n * m
-low n d m e a r whole exact =
+-- a number m whose product with d is a little more than p, and the quotient a of n by d with its rest r
+low : (p n d m e a r : ℕ) → d * a + r ≡ n → m * d ≡ p + e → a * p ≤ n * m
+low p n d m e a r whole exact =
     let rows : n * m ≡ (d * a + r) * m = ap (λ (k : ℕ). k * m) (sym whole) in
-    let product : a * (m * d) ≡ a * (524288 + e) = ap (λ (k : ℕ). a * k) exact in
+    let product : a * (m * d) ≡ a * (p + e) = ap (λ (k : ℕ). a * k) exact in
     omega (arith, rows, product)
 
-high_by : (b : Bool) (n d m e a r : ℕ) → nat_lt (n * m) (a * 524288 + 524288) ≡ b → d * a + r ≡ n → r < d → m * d ≡ 524288 + e → n * e < 524288 → n * m < a * 524288 + 524288
-high_by true n d m e a r test whole rest exact few = ltb-true _ _ test
-high_by false n d m e a r test whole rest exact few =
-    let large : a * 524288 + 524288 ≤ n * m = not_less (n * m) (a * 524288 + 524288) test in
-    let more : d * (a * 524288 + 524288) ≤ d * (n * m) = mul-le-mul_left d large in
-    let product : n * (m * d) ≡ n * (524288 + e) = ap (λ (k : ℕ). n * k) exact in
-    absurd (omega (arith, more, product, whole, rest, few))
+high_by : (b : Bool) (p n d m e a r : ℕ) → nat_lt (n * m) (a * p + p) ≡ b → d * a + r ≡ n → r < d → m * d ≡ p + e → n * e < p → n * m < a * p + p
+high_by true p n d m e a r test whole rest exact few = ltb-true _ _ test
+high_by false p n d m e a r test whole rest exact few =
+    let large : a * p + p ≤ n * m = not_less (n * m) (a * p + p) test in
+    let more : d * (a * p + p) ≤ d * (n * m) = mul-le-mul_left d large in
+    let product : n * (m * d) ≡ n * (p + e) = ap (λ (k : ℕ). n * k) exact in
+    let parts : (d * a + r) * p ≡ n * p = ap (λ (k : ℕ). k * p) whole in
+    let room : p * (r + 1) ≤ p * d = mul-le-mul_left p (let next : r + 1 ≤ d = omega (arith, rest) in next) in
+    absurd (omega (arith, more, product, parts, room, few))
 
-high : (n d m e a r : ℕ) → d * a + r ≡ n → r < d → m * d ≡ 524288 + e → n * e < 524288 → n * m < a * 524288 + 524288
-high n d m e a r whole rest exact few = high_by (nat_lt (n * m) (a * 524288 + 524288)) n d m e a r refl whole rest exact few
+high : (p n d m e a r : ℕ) → d * a + r ≡ n → r < d → m * d ≡ p + e → n * e < p → n * m < a * p + p
+high p n d m e a r whole rest exact few = high_by (nat_lt (n * m) (a * p + p)) p n d m e a r refl whole rest exact few
 
-by_parts : (n d m e a r : ℕ) → d * a + r ≡ n → r < d → m * d ≡ 524288 + e → n * e < 524288 → n * m / 524288 ≡ a
-by_parts n d m e a r whole rest exact few =
-    let from : a * 524288 ≤ n * m = low n d m e a r whole exact in
-    let to : n * m < a * 524288 + 524288 = high n d m e a r whole rest exact few in
-    let parts : a * 524288 + (n * m - a * 524288) ≡ n * m = omega (arith, from) in
-    subst (λ (k : ℕ). k / 524288 ≡ a) parts (div-mul-add a 524288 (n * m - a * 524288) (omega (arith, from, to)))
+by_parts : (p n d m e a r : ℕ) → d * a + r ≡ n → r < d → m * d ≡ p + e → n * e < p → n * m / p ≡ a
+by_parts p n d m e a r whole rest exact few =
+    let from : a * p ≤ n * m = low p n d m e a r whole exact in
+    let to : n * m < a * p + p = high p n d m e a r whole rest exact few in
+    let parts : a * p + (n * m - a * p) ≡ n * m = omega (arith, from) in
+    subst (λ (k : ℕ). k / p ≡ a) parts (div-mul-add a p (n * m - a * p) (omega (arith, from, to)))
 
-pub by_product : (n d m e : ℕ) → 0 < d → m * d ≡ 524288 + e → n * e < 524288 → n * m / 524288 ≡ n / d
-by_product n d m e some exact few = by_parts n d m e (n / d) (n % d) (omega (arith, some)) (omega (arith, some)) exact few
+-- Division by a product: where m is p / d, rounded up, and n times what the rounding adds stays below p, then n * m / p
+-- is n / d.
+pub by_product : (p n d m e : ℕ) → 0 < d → m * d ≡ p + e → n * e < p → n * m / p ≡ n / d
+by_product p n d m e some exact few = by_parts p n d m e (n / d) (n % d) (omega (arith, some)) (omega (arith, some)) exact few
 
 -- no more than 127 steps
 limited_by : (b : Bool) (n d : ℕ) → nat_lt (127 * d) n ≡ b → 0 < d → min n (127 * d) / d ≡ min (n / d) 127
@@ -58,30 +63,39 @@ limited_by false n d test some =
 pub limited : (n d : ℕ) → 0 < d → min n (127 * d) / d ≡ min (n / d) 127
 limited n d some = limited_by (nat_lt (127 * d) n) n d refl some
 
--- the factor's product with twice the quantiser
-pub factor_exact : (q : ℕ) → 0 < q → factor_of q * (2 * q) ≡ 524288 + (2 * q - 1 - (524287 + 2 * q) % (2 * q))
-factor_exact q some =
-    let step : 0 < 2 * q = omega (arith, some) in
-    let whole : 2 * q * ((524287 + 2 * q) / (2 * q)) + (524287 + 2 * q) % (2 * q) ≡ 524287 + 2 * q = omega (arith, step) in
-    let rest : (524287 + 2 * q) % (2 * q) < 2 * q = omega (arith, step) in
+-- two sizes that are the same up to 127 steps have as many of them
+pub same_steps : (m n d : ℕ) → 0 < d → min m (127 * d) ≡ min n (127 * d) → min (m / d) 127 ≡ min (n / d) 127
+same_steps m n d some e = sym (limited m d some) ∙ ap (λ (k : ℕ). k / d) e ∙ limited n d some
+
+-- the factor's product with twice the quantiser, where k is the power of two
+product_of : (q k : ℕ) → 0 < q → (32768 * k + (q - 1)) / q * (2 * q) ≡ 65536 * k + 2 * (q - 1 - (32768 * k + (q - 1)) % q)
+product_of q k some =
+    let whole : q * ((32768 * k + (q - 1)) / q) + (32768 * k + (q - 1)) % q ≡ 32768 * k + (q - 1) = omega (arith, some) in
+    let rest : (32768 * k + (q - 1)) % q < q = omega (arith, some) in
     omega (arith, whole, rest)
 
-pub steps_are : (size q : ℕ) → IsQuant q → min size (254 * q) * factor_of q / 524288 ≡ min (size / (2 * q)) 127
-steps_are size q h =
-    let some : 0 < 2 * q = omega (arith, h.low) in
-    let e : ℕ = 2 * q - 1 - (524287 + 2 * q) % (2 * q) in
-    let same : 254 * q ≡ 127 * (2 * q) = omega arith in
-    let n : ℕ = min size (254 * q) in
-    let few : n * e ≤ 7874 * 61 = mul-le-mul (let small : n ≤ 7874 = omega (arith, h.high) in small) (let small : e ≤ 61 = omega (arith, h.high) in small) in
-    by_product n (2 * q) (factor_of q) e some (factor_exact q (omega (arith, h.low))) (omega (arith, few))
-    ∙ ap (λ (k : ℕ). min size k / (2 * q)) same
-    ∙ limited size (2 * q) some
+-- what the rounding adds, 2 * (q - 1) at most, is so little that 2 ^ 15 times as much is below 2 ^ 16 times the power of two
+pub exact : (q size : ℕ) (f : Factor) → IsQuant q → IsFactor q f → size ≤ 32768 → size * f.number / 2 ^ 16 / 2 ^ f.shift ≡ size / (2 * q)
+exact q size f h is few =
+    let k : ℕ = 2 ^ f.shift in
+    let e : ℕ = 2 * (q - 1 - (32768 * k + (q - 1)) % q) in
+    let some : 0 < q = omega (arith, h.low) in
+    let reaches : q ≤ k = is.shift.reaches in
+    let number : f.number * (2 * q) ≡ 65536 * k + e = ap (λ (m : ℕ). m * (2 * q)) is.number ∙ product_of q k some in
+    let small : size * e ≤ 32768 * (2 * (q - 1)) = mul-le-mul few (let added : e ≤ 2 * (q - 1) = omega arith in added) in
+    let less : size * e < 65536 * k = omega (arith, small, reaches, h.low) in
+    div-div-eq-div-mul (size * f.number) 65536 k ∙ by_product (65536 * k) size (2 * q) f.number e (omega (arith, some)) number less
 
--- the product is small
-pub factor_small : (q : ℕ) → IsQuant q → factor_of q ≤ 262144
-factor_small q h =
-    let less : factor_of q < 262145 = (div-lt_iff_lt-mul {k = 2 * q} {x = 524287 + 2 * q} {y = 262145} (omega (arith, h.low))).1 (omega (arith, h.low)) in
-    omega (arith, less)
+-- the factor has 16 bits
+pub number_small : (q k : ℕ) → IsQuant q → k < 2 * q → (32768 * k + (q - 1)) / q < 65536
+number_small q k h least = (div-lt_iff_lt-mul {k = q} {x = 32768 * k + (q - 1)} {y = 65536} (omega (arith, h.low))).1 (omega (arith, h.low, h.high, least))
 
-pub product_small : (size q : ℕ) → IsQuant q → min size (254 * q) * factor_of q ≤ 7874 * 262144
-product_small size q h = mul-le-mul (let small : min size (254 * q) ≤ 7874 = omega (arith, h.high) in small) (factor_small q h)
+-- and the power of two isn't above 32
+shift_by : (b : Bool) (q shift : ℕ) → nat_lt shift 6 ≡ b → IsQuant q → 2 ^ shift < 2 * q → shift < 6
+shift_by true q shift test h least = ltb-true _ _ test
+shift_by false q shift test h least =
+    let large : 2 ^ 6 ≤ 2 ^ shift = pow-le-pow_right {n = 2} (let two : 0 < 2 = omega arith in two) (not_less shift 6 test) in
+    absurd (omega (arith, large, least, h.high))
+
+pub shift_small : (q shift : ℕ) → IsQuant q → 2 ^ shift < 2 * q → shift < 6
+shift_small q shift h least = shift_by (nat_lt shift 6) q shift refl h least

@@ -23,7 +23,3 @@ inter_level q f = signed_of f (pos (min ((unsigned_abs f - q / 2) / (2 * q)) 127
 -- the level of a coefficient of an intra block other than the first: its size in steps of 2 * Q, at most 127
 abbrev pub intra_level : ℕ → ℤ → ℤ
 intra_level q f = signed_of f (pos (min (unsigned_abs f / (2 * q)) 127))
-
--- what a size is multiplied by in the place of a division by 2 * Q: 2 ^ 19 / (2 * Q), rounded up
-abbrev pub factor_of : ℕ → ℕ
-factor_of q = (524287 + 2 * q) / (2 * q)

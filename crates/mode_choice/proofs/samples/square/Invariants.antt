@@ -1,0 +1,11 @@
+use Rattle.std.proofs.Common.{◌≡◌, ℕ, ◌+◌, ◌<◌, ◌/◌, ◌%◌, length, get_or, pos}
+use Rattle.h263_planes.specs.Lent.{picture}
+use Rattle.h263_planes.specs.Samples.{sample_at}
+use Rattle.mode_choice.proofs.samples.square.Given as goal
+
+-- the rows above j stand
+abbrev pub invariant-loop-j : goal.invariant-loop-j
+invariant-loop-j l =
+    (length l.samples ≡ 64)
+    × ((k : ℕ) → k < 64 → k / 8 < l.j → get_or l.samples k (pos 0) ≡ pos (sample_at (picture l.frame) l.plane (l.x + k % 8) (l.y + k / 8)))
+    × ((k : ℕ) → k < 64 → k / 8 < l.j → sample_at (picture l.frame) l.plane (l.x + k % 8) (l.y + k / 8) < 256)

@@ -1,0 +1,136 @@
+//! The levels of coefficients (H.263, 6.2.1 and 6.2.2 the other way). A level is a quotient by
+//! twice the quantiser; many of one quantiser are found by a product in place of each division, in
+//! numbers of 16 bits, of which a processor's lane holds twice as many as of 32.
+ghost use Rattle.std.specs.Prelude.{◌≡◌, ℕ, ◌*◌, ◌/◌, ◌≤◌, min, pos};
+ghost use Rattle.h263_types.specs.Blocks.{IsCoefficient, IsLevel, IsQuant};
+ghost use Rattle.quantiser.specs.Levels.{inter_level, intra_level, signed_of};
+ghost use Rattle.quantiser.specs.Factors.{IsFactor, IsShift, IsWord, limited_to_word};
+
+/// What a size is multiplied by, and how far the product's upper 16 bits are then shifted, in the
+/// place of a division by twice the quantiser.
+#[derive(Clone, Copy, Debug)]
+pub struct Factor {
+    pub number: u16,
+    pub shift: u32,
+}
+
+/// The level, -127 to 127, of a coefficient of an inter block, within 65,535 of 0; `quant` is 1 to
+/// 31.
+pub fn level_inter(quant: u8, coefficient: i32) -> i16
+    requires quant { IsQuant quant }
+    requires coefficient { IsCoefficient coefficient }
+    ensures level { result ≡ inter_level quant coefficient }
+    ensures range { IsLevel result }
+{
+    level_inter_by(quant, factor_of(quant), limited(coefficient))
+}
+
+/// The level, -127 to 127, of a coefficient of an intra block other than its first, within 65,535
+/// of 0; `quant` is 1 to 31.
+pub fn level_intra(quant: u8, coefficient: i32) -> i16
+    requires quant { IsQuant quant }
+    requires coefficient { IsCoefficient coefficient }
+    ensures level { result ≡ intra_level quant coefficient }
+    ensures range { IsLevel result }
+{
+    level_intra_by(quant, factor_of(quant), limited(coefficient))
+}
+
+/// A coefficient limited to 16 bits. It has the same levels, since none is beyond 127
+/// ([`limited_coefficients`](laws::limited_coefficients)).
+#[inline(always)]
+pub fn limited(coefficient: i32) -> i16
+    requires { IsCoefficient coefficient }
+    ensures value { result ≡ limited_to_word coefficient }
+    ensures range { IsWord result }
+{
+    coefficient.clamp(-32_768, 32_767) as i16
+}
+
+/// The factor of a quantiser: 2^15 times the least power of two that isn't below the quantiser,
+/// divided by the quantiser and rounded up.
+pub fn factor_of(quant: u8) -> Factor
+    requires { IsQuant quant }
+    ensures { IsFactor quant result }
+{
+    let shift = shift(quant);
+    let quant = u32::from(quant);
+    Factor {
+        number: (((32_768 << shift) + (quant - 1)) / quant) as u16,
+        shift,
+    }
+}
+
+// The exponent of the least power of two that isn't below the quantiser.
+fn shift(quant: u8) -> u32
+    requires { IsQuant quant }
+    ensures { IsShift quant result }
+{
+    if quant <= 1 {
+        0
+    } else if quant <= 2 {
+        1
+    } else if quant <= 4 {
+        2
+    } else if quant <= 8 {
+        3
+    } else if quant <= 16 {
+        4
+    } else {
+        5
+    }
+}
+
+/// What `level_inter` gives for a coefficient of 16 bits, by the quantiser's factor.
+#[inline(always)]
+pub fn level_inter_by(quant: u8, factor: Factor, coefficient: i16) -> i16
+    requires quant { IsQuant quant }
+    requires factor { IsFactor quant factor }
+    requires coefficient { IsWord coefficient }
+    ensures level { result ≡ inter_level quant coefficient }
+    ensures range { IsLevel result }
+{
+    let half = u16::from(quant) / 2;
+    let size = coefficient.unsigned_abs().saturating_sub(half);
+    signed(coefficient, steps(quant, factor, size) as i16)
+}
+
+/// What `level_intra` gives for a coefficient of 16 bits, by the quantiser's factor.
+#[inline(always)]
+pub fn level_intra_by(quant: u8, factor: Factor, coefficient: i16) -> i16
+    requires quant { IsQuant quant }
+    requires factor { IsFactor quant factor }
+    requires coefficient { IsWord coefficient }
+    ensures level { result ≡ intra_level quant coefficient }
+    ensures range { IsLevel result }
+{
+    signed(
+        coefficient,
+        steps(quant, factor, coefficient.unsigned_abs()) as i16,
+    )
+}
+
+// How many steps of twice the quantiser a size has, 127 at most.
+#[inline(always)]
+fn steps(quant: u8, factor: Factor, size: u16) -> u16
+    requires quant { IsQuant quant }
+    requires factor { IsFactor quant factor }
+    requires size { size ≤ 32768 }
+    ensures steps { result ≡ min (size / (2 * quant)) 127 }
+    ensures most { result ≤ 127 }
+{
+    let product = u32::from(size) * u32::from(factor.number);
+    let steps = (product >> 16) as u16 >> factor.shift;
+    steps.min(127)
+}
+
+// `size`, 0 to 127, with the sign of `number`.
+#[inline(always)]
+fn signed(number: i16, size: i16) -> i16
+    requires number { IsWord number }
+    requires size { IsLevel size }
+    ensures value { result ≡ signed_of number size }
+    ensures range { IsLevel result }
+{
+    if number < 0 { -size } else { size }
+}
