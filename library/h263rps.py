@@ -60,7 +60,8 @@ class Params(ctypes.Structure):
     def of(cls, format: str, **changed: int) -> "Params":
         """Those where nothing else is asked for, with what is changed: of("cif", target=9000)."""
         params = cls()
-        _must("defaults", _library().h263rps_raw_defaults(FORMATS[format], ctypes.byref(params)))
+        number = _format_number(format)
+        _must("defaults", _library().h263rps_raw_defaults(number, ctypes.byref(params)))
         for name, value in changed.items():
             setattr(params, name, value)
         return params
@@ -138,22 +139,29 @@ def _library() -> ctypes.CDLL:
         named = os.environ.get("H263RPS_LIBRARY")
         _loaded = ctypes.CDLL(named or (str(beside) if beside.exists() else "libh263rps.so.1"))
         pointer, size, number = ctypes.c_void_p, ctypes.c_size_t, ctypes.c_uint32
+        text = ctypes.c_char_p  # takes bytes alone: a pointer would take a str, by its wide letters
         for name, takes in {
             "defaults": [number, pointer],
             "picture_size": [number],
             "receiver_start": [pointer, pointer, pointer],
-            "receiver_packet": [pointer, pointer, size, pointer],
+            "receiver_packet": [pointer, text, size, pointer],
             "receiver_play": [pointer, pointer, size, pointer],
             "receiver_finish": [pointer],
             "sender_start": [pointer, pointer, pointer],
-            "sender_code": [pointer, pointer, size, pointer, size, pointer],
+            "sender_code": [pointer, text, size, pointer, size, pointer],
             "sender_packet": [pointer, number, pointer, size, pointer],
-            "sender_feedback": [pointer, pointer, size, pointer],
+            "sender_feedback": [pointer, text, size, pointer],
             "sender_finish": [pointer],
         }.items():
             call = getattr(_loaded, f"h263rps_raw_{name}")
             call.argtypes, call.restype = takes, number
     return _loaded
+
+
+def _format_number(format: str) -> int:
+    if format not in FORMATS:
+        raise ValueError(f"there is no format {format}")
+    return FORMATS[format]
 
 
 def _must(call: str, status: int, detail: str = "") -> None:
@@ -163,7 +171,7 @@ def _must(call: str, status: int, detail: str = "") -> None:
 
 def picture_size(format: str) -> int:
     """How many bytes a picture has."""
-    return int(_library().h263rps_raw_picture_size(FORMATS[format]))
+    return int(_library().h263rps_raw_picture_size(_format_number(format)))
 
 
 class _Started:
@@ -193,7 +201,10 @@ class _Started:
     def __exit__(self, *_: object) -> None:
         self.close()
 
-    __del__ = close
+    def __del__(self) -> None:
+        # One whose words were wrong has no end.
+        if hasattr(self, "_end"):
+            self.close()
 
 
 class Sender(_Started):
@@ -204,6 +215,8 @@ class Sender(_Started):
         coded = _Coded()
         back = (_Message * max(1, len(messages)))()
         for place, message in zip(back, messages):
+            if len(message) > len(place.bytes):
+                raise Refused("code", STATUS.index("bad messages"))
             place.bytes[: len(message)], place.length = message, len(message)
         words = (picture, len(picture), back, len(messages), ctypes.byref(coded))
         _must("code", self._call("code", *words))

@@ -21,10 +21,12 @@ def wanted(error: str, call: Callable[[], object]) -> None:
 wanted("Refused: start: bad params: slots", lambda: Sender(Params.of("qcif", slots=65)))
 wanted("ValueError: quant: 264 is out of its range", lambda: Params.of("qcif", quant=264))
 wanted("ValueError: lead: -1 is out of its range", lambda: Params.of("qcif", lead=-1))
+wanted("ValueError: there is no format vga", lambda: Params.of("vga"))
 wanted("TypeError: there is no parameter slot", lambda: Params.of("qcif", slot=9))
 wanted("TypeError: there is no parameter slot", lambda: setattr(Params.of("qcif"), "slot", 9))
 with Sender(Params.of("qcif")) as sender, Receiver(Params.of("qcif")) as receiver:
     wanted("Refused: code: wrong length", lambda: sender.code(bytes(3)))
+    wanted("Refused: code: bad messages", lambda: sender.code(bytes(38016), [bytes(6)]))
     wanted("Refused: packet: no packet", lambda: sender.packet(0))
     wanted("Reply(kind='no message', fault=1)", lambda: sender.feedback(b""))
     wanted("'refused'", lambda: receiver.packet(b"").kind)

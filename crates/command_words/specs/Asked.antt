@@ -80,7 +80,8 @@ params_of given = option_and_then in_range
 
 -- ---- commands
 
--- the first word of a command, the names of its positional words and of its options, and what their values ask for
+-- the first word of a command, the names of its positional words and of its options, and what their
+-- values ask for
 pub record Row : Type 0 where
   pub word : Text
   pub places : List Text
@@ -92,7 +93,8 @@ abbrev pub taking_values : List Text → Options
 taking_values names = record { valued = names; switches = [] }
 
 abbrev pub call_of : Lookup → Option Command
-call_of given = option_map (λ params. Call params (is_some (given (codes "trace")))) (params_of given)
+call_of given =
+    option_map (λ params. Call params (is_some (given (codes "trace")))) (params_of given)
 
 abbrev pub call : Row
 call = record {
@@ -128,7 +130,8 @@ send = record {
 }
 
 abbrev pub recv_of : Lookup → Option Command
-recv_of given = option_map (λ params. Recv params (is_some (given (codes "join")))) (params_of given)
+recv_of given =
+    option_map (λ params. Recv params (is_some (given (codes "join")))) (params_of given)
 
 abbrev pub recv : Row
 recv = record {
@@ -152,8 +155,9 @@ abbrev pub frames_in : Option Text → Option ℕ
 frames_in text = option_and_then frames_in_range (option_and_then (number_in 5) text)
 
 abbrev pub demo_of : Lookup → Option Command
-demo_of given = option_and_then (λ params. option_and_then (λ seed. option_map (λ frames. Demo params seed frames)
-    (frames_in (given (codes "frames")))) (seed_in (given (codes "seed")))) (params_of given)
+demo_of given = option_and_then (λ params. option_and_then (λ seed.
+    option_map (λ frames. Demo params seed frames) (frames_in (given (codes "frames"))))
+    (seed_in (given (codes "seed")))) (params_of given)
 
 abbrev pub demo : Row
 demo = record {
@@ -193,7 +197,9 @@ audit = record {
 
 -- a call of two parties has a trace
 abbrev pub duplex_of : Lookup → Option Command
-duplex_of given = option_and_then (λ trace. option_map (λ params. Duplex params) (params_of given)) (given (codes "trace"))
+duplex_of given =
+    option_and_then (λ trace. option_map (λ params. Duplex params) (params_of given))
+    (given (codes "trace"))
 
 abbrev pub duplex : Row
 duplex = record {
@@ -221,7 +227,8 @@ asking given command = record { command = command; given = given }
 
 -- what the words after the first ask for
 abbrev pub asked_by : Row → List Text → Option Asked
-asked_by row words = option_and_then (λ given. option_map (asking (value given)) (row.asks (value given)))
+asked_by row words =
+    option_and_then (λ given. option_map (asking (value given)) (row.asks (value given)))
     (taken row.places row.options words)
 
 -- what the words ask for, where they are a command whose parameters are in their ranges
@@ -277,9 +284,11 @@ word_for a role = option_and_then a.given (name_in (roles a.command) role)
 -- the numbers of a command are in their ranges
 abbrev pub IsCommand : Command → Type 0
 IsCommand (Call params traced) = IsParams params
-IsCommand (Send params target) = IsParams params × IfSome target (λ n. 1 ≤ n) × IfSome target (λ n. n ≤ 999999)
+IsCommand (Send params target) =
+    IsParams params × IfSome target (λ n. 1 ≤ n) × IfSome target (λ n. n ≤ 999999)
 IsCommand (Recv params join) = IsParams params
-IsCommand (Demo params seed frames) = IsParams params × (seed ≤ 999999999) × (1 ≤ frames) × (frames ≤ 10000)
+IsCommand (Demo params seed frames) =
+    IsParams params × (seed ≤ 999999999) × (1 ≤ frames) × (frames ≤ 10000)
 IsCommand (Rate target bucket) = (1 ≤ target) × (target ≤ 999999) × (bucket ≤ 999999)
 IsCommand (Audit params) = IsParams params
 IsCommand (Duplex params) = IsParams params

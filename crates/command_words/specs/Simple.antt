@@ -1,5 +1,6 @@
--- What the words of a simple command say: a command with positional words, each required and in this order, with
--- options that each take one value, and with switches that take none. An option and a switch stand at most once.
+-- What the words of a simple command say: a command with positional words, each required and in
+-- this order, with options that each take one value, and with switches that take none. An option
+-- and a switch stand at most once.
 use Rattle.std.specs.Prelude.{ℕ, Bool, true, not, ◌&&◌, List, [], ◌∷◌, Option, Some, None, is_some, option_map, option_and_then, find, if◌then◌else◌, slice_get}
 use Rattle.std.specs.List.{list_all, list_any}
 use Rattle.std.specs.Str.{bytes_eq, chars}
@@ -45,7 +46,8 @@ is_among names name = list_any (λ n. bytes_eq n name) names
 abbrev pub with_given : Text → Text → Option (List Given) → Option (List Given)
 with_given name value = option_map (λ rest. (name, value) ∷ rest)
 
--- how the reading goes on: with the positional words that are still to come, and the option that waits for its value
+-- how the reading goes on: with the positional words that are still to come, and the option that
+-- waits for its value
 abbrev pub Rest : Type 0
 Rest = List Text → Option Text → Option (List Given)
 
@@ -70,7 +72,8 @@ placed places (word ∷ words) = at_place places word (λ others waits. placed o
 
 abbrev pub after_word : Options → (places : List Text)
     → Option Text → Kind → Text → List Text → Rest → Option (List Given)
-after_word options places (Some name) plain word words rest = with_given name word (rest places None)
+after_word options places (Some name) plain word words rest =
+    with_given name word (rest places None)
 after_word options places (Some name) _ word words rest = None
 after_word options places None plain word words rest = at_place places word rest
 after_word options places None dashes word words rest = placed places words
@@ -80,12 +83,15 @@ after_word options places None (long name value) word words rest =
     else None
 after_word options places None short word words rest = None
 
--- the values that the words give, in their order, where the positional words still to come have the names `places`
-unfoldable pub named : Options → (places : List Text) → Option Text → List Text → Option (List Given)
+-- the values that the words give, in their order, where the positional words still to come have the
+-- names `places`
+unfoldable pub named : Options → (places : List Text)
+    → Option Text → List Text → Option (List Given)
 named options places (Some name) [] = None
 named options places None [] = Some []
 named options places waits (word ∷ words) =
-    after_word options places waits (kind_of word) word words (λ others next. named options others next words)
+    after_word options places waits (kind_of word) word words
+    (λ others next. named options others next words)
 
 -- these values have one of this name
 abbrev pub gives : Text → List Given → Bool

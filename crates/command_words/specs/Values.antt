@@ -12,13 +12,15 @@ use Rattle.command_words.specs.Simple.{Text}
 
 -- one to `most` ASCII digits
 abbrev pub is_number : ℕ → Text → Bool
-is_number most text = nat_lt 0 (length text) && (nat_le (length text) most && list_all is_ascii_digit text)
+is_number most text =
+    nat_lt 0 (length text) && (nat_le (length text) most && list_all is_ascii_digit text)
 
 -- the number that one to `most` digits write
 abbrev pub number_in : ℕ → Text → Option ℕ
 number_in most text = if is_number most text then Some (digits_value 10 text) else None
 
--- the number where a byte holds it; a greater one is out of the range of each parameter that a byte holds
+-- the number where a byte holds it; a greater one is out of the range of each parameter that a byte
+-- holds
 abbrev pub in_byte : ℕ → Option ℕ
 in_byte n = if nat_lt n 256 then Some n else None
 

@@ -34,11 +34,13 @@ heads_text f g = then_also (on Pictures (head_text f)) (on Pictures2 (head_text 
 
 -- the bytes of both heads
 abbrev pub heads_taken : (Role → List ℕ) → Role → ℕ
-heads_taken inputs = and_of (of Video (head_size (inputs Video))) (of Video2 (head_size (inputs Video2)))
+heads_taken inputs =
+    and_of (of Video (head_size (inputs Video))) (of Video2 (head_size (inputs Video2)))
 
 -- Both heads are one turn, so no picture's head is written unless both videos have one. The first
 -- video's fault is told before the second's.
-abbrev pub heads_step : Params → (Role → List ℕ) → Result Format Y4mFault → Result Format Y4mFault → Step DuplexState
+abbrev pub heads_step : Params → (Role → List ℕ) → Result Format Y4mFault → Result Format Y4mFault
+    → Step DuplexState
 heads_step p inputs (Err fault) second = Ends (refusal (VideoRefused fault))
 heads_step p inputs (Ok f) (Err fault) = Ends (refusal (Video2Refused fault))
 heads_step p inputs (Ok f) (Ok g) =

@@ -84,7 +84,8 @@ seen_of x s = in_call (call_in s.params x s.ways)
 
 -- ---- texts
 
--- the picture n of a party that was shown with its mark, and the line that tells its reference besides
+-- the picture n of a party that was shown with its mark, and the line that tells its reference
+-- besides
 abbrev pub shown_texts : Role → Party → ℕ → Option ℕ → Shown Picture → Role → List ℕ
 shown_texts pictures x n reference shown =
     then_also (on pictures (frame_text (mark_of shown.mark) shown.picture))
@@ -122,13 +123,15 @@ abbrev pub after_line : DuplexState → List ℕ → DuplexState
 after_line s trace = record s { lines = s.lines + 1; ended = not (is_closed trace) }
 
 -- the line says this event, which is refused or has its step
-abbrev pub unless : DuplexState → List ℕ → Event → Option Refusal → Step DuplexState → Step DuplexState
+abbrev pub unless : DuplexState → List ℕ → Event → Option Refusal
+    → Step DuplexState → Step DuplexState
 unless s trace e None step = step
 unless s trace e (Some refusal) step = Ends (refused_line trace (fault_of (s.lines + 1) e refusal))
 
 -- a line that reads and writes nothing else: both ways are then these
 abbrev pub quiet_step : DuplexState → List ℕ → WayRuns Frame → Step DuplexState
-quiet_step s trace ways = Goes (after_line (record s { ways = ways }) trace) (line_turn trace no_texts)
+quiet_step s trace ways =
+    Goes (after_line (record s { ways = ways }) trace) (line_turn trace no_texts)
 
 module _ (x : Party) (s : DuplexState) where
   -- the first refusal of an event, as far as it is told before a frame is read
@@ -139,7 +142,9 @@ module _ (x : Party) (s : DuplexState) where
   abbrev pub with_frame : ℕ → List ℕ → DuplexState
   with_frame size planes =
       with_place x (record { at = (place_of x s).at + size; more = (place_of x s).more - 1 })
-      (record s { ways = with_shot (sides s.params) x (picture_of (s.params x).format planes) s.ways })
+      (record s {
+        ways = with_shot (sides s.params) x (picture_of (s.params x).format planes) s.ways;
+      })
 
   -- the next picture is played
   abbrev pub with_next : DuplexState
@@ -147,12 +152,17 @@ module _ (x : Party) (s : DuplexState) where
 
 -- What a line says is done, for the party whose pictures it is about: its video stands in one role,
 -- and what is shown of its pictures goes to another.
-module _ (video pictures : Role) (refuses : Y4mFault → Status) (x : Party) (s : DuplexState) (trace : List ℕ) where
+module _ (video pictures : Role) (refuses : Y4mFault → Status) (x : Party) (s : DuplexState)
+    (trace : List ℕ) where
   -- the frame is sent that the line asks for, or refused
   abbrev pub captured_step : ℕ → Result (List ℕ) Y4mFault → Step DuplexState
   captured_step size (Ok planes) =
       Goes (after_line (with_frame x s size planes) trace)
-      (record { taken = and_of (of Events (line_size trace)) (of video size); whole = is_closed trace; texts = no_texts })
+      (record {
+        taken = and_of (of Events (line_size trace)) (of video size);
+        whole = is_closed trace;
+        texts = no_texts;
+      })
   captured_step size (Err fault) = Ends (refusal (refuses fault))
 
   -- the video is read once it is known that the event isn't far
@@ -170,22 +180,26 @@ module _ (video pictures : Role) (refuses : Y4mFault → Status) (x : Party) (s 
   -- a party's line says neither nothing nor that a message comes back
   abbrev pub event_step : (Role → List ℕ) → Line → Step DuplexState
   event_step inputs says.Nothing = quiet_step s trace s.ways
-  event_step inputs says.Send = unless s trace Send (refusal_at x s Send) (capture_step (inputs video))
+  event_step inputs says.Send =
+      unless s trace Send (refusal_at x s Send) (capture_step (inputs video))
   event_step inputs (says.Packet n j) =
       unless s trace (Deliver n j) (refusal_at x s (Deliver n j))
       (quiet_step s trace (with_delivery (sides s.params) x n j s.ways))
   event_step inputs (says.All n) =
       unless s trace (Deliver n 0) (refusal_at x s (Deliver n 0))
       (quiet_step s trace (with_whole s.params x n s.ways))
-  event_step inputs (says.Back k) = unless s trace (Back k) (refusal_at x s (Back k)) (quiet_step s trace s.ways)
+  event_step inputs (says.Back k) =
+      unless s trace (Back k) (refusal_at x s (Back k)) (quiet_step s trace s.ways)
   event_step inputs says.Play = unless s trace Play (refusal_at x s Play) play_step
 
 -- what a party's line says is done
 abbrev pub party_step : Party → DuplexState → (Role → List ℕ) → Line → Step DuplexState
-party_step x s inputs event = event_step (video_of x) (pictures_of x) (refused_video x) x s (inputs Events) inputs event
+party_step x s inputs event =
+    event_step (video_of x) (pictures_of x) (refused_video x) x s (inputs Events) inputs event
 
 -- a line is bad, or empty, or says an event of a party
-abbrev pub line_step : DuplexState → (Role → List ℕ) → Option (Option (Party × Line)) → Step DuplexState
+abbrev pub line_step : DuplexState → (Role → List ℕ) → Option (Option (Party × Line))
+    → Step DuplexState
 line_step s inputs None = Ends (bad_line (BadLine (s.lines + 1)))
 line_step s inputs (Some None) = quiet_step s (inputs Events) s.ways
 line_step s inputs (Some (Some said)) = party_step said.0 s inputs said.1

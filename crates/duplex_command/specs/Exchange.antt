@@ -30,11 +30,16 @@ second_result (Err status) = Err (second_status status)
 
 -- what a turn takes and writes, as the second party's
 abbrev pub second_turn : Turn → Turn
-second_turn turn = record { taken = for_second turn.taken; whole = turn.whole; texts = for_second turn.texts }
+second_turn turn =
+    record { taken = for_second turn.taken; whole = turn.whole; texts = for_second turn.texts }
 
 abbrev pub second_end : End → End
 second_end last =
-    record { status = second_status last.status; taken = for_second last.taken; texts = for_second last.texts }
+    record {
+      status = second_status last.status;
+      taken = for_second last.taken;
+      texts = for_second last.texts;
+    }
 
 abbrev pub second_step : {State : Type 0} → Step State → Step State
 second_step (Goes next turn) = Goes next (second_turn turn)

@@ -19,9 +19,10 @@ abbrev pub place_in : Y4mReader → VideoPlace
 place_in video = record { at = video.at; more = video.more }
 
 -- A party, the other one and the trace stand at a state, where this much of the trace is left: the
--- places of both videos are those of the state, and the ends have done what its
--- ways have met. After a last line without a newline the trace is at its end.
-pub record StationsStand (x : Party) (own far : Station) (trace : TraceReader) (s : DuplexState) (rest : List ℕ) : Type 0 where
+-- places of both videos are those of the state, and the ends have done what its ways have met.
+-- After a last line without a newline the trace is at its end.
+pub record StationsStand (x : Party) (own far : Station) (trace : TraceReader) (s : DuplexState)
+    (rest : List ℕ) : Type 0 where
   pub own_place : place_of x s ≡ place_in own.video
   pub far_place : place_of (other x) s ≡ place_in far.video
   pub lines : s.lines ≡ trace.lines
@@ -38,8 +39,8 @@ more_of m = 16777216 - m.trace.lines
 
 -- ---- what it is ready for
 
--- the video of a party is that of its pictures, a frame of it has room, and so many may still come as
--- may still be sent
+-- the video of a party is that of its pictures, a frame of it has room, and so many may still come
+-- as may still be sent
 pub record StationReady (station : Station) (room : ℕ) : Type 0 where
   pub format : station.video.format ≡ station.ends.params.format
   pub frame : size_of_picture station.ends.params.format ≤ room

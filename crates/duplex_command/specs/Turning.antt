@@ -35,8 +35,8 @@ after_first inputs = behind inputs (of Events (line_size (inputs Events))) Event
 
 -- A line was read, which has this number: the stations stood at the state before it, the reader of
 -- the trace has passed it, and nothing else was done since the desk was the old one.
-pub record IsRead (x : Party) (own far : Station) (line : ℕ) (trace : TraceReader) (now old : Outside)
-    (s : DuplexState) (inputs : Role → List ℕ) : Type 0 where
+pub record IsRead (x : Party) (own far : Station) (line : ℕ) (trace : TraceReader)
+    (now old : Outside) (s : DuplexState) (inputs : Role → List ℕ) : Type 0 where
   pub stood : StationsStand x own far trace (after_line s (inputs Events)) (after_first inputs)
   pub number : line ≡ s.lines + 1
   pub taken : HasTaken inputs old now
@@ -44,11 +44,15 @@ pub record IsRead (x : Party) (own far : Station) (line : ℕ) (trace : TraceRea
 -- A party takes a step after a line was read, and is then these stations, with so much room for a
 -- frame. `Begins` says at which readers of the trace, desks before the line, states and inputs the
 -- step begins. It never ends the call.
-pub record IsPartyTurn (x : Party) (own far : Station) (result : Result Bool Status) (mid new : Outside) (room : ℕ)
+pub record IsPartyTurn (x : Party) (own far : Station) (result : Result Bool Status)
+    (mid new : Outside) (room : ℕ)
     (Begins : TraceReader → Outside → DuplexState → (Role → List ℕ) → Type 0)
     (step : DuplexState → (Role → List ℕ) → Step DuplexState) : Type 0 where
-  pub gives : (trace : TraceReader) (old : Outside) (s : DuplexState) (inputs : Role → List ℕ) → Begins trace old s inputs
-      → TurnGives result (step s inputs) (λ next rest. StationsStand x own far trace next (rest Events)) may_read true inputs old new
+  pub gives : (trace : TraceReader) (old : Outside) (s : DuplexState) (inputs : Role → List ℕ)
+      → Begins trace old s inputs
+      → TurnGives result (step s inputs)
+      (λ next rest. StationsStand x own far trace next (rest Events))
+      may_read true inputs old new
   pub goes_on : OnEnd result ⊥
   pub ready : OnGoing result (StationsReady own far room)
   pub stop : IfErr result IsStop
@@ -57,22 +61,26 @@ pub record IsPartyTurn (x : Party) (own far : Station) (result : Result Bool Sta
 
 -- the line says an event of this party, whose video and pictures stand in these roles
 abbrev pub TakesEvent : (video pictures : Role) (refuses : Y4mFault → Status)
-    → Station → Station → Station → Station → Said → Result Bool Status → Outside → Outside → ℕ → Type 0
+    → Station → Station → Station → Station → Said → Result Bool Status → Outside → Outside → ℕ
+    → Type 0
 TakesEvent video pictures refuses own far own_new far_new said result mid new room =
-    IsPartyTurn said.party own_new far_new result mid new room (λ trace. IsRead said.party own far said.line trace mid)
+    IsPartyTurn said.party own_new far_new result mid new room
+    (λ trace. IsRead said.party own far said.line trace mid)
     (λ s inputs. event_step video pictures refuses said.party s (inputs Events) inputs said.event)
 
 -- the line says an event of either party, on the desk of both: a is the first one
-abbrev pub TakesLine : Station → Station → Station → Station → Said → Result Bool Status → Outside → Outside → ℕ → Type 0
+abbrev pub TakesLine : Station → Station → Station → Station → Said → Result Bool Status
+    → Outside → Outside → ℕ → Type 0
 TakesLine a b a_new b_new said result mid new room =
-    IsPartyTurn A a_new b_new result mid new room (λ trace. IsRead A a b said.line trace mid)
+    IsPartyTurn A a_new b_new result mid new room
+    (λ trace. IsRead A a b said.line trace mid)
     (λ s inputs. party_step said.party s inputs said.event)
 
 -- ---- a frame
 
 -- the frame is asked for that may be captured
-pub record IsAsked (x : Party) (own far : Station) (line : ℕ) (trace : TraceReader) (now old : Outside)
-    (s : DuplexState) (inputs : Role → List ℕ) : Type 0 where
+pub record IsAsked (x : Party) (own far : Station) (line : ℕ) (trace : TraceReader)
+    (now old : Outside) (s : DuplexState) (inputs : Role → List ℕ) : Type 0 where
   pub read : IsRead x own far line trace now old s inputs
   pub none : refusal_at x s Send ≡ None
 
@@ -90,9 +98,11 @@ pub record MayCapture (own far : Station) (room : ℕ) : Type 0 where
   pub stations : StationsReady own far room
   pub may : MayHappenNow own.ends far.ends Send
 
-abbrev pub TakesFrame : Party → Station → Station → Station → ℕ → Result Bool Status → Outside → Outside → ℕ → Type 0
+abbrev pub TakesFrame : Party → Station → Station → Station → ℕ → Result Bool Status
+    → Outside → Outside → ℕ → Type 0
 TakesFrame x own far own_new line result mid new room =
-    IsPartyTurn x own_new far result mid new room (λ trace. IsAsked x own far line trace mid)
+    IsPartyTurn x own_new far result mid new room
+    (λ trace. IsAsked x own far line trace mid)
     (λ s inputs. capture_step Video Pictures VideoRefused x s (inputs Events) (inputs Video))
 
 -- ---- texts
@@ -101,7 +111,8 @@ TakesFrame x own far own_new line result mid new room =
 abbrev pub row_texts : Row → Picture → Role → List ℕ
 row_texts row picture =
     then_also (on Pictures (frame_text row.mark picture))
-    (on Report (picture_text row.number (Some row.mark) (Some row.reference) (Some (letter_of row.party))))
+    (on Report
+    (picture_text row.number (Some row.mark) (Some row.reference) (Some (letter_of row.party))))
 
 -- ---- a whole turn
 

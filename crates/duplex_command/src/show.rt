@@ -12,6 +12,7 @@ ghost use Rattle.one_way.specs.Seen.{in_call};
 ghost use Rattle.duplex_call.specs.declared.line.Party.{Party};
 ghost use Rattle.duplex_call.specs.declared.line.Party.TheVariants.{A};
 ghost use Rattle.duplex_call.specs.Duplex.{MayHappenOf, WayRuns, with_play};
+ghost use Rattle.duplex_ends.specs.Keeping.{KeepsInPlay};
 ghost use Rattle.duplex_ends.specs.Pair.{AreInCall, HoldsPair, MayHappenNow};
 ghost use Rattle.duplex_ends.specs.Ways.{call_in, sides};
 ghost use Rattle.duplex_command.specs.Duplex.{both_counts, letter_of, play_texts};
@@ -83,10 +84,7 @@ pub fn play_next<D: Desk>(
     requires report { (D.outside desk.old).attached Report ≡ true }
     requires near { MayHappenNow own.old far.old Play }
     ensures ready { AreInCall own.new far.new }
-    ensures own_params { own.new.params ≡ own.old.params }
-    ensures far_params { far.new.params ≡ far.old.params }
-    ensures own_sent { own.new.sender ≡ own.old.sender }
-    ensures far_sent { far.new.sender ≡ far.old.sender }
+    ensures keeps { KeepsInPlay own.old far.old own.new far.new }
     ensures holds { (p : Party → Params) (x : Party) (ways : WayRuns Frame) (left : ℕ)
         → HoldsPair p x own.old far.old ways → MayHappenOf (sides p) left x Play ways
         → HoldsPair p x own.new far.new (with_play (sides p) x ways) }

@@ -11,8 +11,8 @@ use duplex_call::{Party, party_line};
 use h263_outside::{Desk, laws as outside_laws};
 use loss_trace::{BadLine, Event, TraceFault, TraceReader, laws as loss_trace_laws};
 
-/// The machine of a call of two parties: both of them, the reader of its trace, and room for a frame
-/// of either video. It must be finished.
+/// The machine of a call of two parties: both of them, the reader of its trace, and room for a
+/// frame of either video. It must be finished.
 pub struct Talk {
     pub a: Station,
     pub b: Station,

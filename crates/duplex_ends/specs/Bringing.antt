@@ -49,7 +49,8 @@ AreOfClock clock (m ∷ messages) = back.IsMessage clock m.message × AreOfClock
 
 -- message k of what was said is this one, and its picture is less than half a period behind the
 -- capture
-pub record MayReturn (p : Params) (both : Joined Style Mb Picture) (k : ℕ) (m : Carried) : Type 0 where
+pub record MayReturn (p : Params) (both : Joined Style Mb Picture) (k : ℕ)
+    (m : Carried) : Type 0 where
   pub told : SaidMessage
   pub is : slice_get both.said k ≡ Some told
   pub bytes : told.bytes ≡ written m.message
@@ -57,13 +58,14 @@ pub record MayReturn (p : Params) (both : Joined Style Mb Picture) (k : ℕ) (m 
 
 abbrev pub MayReturnAll : Params → Joined Style Mb Picture → List ℕ → List Carried → Type 0
 MayReturnAll p both [] [] = ⊤
-MayReturnAll p both (k ∷ ks) (m ∷ messages) = MayReturn p both k m × MayReturnAll p both ks messages
+MayReturnAll p both (k ∷ ks) (m ∷ messages) =
+    MayReturn p both k m × MayReturnAll p both ks messages
 MayReturnAll p both [] (m ∷ messages) = ⊥
 MayReturnAll p both (k ∷ ks) [] = ⊥
 
 -- Some messages have come back, and these are left.
-pub record IsReturning (p : Params) (way : Way) (sender : State) (receiver : Kept) (frames : List Frame)
-    (whole : List Event) (messages : List Carried) : Type 0 where
+pub record IsReturning (p : Params) (way : Way) (sender : State) (receiver : Kept)
+    (frames : List Frame) (whole : List Event) (messages : List Carried) : Type 0 where
   pub past : List Event
   pub left : List ℕ
   pub holds : HoldsWay p way sender receiver [] frames past

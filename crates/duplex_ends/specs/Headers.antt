@@ -16,18 +16,21 @@ no_places = None ∷ None ∷ None ∷ None ∷ []
 abbrev pub HoldsHeaders : CarriedRing → List (List Carried) → Type 0
 HoldsHeaders ring headers =
     (n : ℕ) → n < length headers → length headers ≤ n + kept_by ring
-    → slice_index_or ring.kept.items (n % kept_by ring) no_places ≡ placed (slice_index_or headers n [])
+    → slice_index_or ring.kept.items (n % kept_by ring) no_places
+    ≡ placed (slice_index_or headers n [])
 
 -- the messages of one header have these numbers among those that were said
 abbrev pub AreNumbered : List Carried → List ℕ → List Carried → Type 0
 AreNumbered said [] [] = ⊤
-AreNumbered said (k ∷ ks) (m ∷ messages) = (slice_get said k ≡ Some m) × AreNumbered said ks messages
+AreNumbered said (k ∷ ks) (m ∷ messages) =
+    (slice_get said k ≡ Some m) × AreNumbered said ks messages
 AreNumbered said [] (m ∷ messages) = ⊥
 AreNumbered said (k ∷ ks) [] = ⊥
 
 -- The ring keeps the messages of the last headers, which have these numbers among those that were
 -- said.
-pub record HasHeaders (ring : CarriedRing) (said : List Carried) (carried : List (List ℕ)) : Type 0 where
+pub record HasHeaders (ring : CarriedRing) (said : List Carried)
+    (carried : List (List ℕ)) : Type 0 where
   pub headers : List (List Carried)
   pub holds : HoldsHeaders ring headers
   pub count : length headers ≡ length carried

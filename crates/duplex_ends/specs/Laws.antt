@@ -18,7 +18,8 @@ use Rattle.duplex_ends.specs.Ways.{call_by, call_in, sides, told_by}
 
 pub record PairLaws (p : Party → Params) : Type 0 where
   -- new ends have done nothing
-  pub first : (x : Party) (own far : PartyEnds) → ((y : Party) → IsParams (p y)) → (p x).clock ≡ (p (other x)).clock
+  pub first : (x : Party) (own far : PartyEnds) → ((y : Party) → IsParams (p y))
+      → (p x).clock ≡ (p (other x)).clock
       → IsNewParty (p x) own → IsNewParty (p (other x)) far → HoldsPair p x own far no_runs
   -- what the ends of both parties have done may be said from either of them
   pub exchanged : (x : Party) (own far : PartyEnds) (ways : WayRuns Frame)
@@ -36,10 +37,12 @@ pub record SaidLaws (p : Params) : Type 0 where
   -- the last message is read from its bytes
   pub read : (w : WayRun Frame) (notes : List NumberedMessage) (note : NumberedMessage)
       → (call_by p w).said ≡ notes ++ note ∷ []
-      → message_in p.clock (write_message (travelling (rules_of p) note)) ≡ Ok (marked (travelling (rules_of p) note))
+      → message_in p.clock (write_message (travelling (rules_of p) note))
+      ≡ Ok (marked (travelling (rules_of p) note))
 
 -- what a play leaves of the ideal call of its party's pictures
 pub record AfterPlay (p : Party → Params) (x : Party) (ways : WayRuns Frame) : Type 0 where
   pub coded : (call_in p x (with_play (sides p) x ways)).coded ≡ (call_in p x ways).coded
   pub played : (call_in p x (with_play (sides p) x ways)).played ≡ (call_in p x ways).played + 1
-  pub plays : (call_in p x (with_play (sides p) x ways)).plays ≡ shown_next p x ways ∷ (call_in p x ways).plays
+  pub plays : (call_in p x (with_play (sides p) x ways)).plays
+      ≡ shown_next p x ways ∷ (call_in p x ways).plays

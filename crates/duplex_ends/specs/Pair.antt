@@ -38,7 +38,8 @@ pub record HoldsParty (p q : Params) (own : PartyEnds) (w far : WayRun Frame) : 
 
 -- The ends of both parties have done what both ways say: the first ones are those of this party's
 -- pictures.
-pub record HoldsPair (p : Party → Params) (x : Party) (own far : PartyEnds) (ways : WayRuns Frame) : Type 0 where
+pub record HoldsPair (p : Party → Params) (x : Party) (own far : PartyEnds)
+    (ways : WayRuns Frame) : Type 0 where
   pub in_range : (y : Party) → IsParams (p y)
   pub clock : (p x).clock ≡ (p (other x)).clock
   pub own_holds : HoldsParty (p x) (p (other x)) own (way x ways) (way (other x) ways)

@@ -29,7 +29,8 @@ side_of p = record {
 }
 
 -- those of both parties
-abbrev pub sides : (Party → Params) → Party → WayCoding Picture Frame Style Mb Picture Fault MessageFault
+abbrev pub sides : (Party → Params) → Party
+    → WayCoding Picture Frame Style Mb Picture Fault MessageFault
 sides p x = side_of (p x)
 
 -- the ideal call of the pictures of one way

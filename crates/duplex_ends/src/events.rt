@@ -9,6 +9,7 @@ ghost use Rattle.duplex_call.specs.declared.line.Party.{Party};
 ghost use Rattle.duplex_call.specs.Duplex.{MayHappenOf, WayRuns, brings, brought, other, way};
 ghost use Rattle.duplex_call.specs.Duplex.{with_delivery, with_play};
 ghost use Rattle.one_way.specs.Way.{CanSend, HoldsWay};
+ghost use Rattle.duplex_ends.specs.Keeping.{KeepsInDelivery, KeepsInPlay};
 ghost use Rattle.duplex_ends.specs.Pair.{AreInCall, HoldsPair, MayHappenNow, MayHappenToOne};
 ghost use Rattle.duplex_ends.specs.Shown.{shown_next};
 ghost use Rattle.duplex_ends.specs.Ways.{sides, with_whole};
@@ -53,12 +54,7 @@ fn bring_carried(own: &PartyEnds, sender: &mut Sender<FixedPace>, number: u32, p
 pub fn deliver(own: &mut PartyEnds, far: &mut PartyEnds, number: u32, place: u32)
     requires { MayHappenNow own.old far.old (Deliver number place) }
     ensures ready { AreInCall own.new far.new }
-    ensures own_params { own.new.params ≡ own.old.params }
-    ensures far_params { far.new.params ≡ far.old.params }
-    ensures own_sent { own.new.sender ≡ own.old.sender }
-    ensures far_sent { far.new.sender.sent ≡ far.old.sender.sent }
-    ensures own_played { own.new.receiver.played ≡ own.old.receiver.played }
-    ensures far_played { far.new.receiver ≡ far.old.receiver }
+    ensures keeps { KeepsInDelivery own.old far.old own.new far.new }
     ensures holds { (p : Party → Params) (x : Party) (ways : WayRuns Frame) (left : ℕ)
         → HoldsPair p x own.old far.old ways
         → MayHappenOf (sides p) left x (Deliver number place) ways
@@ -76,12 +72,7 @@ pub fn deliver(own: &mut PartyEnds, far: &mut PartyEnds, number: u32, place: u32
 pub fn deliver_all(own: &mut PartyEnds, far: &mut PartyEnds, number: u32)
     requires { MayHappenNow own.old far.old (Deliver number 0) }
     ensures ready { AreInCall own.new far.new }
-    ensures own_params { own.new.params ≡ own.old.params }
-    ensures far_params { far.new.params ≡ far.old.params }
-    ensures own_sent { own.new.sender ≡ own.old.sender }
-    ensures far_sent { far.new.sender.sent ≡ far.old.sender.sent }
-    ensures own_played { own.new.receiver.played ≡ own.old.receiver.played }
-    ensures far_played { far.new.receiver ≡ far.old.receiver }
+    ensures keeps { KeepsInDelivery own.old far.old own.new far.new }
     ensures holds { (p : Party → Params) (x : Party) (ways : WayRuns Frame) (left : ℕ)
         → HoldsPair p x own.old far.old ways
         → MayHappenOf (sides p) left x (Deliver number 0) ways
@@ -100,12 +91,8 @@ pub fn deliver_all(own: &mut PartyEnds, far: &mut PartyEnds, number: u32)
 pub fn play(own: &mut PartyEnds, far: &mut PartyEnds) -> Mark
     requires { MayHappenNow own.old far.old Play }
     ensures ready { AreInCall own.new far.new }
-    ensures own_params { own.new.params ≡ own.old.params }
-    ensures far_params { far.new.params ≡ far.old.params }
-    ensures own_sent { own.new.sender ≡ own.old.sender }
-    ensures far_sent { far.new.sender ≡ far.old.sender }
-    ensures own_played { own.new.receiver.played ≡ own.old.receiver.played + 1 }
-    ensures far_played { far.new.receiver ≡ far.old.receiver }
+    ensures keeps { KeepsInPlay own.old far.old own.new far.new }
+    ensures played { own.new.receiver.played ≡ own.old.receiver.played + 1 }
     ensures mark { (p : Party → Params) (x : Party) (ways : WayRuns Frame) (left : ℕ)
         → HoldsPair p x own.old far.old ways → MayHappenOf (sides p) left x Play ways
         → result ≡ mark_of (shown_next p x ways).mark }

@@ -88,8 +88,8 @@ returns-in-Packet g c =
     let far_new : Station = record far { ends = done.new.far } in
     event_done x own far own_new far_new said.line room said.event (says.Packet n j) old old c.in-Packet.is
     (record {
-      own_ready = station_kept own done.new.own room r.own_ready done.ensures.own_params (ap (λ s. s.sent) done.ensures.own_sent);
-      far_ready = station_kept far done.new.far room r.far_ready done.ensures.far_params done.ensures.far_sent;
+      own_ready = station_kept own done.new.own room r.own_ready done.ensures.keeps.own_params (ap (λ s. s.sent) done.ensures.keeps.own_sender);
+      far_ready = station_kept far done.new.far room r.far_ready done.ensures.keeps.far_params done.ensures.keeps.far_sent;
       ends = done.ensures.ready;
     })
     (roles_same old)
@@ -120,8 +120,8 @@ returns-in-All g c =
     let far_new : Station = record far { ends = done.new.far } in
     event_done x own far own_new far_new said.line room said.event (says.All n) old old c.in-All.is
     (record {
-      own_ready = station_kept own done.new.own room r.own_ready done.ensures.own_params (ap (λ s. s.sent) done.ensures.own_sent);
-      far_ready = station_kept far done.new.far room r.far_ready done.ensures.far_params done.ensures.far_sent;
+      own_ready = station_kept own done.new.own room r.own_ready done.ensures.keeps.own_params (ap (λ s. s.sent) done.ensures.keeps.own_sender);
+      far_ready = station_kept far done.new.far room r.far_ready done.ensures.keeps.far_params done.ensures.keeps.far_sent;
       ends = done.ensures.ready;
     })
     (roles_same old)
@@ -177,8 +177,8 @@ returns-in_ok-play_next-in-Play g c =
     let far_new : Station = record far { ends = c.play_next.new.far } in
     event_done x own far own_new far_new said.line room said.event says.Play old new c.in-Play.is
     (record {
-      own_ready = station_kept own c.play_next.new.own room r.own_ready done.own_params (ap (λ s. s.sent) done.own_sent);
-      far_ready = station_kept far c.play_next.new.far room r.far_ready done.far_params (ap (λ s. s.sent) done.far_sent);
+      own_ready = station_kept own c.play_next.new.own room r.own_ready done.keeps.own_params (ap (λ s. s.sent) done.keeps.own_sender);
+      far_ready = station_kept far c.play_next.new.far room r.far_ready done.keeps.far_params (ap (λ s. s.sent) done.keeps.far_sender);
       ends = done.ready;
     })
     (writes_keep old new done.rest)

@@ -64,3 +64,13 @@ returns-clause-ready c =
       ways = with_delivery (sides e.params) e.party c.args.number c.args.place e.ways;
       holds = returns-clause-holds c e.params e.party e.ways e.left e.holds e.may;
     }
+
+pub returns-clause-keeps : goal.returns-clause-keeps
+returns-clause-keeps c = record {
+  own_params = refl;
+  far_params = refl;
+  own_sender = refl;
+  far_sent = c.bring_carried.ensures.sent;
+  own_played = c.deliver-said.ensures.played;
+  far_receiver = refl;
+}

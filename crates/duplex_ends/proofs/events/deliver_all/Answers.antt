@@ -9,12 +9,14 @@ use Rattle.duplex_ends.proofs.events.deliver_all.Goals as goal
 pub packets-init : goal.packets-init
 packets-init c = record {
   ready = record { params = c.requires.params; party = c.requires.party; ways = c.requires.ways; holds = c.requires.holds };
-  own_params = refl;
-  far_params = refl;
-  own_sent = refl;
-  far_sent = refl;
-  own_played = refl;
-  far_played = refl;
+  keeps = record {
+    own_params = refl;
+    far_params = refl;
+    own_sender = refl;
+    far_sent = refl;
+    own_played = refl;
+    far_receiver = refl;
+  };
   holds = λ p x ways left h may. h;
 }
 
@@ -41,12 +43,14 @@ packets-preserved c =
     let next : suc i ≡ i + 1 = omega arith in
     record {
       ready = now.ready;
-      own_params = now.own_params ∙ old.own_params;
-      far_params = now.far_params ∙ old.far_params;
-      own_sent = now.own_sent ∙ old.own_sent;
-      far_sent = now.far_sent ∙ old.far_sent;
-      own_played = now.own_played ∙ old.own_played;
-      far_played = now.far_played ∙ old.far_played;
+      keeps = record {
+        own_params = now.keeps.own_params ∙ old.keeps.own_params;
+        far_params = now.keeps.far_params ∙ old.keeps.far_params;
+        own_sender = now.keeps.own_sender ∙ old.keeps.own_sender;
+        far_sent = now.keeps.far_sent ∙ old.keeps.far_sent;
+        own_played = now.keeps.own_played ∙ old.keeps.own_played;
+        far_receiver = now.keeps.far_receiver ∙ old.keeps.far_receiver;
+      };
       holds = λ p x ways left h may.
           subst (λ (k : ℕ). HoldsPair p x c.deliver.new.own c.deliver.new.far (with_places p x n k ways)) next
           (now.holds p x (with_places p x n i ways) left (old.holds p x ways left h may) (may_places p x ways left n i 0 i may));

@@ -108,3 +108,12 @@ returns-clause-ready c =
       ways = with_play (sides e.params) e.party e.ways;
       holds = returns-clause-holds c e.params e.party e.ways e.left e.holds e.may;
     }
+
+pub returns-clause-keeps : goal.returns-clause-keeps
+returns-clause-keeps c = record {
+  own_params = refl;
+  far_params = refl;
+  own_sender = refl;
+  far_sender = refl;
+  far_receiver = refl;
+}
