@@ -12,13 +12,13 @@ use Rattle.command_words.specs.declared.simple.WordStop.{WordStop}
 use Rattle.command_words.specs.declared.simple.WordStop.TheVariants as stops
 use Rattle.command_words.specs.Simple.{Text}
 use Rattle.command_words.specs.Asked.{Asked, asked, name_in, roles, word_for}
-use Rattle.desk_program.specs.Ends.{HasCause}
-use Rattle.desk_program.specs.Attached.{AreAttached}
-use Rattle.desk_program.specs.Lines.{Finishes}
-use Rattle.desk_program.specs.Promises.{IsSettled, IsNotUsage}
+use Rattle.desk_program.specs.Ends.{Gains, HasCause, IsReadOut, Tells}
+use Rattle.desk_program.specs.Attached.{AreAttached, AttachedAt}
+use Rattle.desk_program.specs.Lines.{Finishes, end_text}
+use Rattle.desk_program.specs.Promises.{HasPrefixes, HasStatus, HasTexts, IsNotUsage, IsSettled, IsStopped, IsUnopened, TakesInput}
 use Rattle.h263rps.specs.Output.{the_word, word_stop, command_of, roles_of, source_of, run_of, output_of, order_from, source_from}
 use Rattle.h263rps.specs.Promises.{IsRunOf, IsRun}
-use Rattle.h263rps.proofs.Promised.{some_since, nothing_done, report_unopened, words_unread, usage_told, since_attached}
+use Rattle.h263rps.proofs.Promised.{performed, some_since, nothing_done, report_unopened, words_unread, usage_told, since_attached}
 
 -- ---- a command
 
@@ -46,8 +46,8 @@ no_video c none none2 = record {
   second = λ inputs fault ends. absurd (none2 inputs fault ends);
 }
 
--- a command was carried out
-pub as_run : (a : Asked) (c : Command) → a.command ≡ c → IsRefusedRightly c → (result : Status) (old new : Outside)
+-- its run is that of the words
+as_run : (a : Asked) (c : Command) → a.command ≡ c → IsRefusedRightly c → (result : Status) (old new : Outside)
     → IsRunOf (run_of c) ((Report, []) ∷ roles_of c a) (source_of c) result old new → IsNotUsage result → IsRun (Some a) result old new
 as_run a c e rightly result old new run words = record {
   run = subst (λ (k : Command). IsRunOf (run_of k) ((Report, []) ∷ roles_of k a) (source_of k) result old new) (sym e) run;
@@ -56,6 +56,24 @@ as_run a c e rightly result old new run words = record {
   refused = λ inputs told fault r. rightly.first inputs fault (sym (run.texts inputs told (subst IsSettled (sym r) tt)).known ∙ r);
   second_refused = λ inputs told fault r. rightly.second inputs fault (sym (run.texts inputs told (subst IsSettled (sym r) tt)).known ∙ r);
 }
+
+-- a command was performed with these roles, which are its own
+module _ (a : Asked) (c : Command) (is : a.command ≡ c) (rightly : IsRefusedRightly c) (roles : List (Role × Text)) (own : roles ≡ roles_of c a) (result : Status) (old new : Outside)
+    (status : (inputs : Role → List ℕ) → Tells old inputs → HasStatus (run_of c inputs) result old.faults new.faults)
+    (texts : (inputs : Role → List ℕ) → Tells old inputs → IsSettled result → HasTexts (run_of c inputs) end_text result old.written new.written)
+    (prefixes : (inputs : Role → List ℕ) → Tells old inputs → IsStopped result → HasPrefixes (run_of c inputs) end_text result old.written new.written)
+    (words : IsNotUsage result)
+    (unopened : IsUnopened result → Gains (end_text result) old.written new.written)
+    (causes : HasCause result old.faults new.faults)
+    (attached : AttachedAt ((Report, []) ∷ roles) result new)
+    (whole_input : (inputs : Role → List ℕ) → Tells old inputs → IsReadOut result (source_of c) new)
+    (taken_input : (inputs : Role → List ℕ) → Tells old inputs → TakesInput result (run_of c inputs) end_text inputs old.written new) where
+  pub carried_out : IsRun (Some a) result old new
+  carried_out =
+      as_run a c is rightly result old new
+      (subst (λ (l : List (Role × Text)). IsRunOf (run_of c) ((Report, []) ∷ l) (source_of c) result old new) own
+      (performed (run_of c) roles (source_of c) old new result status texts prefixes words unopened causes attached whole_input taken_input))
+      words
 
 -- Usage was told, since there is no command
 pub usage_run : (mid new : Outside) → AreAttached ((Report, []) ∷ []) mid → OnlyWrites mid new → (result : Status) → Finishes Usage result mid new → IsRun None result mid new

@@ -1,22 +1,19 @@
 //! The commands, over a desk on which the report alone is attached.
-ghost use Rattle.std.specs.Prelude.{◌≡◌, ◌∷◌, [], ℕ, List, false, true, None, Some, IsTrue};
-ghost use Rattle.h263_outside.specs.Desk.{Outside, with_role};
-ghost use Rattle.h263_outside.specs.declared.desk.Role.{Role};
+ghost use Rattle.std.specs.Prelude.{◌≡◌, ◌∷◌, [], false, true, None, Some};
 ghost use Rattle.h263_outside.specs.declared.desk.Role.TheVariants.{Report};
 ghost use Rattle.command_words.specs.declared.command.Command.TheVariants as commands;
 ghost use Rattle.command_words.specs.Asked.{HasNames, IsCommand, IsGiven, word_for};
 ghost use Rattle.command_words.specs.View.{asked_of};
-ghost use Rattle.desk_program.specs.Attached.{AreAttached, are_free, names};
-ghost use Rattle.desk_program.specs.Promises.{IsNotUsage};
+ghost use Rattle.desk_program.specs.Attached.{AreAttached};
 ghost use Rattle.h263rps.specs.Output.{the_word};
-ghost use Rattle.h263rps.specs.Promises.{IsRun, IsRunOf};
+ghost use Rattle.h263rps.specs.Promises.{IsRun};
 
 use crate::Status;
 use audit_command::{Audit, laws as audit_command_laws};
 use call_command::{Call, Terms, laws as call_command_laws};
 use command_words::{Command, Words};
 use demo_command::{Demo, DemoTerms, laws as demo_command_laws};
-use desk_program::{Acts, perform};
+use desk_program::perform;
 use duplex_command::{Duplex, laws as duplex_command_laws};
 use h263_outside::{Desk, Role};
 use h263_types::Params;
@@ -24,25 +21,6 @@ use rate_command::{Bucket, Rate, laws as rate_command_laws};
 use recv_command::{Join, Recv, laws as recv_command_laws};
 use send_command::{Send, Sending, laws as send_command_laws};
 use std::alloc::Global;
-
-// Carries a command out.
-fn carry_out<D: Desk, A: Acts>(
-    alloc: Global,
-    setup: &A::Setup,
-    order: &[(Role, &str)],
-    desk: &mut D,
-) -> Status
-    requires report { AreAttached ((Report, []) ∷ []) (D.outside desk.old) }
-    requires free { IsTrue (are_free (with_role (λ _. false) Report true) (names order.now)) }
-    requires opens { (now : Outside) → AreAttached ((Report, []) ∷ names order.now) now
-        → A.opens setup.now now.attached }
-    ensures run { IsRunOf
-        (λ inputs. A.run setup.now inputs) ((Report, []) ∷ names order.now) (A.source setup.now)
-        result (D.outside desk.old) (D.outside desk.new) }
-    ensures words { IsNotUsage result }
-{
-    perform::<D, A>(alloc, setup, order, desk)
-}
 
 // The word by which the command attaches a role.
 fn word_of<'a>(words: &Words<'a>, role: Role) -> &'a str
@@ -70,7 +48,7 @@ fn call<D: Desk>(alloc: Global, words: &Words<'_>, params: Params, desk: &mut D)
         params,
         plain: true,
     };
-    carry_out::<D, Call>(alloc, &terms, &order, desk)
+    perform::<D, Call>(alloc, &terms, &order, desk)
 }
 
 // A call over a recorded trace.
@@ -92,7 +70,7 @@ fn traced_call<D: Desk>(alloc: Global, words: &Words<'_>, params: Params, desk: 
         params,
         plain: false,
     };
-    carry_out::<D, Call>(alloc, &terms, &order, desk)
+    perform::<D, Call>(alloc, &terms, &order, desk)
 }
 
 // The sender alone.
@@ -116,7 +94,7 @@ fn send<D: Desk>(
         (Role::Events, word_of(words, Role::Events)),
         (Role::Wire, word_of(words, Role::Wire)),
     ];
-    carry_out::<D, Send>(alloc, &Sending { params, target }, &order, desk)
+    perform::<D, Send>(alloc, &Sending { params, target }, &order, desk)
 }
 
 // The receiver alone.
@@ -133,7 +111,7 @@ fn recv<D: Desk>(alloc: Global, words: &Words<'_>, params: Params, desk: &mut D)
         (Role::Pictures, word_of(words, Role::Pictures)),
         (Role::Wire, word_of(words, Role::Wire)),
     ];
-    carry_out::<D, Recv>(alloc, &params, &order, desk)
+    perform::<D, Recv>(alloc, &params, &order, desk)
 }
 
 // The receiver alone, after a joiner.
@@ -150,31 +128,20 @@ fn join<D: Desk>(alloc: Global, words: &Words<'_>, params: Params, desk: &mut D)
         (Role::Pictures, word_of(words, Role::Pictures)),
         (Role::Wire, word_of(words, Role::Wire)),
     ];
-    carry_out::<D, Join>(alloc, &params, &order, desk)
+    perform::<D, Join>(alloc, &params, &order, desk)
 }
 
 // A call on made input.
-fn demo<D: Desk>(
-    alloc: Global,
-    words: &Words<'_>,
-    params: Params,
-    seed: u32,
-    frames: u32,
-    desk: &mut D,
-) -> Status
+fn demo<D: Desk>(alloc: Global, words: &Words<'_>, terms: &DemoTerms, desk: &mut D) -> Status
     requires report { AreAttached ((Report, []) ∷ []) (D.outside desk.old) }
     requires names { HasNames (asked_of words.now) }
     requires command { IsCommand words.now.command }
-    requires is { words.now.command ≡ commands.Demo params seed frames }
+    requires is { words.now.command
+        ≡ commands.Demo terms.now.params terms.now.seed terms.now.frames }
     ensures { IsRun (Some (asked_of words.now)) result (D.outside desk.old) (D.outside desk.new) }
 {
     demo_command_laws::ends_well();
-    let terms = DemoTerms {
-        params,
-        seed,
-        frames,
-    };
-    carry_out::<D, Demo>(alloc, &terms, &[], desk)
+    perform::<D, Demo>(alloc, terms, &[], desk)
 }
 
 // The meter of a log.
@@ -187,7 +154,7 @@ fn rate<D: Desk>(alloc: Global, words: &Words<'_>, target: u32, bucket: u32, des
 {
     rate_command_laws::no_video_refused();
     let order = [(Role::Events, word_of(words, Role::Events))];
-    carry_out::<D, Rate>(alloc, &Bucket { target, bucket }, &order, desk)
+    perform::<D, Rate>(alloc, &Bucket { target, bucket }, &order, desk)
 }
 
 // The audit of a log.
@@ -200,7 +167,7 @@ fn audit<D: Desk>(alloc: Global, words: &Words<'_>, params: Params, desk: &mut D
 {
     audit_command_laws::no_video_refused();
     let order = [(Role::Events, word_of(words, Role::Events))];
-    carry_out::<D, Audit>(alloc, &params, &order, desk)
+    perform::<D, Audit>(alloc, &params, &order, desk)
 }
 
 // A call of two parties.
@@ -219,7 +186,7 @@ fn duplex<D: Desk>(alloc: Global, words: &Words<'_>, params: Params, desk: &mut 
         (Role::Pictures, word_of(words, Role::Pictures)),
         (Role::Pictures2, word_of(words, Role::Pictures2)),
     ];
-    carry_out::<D, Duplex>(alloc, &params, &order, desk)
+    perform::<D, Duplex>(alloc, &params, &order, desk)
 }
 
 /// Runs the command that the words ask for.
@@ -248,7 +215,14 @@ pub fn command<D: Desk>(alloc: Global, words: &Words<'_>, desk: &mut D) -> Statu
             params,
             seed,
             frames,
-        } => demo(alloc, words, params, seed, frames, desk),
+        } => {
+            let terms = DemoTerms {
+                params,
+                seed,
+                frames,
+            };
+            demo(alloc, words, &terms, desk)
+        }
         Command::Rate { target, bucket } => rate(alloc, words, target, bucket, desk),
         Command::Audit { params } => audit(alloc, words, params, desk),
         Command::Duplex { params } => duplex(alloc, words, params, desk),

@@ -8,7 +8,7 @@ ghost use Rattle.h263_outside.specs.Desk.{NoneAttached};
 ghost use Rattle.command_words.specs.Clap.{texts};
 ghost use Rattle.call_report.specs.Status.{code_of};
 ghost use Rattle.h263rps.specs.Output.{command_of, unread_words};
-ghost use Rattle.h263rps.specs.Promises.{IsExit, IsRun};
+ghost use Rattle.h263rps.specs.Promises.{IsExit};
 
 mod commands;
 #[cfg(test)]
@@ -35,18 +35,6 @@ fn texts_of(alloc: Global, words: &[String]) -> Result<Vec<&str>, AllocError>
     Ok(texts)
 }
 
-// Runs the words after the program's name.
-fn run_words<D: Desk>(alloc: Global, words: &[String], desk: &mut D) -> Status
-    requires { NoneAttached (D.outside desk.old).attached }
-    ensures { IsRun
-        (command_of (map string_bytes words.now)) result (D.outside desk.old) (D.outside desk.new) }
-{
-    match texts_of(alloc, words) {
-        Ok(texts) => run(alloc, &texts, desk),
-        Err(_) => Status::OutOfMemory,
-    }
-}
-
 // The words after the program's name.
 fn read_words(rt: &HostRuntime) -> io::Result<Vec<String>> {
     Ok(env::args(rt)?.skip(1).collect(rt.alloc())?)
@@ -71,7 +59,10 @@ fn code_for<D: Desk>(alloc: Global, words: io::Result<Vec<String>>, desk: &mut D
     ensures untouched { OnErr words (desk.new ≡ desk.old) }
 {
     match words {
-        Ok(words) => run_words(alloc, &words, desk).code(),
+        Ok(words) => match texts_of(alloc, &words) {
+            Ok(texts) => run(alloc, &texts, desk).code(),
+            Err(_) => Status::OutOfMemory.code(),
+        },
         Err(fault) => unread(fault.kind()).code(),
     }
 }

@@ -1,11 +1,9 @@
-use Rattle.std.proofs.Common.{ℕ, List, [], ◌∷◌, ◌∙◌, subst}
-use Rattle.h263_outside.specs.declared.desk.Role.{Role}
-use Rattle.h263_outside.specs.declared.desk.Role.TheVariants.{Events, Report}
+use Rattle.std.proofs.Common.{[], ◌∷◌, ◌∙◌}
+use Rattle.h263_outside.specs.declared.desk.Role.TheVariants.{Events}
 use Rattle.command_words.specs.declared.command.Command.TheVariants.{Rate}
 use Rattle.command_words.specs.View.{asked_of}
-use Rattle.h263rps.specs.Output.{bucket_of, run_of, source_of}
-use Rattle.h263rps.specs.Promises.{IsRunOf}
-use Rattle.h263rps.proofs.Asked.{as_run, no_video, word_is}
+use Rattle.h263rps.specs.Output.{bucket_of}
+use Rattle.h263rps.proofs.Asked.{carried_out, no_video, word_is}
 use Rattle.h263rps.proofs.commands.rate.Goals as goal
 
 pub returns : goal.returns
@@ -13,9 +11,8 @@ returns g c =
     let outside = g.D.Desk.outside in
     let a = asked_of c.args.words.now in
     let asked = Rate c.args.target c.args.bucket in
-    let done = c.carry_out in
-    as_run a asked c.requires.is (no_video asked (c.no_video_refused.ensures.first (bucket_of c.args.target c.args.bucket)) (c.no_video_refused.ensures.second (bucket_of c.args.target c.args.bucket)))
-    done.result (outside c.args.desk.now) (outside done.new.desk)
-    (subst (λ (roles : List (Role × List ℕ)). IsRunOf (run_of asked) ((Report, []) ∷ roles) (source_of asked) done.result (outside c.args.desk.now) (outside done.new.desk))
-    (λ i. (Events, (c.word_of.ensures ∙ word_is a asked Events c.requires.is) i) ∷ []) done.ensures.run)
-    done.ensures.words
+    let done = c.perform in
+    let says = done.ensures in
+    carried_out a asked c.requires.is (no_video asked (c.no_video_refused.ensures.first (bucket_of c.args.target c.args.bucket)) (c.no_video_refused.ensures.second (bucket_of c.args.target c.args.bucket))) _
+    (λ i. (Events, (c.word_of.ensures ∙ word_is a asked Events c.requires.is) i) ∷ []) done.result (outside c.args.desk.now) (outside done.new.desk)
+    says.status says.texts says.prefixes says.words says.unopened says.causes says.attached says.whole_input says.taken_input
