@@ -1,8 +1,10 @@
-//! Times the parts of a call on the made video: `bench FRAMES [SLOTS [RUNS [NOISE]]]` codes, reads
-//! and plays FRAMES frames in each format, with SLOTS pictures kept at each end (16 if not told),
-//! and prints what a frame took in each part: the least of RUNS runs (1 if not told).
+//! Times the parts of a call on the made video: `bench FRAMES [SLOTS [RUNS [NOISE [STEP [QUANT]]]]]`
+//! codes, reads and plays FRAMES frames in each format, with SLOTS pictures kept at each end (16 if
+//! not told), and prints what a frame took in each part: the least of RUNS runs (1 if not told).
 //! NOISE is the most that a made noise changes a sample by (0 if not told): without one hardly a
-//! block of a predicted picture is transformed.
+//! block of a predicted picture is transformed. STEP is how far the video goes on from frame to
+//! frame: 1 as it is made (if not told), 0 a still picture, 3 a pan of 6 columns and 3 rows. QUANT
+//! is the quantiser (8 if not told).
 //!
 //! What is timed, in microseconds a frame: `code`, a picture coded whole ([`coding`]); `send`, the
 //! same by a sender; `read`, its packets read and reconstructed ([`reading`]); `receive`, the same
@@ -29,13 +31,16 @@ use std::{env, io};
 use times::{Stop, Times};
 use video::Video;
 
-// What is asked for: how many frames, pictures kept at each end and runs, and a noise.
+// What is asked for: how many frames, pictures kept at each end and runs, which noise and step,
+// and a quantiser.
 #[derive(Clone, Copy, Debug, PartialEq, Eq)]
 struct Words {
     frames: u32,
     slots: u32,
     runs: u32,
     noise: u8,
+    step: u32,
+    quant: u8,
     ghost few: { frames ≤ 100000 },
     ghost least: { noise ≤ 64 },
 }
@@ -68,21 +73,30 @@ fn asked(rt: &HostRuntime) -> io::Result<Option<Words>> {
     let Some(noise) = number(words.next(), Some(0), 64) else {
         return Ok(None);
     };
+    let Some(step) = number(words.next(), Some(1), 100) else {
+        return Ok(None);
+    };
+    let Some(quant) = number(words.next(), Some(8), 31) else {
+        return Ok(None);
+    };
     Ok(Some(Words {
         frames,
         slots,
         runs,
         noise: noise as u8,
+        step,
+        quant: quant as u8,
     }))
 }
 
-// The parameters of a format, where this many pictures are kept.
-fn params_of(format: Format, slots: u32) -> Option<Params>
+// The parameters of a format, where this many pictures are kept, with this quantiser.
+fn params_of(format: Format, slots: u32, quant: u8) -> Option<Params>
     ensures { IfSome result IsParams }
 {
     let params = Params {
         slots,
         lead: slots.saturating_sub(2).min(3),
+        quant,
         ..Params::of(format)
     };
     match params.check() {
@@ -98,6 +112,7 @@ fn least(rt: &HostRuntime, params: &Params, asked: Words) -> Result<Times, Stop>
     let video = Video {
         format: params.format,
         noise: asked.noise,
+        step: asked.step,
     };
     let mut times = run(rt, params, video, asked.frames)?;
     'runs: for _ in 1..asked.runs {
@@ -109,12 +124,12 @@ fn least(rt: &HostRuntime, params: &Params, asked: Words) -> Result<Times, Stop>
 fn bench(rt: &HostRuntime) -> Result<(), Stop> {
     let Some(asked) = asked(rt)? else {
         println!(rt;
-            "usage: bench FRAMES [SLOTS [RUNS [NOISE]]] (100000, 64, 1000 and 64 at most)"
+            "usage: bench FRAMES [SLOTS [RUNS [NOISE [STEP [QUANT]]]]] (at most 100000, 64, 1000, 64, 100, 31)"
         )?;
         return Ok(());
     };
     for format in [Format::SubQcif, Format::Qcif, Format::Cif] {
-        if let Some(params) = params_of(format, asked.slots) {
+        if let Some(params) = params_of(format, asked.slots, asked.quant) {
             let times = least(rt, &params, asked)?;
             println!(rt; "{times}")?;
         }

@@ -5,11 +5,13 @@ ghost use Rattle.h263_types.specs.Sizes.{size_of_picture};
 use h263_planes::PictureMut;
 use h263_types::Format;
 
-/// The made video in a format, with a made noise of up to this much, 64 at most.
+/// The made video in a format, with a made noise of up to this much, 64 at most. It goes on by
+/// `step` frames from one to the next: where that is 0, the picture is still.
 #[derive(Clone, Copy, Debug, PartialEq, Eq)]
 pub struct Video {
     pub format: Format,
     pub noise: u8,
+    pub step: u32,
     ghost least: { noise ≤ 64 },
 }
 
@@ -19,7 +21,8 @@ pub fn make(video: Video, number: u32, samples: &mut [u8])
     ensures { length samples.new ≡ length samples.old }
 {
     let format = video.format;
-    make_input::frame(format, 0, number, &mut PictureMut::new(format, samples));
+    let drawn = number.saturating_mul(video.step);
+    make_input::frame(format, 0, drawn, &mut PictureMut::new(format, samples));
     if video.noise > 0 {
         add_noise(samples, video.noise, number);
     }
