@@ -48,7 +48,7 @@ pub record IsSeen (bits : List Bool) (n seen : ℕ) : Type 0 where
   pub value : seen ≡ number (take n bits)
 
 -- the first k of some bits, from the number of the first n
-front_number : (bits : List Bool) (k n : ℕ) → k ≤ n → n ≤ length bits → number (take k bits) ≡ number (take n bits) / 2 ^ (n - k)
+pub front_number : (bits : List Bool) (k n : ℕ) → k ≤ n → n ≤ length bits → number (take k bits) ≡ number (take n bits) / 2 ^ (n - k)
 front_number bits k n h l =
     let len : length (take n bits) ≡ n = omega (arith, length-take n bits) in
     let small : number (take n bits) < 2 ^ (k + (n - k)) = subst (λ (j : ℕ). number (take n bits) < 2 ^ j) (omega (arith, len)) (number-lt (take n bits)) in

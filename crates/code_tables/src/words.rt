@@ -12,6 +12,7 @@ ghost use Rattle.code_tables.specs.Tables.{cbpy, cbpy_texts, cbpy_text, magnitud
 ghost use Rattle.code_tables.specs.Events.{event_of_code, coefficient_of};
 
 use crate::code::{Coefficient, Level, read_code, write_code, write_signed_code};
+use crate::event_bits::{escape_level, level_at, seen_event, with_sign};
 use crate::event_tables::{EVENTS, EVENTS_FAST, EVENTS_LONG, LAST_0_STARTS, LAST_1_STARTS, LEVELS};
 use crate::tables::{CBPY, CBPY_FAST, MAGNITUDES, MAGNITUDES_FAST, MAGNITUDES_LONG};
 use h263_bits::{BitReader, BitWriter, Fault, FaultKind};
@@ -54,14 +55,6 @@ fn read_magnitude(reader: &mut BitReader<'_>) -> Result<usize, Fault>
     read_code(reader, &MAGNITUDES, &MAGNITUDES_FAST, &MAGNITUDES_LONG)
 }
 
-// A size with its sign, 1 for minus.
-fn with_sign(sign: u32, size: u8) -> i8
-    requires { size < 128 }
-    ensures { result ≡ signed sign size }
-{
-    if sign == 0 { size as i8 } else { -(size as i8) }
-}
-
 #[tactic(auto, unfolding(crate::specs::Tables::mvd_parts, crate::specs::Tables::magnitude_table, h263_bits::specs::Syntax::reading))]
 fn read_mvd_parts(reader: &mut BitReader<'_>) -> Result<i8, Fault>
     ensures { Gives (λ (v : ℤ). v) result reader.new (reading mvd_parts reader.old) }
@@ -101,12 +94,6 @@ pub fn read_mvd(reader: &mut BitReader<'_>) -> Result<i8, Fault>
     }
 }
 
-fn level_at(levels: &[Level], place: usize) -> Option<Level>
-    ensures { result ≡ slice_get levels.now place }
-{
-    levels.get(place).copied()
-}
-
 fn read_event_word(reader: &mut BitReader<'_>) -> Result<Option<Level>, Fault>
     ensures reads { Gives event_of_code result reader.new (word_at tcoef_words reader.old) }
     ensures small { IfOk result (λ o. IfSome o (λ level. level.size < 128)) }
@@ -141,19 +128,6 @@ fn read_event_parts(reader: &mut BitReader<'_>) -> Result<Coefficient, Fault>
     })
 }
 
-// LEVEL of an escape, in two's complement.
-fn escape_level(bits: u32) -> i8
-    requires byte { bits < 256 }
-    requires in_range { bits ≢ 128 }
-    ensures { result ≡ level_of bits }
-{
-    if bits < 128 {
-        bits as i8
-    } else {
-        -((256 - bits) as i8)
-    }
-}
-
 /// An event of TCOEF: LAST, RUN and LEVEL, as a word with its sign or as an escape (H.263 5.4.2).
 #[tactic(auto, unfolding(crate::specs::Tables::event, h263_bits::specs::Syntax::reading))]
 pub fn read_event(reader: &mut BitReader<'_>) -> Result<Coefficient, Fault>
@@ -170,6 +144,13 @@ pub fn read_event(reader: &mut BitReader<'_>) -> Result<Coefficient, Fault>
         (d.at ≡ reader.old.at) × IsEventFault reader.old.bits d.kind) }
     ensures exact { Gives coefficient_of result reader.new (reading event reader.old) }
 {
+    if reader.rest() >= 22 {
+        let seen = reader.peek(22);
+        if let Some(found) = seen_event(seen) {
+            reader.skip(found.len);
+            return Ok(found.event);
+        }
+    }
     let at = reader.at();
     match read_event_parts(reader) {
         Ok(event) => Ok(event),

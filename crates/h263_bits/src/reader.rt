@@ -1,5 +1,5 @@
 //! A reader of bits: it lends the bytes, and knows its place and its end.
-ghost use Rattle.std.specs.Prelude.{◌≡◌, ℕ, ◌+◌, ◌-◌, ◌*◌, ◌<◌, ◌≤◌, ◌^◌, length, take, drop, IfOk, OnErr};
+ghost use Rattle.std.specs.Prelude.{◌≡◌, ℕ, ◌+◌, ◌-◌, ◌*◌, ◌/◌, ◌%◌, ◌<◌, ◌≤◌, ◌^◌, length, take, drop, IfOk, OnErr};
 ghost use Rattle.h263_bits.specs.Bits.{bits_of, number};
 ghost use Rattle.h263_bits.specs.Reading.{Bits, Gives, bits_between, number_at, skip};
 ghost use Rattle.h263_bits.specs.Syntax.{field_at, only};
@@ -27,6 +27,44 @@ impl<'a> Model for BitReader<'a> {
         × (length r.bytes.now ≤ 65535) };
 }
 
+// The number of the eight bytes from a place on, the first of them highest: one load.
+fn eight_bytes(bytes: &[u8], first: usize) -> u64
+    requires { first + 8 ≤ length bytes.now }
+    ensures { result ≡ number (bits_of (take 8 (drop first bytes.now))) }
+{
+    u64::from_be_bytes([
+        bytes[first],
+        bytes[first + 1],
+        bytes[first + 2],
+        bytes[first + 3],
+        bytes[first + 4],
+        bytes[first + 5],
+        bytes[first + 6],
+        bytes[first + 7],
+    ])
+}
+
+// The number of the last bytes, where no eight are left, the first of them highest.
+fn last_bytes(bytes: &[u8]) -> u64
+    requires { length bytes.now < 8 }
+    ensures { result ≡ number (bits_of bytes.now) }
+{
+    let mut sum: u64 = 0;
+    for byte in bytes {
+        sum = sum * 256 + *byte as u64;
+    }
+    sum
+}
+
+// The n bits of a number that have this many below them.
+fn bits_above(number: u64, below: u32, n: u32) -> u32
+    requires few { n ≤ 32 }
+    requires below { below < 64 }
+    ensures { result ≡ number / 2 ^ below % 2 ^ n }
+{
+    ((number >> below) & ((1u64 << n) - 1)) as u32
+}
+
 // The number of the n bits from a place on.
 fn number_from(bytes: &[u8], at: u32, n: u32) -> u32
     requires few { n ≤ 32 }
@@ -35,14 +73,16 @@ fn number_from(bytes: &[u8], at: u32, n: u32) -> u32
     ensures value { result ≡ number (take n (drop at (bits_of bytes.now))) }
     ensures below { result < 2 ^ n }
 {
-    let first = (at / 8) as usize;
-    let last = ((at + n + 7) / 8) as usize;
-    let mut sum: u64 = 0;
-    for byte in &bytes[first..last] {
-        sum = sum * 256 + *byte as u64;
+    // All 64 bits may stand below no bits, and no shift goes as far.
+    if n == 0 {
+        return 0;
     }
-    let behind = 8 * last as u32 - (at + n);
-    ((sum >> behind) & ((1u64 << n) - 1)) as u32
+    let first = (at / 8) as usize;
+    let left = bytes.len() - first;
+    if left >= 8 {
+        return bits_above(eight_bytes(bytes, first), 64 - at % 8 - n, n);
+    }
+    bits_above(last_bytes(&bytes[first..]), 8 * left as u32 - at % 8 - n, n)
 }
 
 impl<'a> BitReader<'a> {

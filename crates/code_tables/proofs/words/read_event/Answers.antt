@@ -1,7 +1,7 @@
-use Rattle.std.proofs.Common.{◌≡◌, ◌++◌, Bool, List, Result, Ok, Err, rules}
+use Rattle.std.proofs.Common.{◌≡◌, ◌++◌, Bool, List, Result, Ok, Err, rules, ap, sym, ◌∙◌, arith}
 use Rattle.std.specs.Prelude.{IfOk, IfErr, IsOkAnd}
 use Rattle.h263_bits.specs.declared.fault.Fault.{Fault}
-use Rattle.h263_bits.specs.Reading.{Bits, Gives, Takes}
+use Rattle.h263_bits.specs.Reading.{Bits, Gives, Takes, skip}
 use Rattle.h263_bits.specs.Syntax.{reading, Spells}
 use Rattle.code_tables.specs.declared.code.Coefficient.{Coefficient}
 use Rattle.code_tables.specs.Events.{coefficient_of}
@@ -10,6 +10,7 @@ use Rattle.code_tables.specs.Tables.{event, Coefficient as Event}
 use Rattle.code_tables.proofs.EventWords.{event_fault}
 use Rattle.code_tables.proofs.Productive.{event_productive}
 use Rattle.h263_bits.proofs.SyntaxLaws.{reads_texts, texts_read, reads_err}
+use Rattle.code_tables.proofs.SeenEvents.{event_read}
 use Rattle.code_tables.proofs.words.read_event.Goals as goal
 
 -- what is said of each return
@@ -25,6 +26,12 @@ every r old new e = record {
   fault = reads_err coefficient_of event r old new (λ (d : Fault). (d.at ≡ old.at) × IsEventFault old.bits d.kind) e (λ d f. event_fault old d f);
   exact = e;
 }
+
+pub returns-in-Some : goal.returns-in-Some
+returns-in-Some c =
+    let old = c.args.reader.now in
+    let first = c.in-Some.ensures old (omega (arith, c.rest.ensures, c.if-rest-ge22.true)) (sym c.peek-seen.ensures.value) in
+    every (Ok _) old c.skip.new.self (event_read old (skip c.in-Some.found.len old) _ first.read ∙ ap (λ (b : Bits). Ok (coefficient_of c.in-Some.found.event, b)) (sym c.skip.ensures))
 
 pub returns-in-Ok : goal.returns-in-Ok
 unfolding event reading

@@ -1,0 +1,21 @@
+-- Events by their first bits, as one number: an event has 22 bits at most, as an escape.
+use Rattle.std.specs.Prelude.{◌≡◌, ℕ, ◌≤◌, length, take, Option, Ok}
+use Rattle.h263_bits.specs.Bits.{number}
+use Rattle.h263_bits.specs.Reading.{Bits, skip}
+use Rattle.h263_bits.specs.Syntax.{reading, word_at}
+use Rattle.code_tables.specs.declared.event_bits.SeenEvent.{SeenEvent}
+use Rattle.code_tables.specs.Events.{coefficient_of}
+use Rattle.code_tables.specs.Tables.{Event, tcoef_words, event_parts}
+
+-- All bits of which the first 22 are this number begin with the word of an event, or of an escape.
+abbrev pub IsWordIn : ℕ → Option Event → ℕ → Type 0
+IsWordIn seen meaning len = (b : Bits) → 22 ≤ length b.bits → number (take 22 b.bits) ≡ seen
+    → word_at tcoef_words b ≡ Ok (meaning, skip len b)
+
+-- All bits of which the first 22 are this number begin with this event.
+pub record IsFirst (b : Bits) (found : SeenEvent) : Type 0 where
+  pub few : found.len ≤ 22
+  pub read : reading event_parts b ≡ Ok (coefficient_of found.event, skip found.len b)
+
+abbrev pub IsEventIn : ℕ → SeenEvent → Type 0
+IsEventIn seen found = (b : Bits) → 22 ≤ length b.bits → number (take 22 b.bits) ≡ seen → IsFirst b found
