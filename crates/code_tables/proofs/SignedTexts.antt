@@ -1,5 +1,5 @@
 -- A word and the sign after it are written as one number: twice the word's, and 1 more for minus.
-use Rattle.std.proofs.Common.{◌≡◌, ℕ, zero, suc, ◌+◌, ◌*◌, ◌^◌, ◌<◌, Bool, true, false, eqb, ltb, List, [], ◌∷◌, ◌++◌, length, get_or, Some, refl, sym, ap, ◌∙◌, arith}
+use Rattle.std.proofs.Common.{◌≡◌, ℕ, zero, suc, ◌+◌, ◌*◌, ◌^◌, ◌<◌, Bool, true, false, eqb, ltb, List, [], ◌∷◌, ◌++◌, length, get_or, Some, refl, sym, ap, ◌∙◌, append_assoc, arith}
 use mir.Val.{bool_byte}
 use Rattle.std.specs.Prelude.{ℤ, pos, negsuc, int_lt, ◌≤ℤ◌}
 use Rattle.std.proofs.lemmas.Int.{ints}
@@ -7,14 +7,14 @@ use Rattle.std.specs.List.{list_all}
 use Rattle.std.proofs.lemmas.Bool.{le-ltb, ltb-true, ne_eqb}
 use Rattle.std.proofs.lemmas.List.{append-nil}
 use Rattle.std.proofs.lemmas.Nat.{pow-add}
-use Rattle.h263_bits.specs.Bits.{spelled}
+use Rattle.h263_bits.specs.Bits.{spelled, fields}
 use Rattle.h263_bits.proofs.SyntaxLaws.{and_both, spelled-append}
 use Rattle.code_tables.specs.declared.code.Code.{Code}
 use Rattle.code_tables.specs.declared.event_tables.TheConstants.{EVENTS}
 use Rattle.code_tables.specs.declared.tables.TheConstants.{MAGNITUDES}
 use Rattle.code_tables.specs.Words.{is_code, code_at, word_of, text_at, place_in}
 use Rattle.code_tables.specs.Starts.{starts_of}
-use Rattle.code_tables.specs.Tables.{Coefficient, size_of, sign_text, magnitude_texts, mvd_text, event_text}
+use Rattle.code_tables.specs.Tables.{Coefficient, size_of, sign_text, magnitude_texts, mvd_text, event_text, bit_of}
 use Rattle.code_tables.proofs.Texts.{magnitude_text}
 use Rattle.code_tables.proofs.Rows.{event_word}
 
@@ -79,3 +79,25 @@ signed_difference v n same some few =
 pub size_below : (v : ℤ) → negsuc 31 ≤ℤ v → v ≤ℤ pos 31 → size_of v < 33
 size_below (pos n) low high = omega (arith, ints)
 size_below (negsuc n) low high = omega (arith, ints)
+
+-- ---- an escape
+
+escape_text : (last run byte : ℕ) → last < 2 → run < 64 → byte < 256
+    → spelled 22 (((6 + last) * 64 + run) * 256 + byte) ≡ spelled 7 3 ++ (spelled 1 last ++ (spelled 6 run ++ (spelled 8 byte ++ [])))
+escape_text last run byte l r b =
+    let same : ((6 + last) * 64 + run) * 256 + byte ≡ ((3 * 2 ^ 1 + last) * 2 ^ 6 + run) * 2 ^ 8 + byte = omega arith in
+    ap (spelled 22) same
+    ∙ spelled-append 14 8 ((3 * 2 ^ 1 + last) * 2 ^ 6 + run) byte (omega arith)
+    ∙ ap (λ (t : List Bool). t ++ spelled 8 byte) (spelled-append 8 6 (3 * 2 ^ 1 + last) run (omega arith) ∙ ap (λ (t : List Bool). t ++ spelled 6 run) (spelled-append 7 1 3 last (omega arith)))
+    ∙ append_assoc (spelled 7 3 ++ spelled 1 last) (spelled 6 run) (spelled 8 byte)
+    ∙ append_assoc (spelled 7 3) (spelled 1 last) (spelled 6 run ++ spelled 8 byte)
+    ∙ ap (λ (t : List Bool). spelled 7 3 ++ (spelled 1 last ++ (spelled 6 run ++ t))) (sym (append-nil (spelled 8 byte)))
+
+-- the four fields of an escape are the bits of one number
+pub escape_is : (last : Bool) (run byte : ℕ) → run < 64 → byte < 256 → spelled 22 (((6 + bool_byte last) * 64 + run) * 256 + byte) ≡ fields ((7, 3) ∷ (1, bit_of last) ∷ (6, run) ∷ (8, byte) ∷ [])
+escape_is true run byte r b = escape_text 1 run byte (omega arith) r b
+escape_is false run byte r b = escape_text 0 run byte (omega arith) r b
+
+pub escape_fits : (last : Bool) (run byte : ℕ) → run < 64 → byte < 256 → ((6 + bool_byte last) * 64 + run) * 256 + byte < 2 ^ 22
+escape_fits true run byte r b = omega arith
+escape_fits false run byte r b = omega arith

@@ -241,7 +241,8 @@ fn triple_place(last: bool, run: usize, size: usize) -> Option<usize>
 
 // LEVEL in two's complement.
 fn level_byte(level: i8) -> u32
-    ensures { result ≡ byte_of level }
+    ensures byte { result ≡ byte_of level }
+    ensures below { result < 256 }
 {
     if level < 0 {
         (256 + level as i32) as u32
@@ -250,6 +251,7 @@ fn level_byte(level: i8) -> u32
     }
 }
 
+// Writes an escape: its four fields as one number.
 fn write_escape(writer: &mut BitWriter<'_>, event: &Coefficient)
     requires event { IsEvent (coefficient_of event.now) }
     requires room { len_of writer.old + 22 ≤ room_of writer.old }
@@ -257,10 +259,9 @@ fn write_escape(writer: &mut BitWriter<'_>, event: &Coefficient)
         (fields (escape_fields (coefficient_of event.now))) }
     ensures len { len_of writer.new ≡ len_of writer.old + 22 }
 {
-    writer.put(3, 7);
-    writer.put(event.last as u32, 1);
-    writer.put(event.run as u32, 6);
-    writer.put(level_byte(event.level), 8);
+    let head = 2 * 3 + event.last as u32;
+    let value = (head * 64 + event.run as u32) * 256 + level_byte(event.level);
+    writer.put(value, 22);
 }
 
 /// Writes an event: the word of its LAST, RUN and size with the sign, where they have one, and else
