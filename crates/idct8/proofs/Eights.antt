@@ -58,3 +58,15 @@ two_rows P f g rows k v w room_f room_g differ apart before own =
 -- lane j of the list of lane i
 pub listed : (rows : List Row) (i j : ℕ) → j < 8 → lane (list_at rows i) j ≡ lane (row_at rows j) i
 listed rows i = below_eight (λ j. lane (list_at rows i) j ≡ lane (row_at rows j) i) refl refl refl refl refl refl refl refl
+
+-- the others stay
+pub sum_other : (sums : List Sum) (k j : ℕ) (v : List ℤ) → j ≢ k → sum_at (slice_set sums k (sum_with v)) j ≡ sum_at sums j
+sum_other sums k j v h = ap (λ (s : Sum). s.lanes) (get_or-set_other sums k j (sum_with v) (sum_with []) h)
+
+-- one more vector of sums
+pub one_sum : (P : ℕ → List ℤ → Type 0) (sums : List Sum) (k : ℕ) (v : List ℤ) → k < length sums → ((j : ℕ) → j < k → P j (sum_at sums j)) → P k v →
+    (j : ℕ) → j < k + 1 → P j (sum_at (slice_set sums k (sum_with v)) j)
+one_sum P sums k v room before own =
+    below_more (λ j. P j (sum_at (slice_set sums k (sum_with v)) j)) k
+    (λ j hj. subst (P j) (sym (sum_other sums k j v (omega (arith, hj)))) (before j hj))
+    (subst (P k) (sym (ap (λ (s : Sum). s.lanes) (get_or-set_same sums k (sum_with v) (sum_with []) room))) own)

@@ -3,6 +3,8 @@ pub mod Wraps
 pub mod Factors
 pub mod Steps
 pub mod Results
+pub mod Stores
+pub mod Sizes
 pub mod Zeros
 pub mod Vectors
 pub mod Eights
@@ -11,3 +13,7 @@ pub mod Shifts
 pub mod Weaving
 pub mod Parity
 pub mod Squares
+pub mod Low
+pub mod Columns
+pub mod Rows
+pub mod First

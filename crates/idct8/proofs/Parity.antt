@@ -160,7 +160,8 @@ module _ (s : List ℤ) (v u : ℕ) (o q : Bool) (across : (x : ℕ) → x < 4 �
 
 -- ---- sums of sizes
 
-total_scaled : (a n : ℕ) (f : ℕ → ℕ) → total n (λ k. a * f k) ≡ a * total n f
+-- a factor goes into a sum
+pub total_scaled : (a n : ℕ) (f : ℕ → ℕ) → total n (λ k. a * f k) ≡ a * total n f
 unfolding total
 total_scaled a zero f = omega arith
 total_scaled a (suc n) f = omega (arith, total_scaled a n f)

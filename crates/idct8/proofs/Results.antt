@@ -1,5 +1,5 @@
 -- How large the results of the transforms are.
-use Rattle.std.proofs.Common.{◌≡◌, ℕ, ◌*◌, ◌^◌, ◌+◌, ◌-◌, ◌<◌, ◌≤◌, ◌∙◌, sym, ℤ, pos, negsuc, neg_ℤ, ◌+ℤ◌, ◌*ℤ◌, ◌≤ℤ◌, List, arith, lit≤}
+use Rattle.std.proofs.Common.{◌≡◌, ℕ, ◌*◌, ◌^◌, ◌+◌, ◌-◌, ◌<◌, ◌≤◌, ◌∙◌, sym, ℤ, pos, negsuc, neg_ℤ, ◌+ℤ◌, ◌*ℤ◌, ◌≤ℤ◌, List, arith, lit≤, w16, to_z, of_z}
 use Rattle.std.specs.Int.{int_shr}
 use Rattle.std.proofs.lemmas.Int.{ints}
 use Rattle.h263_types.specs.Blocks.{IsCoefficient, IsValue}
@@ -11,6 +11,7 @@ use Rattle.idct8.specs.Transform.{entry, rounded, inverse_at, forward_at}
 use Rattle.idct8.specs.Passes.{factor}
 use Rattle.idct8.proofs.Sums.{same_sum, factor_sum, times_assoc}
 use Rattle.idct8.proofs.Factors.{within_pass, within_same}
+use Rattle.idct8.proofs.Shifts.{all_bits}
 
 -- sum r over column i of a block
 abbrev column_sums : Direction → List ℤ → ℕ → ℕ → ℤ
@@ -39,6 +40,10 @@ within_more m n z h w = omega (arith, ints)
 pub value_within : {z : ℤ} → IsValue z → Within (2 ^ 11) z
 value_within {z} h = omega (arith, ints)
 
+-- a value comes back from 16 bits
+pub value_kept : (z : ℤ) → IsValue z → to_z w16 (of_z w16 z) ≡ z
+value_kept z h = omega (arith, ints)
+
 pub sample_within : {z : ℤ} → IsSample z → Within 255 z
 sample_within {z} h = omega (arith, ints)
 
@@ -47,6 +52,14 @@ pub inverse_small : (c : List ℤ) (y x : ℕ) → y < 8 → x < 8 → ((j i : �
 inverse_small c y x hy hx h {z} e =
     within_same (2 ^ 15) (2 ^ 15) (lit≤ tt) e
     (rounded_40 _ (within_more (2841 * (2841 * 2 ^ 11 * 8) * 8) (2 ^ 40) _ (lit≤ tt) (double_small Inverse (2 ^ 11) c y x hy hx h)))
+
+-- it fits 16 bits
+narrow_rounded : (z : ℤ) → Within (2841 * (2841 * 2 ^ 11 * 8) * 8) z → Within 32000 (rounded z)
+narrow_rounded z h = (omega (arith, ints, h, all_bits (z +ℤ pos (2 ^ 24))), omega (arith, ints, h, all_bits (z +ℤ pos (2 ^ 24))))
+
+pub inverse_narrow : (c : List ℤ) (y x : ℕ) → y < 8 → x < 8 → ((j i : ℕ) → j < 8 → i < 8 → Within (2 ^ 11) (entry c j i)) →
+    {z : ℤ} → z ≡ inverse_at c y x → Within 32000 z
+inverse_narrow c y x hy hx h {z} e = within_same 32000 32000 (lit≤ tt) e (narrow_rounded _ (double_small Inverse (2 ^ 11) c y x hy hx h))
 
 pub forward_small : (s : List ℤ) (v u : ℕ) → v < 8 → u < 8 → ((j i : ℕ) → j < 8 → i < 8 → Within 255 (entry s j i)) →
     {z : ℤ} → z ≡ forward_at s v u → IsCoefficient z

@@ -35,35 +35,35 @@ pub less_then_less : {r a b d x y z : ℤ} → r ≡ a -ℤ b -ℤ d → a ≡ x
 less_then_less e ea eb ed = cc (e, ea, eb, ed)
 
 module _ (c0 c1 c2 c3 c4 c5 c6 c7 : ℤ) where
-  inverse_0 : pass_at Inverse (c0 ∷ c1 ∷ c2 ∷ c3 ∷ c4 ∷ c5 ∷ c6 ∷ c7 ∷ []) 0 ≡ pos 0 +ℤ pos 2048 *ℤ c0 +ℤ pos 2841 *ℤ c1 +ℤ pos 2676 *ℤ c2 +ℤ pos 2408 *ℤ c3 +ℤ pos 2048 *ℤ c4 +ℤ pos 1609 *ℤ c5 +ℤ pos 1108 *ℤ c6 +ℤ pos 565 *ℤ c7
+  pub inverse_0 : pass_at Inverse (c0 ∷ c1 ∷ c2 ∷ c3 ∷ c4 ∷ c5 ∷ c6 ∷ c7 ∷ []) 0 ≡ pos 0 +ℤ pos 2048 *ℤ c0 +ℤ pos 2841 *ℤ c1 +ℤ pos 2676 *ℤ c2 +ℤ pos 2408 *ℤ c3 +ℤ pos 2048 *ℤ c4 +ℤ pos 1609 *ℤ c5 +ℤ pos 1108 *ℤ c6 +ℤ pos 565 *ℤ c7
   unfolding sum_below basis
   inverse_0 = refl
 
-  inverse_1 : pass_at Inverse (c0 ∷ c1 ∷ c2 ∷ c3 ∷ c4 ∷ c5 ∷ c6 ∷ c7 ∷ []) 1 ≡ pos 0 +ℤ pos 2048 *ℤ c0 +ℤ pos 2408 *ℤ c1 +ℤ pos 1108 *ℤ c2 +ℤ neg_ℤ (pos 565) *ℤ c3 +ℤ neg_ℤ (pos 2048) *ℤ c4 +ℤ neg_ℤ (pos 2841) *ℤ c5 +ℤ neg_ℤ (pos 2676) *ℤ c6 +ℤ neg_ℤ (pos 1609) *ℤ c7
+  pub inverse_1 : pass_at Inverse (c0 ∷ c1 ∷ c2 ∷ c3 ∷ c4 ∷ c5 ∷ c6 ∷ c7 ∷ []) 1 ≡ pos 0 +ℤ pos 2048 *ℤ c0 +ℤ pos 2408 *ℤ c1 +ℤ pos 1108 *ℤ c2 +ℤ neg_ℤ (pos 565) *ℤ c3 +ℤ neg_ℤ (pos 2048) *ℤ c4 +ℤ neg_ℤ (pos 2841) *ℤ c5 +ℤ neg_ℤ (pos 2676) *ℤ c6 +ℤ neg_ℤ (pos 1609) *ℤ c7
   unfolding sum_below basis
   inverse_1 = refl
 
-  inverse_2 : pass_at Inverse (c0 ∷ c1 ∷ c2 ∷ c3 ∷ c4 ∷ c5 ∷ c6 ∷ c7 ∷ []) 2 ≡ pos 0 +ℤ pos 2048 *ℤ c0 +ℤ pos 1609 *ℤ c1 +ℤ neg_ℤ (pos 1108) *ℤ c2 +ℤ neg_ℤ (pos 2841) *ℤ c3 +ℤ neg_ℤ (pos 2048) *ℤ c4 +ℤ pos 565 *ℤ c5 +ℤ pos 2676 *ℤ c6 +ℤ pos 2408 *ℤ c7
+  pub inverse_2 : pass_at Inverse (c0 ∷ c1 ∷ c2 ∷ c3 ∷ c4 ∷ c5 ∷ c6 ∷ c7 ∷ []) 2 ≡ pos 0 +ℤ pos 2048 *ℤ c0 +ℤ pos 1609 *ℤ c1 +ℤ neg_ℤ (pos 1108) *ℤ c2 +ℤ neg_ℤ (pos 2841) *ℤ c3 +ℤ neg_ℤ (pos 2048) *ℤ c4 +ℤ pos 565 *ℤ c5 +ℤ pos 2676 *ℤ c6 +ℤ pos 2408 *ℤ c7
   unfolding sum_below basis
   inverse_2 = refl
 
-  inverse_3 : pass_at Inverse (c0 ∷ c1 ∷ c2 ∷ c3 ∷ c4 ∷ c5 ∷ c6 ∷ c7 ∷ []) 3 ≡ pos 0 +ℤ pos 2048 *ℤ c0 +ℤ pos 565 *ℤ c1 +ℤ neg_ℤ (pos 2676) *ℤ c2 +ℤ neg_ℤ (pos 1609) *ℤ c3 +ℤ pos 2048 *ℤ c4 +ℤ pos 2408 *ℤ c5 +ℤ neg_ℤ (pos 1108) *ℤ c6 +ℤ neg_ℤ (pos 2841) *ℤ c7
+  pub inverse_3 : pass_at Inverse (c0 ∷ c1 ∷ c2 ∷ c3 ∷ c4 ∷ c5 ∷ c6 ∷ c7 ∷ []) 3 ≡ pos 0 +ℤ pos 2048 *ℤ c0 +ℤ pos 565 *ℤ c1 +ℤ neg_ℤ (pos 2676) *ℤ c2 +ℤ neg_ℤ (pos 1609) *ℤ c3 +ℤ pos 2048 *ℤ c4 +ℤ pos 2408 *ℤ c5 +ℤ neg_ℤ (pos 1108) *ℤ c6 +ℤ neg_ℤ (pos 2841) *ℤ c7
   unfolding sum_below basis
   inverse_3 = refl
 
-  inverse_4 : pass_at Inverse (c0 ∷ c1 ∷ c2 ∷ c3 ∷ c4 ∷ c5 ∷ c6 ∷ c7 ∷ []) 4 ≡ pos 0 +ℤ pos 2048 *ℤ c0 +ℤ neg_ℤ (pos 565) *ℤ c1 +ℤ neg_ℤ (pos 2676) *ℤ c2 +ℤ pos 1609 *ℤ c3 +ℤ pos 2048 *ℤ c4 +ℤ neg_ℤ (pos 2408) *ℤ c5 +ℤ neg_ℤ (pos 1108) *ℤ c6 +ℤ pos 2841 *ℤ c7
+  pub inverse_4 : pass_at Inverse (c0 ∷ c1 ∷ c2 ∷ c3 ∷ c4 ∷ c5 ∷ c6 ∷ c7 ∷ []) 4 ≡ pos 0 +ℤ pos 2048 *ℤ c0 +ℤ neg_ℤ (pos 565) *ℤ c1 +ℤ neg_ℤ (pos 2676) *ℤ c2 +ℤ pos 1609 *ℤ c3 +ℤ pos 2048 *ℤ c4 +ℤ neg_ℤ (pos 2408) *ℤ c5 +ℤ neg_ℤ (pos 1108) *ℤ c6 +ℤ pos 2841 *ℤ c7
   unfolding sum_below basis
   inverse_4 = refl
 
-  inverse_5 : pass_at Inverse (c0 ∷ c1 ∷ c2 ∷ c3 ∷ c4 ∷ c5 ∷ c6 ∷ c7 ∷ []) 5 ≡ pos 0 +ℤ pos 2048 *ℤ c0 +ℤ neg_ℤ (pos 1609) *ℤ c1 +ℤ neg_ℤ (pos 1108) *ℤ c2 +ℤ pos 2841 *ℤ c3 +ℤ neg_ℤ (pos 2048) *ℤ c4 +ℤ neg_ℤ (pos 565) *ℤ c5 +ℤ pos 2676 *ℤ c6 +ℤ neg_ℤ (pos 2408) *ℤ c7
+  pub inverse_5 : pass_at Inverse (c0 ∷ c1 ∷ c2 ∷ c3 ∷ c4 ∷ c5 ∷ c6 ∷ c7 ∷ []) 5 ≡ pos 0 +ℤ pos 2048 *ℤ c0 +ℤ neg_ℤ (pos 1609) *ℤ c1 +ℤ neg_ℤ (pos 1108) *ℤ c2 +ℤ pos 2841 *ℤ c3 +ℤ neg_ℤ (pos 2048) *ℤ c4 +ℤ neg_ℤ (pos 565) *ℤ c5 +ℤ pos 2676 *ℤ c6 +ℤ neg_ℤ (pos 2408) *ℤ c7
   unfolding sum_below basis
   inverse_5 = refl
 
-  inverse_6 : pass_at Inverse (c0 ∷ c1 ∷ c2 ∷ c3 ∷ c4 ∷ c5 ∷ c6 ∷ c7 ∷ []) 6 ≡ pos 0 +ℤ pos 2048 *ℤ c0 +ℤ neg_ℤ (pos 2408) *ℤ c1 +ℤ pos 1108 *ℤ c2 +ℤ pos 565 *ℤ c3 +ℤ neg_ℤ (pos 2048) *ℤ c4 +ℤ pos 2841 *ℤ c5 +ℤ neg_ℤ (pos 2676) *ℤ c6 +ℤ pos 1609 *ℤ c7
+  pub inverse_6 : pass_at Inverse (c0 ∷ c1 ∷ c2 ∷ c3 ∷ c4 ∷ c5 ∷ c6 ∷ c7 ∷ []) 6 ≡ pos 0 +ℤ pos 2048 *ℤ c0 +ℤ neg_ℤ (pos 2408) *ℤ c1 +ℤ pos 1108 *ℤ c2 +ℤ pos 565 *ℤ c3 +ℤ neg_ℤ (pos 2048) *ℤ c4 +ℤ pos 2841 *ℤ c5 +ℤ neg_ℤ (pos 2676) *ℤ c6 +ℤ pos 1609 *ℤ c7
   unfolding sum_below basis
   inverse_6 = refl
 
-  inverse_7 : pass_at Inverse (c0 ∷ c1 ∷ c2 ∷ c3 ∷ c4 ∷ c5 ∷ c6 ∷ c7 ∷ []) 7 ≡ pos 0 +ℤ pos 2048 *ℤ c0 +ℤ neg_ℤ (pos 2841) *ℤ c1 +ℤ pos 2676 *ℤ c2 +ℤ neg_ℤ (pos 2408) *ℤ c3 +ℤ pos 2048 *ℤ c4 +ℤ neg_ℤ (pos 1609) *ℤ c5 +ℤ pos 1108 *ℤ c6 +ℤ neg_ℤ (pos 565) *ℤ c7
+  pub inverse_7 : pass_at Inverse (c0 ∷ c1 ∷ c2 ∷ c3 ∷ c4 ∷ c5 ∷ c6 ∷ c7 ∷ []) 7 ≡ pos 0 +ℤ pos 2048 *ℤ c0 +ℤ neg_ℤ (pos 2841) *ℤ c1 +ℤ pos 2676 *ℤ c2 +ℤ neg_ℤ (pos 2408) *ℤ c3 +ℤ pos 2048 *ℤ c4 +ℤ neg_ℤ (pos 1609) *ℤ c5 +ℤ pos 1108 *ℤ c6 +ℤ neg_ℤ (pos 565) *ℤ c7
   unfolding sum_below basis
   inverse_7 = refl
 

@@ -22,7 +22,8 @@ middle_bits : (z : ℤ) → ((pos 4096 *ℤ int_shr z 12) ≤ℤ z) × (z ≤ℤ
 middle_bits (pos n) = (omega (arith, ints), omega (arith, ints))
 middle_bits (negsuc n) = (omega (arith, ints), omega (arith, ints))
 
-all_bits : (z : ℤ) → ((pos 33554432 *ℤ int_shr z 25) ≤ℤ z) × (z ≤ℤ (pos 33554432 *ℤ int_shr z 25 +ℤ pos 33554431))
+-- and of 2^25
+pub all_bits : (z : ℤ) → ((pos 33554432 *ℤ int_shr z 25) ≤ℤ z) × (z ≤ℤ (pos 33554432 *ℤ int_shr z 25 +ℤ pos 33554431))
 all_bits (pos n) = (omega (arith, ints), omega (arith, ints))
 all_bits (negsuc n) = (omega (arith, ints), omega (arith, ints))
 
@@ -124,6 +125,12 @@ pub nearest_words : (h l : List ℤ) → EightWithin (2 ^ 30) h → EightWithin 
 nearest_words h l hh hl =
     down_words 12 270000 (lit≤ tt) result_small
     (sum_words (lit≤ tt) (own_words w32 (2 ^ 30) h hh) (down_words 13 140000 (lit≤ tt) carried_small (sum_words (lit≤ tt) (own_words w32 (2 ^ 30) l hl) (splat_words w32 16777216 (pos 16777216) half_small))))
+
+quotient_small : (z : ℤ) → Within (2 ^ 31 - 1) z → Within 64 (int_shr z 25)
+quotient_small z h = omega (arith, ints, all_bits z)
+
+pub quotient_words : (v : List ℤ) → EightWithin (2 ^ 31 - 1) v → Words w32 64 (zip2 down (map (of_z w32) v) (replicate 8 25)) (λ i. int_shr (lane v i) 25)
+quotient_words v h = down_words 25 64 (lit≤ tt) quotient_small (own_words w32 (2 ^ 31 - 1) v h)
 
 -- the two parts of a vector of sums
 pub record AreParts (sums high low : List ℤ) : Type 0 where

@@ -49,10 +49,11 @@ plus16_is a b m n h ha hb = omega (arith, ints)
 minus16_is : (a b : ℤ) (m n : ℕ) → m + n ≤ 32767 → Within m a → Within n b → minus16 (of_z w16 a) (of_z w16 b) ≡ of_z w16 (a -ℤ b)
 minus16_is a b m n h ha hb = omega (arith, ints)
 
-wide_is : (a : ℤ) → Within 32767 a → wide (of_z w16 a) ≡ of_z w32 a
+pub wide_is : (a : ℤ) → Within 32767 a → wide (of_z w16 a) ≡ of_z w32 a
 wide_is a ha = omega (arith, ints)
 
-times_is : (x m : ℤ) → Within 32767 x → Within (2 ^ 12) m → times (of_z w32 x) (of_z w32 m) ≡ of_z w32 (m *ℤ x)
+-- a product of a small number and one of the basis
+pub times_is : (x m : ℤ) → Within 32767 x → Within (2 ^ 12) m → times (of_z w32 x) (of_z w32 m) ≡ of_z w32 (m *ℤ x)
 times_is x m hx hm =
     let small : Within (2 ^ 12 * 32767) (m *ℤ x) = within_mul (2 ^ 12) 32767 m x hm hx in
     let fm : FitsSigned w32 m = omega (arith, ints) in

@@ -4,6 +4,8 @@ use Rattle.std.proofs.lemmas.Int.{ints}
 use Rattle.idct8.specs.Sums.{sum_below}
 use Rattle.idct8.specs.Basis.{basis}
 use Rattle.idct8.specs.Transform.{entry, inverse_at, rounded}
+use Rattle.idct8.specs.Passes.{factor, row_sums}
+use Rattle.idct8.specs.declared.passes.Direction.TheVariants.{Inverse}
 
 -- a sum of zeros
 pub zero_sum : (n : ℕ) (f : ℕ → ℤ) → ((k : ℕ) → k < n → f k ≡ pos 0) → sum_below n f ≡ pos 0
@@ -23,3 +25,7 @@ inverse_of_zeros values h y x =
     let terms = λ (u v : ℕ). basis u x *ℤ basis v y *ℤ entry values v u in
     let inner = λ (u : ℕ) (hu : u < 8). zero_sum 8 (terms u) (λ v hv. times_zero (basis u x *ℤ basis v y) (entry values v u) (h (8 * v + u) (omega arith))) in
     ap rounded (zero_sum 8 (λ u. sum_below 8 (terms u)) inner)
+
+-- the sums of a row of zeros
+pub sums_of_zeros : (block : List ℤ) (j k : ℕ) → ((i : ℕ) → i < 8 → entry block j i ≡ pos 0) → row_sums Inverse block j k ≡ pos 0
+sums_of_zeros block j k h = zero_sum 8 (λ i. factor Inverse i k *ℤ entry block j i) (λ i hi. times_zero (factor Inverse i k) (entry block j i) (h i hi))

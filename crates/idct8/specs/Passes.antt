@@ -1,10 +1,12 @@
 -- The transforms in two passes, both in one form.
-use Rattle.std.specs.Prelude.{Bool, true, false, ℕ, ℤ, pos, ◌*ℤ◌, List, slice_index_or}
+use Rattle.std.specs.Prelude.{◌≡◌, Bool, true, false, ℕ, ◌-◌, ◌^◌, ◌<◌, ℤ, pos, ◌+ℤ◌, ◌*ℤ◌, List, slice_index_or}
 use Rattle.idct8.specs.declared.passes.Direction.{Direction}
+use Rattle.idct8.specs.declared.passes.Sum.{Sum}
 use Rattle.idct8.specs.declared.passes.Direction.TheVariants.{Inverse, Forward}
 use Rattle.idct8.specs.Sums.{sum_below}
 use Rattle.idct8.specs.Basis.{basis}
 use Rattle.idct8.specs.Transform.{entry, rounded}
+use Rattle.idct8.specs.Vectors.{lane, EightWithin, column_at}
 
 -- whether it is the forward one
 abbrev pub direction_of : Bool → Direction
@@ -28,3 +30,8 @@ row_sums d block r k = sum_below 8 (λ i. factor d i k *ℤ entry block r i)
 abbrev pub transform_at : Direction → List ℤ → ℕ → ℕ → ℤ
 transform_at d block r k =
     rounded (sum_below 8 (λ i. sum_below 8 (λ j. factor d i k *ℤ factor d j r *ℤ entry block j i)))
+
+-- sum y of the inverse pass over each column of some sums, and half of what rounding divides by
+pub record AreColumnSums (s : List Sum) (y : ℕ) (v : List ℤ) : Type 0 where
+  pub sums : (i : ℕ) → i < 8 → lane v i ≡ pass_at Inverse (column_at s i) y +ℤ pos (2 ^ 24)
+  pub size : EightWithin (2 ^ 31 - 1) v

@@ -37,6 +37,11 @@ abbrev pub list_at : List Row → ℕ → List ℤ
 list_at v i = lane (row_at v 0) i ∷ lane (row_at v 1) i ∷ lane (row_at v 2) i ∷ lane (row_at v 3) i
     ∷ lane (row_at v 4) i ∷ lane (row_at v 5) i ∷ lane (row_at v 6) i ∷ lane (row_at v 7) i ∷ []
 
+-- the same of sums
+abbrev pub column_at : List Sum → ℕ → List ℤ
+column_at v i = lane (sum_at v 0) i ∷ lane (sum_at v 1) i ∷ lane (sum_at v 2) i ∷ lane (sum_at v 3) i
+    ∷ lane (sum_at v 4) i ∷ lane (sum_at v 5) i ∷ lane (sum_at v 6) i ∷ lane (sum_at v 7) i ∷ []
+
 -- the lanes of two vectors in turn, of their first halves and of their last ones
 abbrev pub woven_first : List ℤ → List ℤ → List ℤ
 woven_first a b = lane a 0 ∷ lane b 0 ∷ lane a 1 ∷ lane b 1 ∷ lane a 2 ∷ lane b 2 ∷ lane a 3 ∷ lane b 3 ∷ []

@@ -1,6 +1,6 @@
-//! What a block without values gives, and how large coefficients are. Each law is the contract of a
+//! What a block without values gives, what INTRADC adds, and how large coefficients are. Each law is the contract of a
 //! function that does nothing.
-ghost use Rattle.std.specs.Prelude.{◌≡◌, ℕ, ◌+◌, ◌*◌, ◌<◌, ◌≤◌, ℤ, pos, List, slice_index_or, unsigned_abs};
+ghost use Rattle.std.specs.Prelude.{◌≡◌, ℕ, ◌+◌, ◌*◌, ◌<◌, ◌≤◌, ℤ, pos, ◌+ℤ◌, ◌*ℤ◌, List, slice_index_or, unsigned_abs};
 ghost use Rattle.idct8.specs.Sums.{total};
 ghost use Rattle.idct8.specs.Transform.{forward_at, inverse_at};
 ghost use Rattle.idct8.specs.Vectors.{square};
@@ -17,4 +17,14 @@ pub fn small_squares()
     ensures { (samples : List ℤ) (v u least : ℕ) → v < 8 → u < 8 → least ≤ 77
         → total 64 (λ k. square (slice_index_or samples k (pos 0))) + least + 1 < least * least
         → unsigned_abs (forward_at samples v u) < least }
+{}
+
+/// INTRADC is added to each number as it is: the inverse transform of a block whose first value is 8
+/// times INTRADC is INTRADC and that of the other values, since what the first value stands for is
+/// a multiple of what rounding divides by.
+pub fn first_value_apart()
+    ensures { (values others : List ℤ) (dc : ℤ) → slice_index_or values 0 (pos 0) ≡ pos 8 *ℤ dc
+        → slice_index_or others 0 (pos 0) ≡ pos 0 → ((at : ℕ) → 1 ≤ at → at < 64
+        → slice_index_or values at (pos 0) ≡ slice_index_or others at (pos 0)) → (y x : ℕ)
+        → y < 8 → x < 8 → inverse_at values y x ≡ dc +ℤ inverse_at others y x }
 {}

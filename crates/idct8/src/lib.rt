@@ -15,6 +15,7 @@
 #![tactic(auto)]
 
 pub mod laws;
+mod narrow;
 mod parts;
 mod passes;
 mod small;
@@ -22,5 +23,6 @@ mod terms;
 mod turns;
 mod two_passes;
 
+pub use narrow::narrow_inverse;
 pub use small::are_below;
 pub use two_passes::{forward, inverse};

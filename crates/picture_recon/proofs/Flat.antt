@@ -66,9 +66,15 @@ no_values one quant b none at some less =
     ∙ sym (other_value quant b at some)
     ∙ ap (value_of quant) (none (zigzag_place_of at) (later (zigzag_place_of at) at (one.from_block at less) some) (within (zigzag_place_of at) at (one.from_block at less) some))
 
-first_value : (quant : ℕ) (b : Block) → get_or (intra_values quant b) 0 (pos 0) ≡ pos 8 *ℤ level_at b 0
+-- the first value of an intra block is 8 times INTRADC
+pub first_value : (quant : ℕ) (b : Block) → get_or (intra_values quant b) 0 (pos 0) ≡ pos 8 *ℤ level_at b 0
 unfolding intra_values
 first_value quant b = get_or-map-range_with_len (intra_value quant b) 0 64 0 0 (pos 0) (lit< tt) refl
+
+-- the others are the values of the levels
+pub other_values : (quant : ℕ) (b : Block) (at : ℕ) → 1 ≤ at → at < 64 → get_or (intra_values quant b) at (pos 0) ≡ inter_value quant b at
+unfolding intra_values
+other_values quant b at some less = get_or-map-range_with_len (intra_value quant b) 0 64 at at (pos 0) less (omega arith) ∙ sym (other_value quant b at some)
 
 pub flat : (one : IsOneOrder) (quant : ℕ) (b : Block) → IsDc (level_at b 0) → ((k : ℕ) → 1 ≤ k → k < 64 → level_at b k ≡ pos 0) →
     (n : ℕ) → pos n ≡ level_at b 0 → (y x : ℕ) → y < 8 → x < 8 → n ≡ limited (inverse_at (intra_values quant b) y x)

@@ -11,7 +11,7 @@ use Rattle.picture_recon.specs.Samples.{inter_value, intra_value, limited}
 pub kept : (z : ℤ) → IsValue z → to_z w16 (of_z w16 z) ≡ z
 kept z h = omega (arith, ints)
 
-pub kept_number : (z : ℤ) → Within (2 ^ 15) z → to_z w32 (of_z w32 z) ≡ z
+pub kept_number : (z : ℤ) → Within 32000 z → to_z w16 (of_z w16 z) ≡ z
 kept_number z h = omega (arith, ints)
 
 -- so does a level
@@ -21,12 +21,6 @@ kept_level z h = omega (arith, ints)
 -- so does INTRADC
 pub same_dc : (z : ℤ) → IsDc z → to_z w16 (of_z w16 z) ≡ z
 same_dc z h = omega (arith, ints)
-
-pub kept_dc : (z : ℤ) → IsDc z → to_z w16 (of_z w16 (pos 8 *ℤ to_z w16 (of_z w16 z))) ≡ pos 8 *ℤ z
-kept_dc z h = omega (arith, ints)
-
-pub value_of_dc : (z : ℤ) → IsDc z → IsValue (pos 8 *ℤ z)
-value_of_dc z h = record { low = omega (arith, ints); high = omega (arith, ints) }
 
 -- but for the first, values of intra and inter blocks are alike
 later : (k : ℕ) (first other : ℤ) → 1 ≤ k → other ≡ cond (nat_eq k 0) first other

@@ -54,6 +54,7 @@ pub starts : (one : IsOneOrder) (quant : ℕ) (b : Block) (marks rest : ℕ) →
     ArePut quant b rest (replicate 64 (pos 0))
 starts one quant b marks rest marked others = record {
   long = refl;
+  first = get_or-replicate 64 0 (pos 0) (pos 0) (omega arith);
   stand = λ at less some.
       let z = zigzag_place_of at in
       let e = one.from_block at less in
@@ -63,12 +64,20 @@ starts one quant b marks rest marked others = record {
   range = All-replicate IsValue 64 (pos 0) zero_value;
 }
 
+-- no other level stands at the first place
+not_at_first : (one : IsOneOrder) (k : ℕ) → k < 64 → 1 ≤ k → 0 ≢ block_place_of k
+unfolding zigzag_place_of
+not_at_first one k less some here =
+    let back : 0 ≡ k = ap zigzag_place_of here ∙ one.from_order k less in
+    omega arith
+
 -- a marked level puts its value, and its mark is taken away
-pub put : (one : IsOneOrder) (quant : ℕ) (b : Block) (k rest : ℕ) (values : List ℤ) (v : ℤ) → IsMark rest k → block_place_of k < 64 →
+pub put : (one : IsOneOrder) (quant : ℕ) (b : Block) (k rest : ℕ) (values : List ℤ) (v : ℤ) → IsMark rest k → 1 ≤ k → block_place_of k < 64 →
     v ≡ value_of quant (level_at b k) → IsValue v →
     ArePut quant b rest values → ArePut quant b (without rest k) (slice_set values (block_place_of k) v)
-put one quant b k rest values v mark room value range before = record {
+put one quant b k rest values v mark past room value range before = record {
   long = length-set values (block_place_of k) v ∙ before.long;
+  first = get_or-set_other values (block_place_of k) 0 v (pos 0) (not_at_first one k mark.below past) ∙ before.first;
   stand = λ at less some.
       let z = zigzag_place_of at in
       let e = one.from_block at less in

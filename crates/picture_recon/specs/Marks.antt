@@ -14,6 +14,7 @@ AreMarked levels marks = (k : ℕ) → k < 64 → bit_at marks k ≡ 0 → slice
 -- zeros at the places of the others
 pub record ArePut (quant : ℕ) (b : Block) (rest : ℕ) (values : List ℤ) : Type 0 where
   pub long : length values ≡ 64
+  pub first : slice_index_or values 0 (pos 0) ≡ pos 0
   pub stand : (at : ℕ) → at < 64 → 1 ≤ at → slice_index_or values at (pos 0)
       ≡ (if nat_eq (bit_at rest (zigzag_place_of at)) 0 then inter_value quant b at else pos 0)
   pub range : All IsValue values

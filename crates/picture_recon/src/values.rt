@@ -7,12 +7,12 @@ ghost use Rattle.picture_recon.specs.Samples.{inter_value, inter_values, intra_v
 ghost use Rattle.picture_recon.specs.Marks.{AreMarked};
 
 use h263_types::{Block, laws as types_laws};
-use idct8::inverse;
+use idct8::{laws as idct8_laws, narrow_inverse};
 use quantiser::{block_place, laws as quantiser_laws, value};
-use std::simd::prelude::*;
 
 // The samples of a block of an intra macroblock, by rows: INTRADC itself where the block has no
-// other level.
+// other level. Else INTRADC is added to what the others give, which are small: so the transform is
+// quick.
 pub(crate) fn intra_samples(quant: u8, block: &Block) -> [u8; 64]
     requires quant { IsQuant quant }
     requires block { IsIntraBlock block.now }
@@ -21,10 +21,15 @@ pub(crate) fn intra_samples(quant: u8, block: &Block) -> [u8; 64]
 {
     quantiser_laws::one_order();
     let marks = marks_of(*block);
+    let samples = flat(block.levels[0]);
     if marks == FIRST_ALONE {
-        return flat(block.levels[0]);
+        return samples;
     }
-    limited_samples(&inverse(&values_of_intra(quant, block, marks)))
+    idct8_laws::first_value_apart();
+    limited_sums(
+        &samples,
+        &narrow_inverse(&values_but_first(quant, block, marks)),
+    )
 }
 
 // A block of samples that are all INTRADC.
@@ -52,17 +57,20 @@ pub(crate) fn inter_samples(quant: u8, block: &Block, marks: u64, predicted: &[u
         let number = number_of_first(value(quant, block.levels[0]));
         return limited_sums_with_one(predicted, number);
     }
-    limited_sums(predicted, &inverse(&values_of_inter(quant, block, marks)))
+    limited_sums(
+        predicted,
+        &narrow_inverse(&values_of_inter(quant, block, marks)),
+    )
 }
 
 // What the inverse transform gives at each place where all values but the first are 0.
 #[inline(always)]
-fn number_of_first(value: i16) -> i32
+fn number_of_first(value: i16) -> i16
     requires { IsValue value }
     ensures value { result ≡ rounded (pos 2048 *ℤ pos 2048 *ℤ value) }
-    ensures range { Within (2 ^ 15) result }
+    ensures range { Within 32000 result }
 {
-    (i32::from(value) + 4) >> 3
+    (value + 4) >> 3
 }
 
 // The marks of a block whose levels are 0 but for the first.
@@ -75,20 +83,6 @@ pub(crate) fn marks_of(block: Block) -> u64
 {
     types_laws::marks();
     block.marks()
-}
-
-// The values of a block of an intra macroblock, by rows: 8 times INTRADC, and those of the other
-// levels.
-fn values_of_intra(quant: u8, block: &Block, marks: u64) -> [i16; 64]
-    requires quant { IsQuant quant }
-    requires block { IsIntraBlock block.now }
-    requires marked { AreMarked block.now.levels marks }
-    ensures values { result ≡ intra_values quant block.now }
-    ensures range { All IsValue result }
-{
-    let mut values = values_but_first(quant, block, marks);
-    values[0] = 8 * block.levels[0];
-    values
 }
 
 // The values of a block of an inter macroblock, by rows.
@@ -104,14 +98,15 @@ fn values_of_inter(quant: u8, block: &Block, marks: u64) -> [i16; 64]
     values
 }
 
-// The values of a block's levels, by rows, but for the first. Goes from mark to mark, since most
-// levels are 0.
+// The values of a block's levels, by rows, and 0 for the first one. Goes from mark to mark, since
+// most levels are 0.
 #[inline(always)]
 fn values_but_first(quant: u8, block: &Block, marks: u64) -> [i16; 64]
     requires quant { IsQuant quant }
     requires levels { (k : ℕ) → 1 ≤ k → k < 64 → IsLevel (level_at block.now k) }
     requires marked { AreMarked block.now.levels marks }
     ensures long { length result ≡ 64 }
+    ensures first { slice_index_or result 0 (pos 0) ≡ pos 0 }
     ensures values { (at : ℕ)
         → 1 ≤ at → at < 64 → slice_index_or result at (pos 0) ≡ inter_value quant block.now at }
     ensures range { All IsValue result }
@@ -128,22 +123,10 @@ fn values_but_first(quant: u8, block: &Block, marks: u64) -> [i16; 64]
     values
 }
 
-// Each number limited to 0 to 255.
-fn limited_samples(numbers: &[i32; 64]) -> [u8; 64]
-    ensures { (at : ℕ)
-        → at < 64 → slice_index result at ≡ limited (slice_index_or numbers.now at (pos 0)) }
-{
-    let mut samples = [0; 64];
-    for at in 0..64 {
-        samples[at] = limited_sample(numbers[at]);
-    }
-    samples
-}
-
 // The sum of each sample and the number at its place, limited to 0 to 255.
-fn limited_sums(predicted: &[u8; 64], numbers: &[i32; 64]) -> [u8; 64]
+fn limited_sums(predicted: &[u8; 64], numbers: &[i16; 64]) -> [u8; 64]
     requires numbers { (at : ℕ)
-        → at < 64 → Within (2 ^ 15) (slice_index_or numbers.now at (pos 0)) }
+        → at < 64 → Within 32000 (slice_index_or numbers.now at (pos 0)) }
     ensures { (at : ℕ) → at < 64 → slice_index result at
         ≡ limited (pos (slice_index predicted.now at) +ℤ slice_index_or numbers.now at (pos 0)) }
 {
@@ -155,8 +138,8 @@ fn limited_sums(predicted: &[u8; 64], numbers: &[i32; 64]) -> [u8; 64]
 }
 
 // The sum of each sample and one number, limited to 0 to 255.
-fn limited_sums_with_one(predicted: &[u8; 64], number: i32) -> [u8; 64]
-    requires number { Within (2 ^ 15) number }
+fn limited_sums_with_one(predicted: &[u8; 64], number: i16) -> [u8; 64]
+    requires number { Within 32000 number }
     ensures { (at : ℕ)
         → at < 64 → slice_index result at ≡ limited (pos (slice_index predicted.now at) +ℤ number) }
 {
@@ -167,15 +150,16 @@ fn limited_sums_with_one(predicted: &[u8; 64], number: i32) -> [u8; 64]
     samples
 }
 
-fn limited_sum(sample: u8, number: i32) -> u8
-    requires { Within (2 ^ 15) number }
+// The sum of a sample and a number, limited to 0 to 255: in 16 bits and by `clamp`, as the compiler
+// knows how to do in lanes.
+fn limited_sum(sample: u8, number: i16) -> u8
+    requires { Within 32000 number }
     ensures { result ≡ limited (pos sample +ℤ number) }
 {
-    limited_sample(i32::from(sample) + number)
+    limited_sample(i16::from(sample) + number)
 }
 
-// By `clamp`, which the compiler knows how to do in lanes.
-fn limited_sample(number: i32) -> u8
+fn limited_sample(number: i16) -> u8
     ensures { result ≡ limited number }
 {
     number.clamp(0, 255) as u8

@@ -1,4 +1,4 @@
-use Rattle.std.proofs.Common.{◌≤◌, ◌<◌, ◌+◌, ◌*◌, arith, lit≤, ltb-true, true, false, ℕ, List, ℤ}
+use Rattle.std.proofs.Common.{◌<◌, ◌+◌, ◌*◌, arith, lit≤, ltb-true, true, false, ℕ, List, ℤ}
 use Rattle.idct8.proofs.Parity.{each_part_below, energy_of}
 use Rattle.idct8.proofs.Vectors.{passed_lane, passed_within}
 use Rattle.idct8.proofs.small.are_below.Goals as goal

@@ -1,19 +1,12 @@
-use Rattle.std.proofs.Common.{◌≡◌, ℕ, ◌+◌, ◌*◌, ◌<◌, ◌^◌, ◌∙◌, List, ℤ, pos, ap, arith, lit≤, length, ◌+ℤ◌, ◌*ℤ◌, below_more}
+use Rattle.std.proofs.Common.{◌≡◌, ℕ, ◌*◌, ◌<◌, ◌^◌, ◌∙◌, List, ℤ, pos, ap, lit≤, length, ◌+ℤ◌, ◌*ℤ◌}
 use lib.Lanes.{put_chunk}
-use Rattle.std.proofs.lemmas.Simd.{get_or-put_chunk_below, get_or-put_chunk_at, length-put_chunk}
+use Rattle.std.proofs.lemmas.Simd.{length-put_chunk}
 use Rattle.idct8.specs.Transform.{entry, rounded}
 use Rattle.idct8.specs.Vectors.{lane, sum_at}
 use Rattle.idct8.proofs.Vectors.{passed, passed_within, passed_lane}
 use Rattle.idct8.proofs.Steps.{same_rounded}
+use Rattle.idct8.proofs.Stores.{row_step}
 use Rattle.idct8.proofs.two_passes.round.Goals as goal
-
--- one more row is put into a block
-row_step : (f : ℕ → ℕ → ℤ) (out v : List ℤ) (r : ℕ) → length out ≡ 64 → length v ≡ 8 → r < 8 → ((k : ℕ) → k < 8 → lane v k ≡ f r k) →
-    ((j k : ℕ) → j < r → k < 8 → entry out j k ≡ f j k) → (j k : ℕ) → j < r + 1 → k < 8 → entry (put_chunk (8 * r) out v) j k ≡ f j k
-row_step f out v r lo lv hr own above j k hj hk =
-    below_more (λ j. entry (put_chunk (8 * r) out v) j k ≡ f j k) r
-    (λ j hj. get_or-put_chunk_below (8 * r) out v (8 * j + k) (pos 0) (omega arith) ∙ above j k hj hk)
-    (get_or-put_chunk_at (8 * r) out v k (pos 0) (omega (arith, lv)) (omega (arith, lv, lo)) ∙ own k hk) j hj
 
 pub nearest-requires-clause-high : goal.nearest-requires-clause-high
 nearest-requires-clause-high c = passed_within (2 ^ 30) (2 ^ 30) (lit≤ tt) (lit≤ tt) (c.requires.high c.loop-r.r c.loop-r-test.true)

@@ -1,15 +1,10 @@
-use Rattle.std.proofs.Common.{◌≡◌, ℕ, ◌<◌, ◌∙◌, ap, pos, ◌*ℤ◌, ℤ, List}
+use Rattle.std.proofs.Common.{◌∙◌, ap}
 use Rattle.idct8.specs.declared.passes.Direction.TheVariants.{Inverse}
 use Rattle.idct8.specs.Vectors.{lane, row_at, sum_at}
-use Rattle.idct8.specs.Transform.{entry, rounded}
-use Rattle.idct8.specs.Passes.{factor, row_sums}
-use Rattle.idct8.proofs.Zeros.{zero_sum, times_zero}
+use Rattle.idct8.specs.Transform.{rounded}
+use Rattle.idct8.proofs.Zeros.{sums_of_zeros}
 use Rattle.idct8.proofs.Steps.{same_rounded, passes_are, passes_of_parts}
 use Rattle.idct8.proofs.two_passes.upper_inverse.Goals as goal
-
--- the sums of a row of zeros
-sums_of_zeros : (block : List ℤ) (j k : ℕ) → ((i : ℕ) → i < 8 → entry block j i ≡ pos 0) → row_sums Inverse block j k ≡ pos 0
-sums_of_zeros block j k h = zero_sum 8 (λ i. factor Inverse i k *ℤ entry block j i) (λ i hi. times_zero (factor Inverse i k) (entry block j i) (h i hi))
 
 pub upper_pass-high-requires-clause-zeros : goal.upper_pass-high-requires-clause-zeros
 upper_pass-high-requires-clause-zeros c k j hk h4 hj =

@@ -1,7 +1,10 @@
-use Rattle.std.proofs.Common.{◌+◌, ◌*◌, get_or, arith, ◌∙◌}
+use Rattle.std.proofs.Common.{◌≡◌, ℕ, ◌+◌, ◌*◌, ◌/◌, ◌%◌, ℤ, pos, ◌+ℤ◌, get_or, arith, ap, ◌∙◌, subst, sym}
+use Rattle.idct8.specs.Ranges.{Within}
+use Rattle.idct8.specs.Transform.{inverse_at}
 use Rattle.h263_types.specs.Blocks.{level_at}
+use Rattle.picture_recon.specs.Samples.{intra_values, limited}
 use Rattle.picture_recon.proofs.Kept.{same_dc}
-use Rattle.picture_recon.proofs.Flat.{flat}
+use Rattle.picture_recon.proofs.Flat.{first_value, flat, other_values}
 use Rattle.picture_recon.proofs.Walk.{none_later}
 use Rattle.picture_recon.proofs.values.intra_samples.Goals as goal
 
@@ -10,4 +13,24 @@ returns-then-marks-eq-FIRST_ALONE c = λ y x hy hx.
     let block = c.args.block.now in
     flat c.one_order.ensures c.args.quant block c.requires.block.dc
     (none_later block c.marks_of-marks.result c.marks_of-marks.ensures c.if-marks-eq-FIRST_ALONE.true)
-    (get_or c.flat.result (8 * y + x) 0) (c.flat.ensures (8 * y + x) (omega arith) ∙ same_dc (level_at block 0) c.requires.block.dc) y x hy hx
+    (get_or c.flat-samples.result (8 * y + x) 0) (c.flat-samples.ensures (8 * y + x) (omega arith) ∙ same_dc (level_at block 0) c.requires.block.dc) y x hy hx
+
+pub limited_sums-requires : goal.limited_sums-requires
+limited_sums-requires c = record {
+  numbers = λ at h.
+      let place : 8 * (at / 8) + at % 8 ≡ at = omega arith in
+      subst (λ (k : ℕ). Within 32000 (get_or c.narrow_inverse.result k (pos 0))) place (c.narrow_inverse.ensures.range (at / 8) (at % 8) (omega arith) (omega arith));
+}
+
+pub returns : goal.returns
+returns c = λ y x hy hx.
+    let block = c.args.block.now in
+    let values = intra_values c.args.quant block in
+    let others = c.values_but_first.result in
+    let dc : ℤ = level_at block 0 in
+    let apart = c.first_value_apart.ensures values others dc (first_value c.args.quant block) c.values_but_first.ensures.first
+    (λ at some less. other_values c.args.quant block at some less ∙ sym (c.values_but_first.ensures.values at some less)) y x hy hx in
+    c.limited_sums.ensures (8 * y + x) (omega arith)
+    ∙ ap (λ (z : ℤ). limited (z +ℤ get_or c.narrow_inverse.result (8 * y + x) (pos 0))) (c.flat-samples.ensures (8 * y + x) (omega arith) ∙ same_dc dc c.requires.block.dc)
+    ∙ ap (λ (z : ℤ). limited (dc +ℤ z)) (c.narrow_inverse.ensures.numbers y x hy hx)
+    ∙ ap limited (sym apart)

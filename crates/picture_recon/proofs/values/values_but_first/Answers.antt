@@ -39,7 +39,7 @@ marks-preserved c =
     let level = c.requires.levels k past mark.below in
     let same = kept c.value.result c.value.ensures.range in
     let v = to_z w16 (of_z w16 c.value.result) in
-    let next = put c.one_order.ensures quant block k rest c.marks.values v mark
+    let next = put c.one_order.ensures quant block k rest c.marks.values v mark past
     (subst (λ (n : ℕ). n < 64) c.block_place.ensures.place c.block_place.ensures.range)
     (same ∙ c.value.ensures.value ∙ ap (value_of quant) (kept_level (level_at block k) level))
     (subst IsValue (sym same) c.value.ensures.range) c.marks.invariant.0 in
@@ -52,3 +52,6 @@ pub returns-clause-values : goal.returns-clause-values
 returns-clause-values c =
     ends c.one_order.ensures c.args.quant c.args.block.now
     c.marks.rest c.marks.values c.marks-test.false c.marks.invariant.0
+
+pub returns-clause-first : goal.returns-clause-first
+returns-clause-first c = c.marks.invariant.0.first

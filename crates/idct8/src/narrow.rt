@@ -1,0 +1,254 @@
+//! The inverse transform in 16 bits. What a coded block holds is mostly zeros and small values, and
+//! then both passes fit 32 bits: no number of the basis is further from 0 than 2841, so no double
+//! sum is further than 2841 * 2841 times the sum of the sizes of the values.
+ghost use Rattle.std.specs.Prelude.{◌≡◌, ℕ, ◌*◌, ◌-◌, ◌^◌, ◌<◌, ◌≤◌, pos, ◌+ℤ◌, ◌*ℤ◌, All, slice_index_or};
+ghost use Rattle.std.specs.Int.{int_shr};
+ghost use Rattle.std.specs.Simd.Lanes.{put_chunk};
+ghost use Rattle.h263_types.specs.Blocks.{IsValue};
+ghost use Rattle.idct8.specs.Ranges.{Within};
+ghost use Rattle.idct8.specs.Transform.{entry, inverse_at};
+ghost use Rattle.idct8.specs.Passes.{AreColumnSums, pass_at, row_sums, transform_at};
+ghost use Rattle.idct8.specs.Sizes.{sizes_of};
+ghost use Rattle.idct8.specs.Vectors.{lane, EightWithin, SumsWithin, column_at, sum_at};
+ghost use Rattle.idct8.specs.declared.passes.Direction.TheVariants.{Inverse};
+
+use crate::passes::{Sum, Sums};
+use crate::two_passes::{inverse, is_upper, row};
+use std::simd::prelude::*;
+
+// How large the sum of the sizes may be: 263 * 2841 * 2841 and half of the divisor 2^25 are less
+// than 2^31.
+const MOST: u16 = 263;
+
+// What rounding to the nearest takes away, and its half.
+const ROUNDED_BITS: i32 = 25;
+
+const HALF: i32 = 0x100_0000;
+
+// A size counts no further than this, so that 64 of them fit 16 bits. It is more than `MOST`.
+const LARGE: u16 = 1023;
+
+// The rows of the basis, by frequency.
+const BASIS_0: [i32; 8] = [2048, 2048, 2048, 2048, 2048, 2048, 2048, 2048];
+
+const BASIS_1: [i32; 8] = [2841, 2408, 1609, 565, -565, -1609, -2408, -2841];
+
+const BASIS_2: [i32; 8] = [2676, 1108, -1108, -2676, -2676, -1108, 1108, 2676];
+
+const BASIS_3: [i32; 8] = [2408, -565, -2841, -1609, 1609, 2841, 565, -2408];
+
+const BASIS_4: [i32; 8] = [2048, -2048, -2048, 2048, 2048, -2048, -2048, 2048];
+
+const BASIS_5: [i32; 8] = [1609, -2841, 565, 2408, -2408, -565, 2841, -1609];
+
+const BASIS_6: [i32; 8] = [1108, -2676, 2676, -1108, -1108, 2676, -2676, 1108];
+
+const BASIS_7: [i32; 8] = [565, -1609, 2408, -2841, 2841, -2408, 1609, -565];
+
+/// The inverse transform of a block of values, as [`inverse`] gives it, in 16 bits. It is quick
+/// where the sum of the sizes of the values is at most 263.
+pub fn narrow_inverse(values: &[i16; 64]) -> [i16; 64]
+    requires { All IsValue values.now }
+    ensures numbers { (y x : ℕ) → y < 8 → x < 8 → entry result y x ≡ inverse_at values.now y x }
+    ensures range { (y x : ℕ) → y < 8 → x < 8 → Within 32000 (entry result y x) }
+{
+    if sizes(values) > MOST {
+        return narrowed(&inverse(values));
+    }
+    let mut numbers = [0; 64];
+    small_inverse(values, &mut numbers);
+    numbers
+}
+
+// The sum of the sizes of a block's values, where it is at most `MOST`; else it is more than that.
+#[inline(always)]
+fn sizes(values: &[i16; 64]) -> u16
+    requires { All IsValue values.now }
+    ensures { result ≤ 263 → sizes_of values.now ≤ 263 }
+{
+    let mut sum: u16 = 0;
+    for at in 0..64 {
+        sum += values[at].unsigned_abs().min(LARGE);
+    }
+    sum
+}
+
+// The same numbers in 16 bits.
+#[inline(always)]
+fn narrowed(numbers: &[i32; 64]) -> [i16; 64]
+    requires { (at : ℕ) → at < 64 → Within 32000 (slice_index_or numbers.now at (pos 0)) }
+    ensures { (at : ℕ) → at < 64
+        → slice_index_or result at (pos 0) ≡ slice_index_or numbers.now at (pos 0) }
+{
+    let mut narrow = [0; 64];
+    for at in 0..64 {
+        narrow[at] = numbers[at] as i16;
+    }
+    narrow
+}
+
+// The inverse transform of small values. Most blocks have none in the last four rows.
+#[inline(always)]
+fn small_inverse(values: &[i16; 64], out: &mut [i16; 64])
+    requires values { All (Within (2 ^ 11)) values.now }
+    requires small { sizes_of values.now ≤ 263 }
+    ensures { (r k : ℕ) → r < 8 → k < 8 → entry out.new r k ≡ transform_at Inverse values.now r k }
+{
+    if is_upper(values) {
+        inverse_of_rows(values, 4, out);
+    } else {
+        inverse_of_rows(values, 8, out);
+    }
+}
+
+// The inverse transform of small values, of which those from row `count` on are zeros.
+#[inline(always)]
+fn inverse_of_rows(values: &[i16; 64], count: usize, out: &mut [i16; 64])
+    requires values { All (Within (2 ^ 11)) values.now }
+    requires small { sizes_of values.now ≤ 263 }
+    requires count { count ≤ 8 }
+    requires zeros { (j i : ℕ)
+        → count ≤ j → j < 8 → i < 8 → entry values.now j i ≡ pos 0 }
+    ensures { (r k : ℕ) → r < 8 → k < 8 → entry out.new r k ≡ transform_at Inverse values.now r k }
+{
+    store_rounded(columns(sums_of_rows(values, count)), out);
+}
+
+// The first pass: the eight sums of each row.
+#[inline(always)]
+fn sums_of_rows(values: &[i16; 64], count: usize) -> Sums
+    requires values { All (Within (2 ^ 11)) values.now }
+    requires count { count ≤ 8 }
+    requires zeros { (j i : ℕ)
+        → count ≤ j → j < 8 → i < 8 → entry values.now j i ≡ pos 0 }
+    ensures sums { (j k : ℕ) → j < 8
+        → k < 8 → lane (sum_at result j) k ≡ row_sums Inverse values.now j k }
+    ensures size { SumsWithin 46546944 result }
+{
+    let mut sums = [Sum {
+        lanes: i32x8::splat(0),
+    }; 8];
+    for j in 0..count {
+        sums[j] = Sum {
+            lanes: row_of_sums(row(values, j)),
+        };
+    }
+    sums
+}
+
+// The eight sums of a row at once: each of its numbers times its row of the basis. So the row needs
+// no transposition.
+#[inline(always)]
+fn row_of_sums(r: i16x8) -> i32x8
+    requires { EightWithin 8191 r }
+    ensures sums { (k : ℕ) → k < 8 → lane result k ≡ pass_at Inverse r k }
+    ensures size { EightWithin (2 ^ 28) result }
+{
+    let r = r.to_array();
+    two_of_row(r[0], BASIS_0, r[1], BASIS_1)
+        + two_of_row(r[2], BASIS_2, r[3], BASIS_3)
+        + two_of_row(r[4], BASIS_4, r[5], BASIS_5)
+        + two_of_row(r[6], BASIS_6, r[7], BASIS_7)
+}
+
+// Two numbers of a row times their rows of the basis.
+#[inline(always)]
+fn two_of_row(a: i16, m: [i32; 8], b: i16, n: [i32; 8]) -> i32x8
+    requires a { Within 8191 a }
+    requires b { Within 8191 b }
+    requires m { All (Within 2841) m }
+    requires n { All (Within 2841) n }
+    ensures sums { (k : ℕ) → k < 8 → lane result k
+        ≡ slice_index_or m k (pos 0) *ℤ a +ℤ slice_index_or n k (pos 0) *ℤ b }
+    ensures size { EightWithin (2 ^ 26) result }
+{
+    let a: i32x8 = i16x8::splat(a).cast();
+    let b: i32x8 = i16x8::splat(b).cast();
+    a * i32x8::from_array(m) + b * i32x8::from_array(n)
+}
+
+// The second pass, and half of what rounding divides by: for each y the sum over v of
+// M[v][y] * s[v]. Lanes of 32 bits wrap, so what they hold on the way is right in its low 32 bits
+// whatever it is; and only the results have to fit.
+fn columns(s: Sums) -> Sums
+    requires size { SumsWithin 46546944 s }
+    requires fits { (y i : ℕ)
+        → y < 8 → i < 8 → Within 2130706431 (pass_at Inverse (column_at s i) y) }
+    ensures { (y : ℕ) → y < 8 → AreColumnSums s y (sum_at result y) }
+{
+    let outer = s[0].lanes * i32x8::splat(2048) + i32x8::splat(HALF);
+    let middle = s[4].lanes * i32x8::splat(2048);
+    let inner0 = s[2].lanes * i32x8::splat(2676) + s[6].lanes * i32x8::splat(1108);
+    let inner1 = s[2].lanes * i32x8::splat(1108) - s[6].lanes * i32x8::splat(2676);
+    let even0 = outer + middle + inner0;
+    let even1 = outer - middle + inner1;
+    let even2 = outer - middle - inner1;
+    let even3 = outer + middle - inner0;
+    let odd0 = s[1].lanes * i32x8::splat(2841)
+        + s[3].lanes * i32x8::splat(2408)
+        + (s[5].lanes * i32x8::splat(1609) + s[7].lanes * i32x8::splat(565));
+    let odd1 = s[1].lanes * i32x8::splat(2408)
+        - s[3].lanes * i32x8::splat(565)
+        - (s[5].lanes * i32x8::splat(2841) + s[7].lanes * i32x8::splat(1609));
+    let odd2 = s[1].lanes * i32x8::splat(1609) - s[3].lanes * i32x8::splat(2841)
+        + (s[5].lanes * i32x8::splat(565) + s[7].lanes * i32x8::splat(2408));
+    let odd3 = s[1].lanes * i32x8::splat(565) - s[3].lanes * i32x8::splat(1609)
+        + (s[5].lanes * i32x8::splat(2408) - s[7].lanes * i32x8::splat(2841));
+    [
+        Sum {
+            lanes: even0 + odd0,
+        },
+        Sum {
+            lanes: even1 + odd1,
+        },
+        Sum {
+            lanes: even2 + odd2,
+        },
+        Sum {
+            lanes: even3 + odd3,
+        },
+        Sum {
+            lanes: even3 - odd3,
+        },
+        Sum {
+            lanes: even2 - odd2,
+        },
+        Sum {
+            lanes: even1 - odd1,
+        },
+        Sum {
+            lanes: even0 - odd0,
+        },
+    ]
+}
+
+// The eight rows, divided and rounded, by rows.
+#[inline(always)]
+fn store_rounded(s: Sums, out: &mut [i16; 64])
+    requires { SumsWithin (2 ^ 31 - 1) s }
+    ensures { (r k : ℕ)
+        → r < 8 → k < 8 → entry out.new r k ≡ int_shr (lane (sum_at s r) k) 25 }
+{
+    for r in 0..8 {
+        store(quotients(s[r].lanes), r, out);
+    }
+}
+
+// Eight sums divided by 2^25, downwards.
+#[inline(always)]
+fn quotients(v: i32x8) -> i16x8
+    requires { EightWithin (2 ^ 31 - 1) v }
+    ensures value { (i : ℕ) → i < 8 → lane result i ≡ int_shr (lane v i) 25 }
+    ensures size { EightWithin 64 result }
+{
+    (v >> i32x8::splat(ROUNDED_BITS)).cast()
+}
+
+#[inline(always)]
+fn store(v: i16x8, r: usize, out: &mut [i16; 64])
+    requires v { EightWithin 64 v }
+    requires r { r < 8 }
+    ensures { out.new ≡ put_chunk (8 * r) out.old v }
+{
+    v.copy_to_slice(&mut out[8 * r..]);
+}
