@@ -14,8 +14,7 @@ use Rattle.call_report.specs.declared.status.Status.TheVariants.{OutOfMemory, Op
 use Rattle.call_report.specs.Status.{Phase}
 use Rattle.call_report.specs.Status.Phase.{finished, refused, unread, unwritten, starved, unasked, unopened}
 use Rattle.desk_program.specs.Attached.{names, are_free, AreAttached, SomeAttached, AttachedAt, AttachedIn}
-use Rattle.desk_program.specs.Ends.{start_status, ComesAtOpening, ComesLater}
-use Rattle.desk_program.specs.Promises.{AskedIn}
+use Rattle.desk_program.specs.Ends.{start_status, ComesLater}
 
 same_role : (r : Role) → is_role r r ≡ true
 same_role Video = refl
@@ -196,25 +195,6 @@ attached_still unwritten order old new roles names a = still_some order old new 
 attached_still starved order old new roles names a = still_some order old new roles names a
 attached_still unasked order old new roles names a = still_attached order old new roles names a
 attached_still (unopened role) order old new roles names a = record { first = a.first; name = a.name; rest = a.rest; whole = a.whole; attached = still_attached a.first old new roles names a.attached }
-
--- no status of a command is `Usage`
-pub words_opening : (phase : Phase) → ComesAtOpening phase → AskedIn phase
-words_opening finished is = tt
-words_opening refused is = tt
-words_opening unread is = tt
-words_opening unwritten is = tt
-words_opening starved is = tt
-words_opening unasked is = absurd is
-words_opening (unopened role) is = tt
-
-pub words_later : (phase : Phase) → ComesLater phase → AskedIn phase
-words_later finished is = tt
-words_later refused is = tt
-words_later unread is = tt
-words_later unwritten is = tt
-words_later starved is = tt
-words_later unasked is = absurd is
-words_later (unopened role) is = tt
 
 -- at a desk with nothing attached
 pub none_attached : (new : Outside) → NoneAttached new.attached → AreAttached [] new

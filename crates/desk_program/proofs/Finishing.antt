@@ -1,6 +1,6 @@
 -- The last line, and what a whole run promises.
-use Rattle.std.proofs.Common.{if◌then◌else◌, ◌≡◌, inl, inr, ℕ, ◌≤◌, Bool, true, false, List, [], ◌∷◌, ◌++◌, Option, Some, IfSome, refl, sym, ap, ◌∙◌, subst, append_assoc, append-nil}
-use Rattle.h263_outside.specs.Desk.{Outside, Faults, NoneFalls, Rose, is_role, appended, GainsFront, OnlyWrites}
+use Rattle.std.proofs.Common.{if◌then◌else◌, ◌≡◌, inl, inr, ℕ, Bool, true, false, List, [], ◌∷◌, ◌++◌, Option, Some, IfSome, refl, sym, ap, ◌∙◌, subst, append_assoc, append-nil}
+use Rattle.h263_outside.specs.Desk.{Outside, is_role, appended, GainsFront, OnlyWrites}
 use Rattle.h263_outside.specs.Gains.{gained, Front}
 use Rattle.h263_outside.specs.declared.desk.Role.{Role}
 use Rattle.h263_outside.specs.declared.desk.Role.TheVariants.{Video, Events, Pictures, Wire, Report, Video2, Pictures2}
@@ -10,12 +10,12 @@ use Rattle.call_report.specs.Status.{Phase, phase}
 use Rattle.call_report.specs.Status.Phase.{finished, refused, unread, unwritten, starved, unasked, unopened}
 use Rattle.call_report.specs.Text.{status_text}
 use Rattle.desk_program.specs.Run.{Turn, Run, texts_of, text_of}
-use Rattle.desk_program.specs.Ends.{Gains, GainsFronts, CauseIn, HasCause, ReadOutIn, IsReadOut, silent, IsExactly, IsCutBehind, EndedIn, HasEnded}
+use Rattle.desk_program.specs.Ends.{ComesAtOpening, Gains, GainsFronts, ReadOutIn, IsReadOut, silent, IsExactly, IsCutBehind, EndedIn, HasEnded}
 use Rattle.desk_program.specs.Attached.{AttachedAt}
 use Rattle.desk_program.specs.Lines.{end_text, Finishes}
-use Rattle.desk_program.specs.Promises.{SettlesIn, StopsIn, IsUnopened, AskedIn, IsNotUsage, HasStatus, HasTexts, ReportIn, HasPrefixes, TakesIn}
+use Rattle.desk_program.specs.Promises.{SettlesIn, StopsIn, HasTexts, ReportIn, HasPrefixes}
 use Rattle.desk_program.proofs.Gained.{gained-nil, gained-gained}
-use Rattle.desk_program.proofs.Phases.{is_starved, no_line}
+use Rattle.desk_program.proofs.Phases.{no_line}
 use Rattle.desk_program.proofs.Running.{texts-append}
 use Rattle.desk_program.proofs.Attaching.{some_attached, attached_still}
 
@@ -176,28 +176,22 @@ module _ (run : Run) (inputs : Role → List ℕ) (old : Role → Option (List �
   finished_with status result e (inr t) same =
       subst (λ (s : Status). HasEnded run end_text s inputs old new) (sym t.fault) (not_told (phase status) status refl e (untold status mid.written new.written t.written) same)
 
+-- where a role could not be attached, nothing was written
+pub opening_ends : (p : Phase) (status : Status) (run : Run) (inputs : Role → List ℕ) (old : Role → Option (List ℕ)) (new : Outside) → ComesAtOpening p → new.written ≡ old → EndedIn p run silent status inputs old new
+opening_ends finished status run inputs old new is same = absurd is
+opening_ends refused status run inputs old new is same = absurd is
+opening_ends unread status run inputs old new is same = absurd is
+opening_ends unwritten status run inputs old new is same = absurd is
+opening_ends unasked status run inputs old new is same = absurd is
+opening_ends starved status run inputs old new is same = record {
+  done = [];
+  rest = run.turns;
+  front = refl;
+  written = λ r. ap (λ (w : Role → Option (List ℕ)). w r) same ∙ sym (gained-nil (old r));
+}
+opening_ends (unopened role) status run inputs old new is same = λ r. ap (λ (w : Role → Option (List ℕ)). w r) same ∙ sym (gained-nil (old r))
+
 -- ---- what does not depend on what the desk tells
-
-abbrev RoseSince : Type 0
-RoseSince = (a b c : ℕ) → a ≤ b → Rose b c → Rose a c
-
-abbrev RoseBefore : Type 0
-RoseBefore = (a b c : ℕ) → Rose a b → b ≤ c → Rose a c
-
-cause_since : RoseBefore → (p : Phase) (old mid new : Faults) → NoneFalls mid new → CauseIn p old mid → CauseIn p old new
-cause_since rose finished old mid new falls h = tt
-cause_since rose refused old mid new falls h = tt
-cause_since rose starved old mid new falls h = tt
-cause_since rose unasked old mid new falls h = tt
-cause_since rose unread old mid new falls h = rose _ _ _ h falls.read
-cause_since rose unwritten old mid new falls h = rose _ _ _ h falls.write
-cause_since rose (unopened role) old mid new falls h = rose _ _ _ h falls.attach
-
-pub finished_cause : RoseSince → RoseBefore → (status result : Status) (old mid new : Outside) → NoneFalls old.faults mid.faults → NoneFalls mid.faults new.faults → HasCause status old.faults mid.faults → Finishes status result mid new → HasCause result old.faults new.faults
-finished_cause since rose status result old mid new before falls cause (inl t) =
-    subst (λ (s : Status). HasCause s old.faults new.faults) (sym t.same) (cause_since rose (phase status) old.faults mid.faults new.faults falls cause)
-finished_cause since rose status result old mid new before falls cause (inr t) =
-    subst (λ (s : Status). HasCause s old.faults new.faults) (sym t.fault) (since _ _ _ before.write t.cause)
 
 pub finished_attached : (order : List (Role × List ℕ)) (status result : Status) (mid new : Outside) → OnlyWrites mid new → AttachedAt order status mid → Finishes status result mid new → AttachedAt order result new
 finished_attached order status result mid new rest a (inl t) =
@@ -219,31 +213,9 @@ finished_read status result source mid new same read (inl t) =
     subst (λ (s : Status). IsReadOut s source new) (sym t.same) (still_read (phase status) source mid new same read)
 finished_read status result source mid new same read (inr t) = subst (λ (s : Status). IsReadOut s source new) (sym t.fault) tt
 
-pub finished_unopened : (status result : Status) (old : Role → Option (List ℕ)) (mid new : Outside) → (IsUnopened status → mid.written ≡ old) → Finishes status result mid new → IsUnopened result → Gains (end_text result) old new.written
-finished_unopened status result old mid new none (inl t) is =
-    subst (λ (s : Status). Gains (end_text s) old new.written) (sym t.same)
-    (subst (λ (w : Role → Option (List ℕ)). Gains (end_text status) w new.written) (none (subst IsUnopened t.same is)) (told_gains status mid.written new.written t.written))
-finished_unopened status result old mid new none (inr t) is = absurd (subst IsUnopened t.fault is)
-
-pub finished_words : (status result : Status) (mid new : Outside) → IsNotUsage status → Finishes status result mid new → IsNotUsage result
-finished_words status result mid new words (inl t) = subst IsNotUsage (sym t.same) words
-finished_words status result mid new words (inr t) = subst IsNotUsage (sym t.fault) tt
-
 -- ---- the promises, by how the run has ended
 
 module _ (run : Run) (inputs : Role → List ℕ) (old : Role → Option (List ℕ)) (new : Outside) where
-  by_phase : (p : Phase) (s : Status) → phase s ≡ p → (a b : Faults) → AskedIn p → EndedIn p run end_text s inputs old new → CauseIn p a b → HasStatus run s a b
-  by_phase finished s is a b words e cause = inr (inl e.known)
-  by_phase refused s is a b words e cause = inr (inl e.known)
-  by_phase starved s is a b words e cause = inr (inr (is_starved s is))
-  by_phase unasked s is a b words e cause = absurd words
-  by_phase unread s is a b words e cause = inl (inr (inl cause))
-  by_phase unwritten s is a b words e cause = inl (inr (inr cause))
-  by_phase (unopened role) s is a b words e cause = inl (inl cause)
-
-  pub has_status : (s : Status) (a b : Faults) → IsNotUsage s → HasEnded run end_text s inputs old new → HasCause s a b → HasStatus run s a b
-  has_status s a b words e cause = by_phase (phase s) s refl a b words e cause
-
   pub has_texts : (p : Phase) (s : Status) → EndedIn p run end_text s inputs old new → SettlesIn p → HasTexts run end_text s old new.written
   has_texts finished s e is = record { known = e.known; written = e.written }
   has_texts refused s e is = record { known = e.known; written = e.written }
@@ -290,12 +262,3 @@ module _ (run : Run) (inputs : Role → List ℕ) (old : Role → Option (List �
 
   pub has_prefixes : (s : Status) → HasEnded run end_text s inputs old new → StopsIn (phase s) → HasPrefixes run end_text s old new.written
   has_prefixes s e is = record { outputs = fronts_in (phase s) s e is; report = report_in (phase s) s e is }
-
-  pub takes_input : (p : Phase) (s : Status) → EndedIn p run end_text s inputs old new → TakesIn p s run end_text inputs old new
-  takes_input finished s e = e.left
-  takes_input refused s e = e.left
-  takes_input unread s e = e
-  takes_input starved s e = tt
-  takes_input unasked s e = tt
-  takes_input unwritten s e = tt
-  takes_input (unopened role) s e = tt

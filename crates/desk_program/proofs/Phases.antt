@@ -3,20 +3,8 @@ use Rattle.std.proofs.Common.{◌≡◌, [], refl}
 use Rattle.call_report.specs.declared.status.Status.{Status}
 use Rattle.call_report.specs.declared.status.Status.TheVariants.{Ok as Fine, OutOfMemory, Usage, ReadFault, WriteFault, VideoRefused, TraceRefused, LogRefused, OpenFault, Video2Refused}
 use Rattle.call_report.specs.Status.{phase}
-use Rattle.call_report.specs.Status.Phase.{starved, unwritten}
+use Rattle.call_report.specs.Status.Phase.{unwritten}
 use Rattle.call_report.specs.Text.{status_text}
-
-pub is_starved : (s : Status) → phase s ≡ starved → s ≡ OutOfMemory
-is_starved Fine is = absurd (cc is)
-is_starved OutOfMemory is = refl
-is_starved Usage is = absurd (cc is)
-is_starved ReadFault is = absurd (cc is)
-is_starved WriteFault is = absurd (cc is)
-is_starved (VideoRefused fault) is = absurd (cc is)
-is_starved (TraceRefused fault) is = absurd (cc is)
-is_starved (LogRefused fault) is = absurd (cc is)
-is_starved (OpenFault role) is = absurd (cc is)
-is_starved (Video2Refused fault) is = absurd (cc is)
 
 -- after a failed write there is no line
 pub no_line : (s : Status) → phase s ≡ unwritten → status_text s ≡ []

@@ -11,7 +11,7 @@ use Rattle.call_report.specs.Status.{Phase, phase}
 use Rattle.call_report.specs.Status.Phase.{finished, refused, unread, unwritten, starved, unasked, unopened}
 use Rattle.desk_program.specs.Run.{Turn, End, Step, Run, run_of, run_from, end_state, follow_state, follow, silence, behind, texts_of, text_of, taken_of, IsWholeTurn}
 use Rattle.desk_program.specs.Run.Step.{Goes, Ends}
-use Rattle.desk_program.specs.Ends.{Tells, Gains, GainsFronts, IsPart, KeepsRoles, Went, Ended, Lost, TurnGives, GivesUp, step_texts, step_turns, IsExactly, IsSoFar, IsWholeOnly, EndedIn, HasEnded, silent, Falls, OnGoing, OnEnd, OnceSettled, OnSettled, ComesAtOpening, ComesAtStop, ComesLater, ReadOutIn}
+use Rattle.desk_program.specs.Ends.{Tells, Gains, GainsFronts, IsPart, KeepsRoles, Went, Ended, Lost, TurnGives, GivesUp, step_texts, step_turns, IsExactly, IsSoFar, IsWholeOnly, EndedIn, HasEnded, silent, Falls, OnGoing, OnEnd, OnceSettled, OnSettled, ComesAtStop, ComesLater, ReadOutIn}
 use Rattle.desk_program.specs.UnderWay.{IsUnderWay, EndsIn, LeftIn}
 use Rattle.desk_program.proofs.Gained.{gained-nil, gained-gained, front_behind}
 
@@ -273,15 +273,6 @@ roles_on a b c p q = record {
 -- what the desk tells, where nothing was read
 pub tells_still : (old new : Outside) (inputs : Role → List ℕ) → new.left ≡ old.left → Tells old inputs → Tells new inputs
 tells_still old new inputs same told = λ r input. ap (λ (l : Role → Option (List ℕ)). l r) same ∙ told r input
-
-pub not_read_opening : (phase : Phase) (source : Option Role) (now : Outside) → ComesAtOpening phase → ReadOutIn phase source now
-not_read_opening finished source now is = absurd is
-not_read_opening refused source now is = tt
-not_read_opening unread source now is = tt
-not_read_opening unwritten source now is = tt
-not_read_opening starved source now is = tt
-not_read_opening unasked source now is = tt
-not_read_opening (unopened role) source now is = tt
 
 -- ---- the state at the end
 

@@ -1,9 +1,9 @@
 //! A command from its roles to its last line.
-ghost use Rattle.std.specs.Prelude.{◌≡◌, ◌∷◌, [], ◌++◌, ℕ, List, false, true, IsTrue};
-ghost use Rattle.h263_outside.specs.Desk.{Outside, NoneFalls, with_role};
+ghost use Rattle.std.specs.Prelude.{◌∷◌, [], ℕ, List, false, true, IsTrue};
+ghost use Rattle.h263_outside.specs.Desk.{Outside, with_role};
 ghost use Rattle.h263_outside.specs.declared.desk.Role.{Role};
 ghost use Rattle.h263_outside.specs.declared.desk.Role.TheVariants.{Report};
-ghost use Rattle.desk_program.specs.Ends.{Tells, HasEnded, silent, HasCause, IsReadOut, Gains};
+ghost use Rattle.desk_program.specs.Ends.{Tells, HasCause, IsReadOut, Gains};
 ghost use Rattle.desk_program.specs.Attached.{AreAttached, AttachedAt, are_free, names};
 ghost use Rattle.desk_program.specs.Lines.{end_text};
 ghost use Rattle.desk_program.specs.Promises.{IsSettled, IsStopped, IsUnopened, IsNotUsage};
@@ -13,36 +13,6 @@ use crate::{Acts, attach_all, finish};
 use call_report::Status;
 use h263_outside::{Desk, Role, laws as outside_laws};
 use std::alloc::Global;
-
-// The command up to its last line.
-fn play<D: Desk, A: Acts>(
-    alloc: Global,
-    setup: &A::Setup,
-    order: &[(Role, &str)],
-    desk: &mut D,
-) -> Status
-    requires report { AreAttached ((Report, []) ∷ []) (D.outside desk.old) }
-    requires free { IsTrue (are_free (with_role (λ _. false) Report true) (names order.now)) }
-    requires opens { (now : Outside) → AreAttached ((Report, []) ∷ names order.now) now
-        → A.opens setup.now now.attached }
-    ensures gives { (inputs : Role → List ℕ) → Tells (D.outside desk.old) inputs →
-        HasEnded (A.run setup.now inputs) silent result inputs (D.outside desk.old).written
-        (D.outside desk.new) }
-    ensures words { IsNotUsage result }
-    ensures unopened { IsUnopened result → (D.outside desk.new).written ≡
-        (D.outside desk.old).written }
-    ensures whole_input { (inputs : Role → List ℕ) → Tells (D.outside desk.old) inputs
-        → IsReadOut result (A.source setup.now) (D.outside desk.new) }
-    ensures cause { HasCause result (D.outside desk.old).faults (D.outside desk.new).faults }
-    ensures attached { AttachedAt ((Report, []) ∷ names order.now) result (D.outside desk.new) }
-    ensures report { (D.outside desk.new).attached Report ≡ true }
-    ensures falls { NoneFalls (D.outside desk.old).faults (D.outside desk.new).faults }
-{
-    if let Err(status) = attach_all(desk, order) {
-        return status;
-    }
-    A::act(alloc, setup, desk)
-}
 
 /// Runs a command over a desk on which the report alone is attached: attaches its roles in their
 /// order, lets it act, and writes the last line.
@@ -96,6 +66,9 @@ pub fn perform<D: Desk, A: Acts>(
         (D.outside desk.new) }
 {
     outside_laws::calls();
-    let status = play::<D, A>(alloc, setup, order, desk);
+    if let Err(status) = attach_all(desk, order) {
+        return finish(desk, status);
+    }
+    let status = A::act(alloc, setup, desk);
     finish(desk, status)
 }
