@@ -67,17 +67,17 @@ fn dc_value(code: u32) -> i16
 
 // INTRADC, in a block with no other level.
 #[tactic(auto, unfolding(crate::specs::Text::intra_dc, h263_bits::specs::Syntax::reading))]
-fn read_dc(reader: &mut BitReader<'_>) -> Result<[i16; 64], Fault>
-    ensures { Gives (λ (l : List ℤ). l) result reader.new (reading intra_dc reader.old) }
+fn read_dc(reader: &mut BitReader<'_>, levels: &mut [i16; 64]) -> Result<(), Fault>
+    ensures { Gives (λ _. levels.new) result reader.new (reading intra_dc reader.old) }
 {
     let at = reader.at();
     let code = reader.bits(8)?;
     if code == 0 || code == 128 {
         return Err(FaultKind::BadDc.at(at));
     }
-    let mut levels = [0; 64];
+    *levels = [0; 64];
     levels[0] = dc_value(code);
-    Ok(levels)
+    Ok(())
 }
 
 /// Reads a block of an intra macroblock: INTRADC, and its events where it is `coded` (H.263, 5.4).
@@ -98,7 +98,7 @@ pub fn read_intra(reader: &mut BitReader<'_>, coded: bool, out: &mut Block) -> R
     ensures range { IfOk result (λ _. IsIntraBlock out.new) }
 {
     code_tables_laws::in_a_syntax();
-    out.levels = read_dc(reader)?;
+    read_dc(reader, &mut out.levels)?;
     if !coded {
         return Ok(());
     }

@@ -29,13 +29,13 @@ every laws coded r out old new e =
       range = reads_within (λ u. out) s r old new (λ (levels : List ℤ). IsIntraBlock (record { levels = levels })) e (intra_within coded);
     }
 
-pub returns-in_err-out : goal.returns-in_err-out
+pub returns-in_err-read_dc : goal.returns-in_err-read_dc
 unfolding intra_block reading
-returns-in_err-out c = every c.in_a_syntax.ensures c.args.coded c.from_residual.result c.args.out.now.levels c.args.reader.now c.read_dc.new.reader (search rules)
+returns-in_err-read_dc c = every c.in_a_syntax.ensures c.args.coded c.from_residual.result c.read_dc.new.levels c.args.reader.now c.read_dc.new.reader (search rules)
 
 pub returns-then-not-coded : goal.returns-then-not-coded
 unfolding intra_block reading
-returns-then-not-coded c = every c.in_a_syntax.ensures c.args.coded (Ok tt) c.in_ok-out.field-0 c.args.reader.now c.read_dc.new.reader (search rules)
+returns-then-not-coded c = every c.in_a_syntax.ensures c.args.coded (Ok tt) c.read_dc.new.levels c.args.reader.now c.read_dc.new.reader (search rules)
 
 pub returns : goal.returns
 unfolding intra_block reading
