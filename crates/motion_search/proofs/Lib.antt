@@ -5,3 +5,5 @@ pub mod Leads
 pub mod Reaches
 pub mod Blocks
 pub mod Places
+pub mod AreaSums
+pub mod Strips
