@@ -7,3 +7,5 @@ pub mod Blocks
 pub mod Places
 pub mod Pairs
 pub mod Nears
+pub mod AreaSums
+pub mod Strips

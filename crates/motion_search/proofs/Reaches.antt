@@ -1,8 +1,9 @@
 -- Which places of the square are in reach.
-use Rattle.std.proofs.Common.{◌≡◌, subst, sym, ℕ, ◌+◌, ◌*◌, ◌/◌, ◌%◌, ◌<◌, ◌≤◌, ℤ, pos, ◌≤ℤ◌, ◌↔◌}
+use Rattle.std.proofs.Common.{◌≡◌, arith, subst, sym, ℕ, ◌+◌, ◌*◌, ◌/◌, ◌%◌, ◌<◌, ◌≤◌, ℤ, pos, ◌≤ℤ◌, ◌↔◌}
+use Rattle.std.proofs.lemmas.Int.{ints}
 use Rattle.h263_types.specs.declared.format.Format.{Format}
 use Rattle.h263_types.specs.declared.vector.Reach.{Reach}
-use Rattle.h263_types.specs.Sizes.{columns_of, mbs_of}
+use Rattle.h263_types.specs.Sizes.{columns_of, height_of, mbs_of}
 use Rattle.h263_types.specs.Vectors.{InReach, IsWithin, whole_place}
 use Rattle.motion_search.specs.Vectors.{whole_component}
 use Rattle.motion_search.proofs.Squares.{zero_reaches}
@@ -18,6 +19,12 @@ IsInRows radius reach row = (reach.up ≤ℤ whole_component radius row) × (who
 -- what two ends of a row of the square say
 abbrev pub IsFirst : ℕ → Reach → ℕ → Type 0
 IsFirst radius reach first = (n : ℕ) → (first ≤ n) ↔ (reach.left ≤ℤ whole_component radius n)
+
+abbrev pub IsFirstRow : ℕ → Reach → ℕ → Type 0
+IsFirstRow radius reach first = (n : ℕ) → (first ≤ n) ↔ (reach.up ≤ℤ whole_component radius n)
+
+abbrev pub IsEndRow : ℕ → Reach → ℕ → Type 0
+IsEndRow radius reach end = (n : ℕ) → (n < end) ↔ ((n < 2 * radius + 1) × (whole_component radius n ≤ℤ reach.down))
 
 abbrev pub IsEnd : ℕ → Reach → ℕ → Type 0
 IsEnd radius reach end = (n : ℕ) → (n < end) ↔ ((n < 2 * radius + 1) × (whole_component radius n ≤ℤ reach.right))
@@ -47,3 +54,37 @@ module _ (f : Format) (mb radius : ℕ) (reach : Reach) (is : Reaches f mb reach
 
   pub column_inside : (left i : ℕ) → left ≡ 16 * (mb % columns_of f) → InReach f mb (whole_component radius i) (whole_component radius row) → pos 0 ≤ℤ whole_place left (whole_component radius i)
   column_inside left i e h = subst (λ (k : ℕ). pos 0 ≤ℤ whole_place k (whole_component radius i)) (sym e) h.0.2.0
+
+  -- the sixteen rows that a row of the square leads to end inside the picture
+  pub row_ends : (top y : ℕ) → mb < mbs_of f → top ≡ 16 * (mb / columns_of f) → IsInRows radius reach row → pos y ≡ whole_place top (whole_component radius row) → y + 15 < height_of f
+  row_ends top y h e down ey =
+      let there = ((is (pos 0) (whole_component radius row)).1 (((is (pos 0) (pos 0)).0 (zero_reaches f mb h)).0, down)).1.2.1 in
+      omega (arith, ints, there, subst (λ (k : ℕ). pos y ≡ whole_place k (whole_component radius row)) e ey)
+
+  pub column_starts : (left i : ℕ) → mb < mbs_of f → left ≡ 16 * (mb % columns_of f) → (reach.left ≤ℤ whole_component radius i) × (whole_component radius i ≤ℤ reach.right) →
+      pos 0 ≤ℤ whole_place left (whole_component radius i)
+  column_starts left i h e across =
+      subst (λ (k : ℕ). pos 0 ≤ℤ whole_place k (whole_component radius i)) (sym e)
+      ((is (whole_component radius i) (pos 0)).1 (across, ((is (pos 0) (pos 0)).0 (zero_reaches f mb h)).1)).0.2.0
+
+  pub first_row_small : (first : ℕ) → mb < mbs_of f → IsFirstRow radius reach first → first ≤ radius
+  first_row_small first h at_first =
+      let zero = ((is (pos 0) (pos 0)).0 (zero_reaches f mb h)).1 in
+      (at_first radius).1 (omega (arith, ints, zero.0))
+
+  -- the first row of the square leads no further up or down than the reach, since the zero vector's doesn't
+  pub first_in_rows : (first : ℕ) → mb < mbs_of f → IsFirstRow radius reach first → IsInRows radius reach first
+  first_in_rows first h at_first =
+      let zero = ((is (pos 0) (pos 0)).0 (zero_reaches f mb h)).1 in
+      let above = first_row_small first h at_first in
+      ((at_first first).0 (omega arith), omega (arith, ints, zero.1, above))
+
+  -- the rows between the two ends lead no further up or down than the reach
+  pub between_rows : (first end : ℕ) → IsFirstRow radius reach first → IsEndRow radius reach end → first ≤ row → row < end → IsInRows radius reach row
+  between_rows first end at_first at_end from to = ((at_first row).0 from, ((at_end row).0 to).1)
+
+  pub after_first_row : (first i : ℕ) → IsFirstRow radius reach first → InReach f mb (whole_component radius i) (whole_component radius row) → first ≤ row
+  after_first_row first i at_first h = (at_first row).1 (in_rows i h).0
+
+  pub before_end_row : (end i : ℕ) → IsEndRow radius reach end → row < 2 * radius + 1 → InReach f mb (whole_component radius i) (whole_component radius row) → row < end
+  before_end_row end i at_end hi h = (at_end row).1 (hi, (in_rows i h).1)

@@ -3,3 +3,4 @@ pub mod Cost
 pub mod Vectors
 pub mod Best
 pub mod Rows
+pub mod Areas

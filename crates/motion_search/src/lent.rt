@@ -18,7 +18,7 @@ use sad_kernel::{laws as sad_kernel_laws, sad_of_four};
 
 // Row `j` of a block.
 #[inline(always)]
-fn block_row(block: &[u8; 256], j: u32) -> &[u8]
+pub(crate) fn block_row(block: &[u8; 256], j: u32) -> &[u8]
     requires j { j < 16 }
     ensures value { result.now ≡ slice_range block.now (16 * j) (16 * j + 16) }
     ensures length { length result.now ≡ 16 }

@@ -18,13 +18,17 @@ ghost use Rattle.h263_planes.specs.Lent.{picture};
 ghost use Rattle.motion_search.specs.Cost.{samples_of, IsCost};
 ghost use Rattle.motion_search.specs.Best.{best_vector};
 
+mod areas;
 mod around;
 mod candidate;
 mod half;
 pub mod laws;
 mod lent;
+mod marks;
 mod predicted;
+mod square;
 mod start;
+mod strip;
 mod whole;
 mod window;
 mod within;

@@ -8,7 +8,7 @@ use Rattle.motion_search.specs.Vectors.{whole_at, whole_component, IsEven}
 use Rattle.motion_search.proofs.Squares.{at_is_even}
 use Rattle.motion_search.proofs.Reaches.{row_inside, column_inside}
 use Rattle.motion_search.proofs.Bests.{taken, passed_over}
-use Rattle.motion_search.proofs.whole.better_at.Goals as goal
+use Rattle.motion_search.proofs.square.better_at.Goals as goal
 
 pub place-x-requires-clause-inside : goal.place-x-requires-clause-inside
 place-x-requires-clause-inside c =

@@ -1,0 +1,22 @@
+use Rattle.std.proofs.Common.{◌≡◌, refl, ℕ, ◌+◌, arith, subst}
+use Rattle.h263_planes.specs.Lent.{picture}
+use Rattle.motion_search.specs.Areas.{IsBand, samples_from}
+use Rattle.motion_search.proofs.strip.begun.Goals as goal
+
+pub loop-j-init : goal.loop-j-init
+loop-j-init c =
+    let f = samples_from (picture c.args.reference) c.args.x in
+    (omega arith, record { top = c.no_rows.ensures f c.args.y; bottom = c.no_rows-2.ensures f (c.args.y + 8) })
+
+pub with_rows-band-requires-clause-inside : goal.with_rows-band-requires-clause-inside
+with_rows-band-requires-clause-inside c =
+    record { in_row = c.requires.inside.in_row; in_plane = omega (arith, c.requires.inside.in_plane, c.loop-j-test.true) }
+
+pub loop-j-preserved : goal.loop-j-preserved
+loop-j-preserved c =
+    (omega (arith, c.loop-j-test.true), c.with_rows-band.ensures c.args.y c.loop-j.j (omega (arith, c.loop-j-test.true)) refl c.loop-j.invariant.1)
+
+pub returns : goal.returns
+returns c =
+    let e : c.loop-j.j ≡ 7 = omega (arith, c.loop-j.invariant.0, c.loop-j-test.false) in
+    subst (λ (n : ℕ). IsBand (samples_from (picture c.args.reference) c.args.x) c.args.y n c.loop-j.band) e c.loop-j.invariant.1

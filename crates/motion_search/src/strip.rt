@@ -1,0 +1,338 @@
+//! The vectors of whole samples by strips: sixteen columns of the square around zero, from its
+//! uppermost row down.
+ghost use Rattle.std.specs.Prelude.{◌≡◌, ℕ, ◌+◌, ◌*◌, ◌<◌, ◌≤◌, pos, ◌≤ℤ◌, false};
+ghost use Rattle.std.specs.Int.{bit_at};
+ghost use Rattle.h263_types.specs.Sizes.{width_of};
+ghost use Rattle.h263_types.specs.Vectors.{InReach, whole_place};
+ghost use Rattle.h263_planes.specs.Lent.{picture};
+ghost use Rattle.h263_planes.specs.Samples.{Inside, IsPicture};
+ghost use Rattle.h263_planes.specs.declared.Plane.TheVariants.{Y};
+ghost use Rattle.motion_search.specs.declared.candidate.Candidate.{Candidate};
+ghost use Rattle.motion_search.specs.Order.{before};
+ghost use Rattle.motion_search.specs.Cost.{candidate_of, IsCost};
+ghost use Rattle.motion_search.specs.Vectors.{whole_at, whole_component, zero_vector};
+ghost use Rattle.motion_search.specs.Best.{IsWholeCandidate};
+ghost use Rattle.motion_search.specs.Areas.{AreColumns, AreQuarters, IsBand, samples_from};
+
+use crate::areas::{Band, Columns, Quarters, marks_of, no_rows, with_row, without_row};
+use crate::candidate::Candidate;
+use crate::marks::{lowest, without};
+use crate::square::{better_at, end_row, first_row, place};
+use crate::window::Window;
+use h263_planes::{PictureRef, Plane};
+
+// The sums with row `y` of the 32 samples of Y from column `x` on.
+#[inline(always)]
+fn with_samples(columns: Columns, reference: PictureRef<'_>, x: u32, y: u32) -> Columns
+    requires inside { Inside (picture reference).format Y x y 32 }
+    requires whole { IsPicture (picture reference) }
+    ensures { (top n : ℕ) → n < 8 → y ≡ top + n
+        → AreColumns (samples_from (picture reference.entry) x) top n columns
+        → AreColumns (samples_from (picture reference.entry) x) top (n + 1) result }
+{
+    let left = reference.row(Plane::Y, x, y, 16);
+    let right = reference.row(Plane::Y, x + 16, y, 16);
+    with_row(columns, left, right)
+}
+
+// The sums without the uppermost row, which is row `y`.
+#[inline(always)]
+fn without_samples(columns: Columns, reference: PictureRef<'_>, x: u32, y: u32) -> Columns
+    requires inside { Inside (picture reference).format Y x y 32 }
+    requires whole { IsPicture (picture reference) }
+    ensures { (n : ℕ) → n < 8
+        → AreColumns (samples_from (picture reference.entry) x) y (n + 1) columns
+        → AreColumns (samples_from (picture reference.entry) x) (y + 1) n result }
+{
+    let left = reference.row(Plane::Y, x, y, 16);
+    let right = reference.row(Plane::Y, x + 16, y, 16);
+    without_row(columns, left, right)
+}
+
+// The sums of seven rows, from row `y` and from row `y + 8` on.
+#[inline(always)]
+fn begun(reference: PictureRef<'_>, x: u32, y: u32) -> Band
+    requires inside { Inside (picture reference).format Y x (y + 14) 32 }
+    requires whole { IsPicture (picture reference) }
+    requires y { y < 65536 }
+    ensures { IsBand (samples_from (picture reference.entry) x) y 7 result }
+{
+    let mut band = Band {
+        top: no_rows(),
+        bottom: no_rows(),
+    };
+    for j in 0..7u32 {
+        band = with_rows(band, reference, x, y + j);
+    }
+    band
+}
+
+// The sums with rows `y` and `y + 8` of the 32 samples of Y from column `x` on.
+#[inline(always)]
+fn with_rows(band: Band, reference: PictureRef<'_>, x: u32, y: u32) -> Band
+    requires inside { Inside (picture reference).format Y x (y + 8) 32 }
+    requires whole { IsPicture (picture reference) }
+    requires y { y < 65550 }
+    ensures { (top n : ℕ) → n < 8 → y ≡ top + n
+        → IsBand (samples_from (picture reference.entry) x) top n band
+        → IsBand (samples_from (picture reference.entry) x) top (n + 1) result }
+{
+    Band {
+        top: with_samples(band.top, reference, x, y),
+        bottom: with_samples(band.bottom, reference, x, y + 8),
+    }
+}
+
+// The sums without their uppermost rows, which are rows `y` and `y + 8`.
+#[inline(always)]
+fn without_rows(band: Band, reference: PictureRef<'_>, x: u32, y: u32) -> Band
+    requires inside { Inside (picture reference).format Y x (y + 8) 32 }
+    requires whole { IsPicture (picture reference) }
+    requires y { y < 65550 }
+    ensures { (n : ℕ) → n < 8
+        → IsBand (samples_from (picture reference.entry) x) y (n + 1) band
+        → IsBand (samples_from (picture reference.entry) x) (y + 1) n result }
+{
+    Band {
+        top: without_samples(band.top, reference, x, y),
+        bottom: without_samples(band.bottom, reference, x, y + 8),
+    }
+}
+
+// The first of the best one and the vector in a column and a row, where that is in the square and in
+// reach.
+#[inline(always)]
+fn better_in_square(window: Window<'_>, column: u32, row: u32, best: Candidate) -> Candidate
+    requires row { row ≤ 2 * window.radius }
+    requires zero { before (candidate_of window.block.now
+        (picture window.reference) window.mb 0 zero_vector) best ≡ false }
+    requires candidate { IsWholeCandidate window.block.now
+        (picture window.reference) window.mb window.radius 0 best }
+    requires cost { IsCost best.cost }
+    ensures candidate { IsWholeCandidate window.entry.block.now
+        (picture window.entry.reference) window.entry.mb window.entry.radius 0 result }
+    ensures kept { (d : Candidate) → before d best ≡ false → before d result ≡ false }
+    ensures none { column < 2 * window.entry.radius + 1
+        → InReach (picture window.entry.reference).format window.entry.mb
+        (whole_at window.entry.radius column row).x (whole_at window.entry.radius column row).y
+        → before (candidate_of window.entry.block.now (picture window.entry.reference)
+        window.entry.mb 0 (whole_at window.entry.radius column row)) result ≡ false }
+    ensures cost { IsCost result.cost }
+{
+    if column <= 2 * u32::from(window.radius) {
+        better_at(window, column, row, best)
+    } else {
+        best
+    }
+}
+
+// The first of the best one and those of sixteen vectors beside each other that are marked. The
+// others don't come before it.
+#[inline(always)]
+fn best_of_marked(
+    window: Window<'_>,
+    column: u32,
+    row: u32,
+    marks: u64,
+    best: Candidate,
+) -> Candidate
+    requires column { column ≤ 2 * window.radius }
+    requires row { row ≤ 2 * window.radius }
+    requires zero { before (candidate_of window.block.now
+        (picture window.reference) window.mb 0 zero_vector) best ≡ false }
+    requires candidate { IsWholeCandidate window.block.now
+        (picture window.reference) window.mb window.radius 0 best }
+    requires cost { IsCost best.cost }
+    requires others { (i : ℕ) → i < 16 → bit_at marks i ≡ 0
+        → InReach (picture window.reference).format window.mb
+        (whole_at window.radius (column + i) row).x (whole_at window.radius (column + i) row).y
+        → before (candidate_of window.block.now (picture window.reference)
+        window.mb 0 (whole_at window.radius (column + i) row)) best ≡ false }
+    ensures candidate { IsWholeCandidate window.entry.block.now
+        (picture window.entry.reference) window.entry.mb window.entry.radius 0 result }
+    ensures kept { (d : Candidate) → before d best ≡ false → before d result ≡ false }
+    ensures none { (i : ℕ) → i < 16 → column + i < 2 * window.entry.radius + 1
+        → InReach (picture window.entry.reference).format window.entry.mb
+        (whole_at window.entry.radius (column + i) row).x
+        (whole_at window.entry.radius (column + i) row).y
+        → before (candidate_of window.entry.block.now (picture window.entry.reference)
+        window.entry.mb 0 (whole_at window.entry.radius (column + i) row)) result ≡ false }
+    ensures cost { IsCost result.cost }
+{
+    let mut first = best;
+    let mut left = marks;
+    while left != 0 {
+        let i = lowest(left);
+        first = better_in_square(window, column + i, row, first);
+        left = without(left, i);
+    }
+    first
+}
+
+// What a candidate may cost to be looked at, at most: nothing costs less than 0 but the zero
+// vector.
+#[inline(always)]
+fn most(best: Candidate) -> u16
+    requires cost { IsCost best.cost }
+    ensures { best.cost ≤ℤ pos result }
+{
+    if best.cost < 0 { 0 } else { best.cost as u16 }
+}
+
+// The first of the best one and sixteen vectors beside each other, which lead to columns from `x`
+// on of row `y`.
+#[inline(always)]
+fn best_of_sixteen(
+    window: Window<'_>,
+    quarters: Quarters,
+    band: Band,
+    x: u32,
+    y: u32,
+    column: u32,
+    row: u32,
+    best: Candidate,
+) -> Candidate
+    requires x { pos x ≡ whole_place window.left (whole_component window.radius column) }
+    requires y { pos y ≡ whole_place window.top (whole_component window.radius row) }
+    requires column { column ≤ 2 * window.radius }
+    requires row { row ≤ 2 * window.radius }
+    requires quarters { AreQuarters window.block.now quarters }
+    requires band { IsBand (samples_from (picture window.reference) x) y 8 band }
+    requires whole { IsPicture (picture window.reference) }
+    requires zero { before (candidate_of window.block.now
+        (picture window.reference) window.mb 0 zero_vector) best ≡ false }
+    requires candidate { IsWholeCandidate window.block.now
+        (picture window.reference) window.mb window.radius 0 best }
+    requires cost { IsCost best.cost }
+    ensures candidate { IsWholeCandidate window.entry.block.now
+        (picture window.entry.reference) window.entry.mb window.entry.radius 0 result }
+    ensures kept { (d : Candidate) → before d best ≡ false → before d result ≡ false }
+    ensures none { (i : ℕ) → i < 16 → column + i < 2 * window.entry.radius + 1
+        → InReach (picture window.entry.reference).format window.entry.mb
+        (whole_at window.entry.radius (column + i) row).x
+        (whole_at window.entry.radius (column + i) row).y
+        → before (candidate_of window.entry.block.now (picture window.entry.reference)
+        window.entry.mb 0 (whole_at window.entry.radius (column + i) row)) result ≡ false }
+    ensures cost { IsCost result.cost }
+{
+    let marks = marks_of(quarters, band, most(best));
+    best_of_marked(window, column, row, marks, best)
+}
+
+// The first of the best one and the vectors in sixteen columns of the square, the first of which
+// lead to column `x`. The sums of areas are carried from row to row.
+#[inline(always)]
+fn best_of_strip(
+    window: Window<'_>,
+    quarters: Quarters,
+    x: u32,
+    column: u32,
+    best: Candidate,
+) -> Candidate
+    requires x { pos x ≡ whole_place window.left (whole_component window.radius column) }
+    requires room { x + 32 ≤ width_of (picture window.reference).format }
+    requires column { column ≤ 2 * window.radius }
+    requires quarters { AreQuarters window.block.now quarters }
+    requires whole { IsPicture (picture window.reference) }
+    requires zero { before (candidate_of window.block.now
+        (picture window.reference) window.mb 0 zero_vector) best ≡ false }
+    requires candidate { IsWholeCandidate window.block.now
+        (picture window.reference) window.mb window.radius 0 best }
+    requires cost { IsCost best.cost }
+    ensures candidate { IsWholeCandidate window.entry.block.now
+        (picture window.entry.reference) window.entry.mb window.entry.radius 0 result }
+    ensures kept { (d : Candidate) → before d best ≡ false → before d result ≡ false }
+    ensures none { (m i : ℕ) → m < 2 * window.entry.radius + 1 → i < 16
+        → column + i < 2 * window.entry.radius + 1
+        → InReach (picture window.entry.reference).format window.entry.mb
+        (whole_at window.entry.radius (column + i) m).x
+        (whole_at window.entry.radius (column + i) m).y
+        → before (candidate_of window.entry.block.now (picture window.entry.reference)
+        window.entry.mb 0 (whole_at window.entry.radius (column + i) m)) result ≡ false }
+    ensures cost { IsCost result.cost }
+{
+    let first_row = first_row(window.radius, window.reach);
+    let mut band = begun(
+        window.reference,
+        x,
+        place(window.top, first_row, window.radius),
+    );
+    let mut first = best;
+    for row in first_row..end_row(window.radius, window.reach) {
+        let y = place(window.top, row, window.radius);
+        let full = with_rows(band, window.reference, x, y + 7);
+        first = best_of_sixteen(window, quarters, full, x, y, column, row, first);
+        band = without_rows(full, window.reference, x, y);
+    }
+    first
+}
+
+// The first of the best one and the vectors in a column of the square.
+#[inline(always)]
+fn best_of_column(window: Window<'_>, column: u32, best: Candidate) -> Candidate
+    requires column { column ≤ 2 * window.radius }
+    requires zero { before (candidate_of window.block.now
+        (picture window.reference) window.mb 0 zero_vector) best ≡ false }
+    requires candidate { IsWholeCandidate window.block.now
+        (picture window.reference) window.mb window.radius 0 best }
+    requires cost { IsCost best.cost }
+    ensures candidate { IsWholeCandidate window.entry.block.now
+        (picture window.entry.reference) window.entry.mb window.entry.radius 0 result }
+    ensures kept { (d : Candidate) → before d best ≡ false → before d result ≡ false }
+    ensures none { (m : ℕ) → m < 2 * window.entry.radius + 1
+        → InReach (picture window.entry.reference).format window.entry.mb
+        (whole_at window.entry.radius column m).x (whole_at window.entry.radius column m).y
+        → before (candidate_of window.entry.block.now (picture window.entry.reference)
+        window.entry.mb 0 (whole_at window.entry.radius column m)) result ≡ false }
+    ensures cost { IsCost result.cost }
+{
+    let mut first = best;
+    for row in 0..2 * u32::from(window.radius) + 1 {
+        first = better_in_square(window, column, row, first);
+    }
+    first
+}
+
+// The first of the best one and the vectors in some columns of the square from `column` on, and the
+// column after these. It goes over sixteen columns at once where the picture has as many samples
+// as these read, and over one beside its right edge.
+#[inline(always)]
+pub(crate) fn best_from(
+    window: Window<'_>,
+    quarters: Quarters,
+    column: u32,
+    best: Candidate,
+) -> (Candidate, u32)
+    requires column { column ≤ 2 * window.radius }
+    requires across { (window.reach.left ≤ℤ whole_component window.radius column)
+        × (whole_component window.radius column ≤ℤ window.reach.right) }
+    requires quarters { AreQuarters window.block.now quarters }
+    requires whole { IsPicture (picture window.reference) }
+    requires zero { before (candidate_of window.block.now
+        (picture window.reference) window.mb 0 zero_vector) best ≡ false }
+    requires candidate { IsWholeCandidate window.block.now
+        (picture window.reference) window.mb window.radius 0 best }
+    requires cost { IsCost best.cost }
+    ensures candidate { IsWholeCandidate window.entry.block.now
+        (picture window.entry.reference) window.entry.mb window.entry.radius 0 result.0 }
+    ensures kept { (d : Candidate) → before d best ≡ false → before d result.0 ≡ false }
+    ensures none { (m n : ℕ) → m < 2 * window.entry.radius + 1 → n < 2 * window.entry.radius + 1
+        → column ≤ n → n < result.1
+        → InReach (picture window.entry.reference).format window.entry.mb
+        (whole_at window.entry.radius n m).x (whole_at window.entry.radius n m).y
+        → before (candidate_of window.entry.block.now (picture window.entry.reference)
+        window.entry.mb 0 (whole_at window.entry.radius n m)) result.0 ≡ false }
+    ensures cost { IsCost result.0.cost }
+    ensures next { column < result.1 }
+    ensures most { result.1 ≤ column + 16 }
+{
+    let x = place(window.left, column, window.radius);
+    if x + 32 <= window.reference.format().width() {
+        (
+            best_of_strip(window, quarters, x, column, best),
+            column + 16,
+        )
+    } else {
+        (best_of_column(window, column, best), column + 1)
+    }
+}
