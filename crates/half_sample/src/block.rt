@@ -4,7 +4,7 @@ ghost use Rattle.h263_planes.specs.Lent.{picture};
 ghost use Rattle.h263_planes.specs.declared.Plane.TheVariants.{Y};
 ghost use Rattle.half_sample.specs.Prediction.{interpolated, ReadsInside};
 
-use crate::rows::{of_four, of_two};
+use crate::rows::{of_four, of_two, store};
 use h263_planes::{PictureRef, Plane};
 use std::simd::prelude::*;
 
@@ -49,13 +49,14 @@ pub(crate) fn row<const N: usize>(
 }
 
 // H rows of N predicted samples. Called with a case that is known, it has a loop for this case
-// alone.
+// alone. Since `y` has sixteen bits, the compiler sees that the sums of rows don't wrap, and goes
+// from one row to the next by an addition.
 #[inline(always)]
 fn block_of<const N: usize, const H: usize>(
     reference: PictureRef<'_>,
     plane: Plane,
     x: u32,
-    y: u32,
+    y: u16,
     half_x: bool,
     half_y: bool,
     rounding: u8,
@@ -71,10 +72,11 @@ fn block_of<const N: usize, const H: usize>(
     ensures { (j i : ℕ) → j < H → i < N → slice_index out.new (N * j + i)
         ≡ interpolated (picture reference.entry) plane half_x half_y rounding (x + i) (y + j) }
 {
+    let top = u32::from(y);
     for j in 0..H {
-        let at = N * j;
-        let samples = row::<N>(reference, plane, x, y + j as u32, half_x, half_y, rounding);
-        out[at..at + N].copy_from_slice(&samples);
+        let below = top + j as u32;
+        let samples = row::<N>(reference, plane, x, below, half_x, half_y, rounding);
+        store(Simd::from_array(samples), out, N * j);
     }
 }
 
@@ -84,7 +86,7 @@ pub(crate) fn block<const N: usize, const H: usize>(
     reference: PictureRef<'_>,
     plane: Plane,
     x: u32,
-    y: u32,
+    y: u16,
     half_x: bool,
     half_y: bool,
     rounding: u8,
@@ -131,10 +133,9 @@ fn quarter_of(
         ≡ interpolated (picture reference.entry) Y half_x half_y rounding (x + i) (y + 4 * k) }
 {
     for k in 0..4 {
-        let at = 16 * k;
         let below = y + 4 * k as u32;
         let samples = row::<16>(reference, Plane::Y, x, below, half_x, half_y, rounding);
-        out[at..at + 16].copy_from_slice(&samples);
+        store(Simd::from_array(samples), out, 16 * k);
     }
 }
 

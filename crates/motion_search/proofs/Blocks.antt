@@ -13,7 +13,7 @@ use Rattle.motion_search.specs.declared.candidate.Candidate.{Candidate}
 use Rattle.h263_planes.specs.Samples.{sample_at}
 use Rattle.std.proofs.Math.ListN.{drop_of_length-le}
 use Rattle.motion_search.specs.Rows.{rows_from}
-use Rattle.motion_search.specs.Cost.{square, differences_from, difference_of, predicted_of, lead_of}
+use Rattle.motion_search.specs.Cost.{square, differences_from, lead_of}
 
 -- ---- the 256 numbers of a block
 

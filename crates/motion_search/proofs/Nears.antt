@@ -1,5 +1,5 @@
 -- The neighbours of a candidate, one after the other.
-use Rattle.std.proofs.Common.{◌≡◌, ◌∙◌, sym, subst, ap, arith, below_more, ℕ, ◌+◌, ◌/◌, ◌<◌, ◌≤◌, List, false, ℤ, pos, ◌-ℤ◌, ◌≤ℤ◌}
+use Rattle.std.proofs.Common.{◌≡◌, ◌∙◌, sym, subst, ap, arith, below_more, ℕ, ◌+◌, ◌/◌, ◌<◌, ◌≤◌, List, false}
 use Rattle.std.proofs.lemmas.Int.{ints}
 use Rattle.h263_types.specs.declared.vector.Reach.{Reach}
 use Rattle.h263_types.specs.declared.vector.Vector.{Vector}
