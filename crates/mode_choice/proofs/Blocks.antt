@@ -1,9 +1,11 @@
 -- The samples of a macroblock by its six blocks, and by its square of luma.
-use Rattle.std.proofs.Common.{◌≡◌, ℕ, zero, suc, ◌+◌, ◌*◌, ◌/◌, ◌%◌, ◌<◌, List, [], ◌∷◌, get_or, length, lit<, arith, ap, sym, subst, map, ◌∙◌, ℤ, pos, ◌-ℤ◌}
+use Rattle.std.proofs.Common.{◌≡◌, ℕ, zero, suc, ◌+◌, ◌*◌, ◌/◌, ◌%◌, ◌<◌, List, get_or, length, lit<, Bool, true, false, cond, nat_lt, refl, arith, ap, sym, subst, map, ◌∙◌, ℤ, pos, ◌-ℤ◌}
 use Rattle.std.specs.List.{range_with_len}
+use Rattle.std.proofs.lemmas.Bool.Decides.{nat_tests}
 use Rattle.std.proofs.lemmas.Int.{ints}
-use Rattle.std.proofs.lemmas.List.FromFn.{fill_by_all, get_or-map-range_with_len, length-map-range_with_len}
+use Rattle.std.proofs.lemmas.List.FromFn.{fill_by_all}
 use Rattle.h263_types.specs.declared.vector.Vector.{Vector}
+use Rattle.h263_types.specs.declared.format.Format.{Format}
 use Rattle.h263_types.specs.Sizes.{columns_of}
 use Rattle.h263_planes.specs.declared.Plane.{Plane}
 use Rattle.h263_planes.specs.declared.Plane.TheVariants.{Y, Cb, Cr}
@@ -11,51 +13,39 @@ use Rattle.h263_planes.specs.declared.blocks.Corner.{Corner}
 use Rattle.h263_planes.specs.Blocks.{corner_of}
 use Rattle.h263_planes.specs.Picture.{Picture}
 use Rattle.h263_planes.specs.Samples.{sample_at}
+use Rattle.half_sample.specs.declared.macroblock.Predicted.{Predicted}
+use Rattle.half_sample.specs.Macroblock.{IsPredicted}
 use Rattle.half_sample.specs.Prediction.{ArePredicted, predicted_sample, moved, whole_part}
 use Rattle.motion_search.specs.Cost as luma
 use Rattle.mode_choice.specs.Choice.{predicted_in_block, residuals_of, sample_in_block, samples_of}
+use Rattle.mode_choice.specs.Residuals.{luma_at, predicted_at}
 
--- block b of the four of 16 x 16 samples
-abbrev pub IsQuarter : List ℕ → ℕ → List ℕ → Type 0
-IsQuarter luma b q = (j i : ℕ) → j < 8 → i < 8 → get_or q (8 * j + i) 0 ≡ get_or luma (16 * (8 * (b / 2) + j) + (8 * (b % 2) + i)) 0
-
--- the sample at a place of a block, by the place's row and column
-by_rows : (block : List ℕ) (k : ℕ) → get_or block k 0 ≡ get_or block (8 * (k / 8) + k % 8) 0
-by_rows block k = let e : k ≡ 8 * (k / 8) + k % 8 = omega arith in ap (λ (m : ℕ). get_or block m 0) e
-
-sample_of_quarter : (p : Picture) (mb r : ℕ) (v : Vector) (luma q : List ℕ) (b : ℕ) → b < 4 → ArePredicted 16 p Y mb v r luma → IsQuarter luma b q → (k : ℕ) → k < 64 →
-    get_or q k 0 ≡ predicted_sample p Y (16 * (mb % columns_of p.format) + 8 * (b % 2) + k % 8) (16 * (mb / columns_of p.format) + 8 * (b / 2) + k / 8) v r
-sample_of_quarter p mb r v luma q b four predicted quarter k hk =
+-- the predicted samples of a block of luma, where they stand in those of the macroblock
+sample_of_luma : (p : Picture) (mb r : ℕ) (v : Vector) (luma : List ℕ) (b : ℕ) → b < 4 → ArePredicted 16 p Y mb v r luma → (k : ℕ) → k < 64 →
+    get_or luma (16 * (8 * (b / 2) + k / 8) + (8 * (b % 2) + k % 8)) 0
+    ≡ predicted_sample p Y (16 * (mb % columns_of p.format) + 8 * (b % 2) + k % 8) (16 * (mb / columns_of p.format) + 8 * (b / 2) + k / 8) v r
+sample_of_luma p mb r v luma b four predicted k hk =
     let column : 16 * (mb % columns_of p.format) + (8 * (b % 2) + k % 8) ≡ 16 * (mb % columns_of p.format) + 8 * (b % 2) + k % 8 = omega arith in
     let row : 16 * (mb / columns_of p.format) + (8 * (b / 2) + k / 8) ≡ 16 * (mb / columns_of p.format) + 8 * (b / 2) + k / 8 = omega arith in
-    by_rows q k ∙ quarter (k / 8) (k % 8) (omega arith) (omega arith) ∙ predicted (8 * (b / 2) + k / 8) (8 * (b % 2) + k % 8) (omega arith) (omega arith)
+    predicted (8 * (b / 2) + k / 8) (8 * (b % 2) + k % 8) (omega arith) (omega arith)
     ∙ ap (λ (x : ℕ). predicted_sample p Y x (16 * (mb / columns_of p.format) + (8 * (b / 2) + k / 8)) v r) column
     ∙ ap (λ (y : ℕ). predicted_sample p Y (16 * (mb % columns_of p.format) + 8 * (b % 2) + k % 8) y v r) row
 
 sample_of_colour : (p : Picture) (plane : Plane) (mb r : ℕ) (v : Vector) (block : List ℕ) → ArePredicted 8 p plane mb v r block → (k : ℕ) → k < 64 →
     get_or block k 0 ≡ predicted_sample p plane (8 * (mb % columns_of p.format) + k % 8) (8 * (mb / columns_of p.format) + k / 8) v r
-sample_of_colour p plane mb r v block predicted k hk = by_rows block k ∙ predicted (k / 8) (k % 8) (omega arith) (omega arith)
+sample_of_colour p plane mb r v block predicted k hk =
+    let e : k ≡ 8 * (k / 8) + k % 8 = omega arith in
+    ap (λ (m : ℕ). get_or block m 0) e ∙ predicted (k / 8) (k % 8) (omega arith) (omega arith)
 
-pub six_predicted : (p : Picture) (mb r : ℕ) (v : Vector) (luma q0 q1 q2 q3 cb cr : List ℕ) →
-    ArePredicted 16 p Y mb v r luma → ArePredicted 8 p Cb mb v r cb → ArePredicted 8 p Cr mb v r cr →
-    IsQuarter luma 0 q0 → IsQuarter luma 1 q1 → IsQuarter luma 2 q2 → IsQuarter luma 3 q3 →
-    (b k : ℕ) → b < 6 → k < 64 → get_or (get_or (q0 ∷ q1 ∷ q2 ∷ q3 ∷ cb ∷ cr ∷ []) b []) k 0 ≡ predicted_in_block p r mb v b k
-six_predicted p mb r v luma q0 q1 q2 q3 cb cr hy hcb hcr h0 h1 h2 h3 zero k hb hk = sample_of_quarter p mb r v luma q0 0 (lit< tt) hy h0 k hk
-six_predicted p mb r v luma q0 q1 q2 q3 cb cr hy hcb hcr h0 h1 h2 h3 (suc zero) k hb hk = sample_of_quarter p mb r v luma q1 1 (lit< tt) hy h1 k hk
-six_predicted p mb r v luma q0 q1 q2 q3 cb cr hy hcb hcr h0 h1 h2 h3 (suc (suc zero)) k hb hk = sample_of_quarter p mb r v luma q2 2 (lit< tt) hy h2 k hk
-six_predicted p mb r v luma q0 q1 q2 q3 cb cr hy hcb hcr h0 h1 h2 h3 (suc (suc (suc zero))) k hb hk = sample_of_quarter p mb r v luma q3 3 (lit< tt) hy h3 k hk
-six_predicted p mb r v luma q0 q1 q2 q3 cb cr hy hcb hcr h0 h1 h2 h3 (suc (suc (suc (suc zero)))) k hb hk = sample_of_colour p Cb mb r v cb hcb k hk
-six_predicted p mb r v luma q0 q1 q2 q3 cb cr hy hcb hcr h0 h1 h2 h3 (suc (suc (suc (suc (suc zero))))) k hb hk = sample_of_colour p Cr mb r v cr hcr k hk
-six_predicted p mb r v luma q0 q1 q2 q3 cb cr hy hcb hcr h0 h1 h2 h3 (suc (suc (suc (suc (suc (suc b)))))) k hb hk = absurd (omega arith)
-
--- the samples of a block, as a list and at each place
-pub samples_long : (p : Picture) (mb b : ℕ) → length (samples_of p mb b) ≡ 64
-unfolding samples_of
-samples_long p mb b = length-map-range_with_len (λ (k : ℕ). pos (sample_in_block p mb b k)) 0 64
-
-pub sample_of : (p : Picture) (mb b k : ℕ) → k < 64 → get_or (samples_of p mb b) k (pos 0) ≡ pos (sample_in_block p mb b k)
-unfolding samples_of
-sample_of p mb b k h = get_or-map-range_with_len (λ (k : ℕ). pos (sample_in_block p mb b k)) 0 64 k k (pos 0) h (omega arith)
+pub six_predicted : (p : Picture) (mb r : ℕ) (v : Vector) (samples : Predicted) → IsPredicted p mb v r samples →
+    (b k : ℕ) → b < 6 → k < 64 → predicted_at samples b k ≡ predicted_in_block p r mb v b k
+six_predicted p mb r v samples is zero k hb hk = sample_of_luma p mb r v samples.y 0 (lit< tt) is.y k hk
+six_predicted p mb r v samples is (suc zero) k hb hk = sample_of_luma p mb r v samples.y 1 (lit< tt) is.y k hk
+six_predicted p mb r v samples is (suc (suc zero)) k hb hk = sample_of_luma p mb r v samples.y 2 (lit< tt) is.y k hk
+six_predicted p mb r v samples is (suc (suc (suc zero))) k hb hk = sample_of_luma p mb r v samples.y 3 (lit< tt) is.y k hk
+six_predicted p mb r v samples is (suc (suc (suc (suc zero)))) k hb hk = sample_of_colour p Cb mb r v samples.cb is.cb k hk
+six_predicted p mb r v samples is (suc (suc (suc (suc (suc zero))))) k hb hk = sample_of_colour p Cr mb r v samples.cr is.cr k hk
+six_predicted p mb r v samples is (suc (suc (suc (suc (suc (suc b)))))) k hb hk = absurd (omega arith)
 
 -- the 8 x 8 samples of a plane from the corner of a block on are the block's
 pub square_is_block : (p : Picture) (mb b : ℕ) (corner : Corner) (plane : Plane) (samples : List ℤ) → corner ≡ corner_of p.format mb b → corner.plane ≡ plane → length samples ≡ 64 →
@@ -66,10 +56,50 @@ square_is_block p mb b corner plane samples e same long each =
     (fill_by_all (λ (k : ℕ). pos (sample_at p corner.plane (corner.x + k % 8) (corner.y + k / 8))) samples 64 (pos 0) long
     (λ k h. each k h ∙ ap (λ (plane : Plane). pos (sample_at p plane (corner.x + k % 8) (corner.y + k / 8))) (sym same)))
 
+-- ---- what is left of a block
+
+first_of : {X : Type 0} (t : Bool) (a b : X) → t ≡ true → cond t a b ≡ a
+first_of true a b h = refl
+first_of false a b h = cc
+
+below : (b n : ℕ) → b < n → nat_lt b n ≡ true
+below b n h = grind (arith, nat_tests)
+
+-- the plane in which a block stands
+pub luma_plane : (f : Format) (mb b : ℕ) → b < 4 → (corner_of f mb b).plane ≡ Y
+luma_plane f mb b h = ap (λ (corner : Corner). corner.plane) (first_of (nat_lt b 4) _ _ (below b 4 h))
+
+pub first_colour_plane : (f : Format) (mb b : ℕ) → b ≡ 4 → (corner_of f mb b).plane ≡ Cb
+first_colour_plane f mb b e = ap (λ (b : ℕ). (corner_of f mb b).plane) e
+
+pub second_colour_plane : (f : Format) (mb b : ℕ) → b ≡ 5 → (corner_of f mb b).plane ≡ Cr
+second_colour_plane f mb b e = ap (λ (b : ℕ). (corner_of f mb b).plane) e
+
+-- and its predicted samples
+pub luma_predicted : (samples : Predicted) (b k : ℕ) → b < 4 → luma_at samples.y b k ≡ predicted_at samples b k
+luma_predicted samples b k h = sym (first_of (nat_lt b 4) (luma_at samples.y b k) _ (below b 4 h))
+
+pub first_colour_predicted : (samples : Predicted) (b k : ℕ) → b ≡ 4 → get_or samples.cb k 0 ≡ predicted_at samples b k
+first_colour_predicted samples b k e = ap (λ (b : ℕ). predicted_at samples b k) (sym e)
+
+pub second_colour_predicted : (samples : Predicted) (b k : ℕ) → b ≡ 5 → get_or samples.cr k 0 ≡ predicted_at samples b k
+second_colour_predicted samples b k e = ap (λ (b : ℕ). predicted_at samples b k) (sym e)
+
+-- the samples of a plane from the corner of a block on, less predicted ones at some places, are what is left of the block
+pub left_of : (p : Picture) (samples : Predicted) (mb b : ℕ) (corner : Corner) (plane : Plane) (residuals : List ℤ) (place : ℕ → ℕ) → corner ≡ corner_of p.format mb b → corner.plane ≡ plane →
+    ((k : ℕ) → k < 64 → get_or residuals k (pos 0) ≡ (pos (sample_at p plane (corner.x + k % 8) (corner.y + k / 8)) -ℤ pos (place k))) →
+    ((k : ℕ) → k < 64 → place k ≡ predicted_at samples b k) →
+    (k : ℕ) → k < 64 → get_or residuals k (pos 0) ≡ (pos (sample_in_block p mb b k) -ℤ pos (predicted_at samples b k))
+left_of p samples mb b corner plane residuals place e same each from k h =
+    each k h
+    ∙ ap (λ (n : ℕ). pos (sample_at p plane (corner.x + k % 8) (corner.y + k / 8)) -ℤ pos n) (from k h)
+    ∙ ap (λ (plane : Plane). pos (sample_at p plane (corner.x + k % 8) (corner.y + k / 8)) -ℤ pos (predicted_at samples b k)) (sym same)
+    ∙ ap (λ (corner : Corner). pos (sample_at p corner.plane (corner.x + k % 8) (corner.y + k / 8)) -ℤ pos (predicted_at samples b k)) e
+
 -- what is left of a block at each place is the list of its residuals
-pub residuals_are : (p q : Picture) (r mb : ℕ) (v : Vector) (b : ℕ) (residuals : List ℤ) (predicted : List ℕ) → length residuals ≡ 64 →
-    ((k : ℕ) → k < 64 → get_or residuals k (pos 0) ≡ (pos (sample_in_block p mb b k) -ℤ pos (get_or predicted k 0))) →
-    ((k : ℕ) → k < 64 → get_or predicted k 0 ≡ predicted_in_block q r mb v b k) → residuals ≡ residuals_of p q r mb v b
+pub residuals_are : (p q : Picture) (r mb : ℕ) (v : Vector) (b : ℕ) (residuals : List ℤ) (predicted : ℕ → ℕ) → length residuals ≡ 64 →
+    ((k : ℕ) → k < 64 → get_or residuals k (pos 0) ≡ (pos (sample_in_block p mb b k) -ℤ pos (predicted k))) →
+    ((k : ℕ) → k < 64 → predicted k ≡ predicted_in_block q r mb v b k) → residuals ≡ residuals_of p q r mb v b
 unfolding residuals_of
 residuals_are p q r mb v b residuals predicted long each from =
     fill_by_all (λ (k : ℕ). pos (sample_in_block p mb b k) -ℤ pos (predicted_in_block q r mb v b k)) residuals 64 (pos 0) long

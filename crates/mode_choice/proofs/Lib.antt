@@ -1,3 +1,4 @@
+pub mod Lanes
 pub mod Levels
 pub mod Blocks
 pub mod Differences

@@ -13,11 +13,12 @@ ghost use Rattle.mode_choice.specs.Choice as choice;
 use crate::deviation::deviation;
 use crate::intra::intra_block;
 use crate::laws;
-use crate::predicted::predicted_blocks;
+use crate::predicted::block_residuals;
 use crate::residual::{are_empty, residual_block};
-use crate::samples::{block_residuals, block_samples};
+use crate::samples::block_samples;
 use h263_planes::PictureRef;
 use h263_types::{Block, Mb, Params, Vector, laws as types_laws};
+use half_sample::predict;
 use motion_search::search_from;
 use picture_header::Header;
 
@@ -190,10 +191,10 @@ fn inter_blocks(
         (picture reference.entry) header.now.quant keep header.now.rounding mb vector }
 {
     types_laws::one_more::<Block>();
-    let predicted = predicted_blocks(reference, mb, vector, header.rounding);
+    let predicted = predict(reference, mb, vector, header.rounding);
     for block in 0..6u32 {
         let number = block as usize;
-        let residuals = block_residuals(frame, mb, block, &predicted[number]);
+        let residuals = block_residuals(frame, mb, block, &predicted);
         out[number] = residual_block(header.quant, keep, &residuals);
     }
 }

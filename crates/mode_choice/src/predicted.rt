@@ -1,49 +1,139 @@
-//! What a vector predicts for the blocks of a macroblock (H.263, 6.1).
-ghost use Rattle.std.specs.Prelude.{◌≡◌, ℕ, ◌+◌, ◌*◌, ◌/◌, ◌%◌, ◌<◌, ◌≤◌, [], slice_index, slice_index_or};
+//! What a prediction leaves of the blocks of a macroblock (H.263, 6.1).
+ghost use Rattle.std.specs.Prelude.{◌≡◌, ℕ, ◌+◌, ◌*◌, ◌/◌, ◌%◌, ◌<◌, ◌≤◌, ◌-ℤ◌, All, length, pos, nat_eq, slice_index, slice_index_or, if◌then◌else◌};
 ghost use Rattle.h263_types.specs.Sizes.{mbs_of};
-ghost use Rattle.h263_types.specs.Vectors.{InReach};
+ghost use Rattle.h263_planes.specs.declared.Plane.TheVariants.{Y};
 ghost use Rattle.h263_planes.specs.Lent.{picture};
-ghost use Rattle.mode_choice.specs.Choice.{predicted_in_block};
+ghost use Rattle.h263_planes.specs.Samples.{Inside, sample_at};
+ghost use Rattle.idct8.specs.Ranges.{IsSample};
+ghost use Rattle.mode_choice.specs.Choice.{sample_in_block};
+ghost use Rattle.mode_choice.specs.Residuals.{luma_at, predicted_at};
 
-use h263_planes::PictureRef;
-use h263_types::Vector;
-use half_sample::predict;
+use h263_planes::{PictureRef, Plane, block_corner};
+use half_sample::Predicted;
+use std::simd::prelude::*;
 
-// The samples that a vector predicts for a macroblock's six blocks, each by rows.
-pub(crate) fn predicted_blocks(
-    reference: PictureRef<'_>,
+// The samples of block `block` of macroblock `mb` less the predicted ones, by rows. The predicted
+// ones are read where they stand: those of the four blocks of luma in 16 x 16 samples.
+pub(crate) fn block_residuals(
+    frame: PictureRef<'_>,
     mb: u32,
-    vector: Vector,
-    rounding: u8,
-) -> [[u8; 64]; 6]
-    requires mb { mb < mbs_of (picture reference).format }
-    requires reach { InReach (picture reference).format mb vector.x vector.y }
-    requires rounding { rounding ≤ 1 }
-    ensures { (b k : ℕ) → b < 6 → k < 64 → slice_index (slice_index_or result b []) k
-        ≡ predicted_in_block (picture reference.entry) rounding mb vector b k }
+    block: u32,
+    predicted: &Predicted,
+) -> [i16; 64]
+    requires mb { mb < mbs_of (picture frame).format }
+    requires block { block < 6 }
+    ensures long { length result ≡ 64 }
+    ensures residuals { (k : ℕ) → k < 64 → slice_index_or result k (pos 0)
+        ≡ (pos (sample_in_block (picture frame.entry) mb block k)
+        -ℤ pos (predicted_at predicted.now block k)) }
+    ensures range { All IsSample result }
 {
-    let samples = predict(reference, mb, vector, rounding);
-    [
-        quarter(&samples.y, 0),
-        quarter(&samples.y, 1),
-        quarter(&samples.y, 2),
-        quarter(&samples.y, 3),
-        samples.cb,
-        samples.cr,
-    ]
+    let corner = block_corner(frame.format(), mb, block);
+    if block < 4 {
+        luma_differences(frame, corner.x, corner.y, &predicted.y, block)
+    } else if block == 4 {
+        colour_differences(frame, Plane::Cb, corner.x, corner.y, &predicted.cb)
+    } else {
+        colour_differences(frame, Plane::Cr, corner.x, corner.y, &predicted.cr)
+    }
 }
 
-// Block `block` of the four blocks of 16 x 16 samples, in reading order.
-fn quarter(samples: &[u8; 256], block: usize) -> [u8; 64]
-    requires { block < 4 }
-    ensures { (j i : ℕ) → j < 8 → i < 8 → slice_index result (8 * j + i)
-        ≡ slice_index samples.now (16 * (8 * (block / 2) + j) + (8 * (block % 2) + i)) }
+// The 8 x 8 samples of luma from column `x` of row `y` on less those of a block among the four that
+// are predicted.
+#[inline(always)]
+fn luma_differences(
+    frame: PictureRef<'_>,
+    x: u32,
+    y: u32,
+    predicted: &[u8; 256],
+    block: u32,
+) -> [i16; 64]
+    requires inside { Inside (picture frame).format Y x (y + 7) 8 }
+    requires block { block < 4 }
+    ensures long { length result ≡ 64 }
+    ensures differences { (k : ℕ) → k < 64 → slice_index_or result k (pos 0)
+        ≡ (pos (sample_at (picture frame.entry) Y (x + k % 8) (y + k / 8))
+        -ℤ pos (luma_at predicted.now block k)) }
+    ensures range { All IsSample result }
 {
-    let from = 128 * (block / 2) + 8 * (block % 2);
-    let mut quarter = [0; 64];
-    for j in 0..8 {
-        let row = &samples[from + 16 * j..from + 16 * j + 8];
-        quarter[8 * j..8 * j + 8].copy_from_slice(row);
+    let from = 128 * (block as usize / 2) + 8 * (block as usize % 2);
+    differences(frame, Plane::Y, x, y, predicted, from, 16)
+}
+
+// The same of a block of colour, which is predicted alone.
+#[inline(always)]
+fn colour_differences(
+    frame: PictureRef<'_>,
+    plane: Plane,
+    x: u32,
+    y: u32,
+    predicted: &[u8; 64],
+) -> [i16; 64]
+    requires { Inside (picture frame).format plane x (y + 7) 8 }
+    ensures long { length result ≡ 64 }
+    ensures differences { (k : ℕ) → k < 64 → slice_index_or result k (pos 0)
+        ≡ (pos (sample_at (picture frame.entry) plane (x + k % 8) (y + k / 8))
+        -ℤ pos (slice_index predicted.now k)) }
+    ensures range { All IsSample result }
+{
+    differences(frame, plane, x, y, predicted, 0, 8)
+}
+
+// The 8 x 8 samples of a plane from column `x` of row `y` on less those predicted, by rows; the
+// predicted rows begin at place `from` and are `stride` apart.
+#[inline(always)]
+fn differences(
+    frame: PictureRef<'_>,
+    plane: Plane,
+    x: u32,
+    y: u32,
+    predicted: &[u8],
+    from: usize,
+    stride: usize,
+) -> [i16; 64]
+    requires inside { Inside (picture frame).format plane x (y + 7) 8 }
+    requires from { from ≤ 136 }
+    requires stride { stride ≤ 16 }
+    requires predicted { from + 7 * stride + 8 ≤ length predicted.now }
+    ensures long { length result ≡ 64 }
+    ensures differences { (k : ℕ) → k < 64 → slice_index_or result k (pos 0)
+        ≡ (pos (sample_at (picture frame.entry) plane (x + k % 8) (y + k / 8))
+        -ℤ pos (slice_index predicted.now (from + stride * (k / 8) + k % 8))) }
+    ensures range { All IsSample result }
+{
+    let mut residuals = [0; 64];
+    for j in 0..8u32 {
+        let row = frame.row(plane, x, y + j, 8);
+        let at = from + stride * j as usize;
+        put_difference(&mut residuals, j as usize, row, &predicted[at..at + 8]);
     }
-    quarter
+    residuals
+}
+
+// Writes row `j` of a block: eight samples less the predicted ones.
+#[inline(always)]
+fn put_difference(residuals: &mut [i16; 64], j: usize, row: &[u8], predicted: &[u8])
+    requires j { j < 8 }
+    requires row { length row.now ≡ 8 }
+    requires predicted { length predicted.now ≡ 8 }
+    ensures { (k : ℕ) → k < 64 → slice_index_or residuals.new k (pos 0)
+        ≡ (if nat_eq (k / 8) j
+        then pos (slice_index row.now (k % 8)) -ℤ pos (slice_index predicted.now (k % 8))
+        else slice_index_or residuals.old k (pos 0)) }
+{
+    let at = 8 * j;
+    residuals[at..at + 8].copy_from_slice(&difference(row, predicted));
+}
+
+// Eight bytes less eight others, taken in lanes.
+#[inline(always)]
+fn difference(row: &[u8], predicted: &[u8]) -> [i16; 8]
+    requires row { length row.now ≡ 8 }
+    requires predicted { length predicted.now ≡ 8 }
+    ensures { (x : ℕ) → x < 8 → slice_index_or result x (pos 0)
+        ≡ (pos (slice_index row.now x) -ℤ pos (slice_index predicted.now x)) }
+{
+    let samples: i16x8 = u8x8::from_slice(row).cast();
+    let predicted: i16x8 = u8x8::from_slice(predicted).cast();
+    (samples - predicted).to_array()
 }

@@ -1,7 +1,9 @@
 //! The levels of what a prediction leaves of a block.
-ghost use Rattle.std.specs.Prelude.{◌≡◌, ℕ, ◌*◌, ◌≤◌, All, IsTrue, pos, unsigned_abs};
+ghost use Rattle.std.specs.Prelude.{◌≡◌, ℕ, ◌*◌, ◌≤◌, All, IsTrue, pos, slice_index_or, unsigned_abs};
 ghost use Rattle.h263_types.specs.Blocks.{IsQuant};
 ghost use Rattle.idct8.specs.Ranges.{IsSample};
+ghost use Rattle.idct8.specs.Sums.{total};
+ghost use Rattle.idct8.specs.Vectors.{square};
 ghost use Rattle.quantiser.specs.Levels.{inter_level};
 ghost use Rattle.mode_choice.specs.Choice as choice;
 
@@ -24,35 +26,40 @@ pub(crate) fn residual_block(quant: u8, keep: u8, residuals: &[i16; 64]) -> Bloc
     }
 }
 
-// Whether residuals are so small that they leave no level, which needs no transform.
+// Whether residuals are so small that they leave no level, which needs no transform. Most blocks of
+// a still picture pass the first test: but for its rounding, the square of a coefficient is at most
+// the sum of the squares of the residuals. The second test looks at four parts of the block. Where
+// the sum is four times too large or more, one of the parts is too large, and it isn't asked.
 fn are_small(quant: u8, residuals: &[i16; 64]) -> bool
     requires quant { IsQuant quant }
     requires residuals { All IsSample residuals.now }
     ensures { IsTrue result
         → (k : ℕ) → inter_level quant (choice.coefficient_at residuals.now k) ≡ pos 0 }
 {
-    if squares_are_small(quant, residuals) {
+    idct8_laws::small_squares();
+    let least = least_size(Coding::Inter, quant);
+    let squares = sum_of_squares(residuals);
+    if squares + least + 1 < least * least {
         true
+    } else if squares < 4 * least * least {
+        are_below(residuals, least)
     } else {
-        are_below(residuals, least_size(Coding::Inter, quant))
+        false
     }
 }
 
-// The same by a quicker test, which most blocks of a still picture pass: but for its rounding, the
-// square of a coefficient is at most the sum of the squares of the residuals.
-fn squares_are_small(quant: u8, residuals: &[i16; 64]) -> bool
-    requires quant { IsQuant quant }
-    requires residuals { All IsSample residuals.now }
-    ensures { IsTrue result
-        → (k : ℕ) → inter_level quant (choice.coefficient_at residuals.now k) ≡ pos 0 }
+// The sum of the squares of the residuals.
+#[inline(always)]
+fn sum_of_squares(residuals: &[i16; 64]) -> u32
+    requires { All IsSample residuals.now }
+    ensures sum { result ≡ total 64 (λ k. square (slice_index_or residuals.now k (pos 0))) }
+    ensures most { result ≤ 4161600 }
 {
-    idct8_laws::small_squares();
     let mut squares = 0;
     for k in 0..64 {
         squares += square(residuals[k]);
     }
-    let least = least_size(Coding::Inter, quant);
-    squares + least + 1 < least * least
+    squares
 }
 
 // The square of a residual.

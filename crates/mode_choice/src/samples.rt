@@ -1,13 +1,12 @@
 //! The samples of a block.
-ghost use Rattle.std.specs.Prelude.{◌≡◌, ℕ, ◌+◌, ◌%◌, ◌/◌, ◌<◌, pos, ◌-ℤ◌, All, length, slice_index, slice_index_or, nat_eq, if◌then◌else◌};
+ghost use Rattle.std.specs.Prelude.{◌≡◌, ℕ, ◌+◌, ◌%◌, ◌/◌, ◌<◌, pos, All, length, slice_index, slice_index_or, nat_eq, if◌then◌else◌};
 ghost use Rattle.h263_types.specs.Sizes.{mbs_of};
 ghost use Rattle.h263_planes.specs.Lent.{picture};
 ghost use Rattle.h263_planes.specs.Samples.{Inside, IsPicture, sample_at};
 ghost use Rattle.idct8.specs.Ranges.{IsSample};
-ghost use Rattle.mode_choice.specs.Choice.{sample_in_block, samples_of};
+ghost use Rattle.mode_choice.specs.Choice.{samples_of};
 
 use h263_planes::{PictureRef, Plane, block_corner};
-use h263_types::laws as types_laws;
 use std::simd::prelude::*;
 
 // The samples of block `block` of macroblock `mb`, by rows. Each plane has code of its own, in which
@@ -42,29 +41,6 @@ fn square(frame: PictureRef<'_>, plane: Plane, x: u32, y: u32) -> [i16; 64]
         put_row(&mut samples, j as usize, row);
     }
     samples
-}
-
-// The samples of block `block` of macroblock `mb` less the predicted ones, by rows.
-pub(crate) fn block_residuals(
-    frame: PictureRef<'_>,
-    mb: u32,
-    block: u32,
-    predicted: &[u8; 64],
-) -> [i16; 64]
-    requires mb { mb < mbs_of (picture frame).format }
-    requires block { block < 6 }
-    ensures long { length result ≡ 64 }
-    ensures residuals { (k : ℕ) → k < 64 → slice_index_or result k (pos 0)
-        ≡ (pos (sample_in_block (picture frame.entry) mb block k)
-        -ℤ pos (slice_index predicted.now k)) }
-    ensures range { All IsSample result }
-{
-    types_laws::one_more::<i16>();
-    let mut residuals = block_samples(frame, mb, block);
-    for k in 0..64 {
-        residuals[k] -= i16::from(predicted[k]);
-    }
-    residuals
 }
 
 // Writes row `y` of a block.

@@ -86,11 +86,7 @@ exact q size f h is few =
     let less : size * e < 65536 * k = omega (arith, small, reaches, h.low) in
     div-div-eq-div-mul (size * f.number) 65536 k ∙ by_product (65536 * k) size (2 * q) f.number e (omega (arith, some)) number less
 
--- the factor has 16 bits
-pub number_small : (q k : ℕ) → IsQuant q → k < 2 * q → (32768 * k + (q - 1)) / q < 65536
-number_small q k h least = (div-lt_iff_lt-mul {k = q} {x = 32768 * k + (q - 1)} {y = 65536} (omega (arith, h.low))).1 (omega (arith, h.low, h.high, least))
-
--- and the power of two isn't above 32
+-- the power of two isn't above 32
 shift_by : (b : Bool) (q shift : ℕ) → nat_lt shift 6 ≡ b → IsQuant q → 2 ^ shift < 2 * q → shift < 6
 shift_by true q shift test h least = ltb-true _ _ test
 shift_by false q shift test h least =

@@ -1,9 +1,10 @@
-use Rattle.std.proofs.Common.{◌≡◌, ℕ, ◌<◌, arith, ap, ◌∙◌, List, [], get_or, length, length-set, ℤ}
+use Rattle.std.proofs.Common.{◌≡◌, ℕ, ◌<◌, arith, ap, ◌∙◌, List, length, length-set, ℤ}
 use Rattle.std.proofs.lemmas.List.FromFn.{fill_by_all}
 use Rattle.h263_types.specs.declared.blocks.Block.{Block}
 use Rattle.h263_planes.specs.Lent.{picture}
 use Rattle.mode_choice.specs.Choice.{residual_blocks_of, residual_levels_of, residuals_of}
-use Rattle.mode_choice.proofs.Blocks.{residuals_are}
+use Rattle.mode_choice.specs.Residuals.{predicted_at}
+use Rattle.mode_choice.proofs.Blocks.{residuals_are, six_predicted}
 use Rattle.mode_choice.proofs.macroblock.inter_blocks.Goals as goal
 
 pub loop-block-init : goal.loop-block-init
@@ -14,9 +15,9 @@ loop-block-preserved c =
     let p = picture c.args.frame in
     let q = picture c.args.reference in
     let b : ℕ = c.loop-block.block in
-    let predicted : List ℕ = get_or c.predicted_blocks-predicted.result b [] in
+    let predicted : ℕ → ℕ = predicted_at c.predict-predicted.result b in
     let block : ℕ → Block = λ b. residual_levels_of c.args.header.now.quant c.args.keep (residuals_of p q c.args.header.now.rounding c.args.mb c.args.vector b) in
-    let left = residuals_are p q c.args.header.now.rounding c.args.mb c.args.vector b c.block_residuals-residuals.result predicted c.block_residuals-residuals.ensures.long c.block_residuals-residuals.ensures.residuals (λ k h. c.predicted_blocks-predicted.ensures b k c.loop-block-test.true h) in
+    let left = residuals_are p q c.args.header.now.rounding c.args.mb c.args.vector b c.block_residuals-residuals.result predicted c.block_residuals-residuals.ensures.long c.block_residuals-residuals.ensures.residuals (λ k h. six_predicted q c.args.mb c.args.header.now.rounding c.args.vector c.predict-predicted.result c.predict-predicted.ensures b k c.loop-block-test.true h) in
     let now : c.residual_block.result ≡ block b = c.residual_block.ensures ∙ ap (λ (residuals : List ℤ). residual_levels_of c.args.header.now.quant c.args.keep residuals) left in
     let room : b < length c.loop-block.out = omega (arith, c.loop-block.invariant.0) in (
       length-set c.loop-block.out b _ ∙ c.loop-block.invariant.0,

@@ -1,7 +1,7 @@
 use Rattle.std.proofs.Common.{◌≡◌, ◌*◌, ◌≤◌, get_or, pos}
 use Rattle.idct8.specs.Sums.{total}
 use Rattle.idct8.specs.Vectors.{square}
-use Rattle.mode_choice.proofs.residual.squares_are_small.Given as goal
+use Rattle.mode_choice.proofs.residual.sum_of_squares.Given as goal
 
 -- the squares before k
 abbrev pub invariant-loop-k : goal.invariant-loop-k
