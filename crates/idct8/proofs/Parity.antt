@@ -172,7 +172,8 @@ unfolding total
 total_both a b zero f g = omega arith
 total_both a b (suc n) f g = omega (arith, total_both a b n f g)
 
-same_total : (n : ℕ) (f g : ℕ → ℕ) → ((k : ℕ) → f k ≡ g k) → total n f ≡ total n g
+-- equal terms, equal sums
+pub same_total : (n : ℕ) (f g : ℕ → ℕ) → ((k : ℕ) → f k ≡ g k) → total n f ≡ total n g
 unfolding total
 same_total zero f g h = refl
 same_total (suc n) f g h = omega (arith, same_total n f g h, h n)

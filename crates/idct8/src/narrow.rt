@@ -1,19 +1,20 @@
 //! The inverse transform in 16 bits. What a coded block holds is mostly zeros and small values, and
 //! then both passes fit 32 bits: no number of the basis is further from 0 than 2841, so no double
 //! sum is further than 2841 * 2841 times the sum of the sizes of the values.
-ghost use Rattle.std.specs.Prelude.{◌≡◌, ℕ, ◌*◌, ◌-◌, ◌^◌, ◌<◌, ◌≤◌, pos, ◌+ℤ◌, ◌*ℤ◌, All, slice_index_or};
+ghost use Rattle.std.specs.Prelude.{◌≡◌, ℕ, ◌+◌, ◌*◌, ◌-◌, ◌^◌, ◌<◌, ◌≤◌, pos, ◌+ℤ◌, ◌*ℤ◌, All, slice_index_or};
 ghost use Rattle.std.specs.Int.{int_shr};
 ghost use Rattle.std.specs.Simd.Lanes.{put_chunk};
 ghost use Rattle.h263_types.specs.Blocks.{IsValue};
 ghost use Rattle.idct8.specs.Ranges.{Within};
 ghost use Rattle.idct8.specs.Transform.{entry, inverse_at};
 ghost use Rattle.idct8.specs.Passes.{AreColumnSums, pass_at, row_sums, transform_at};
-ghost use Rattle.idct8.specs.Sizes.{sizes_of};
+ghost use Rattle.idct8.specs.Sizes.{cut_size, sizes_of};
+ghost use Rattle.idct8.specs.Sums.{total};
 ghost use Rattle.idct8.specs.Vectors.{lane, EightWithin, SumsWithin, column_at, sum_at};
 ghost use Rattle.idct8.specs.declared.passes.Direction.TheVariants.{Inverse};
 
 use crate::passes::{Sum, Sums};
-use crate::two_passes::{inverse, is_upper, row};
+use crate::two_passes::{inverse, row};
 use std::simd::prelude::*;
 
 // How large the sum of the sizes may be: 263 * 2841 * 2841 and half of the divisor 2^25 are less
@@ -46,28 +47,42 @@ const BASIS_6: [i32; 8] = [1108, -2676, 2676, -1108, -1108, 2676, -2676, 1108];
 const BASIS_7: [i32; 8] = [565, -1609, 2408, -2841, 2841, -2408, 1609, -565];
 
 /// The inverse transform of a block of values, as [`inverse`] gives it, in 16 bits. It is quick
-/// where the sum of the sizes of the values is at most 263.
+/// where the sum of the sizes of the values is at most 263, and quickest where only the first two
+/// rows have values, as in most blocks that are coded.
 pub fn narrow_inverse(values: &[i16; 64]) -> [i16; 64]
     requires { All IsValue values.now }
     ensures numbers { (y x : ℕ) → y < 8 → x < 8 → entry result y x ≡ inverse_at values.now y x }
     ensures range { (y x : ℕ) → y < 8 → x < 8 → Within 32000 (entry result y x) }
 {
-    if sizes(values) > MOST {
+    let first = sizes(values, 0, 16);
+    let second = sizes(values, 16, 32);
+    let last = sizes(values, 32, 64);
+    if first + second + last > MOST {
         return narrowed(&inverse(values));
     }
     let mut numbers = [0; 64];
-    small_inverse(values, &mut numbers);
+    if last > 0 {
+        inverse_of_rows(values, 8, &mut numbers);
+    } else if second > 0 {
+        inverse_of_rows(values, 4, &mut numbers);
+    } else {
+        inverse_of_rows(values, 2, &mut numbers);
+    }
     numbers
 }
 
-// The sum of the sizes of a block's values, where it is at most `MOST`; else it is more than that.
+// The sum of the sizes of a block's values from one place to another, of which none counts further
+// than `LARGE`.
 #[inline(always)]
-fn sizes(values: &[i16; 64]) -> u16
-    requires { All IsValue values.now }
-    ensures { result ≤ 263 → sizes_of values.now ≤ 263 }
+fn sizes(values: &[i16; 64], from: usize, to: usize) -> u16
+    requires values { All IsValue values.now }
+    requires order { from ≤ to }
+    requires places { to ≤ 64 }
+    ensures value { result ≡ total (to - from) (λ k. cut_size values.now (from + k)) }
+    ensures most { result ≤ 1023 * (to - from) }
 {
     let mut sum: u16 = 0;
-    for at in 0..64 {
+    for at in from..to {
         sum += values[at].unsigned_abs().min(LARGE);
     }
     sum
@@ -85,20 +100,6 @@ fn narrowed(numbers: &[i32; 64]) -> [i16; 64]
         narrow[at] = numbers[at] as i16;
     }
     narrow
-}
-
-// The inverse transform of small values. Most blocks have none in the last four rows.
-#[inline(always)]
-fn small_inverse(values: &[i16; 64], out: &mut [i16; 64])
-    requires values { All (Within (2 ^ 11)) values.now }
-    requires small { sizes_of values.now ≤ 263 }
-    ensures { (r k : ℕ) → r < 8 → k < 8 → entry out.new r k ≡ transform_at Inverse values.now r k }
-{
-    if is_upper(values) {
-        inverse_of_rows(values, 4, out);
-    } else {
-        inverse_of_rows(values, 8, out);
-    }
 }
 
 // The inverse transform of small values, of which those from row `count` on are zeros.
@@ -170,6 +171,7 @@ fn two_of_row(a: i16, m: [i32; 8], b: i16, n: [i32; 8]) -> i32x8
 // The second pass, and half of what rounding divides by: for each y the sum over v of
 // M[v][y] * s[v]. Lanes of 32 bits wrap, so what they hold on the way is right in its low 32 bits
 // whatever it is; and only the results have to fit.
+#[inline(always)]
 fn columns(s: Sums) -> Sums
     requires size { SumsWithin 46546944 s }
     requires fits { (y i : ℕ)

@@ -70,7 +70,7 @@ fn either_inverse(block: &[i16; 64], out: &mut [i32; 64])
 // Whether the last four rows are zeros, as in most blocks that are coded. It counts, since a loop
 // with an early end isn't done in lanes.
 #[inline(always)]
-pub(crate) fn is_upper(block: &[i16; 64]) -> bool
+fn is_upper(block: &[i16; 64]) -> bool
     ensures { IsTrue result → (j i : ℕ) → 4 ≤ j → j < 8 → i < 8 → entry block.now j i ≡ pos 0 }
 {
     let mut count: u16 = 0;

@@ -1,5 +1,5 @@
 -- Numbers that are kept as they are, and a block's first value.
-use Rattle.std.proofs.Common.{◌≡◌, ℕ, ◌^◌, ◌≤◌, ◌<◌, min, ℤ, pos, ◌+ℤ◌, ◌*ℤ◌, cond, nat_eq, ap, ◌∙◌, arith, to_z, of_z, w16, w32}
+use Rattle.std.proofs.Common.{◌≡◌, ℕ, ◌≤◌, ◌<◌, min, ℤ, pos, ◌+ℤ◌, cond, nat_eq, ap, ◌∙◌, arith, to_z, of_z, w16}
 use Rattle.std.proofs.lemmas.Int.{ints}
 use Rattle.std.proofs.lemmas.Bool.Decides.{nat_tests}
 use Rattle.h263_types.specs.declared.blocks.Block.{Block}

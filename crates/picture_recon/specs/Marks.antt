@@ -11,7 +11,7 @@ abbrev pub AreMarked : List ℤ → ℕ → Type 0
 AreMarked levels marks = (k : ℕ) → k < 64 → bit_at marks k ≡ 0 → slice_index_or levels k (pos 0) ≡ pos 0
 
 -- the values of the levels whose bits aren't in the rest stand at their places in the block, but for the first, and
--- zeros at the places of the others
+-- zeros at the first place and at those of the others
 pub record ArePut (quant : ℕ) (b : Block) (rest : ℕ) (values : List ℤ) : Type 0 where
   pub long : length values ≡ 64
   pub first : slice_index_or values 0 (pos 0) ≡ pos 0

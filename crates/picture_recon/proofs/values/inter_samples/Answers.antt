@@ -1,4 +1,4 @@
-use Rattle.std.proofs.Common.{◌≡◌, ℕ, ◌+◌, ◌*◌, ◌/◌, ◌%◌, ◌^◌, ℤ, pos, ◌+ℤ◌, ◌*ℤ◌, get_or, arith, ap, sym, ◌∙◌, subst, lit<}
+use Rattle.std.proofs.Common.{◌≡◌, ℕ, ◌+◌, ◌*◌, ◌/◌, ◌%◌, ℤ, pos, ◌+ℤ◌, ◌*ℤ◌, get_or, arith, ap, sym, ◌∙◌, subst, lit<}
 use Rattle.idct8.specs.Ranges.{Within}
 use Rattle.idct8.specs.Transform.{rounded}
 use Rattle.h263_types.specs.Blocks.{level_at}

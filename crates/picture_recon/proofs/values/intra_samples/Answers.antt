@@ -1,6 +1,5 @@
 use Rattle.std.proofs.Common.{◌≡◌, ℕ, ◌+◌, ◌*◌, ◌/◌, ◌%◌, ℤ, pos, ◌+ℤ◌, get_or, arith, ap, ◌∙◌, subst, sym}
 use Rattle.idct8.specs.Ranges.{Within}
-use Rattle.idct8.specs.Transform.{inverse_at}
 use Rattle.h263_types.specs.Blocks.{level_at}
 use Rattle.picture_recon.specs.Samples.{intra_values, limited}
 use Rattle.picture_recon.proofs.Kept.{same_dc}
