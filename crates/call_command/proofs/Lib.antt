@@ -10,6 +10,7 @@ mod Starting
 mod Cutting
 mod LineTurning
 mod Behind
+mod LineRead
 mod Capturing
 mod Framing
 mod Plain

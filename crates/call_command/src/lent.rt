@@ -122,26 +122,24 @@ pub fn converse<D: Desk>(
         params: *params,
         plain,
     };
-    match Carrier::start(alloc, &terms) {
-        Ok(carrier) => {
-            let mut world = World {
-                terms,
-                video,
-                sender,
-                receiver,
-                carrier,
-            };
-            let status = take_turns(desk, &mut world);
-            let World {
-                terms: _,
-                video: _video,
-                sender: _sender,
-                receiver: _receiver,
-                carrier,
-            } = world;
-            carrier.finish();
-            status
-        }
-        Err(_) => Status::OutOfMemory,
-    }
+    let Ok(carrier) = Carrier::start(alloc, &terms) else {
+        return Status::OutOfMemory;
+    };
+    let mut world = World {
+        terms,
+        video,
+        sender,
+        receiver,
+        carrier,
+    };
+    let status = take_turns(desk, &mut world);
+    let World {
+        terms: _,
+        video: _video,
+        sender: _sender,
+        receiver: _receiver,
+        carrier,
+    } = world;
+    carrier.finish();
+    status
 }

@@ -103,8 +103,8 @@ impl PartyEnds {
         let header = self.waiting.load();
         let mut messages = [NO_MESSAGE; 4];
         let count = put_messages(&header, &mut messages);
-        let coded = self.way.send(&mut self.sender, frame, &messages[..count]);
-        self.carried.note(coded.number, header);
+        let number = self.way.send(&mut self.sender, frame, &messages[..count]);
+        self.carried.note(number, header);
     }
 
     /// The reference of the picture that is played next, which was sent: none where it was coded

@@ -8,8 +8,8 @@
 //!
 //! ```rust
 //! let mut network = Network::start(alloc, &params, params.clock.period())?;
-//! let coded = network.way.send(&mut sender, frame, &[]);
-//! network.deliver_all(&mut receiver, coded.number);
+//! let number = network.way.send(&mut sender, frame, &[]);
+//! network.deliver_all(&mut receiver, number);
 //! let mark = network.play(&mut receiver);
 //! ```
 #![tactic(auto)]

@@ -15,7 +15,7 @@ ghost use Rattle.receiver_end.specs.declared.kept.Kept.{Kept};
 ghost use Rattle.receiver_end.specs.Answers.{mark_of};
 ghost use Rattle.receiver_end.specs.Decoding.{decoding};
 ghost use Rattle.receiver_end.specs.State as receiver_end;
-ghost use Rattle.one_way.specs.Both.{State, both_after, steady};
+ghost use Rattle.one_way.specs.Both.{IsSameSender, State, both_after, steady};
 ghost use Rattle.one_way.specs.Counts.{total_of};
 ghost use Rattle.one_way.specs.Network.{HasMessages, IsAmongLast, told_by};
 ghost use Rattle.one_way.specs.Trace.{delivered};
@@ -137,9 +137,8 @@ impl Network {
     /// Brings message `k` back to the sender. One that has left the ring is about a picture that
     /// isn't near.
     pub fn bring_back(&self, sender: &mut Sender<FixedPace>, k: u32)
-        ensures params { sender.new.params ≡ sender.old.params }
+        ensures same { IsSameSender sender.old sender.new }
         ensures sent { sender.new.sent ≡ sender.old.sent }
-        ensures pace { sender.new.pace ≡ sender.old.pace }
         ensures ready { CanSend self.now.way sender.old
             → CanSend self.now.way sender.new }
         ensures holds { (p : Params) (receiver : Kept) (before : List ReceiverEntry)

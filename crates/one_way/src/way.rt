@@ -20,7 +20,7 @@ ghost use Rattle.receiver_end.specs.declared.kept.Kept.{Kept};
 ghost use Rattle.receiver_end.specs.Answers.{mark_of};
 ghost use Rattle.receiver_end.specs.Decoding.{decoding};
 ghost use Rattle.receiver_end.specs.State as receiver_end;
-ghost use Rattle.one_way.specs.Both.{State, both_after, carrying, steady};
+ghost use Rattle.one_way.specs.Both.{IsSameSender, State, both_after, carrying, steady};
 ghost use Rattle.one_way.specs.Counts.{counts_with, total_of};
 ghost use Rattle.one_way.specs.Network.{AreRoomy, IsAmongLast, IsKeeping, said_in, told_by};
 ghost use Rattle.one_way.specs.Seen.{reference_in};
@@ -35,7 +35,7 @@ use h263_outside::OutOfMemory;
 use h263_planes::PictureRef;
 use h263_types::{FixedPace, Params};
 use receiver_end::{Heard, Played, Receiver};
-use sender_end::{Coded, Sender};
+use sender_end::Sender;
 use std::alloc::Global;
 
 /// What is kept of one way of a call: the packets and the references of the last pictures, and how
@@ -108,29 +108,25 @@ impl Way {
         })
     }
 
-    /// Sends the next picture, of this frame and with these messages in its header, and keeps its
-    /// packets and its reference.
+    /// Sends the next picture, of this frame and with these messages in its header, keeps its
+    /// packets and its reference, and answers its number.
     pub fn send(
         &mut self,
         sender: &mut Sender<FixedPace>,
         frame: PictureRef<'_>,
         back: &[Message],
-    ) -> Coded
+    ) -> u32
         requires few { length back.now ≤ 4 }
         requires back { AreMessages sender.old.params.clock back.now }
         requires frame { (lent frame).format ≡ sender.old.params.format }
         requires left { sender.old.sent < 1048576 }
         requires ready { CanSend self.old sender.old }
         ensures ready { CanSend self.new sender.new }
-        ensures params { sender.new.params ≡ sender.old.params }
+        ensures same { IsSameSender sender.old sender.new }
         ensures sent { sender.new.sent ≡ sender.old.sent + 1 }
-        ensures pace { sender.new.pace ≡ sender.old.pace }
         ensures kept { period_of self.new.packets ≡ period_of self.old.packets }
         ensures tally { self.new.tally ≡ self.old.tally }
-        ensures number { (p : Params) (receiver : Kept) (before : List ReceiverEntry)
-            (frames : List Frame) (past : List Event)
-            → HoldsWay p self.old sender.old receiver before frames past
-            → result.number ≡ sender.old.sent }
+        ensures number { result ≡ sender.old.sent }
         ensures holds { (p : Params) (receiver : Kept) (before : List ReceiverEntry)
             (frames : List Frame) (past : List Event)
             → HoldsWay p self.old sender.old receiver before frames past
@@ -141,10 +137,11 @@ impl Way {
     {
         laws::ends_run();
         laws::of_packets();
+        let number = sender.sent();
         let coded = sender.code(frame, back);
-        self.references.note(coded.number, coded.reference);
+        self.references.note(number, coded.reference);
         keep_packets(&mut self.packets, sender, coded.packets);
-        coded
+        number
     }
 
     /// How many packets are kept of a picture.
@@ -248,9 +245,8 @@ impl Way {
 
 /// Brings a message back to the sender, by its bytes.
 pub fn bring_back(sender: &mut Sender<FixedPace>, bytes: &[u8])
-    ensures params { sender.new.params ≡ sender.old.params }
+    ensures same { IsSameSender sender.old sender.new }
     ensures sent { sender.new.sent ≡ sender.old.sent }
-    ensures pace { sender.new.pace ≡ sender.old.pace }
     ensures ready { (way : Way) → CanSend way sender.old
         → CanSend way sender.new }
     ensures holds { (p : Params) (way : Way) (receiver : Kept) (before : List ReceiverEntry)

@@ -6,8 +6,8 @@ use Rattle.call_command.specs.Turning.{Names}
 use Rattle.call_command.proofs.Conversing.{alone_under_way, answers_itself, ends_in, left_standing, lent_first, lent_stand, stays_itself, under_way}
 use Rattle.call_command.proofs.lent.converse.Goals as goal
 
-pub returns-in-Ok-clause-gives : goal.returns-in-Ok-clause-gives
-returns-in-Ok-clause-gives g c = λ before inputs receives told.
+pub returns-clause-gives : goal.returns-clause-gives
+returns-clause-gives g c = λ before inputs receives told.
     let now = g.D.Desk.outside c.args.desk.now in
     let w : World = record {
       terms = record { params = c.args.params.now; plain = c.args.plain };
@@ -21,8 +21,8 @@ returns-in-Ok-clause-gives g c = λ before inputs receives told.
     let kept = lent_first w before inputs (c.of_the_way.ensures w.terms.params) fresh asks.sender_params asks.sends asks.sent asks.frames asks.receiver_params asks.played receives in
     c.take_turns-status.ensures.gives _ inputs now.written (under_way w before inputs now fresh.lines asks.frames kept told c.of_turns.ensures)
 
-pub returns-in-Ok-clause-whole_input : goal.returns-in-Ok-clause-whole_input
-returns-in-Ok-clause-whole_input g c = λ before inputs receives told.
+pub returns-clause-whole_input : goal.returns-clause-whole_input
+returns-clause-whole_input g c = λ before inputs receives told.
     let now = g.D.Desk.outside c.args.desk.now in
     let w : World = record {
       terms = record { params = c.args.params.now; plain = c.args.plain };
@@ -36,8 +36,8 @@ returns-in-Ok-clause-whole_input g c = λ before inputs receives told.
     let kept = lent_first w before inputs (c.of_the_way.ensures w.terms.params) fresh asks.sender_params asks.sends asks.sent asks.frames asks.receiver_params asks.played receives in
     c.take_turns-status.ensures.whole_input _ inputs now.written (under_way w before inputs now fresh.lines asks.frames kept told c.of_turns.ensures)
 
-pub returns-in-Ok-clause-stands : goal.returns-in-Ok-clause-stands
-returns-in-Ok-clause-stands g c = λ before inputs receives told.
+pub returns-clause-stands : goal.returns-clause-stands
+returns-clause-stands g c = λ before inputs receives told.
     let now = g.D.Desk.outside c.args.desk.now in
     let w : World = record {
       terms = record { params = c.args.params.now; plain = c.args.plain };
@@ -58,18 +58,18 @@ returns-in-Ok-clause-stands g c = λ before inputs receives told.
     (ap (λ (n : Names). n.terms) names) (search (rules, sender_is)) (search (rules, receiver_is))
     (left_standing c.take_turns-status.result final machine (c.take_turns-status.ensures.leaves final (ends_in w before inputs now fresh.lines asks.frames kept told)))
 
-pub returns-in-Ok-clause-pace : goal.returns-in-Ok-clause-pace
-returns-in-Ok-clause-pace g c =
+pub returns-clause-pace : goal.returns-clause-pace
+returns-clause-pace g c =
     let names = stays_itself c.take_turns-status.ensures.stays in
     let sender_is = sym (ap (λ (n : Names). n.sender) names) in
     let pace_is = ap (λ (n : Names). n.pace) names in
     search (rules, sender_is, pace_is)
 
-pub returns-in-Ok-clause-answers : goal.returns-in-Ok-clause-answers
-returns-in-Ok-clause-answers g c = answers_itself c.take_turns-status.result c.take_turns-status.ensures.answers
+pub returns-clause-answers : goal.returns-clause-answers
+returns-clause-answers g c = answers_itself c.take_turns-status.result c.take_turns-status.ensures.answers
 
-pub returns-in-Ok-clause-alone : goal.returns-in-Ok-clause-alone
-returns-in-Ok-clause-alone g c = λ run inputs start receives u.
+pub returns-clause-alone : goal.returns-clause-alone
+returns-clause-alone g c = λ run inputs start receives u.
     let now = g.D.Desk.outside c.args.desk.now in
     let w : World = record {
       terms = record { params = c.args.params.now; plain = c.args.plain };
@@ -85,7 +85,7 @@ returns-in-Ok-clause-alone g c = λ run inputs start receives u.
     (λ rest. lent_first w [] rest (c.of_the_way.ensures w.terms.params) fresh asks.sender_params asks.sends asks.sent asks.frames asks.receiver_params asks.played receives)
     (c.talks_agree.ensures w.terms asks.opens.params) run inputs start now u)
 
-pub returns-in-Err-clause-alone : goal.returns-in-Err-clause-alone
-returns-in-Err-clause-alone g c = λ run inputs start receives u.
+pub returns-in_default-clause-alone : goal.returns-in_default-clause-alone
+returns-in_default-clause-alone g c = λ run inputs start receives u.
     c.of_runs.ensures.no_memory (first_state (record { params = c.args.params.now; plain = c.args.plain }) [] c.args.video.now.at) call_step may_read run inputs start (most_turns c.args.plain)
     (g.D.Desk.outside c.args.desk.now) u

@@ -107,9 +107,9 @@ returns-in_err-play_next g c =
     let p = x.terms.params in
     let r = c.requires.ready in
     let out = c.frame.new.out in
-    let n = c.send-coded.result.number in
+    let n = c.send-sent.result in
     turn_was_cut m _ old new c.from_residual-in_err-play_next.result c.in_err-play_next.field-0.0 c.from_residual-in_err-play_next.ensures.1
-    (ap (λ (q : FixedPace). let names : Names = record (names_of m) { pace = q } in names) c.send-coded.ensures.pace) c.in_err-play_next.ensures.kind
+    (ap (λ (q : FixedPace). let names : Names = record (names_of m) { pace = q } in names) c.send-sent.ensures.same.pace) c.in_err-play_next.ensures.kind
     (c.calls.ensures.rose_since old.faults.write mid.faults.write new.faults.write c.frame.ensures.rest.faults.write c.in_err-play_next.ensures.cause)
     (keeps_then old mid new (reads_keep old mid c.frame.ensures.rest) (writes_keep mid new c.play_next.ensures.rest))
     (λ s inputs k told.
@@ -125,18 +125,18 @@ returns-in_err-play_next g c =
     let picture_is : picture c.new-frame.result ≡ picture_of p.format out = c.new-frame.ensures.picture ∙ ap (λ (l : List ℕ). picture_of p.format l) out_is in
     let all = s.frames ++ bare (picture_of p.format out) ∷ [] in
     let h = k.holds (bare (picture_of p.format out) ∷ []) in
-    let number = c.send-coded.ensures.number p x.receiver s.before all s.past h.way_holds in
-    let sent = c.send-coded.ensures.holds p x.receiver s.before all s.past h.way_holds
+    let number = c.send-sent.ensures.number in
+    let sent = c.send-sent.ensures.holds p x.receiver s.before all s.past h.way_holds
     (at x laws events later_law s inputs k level out [] ∙ ap (λ (o : Picture). Some (bare o)) (sym picture_is)) (may_send x laws events later_law s inputs k level out [])
     in
-    let delivered = c.deliver_all.ensures.holds p c.send-coded.new.sender s.before all (Send ∷ s.past) (record { way_holds = sent; messages_are = h.messages_are })
-    (among_last x laws events later_law s inputs k level out [] c.send-coded.new.self.packets n number (plain_keeps x.terms _ (c.send-coded.ensures.kept ∙ r.period) c.requires.plain))
+    let delivered = c.deliver_all.ensures.holds p c.send-sent.new.sender s.before all (Send ∷ s.past) (record { way_holds = sent; messages_are = h.messages_are })
+    (among_last x laws events later_law s inputs k level out [] c.send-sent.new.self.packets n number (plain_keeps x.terms _ (c.send-sent.ensures.kept ∙ r.period) c.requires.plain))
     (may_deliver x laws events later_law s inputs k level out [] n number)
     in
     let texts = texts_are x laws events later_law s inputs k level out n c.deliver_all.new.receiver.played number c.deliver_all.ensures.played in
     plainly x s inputs k.is c.requires.plain (λ (step : Step CallState) (now : Bool). GainsFronts (step_texts step) old.written new.written)
     (frame_cut c.of_turns.ensures c.of_the_video.ensures inputs old mid told c.frame.ensures.others c.frame.ensures.rest.written new c.play_next.ensures.rest.left here (r.unread c.requires.plain) out c.frame.new.self e _ texts
-    (c.in_err-play_next.ensures.err p c.send-coded.new.sender s.before all _ k.begun delivered
+    (c.in_err-play_next.ensures.err p c.send-sent.new.sender s.before all _ k.begun delivered
     (may_play x laws events later_law s inputs k level out [] n (count_of x laws events later_law s inputs k level out [] n)))))
 
 pub returns : goal.returns
@@ -150,8 +150,8 @@ returns g c =
     let p = x.terms.params in
     let r = c.requires.ready in
     let out = c.frame.new.out in
-    let n = c.send-coded.result.number in
-    let sender = c.send-coded.new.sender in
+    let n = c.send-sent.result in
+    let sender = c.send-sent.new.sender in
     let receiver = c.play_next.new.receiver in
     let network = c.play_next.new.network in
     let carrier : Carrier = record x.carrier { frame = with_items x.carrier.frame out; network = network } in
@@ -162,15 +162,15 @@ returns g c =
     ∙ omega (arith, c.frame.auto.out, c.deref_mut.ensures.len, x.carrier.frame.ok.0, r.frame)
     in
     let level = r.level c.requires.plain in
-    turn_goes_on m _ old new (ap (λ (q : FixedPace). let names : Names = record (names_of m) { pace = q } in names) c.send-coded.ensures.pace)
+    turn_goes_on m _ old new (ap (λ (q : FixedPace). let names : Names = record (names_of m) { pace = q } in names) c.send-sent.ensures.same.pace)
     (subst (λ (b : Bool). (if b then c.frame.new.self.more else 16777216 - x.carrier.trace.lines) + 1 ≡ (if b then x.video.more else 16777216 - x.carrier.trace.lines)) (sym c.requires.plain) moves.1)
-    (ready_so x old.attached new.attached r (c.play_next.ensures.rest.attached ∙ c.frame.ensures.rest.attached) c.frame.new.self sender receiver carrier moves.0 c.send-coded.ensures.params
-    (subst (λ (w : Way). CanSend w sender) (sym way) (can_still c.send-coded.new.self network.way.tally sender c.send-coded.ensures.ready))
-    (ap (λ (w : Way). period_of w.packets) way ∙ c.send-coded.ensures.kept)
-    (omega (arith, r.sent, c.send-coded.ensures.sent, moves.1)) (omega (arith, r.played, c.send-coded.ensures.sent, c.play_next.ensures.played, c.deliver_all.ensures.played))
-    (λ plain. omega (arith, level, c.send-coded.ensures.sent, c.play_next.ensures.played, c.deliver_all.ensures.played))
+    (ready_so x old.attached new.attached r (c.play_next.ensures.rest.attached ∙ c.frame.ensures.rest.attached) c.frame.new.self sender receiver carrier moves.0 c.send-sent.ensures.same.params
+    (subst (λ (w : Way). CanSend w sender) (sym way) (can_still c.send-sent.new.self network.way.tally sender c.send-sent.ensures.ready))
+    (ap (λ (w : Way). period_of w.packets) way ∙ c.send-sent.ensures.kept)
+    (omega (arith, r.sent, c.send-sent.ensures.sent, moves.1)) (omega (arith, r.played, c.send-sent.ensures.sent, c.play_next.ensures.played, c.deliver_all.ensures.played))
+    (λ plain. omega (arith, level, c.send-sent.ensures.sent, c.play_next.ensures.played, c.deliver_all.ensures.played))
     long (λ plain. r.unread plain) c.play_next.ensures.counted
-    (omega (arith, r.said, c.play_next.ensures.few, c.deliver_all.ensures.few, c.send-coded.ensures.ready.most, few_mbs sender.params.format, c.send-coded.ensures.sent)))
+    (omega (arith, r.said, c.play_next.ensures.few, c.deliver_all.ensures.few, c.send-sent.ensures.ready.most, few_mbs sender.params.format, c.send-sent.ensures.sent)))
     (keeps_then old mid new (reads_keep old mid c.frame.ensures.rest) (writes_keep mid new c.play_next.ensures.rest))
     (λ s inputs k told.
     let here = state_of x s.before s.frames s.past in
@@ -183,16 +183,16 @@ returns g c =
     let out_is : c.deref.result.now ≡ out = lent x.carrier.frame out c.deref.result.now _ c.deref.ensures.value c.frame.auto.out c.deref_mut.ensures.len in
     let picture_is : picture c.new-frame.result ≡ picture_of p.format out = c.new-frame.ensures.picture ∙ ap (λ (l : List ℕ). picture_of p.format l) out_is in
     let f : Frame = bare (picture_of p.format out) in
-    let number = c.send-coded.ensures.number p x.receiver s.before (s.frames ++ f ∷ []) s.past (k.holds (f ∷ [])).way_holds in
+    let number = c.send-sent.ensures.number in
     let delivered : (later : List Frame) → HoldsNetwork p c.deliver_all.new.self sender c.deliver_all.new.receiver s.before (s.frames ++ f ∷ later) (delivered n (count_of x laws events later_law s inputs k level out later n) ++ Send ∷ s.past) =
     λ later.
     let all = s.frames ++ f ∷ later in
     let h = k.holds (f ∷ later) in
-    let sent = c.send-coded.ensures.holds p x.receiver s.before all s.past h.way_holds
+    let sent = c.send-sent.ensures.holds p x.receiver s.before all s.past h.way_holds
     (at x laws events later_law s inputs k level out later ∙ ap (λ (o : Picture). Some (bare o)) (sym picture_is)) (may_send x laws events later_law s inputs k level out later)
     in
     c.deliver_all.ensures.holds p sender s.before all (Send ∷ s.past) (record { way_holds = sent; messages_are = h.messages_are })
-    (among_last x laws events later_law s inputs k level out later c.send-coded.new.self.packets n number (plain_keeps x.terms _ (c.send-coded.ensures.kept ∙ r.period) c.requires.plain))
+    (among_last x laws events later_law s inputs k level out later c.send-sent.new.self.packets n number (plain_keeps x.terms _ (c.send-sent.ensures.kept ∙ r.period) c.requires.plain))
     (may_deliver x laws events later_law s inputs k level out later n number)
     in
     let played : (later : List Frame) → HoldsNetwork p network sender receiver s.before (s.frames ++ f ∷ later) (passed_on n (count_of x laws events later_law s inputs k level out later n) s.past) =
@@ -205,6 +205,6 @@ returns g c =
     plainly x s inputs k.is c.requires.plain (λ (step : Step CallState) (now : Bool). Went step stands may_read now inputs old new)
     (frame_goes c.of_turns.ensures c.of_the_video.ensures inputs old mid told c.frame.ensures.others c.frame.ensures.rest.written new c.play_next.ensures.rest.left here (r.unread c.requires.plain) out c.frame.new.self e _ texts
     stands
-    (stands_after x laws events later_law s inputs k level out c.frame.new.self sender receiver carrier n size (behind inputs (of Video size)) number played refl c.send-coded.ensures.sent e.2 moves.1 refl)
+    (stands_after x laws events later_law s inputs k level out c.frame.new.self sender receiver carrier n size (behind inputs (of Video size)) number played refl c.send-sent.ensures.sent e.2 moves.1 refl)
     (c.in_ok-play_next.ensures.ok p sender s.before (s.frames ++ f ∷ []) _ k.begun (delivered [])
     (may_play x laws events later_law s inputs k level out [] n (count_of x laws events later_law s inputs k level out [] n)))))

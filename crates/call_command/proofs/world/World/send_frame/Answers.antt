@@ -87,9 +87,9 @@ returns g c =
     ∙ omega (arith, c.frame.auto.out, c.deref_mut.ensures.len, x.carrier.frame.ok.0, r.frame)
     in
     goes_on m _ old mid (IsAsked x c.args.line old) (λ s inputs. capture_step s (inputs Events) (inputs Video)) (λ _. true) (more_of x + 1)
-    (ap (λ (q : FixedPace). let names : Names = record (names_of m) { pace = q } in names) send.ensures.pace)
+    (ap (λ (q : FixedPace). let names : Names = record (names_of m) { pace = q } in names) send.ensures.same.pace)
     (subst (λ (b : Bool). (if b then c.frame.new.self.more else 16777216 - x.carrier.trace.lines) + 1 ≡ (if b then x.video.more else 16777216 - x.carrier.trace.lines) + 1) (sym c.requires.recorded) refl)
-    (ready_so x old.attached mid.attached r c.frame.ensures.rest.attached c.frame.new.self sender x.receiver carrier moves.0 send.ensures.params send.ensures.ready send.ensures.kept
+    (ready_so x old.attached mid.attached r c.frame.ensures.rest.attached c.frame.new.self sender x.receiver carrier moves.0 send.ensures.same.params send.ensures.ready send.ensures.kept
     (omega (arith, r.sent, send.ensures.sent, moves.1)) (omega (arith, r.played, send.ensures.sent)) (λ plain. absurd (cc (plain, c.requires.recorded))) long
     (λ plain. absurd (cc (plain, c.requires.recorded))) (ap total_of send.ensures.tally ∙ r.counted) (omega (arith, r.said, send.ensures.sent)))
     (reads_keep old mid c.frame.ensures.rest)

@@ -30,7 +30,7 @@ returns-clause-ready c =
     record {
       params = r.params;
       frame = ap (λ (l : List ℕ). length l) (with_items_is m.frame c.make_frame.new.bytes (omega (arith, c.make_frame.ensures.size, r.frame, m.frame.ok.0))) ∙ c.make_frame.ensures.size;
-      sender_params = sent.params ∙ r.sender_params;
+      sender_params = sent.same.params ∙ r.sender_params;
       can = sent.ready;
       period = sent.kept ∙ r.period;
       few = omega (arith, sent.sent, c.requires.left);

@@ -110,7 +110,7 @@ returns-in-Back-clause-ready c =
     record {
       params = r.params;
       frame = r.frame;
-      sender_params = back.params ∙ r.sender_params;
+      sender_params = back.same.params ∙ r.sender_params;
       can = back.ready r.can;
       period = r.period;
       few = omega (arith, back.sent, r.few);

@@ -23,8 +23,8 @@ use Rattle.duplex_ends.proofs.Lists.{carried_placed, get_last, last_few}
 use Rattle.duplex_ends.proofs.Runs.{party_same, told_sent}
 use Rattle.duplex_ends.proofs.party.PartyEnds.send.Goals as goal
 
-pub send-coded-requires-clause-back : goal.send-coded-requires-clause-back
-send-coded-requires-clause-back c =
+pub send-number-requires-clause-back : goal.send-number-requires-clause-back
+send-number-requires-clause-back c =
     let e = c.requires.held.both in
     let p = e.params in
     let x = e.party in
@@ -44,13 +44,13 @@ send-coded-requires-clause-back c =
     subst (λ (l : List Message). AreMessages c.args.self.now.sender.params.clock l) (sym is)
     (subst (λ (clock : Clock). AreMessages clock (map message_in (last_four (drop w.loaded told)))) clock fit)
 
-pub send-coded-requires-clause-frame : goal.send-coded-requires-clause-frame
-send-coded-requires-clause-frame c =
+pub send-number-requires-clause-frame : goal.send-number-requires-clause-frame
+send-number-requires-clause-frame c =
     let one = c.requires.held.both.holds.own_holds in
     c.requires.frame ∙ ap (λ (p : Params). p.format) (one.params ∙ sym one.done.joined.sender_params)
 
-pub send-coded-requires-clause-ready : goal.send-coded-requires-clause-ready
-send-coded-requires-clause-ready c = c.requires.held.both.holds.own_holds.can
+pub send-number-requires-clause-ready : goal.send-number-requires-clause-ready
+send-number-requires-clause-ready c = c.requires.held.both.holds.own_holds.can
 
 pub returns-clause-holds : goal.returns-clause-holds
 returns-clause-holds c = λ p x far ways left h may.
@@ -83,14 +83,14 @@ returns-clause-holds c = λ p x far ways left h may.
     let coded = (c.of_the_way.ensures P).sent own.sender own.receiver [] w.frames w.past one.done.joined in
     let near = near_send P Q own w v one picture later (agree P (h.in_range x) calls nears own.way own.sender own.receiver w one.done) coded left may in
     let held = holds_later P later own.way own.sender own.receiver w.frames w.past (new_frame ∷ []) one.done in
-    let done = c.send-coded.ensures.holds P own.receiver [] next.frames w.past held at near in
-    let number : c.send-coded.result.number ≡ length one.carries.headers =
-    c.send-coded.ensures.number P own.receiver [] next.frames w.past held ∙ one.sent ∙ sym one.headers ∙ sym one.carries.count
+    let done = c.send-number.ensures.holds P own.receiver [] next.frames w.past held at near in
+    let number : c.send-number.result ≡ length one.carries.headers =
+    c.send-number.ensures.number ∙ one.sent ∙ sym one.headers ∙ sym one.carries.count
     in
-    let new : PartyEnds = record own { sender = c.send-coded.new.sender; way = c.send-coded.new.self; carried = c.note.new.self; waiting = c.load-header.new.self } in
+    let new : PartyEnds = record own { sender = c.send-number.new.sender; way = c.send-number.new.self; carried = c.note.new.self; waiting = c.load-header.new.self } in
     with_one p x new far ways next h.in_range h.clock
-    (party_sent P Q own w v one picture new refl done (c.send-coded.ensures.ready) c.send-coded.ensures.kept c.send-coded.ensures.sent c.requires.left refl
-    (ap total_of c.send-coded.ensures.tally) c.note.ensures.kept (c.note.ensures.holds one.carries.headers messages one.carries.holds number loaded) c.load-header.ensures.none)
+    (party_sent P Q own w v one picture new refl done (c.send-number.ensures.ready) c.send-number.ensures.kept c.send-number.ensures.sent c.requires.left refl
+    (ap total_of c.send-number.ensures.tally) c.note.ensures.kept (c.note.ensures.holds one.carries.headers messages one.carries.holds number loaded) c.load-header.ensures.none)
     (party_same Q P far v w two next
     (told_sent P (c.later_calls.ensures P) w (new_frame ∷ []) next.carried next.loaded (ideally P (h.in_range x) calls nears own.way own.sender own.receiver w one.done)))
 

@@ -38,18 +38,6 @@ returns-clause-ready c =
     (record { pictures = can.keeping.pictures ++ code.new.self.packets ∷ []; keeps = kept.kept can.keeping.pictures can.keeping.keeps })
     (omega (arith, kept.begun, can.begun, code.ensures.sent))
 
-pub returns-clause-number : goal.returns-clause-number
-returns-clause-number c = λ p receiver before frames past h.
-    let old = c.args.sender.now in
-    let quant = c.args.sender.now.pace.quant in
-    let same : quant ≡ p.quant = c.requires.ready.quant_is ∙ ap (λ (q : Params). q.quant) h.joined.sender_params in
-    let frame = carrying (picture c.args.frame) c.args.back.now in
-    let runs = c.ends_run.ensures p in
-    let tells = send_tells p runs (steady p) old receiver frames before past h.joined frame c.code-coded.result
-    (tells_so p quant same old frame c.code-coded.result c.code-coded.ensures.tells (sent_in p (steady p) frames before past) h.joined.sends)
-    in
-    tells.number_is ∙ sym (sent_is p runs (steady p) old receiver frames before past h.joined)
-
 pub returns-clause-holds : goal.returns-clause-holds
 returns-clause-holds c = λ p receiver before frames past h at near.
     let old = c.args.sender.now in
@@ -68,7 +56,7 @@ returns-clause-holds c = λ p receiver before frames past h at near.
     (stands_so p quant same old new (Capture frame) c.code-coded.ensures.stands entries h.joined.sends)
     in
     let notes : (list : List (Option ℕ)) → AreNoted c.args.self.now.references list → length coded ≡ length list → AreNoted c.note.new.self (list ++ next.reference ∷ []) =
-    λ list noted long. subst (λ (r : Option ℕ). AreNoted c.note.new.self (list ++ r ∷ [])) tells.reference (c.note.ensures list noted (tells.number_is ∙ long))
+    λ list noted long. subst (λ (r : Option ℕ). AreNoted c.note.new.self (list ++ r ∷ [])) tells.reference (c.note.ensures list noted (c.sent-number.ensures.value ∙ sent_is p runs (steady p) old receiver frames before past h.joined ∙ long))
     in
     holds_send p c.args.self.now old receiver before frames past h runs new frame c.keep_packets.new.packets c.note.new.self near
     (ap (λ (k : ℕ). slice_get frames k) (sym (sent_is p runs (steady p) old receiver frames before past h.joined)) ∙ at)

@@ -1,0 +1,103 @@
+-- A turn over a recorded trace is what its line says, once the line was read.
+use Rattle.std.proofs.Common.{◌≡◌, ◌≢◌, ℕ, ◌+◌, ◌-◌, ◌≤◌, Bool, List, Option, Some, Result, Ok, refl, sym, subst, arith}
+use Rattle.std.specs.Prelude.{if◌then◌else◌, false}
+use Rattle.h263_outside.specs.Desk.{OnlyReads, Outside, Rose}
+use Rattle.h263_outside.specs.declared.desk.Role.{Role}
+use Rattle.h263_outside.specs.declared.desk.Role.TheVariants.{Events}
+use Rattle.loss_trace.specs.declared.event.Event.{Event as Line}
+use Rattle.loss_trace.specs.declared.fault.TraceStop.{TraceStop}
+use Rattle.loss_trace.specs.declared.reader.TraceReader.{TraceReader}
+use Rattle.loss_trace.specs.Reader.{EventGives, Moves}
+use Rattle.call_report.specs.declared.status.Status.{Status}
+use Rattle.desk_program.specs.Run.{Step}
+use Rattle.desk_program.specs.Ends.{Falls, Tells, TurnGives}
+use Rattle.desk_program.specs.Laws.{TurnLaws}
+use Rattle.call_command.specs.declared.world.World.{World}
+use Rattle.call_command.specs.Call.{CallState, by_ends, event_step, may_read, talk_step}
+use Rattle.call_command.specs.Standing.{HasRoom, Parts, PartsReady, PartsStand, more_of, parts_of, state_of}
+use Rattle.call_command.specs.Turning.{IsRead, TakesLine, TakesTurn}
+use Rattle.call_command.proofs.Behind.{stood_behind}
+use Rattle.call_command.proofs.Counting.{cause_since, keeps_then, line_by_line, reads_keep}
+use Rattle.call_command.proofs.LineTurning.{found_could, found_is, found_number, found_taken}
+use Rattle.call_command.proofs.Readying.{ready_so}
+
+-- the world with its trace read on
+abbrev pub read_on : World → TraceReader → World
+read_on m after = record m { carrier = record m.carrier { trace = after } }
+
+-- this line of the trace was read, and nothing else was done
+pub record IsLineRead (m : World) (after : TraceReader) (line : ℕ) (event : Line) (old mid : Outside) : Type 0 where
+  pub laws : TurnLaws
+  pub rose : (a b c : ℕ) → a ≤ b → Rose b c → Rose a c
+  pub recorded : m.terms.plain ≡ false
+  pub gives : (text : List ℕ) → old.left Events ≡ Some text → EventGives (Ok (Some (line, event))) m.carrier.trace text after (mid.left Events)
+  pub moves : Moves (Ok (Some (line, event))) m.carrier.trace after
+  pub others : (r : Role) → r ≢ Events → mid.left r ≡ old.left r
+  pub rest : OnlyReads old mid
+
+-- by what the reader of the trace answers
+pub line_read : (m : World) (after : TraceReader) (line : ℕ) (event : Line) (old mid : Outside) (answer : Result (Option (ℕ × Line)) TraceStop) → answer ≡ Ok (Some (line, event))
+    → TurnLaws → ((a b c : ℕ) → a ≤ b → Rose b c → Rose a c) → m.terms.plain ≡ false
+    → ((text : List ℕ) → old.left Events ≡ Some text → EventGives answer m.carrier.trace text after (mid.left Events)) → Moves answer m.carrier.trace after
+    → ((r : Role) → r ≢ Events → mid.left r ≡ old.left r) → OnlyReads old mid → IsLineRead m after line event old mid
+line_read m after line event old mid answer is laws rose recorded gives moves others rest = record {
+  laws = laws;
+  rose = rose;
+  recorded = recorded;
+  gives = λ text left. subst (λ (q : Result (Option (ℕ × Line)) TraceStop). EventGives q m.carrier.trace text after (mid.left Events)) is (gives text left);
+  moves = subst (λ (q : Result (Option (ℕ × Line)) TraceStop). Moves q m.carrier.trace after) is moves;
+  others = others;
+  rest = rest;
+}
+
+module _ {m : World} {after : TraceReader} {line : ℕ} {event : Line} {old mid : Outside} (w : IsLineRead m after line event old mid) where
+  abbrev x : Parts
+  x = parts_of m
+
+  pub room_read : PartsReady x old.attached → HasRoom (parts_of (read_on m after))
+  room_read ready = omega (arith, w.moves.2, ready.said)
+
+  pub ready_read : PartsReady x old.attached → PartsReady (parts_of (read_on m after)) mid.attached
+  ready_read ready =
+      ready_so x old.attached mid.attached ready w.rest.attached x.video x.sender x.receiver (record x.carrier { trace = after })
+      refl refl ready.can refl ready.sent ready.played ready.level ready.frame (λ plain. absurd (cc (plain, w.recorded))) ready.counted (omega (arith, ready.said, w.moves.2))
+
+  was_read : (s : CallState) (inputs : Role → List ℕ) → PartsStand x s inputs → Tells old inputs
+      → IsRead (parts_of (read_on m after)) line mid old (state_of x s.before s.frames s.past) inputs
+  was_read s inputs k told =
+      let here = state_of x s.before s.frames s.past in
+      let e = w.gives (inputs Events) (told Events refl) in
+      record {
+        stood = stood_behind x s inputs k w.recorded after _ w.moves.2 e.0;
+        number = found_number w.laws here inputs old mid told w.others w.rest.written m.carrier.trace after (record { lines_are = refl; ended_is = refl }) (line, event) e w.moves after.few;
+        taken = found_taken w.laws here inputs old mid told w.others w.rest.written m.carrier.trace after (record { lines_are = refl; ended_is = refl }) (line, event) e w.moves after.few;
+      }
+
+  -- what the line makes of the world and the desk, the turn makes of them
+  pub line_taken : (y : World) (result : Result Bool Status) (new : Outside)
+      → TakesLine (read_on m after) y line event result mid new → TakesTurn m y result old new
+  line_taken y result new t = record {
+    gives = λ o s inputs b.
+        let here = state_of x s.before s.frames s.past in
+        let stands = PartsStand (parts_of y) in
+        let e = w.gives (inputs Events) (b.told Events refl) in
+        let step_is = found_is w.laws here inputs old mid b.told w.others w.rest.written m.carrier.trace after (record { lines_are = refl; ended_is = refl }) (line, event) e w.moves after.few in
+        let could = found_could w.laws here inputs old mid b.told w.others w.rest.written m.carrier.trace after (record { lines_are = refl; ended_is = refl }) (line, event) e w.moves after.few in
+        subst (λ (q : Outside). TurnGives result (talk_step s inputs) stands may_read (may_read s) inputs q new) (sym b.same)
+        (line_by_line x s inputs b.stands.is w.recorded (λ (step : Step CallState) (now : Bool). TurnGives result step stands may_read now inputs old new)
+        (subst (λ (step : Step CallState). TurnGives result step stands may_read (may_read here) inputs old new) (sym step_is)
+        (subst (λ (b : Bool). TurnGives result (event_step by_ends here inputs (inputs Events) event) stands may_read b inputs old new) (sym could)
+        (t.gives old here inputs (was_read s inputs b.stands b.told)))));
+    whole = λ o s inputs b. t.whole old _ inputs (was_read s inputs b.stands b.told);
+    keeps = t.keeps;
+    lasts = t.lasts;
+    falls =
+        subst (λ (n : ℕ). Falls result n (more_of (parts_of y)))
+        (subst (λ (b : Bool). (if b then x.video.more else 16777216 - after.lines) + 1 ≡ (if b then x.video.more else 16777216 - m.carrier.trace.lines)) (sym w.recorded)
+        (omega (arith, w.moves.2, after.few))) t.falls;
+    ready = t.ready;
+    answers = t.answers;
+    stop = t.stop;
+    cause = cause_since _ old.faults mid.faults new.faults w.rest.faults w.rose t.cause;
+    rest = keeps_then old mid new (reads_keep old mid w.rest) t.rest;
+  }
