@@ -6,6 +6,7 @@ use Rattle.h263_types.specs.declared.format.Format.{Format}
 use Rattle.h263_types.specs.Sizes.{columns_of}
 use Rattle.h263_types.specs.declared.vector.Vector.{Vector}
 use Rattle.h263_types.specs.declared.blocks.Mb.{Mb}
+use Rattle.h263_types.specs.declared.blocks.Mb.TheVariants.{Skip, Intra, Inter}
 use Rattle.picture_header.specs.declared.header.Header.{Header}
 use Rattle.macroblock_layer.specs.Prediction.{no_vector, predictor_of}
 use Rattle.macroblock_layer.specs.Written.{mb_text}
@@ -31,25 +32,45 @@ begun w h begins first text len kind format from next quant vectors = record {
   vectors = ap (take (next_of w)) vectors ∙ take-replicate (next_of w) 396 no_vector w.within ∙ ap (λ (k : ℕ). replicate k no_vector) next ∙ sym (append-nil (replicate first no_vector));
 }
 
--- what is written of the next macroblock is its text after those that are held
-pub next_is : (w : SliceWriter) (h : Header) (begins : Bool) (first : ℕ) (mbs : List Mb) (m : Mb) (predictor : Vector) → HoldsSlice w h begins first mbs
-    → predictor ≡ predictor_of (take (next_of w) w.vectors) (first_of w) (next_of w) (columns_of (format_of w))
-    → mb_text (kind_of w) (quant_of w) predictor m ≡ next_text h first mbs m
-next_is w h begins first mbs m predictor holds e =
-    let p : predictor ≡ next_predictor h.format first mbs =
-    e ∙ ap (λ (l : List Vector). predictor_of l (first_of w) (next_of w) (columns_of (format_of w))) holds.vectors ∙ ap (λ (k : ℕ). predictor_of (vectors_of first mbs) k (next_of w) (columns_of (format_of w))) holds.from
-    ∙ ap (λ (k : ℕ). predictor_of (vectors_of first mbs) first k (columns_of (format_of w))) holds.next ∙ ap (λ (f : Format). predictor_of (vectors_of first mbs) first (first + length mbs) (columns_of f)) holds.format in
-    ap (λ (k : Kind). mb_text k (quant_of w) predictor m) holds.kind ∙ ap (λ (q : ℕ). mb_text h.kind q predictor m) holds.quant ∙ ap (λ (v : Vector). mb_text h.kind (quant_behind h.quant mbs) v m) p
+-- the prediction of the next macroblock's vector
+abbrev pub prediction : SliceWriter → Vector
+prediction w = predictor_of (take (next_of w) w.vectors) (first_of w) (next_of w) (columns_of (format_of w))
 
-pub next_length : (w : SliceWriter) (h : Header) (begins : Bool) (first : ℕ) (mbs : List Mb) (m : Mb) (predictor : Vector) → HoldsSlice w h begins first mbs
-    → predictor ≡ predictor_of (take (next_of w) w.vectors) (first_of w) (next_of w) (columns_of (format_of w))
-    → length (slice_text h begins first (mbs ++ m ∷ [])) ≡ w.len + length (mb_text (kind_of w) (quant_of w) predictor m)
-next_length w h begins first mbs m predictor holds e =
+-- a vector with which a macroblock has the text that it has with the prediction
+abbrev pub Serves : SliceWriter → Mb → Vector → Type 0
+Serves w m v = mb_text (kind_of w) (quant_of w) v m ≡ mb_text (kind_of w) (quant_of w) (prediction w) m
+
+abbrev pub HasNoVector : Mb → Type 0
+HasNoVector Skip = Unit {0}
+HasNoVector (Intra quant blocks) = Unit {0}
+HasNoVector (Inter quant v blocks) = ⊥
+
+-- each does where there is no vector to predict
+pub not_predicted : (kind : Kind) (quant : ℕ) (a b : Vector) (m n : Mb) → m ≡ n → HasNoVector n → mb_text kind quant a m ≡ mb_text kind quant b m
+not_predicted kind quant a b m n same none = subst (λ (x : Mb). mb_text kind quant a x ≡ mb_text kind quant b x) (sym same) (each n none)
+  where
+    each : (n : Mb) → HasNoVector n → mb_text kind quant a n ≡ mb_text kind quant b n
+    each Skip none = refl
+    each (Intra q blocks) none = refl
+    each (Inter q v blocks) none = absurd none
+
+-- what is written of the next macroblock is its text after those that are held
+pub next_is : (w : SliceWriter) (h : Header) (begins : Bool) (first : ℕ) (mbs : List Mb) (m : Mb) (v : Vector) → HoldsSlice w h begins first mbs → Serves w m v
+    → mb_text (kind_of w) (quant_of w) v m ≡ next_text h first mbs m
+next_is w h begins first mbs m v holds serves =
+    let p : prediction w ≡ next_predictor h.format first mbs =
+    ap (λ (l : List Vector). predictor_of l (first_of w) (next_of w) (columns_of (format_of w))) holds.vectors ∙ ap (λ (k : ℕ). predictor_of (vectors_of first mbs) k (next_of w) (columns_of (format_of w))) holds.from
+    ∙ ap (λ (k : ℕ). predictor_of (vectors_of first mbs) first k (columns_of (format_of w))) holds.next ∙ ap (λ (f : Format). predictor_of (vectors_of first mbs) first (first + length mbs) (columns_of f)) holds.format in
+    serves ∙ ap (λ (k : Kind). mb_text k (quant_of w) (prediction w) m) holds.kind ∙ ap (λ (q : ℕ). mb_text h.kind q (prediction w) m) holds.quant ∙ ap (λ (u : Vector). mb_text h.kind (quant_behind h.quant mbs) u m) p
+
+pub next_length : (w : SliceWriter) (h : Header) (begins : Bool) (first : ℕ) (mbs : List Mb) (m : Mb) (v : Vector) → HoldsSlice w h begins first mbs → Serves w m v
+    → length (slice_text h begins first (mbs ++ m ∷ [])) ≡ w.len + length (mb_text (kind_of w) (quant_of w) v m)
+next_length w h begins first mbs m v holds serves =
     omega (
       arith,
       ap length (slice_text-append h begins first mbs m),
       length-append (slice_text h begins first mbs) (next_text h first mbs m),
-      ap length (next_is w h begins first mbs m predictor holds e),
+      ap length (next_is w h begins first mbs m v holds serves),
       holds.len,
     )
 

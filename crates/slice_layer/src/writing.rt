@@ -7,7 +7,7 @@ ghost use Rattle.h263_types.specs.declared.blocks.Mb.{Mb};
 ghost use Rattle.picture_header.specs.declared.header.Header.{Header};
 ghost use Rattle.picture_header.specs.Ranges.{IsHeader};
 ghost use Rattle.macroblock_layer.specs.Prediction.{predictor_of};
-ghost use Rattle.macroblock_layer.specs.Written.{IsStepped};
+ghost use Rattle.macroblock_layer.specs.Written.{IsStepped, mb_text};
 ghost use Rattle.slice_layer.specs.Around.{vector_of, quant_after};
 
 use crate::shared::{quant_after, vector_of};
@@ -74,17 +74,23 @@ impl<'a> SliceWriter<'a> {
         }
     }
 
-    // The prediction of the next macroblock's vector.
-    fn predictor(&self) -> Vector
-        ensures { result ≡ predictor_of (take (next_of self.now) self.now.vectors)
-            (first_of self.now) (next_of self.now) (columns_of (format_of self.now)) }
+    // The prediction of the next macroblock's vector; any vector does where it has none.
+    fn predictor(&self, mb: &Mb) -> Vector
+        ensures { mb_text (kind_of self.now) (quant_of self.now) result mb.now
+            ≡ mb_text (kind_of self.now) (quant_of self.now)
+            (predictor_of (take (next_of self.now) self.now.vectors)
+            (first_of self.now) (next_of self.now) (columns_of (format_of self.now))) mb.now }
     {
-        predictor(
-            &self.vectors[..self.next as usize],
-            self.first,
-            self.next,
-            self.format.columns(),
-        )
+        match mb {
+            Mb::Skip => Vector::ZERO,
+            Mb::Intra { .. } => Vector::ZERO,
+            Mb::Inter { .. } => predictor(
+                &self.vectors[..self.next as usize],
+                self.first,
+                self.next,
+                self.format.columns(),
+            ),
+        }
     }
 
     // The bits after the last whole byte.
@@ -139,7 +145,7 @@ impl<'a> SliceWriter<'a> {
         ensures room { length (bytes_in self.new) ≡ length (bytes_in self.old) }
     {
         picture_header_laws::in_a_syntax();
-        let predictor = self.predictor();
+        let predictor = self.predictor(mb);
         let front = self.last_bits();
         let count = self.len % 8;
         let mut apart = [0; 1063];
