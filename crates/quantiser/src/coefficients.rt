@@ -37,7 +37,7 @@ pub fn level_intra(quant: u8, coefficient: i32) -> i16
 }
 
 /// A coefficient limited to 16 bits. It has the same levels, since none is beyond 127
-/// ([`limited_coefficients`](laws::limited_coefficients)).
+/// ([`limited_coefficients`](crate::laws::limited_coefficients)).
 #[inline(always)]
 pub fn limited(coefficient: i32) -> i16
     requires { IsCoefficient coefficient }
