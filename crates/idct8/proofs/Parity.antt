@@ -178,7 +178,8 @@ unfolding total
 same_total zero f g h = refl
 same_total (suc n) f g h = omega (arith, same_total n f g h, h n)
 
-two_sizes : (a b : ℤ) → unsigned_abs (a +ℤ b) ≤ unsigned_abs a + unsigned_abs b
+-- a sum is no larger than its parts together
+pub two_sizes : (a b : ℤ) → unsigned_abs (a +ℤ b) ≤ unsigned_abs a + unsigned_abs b
 two_sizes a b = omega (arith, ints)
 
 -- a sum of numbers that are each at most so large, all times a factor

@@ -1,7 +1,7 @@
 -- 32 bits suffice for the inverse transform of a block where the sum of the sizes of its values is at most 263. No number
 -- of the basis is further from 0 than 2841, so each sum of a row is at most 2841 times the sizes in this row, and a sum
 -- over the rows at most 2841 times those: 2841 * 2841 * 263, 2,122,746,903, to which rounding adds 2^24.
-use Rattle.std.proofs.Common.{◌≡◌, ℕ, zero, suc, ◌+◌, ◌-◌, ◌*◌, ◌<◌, ◌≤◌, min, ℤ, pos, negsuc, ◌+ℤ◌, ◌*ℤ◌, List, slice_index_or, unsigned_abs, arith, refl, ap, ◌∙◌, sym, subst, lit<, below_more, zero-add, Bool, true, false, nat_le}
+use Rattle.std.proofs.Common.{◌≡◌, ℕ, zero, suc, ◌+◌, ◌-◌, ◌*◌, ◌<◌, ◌≤◌, min, ℤ, pos, negsuc, ◌*ℤ◌, List, slice_index_or, unsigned_abs, arith, refl, ap, ◌∙◌, sym, subst, lit<, below_more, zero-add, Bool, true, false, nat_le}
 use Rattle.std.proofs.lemmas.Bool.{leb-true, leb-false}
 use Rattle.std.proofs.lemmas.Int.{ints, unsigned_abs-mul}
 use Rattle.std.proofs.Math.Nat.{mul-le-mul}
@@ -14,13 +14,10 @@ use Rattle.idct8.specs.Sums.{sum_below, total}
 use Rattle.idct8.specs.Transform.{entry}
 use Rattle.idct8.specs.Vectors.{lane, column_at, sum_at}
 use Rattle.idct8.proofs.Factors.{factor_small, pass_of}
-use Rattle.idct8.proofs.Parity.{same_total, total_scaled}
+use Rattle.idct8.proofs.Parity.{same_total, total_scaled, two_sizes}
 use Rattle.idct8.proofs.Wraps.{abs_from_within, within_from_abs}
 
 -- ---- the size of a sum
-
-two_sizes : (a b : ℤ) → unsigned_abs (a +ℤ b) ≤ unsigned_abs a + unsigned_abs b
-two_sizes a b = omega (arith, ints)
 
 size_of_sum : (n : ℕ) (f : ℕ → ℤ) (g : ℕ → ℕ) → ((k : ℕ) → k < n → unsigned_abs (f k) ≤ g k) → unsigned_abs (sum_below n f) ≤ total n g
 unfolding sum_below total

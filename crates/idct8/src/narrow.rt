@@ -13,6 +13,7 @@ ghost use Rattle.idct8.specs.Sums.{total};
 ghost use Rattle.idct8.specs.Vectors.{lane, EightWithin, SumsWithin, column_at, sum_at};
 ghost use Rattle.idct8.specs.declared.passes.Direction.TheVariants.{Inverse};
 
+use crate::parts::{HALF, ROUNDED_BITS};
 use crate::passes::{Sum, Sums};
 use crate::two_passes::{inverse, row};
 use std::simd::prelude::*;
@@ -20,11 +21,6 @@ use std::simd::prelude::*;
 // How large the sum of the sizes may be: 263 * 2841 * 2841 and half of the divisor 2^25 are less
 // than 2^31.
 const MOST: u16 = 263;
-
-// What rounding to the nearest takes away, and its half.
-const ROUNDED_BITS: i32 = 25;
-
-const HALF: i32 = 0x100_0000;
 
 // A size counts no further than this, so that 64 of them fit 16 bits. It is more than `MOST`.
 const LARGE: u16 = 1023;

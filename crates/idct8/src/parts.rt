@@ -12,9 +12,9 @@ use std::simd::prelude::*;
 const LOW_BITS: i32 = 13;
 
 // What rounding to the nearest takes away, and its half.
-const ROUNDED_BITS: i32 = 25;
+pub(crate) const ROUNDED_BITS: i32 = 25;
 
-const HALF: i32 = 0x100_0000;
+pub(crate) const HALF: i32 = 0x100_0000;
 
 // The high and the low part of each sum.
 #[inline(always)]

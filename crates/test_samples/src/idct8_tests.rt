@@ -3,7 +3,7 @@ ghost use Rattle.std.specs.Prelude.{◌<◌, All};
 ghost use Rattle.h263_types.specs.Blocks.{IsValue};
 ghost use Rattle.idct8.specs.Ranges.{IsSample};
 
-use idct8::{are_below, forward, inverse};
+use idct8::{are_below, forward, inverse, narrow_inverse};
 
 // The basis as the standard's cosines give it: row u at place x.
 const M: [[i64; 8]; 8] = [
@@ -92,6 +92,7 @@ fn transforms_are_the_double_sums(rt: HostRuntime) {
         let values = values_of(kind);
         let samples = samples_of(kind);
         let backward = inverse(&values);
+        let narrow = narrow_inverse(&values);
         let onward = forward(&samples);
         for at in 0..64 {
             assert_eq!(rt;
@@ -99,6 +100,7 @@ fn transforms_are_the_double_sums(rt: HostRuntime) {
                 slow_inverse(&values, at),
                 "{kind} at {at}"
             );
+            assert_eq!(rt; i32::from(narrow[at]), backward[at], "{kind} at {at}");
             assert_eq!(rt;
                 i64::from(onward[at]),
                 slow_forward(&samples, at),
