@@ -2,9 +2,10 @@
 ghost use Rattle.std.specs.Prelude.{◌≡◌, ◌<◌, true, OnOk};
 ghost use Rattle.h263_types.specs.Params.{IsParams};
 ghost use Rattle.h263_outside.specs.Desk.{NoneAttached};
-ghost use Rattle.h263_outside.specs.declared.desk.Role.TheVariants.{Video, Pictures, Report};
+ghost use Rattle.h263_outside.specs.declared.desk.Role.TheVariants.{Video, Events, Pictures};
+ghost use Rattle.h263_outside.specs.declared.desk.Role.TheVariants.{Report};
 
-use call_command::{Call, Terms, converse};
+use call_command::{Both, Call, Terms, converse};
 use call_report::Status;
 use desk_program::attach_all;
 use h263_outside::{Desk, MemoryDesk, OutOfMemory, Role};
@@ -17,7 +18,8 @@ use std::alloc::Global;
 use std::process::Abort;
 use std::test::Fail;
 use test_desks::{
-    Case, Differs, EXACT, FRAME, HEAD, HELD, NEVER, NOTHING, Parts, SHOWN_HEAD, joined, run,
+    Case, Differs, EXACT, FRAME, HEAD, HELD, NEVER, NOTHING, Parts, SHOWN_HEAD, joined, repeated,
+    run,
 };
 use y4m::{Y4mFault, Y4mReader};
 
@@ -454,16 +456,18 @@ const FLAT_50: &[u8] = &[50; 18_432];
 
 const DARKER: Parts<'static> = &[HEAD, FRAME, FLAT_50];
 
-// Attaches the roles of a call over the plain trace on a desk on which nothing is attached.
+// Attaches the roles of a call on a desk on which nothing is attached.
 fn attach_roles<D: Desk>(desk: &mut D) -> Result<(), OutOfMemory>
     requires { NoneAttached (D.outside desk.old).attached }
     ensures video { OnOk result ((D.outside desk.new).attached Video ≡ true) }
+    ensures events { OnOk result ((D.outside desk.new).attached Events ≡ true) }
     ensures pictures { OnOk result ((D.outside desk.new).attached Pictures ≡ true) }
     ensures report { OnOk result ((D.outside desk.new).attached Report ≡ true) }
 {
     let order = &[
         (Role::Report, ""),
         (Role::Video, "in"),
+        (Role::Events, "trace"),
         (Role::Pictures, "out"),
     ];
     match attach_all(desk, order) {
@@ -477,6 +481,7 @@ fn attach_roles<D: Desk>(desk: &mut D) -> Result<(), OutOfMemory>
 fn conversed(alloc: Global) -> Result<(Status, bool, bool), OutOfMemory> {
     let mut desk = MemoryDesk::new(alloc, 4096, 200_000)?;
     desk.put(Role::Video, &joined(alloc, DARKER)?)?;
+    desk.put(Role::Events, b"")?;
     attach_roles(&mut desk)?;
     let Ok(mut video) = Y4mReader::head(&mut desk) else {
         return Err(OutOfMemory);
@@ -524,5 +529,78 @@ fn converse_with_a_receiver_that_had_heard(rt: HostRuntime) -> Result<(), Fail> 
         Err(OutOfMemory) => conversed(rt.alloc())?,
     };
     assert_eq!(rt; seen, (Status::Ok, true, true));
+    Ok(())
+}
+
+// ---- what a refused trace leaves of its video
+
+// How a call over this trace ends, and whether the second of two frames is left of its video, whole
+// and alone.
+fn refused(alloc: Global, trace: &[u8]) -> Result<(Status, bool), OutOfMemory> {
+    let mut desk = MemoryDesk::new(alloc, 65_536, 200_000)?;
+    desk.put(Role::Video, &joined(alloc, TWO)?)?;
+    desk.put(Role::Events, trace)?;
+    attach_roles(&mut desk)?;
+    let Ok(mut video) = Y4mReader::head(&mut desk) else {
+        return Err(OutOfMemory);
+    };
+    let params = Params::of(video.format());
+    let mut both = Both::start(alloc, &params)?;
+    let status = converse(
+        alloc,
+        &mut desk,
+        &params,
+        false,
+        &mut video,
+        &mut both.sender,
+        &mut both.receiver,
+    );
+    both.finish();
+    let mut rest = vec![in alloc; 0; 40_000]?;
+    let Ok(count) = desk.read(Role::Video, &mut rest) else {
+        return Err(OutOfMemory);
+    };
+    let second = joined(alloc, &[FRAME, PICTURE])?;
+    Ok((status, &rest[..count] == second.as_slice()))
+}
+
+const BAD_AT_3: Status = Status::TraceRefused {
+    fault: TraceFault::BadLine { line: 3 },
+};
+
+const TOO_MANY: Status = Status::TraceRefused {
+    fault: TraceFault::TooMany { line: 16_777_217 },
+};
+
+// The same. A run in which memory ran out is taken again, and is then to reach its end.
+fn check_refused(
+    rt: &impl Abort,
+    alloc: Global,
+    trace: &[u8],
+    ends: Status,
+) -> Result<(), OutOfMemory> {
+    let seen = match refused(alloc, trace) {
+        Ok((Status::OutOfMemory, _)) | Err(OutOfMemory) => refused(alloc, trace)?,
+        Ok(seen) => seen,
+    };
+    assert_eq!(rt; seen, (ends, true));
+    Ok(())
+}
+
+// Each of these traces asks for one frame, and the next one is there after a line that is bad or
+// refused.
+#[test]
+fn a_refused_line_leaves_the_next_frame(rt: HostRuntime) -> Result<(), Fail> {
+    check_refused(&rt, rt.alloc(), b"S\nX\nS\n", BAD)?;
+    check_refused(&rt, rt.alloc(), b"S\n\nX", BAD_AT_3)?;
+    check_refused(&rt, rt.alloc(), b"S\nB 0\nS\n", NOT_SAID)?;
+    Ok(())
+}
+
+// So it is after a line too many.
+#[test]
+fn too_many_lines_leave_the_next_frame(rt: HostRuntime) -> Result<(), Fail> {
+    let trace = repeated(rt.alloc(), &[(b"S\n", 1), (b"\n", 16_777_215), (b"S\n", 1)])?;
+    check_refused(&rt, rt.alloc(), &trace, TOO_MANY)?;
     Ok(())
 }
