@@ -196,8 +196,8 @@ fn read_lead(reader: &mut BitReader<'_>, kind: Kind) -> Result<Lead, Fault>
     }
 }
 
-// The macroblock after a class: its quantiser is in force from here on. Its blocks are read into
-// one array, which is moved once.
+// The macroblock after a class: its quantiser is in force from here on. Its blocks are read where
+// they stay.
 #[tactic(auto, unfolding(crate::specs::Text::intra_mb, h263_bits::specs::Syntax::reading))]
 fn read_intra_mb(
     reader: &mut BitReader<'_>,
@@ -209,10 +209,14 @@ fn read_intra_mb(
     ensures { Gives
         (λ _. out.new) result reader.new (reading (intra_mb quant cbpy cbpc) reader.old) }
 {
-    let mut blocks = [Block { levels: [0; 64] }; 6];
-    read_intra_blocks(reader, cbpy, cbpc, &mut blocks)?;
-    *out = Mb::Intra { quant, blocks };
-    Ok(())
+    *out = Mb::Intra {
+        quant,
+        blocks: [Block { levels: [0; 64] }; 6],
+    };
+    match out {
+        Mb::Intra { blocks, .. } => read_intra_blocks(reader, cbpy, cbpc, blocks),
+        _ => Ok(()),
+    }
 }
 
 #[tactic(auto, unfolding(crate::specs::Text::inter_mb, h263_bits::specs::Syntax::reading))]
@@ -229,14 +233,15 @@ fn read_inter_mb(
         (reading (inter_mb reach predictor quant cbpy cbpc) reader.old) }
 {
     let vector = read_vector(reader, reach, predictor)?;
-    let mut blocks = [Block { levels: [0; 64] }; 6];
-    read_inter_blocks(reader, cbpy, cbpc, &mut blocks)?;
     *out = Mb::Inter {
         quant,
         vector,
-        blocks,
+        blocks: [Block { levels: [0; 64] }; 6],
     };
-    Ok(())
+    match out {
+        Mb::Inter { blocks, .. } => read_inter_blocks(reader, cbpy, cbpc, blocks),
+        _ => Ok(()),
+    }
 }
 
 // The quantiser after a step, limited to 1 to 31.
