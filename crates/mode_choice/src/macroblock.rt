@@ -206,8 +206,9 @@ fn intra_macroblock(frame: PictureRef<'_>, mb: u32, quant: u8, keep: u8, out: &m
     ensures { out.new ≡ choice.intra_of (picture frame.entry) quant keep mb }
 {
     let mut coded = [Block { levels: [0; 64] }; 6];
+    let mut samples = [0; 64];
     for block in 0..6u32 {
-        let samples = block_samples(frame, mb, block);
+        block_samples(frame, mb, block, &mut samples);
         coded[block as usize] = intra_block(quant, keep, &samples);
     }
     *out = Mb::Intra {

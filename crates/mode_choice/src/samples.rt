@@ -2,45 +2,42 @@
 ghost use Rattle.std.specs.Prelude.{◌≡◌, ℕ, ◌+◌, ◌%◌, ◌/◌, ◌<◌, pos, All, length, slice_index, slice_index_or, nat_eq, if◌then◌else◌};
 ghost use Rattle.h263_types.specs.Sizes.{mbs_of};
 ghost use Rattle.h263_planes.specs.Lent.{picture};
-ghost use Rattle.h263_planes.specs.Samples.{Inside, IsPicture, sample_at};
+ghost use Rattle.h263_planes.specs.Samples.{Inside, sample_at};
 ghost use Rattle.idct8.specs.Ranges.{IsSample};
 ghost use Rattle.mode_choice.specs.Choice.{samples_of};
 
 use h263_planes::{PictureRef, Plane, block_corner};
 use std::simd::prelude::*;
 
-// The samples of block `block` of macroblock `mb`, by rows. Each plane has code of its own, in which
-// its begin and its width are known before the first row.
-pub(crate) fn block_samples(frame: PictureRef<'_>, mb: u32, block: u32) -> [i16; 64]
+// Fetches the samples of block `block` of macroblock `mb`, by rows. Each plane has code of its own,
+// in which its begin and its width are known before the first row.
+pub(crate) fn block_samples(frame: PictureRef<'_>, mb: u32, block: u32, samples: &mut [i16; 64])
     requires mb { mb < mbs_of (picture frame).format }
     requires block { block < 6 }
-    ensures samples { result ≡ samples_of (picture frame.entry) mb block }
-    ensures range { All IsSample result }
-    ensures whole { IsPicture (picture frame.entry) }
+    ensures samples { samples.new ≡ samples_of (picture frame.entry) mb block }
+    ensures range { All IsSample samples.new }
 {
     let corner = block_corner(frame.format(), mb, block);
     match corner.plane {
-        Plane::Y => square(frame, Plane::Y, corner.x, corner.y),
-        Plane::Cb => square(frame, Plane::Cb, corner.x, corner.y),
-        Plane::Cr => square(frame, Plane::Cr, corner.x, corner.y),
+        Plane::Y => square(frame, Plane::Y, corner.x, corner.y, samples),
+        Plane::Cb => square(frame, Plane::Cb, corner.x, corner.y, samples),
+        Plane::Cr => square(frame, Plane::Cr, corner.x, corner.y, samples),
     }
 }
 
-// The 8 x 8 samples of a plane from column `x` of row `y` on, by rows.
+// Fetches the 8 x 8 samples of a plane from column `x` of row `y` on, by rows.
 #[inline(always)]
-fn square(frame: PictureRef<'_>, plane: Plane, x: u32, y: u32) -> [i16; 64]
+fn square(frame: PictureRef<'_>, plane: Plane, x: u32, y: u32, samples: &mut [i16; 64])
     requires { Inside (picture frame).format plane x (y + 7) 8 }
-    ensures long { length result ≡ 64 }
-    ensures samples { (k : ℕ) → k < 64 → slice_index_or result k (pos 0)
+    ensures long { length samples.new ≡ 64 }
+    ensures samples { (k : ℕ) → k < 64 → slice_index_or samples.new k (pos 0)
         ≡ pos (sample_at (picture frame.entry) plane (x + k % 8) (y + k / 8)) }
-    ensures range { All IsSample result }
+    ensures range { All IsSample samples.new }
 {
-    let mut samples = [0; 64];
     for j in 0..8u32 {
         let row = frame.row(plane, x, y + j, 8);
-        put_row(&mut samples, j as usize, row);
+        put_row(samples, j as usize, row);
     }
-    samples
 }
 
 // Writes row `y` of a block.
