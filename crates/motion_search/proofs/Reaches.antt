@@ -30,13 +30,7 @@ abbrev pub IsEnd : ℕ → Reach → ℕ → Type 0
 IsEnd radius reach end = (n : ℕ) → (n < end) ↔ ((n < 2 * radius + 1) × (whole_component radius n ≤ℤ reach.right))
 
 module _ (f : Format) (mb radius : ℕ) (reach : Reach) (is : Reaches f mb reach) (row : ℕ) where
-  -- the places between the ends are in reach
-  pub between_ends : (first end i : ℕ) → IsFirst radius reach first → IsEnd radius reach end → IsInRows radius reach row → first ≤ i → i < end →
-      InReach f mb (whole_component radius i) (whole_component radius row)
-  between_ends first end i at_first at_end down from to =
-      (is (whole_component radius i) (whole_component radius row)).1 (((at_first i).0 from, ((at_end i).0 to).1), down)
-
-  -- and no others
+  -- a place in reach lies between the ends
   pub from_first : (first i : ℕ) → IsFirst radius reach first → InReach f mb (whole_component radius i) (whole_component radius row) → first ≤ i
   from_first first i at_first h = (at_first i).1 ((is (whole_component radius i) (whole_component radius row)).0 h).0.0
 

@@ -236,16 +236,3 @@ whole_from_places P radius v h all =
     subst P
     (same_vectors (whole_component radius (place_of radius v.x)) v.x (whole_component radius (place_of radius v.y)) v.y (place_leads radius v.x h.even.x h.x) (place_leads radius v.y h.even.y h.y))
     (all (place_of radius v.x) (place_of radius v.y) (place_small radius v.x h.x) (place_small radius v.y h.y))
-
--- rows from the middle outwards, by turns below and above it: what was seen before, and the next one
-pub rows_by_turns : (P : ℕ → Type 0) (middle k row m : ℕ) → (k % 2 ≡ 0 → row ≡ middle + k / 2) → (k % 2 ≡ 1 → row + (k + 1) / 2 ≡ middle) →
-    m < middle + (k + 1 + 1) / 2 → middle < m + ((k + 1) / 2 + 1) → (m < middle + (k + 1) / 2 → middle < m + (k / 2 + 1) → P m) → P row → P m
-rows_by_turns P middle k row m below above low high seen next = by (cases_order m row) (cases_order (k % 2) 1)
-  where
-    by : (m ≡ row) ⊎ ((m < row) ⊎ (row < m)) → (k % 2 ≡ 1) ⊎ ((k % 2 < 1) ⊎ (1 < k % 2)) → P m
-    by (inl e) turn = subst P (sym e) next
-    by (inr (inl h)) (inl odd) = let r = above odd in absurd (omega (arith, r, odd, h, low, high))
-    by (inr (inl h)) (inr (inl even)) = let r = below (omega (arith, even)) in seen (omega (arith, r, even, h, low, high)) (omega (arith, r, even, h, low, high))
-    by (inr (inr h)) (inl odd) = let r = above odd in seen (omega (arith, r, odd, h, low, high)) (omega (arith, r, odd, h, low, high))
-    by (inr (inr h)) (inr (inl even)) = let r = below (omega (arith, even)) in absurd (omega (arith, r, even, h, low, high))
-    by (inr t) (inr (inr more)) = absurd (omega (arith, more))

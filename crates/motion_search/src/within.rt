@@ -28,7 +28,7 @@ fn is_across(reach: Reach, vector: Vector) -> bool
 }
 
 #[inline(always)]
-pub(crate) fn is_down(reach: Reach, vector: Vector) -> bool
+fn is_down(reach: Reach, vector: Vector) -> bool
     ensures { IsTrue result ↔ ((reach.up ≤ℤ vector.y) × (vector.y ≤ℤ reach.down)) }
 {
     reach.up <= vector.y && vector.y <= reach.down
