@@ -1,10 +1,10 @@
-//! Times the parts of a call on the made video: `bench FRAMES [SLOTS [RUNS [NOISE [STEP [QUANT]]]]]`
-//! codes, reads and plays FRAMES frames in each format, with SLOTS pictures kept at each end (16 if
-//! not told), and prints what a frame took in each part: the least of RUNS runs (1 if not told).
-//! NOISE is the most that a made noise changes a sample by (0 if not told): without one hardly a
-//! block of a predicted picture is transformed. STEP is how far the video goes on from frame to
-//! frame: 1 as it is made (if not told), 0 a still picture, 3 a pan of 6 columns and 3 rows. QUANT
-//! is the quantiser (8 if not told).
+//! Times the parts of a call on the made video.
+//! `bench FRAMES [SLOTS [RUNS [NOISE [STEP [QUANT]]]]]` codes, reads and plays FRAMES frames in each
+//! format, with SLOTS pictures kept at each end (16 if not told), and prints what a frame took in
+//! each part: the least of RUNS runs (1 if not told). NOISE is the most that a made noise changes a
+//! sample by (0 if not told): without one hardly a block of a predicted picture is transformed.
+//! STEP is how far the video goes on from frame to frame: 1 as it is made (if not told), 0 a still
+//! picture, 3 a pan of 6 columns and 3 rows. QUANT is the quantiser (8 if not told).
 //!
 //! What is timed, in microseconds a frame: `code`, a picture coded whole ([`coding`]); `send`, the
 //! same by a sender; `read`, its packets read and reconstructed ([`reading`]); `receive`, the same
@@ -124,7 +124,7 @@ fn least(rt: &HostRuntime, params: &Params, asked: Words) -> Result<Times, Stop>
 fn bench(rt: &HostRuntime) -> Result<(), Stop> {
     let Some(asked) = asked(rt)? else {
         println!(rt;
-            "usage: bench FRAMES [SLOTS [RUNS [NOISE [STEP [QUANT]]]]] (at most 100000, 64, 1000, 64, 100, 31)"
+            "usage: bench FRAMES [SLOTS [RUNS [NOISE [STEP [QUANT]]]]]"
         )?;
         return Ok(());
     };
