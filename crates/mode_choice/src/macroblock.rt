@@ -192,9 +192,10 @@ fn inter_blocks(
 {
     types_laws::one_more::<Block>();
     let predicted = predict(reference, mb, vector, header.rounding);
+    let mut residuals = [0; 64];
     for block in 0..6u32 {
         let number = block as usize;
-        let residuals = block_residuals(frame, mb, block, &predicted);
+        block_residuals(frame, mb, block, &predicted, &mut residuals);
         out[number] = residual_block(header.quant, keep, &residuals);
     }
 }

@@ -19,22 +19,37 @@ pub(crate) fn block_residuals(
     mb: u32,
     block: u32,
     predicted: &Predicted,
-) -> [i16; 64]
+    residuals: &mut [i16; 64],
+)
     requires mb { mb < mbs_of (picture frame).format }
     requires block { block < 6 }
-    ensures long { length result ≡ 64 }
-    ensures residuals { (k : ℕ) → k < 64 → slice_index_or result k (pos 0)
+    ensures long { length residuals.new ≡ 64 }
+    ensures residuals { (k : ℕ) → k < 64 → slice_index_or residuals.new k (pos 0)
         ≡ (pos (sample_in_block (picture frame.entry) mb block k)
         -ℤ pos (predicted_at predicted.now block k)) }
-    ensures range { All IsSample result }
+    ensures range { All IsSample residuals.new }
 {
     let corner = block_corner(frame.format(), mb, block);
     if block < 4 {
-        luma_differences(frame, corner.x, corner.y, &predicted.y, block)
+        luma_differences(frame, corner.x, corner.y, &predicted.y, block, residuals)
     } else if block == 4 {
-        colour_differences(frame, Plane::Cb, corner.x, corner.y, &predicted.cb)
+        colour_differences(
+            frame,
+            Plane::Cb,
+            corner.x,
+            corner.y,
+            &predicted.cb,
+            residuals,
+        )
     } else {
-        colour_differences(frame, Plane::Cr, corner.x, corner.y, &predicted.cr)
+        colour_differences(
+            frame,
+            Plane::Cr,
+            corner.x,
+            corner.y,
+            &predicted.cr,
+            residuals,
+        )
     }
 }
 
@@ -47,17 +62,18 @@ fn luma_differences(
     y: u32,
     predicted: &[u8; 256],
     block: u32,
-) -> [i16; 64]
+    residuals: &mut [i16; 64],
+)
     requires inside { Inside (picture frame).format Y x (y + 7) 8 }
     requires block { block < 4 }
-    ensures long { length result ≡ 64 }
-    ensures differences { (k : ℕ) → k < 64 → slice_index_or result k (pos 0)
+    ensures long { length residuals.new ≡ 64 }
+    ensures differences { (k : ℕ) → k < 64 → slice_index_or residuals.new k (pos 0)
         ≡ (pos (sample_at (picture frame.entry) Y (x + k % 8) (y + k / 8))
         -ℤ pos (luma_at predicted.now block k)) }
-    ensures range { All IsSample result }
+    ensures range { All IsSample residuals.new }
 {
     let from = 128 * (block as usize / 2) + 8 * (block as usize % 2);
-    differences(frame, Plane::Y, x, y, predicted, from, 16)
+    differences(frame, Plane::Y, x, y, predicted, from, 16, residuals)
 }
 
 // The same of a block of colour, which is predicted alone.
@@ -68,15 +84,16 @@ fn colour_differences(
     x: u32,
     y: u32,
     predicted: &[u8; 64],
-) -> [i16; 64]
+    residuals: &mut [i16; 64],
+)
     requires { Inside (picture frame).format plane x (y + 7) 8 }
-    ensures long { length result ≡ 64 }
-    ensures differences { (k : ℕ) → k < 64 → slice_index_or result k (pos 0)
+    ensures long { length residuals.new ≡ 64 }
+    ensures differences { (k : ℕ) → k < 64 → slice_index_or residuals.new k (pos 0)
         ≡ (pos (sample_at (picture frame.entry) plane (x + k % 8) (y + k / 8))
         -ℤ pos (slice_index predicted.now k)) }
-    ensures range { All IsSample result }
+    ensures range { All IsSample residuals.new }
 {
-    differences(frame, plane, x, y, predicted, 0, 8)
+    differences(frame, plane, x, y, predicted, 0, 8, residuals)
 }
 
 // The 8 x 8 samples of a plane from column `x` of row `y` on less those predicted, by rows; the
@@ -90,24 +107,23 @@ fn differences(
     predicted: &[u8],
     from: usize,
     stride: usize,
-) -> [i16; 64]
+    residuals: &mut [i16; 64],
+)
     requires inside { Inside (picture frame).format plane x (y + 7) 8 }
     requires from { from ≤ 136 }
     requires stride { stride ≤ 16 }
     requires predicted { from + 7 * stride + 8 ≤ length predicted.now }
-    ensures long { length result ≡ 64 }
-    ensures differences { (k : ℕ) → k < 64 → slice_index_or result k (pos 0)
+    ensures long { length residuals.new ≡ 64 }
+    ensures differences { (k : ℕ) → k < 64 → slice_index_or residuals.new k (pos 0)
         ≡ (pos (sample_at (picture frame.entry) plane (x + k % 8) (y + k / 8))
         -ℤ pos (slice_index predicted.now (from + stride * (k / 8) + k % 8))) }
-    ensures range { All IsSample result }
+    ensures range { All IsSample residuals.new }
 {
-    let mut residuals = [0; 64];
     for j in 0..8u32 {
         let row = frame.row(plane, x, y + j, 8);
         let at = from + stride * j as usize;
-        put_difference(&mut residuals, j as usize, row, &predicted[at..at + 8]);
+        put_difference(residuals, j as usize, row, &predicted[at..at + 8]);
     }
-    residuals
 }
 
 // Writes row `j` of a block: eight samples less the predicted ones.

@@ -17,7 +17,7 @@ loop-block-preserved c =
     let b : ℕ = c.loop-block.block in
     let predicted : ℕ → ℕ = predicted_at c.predict-predicted.result b in
     let block : ℕ → Block = λ b. residual_levels_of c.args.header.now.quant c.args.keep (residuals_of p q c.args.header.now.rounding c.args.mb c.args.vector b) in
-    let left = residuals_are p q c.args.header.now.rounding c.args.mb c.args.vector b c.block_residuals-residuals.result predicted c.block_residuals-residuals.ensures.long c.block_residuals-residuals.ensures.residuals (λ k h. six_predicted q c.args.mb c.args.header.now.rounding c.args.vector c.predict-predicted.result c.predict-predicted.ensures b k c.loop-block-test.true h) in
+    let left = residuals_are p q c.args.header.now.rounding c.args.mb c.args.vector b c.block_residuals.new.residuals predicted c.block_residuals.ensures.long c.block_residuals.ensures.residuals (λ k h. six_predicted q c.args.mb c.args.header.now.rounding c.args.vector c.predict-predicted.result c.predict-predicted.ensures b k c.loop-block-test.true h) in
     let now : c.residual_block.result ≡ block b = c.residual_block.ensures ∙ ap (λ (residuals : List ℤ). residual_levels_of c.args.header.now.quant c.args.keep residuals) left in
     let room : b < length c.loop-block.out = omega (arith, c.loop-block.invariant.0) in (
       length-set c.loop-block.out b _ ∙ c.loop-block.invariant.0,
