@@ -123,9 +123,7 @@ fn least(rt: &HostRuntime, params: &Params, asked: Words) -> Result<Times, Stop>
 
 fn bench(rt: &HostRuntime) -> Result<(), Stop> {
     let Some(asked) = asked(rt)? else {
-        println!(rt;
-            "usage: bench FRAMES [SLOTS [RUNS [NOISE [STEP [QUANT]]]]]"
-        )?;
+        println!(rt; "usage: bench FRAMES [SLOTS [RUNS [NOISE [STEP [QUANT]]]]]")?;
         return Ok(());
     };
     for format in [Format::SubQcif, Format::Qcif, Format::Cif] {
