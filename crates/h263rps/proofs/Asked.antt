@@ -1,5 +1,6 @@
 -- A run by what its words ask for.
 use Rattle.std.proofs.Common.{◌≡◌, ◌⊎◌, inl, inr, ℕ, Bool, true, false, List, [], ◌∷◌, ◌||◌, Option, Some, None, IfSome, if◌then◌else◌, option_and_then, refl, sym, ap, ◌∙◌, subst}
+use Rattle.std.specs.List.{AllByRecursion}
 use Rattle.h263_outside.specs.Desk.{Outside, NoneAttached, OnlyAttaches, OnlyWrites, SomeRose, Rose, with_role, is_role}
 use Rattle.h263_outside.specs.declared.desk.Role.{Role}
 use Rattle.h263_outside.specs.declared.desk.Role.TheVariants.{Video, Video2, Report}
@@ -11,7 +12,7 @@ use Rattle.command_words.specs.declared.command.Command.{Command}
 use Rattle.command_words.specs.declared.simple.WordStop.{WordStop}
 use Rattle.command_words.specs.declared.simple.WordStop.TheVariants as stops
 use Rattle.command_words.specs.Simple.{Text}
-use Rattle.command_words.specs.Asked.{Asked, asked, name_in, roles, word_for}
+use Rattle.command_words.specs.Asked.{Asked, HasNames, IsGiven, asked, name_in, roles, word_for}
 use Rattle.desk_program.specs.Ends.{Gains, HasCause, IsReadOut, Tells}
 use Rattle.desk_program.specs.Attached.{AreAttached, AttachedAt}
 use Rattle.desk_program.specs.Lines.{Finishes, end_text}
@@ -30,6 +31,14 @@ pub record IsRefusedRightly (c : Command) : Type 0 where
 -- the word by which a role is attached, where the command is this one
 pub word_is : (a : Asked) (c : Command) (role : Role) → a.command ≡ c → the_word (word_for a role) ≡ the_word (option_and_then a.given (name_in (roles c) role))
 word_is a c role is = ap (λ (k : Command). the_word (option_and_then a.given (name_in (roles k) role))) is
+
+-- the words of the roles are given, where the command is this one
+pub words_given : (a : Asked) (c : Command) → a.command ≡ c → HasNames a → AllByRecursion (λ (r : Role × Text). IsGiven (a.given r.1)) (roles c)
+words_given a c is names = subst (λ (k : Command). AllByRecursion (λ (r : Role × Text). IsGiven (a.given r.1)) (roles k)) is names
+
+-- so is the word of a role, if it is among them
+pub word_given : (a : Asked) (c : Command) (role : Role) → a.command ≡ c → IsGiven (option_and_then a.given (name_in (roles c) role)) → IsGiven (word_for a role)
+word_given a c role is given = subst (λ (k : Command). IsGiven (option_and_then a.given (name_in (roles k) role))) (sym is) given
 
 -- there is no second video
 pub one_video : (c : Command)
@@ -194,6 +203,6 @@ stopped_run words stops.OutOfMemory mid new none are rest result told = unread_r
 stopped_run words stops.Usage mid new none are rest result told =
     subst (λ (o : Option Asked). IsRun o result mid new) (sym (none refl)) (usage_run mid new are rest result told)
 
--- the words were a command
-pub asked_run : (words : List Text) (a : Asked) (old new : Outside) (result : Status) → asked words ≡ Some a → IsRun (Some a) result old new → IsRun (command_of words) result old new
-asked_run words a old new result is run = subst (λ (o : Option Asked). IsRun o result old new) (sym is) run
+-- the words were a command, which was carried out from where the report was attached
+pub asked_run : (words : List Text) (a : Asked) (old mid new : Outside) (result : Status) → OnlyAttaches old mid → asked words ≡ Some a → IsRun (Some a) result mid new → IsRun (command_of words) result old new
+asked_run words a old mid new result attaches is run = run_since (command_of words) old mid new result attaches (subst (λ (o : Option Asked). IsRun o result mid new) (sym is) run)

@@ -1,4 +1,4 @@
-//! The commands, over a desk on which the report alone is attached.
+//! The commands, each over a desk on which the report alone is attached.
 ghost use Rattle.std.specs.Prelude.{◌≡◌, ◌∷◌, [], false, true, None, Some};
 ghost use Rattle.h263_outside.specs.declared.desk.Role.TheVariants.{Report};
 ghost use Rattle.command_words.specs.declared.command.Command.TheVariants as commands;
@@ -11,7 +11,7 @@ ghost use Rattle.h263rps.specs.Promises.{IsRun};
 use crate::Status;
 use audit_command::{Audit, laws as audit_command_laws};
 use call_command::{Call, Terms, laws as call_command_laws};
-use command_words::{Command, Words};
+use command_words::Words;
 use demo_command::{Demo, DemoTerms, laws as demo_command_laws};
 use desk_program::perform;
 use duplex_command::{Duplex, laws as duplex_command_laws};
@@ -30,51 +30,49 @@ fn word_of<'a>(words: &Words<'a>, role: Role) -> &'a str
     words.name(role).unwrap()
 }
 
-// A call in which everything arrives at once.
-fn call<D: Desk>(alloc: Global, words: &Words<'_>, params: Params, desk: &mut D) -> Status
+// A call: over a recorded trace where `traced` is true, otherwise one in which everything arrives
+// at once.
+pub(crate) fn call<D: Desk>(
+    alloc: Global,
+    words: &Words<'_>,
+    params: Params,
+    traced: bool,
+    desk: &mut D,
+) -> Status
     requires report { AreAttached ((Report, []) ∷ []) (D.outside desk.old) }
     requires names { HasNames (asked_of words.now) }
     requires command { IsCommand words.now.command }
-    requires is { words.now.command ≡ commands.Call params false }
+    requires is { words.now.command ≡ commands.Call params traced }
     ensures { IsRun (Some (asked_of words.now)) result (D.outside desk.old) (D.outside desk.new) }
 {
     call_command_laws::refused_videos();
     call_command_laws::no_second_video();
-    let order = [
-        (Role::Video, word_of(words, Role::Video)),
-        (Role::Pictures, word_of(words, Role::Pictures)),
-    ];
-    let terms = Terms {
-        params,
-        plain: true,
-    };
-    perform::<D, Call>(alloc, &terms, &order, desk)
-}
-
-// A call over a recorded trace.
-fn traced_call<D: Desk>(alloc: Global, words: &Words<'_>, params: Params, desk: &mut D) -> Status
-    requires report { AreAttached ((Report, []) ∷ []) (D.outside desk.old) }
-    requires names { HasNames (asked_of words.now) }
-    requires command { IsCommand words.now.command }
-    requires is { words.now.command ≡ commands.Call params true }
-    ensures { IsRun (Some (asked_of words.now)) result (D.outside desk.old) (D.outside desk.new) }
-{
-    call_command_laws::refused_videos();
-    call_command_laws::no_second_video();
-    let order = [
-        (Role::Video, word_of(words, Role::Video)),
-        (Role::Events, word_of(words, Role::Events)),
-        (Role::Pictures, word_of(words, Role::Pictures)),
-    ];
-    let terms = Terms {
-        params,
-        plain: false,
-    };
-    perform::<D, Call>(alloc, &terms, &order, desk)
+    if traced {
+        let order = [
+            (Role::Video, word_of(words, Role::Video)),
+            (Role::Events, word_of(words, Role::Events)),
+            (Role::Pictures, word_of(words, Role::Pictures)),
+        ];
+        let terms = Terms {
+            params,
+            plain: false,
+        };
+        perform::<D, Call>(alloc, &terms, &order, desk)
+    } else {
+        let order = [
+            (Role::Video, word_of(words, Role::Video)),
+            (Role::Pictures, word_of(words, Role::Pictures)),
+        ];
+        let terms = Terms {
+            params,
+            plain: true,
+        };
+        perform::<D, Call>(alloc, &terms, &order, desk)
+    }
 }
 
 // The sender alone.
-fn send<D: Desk>(
+pub(crate) fn send<D: Desk>(
     alloc: Global,
     words: &Words<'_>,
     params: Params,
@@ -97,42 +95,41 @@ fn send<D: Desk>(
     perform::<D, Send>(alloc, &Sending { params, target }, &order, desk)
 }
 
-// The receiver alone.
-fn recv<D: Desk>(alloc: Global, words: &Words<'_>, params: Params, desk: &mut D) -> Status
+// The receiver alone, after a joiner where `join` is true.
+pub(crate) fn recv<D: Desk>(
+    alloc: Global,
+    words: &Words<'_>,
+    params: Params,
+    join: bool,
+    desk: &mut D,
+) -> Status
     requires report { AreAttached ((Report, []) ∷ []) (D.outside desk.old) }
     requires names { HasNames (asked_of words.now) }
     requires command { IsCommand words.now.command }
-    requires is { words.now.command ≡ commands.Recv params false }
+    requires is { words.now.command ≡ commands.Recv params join }
     ensures { IsRun (Some (asked_of words.now)) result (D.outside desk.old) (D.outside desk.new) }
 {
     recv_command_laws::no_video_refused();
-    let order = [
-        (Role::Events, word_of(words, Role::Events)),
-        (Role::Pictures, word_of(words, Role::Pictures)),
-        (Role::Wire, word_of(words, Role::Wire)),
-    ];
-    perform::<D, Recv>(alloc, &params, &order, desk)
-}
-
-// The receiver alone, after a joiner.
-fn join<D: Desk>(alloc: Global, words: &Words<'_>, params: Params, desk: &mut D) -> Status
-    requires report { AreAttached ((Report, []) ∷ []) (D.outside desk.old) }
-    requires names { HasNames (asked_of words.now) }
-    requires command { IsCommand words.now.command }
-    requires is { words.now.command ≡ commands.Recv params true }
-    ensures { IsRun (Some (asked_of words.now)) result (D.outside desk.old) (D.outside desk.new) }
-{
     recv_command_laws::no_joined_video_refused();
     let order = [
         (Role::Events, word_of(words, Role::Events)),
         (Role::Pictures, word_of(words, Role::Pictures)),
         (Role::Wire, word_of(words, Role::Wire)),
     ];
-    perform::<D, Join>(alloc, &params, &order, desk)
+    if join {
+        perform::<D, Join>(alloc, &params, &order, desk)
+    } else {
+        perform::<D, Recv>(alloc, &params, &order, desk)
+    }
 }
 
 // A call on made input.
-fn demo<D: Desk>(alloc: Global, words: &Words<'_>, terms: &DemoTerms, desk: &mut D) -> Status
+pub(crate) fn demo<D: Desk>(
+    alloc: Global,
+    words: &Words<'_>,
+    terms: &DemoTerms,
+    desk: &mut D,
+) -> Status
     requires report { AreAttached ((Report, []) ∷ []) (D.outside desk.old) }
     requires names { HasNames (asked_of words.now) }
     requires command { IsCommand words.now.command }
@@ -145,7 +142,13 @@ fn demo<D: Desk>(alloc: Global, words: &Words<'_>, terms: &DemoTerms, desk: &mut
 }
 
 // The meter of a log.
-fn rate<D: Desk>(alloc: Global, words: &Words<'_>, target: u32, bucket: u32, desk: &mut D) -> Status
+pub(crate) fn rate<D: Desk>(
+    alloc: Global,
+    words: &Words<'_>,
+    target: u32,
+    bucket: u32,
+    desk: &mut D,
+) -> Status
     requires report { AreAttached ((Report, []) ∷ []) (D.outside desk.old) }
     requires names { HasNames (asked_of words.now) }
     requires command { IsCommand words.now.command }
@@ -158,7 +161,12 @@ fn rate<D: Desk>(alloc: Global, words: &Words<'_>, target: u32, bucket: u32, des
 }
 
 // The audit of a log.
-fn audit<D: Desk>(alloc: Global, words: &Words<'_>, params: Params, desk: &mut D) -> Status
+pub(crate) fn audit<D: Desk>(
+    alloc: Global,
+    words: &Words<'_>,
+    params: Params,
+    desk: &mut D,
+) -> Status
     requires report { AreAttached ((Report, []) ∷ []) (D.outside desk.old) }
     requires names { HasNames (asked_of words.now) }
     requires command { IsCommand words.now.command }
@@ -171,7 +179,12 @@ fn audit<D: Desk>(alloc: Global, words: &Words<'_>, params: Params, desk: &mut D
 }
 
 // A call of two parties.
-fn duplex<D: Desk>(alloc: Global, words: &Words<'_>, params: Params, desk: &mut D) -> Status
+pub(crate) fn duplex<D: Desk>(
+    alloc: Global,
+    words: &Words<'_>,
+    params: Params,
+    desk: &mut D,
+) -> Status
     requires report { AreAttached ((Report, []) ∷ []) (D.outside desk.old) }
     requires names { HasNames (asked_of words.now) }
     requires command { IsCommand words.now.command }
@@ -187,44 +200,4 @@ fn duplex<D: Desk>(alloc: Global, words: &Words<'_>, params: Params, desk: &mut 
         (Role::Pictures2, word_of(words, Role::Pictures2)),
     ];
     perform::<D, Duplex>(alloc, &params, &order, desk)
-}
-
-/// Runs the command that the words ask for.
-pub fn command<D: Desk>(alloc: Global, words: &Words<'_>, desk: &mut D) -> Status
-    requires report { AreAttached ((Report, []) ∷ []) (D.outside desk.old) }
-    requires names { HasNames (asked_of words.now) }
-    requires command { IsCommand words.now.command }
-    ensures { IsRun (Some (asked_of words.now)) result (D.outside desk.old) (D.outside desk.new) }
-{
-    match words.command() {
-        Command::Call {
-            params,
-            traced: false,
-        } => call(alloc, words, params, desk),
-        Command::Call {
-            params,
-            traced: true,
-        } => traced_call(alloc, words, params, desk),
-        Command::Send { params, target } => send(alloc, words, params, target, desk),
-        Command::Recv {
-            params,
-            join: false,
-        } => recv(alloc, words, params, desk),
-        Command::Recv { params, join: true } => join(alloc, words, params, desk),
-        Command::Demo {
-            params,
-            seed,
-            frames,
-        } => {
-            let terms = DemoTerms {
-                params,
-                seed,
-                frames,
-            };
-            demo(alloc, words, &terms, desk)
-        }
-        Command::Rate { target, bucket } => rate(alloc, words, target, bucket, desk),
-        Command::Audit { params } => audit(alloc, words, params, desk),
-        Command::Duplex { params } => duplex(alloc, words, params, desk),
-    }
 }

@@ -7,8 +7,9 @@ ghost use Rattle.h263rps.specs.Output.{command_of, word_stop};
 ghost use Rattle.h263rps.specs.Promises.{IsRun};
 
 use crate::Status;
-use crate::commands::command;
-use command_words::{WordStop, Words, laws as command_words_laws};
+use crate::commands::{audit, call, demo, duplex, rate, recv, send};
+use command_words::{Command, WordStop, Words, laws as command_words_laws};
+use demo_command::DemoTerms;
 use desk_program::{attach_role, finish};
 use h263_outside::{Desk, Role};
 use std::alloc::Global;
@@ -33,8 +34,28 @@ pub fn run<D: Desk>(alloc: Global, words: &[&str], desk: &mut D) -> Status
     if let Err(status) = attach_role(desk, Role::Report, "") {
         return status;
     }
-    match Words::read(alloc, words) {
-        Ok(words) => command(alloc, &words, desk),
-        Err(stop) => finish(desk, unasked(stop)),
+    let words = match Words::read(alloc, words) {
+        Ok(words) => words,
+        Err(stop) => return finish(desk, unasked(stop)),
+    };
+    match words.command() {
+        Command::Call { params, traced } => call(alloc, &words, params, traced, desk),
+        Command::Send { params, target } => send(alloc, &words, params, target, desk),
+        Command::Recv { params, join } => recv(alloc, &words, params, join, desk),
+        Command::Demo {
+            params,
+            seed,
+            frames,
+        } => {
+            let terms = DemoTerms {
+                params,
+                seed,
+                frames,
+            };
+            demo(alloc, &words, &terms, desk)
+        }
+        Command::Rate { target, bucket } => rate(alloc, &words, target, bucket, desk),
+        Command::Audit { params } => audit(alloc, &words, params, desk),
+        Command::Duplex { params } => duplex(alloc, &words, params, desk),
     }
 }
