@@ -64,8 +64,9 @@ impl From<AllocError> for Unattached {
 
 /// A place for each role, to be attached by a name and then read or written.
 ///
-/// What a call's clauses don't name stays as it was, but that counts of faults may rise in any
-/// call. Of what is left to read and what was written a desk may tell nothing.
+/// What a call's clauses don't name stays as it was, but that counts of faults may rise in a call
+/// that fails: one that does its work leaves them, and so does one that lacks memory. Of what is
+/// left to read and what was written a desk may tell nothing.
 pub trait Desk {
     /// What is outside: the attached roles, their names and bytes as far as told, the counts of
     /// faults.
@@ -84,6 +85,9 @@ pub trait Desk {
         ensures err_name { OnErr result ((outside self.new).name ≡ (outside self.old).name) }
         ensures cause { IsErrOf result Unattached.Failed
             → Rose (outside self.old).faults.attach (outside self.new).faults.attach }
+        ensures ok_faults { OnOk result ((outside self.new).faults ≡ (outside self.old).faults) }
+        ensures no_memory { IsErrOf result Unattached.OutOfMemory
+            → (outside self.new).faults ≡ (outside self.old).faults }
         ensures rest { OnlyAttaches (outside self.old) (outside self.new) };
 
     /// Reads some bytes of an input to the start of the buffer, and answers how many; 0 is the end.
@@ -99,6 +103,7 @@ pub trait Desk {
         ensures err { OnErr result ((outside self.new).left ≡ (outside self.old).left) }
         ensures cause { OnErr result
             (Rose (outside self.old).faults.read (outside self.new).faults.read) }
+        ensures ok_faults { OnOk result ((outside self.new).faults ≡ (outside self.old).faults) }
         ensures rest { OnlyReads (outside self.old) (outside self.new) };
 
     /// Writes some of the bytes, from the first on and one at least, and answers how many.
@@ -113,5 +118,6 @@ pub trait Desk {
         ensures err { OnErr result ((outside self.new).written ≡ (outside self.old).written) }
         ensures cause { OnErr result
             (Rose (outside self.old).faults.write (outside self.new).faults.write) }
+        ensures ok_faults { OnOk result ((outside self.new).faults ≡ (outside self.old).faults) }
         ensures rest { OnlyWrites (outside self.old) (outside self.new) };
 }

@@ -155,11 +155,13 @@ impl<R: Runtime> Desk for HostDesk<R> {
             ((host_outside self.new).name ≡ (host_outside self.old).name) }
         ensures cause { IsErrOf result Unattached.Failed
             → Rose (host_outside self.old).faults.attach (host_outside self.new).faults.attach }
-        ensures rest { OnlyAttaches (host_outside self.old) (host_outside self.new) }
-
-        // The count rises by one where the call fails, and stays otherwise.
         ensures ok_faults { OnOk result
             ((host_outside self.new).faults ≡ (host_outside self.old).faults) }
+        ensures no_memory { IsErrOf result Unattached.OutOfMemory
+            → (host_outside self.new).faults ≡ (host_outside self.old).faults }
+        ensures rest { OnlyAttaches (host_outside self.old) (host_outside self.new) }
+
+        // The count rises by one where the call fails.
         ensures failed { OnErr result ((host_outside self.new).faults
             ≡ record ((host_outside self.old).faults)
             { attach = raised_count (host_outside self.old).faults.attach }) }
@@ -222,15 +224,15 @@ impl<R: Runtime> Desk for HostDesk<R> {
         ensures err { OnErr result ((host_outside self.new).left ≡ (host_outside self.old).left) }
         ensures cause { OnErr result
             (Rose (host_outside self.old).faults.read (host_outside self.new).faults.read) }
+        ensures ok_faults { OnOk result
+            ((host_outside self.new).faults ≡ (host_outside self.old).faults) }
         ensures rest { OnlyReads (host_outside self.old) (host_outside self.new) }
 
         // The role's file is read, as `read_file` says.
         ensures of_file { ReadConsumes (told_of R.File.remaining (input_of role self.old))
             (told_of R.File.remaining (input_of role self.new)) result buf.new }
 
-        // The count rises by one where the call fails, and stays otherwise.
-        ensures ok_faults { OnOk result
-            ((host_outside self.new).faults ≡ (host_outside self.old).faults) }
+        // The count rises by one where the call fails.
         ensures failed { OnErr result ((host_outside self.new).faults
             ≡ record ((host_outside self.old).faults)
             { read = raised_count (host_outside self.old).faults.read }) }
@@ -259,15 +261,15 @@ impl<R: Runtime> Desk for HostDesk<R> {
             ((host_outside self.new).written ≡ (host_outside self.old).written) }
         ensures cause { OnErr result
             (Rose (host_outside self.old).faults.write (host_outside self.new).faults.write) }
+        ensures ok_faults { OnOk result
+            ((host_outside self.new).faults ≡ (host_outside self.old).faults) }
         ensures rest { OnlyWrites (host_outside self.old) (host_outside self.new) }
 
         // The role's file is written, as `write_file` says.
         ensures of_file { WriteAppends (told_of R.File.contents (output_of role self.old))
             (told_of R.File.contents (output_of role self.new)) result bytes.now }
 
-        // The count rises by one where the call fails, and stays otherwise.
-        ensures ok_faults { OnOk result
-            ((host_outside self.new).faults ≡ (host_outside self.old).faults) }
+        // The count rises by one where the call fails.
         ensures failed { OnErr result ((host_outside self.new).faults
             ≡ record ((host_outside self.old).faults)
             { write = raised_count (host_outside self.old).faults.write }) }

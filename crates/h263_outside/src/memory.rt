@@ -301,6 +301,10 @@ impl Desk for MemoryDesk {
             ((memory_outside self.new).name ≡ (memory_outside self.old).name) }
         ensures cause { IsErrOf result Unattached.Failed
             → Rose (memory_outside self.old).faults.attach (memory_outside self.new).faults.attach }
+        ensures ok_faults { OnOk result
+            ((memory_outside self.new).faults ≡ (memory_outside self.old).faults) }
+        ensures no_memory { IsErrOf result Unattached.OutOfMemory
+            → (memory_outside self.new).faults ≡ (memory_outside self.old).faults }
         ensures rest { OnlyAttaches (memory_outside self.old) (memory_outside self.new) }
 
         // The name is told. The call fails exactly where it was named to, or its input was never
@@ -309,14 +313,10 @@ impl Desk for MemoryDesk {
         ensures exactly { IsErrOf result Unattached.Failed
             ↔ (FailsNext (setup_of self.old) ⊎ LacksPut role (setup_of self.old)) }
 
-        // The count rises by one at `Failed`, and stays otherwise.
-        ensures ok_faults { OnOk result
-            ((memory_outside self.new).faults ≡ (memory_outside self.old).faults) }
+        // The count rises by one at `Failed`.
         ensures failed { IsErrOf result Unattached.Failed
             → (memory_outside self.new).faults ≡ record ((memory_outside self.old).faults)
             { attach = raised_count (memory_outside self.old).faults.attach } }
-        ensures no_memory { IsErrOf result Unattached.OutOfMemory
-            → (memory_outside self.new).faults ≡ (memory_outside self.old).faults }
         ensures setup { setup_of self.new ≡ after_call (setup_of self.old) }
     {
         let can_open = self.can_open(role);
@@ -371,6 +371,8 @@ impl Desk for MemoryDesk {
             ((memory_outside self.new).left ≡ (memory_outside self.old).left) }
         ensures cause { OnErr result
             (Rose (memory_outside self.old).faults.read (memory_outside self.new).faults.read) }
+        ensures ok_faults { OnOk result
+            ((memory_outside self.new).faults ≡ (memory_outside self.old).faults) }
         ensures rest { OnlyReads (memory_outside self.old) (memory_outside self.new) }
 
         // A piece moves, or what is left, or what the buffer takes. The call fails exactly where it
@@ -380,9 +382,7 @@ impl Desk for MemoryDesk {
             (setup_of self.old).piece (length buf.old)) }
         ensures exactly { IsErr result ↔ FailsNext (setup_of self.old) }
 
-        // The count rises by one at `Failed`, and stays otherwise.
-        ensures ok_faults { OnOk result
-            ((memory_outside self.new).faults ≡ (memory_outside self.old).faults) }
+        // The count rises by one at `Failed`.
         ensures failed { OnErr result ((memory_outside self.new).faults
             ≡ record ((memory_outside self.old).faults)
             { read = raised_count (memory_outside self.old).faults.read }) }
@@ -412,6 +412,8 @@ impl Desk for MemoryDesk {
             ((memory_outside self.new).written ≡ (memory_outside self.old).written) }
         ensures cause { OnErr result
             (Rose (memory_outside self.old).faults.write (memory_outside self.new).faults.write) }
+        ensures ok_faults { OnOk result
+            ((memory_outside self.new).faults ≡ (memory_outside self.old).faults) }
         ensures rest { OnlyWrites (memory_outside self.old) (memory_outside self.new) }
 
         // A piece moves, or what there is room for, or all. The call fails exactly where it was
@@ -422,9 +424,7 @@ impl Desk for MemoryDesk {
         ensures exactly { IsErr result ↔ (FailsNext (setup_of self.old)
             ⊎ IsFull role (setup_of self.old) (memory_outside self.old).written) }
 
-        // The count rises by one at `Failed`, and stays otherwise.
-        ensures ok_faults { OnOk result
-            ((memory_outside self.new).faults ≡ (memory_outside self.old).faults) }
+        // The count rises by one at `Failed`.
         ensures failed { OnErr result ((memory_outside self.new).faults
             ≡ record ((memory_outside self.old).faults)
             { write = raised_count (memory_outside self.old).faults.write }) }

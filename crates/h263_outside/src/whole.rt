@@ -14,6 +14,8 @@ pub fn write_all<D: Desk>(desk: &mut D, role: Role, bytes: &[u8]) -> Result<(), 
         (GainsFront role bytes.now (D.outside desk.old).written (D.outside desk.new).written) }
     ensures cause { OnErr result
         (Rose (D.outside desk.old).faults.write (D.outside desk.new).faults.write) }
+    ensures ok_faults { OnOk result
+        ((D.outside desk.new).faults ≡ (D.outside desk.old).faults) }
     ensures rest { OnlyWrites (D.outside desk.old) (D.outside desk.new) }
 {
     let mut done = 0;
@@ -37,6 +39,8 @@ pub fn read_full<D: Desk>(desk: &mut D, role: Role, buf: &mut [u8]) -> Result<us
         (LosesFront role (length buf.old) (D.outside desk.old).left (D.outside desk.new).left) }
     ensures cause { OnErr result
         (Rose (D.outside desk.old).faults.read (D.outside desk.new).faults.read) }
+    ensures ok_faults { OnOk result
+        ((D.outside desk.new).faults ≡ (D.outside desk.old).faults) }
     ensures rest { OnlyReads (D.outside desk.old) (D.outside desk.new) }
 {
     let mut done = 0;
