@@ -11,10 +11,11 @@ use Rattle.call_report.specs.Text.{status_text}
 abbrev pub end_text : Status → Role → List ℕ
 end_text status r = if is_role Report r then status_text status else []
 
--- the line of the status was written
+-- the line of the status was written, with no fault
 pub record IsTold (status result : Status) (old new : Outside) : Type 0 where
   pub same : result ≡ status
   pub written : new.written ≡ appended old.written Report (status_text status)
+  pub faults : new.faults ≡ old.faults
 
 -- a prefix of it was written, and the run ends with that fault
 pub record IsUntold (status result : Status) (old new : Outside) : Type 0 where

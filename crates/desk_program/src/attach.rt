@@ -1,5 +1,5 @@
 //! The roles of a command, one after the other.
-ghost use Rattle.std.specs.Prelude.{◌≡◌, ◌≢◌, ◌⊎◌, ◌++◌, ℕ, List, true, false, OnOk, OnErr, IfErr, IfSome, IsTrue};
+ghost use Rattle.std.specs.Prelude.{◌≡◌, ◌≢◌, ◌⊎◌, ◌++◌, ℕ, List, true, false, OnOk, OnErr, IfErr, IfSome, IsErrOf, IsTrue};
 ghost use Rattle.h263_outside.specs.Desk.{NoneAttached, OnlyAttaches, with_role};
 ghost use Rattle.h263_outside.specs.declared.desk.Role.{Role};
 ghost use Rattle.desk_program.specs.Attached.{AreAttached, AttachedAt, are_free, names};
@@ -22,6 +22,10 @@ pub fn attach_role<D: Desk>(desk: &mut D, role: Role, name: &str) -> Result<(), 
         (status ≡ Status.OpenFault role) ⊎ (status ≡ Status.OutOfMemory)) }
     ensures cause { HasCause
         (start_status result) (D.outside desk.old).faults (D.outside desk.new).faults }
+    // Want of memory, as success, comes with no fault of the desk.
+    ensures ok_faults { OnOk result ((D.outside desk.new).faults ≡ (D.outside desk.old).faults) }
+    ensures no_memory { IsErrOf result Status.OutOfMemory
+        → (D.outside desk.new).faults ≡ (D.outside desk.old).faults }
     ensures rest { OnlyAttaches (D.outside desk.old) (D.outside desk.new) }
 {
     match desk.attach(role, name) {
@@ -43,6 +47,10 @@ pub fn attach_all<D: Desk>(desk: &mut D, order: &[(Role, &str)]) -> Result<(), S
     ensures opening { IfErr result IsOpening }
     ensures cause { HasCause
         (start_status result) (D.outside desk.old).faults (D.outside desk.new).faults }
+    // Want of memory, as success, comes with no fault of the desk.
+    ensures ok_faults { OnOk result ((D.outside desk.new).faults ≡ (D.outside desk.old).faults) }
+    ensures no_memory { IsErrOf result Status.OutOfMemory
+        → (D.outside desk.new).faults ≡ (D.outside desk.old).faults }
     ensures rest { OnlyAttaches (D.outside desk.old) (D.outside desk.new) }
 {
     for (role, name) in order {

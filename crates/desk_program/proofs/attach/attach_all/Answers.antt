@@ -19,6 +19,7 @@ loop-role-preserved g c =
       free = rest_free (outside c.loop-role.desk).attached c.args.order.now c.loop-role.role-index none c.loop-role-test.true c.loop-role.invariant.free (outside c.attach_role.new.desk).attached said.attached;
       attached = λ first before. next_attached first c.args.order.now c.loop-role.role-index none (outside c.loop-role.desk) (outside c.attach_role.new.desk) c.loop-role-test.true (c.loop-role.invariant.attached first before) free said.attached said.name said.other_names;
       kept = λ r there. stays_attached r _ _ _ said.attached (c.loop-role.invariant.kept r there);
+      faults = said.ok_faults ∙ c.loop-role.invariant.faults;
       rest = record {
         left = said.rest.left ∙ c.loop-role.invariant.rest.left;
         written = said.rest.written ∙ c.loop-role.invariant.rest.written;
