@@ -12,6 +12,7 @@ ghost use Rattle.h263_planes.specs.Picture.{Picture};
 ghost use Rattle.h263_planes.specs.References.{HasReference};
 ghost use Rattle.h263_planes.specs.Samples.{Inside, IsPicture, sample_at};
 ghost use Rattle.h263_planes.specs.Work.{loan_of, work};
+ghost use Rattle.half_sample.specs.Macroblock.{IsPredictionOf};
 ghost use Rattle.picture_recon.specs.Samples.{sample_in};
 ghost use Rattle.picture_recon.specs.Shown.{SetsMb};
 
@@ -21,6 +22,7 @@ use crate::skipped::put_skipped;
 use crate::values::intra_samples;
 use h263_planes::{PictureMut, PictureRef};
 use h263_types::{Block, Format, Mb, SliceHead};
+use half_sample::{Predicted, predict};
 use picture_header::Header;
 
 /// Sets the samples of macroblock `at` in `out`, a picture of the header's format; all other
@@ -61,18 +63,52 @@ pub fn recon_mb(
             blocks,
         } => {
             if let Some(picture) = reference {
-                put_inter(
-                    picture,
-                    header.rounding,
-                    *quant,
-                    *vector,
-                    blocks,
-                    at,
-                    header.format,
-                    out,
-                );
+                let predicted = predict(picture, at, *vector, header.rounding);
+                put_inter(&predicted, *quant, blocks, at, header.format, out);
             }
         }
+    }
+}
+
+/// The same as [`recon_mb`], where what the vector of an inter macroblock predicts is known: so it
+/// isn't predicted again.
+pub fn recon_predicted(
+    mb: &Mb,
+    predicted: &Predicted,
+    at: u32,
+    header: &Header,
+    reference: Option<PictureRef<'_>>,
+    out: &mut PictureMut<'_>,
+)
+    requires reference { HasReference header.now.kind header.now.format
+        (option_map picture reference) }
+    requires rounding { header.now.rounding ≤ 1 }
+    requires format { (work out.old).format ≡ header.now.format }
+    requires at { at < mbs_of header.now.format }
+    requires of_kind { IsOfKind header.now.kind mb.now }
+    requires in_range { IsMb mb.now }
+    requires reach { ReachesInside header.now.format at mb.now }
+    requires predicted { IsPredictionOf header.now.rounding (option_map picture reference)
+        at mb.now predicted.now }
+    ensures same_loan { loan_of out.new ≡ loan_of out.old }
+    ensures format { (work out.new).format ≡ header.now.format }
+    ensures whole { IsPicture (work out.new) }
+    ensures samples { SetsMb header.now.format header.now.rounding
+        (option_map picture reference.entry) at mb.now (work out.old) (work out.new) }
+{
+    out.is_picture();
+    match mb {
+        Mb::Skip => {
+            if let Some(picture) = reference {
+                put_skipped(picture, at, header.format, out);
+            }
+        }
+        Mb::Intra { quant, blocks } => put_intra(*quant, blocks, at, header.format, out),
+        Mb::Inter {
+            quant,
+            vector: _,
+            blocks,
+        } => put_inter(predicted, *quant, blocks, at, header.format, out),
     }
 }
 
