@@ -1,5 +1,5 @@
 //! Macroblocks that are predicted from the reference (H.263, 6.1 and 6.3).
-ghost use Rattle.std.specs.Prelude.{◌≡◌, ℕ, ◌*◌, ◌%◌, ◌<◌, ◌&&◌, pos, ◌+ℤ◌, All, length, nat_eq, if◌then◌else◌, Some};
+ghost use Rattle.std.specs.Prelude.{◌≡◌, ℕ, ◌*◌, ◌%◌, ◌<◌, ◌≤◌, ◌&&◌, pos, ◌+ℤ◌, All, length, nat_eq, if◌then◌else◌, Some};
 ghost use Rattle.h263_types.specs.Blocks.{IsInterBlock, IsQuant};
 ghost use Rattle.h263_types.specs.Sizes.{mbs_of};
 ghost use Rattle.h263_types.specs.declared.blocks.Mb.TheVariants.{Inter};
@@ -17,7 +17,7 @@ ghost use Rattle.picture_recon.specs.Shown.{SetsMb};
 ghost use Rattle.picture_recon.specs.Squares.{columns_in};
 
 use crate::blocks::{put_samples, samples_at};
-use crate::squares::{put_square, square_of};
+use crate::squares::square_of;
 use crate::values::{inter_samples, marks_of};
 use h263_planes::{PictureMut, Plane, block_corner};
 use h263_types::{Block, Format};
@@ -107,26 +107,36 @@ fn put_predicted(samples: &Predicted, at: u32, format: Format, out: &mut Picture
         → sample_at (work out.new) plane x y ≡ (if nat_eq (mb_of format plane x y) at
         then predicted_sample p plane x y v r else sample_at (work out.old) plane x y) }
 {
-    put_plane(Plane::Y, &samples.y, at, format, out);
-    put_plane(Plane::Cb, &samples.cb, at, format, out);
-    put_plane(Plane::Cr, &samples.cr, at, format, out);
+    put_plane::<16>(Plane::Y, &samples.y, at, format, out);
+    put_plane::<8>(Plane::Cb, &samples.cb, at, format, out);
+    put_plane::<8>(Plane::Cr, &samples.cr, at, format, out);
 }
 
-// Sets the samples of macroblock `at` in one plane, which are given by rows.
+// Sets the N x N samples of macroblock `at` in one plane, which are given by rows.
 #[inline(always)]
-fn put_plane(plane: Plane, samples: &[u8], at: u32, format: Format, out: &mut PictureMut<'_>)
+fn put_plane<const N: usize>(
+    plane: Plane,
+    samples: &[u8],
+    at: u32,
+    format: Format,
+    out: &mut PictureMut<'_>,
+)
     requires format { (work out.old).format ≡ format }
     requires at { at < mbs_of format }
-    requires samples { length samples.now ≡ columns_in plane * columns_in plane }
+    requires least { 8 ≤ N }
+    requires most { N ≤ 16 }
+    requires size { N ≡ columns_in plane }
+    requires samples { length samples.now ≡ N * N }
     requires whole { IsPicture (work out.old) }
     ensures same_loan { loan_of out.new ≡ loan_of out.old }
     ensures format { (work out.new).format ≡ format }
     ensures whole { IsPicture (work out.new) }
     ensures samples { (p : Picture) (v : Vector) (r : ℕ)
-        → p.format ≡ format → ArePredicted (columns_in plane) p plane at v r samples.now
+        → p.format ≡ format → ArePredicted N p plane at v r samples.now
         → (other : Plane) (x y : ℕ) → Inside format other x y 1 → sample_at (work out.new) other x y
         ≡ (if same_plane plane other && nat_eq (mb_of format other x y) at
         then predicted_sample p other x y v r else sample_at (work out.old) other x y) }
 {
-    put_square(plane, square_of(format, plane, at), samples, format, out);
+    let square = square_of(format, plane, at);
+    out.set_square::<N>(plane, square.x, square.y, samples);
 }
