@@ -4,3 +4,4 @@ pub mod Runs
 pub mod Wholes
 pub mod Givens
 mod Spots
+pub mod Rows

@@ -86,7 +86,7 @@ sets_in_plane f plane (v ∷ vs) bytes i h =
 pub run_inside : (w h x y n : ℕ) → x + n ≤ w → y < h → w * y + x + n ≤ w * h
 run_inside w h x y n hx hy = let more : w * suc y ≤ w * h = mul-le-mul_left w hy in omega (arith, more)
 
-put_mid_sets : (at : ℕ) (vs bytes : List ℕ) → at + length vs ≤ length bytes → put_mid at (length vs) bytes vs ≡ sets bytes at vs
+pub put_mid_sets : (at : ℕ) (vs bytes : List ℕ) → at + length vs ≤ length bytes → put_mid at (length vs) bytes vs ≡ sets bytes at vs
 put_mid_sets at vs bytes h =
     ap (λ t. take at bytes ++ (vs ++ t)) (drop-drop (length vs) at bytes)
     ∙ sym (append_assoc (take at bytes) vs (drop (at + length vs) bytes))

@@ -36,7 +36,7 @@ impl Layout {
 
     // Samples in a row of the plane.
     #[inline(always)]
-    fn width(self, plane: Plane) -> usize
+    pub(crate) fn width(self, plane: Plane) -> usize
         ensures { result ≡ width_in self.format plane }
     {
         match plane {

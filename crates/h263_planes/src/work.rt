@@ -1,13 +1,15 @@
 //! A picture that is lent for writing.
-ghost use Rattle.std.specs.Prelude.{◌≡◌, ◌+◌, ◌<◌, ◌≤◌, length, slice_set};
+ghost use Rattle.std.specs.Prelude.{◌≡◌, ◌+◌, ◌*◌, ◌-◌, ◌<◌, ◌≤◌, length, slice_set};
 ghost use lib.Seq.{sets};
 ghost use Rattle.h263_types.specs.Sizes.{size_of_picture};
+ghost use Rattle.h263_planes.specs.Rows.{sets_rows};
 ghost use Rattle.h263_planes.specs.Samples.{AreSamples};
 
 use crate::layout::Layout;
 use crate::lent::PictureRef;
 use crate::{Plane, laws};
 use h263_types::Format;
+use std::simd::prelude::*;
 
 /// A picture over bytes that may be written: its planes Y, Cb and Cr, each by rows from the top.
 #[derive(Drop)]
@@ -18,11 +20,11 @@ pub struct PictureMut<'a> {
 }
 
 impl<'a> PictureMut<'a> {
-    ghost use Rattle.std.specs.Prelude.{◌≡◌, ℕ, ◌-◌, length, slice_index, if◌then◌else◌};
+    ghost use Rattle.std.specs.Prelude.{◌≡◌, ℕ, ◌+◌, ◌*◌, ◌-◌, ◌≤◌, length, slice_index, if◌then◌else◌};
     ghost use Rattle.h263_planes.specs.declared.Plane.{Plane};
     ghost use Rattle.h263_types.specs.Sizes.{size_of_picture};
     ghost use Rattle.h263_planes.specs.Layout.{picture_of};
-    ghost use Rattle.h263_planes.specs.Samples.{Inside, IsPicture, sample_at, with_sample, with_samples, in_run};
+    ghost use Rattle.h263_planes.specs.Samples.{Inside, IsPicture, sample_at, with_sample, with_samples, in_block, in_run};
     ghost use Rattle.h263_planes.specs.Lent.{picture};
     ghost use Rattle.h263_planes.specs.Work.{work, loan_of};
 
@@ -86,6 +88,26 @@ impl<'a> PictureMut<'a> {
         put_samples(self.bytes, from, samples);
     }
 
+    /// Writes `N` rows of as many samples, which are given by rows from the top, from column `x` of
+    /// row `y` on. The place is worked out once for all rows, and each is one store.
+    #[inline(always)]
+    pub fn set_square<const N: usize>(&mut self, plane: Plane, x: u32, y: u32, samples: &[u8])
+        requires inside { Inside (work self.old).format plane x (y + (N - 1)) N }
+        requires size { N ≤ 16 }
+        requires samples { length samples.now ≡ N * N }
+        ensures same_loan { loan_of self.new ≡ loan_of self.old }
+        ensures format { (work self.new).format ≡ (work self.old).format }
+        ensures whole { IsPicture (work self.new) }
+        ensures samples { (other : Plane) (i j : ℕ) → Inside (work self.old).format other i j 1
+            → sample_at (work self.new) other i j ≡ (if in_block plane x y N N other i j
+            then slice_index samples.now (N * (j - y) + (i - x))
+            else sample_at (work self.old) other i j) }
+    {
+        let from = self.layout.place(plane, x, y);
+        let width = self.layout.width(plane);
+        put_rows::<N>(self.bytes, from, width, samples);
+    }
+
     /// The picture as it is now, for reading.
     pub fn seen(&self) -> PictureRef<'_>
         ensures picture { picture result ≡ work self.now }
@@ -113,4 +135,31 @@ fn put_samples(bytes: &mut [u8], from: usize, samples: &[u8])
     ensures samples { AreSamples bytes.new }
 {
     bytes[from..from + samples.len()].copy_from_slice(samples);
+}
+
+// Writes the rows of a square of N x N samples, each `width` bytes after the one above it.
+#[inline(always)]
+fn put_rows<const N: usize>(bytes: &mut [u8], from: usize, width: usize, samples: &[u8])
+    requires room { from + width * (N - 1) + N ≤ length bytes.old }
+    requires size { N ≤ 16 }
+    requires width { width ≤ 352 }
+    requires samples { length samples.now ≡ N * N }
+    ensures after { bytes.new ≡ sets_rows width N samples.now from N bytes.old }
+    ensures samples { AreSamples bytes.new }
+{
+    for k in 0..N {
+        put_row::<N>(bytes, from + width * k, &samples[N * k..N * k + N]);
+    }
+    laws::are_samples(bytes);
+}
+
+// Writes a row of N samples, and leaves samples.
+#[inline(always)]
+fn put_row<const N: usize>(bytes: &mut [u8], from: usize, row: &[u8])
+    requires row { length row.now ≡ N }
+    requires room { from + N ≤ length bytes.old }
+    ensures { bytes.new ≡ sets bytes.old from row.now }
+{
+    let row: Simd<u8, N> = Simd::from_slice(row);
+    row.copy_to_slice(&mut bytes[from..]);
 }

@@ -1,5 +1,5 @@
 -- The predicted samples of a macroblock in one plane.
-use Rattle.std.proofs.Common.{◌≡◌, ℕ, ◌+◌, ◌-◌, ◌*◌, ◌/◌, ◌%◌, ◌<◌, ◌≤◌, List, get_or, Bool, true, false, cond, ◌&&◌, nat_eq, nat_le, nat_lt, arith, ap, refl, sym, ◌∙◌}
+use Rattle.std.proofs.Common.{◌≡◌, ℕ, ◌+◌, ◌-◌, ◌*◌, ◌/◌, ◌%◌, ◌<◌, ◌≤◌, List, get_or, Bool, true, false, cond, ◌&&◌, nat_eq, nat_le, nat_lt, arith, ap, refl, subst, sym, ◌∙◌}
 use Rattle.std.proofs.lemmas.Bool.Decides.{nat_tests}
 use Rattle.h263_types.specs.declared.format.Format.{Format}
 use Rattle.h263_types.specs.declared.vector.Vector.{Vector}
@@ -8,7 +8,9 @@ use Rattle.h263_planes.specs.declared.Plane.{Plane}
 use Rattle.h263_planes.specs.declared.Plane.TheVariants.{Y, Cb, Cr}
 use Rattle.h263_planes.specs.Blocks.{mb_of}
 use Rattle.h263_planes.specs.Picture.{Picture}
-use Rattle.h263_planes.specs.Samples.{in_block, same_plane}
+use Rattle.h263_planes.specs.Samples.{Inside, in_block, same_plane}
+use Rattle.picture_recon.specs.declared.squares.Square.{Square}
+use Rattle.picture_recon.specs.Squares.{IsInside}
 use Rattle.half_sample.specs.Prediction.{ArePredicted, predicted_sample}
 
 in_square : (p : Picture) (plane : Plane) (at n : ℕ) (v : Vector) (r : ℕ) (samples : List ℕ) (left top x y : ℕ) → ArePredicted n p plane at v r samples →
@@ -71,3 +73,9 @@ pub each_plane : (plane : Plane) (t : Bool) (now with_cb with_y old v : ℕ) →
 each_plane Y t now with_cb with_y old v cr cb y = cr ∙ cb ∙ y
 each_plane Cb t now with_cb with_y old v cr cb y = cr ∙ cb ∙ ap (λ (n : ℕ). cond t v n) y
 each_plane Cr t now with_cb with_y old v cr cb y = cr ∙ ap (λ (n : ℕ). cond t v n) (cb ∙ y)
+
+-- the rows of a macroblock's samples lie in the plane
+pub whole_square : (f g : Format) (plane : Plane) (s : Square) (n : ℕ) → g ≡ f → s.size ≡ n → 1 ≤ n → IsInside f plane s → Inside g plane s.x (s.y + (n - 1)) n
+whole_square f g plane s n same size some is =
+    subst (λ (k : Format). Inside k plane s.x (s.y + (n - 1)) n) (sym same)
+    (record { in_row = omega (arith, is.across, size); in_plane = omega (arith, is.down, size, some) })

@@ -47,10 +47,7 @@ pub(crate) fn put_samples(out: &mut PictureMut<'_>, corner: Corner, samples: &[u
         ≡ (if in_block corner.plane corner.x corner.y 8 8 plane x y then slice_index samples.now
         (8 * (y % 8) + x % 8) else sample_at (work out.old) plane x y) }
 {
-    for k in 0..8u32 {
-        let at = 8 * k as usize;
-        out.set_row(corner.plane, corner.x, corner.y + k, &samples[at..at + 8]);
-    }
+    out.set_square::<8>(corner.plane, corner.x, corner.y, samples);
 }
 
 // The 8 x 8 samples from a corner on, by rows.

@@ -1,7 +1,8 @@
 //! Reconstruction: the samples of macroblocks, from their levels (H.263, 6.2) and, in P pictures,
 //! from a reference (6.1, 6.3).
 //!
-//! [`recon_mb`] draws one macroblock into a picture that is lent, [`recon_slice`] those of a slice.
+//! [`recon_mb`] draws one macroblock into a picture that is lent, [`recon_predicted`] one whose
+//! prediction is at hand, [`recon_slice`] those of a slice.
 //!
 //! ```rust
 //! let mut out = PictureMut::new(Format::SubQcif, &mut bytes);
@@ -20,4 +21,4 @@ mod skipped;
 mod squares;
 mod values;
 
-pub use macroblocks::{recon_mb, recon_slice};
+pub use macroblocks::{recon_mb, recon_predicted, recon_slice};

@@ -1,16 +1,15 @@
 //! Macroblocks that are predicted from the reference (H.263, 6.1 and 6.3).
-ghost use Rattle.std.specs.Prelude.{◌≡◌, ℕ, ◌*◌, ◌%◌, ◌<◌, ◌≤◌, ◌&&◌, pos, ◌+ℤ◌, length, nat_eq, if◌then◌else◌, Some};
-ghost use Rattle.h263_types.specs.Blocks.{IsInterBlock, IsInterMb, IsQuant};
+ghost use Rattle.std.specs.Prelude.{◌≡◌, ℕ, ◌*◌, ◌%◌, ◌<◌, ◌≤◌, ◌&&◌, pos, ◌+ℤ◌, All, length, nat_eq, if◌then◌else◌, Some};
+ghost use Rattle.h263_types.specs.Blocks.{IsInterBlock, IsQuant};
 ghost use Rattle.h263_types.specs.Sizes.{mbs_of};
-ghost use Rattle.h263_types.specs.Vectors.{InReach};
 ghost use Rattle.h263_types.specs.declared.blocks.Mb.TheVariants.{Inter};
 ghost use Rattle.h263_types.specs.declared.vector.Vector.{Vector};
 ghost use Rattle.h263_planes.specs.declared.Plane.{Plane};
 ghost use Rattle.h263_planes.specs.Blocks.{block_of, mb_of};
-ghost use Rattle.h263_planes.specs.Lent.{picture};
 ghost use Rattle.h263_planes.specs.Picture.{Picture};
 ghost use Rattle.h263_planes.specs.Samples.{Inside, IsPicture, same_plane, sample_at};
 ghost use Rattle.h263_planes.specs.Work.{loan_of, work};
+ghost use Rattle.half_sample.specs.Macroblock.{IsPredicted};
 ghost use Rattle.half_sample.specs.Prediction.{ArePredicted, predicted_sample};
 ghost use Rattle.idct8.specs.Transform.{inverse_at};
 ghost use Rattle.picture_recon.specs.Samples.{inter_values, limited};
@@ -18,40 +17,37 @@ ghost use Rattle.picture_recon.specs.Shown.{SetsMb};
 ghost use Rattle.picture_recon.specs.Squares.{columns_in};
 
 use crate::blocks::{put_samples, samples_at};
-use crate::squares::{put_square, square_of};
+use crate::squares::square_of;
 use crate::values::{inter_samples, marks_of};
-use h263_planes::{PictureMut, PictureRef, Plane, block_corner};
-use h263_types::{Block, Format, Vector};
-use half_sample::predict;
+use h263_planes::{PictureMut, Plane, block_corner};
+use h263_types::{Block, Format};
+use half_sample::Predicted;
 use idct8::laws as idct8_laws;
 use quantiser::laws as quantiser_laws;
 
 // Sets the samples of an inter macroblock: the predicted ones, and then those of the blocks that
 // have levels. Luma stands apart from the colours, so that each is compiled for its plane.
 pub(crate) fn put_inter(
-    reference: PictureRef<'_>,
-    rounding: u8,
+    predicted: &Predicted,
     quant: u8,
-    vector: Vector,
     blocks: &[Block; 6],
     at: u32,
     format: Format,
     out: &mut PictureMut<'_>,
 )
-    requires reference { (picture reference).format ≡ format }
-    requires rounding { rounding ≤ 1 }
     requires format { (work out.old).format ≡ format }
     requires at { at < mbs_of format }
-    requires in_range { IsInterMb quant vector blocks.now }
-    requires reach { InReach format at vector.x vector.y }
+    requires quant { IsQuant quant }
+    requires blocks { All IsInterBlock blocks.now }
     requires whole { IsPicture (work out.old) }
     ensures same_loan { loan_of out.new ≡ loan_of out.old }
     ensures format { (work out.new).format ≡ format }
     ensures whole { IsPicture (work out.new) }
-    ensures samples { SetsMb format rounding (Some (picture reference.entry)) at
-        (Inter quant vector blocks.now) (work out.old) (work out.new) }
+    ensures samples { (p : Picture) (v : Vector) (r : ℕ)
+        → p.format ≡ format → IsPredicted p at v r predicted.now
+        → SetsMb format r (Some p) at (Inter quant v blocks.now) (work out.old) (work out.new) }
 {
-    put_predicted(reference, at, vector, rounding, format, out);
+    put_predicted(predicted, at, format, out);
     for block in 0..4u32 {
         add_block(quant, &blocks[block as usize], at, block, format, out);
     }
@@ -98,49 +94,49 @@ fn add_block(
 }
 
 // Sets the samples of macroblock `at` to the predicted ones.
-fn put_predicted(
-    reference: PictureRef<'_>,
-    at: u32,
-    vector: Vector,
-    rounding: u8,
-    format: Format,
-    out: &mut PictureMut<'_>,
-)
-    requires reference { (picture reference).format ≡ format }
+fn put_predicted(samples: &Predicted, at: u32, format: Format, out: &mut PictureMut<'_>)
     requires format { (work out.old).format ≡ format }
     requires at { at < mbs_of format }
-    requires reach { InReach format at vector.x vector.y }
-    requires rounding { rounding ≤ 1 }
-    requires whole { IsPicture (work out.old) }
-    ensures same_loan { loan_of out.new ≡ loan_of out.old }
-    ensures format { (work out.new).format ≡ format }
-    ensures whole { IsPicture (work out.new) }
-    ensures samples { (plane : Plane) (x y : ℕ) → Inside format plane x y 1
-        → sample_at (work out.new) plane x y ≡ (if nat_eq (mb_of format plane x y) at
-        then predicted_sample (picture reference.entry) plane x y vector rounding
-        else sample_at (work out.old) plane x y) }
-{
-    let samples = predict(reference, at, vector, rounding);
-    put_plane(Plane::Y, &samples.y, at, format, out);
-    put_plane(Plane::Cb, &samples.cb, at, format, out);
-    put_plane(Plane::Cr, &samples.cr, at, format, out);
-}
-
-// Sets the samples of macroblock `at` in one plane, which are given by rows.
-#[inline(always)]
-fn put_plane(plane: Plane, samples: &[u8], at: u32, format: Format, out: &mut PictureMut<'_>)
-    requires format { (work out.old).format ≡ format }
-    requires at { at < mbs_of format }
-    requires samples { length samples.now ≡ columns_in plane * columns_in plane }
     requires whole { IsPicture (work out.old) }
     ensures same_loan { loan_of out.new ≡ loan_of out.old }
     ensures format { (work out.new).format ≡ format }
     ensures whole { IsPicture (work out.new) }
     ensures samples { (p : Picture) (v : Vector) (r : ℕ)
-        → p.format ≡ format → ArePredicted (columns_in plane) p plane at v r samples.now
+        → p.format ≡ format → IsPredicted p at v r samples.now
+        → (plane : Plane) (x y : ℕ) → Inside format plane x y 1
+        → sample_at (work out.new) plane x y ≡ (if nat_eq (mb_of format plane x y) at
+        then predicted_sample p plane x y v r else sample_at (work out.old) plane x y) }
+{
+    put_plane::<16>(Plane::Y, &samples.y, at, format, out);
+    put_plane::<8>(Plane::Cb, &samples.cb, at, format, out);
+    put_plane::<8>(Plane::Cr, &samples.cr, at, format, out);
+}
+
+// Sets the N x N samples of macroblock `at` in one plane, which are given by rows.
+#[inline(always)]
+fn put_plane<const N: usize>(
+    plane: Plane,
+    samples: &[u8],
+    at: u32,
+    format: Format,
+    out: &mut PictureMut<'_>,
+)
+    requires format { (work out.old).format ≡ format }
+    requires at { at < mbs_of format }
+    requires least { 8 ≤ N }
+    requires most { N ≤ 16 }
+    requires size { N ≡ columns_in plane }
+    requires samples { length samples.now ≡ N * N }
+    requires whole { IsPicture (work out.old) }
+    ensures same_loan { loan_of out.new ≡ loan_of out.old }
+    ensures format { (work out.new).format ≡ format }
+    ensures whole { IsPicture (work out.new) }
+    ensures samples { (p : Picture) (v : Vector) (r : ℕ)
+        → p.format ≡ format → ArePredicted N p plane at v r samples.now
         → (other : Plane) (x y : ℕ) → Inside format other x y 1 → sample_at (work out.new) other x y
         ≡ (if same_plane plane other && nat_eq (mb_of format other x y) at
         then predicted_sample p other x y v r else sample_at (work out.old) other x y) }
 {
-    put_square(plane, square_of(format, plane, at), samples, format, out);
+    let square = square_of(format, plane, at);
+    out.set_square::<N>(plane, square.x, square.y, samples);
 }

@@ -13,6 +13,7 @@ use quantiser::{block_place, laws as quantiser_laws, value};
 // The samples of a block of an intra macroblock, by rows: INTRADC itself where the block has no
 // other level. Else INTRADC is added to what the others give, which are small: so the transform is
 // quick.
+#[inline(always)]
 pub(crate) fn intra_samples(quant: u8, block: &Block) -> [u8; 64]
     requires quant { IsQuant quant }
     requires block { IsIntraBlock block.now }
