@@ -107,6 +107,10 @@ dc_code z = if int_eq z (pos 128) then 255 else unsigned_abs z
 abbrev pub is_coded : List ℤ → Bool
 is_coded levels = not (none_left (drop 1 levels))
 
+-- whether a block of an intra or of an inter macroblock is coded
+abbrev pub coded_in : Bool → List ℤ → Bool
+coded_in intra levels = if intra then is_coded levels else not (none_left levels)
+
 -- the events of a block's levels from a place on
 unfoldable pub levels_text : ℕ → List ℤ → List Bool
 levels_text from levels = events_text (events_of 0 (drop from levels))

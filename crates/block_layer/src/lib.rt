@@ -19,6 +19,6 @@ mod writing;
 
 pub use reading::{read_inter, read_intra};
 pub use writing::{
-    is_inter_coded, is_inter_coded_by, is_intra_coded, is_intra_coded_by, write_inter,
-    write_inter_by, write_intra, write_intra_by,
+    is_coded_by, is_inter_coded, is_intra_coded, write_inter, write_inter_by, write_intra,
+    write_intra_by,
 };

@@ -6,7 +6,7 @@ ghost use Rattle.h263_types.specs.Blocks.{IsIntraBlock, IsInterBlock};
 ghost use Rattle.h263_types.specs.Marks.{marks_of};
 ghost use Rattle.code_tables.specs.Events.{coefficient_of};
 ghost use Rattle.code_tables.specs.Tables.{size_of};
-ghost use Rattle.block_layer.specs.Text.{none_left, events_of, events_text, dc_code, is_coded, levels_text, coded_text, intra_text, inter_text, IsIntraText, IsInterText};
+ghost use Rattle.block_layer.specs.Text.{none_left, events_of, events_text, dc_code, is_coded, coded_in, levels_text, coded_text, intra_text, inter_text, IsIntraText, IsInterText};
 ghost use Rattle.block_layer.specs.Step.{AreWritten, level_at, one_event};
 
 use code_tables::{Coefficient, laws as code_tables_laws, write_event};
@@ -31,7 +31,7 @@ pub fn is_intra_coded(block: &Block) -> bool
     ensures coded { result ≡ is_coded block.now.levels }
     ensures whole { length block.now.levels ≡ 64 }
 {
-    is_intra_coded_by(block.marks())
+    is_coded_by(true, block.marks())
 }
 
 /// Whether a block of an inter macroblock is coded: a level isn't 0.
@@ -39,23 +39,16 @@ pub fn is_inter_coded(block: &Block) -> bool
     ensures coded { result ≡ not (none_left block.now.levels) }
     ensures whole { length block.now.levels ≡ 64 }
 {
-    is_inter_coded_by(block.marks())
+    is_coded_by(false, block.marks())
 }
 
-/// Whether a block of an intra macroblock is coded, by its marks.
+/// Whether a block of an intra or of an inter macroblock is coded, by its marks: a level isn't 0, in
+/// an intra macroblock another one than INTRADC.
 #[inline(always)]
-pub fn is_intra_coded_by(marks: u64) -> bool
-    ensures { (levels : List ℤ) → marks ≡ marks_of levels → result ≡ is_coded levels }
+pub fn is_coded_by(intra: bool, marks: u64) -> bool
+    ensures { (levels : List ℤ) → marks ≡ marks_of levels → result ≡ coded_in intra levels }
 {
-    marks >> 1 != 0
-}
-
-/// Whether a block of an inter macroblock is coded, by its marks.
-#[inline(always)]
-pub fn is_inter_coded_by(marks: u64) -> bool
-    ensures { (levels : List ℤ) → marks ≡ marks_of levels → result ≡ not (none_left levels) }
-{
-    marks != 0
+    if intra { marks >> 1 != 0 } else { marks != 0 }
 }
 
 // Writes the events of the levels from a place on: one for each that isn't 0.

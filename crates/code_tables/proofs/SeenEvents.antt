@@ -55,7 +55,7 @@ all_small = refl
 -- ---- by the first 22 bits
 
 -- n bits from place o on, from the number of the first m
-field_in : (bits : List Bool) (o n s m : ℕ) → o + n + s ≡ m → m ≤ length bits → number (take n (drop o bits)) ≡ number (take m bits) / 2 ^ s % 2 ^ n
+pub field_in : (bits : List Bool) (o n s m : ℕ) → o + n + s ≡ m → m ≤ length bits → number (take n (drop o bits)) ≡ number (take m bits) / 2 ^ s % 2 ^ n
 field_in bits o n s m e le =
     let len : length (take m bits) ≡ m = omega (arith, length-take m bits) in
     let parts : m ≡ o + (n + s) = omega arith in
@@ -63,7 +63,7 @@ field_in bits o n s m e le =
     ap (λ (j : ℕ). take n (drop o (take j bits))) parts ∙ ap (take n) (drop-take o (n + s) bits) ∙ take-take n (n + s) (drop o bits) (omega arith) (omega (arith, length-drop o bits)) in
     ap number (sym inside) ∙ number-middle (take m bits) o n s (omega (arith, len))
 
-skip-skip : (j k : ℕ) (b : Bits) → skip k (skip j b) ≡ skip (j + k) b
+pub skip-skip : (j k : ℕ) (b : Bits) → skip k (skip j b) ≡ skip (j + k) b
 skip-skip j k b =
     let at : b.at + j + k ≡ b.at + (j + k) = omega arith in
     rw (at, drop-drop k j b.bits) refl

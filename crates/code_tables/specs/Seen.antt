@@ -1,11 +1,12 @@
--- Events by their first bits, as one number: an event has 22 bits at most, as an escape.
+-- Events and differences by their first bits, as one number: an event has 22 bits at most, as an escape, and a difference 13.
 use Rattle.std.specs.Prelude.{◌≡◌, ℕ, ◌≤◌, length, take, Option, Ok}
 use Rattle.h263_bits.specs.Bits.{number}
 use Rattle.h263_bits.specs.Reading.{Bits, skip}
 use Rattle.h263_bits.specs.Syntax.{reading, word_at}
+use Rattle.code_tables.specs.declared.difference_bits.SeenDifference.{SeenDifference}
 use Rattle.code_tables.specs.declared.event_bits.SeenEvent.{SeenEvent}
 use Rattle.code_tables.specs.Events.{coefficient_of}
-use Rattle.code_tables.specs.Tables.{Event, tcoef_words, event_parts}
+use Rattle.code_tables.specs.Tables.{Event, magnitude_words, mvd, tcoef_words, event_parts}
 
 -- All bits of which the first 22 are this number begin with the word of an event, or of an escape.
 abbrev pub IsWordIn : ℕ → Option Event → ℕ → Type 0
@@ -19,3 +20,16 @@ pub record IsFirst (b : Bits) (found : SeenEvent) : Type 0 where
 
 abbrev pub IsEventIn : ℕ → SeenEvent → Type 0
 IsEventIn seen found = (b : Bits) → 22 ≤ length b.bits → number (take 22 b.bits) ≡ seen → IsFirst b found
+
+-- All bits of which the first 13 are this number begin with the word of this magnitude.
+abbrev pub IsMagnitudeIn : ℕ → ℕ → ℕ → Type 0
+IsMagnitudeIn seen size len = (b : Bits) → 13 ≤ length b.bits → number (take 13 b.bits) ≡ seen
+    → word_at magnitude_words b ≡ Ok (size, skip len b)
+
+-- All bits of which the first 13 are this number begin with this difference.
+pub record IsFirstDifference (b : Bits) (found : SeenDifference) : Type 0 where
+  pub few : found.len ≤ 13
+  pub read : reading mvd b ≡ Ok (found.value, skip found.len b)
+
+abbrev pub IsDifferenceIn : ℕ → SeenDifference → Type 0
+IsDifferenceIn seen found = (b : Bits) → 13 ≤ length b.bits → number (take 13 b.bits) ≡ seen → IsFirstDifference b found

@@ -43,7 +43,8 @@ pub struct SeenEvent {
     pub len: u32,
 }
 
-fn len_at(codes: &[Code], place: usize) -> u32
+/// How many bits the code at a place of a table has.
+pub fn len_at(codes: &[Code], place: usize) -> u32
     requires { place < length codes.now }
     ensures { result ≡ (code_at codes.now place).len }
 {
@@ -85,8 +86,8 @@ fn seen_escape(seen: u32) -> Option<SeenEvent>
     Some(SeenEvent { event, len: 22 })
 }
 
-/// The event that 22 bits begin with, which are as many as the longest has. None where they begin
-/// with none.
+/// The event that 22 bits begin with, which are as many as the longest has. None leaves them to be
+/// read part by part: they may begin with none, or with an escape of a level that is refused.
 pub fn seen_event(seen: u32) -> Option<SeenEvent>
     requires { seen < 2 ^ 22 }
     ensures { IfSome result (λ found. IsEventIn seen found) }

@@ -19,6 +19,7 @@
 #![tactic(auto)]
 
 mod code;
+mod difference_bits;
 mod event_bits;
 mod event_tables;
 pub mod laws;

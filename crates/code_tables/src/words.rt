@@ -12,6 +12,7 @@ ghost use Rattle.code_tables.specs.Tables.{cbpy, cbpy_texts, cbpy_text, magnitud
 ghost use Rattle.code_tables.specs.Events.{event_of_code, coefficient_of};
 
 use crate::code::{Coefficient, Level, read_code, write_code, write_signed_code};
+use crate::difference_bits::seen_difference;
 use crate::event_bits::{escape_level, level_at, seen_event, with_sign};
 use crate::event_tables::{EVENTS, EVENTS_FAST, EVENTS_LONG, LAST_0_STARTS, LAST_1_STARTS, LEVELS};
 use crate::tables::{CBPY, CBPY_FAST, MAGNITUDES, MAGNITUDES_FAST, MAGNITUDES_LONG};
@@ -82,6 +83,13 @@ pub fn read_mvd(reader: &mut BitReader<'_>) -> Result<i8, Fault>
     ensures low { IfOk result (λ v. negsuc 31 ≤ℤ v) }
     ensures high { IfOk result (λ v. v ≤ℤ pos 31) }
 {
+    if reader.rest() >= 13 {
+        let seen = reader.peek(13);
+        if let Some(found) = seen_difference(seen) {
+            reader.skip(found.len);
+            return Ok(found.value);
+        }
+    }
     let at = reader.at();
     match read_mvd_parts(reader) {
         Ok(value) => {

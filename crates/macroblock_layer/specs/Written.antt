@@ -32,10 +32,6 @@ AreMarksOf blocks marks = (k : ℕ) → k < 6 → slice_index_or marks k 0 ≡ m
 abbrev pub has_levels : List ℤ → Bool
 has_levels levels = not (none_left levels)
 
--- whether a block is coded: in an intra macroblock INTRADC isn't looked at
-abbrev pub coded_in : Bool → List ℤ → Bool
-coded_in intra levels = if intra then is_coded levels else has_levels levels
-
 -- CBPY: a bit for each block of luma that is coded, the left one for the first
 abbrev pub cbpy_of : (List ℤ → Bool) → List Block → ℕ
 cbpy_of coded blocks =

@@ -6,7 +6,7 @@ ghost use Rattle.h263_types.specs.Blocks.{IsQuant, IsMb, IsOfKind};
 ghost use Rattle.h263_types.specs.declared.blocks.Mb.{Mb};
 ghost use Rattle.h263_types.specs.declared.vector.Vector.{Vector};
 ghost use Rattle.macroblock_layer.specs.Text.{class_turn, lead_turn, lead, is_intra, quantiser, limited, difference, moved, wrapped, is_within_across, is_within_along, is_within, vector, intra, inter, blocks, intra_mb, inter_mb, coded_mb, behind, mb, IsMbText, macroblock_fault};
-ghost use Rattle.macroblock_layer.specs.Turns.{turn_of};
+ghost use Rattle.macroblock_layer.specs.Turns.{turn_of, IsIntraOf, IsInterOf, IsMovedOf, moved_mb};
 ghost use Rattle.macroblock_layer.specs.declared.reading.Lead.{Lead};
 
 use crate::laws;
@@ -21,6 +21,21 @@ use h263_types::{Block, Kind, Mb, Reach, Vector};
 pub enum Lead {
     Skipped,
     Coded { class: MbClass, cbpc: u8 },
+}
+
+// What a macroblock is read by: the quantiser in force, and its vector's reach and prediction.
+#[derive(Clone, Copy)]
+struct Near {
+    quant: u8,
+    reach: Reach,
+    predictor: Vector,
+}
+
+// CBPY and CBPC: which of the six blocks are coded.
+#[derive(Clone, Copy)]
+struct Pattern {
+    cbpy: u8,
+    cbpc: u8,
 }
 
 // MCBPC; none for stuffing.
@@ -150,18 +165,18 @@ fn read_inter_block(reader: &mut BitReader<'_>, coded: bool, out: &mut Block) ->
 #[tactic(auto, unfolding(crate::specs::Text::blocks, h263_bits::specs::Syntax::reading))]
 fn read_intra_blocks(
     reader: &mut BitReader<'_>,
-    cbpy: u8,
-    cbpc: u8,
+    pattern: Pattern,
     out: &mut [Block; 6],
 ) -> Result<(), Fault>
-    ensures { Gives (λ _. out.new) result reader.new (reading (blocks intra cbpy cbpc) reader.old) }
+    ensures { Gives (λ _. out.new) result reader.new
+        (reading (blocks intra pattern.cbpy pattern.cbpc) reader.old) }
 {
-    read_intra_block(reader, cbpy / 8 % 2 == 1, &mut out[0])?;
-    read_intra_block(reader, cbpy / 4 % 2 == 1, &mut out[1])?;
-    read_intra_block(reader, cbpy / 2 % 2 == 1, &mut out[2])?;
-    read_intra_block(reader, cbpy % 2 == 1, &mut out[3])?;
-    read_intra_block(reader, cbpc / 2 % 2 == 1, &mut out[4])?;
-    read_intra_block(reader, cbpc % 2 == 1, &mut out[5])?;
+    read_intra_block(reader, pattern.cbpy / 8 % 2 == 1, &mut out[0])?;
+    read_intra_block(reader, pattern.cbpy / 4 % 2 == 1, &mut out[1])?;
+    read_intra_block(reader, pattern.cbpy / 2 % 2 == 1, &mut out[2])?;
+    read_intra_block(reader, pattern.cbpy % 2 == 1, &mut out[3])?;
+    read_intra_block(reader, pattern.cbpc / 2 % 2 == 1, &mut out[4])?;
+    read_intra_block(reader, pattern.cbpc % 2 == 1, &mut out[5])?;
     Ok(())
 }
 
@@ -169,18 +184,18 @@ fn read_intra_blocks(
 #[tactic(auto, unfolding(crate::specs::Text::blocks, h263_bits::specs::Syntax::reading))]
 fn read_inter_blocks(
     reader: &mut BitReader<'_>,
-    cbpy: u8,
-    cbpc: u8,
+    pattern: Pattern,
     out: &mut [Block; 6],
 ) -> Result<(), Fault>
-    ensures { Gives (λ _. out.new) result reader.new (reading (blocks inter cbpy cbpc) reader.old) }
+    ensures { Gives (λ _. out.new) result reader.new
+        (reading (blocks inter pattern.cbpy pattern.cbpc) reader.old) }
 {
-    read_inter_block(reader, cbpy / 8 % 2 == 1, &mut out[0])?;
-    read_inter_block(reader, cbpy / 4 % 2 == 1, &mut out[1])?;
-    read_inter_block(reader, cbpy / 2 % 2 == 1, &mut out[2])?;
-    read_inter_block(reader, cbpy % 2 == 1, &mut out[3])?;
-    read_inter_block(reader, cbpc / 2 % 2 == 1, &mut out[4])?;
-    read_inter_block(reader, cbpc % 2 == 1, &mut out[5])?;
+    read_inter_block(reader, pattern.cbpy / 8 % 2 == 1, &mut out[0])?;
+    read_inter_block(reader, pattern.cbpy / 4 % 2 == 1, &mut out[1])?;
+    read_inter_block(reader, pattern.cbpy / 2 % 2 == 1, &mut out[2])?;
+    read_inter_block(reader, pattern.cbpy % 2 == 1, &mut out[3])?;
+    read_inter_block(reader, pattern.cbpc / 2 % 2 == 1, &mut out[4])?;
+    read_inter_block(reader, pattern.cbpc % 2 == 1, &mut out[5])?;
     Ok(())
 }
 
@@ -196,25 +211,89 @@ fn read_lead(reader: &mut BitReader<'_>, kind: Kind) -> Result<Lead, Fault>
     }
 }
 
+// Makes an intra macroblock of this quantiser. Its levels are left open: where it was one before,
+// they stay as they are.
+fn begin_intra(quant: u8, out: &mut Mb)
+    ensures { IsIntraOf quant out.new }
+{
+    match out {
+        Mb::Intra { quant: old, .. } => *old = quant,
+        _ => {
+            *out = Mb::Intra {
+                quant,
+                blocks: [Block { levels: [0; 64] }; 6],
+            }
+        }
+    }
+}
+
 // The macroblock after a class: its quantiser is in force from here on. Its blocks are read where
-// they stay.
+// they stay, and each clears its own levels.
 #[tactic(auto, unfolding(crate::specs::Text::intra_mb, h263_bits::specs::Syntax::reading))]
 fn read_intra_mb(
     reader: &mut BitReader<'_>,
     quant: u8,
-    cbpy: u8,
-    cbpc: u8,
+    pattern: Pattern,
     out: &mut Mb,
 ) -> Result<(), Fault>
-    ensures { Gives
-        (λ _. out.new) result reader.new (reading (intra_mb quant cbpy cbpc) reader.old) }
+    ensures { Gives (λ _. out.new) result reader.new
+        (reading (intra_mb quant pattern.cbpy pattern.cbpc) reader.old) }
 {
-    *out = Mb::Intra {
-        quant,
-        blocks: [Block { levels: [0; 64] }; 6],
-    };
+    begin_intra(quant, out);
     match out {
-        Mb::Intra { blocks, .. } => read_intra_blocks(reader, cbpy, cbpc, blocks),
+        Mb::Intra { blocks, .. } => read_intra_blocks(reader, pattern, blocks),
+        _ => Ok(()),
+    }
+}
+
+// Makes an inter macroblock of this quantiser. Its vector and its levels are left open.
+fn begin_inter(quant: u8, out: &mut Mb)
+    ensures { IsInterOf quant out.new }
+{
+    match out {
+        Mb::Inter { quant: old, .. } => *old = quant,
+        _ => {
+            *out = Mb::Inter {
+                quant,
+                vector: Vector::ZERO,
+                blocks: [Block { levels: [0; 64] }; 6],
+            }
+        }
+    }
+}
+
+fn put_vector(vector: Vector, out: &mut Mb)
+    ensures { (quant : ℕ) → IsInterOf quant out.old → IsMovedOf quant vector out.new }
+{
+    match out {
+        Mb::Inter { vector: old, .. } => *old = vector,
+        _ => {}
+    }
+}
+
+// Makes an inter macroblock of this quantiser and vector. Its levels are left open.
+fn begin_moved(quant: u8, vector: Vector, out: &mut Mb)
+    ensures { IsMovedOf quant vector out.new }
+{
+    begin_inter(quant, out);
+    put_vector(vector, out);
+}
+
+// An inter macroblock after its vector.
+#[tactic(auto, unfolding(h263_bits::specs::Syntax::reading))]
+fn read_moved_mb(
+    reader: &mut BitReader<'_>,
+    quant: u8,
+    vector: Vector,
+    pattern: Pattern,
+    out: &mut Mb,
+) -> Result<(), Fault>
+    ensures { Gives (λ _. out.new) result reader.new
+        (reading (moved_mb quant vector pattern.cbpy pattern.cbpc) reader.old) }
+{
+    begin_moved(quant, vector, out);
+    match out {
+        Mb::Inter { blocks, .. } => read_inter_blocks(reader, pattern, blocks),
         _ => Ok(()),
     }
 }
@@ -222,26 +301,15 @@ fn read_intra_mb(
 #[tactic(auto, unfolding(crate::specs::Text::inter_mb, h263_bits::specs::Syntax::reading))]
 fn read_inter_mb(
     reader: &mut BitReader<'_>,
-    reach: Reach,
-    predictor: Vector,
-    quant: u8,
-    cbpy: u8,
-    cbpc: u8,
+    near: Near,
+    pattern: Pattern,
     out: &mut Mb,
 ) -> Result<(), Fault>
-    ensures { Gives (λ _. out.new) result reader.new
-        (reading (inter_mb reach predictor quant cbpy cbpc) reader.old) }
+    ensures { Gives (λ _. out.new) result reader.new (reading
+        (inter_mb near.reach near.predictor near.quant pattern.cbpy pattern.cbpc) reader.old) }
 {
-    let vector = read_vector(reader, reach, predictor)?;
-    *out = Mb::Inter {
-        quant,
-        vector,
-        blocks: [Block { levels: [0; 64] }; 6],
-    };
-    match out {
-        Mb::Inter { blocks, .. } => read_inter_blocks(reader, cbpy, cbpc, blocks),
-        _ => Ok(()),
-    }
+    let vector = read_vector(reader, near.reach, near.predictor)?;
+    read_moved_mb(reader, near.quant, vector, pattern, out)
 }
 
 // The quantiser after a step, limited to 1 to 31.
@@ -284,46 +352,41 @@ fn is_intra(class: MbClass) -> bool
 #[tactic(auto, unfolding(crate::specs::Text::coded_mb, h263_bits::specs::Syntax::reading))]
 fn read_coded_mb(
     reader: &mut BitReader<'_>,
-    quant: u8,
-    reach: Reach,
-    predictor: Vector,
+    near: Near,
     class: MbClass,
     cbpc: u8,
     out: &mut Mb,
 ) -> Result<(), Fault>
     ensures { Gives (λ _. out.new) result reader.new
-        (reading (coded_mb quant reach predictor class cbpc) reader.old) }
+        (reading (coded_mb near.quant near.reach near.predictor class cbpc) reader.old) }
 {
     let intra = is_intra(class);
     let cbpy = read_cbpy(reader, intra)?;
-    let quant = read_quantiser(reader, class, quant)?;
+    let quant = read_quantiser(reader, class, near.quant)?;
+    let pattern = Pattern { cbpy, cbpc };
     if intra {
-        return read_intra_mb(reader, quant, cbpy, cbpc, out);
+        return read_intra_mb(reader, quant, pattern, out);
     }
-    read_inter_mb(reader, reach, predictor, quant, cbpy, cbpc, out)
+    read_inter_mb(reader, Near { quant, ..near }, pattern, out)
 }
 
 // What follows the leading words.
 #[tactic(auto, unfolding(crate::specs::Text::behind, h263_bits::specs::Syntax::reading))]
 fn read_behind(
     reader: &mut BitReader<'_>,
-    quant: u8,
-    reach: Reach,
-    predictor: Vector,
+    near: Near,
     lead: Lead,
     out: &mut Mb,
 ) -> Result<(), Fault>
-    ensures { Gives
-        (λ _. out.new) result reader.new (reading (behind quant reach predictor lead) reader.old) }
+    ensures { Gives (λ _. out.new) result reader.new
+        (reading (behind near.quant near.reach near.predictor lead) reader.old) }
 {
     match lead {
         Lead::Skipped => {
             *out = Mb::Skip;
             Ok(())
         }
-        Lead::Coded { class, cbpc } => {
-            read_coded_mb(reader, quant, reach, predictor, class, cbpc, out)
-        }
+        Lead::Coded { class, cbpc } => read_coded_mb(reader, near, class, cbpc, out),
     }
 }
 
@@ -355,5 +418,10 @@ pub fn read_mb(
     block_layer::laws::in_a_syntax();
     laws::in_a_syntax();
     let lead = read_lead(reader, kind)?;
-    read_behind(reader, quant, reach, predictor, lead, out)
+    let near = Near {
+        quant,
+        reach,
+        predictor,
+    };
+    read_behind(reader, near, lead, out)
 }

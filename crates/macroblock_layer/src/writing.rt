@@ -10,13 +10,13 @@ ghost use Rattle.code_tables.specs.declared.macroblock.MbClass.{MbClass};
 ghost use Rattle.code_tables.specs.declared.macroblock.Mcbpc.TheVariants.{Word};
 ghost use Rattle.code_tables.specs.Mcbpc.{IsInTable};
 ghost use Rattle.code_tables.specs.Tables.{bit_of, cbpy_text};
-ghost use Rattle.block_layer.specs.Text.{none_left, is_coded, intra_text, inter_text};
+ghost use Rattle.block_layer.specs.Text.{none_left, is_coded, coded_in, intra_text, inter_text};
 ghost use Rattle.macroblock_layer.specs.Text.{wrapped, IsMbText};
-ghost use Rattle.macroblock_layer.specs.Written.{levels_at, AreMarksOf, coded_in, cbpy_of, cbpc_of, class_of, cod_text, class_text, step_text, head_text, vector_text, blocks_text, intra_mb_text, inter_mb_text, mb_text, IsNear, IsStepped, IsReached};
+ghost use Rattle.macroblock_layer.specs.Written.{levels_at, AreMarksOf, cbpy_of, cbpc_of, class_of, cod_text, class_text, step_text, head_text, vector_text, blocks_text, intra_mb_text, inter_mb_text, mb_text, IsNear, IsStepped, IsReached};
 
 use crate::laws;
 use crate::reading::wrapped;
-use block_layer::{is_inter_coded_by, is_intra_coded_by, write_inter_by, write_intra_by};
+use block_layer::{is_coded_by, write_inter_by, write_intra_by};
 use code_tables::{MbClass, Mcbpc, write_cbpy, write_dquant, write_mcbpc, write_mvd};
 use h263_bits::BitWriter;
 use h263_types::{Block, Kind, Mb, Vector};
@@ -58,17 +58,6 @@ fn marks_of_six(blocks: &[Block; 6]) -> [u64; 6]
     ]
 }
 
-// Whether a block is coded, by its marks. In an intra macroblock INTRADC isn't looked at.
-fn is_coded_in(intra: bool, marks: u64) -> bool
-    ensures { (levels : List ℤ) → marks ≡ marks_of levels → result ≡ coded_in intra levels }
-{
-    if intra {
-        is_intra_coded_by(marks)
-    } else {
-        is_inter_coded_by(marks)
-    }
-}
-
 // Which of the six blocks of a macroblock are coded.
 fn pattern_of(intra: bool, blocks: &[Block; 6]) -> Pattern
     ensures cbpy { result.cbpy ≡ cbpy_of (coded_in intra) blocks.now }
@@ -79,12 +68,12 @@ fn pattern_of(intra: bool, blocks: &[Block; 6]) -> Pattern
     ensures whole { AreWhole blocks.now }
 {
     let marks = marks_of_six(blocks);
-    let a = is_coded_in(intra, marks[0]);
-    let b = is_coded_in(intra, marks[1]);
-    let c = is_coded_in(intra, marks[2]);
-    let d = is_coded_in(intra, marks[3]);
-    let e = is_coded_in(intra, marks[4]);
-    let f = is_coded_in(intra, marks[5]);
+    let a = is_coded_by(intra, marks[0]);
+    let b = is_coded_by(intra, marks[1]);
+    let c = is_coded_by(intra, marks[2]);
+    let d = is_coded_by(intra, marks[3]);
+    let e = is_coded_by(intra, marks[4]);
+    let f = is_coded_by(intra, marks[5]);
     Pattern {
         cbpy: cbpy(a, b, c, d),
         cbpc: cbpc(e, f),

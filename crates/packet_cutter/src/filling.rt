@@ -17,7 +17,7 @@ use h263_bits::BitWriter;
 use h263_payload::write_payload;
 use h263_types::Mb;
 use picture_header::{Header, header_bits, laws as picture_header_laws};
-use slice_layer::{Added, SliceWriter};
+use slice_layer::{Added, MbRoom, SliceWriter};
 
 /// How many macroblocks were written, and in how many bytes.
 #[derive(Clone, Copy, Debug, PartialEq, Eq)]
@@ -45,9 +45,10 @@ fn fill(writer: &mut SliceWriter<'_>, mbs: &[Mb]) -> u32
     ensures loan { loan_of writer.new ≡ loan_of writer.old }
     ensures room { length (bytes_in writer.new) ≡ length (bytes_in writer.old) }
 {
+    let mut apart = MbRoom::new();
     let mut count = 0;
     'each: for mb in mbs {
-        if writer.add(mb) == Added::Full {
+        if writer.add_by(mb, &mut apart) == Added::Full {
             return count;
         }
         count += 1;

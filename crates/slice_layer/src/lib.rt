@@ -24,3 +24,4 @@ mod writing_text;
 
 pub use reading::read_slice;
 pub use writing::{Added, SliceWriter};
+pub use writing_text::MbRoom;

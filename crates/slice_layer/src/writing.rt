@@ -11,7 +11,7 @@ ghost use Rattle.macroblock_layer.specs.Written.{IsStepped, mb_text};
 ghost use Rattle.slice_layer.specs.Around.{vector_of, quant_after};
 
 use crate::shared::{quant_after, vector_of};
-use crate::writing_text::{paste, write_apart, write_front};
+use crate::writing_text::{MbRoom, paste, write_apart, write_front};
 use h263_bits::BitReader;
 use h263_types::{Format, Kind, Mb, Vector};
 use macroblock_layer::predictor;
@@ -144,20 +144,52 @@ impl<'a> SliceWriter<'a> {
         ensures whole { HasWholeBlocks mb.now }
         ensures room { length (bytes_in self.new) ≡ length (bytes_in self.old) }
     {
+        self.add_by(mb, &mut MbRoom::new())
+    }
+
+    /// Adds the next macroblock, as [`add`](SliceWriter::add) does. Its text is first written into
+    /// room that is lent, which one caller makes once for many macroblocks.
+    pub fn add_by(&mut self, mb: &Mb, apart: &mut MbRoom) -> Added
+        requires mb { IsMb mb.now }
+        requires kind { IsOfKind (kind_of self.old) mb.now }
+        requires step { IsStepped (quant_of self.old) mb.now }
+        requires left { next_of self.old < mbs_of (format_of self.old) }
+        ensures answer { (h : Header) (begins : Bool) (first : ℕ) (mbs : List Mb)
+            → HoldsSlice self.old h begins first mbs → result ≡ answer (length (bytes_in self.old))
+            (bytes_of (slice_text h begins first (mbs ++ mb.now ∷ []))) }
+        ensures fits { (h : Header) (begins : Bool) (first : ℕ) (mbs : List Mb)
+            → HoldsSlice self.old h begins first mbs
+            → result ≡ Added.Fits → HoldsSlice self.new h begins first (mbs ++ mb.now ∷ []) }
+        ensures full { result ≡ Added.Full → self.new ≡ self.old }
+        // There is room for the first macroblock.
+        ensures first { (h : Header) (begins : Bool) (first : ℕ) → IsHeader h → 1150
+            ≤ length (bytes_in self.old) → HoldsSlice self.old h begins first [] → result ≡ Added.Fits }
+        ensures slice { GoesOn self.old self.new }
+        ensures next { result ≡ Added.Fits → next_of self.new ≡ next_of self.old + 1 }
+        ensures quant { result ≡ Added.Fits
+            → quant_of self.new ≡ quant_after (quant_of self.old) mb.now }
+        ensures whole { HasWholeBlocks mb.now }
+        ensures room { length (bytes_in self.new) ≡ length (bytes_in self.old) }
+    {
         picture_header_laws::in_a_syntax();
         let predictor = self.predictor(mb);
         let front = self.last_bits();
         let count = self.len % 8;
-        let mut apart = [0; 1063];
         let len = write_apart(
-            &mut apart, front, count, self.kind, self.quant, predictor, mb,
+            &mut apart.bytes,
+            front,
+            count,
+            self.kind,
+            self.quant,
+            predictor,
+            mb,
         );
         let at = (self.len / 8) as usize;
         let size = ((len + 7) / 8) as usize;
         if self.bytes.len() < at + size {
             return Added::Full;
         }
-        paste(self.bytes, at, &apart[..size]);
+        paste(self.bytes, at, &apart.bytes[..size]);
         self.len += len - count;
         self.keep(mb);
         Added::Fits

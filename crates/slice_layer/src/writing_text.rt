@@ -40,6 +40,19 @@ pub fn write_front(bytes: &mut [u8], header: &Header, begins: bool, first: u32) 
     pad(&mut writer)
 }
 
+/// Room for the text of any macroblock, after fewer than 8 bits that stand before it in its first
+/// byte. What is in it between two macroblocks means nothing.
+#[derive(Drop)]
+pub struct MbRoom {
+    pub(crate) bytes: [u8; 1063],
+}
+
+impl MbRoom {
+    pub fn new() -> MbRoom {
+        MbRoom { bytes: [0; 1063] }
+    }
+}
+
 /// Writes a macroblock's text after the `count` bits of a number. Answers how many bits that are
 /// together.
 pub fn write_apart(

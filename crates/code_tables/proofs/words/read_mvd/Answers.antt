@@ -1,7 +1,10 @@
-use Rattle.std.proofs.Common.{◌≡◌, ◌++◌, Bool, List, Result, Ok, Err, rules}
+use Rattle.std.proofs.Common.{◌≡◌, ◌++◌, Bool, List, Result, Ok, Err, rules, ap, sym, ◌∙◌, arith}
 use Rattle.std.specs.Prelude.{IfOk, IfErr, IsOkAnd, ℤ, pos, negsuc, ◌≤ℤ◌}
+use mir.Val.{SFits, to_z, of_z}
+use Rattle.std.specs.Int.{w8}
+use Rattle.std.proofs.lemmas.Int.{to_z-of_z, ints}
 use Rattle.h263_bits.specs.declared.fault.Fault.{Fault}
-use Rattle.h263_bits.specs.Reading.{Bits, Gives, Takes}
+use Rattle.h263_bits.specs.Reading.{Bits, Gives, Takes, skip}
 use Rattle.h263_bits.specs.Syntax.{reading, Spells}
 use Rattle.h263_bits.specs.Elements.{IsWordOf, IsWordFault}
 use Rattle.code_tables.specs.Tables.{mvd, mvd_words}
@@ -10,6 +13,9 @@ use Rattle.code_tables.proofs.SignedWords.{mvd_words_are}
 use Rattle.code_tables.proofs.InRange.{mvd_low, mvd_high}
 use Rattle.h263_bits.proofs.SyntaxLaws.{reads_texts, texts_read, reads_within, reads_err}
 use Rattle.code_tables.proofs.words.read_mvd.Goals as goal
+
+in_range : (v : ℤ) → negsuc 31 ≤ℤ v → v ≤ℤ pos 31 → SFits w8 v
+in_range v low high = omega (arith, ints)
 
 -- what is said of each return
 every : (r : Result ℤ Fault) (old new : Bits) → Gives (λ (v : ℤ). v) r new (reading mvd old) → record {
@@ -30,6 +36,18 @@ every r old new e =
       low = reads_within view mvd r old new (λ (v : ℤ). negsuc 31 ≤ℤ v) e mvd_low;
       high = reads_within view mvd r old new (λ (v : ℤ). v ≤ℤ pos 31) e mvd_high;
     }
+
+pub returns-in-Some : goal.returns-in-Some
+returns-in-Some c =
+    let old = c.args.reader.now in
+    let first = c.in-Some.ensures old (omega (arith, c.rest.ensures, c.if-rest-ge13.true)) (sym c.peek-seen.ensures.value) in
+    let value = c.in-Some.found.value in
+    let after = skip c.in-Some.found.len old in
+    let view = λ (v : ℤ). v in
+    let low = reads_within view mvd (Ok value) old after (λ (v : ℤ). negsuc 31 ≤ℤ v) first.read mvd_low in
+    let high = reads_within view mvd (Ok value) old after (λ (v : ℤ). v ≤ℤ pos 31) first.read mvd_high in
+    let kept = to_z-of_z w8 value (in_range value low high) in
+    every (Ok _) old c.skip.new.self (first.read ∙ ap (λ (v : ℤ). Ok (v, after)) (sym kept) ∙ ap (λ (b : Bits). Ok (to_z w8 (of_z w8 value), b)) (sym c.skip.ensures))
 
 pub returns-else-value-eq32 : goal.returns-else-value-eq32
 unfolding mvd reading

@@ -14,15 +14,15 @@ returns-clause-cbpy c =
     let blocks = c.args.blocks.now in
     let marks = c.marks_of_six-marks.ensures.marks in
     c.cbpy.ensures.value ∙ four_bits _ _ _ _ _ _ _ _
-    (c.is_coded_in-a.ensures (levels_at blocks 0) (marks 0 (omega arith)))
-    (c.is_coded_in-b.ensures (levels_at blocks 1) (marks 1 (omega arith)))
-    (c.is_coded_in-c.ensures (levels_at blocks 2) (marks 2 (omega arith)))
-    (c.is_coded_in-d.ensures (levels_at blocks 3) (marks 3 (omega arith)))
+    (c.is_coded_by-a.ensures (levels_at blocks 0) (marks 0 (omega arith)))
+    (c.is_coded_by-b.ensures (levels_at blocks 1) (marks 1 (omega arith)))
+    (c.is_coded_by-c.ensures (levels_at blocks 2) (marks 2 (omega arith)))
+    (c.is_coded_by-d.ensures (levels_at blocks 3) (marks 3 (omega arith)))
 
 pub returns-clause-cbpc : goal.returns-clause-cbpc
 returns-clause-cbpc c =
     let blocks = c.args.blocks.now in
     let marks = c.marks_of_six-marks.ensures.marks in
     c.cbpc.ensures.value ∙ two_bits _ _ _ _
-    (c.is_coded_in-e.ensures (levels_at blocks 4) (marks 4 (omega arith)))
-    (c.is_coded_in-f.ensures (levels_at blocks 5) (marks 5 (omega arith)))
+    (c.is_coded_by-e.ensures (levels_at blocks 4) (marks 4 (omega arith)))
+    (c.is_coded_by-f.ensures (levels_at blocks 5) (marks 5 (omega arith)))
