@@ -91,11 +91,7 @@ taller_inside f mb v {x} {y} {hx} {hy} r below ex ey ehx ehy =
     let down = luma_ends top (height_of f) (y + 1) hy (v.y +ℤ pos 2) below.1.2 (one_further top v.y ey) (still_half v.y ehy) in
     record { in_row = across; in_plane = omega (arith, down) }
 
--- four of its rows read no further down
-pub quarter_inside : (f : Format) (first y half : ℕ) → first < 4 → {x n : ℕ} → Inside f Y x (y + 15 + half) n → Inside f Y x (y + first + 12 + half) n
-quarter_inside f first y half h {x} {n} i = record { in_row = i.in_row; in_plane = omega (arith, h, i.in_plane) }
-
--- and at its end
+-- what a component of a colour in reach reads ends inside
 colour_ends_at : (k half x : ℕ) (v : ℤ) → InSide (16 * k) (2 * half) v → pos x ≡ pos (8 * k) +ℤ int_shr v 2 → x + (8 + cond (is_half Cb v) 1 0) ≤ half
 colour_ends_at k half x (pos n) h e =
     let q : cond (not (nat_eq (n % 4) 0)) 1 0 ≡ min (n % 4) 1 = grind (arith, nat_tests) in

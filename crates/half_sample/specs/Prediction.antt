@@ -58,13 +58,6 @@ ArePredicted n p plane at v r samples =
     (j i : ℕ) → j < n → i < n → slice_index samples (n * j + i)
     ≡ predicted_sample p plane (n * (at % columns_of p.format) + i) (n * (at / columns_of p.format) + j) v r
 
--- a quarter of the luma samples of macroblock `at` that a vector predicts: four rows, from row j on
--- each four further down
-abbrev pub IsQuarter : Picture → ℕ → Vector → ℕ → ℕ → List ℕ → Type 0
-IsQuarter p at v r j samples =
-    (k i : ℕ) → k < 4 → i < 16 → slice_index samples (16 * k + i)
-    ≡ predicted_sample p Y (16 * (at % columns_of p.format) + i) (16 * (at / columns_of p.format) + (j + 4 * k)) v r
-
 -- the samples that n predicted ones in a row read lie inside the plane
 abbrev pub ReadsInside : Format → Plane → Bool → Bool → ℕ → ℕ → ℕ → Type 0
 ReadsInside f plane half_x half_y x y n = Inside f plane x (y + cond half_y 1 0) (n + cond half_x 1 0)

@@ -1,7 +1,6 @@
 //! A predicted block at a whole place, or half a sample off it.
 ghost use Rattle.std.specs.Prelude.{◌≡◌, ℕ, ◌+◌, ◌-◌, ◌*◌, ◌≤◌, ◌<◌, length, slice_index};
 ghost use Rattle.h263_planes.specs.Lent.{picture};
-ghost use Rattle.h263_planes.specs.declared.Plane.TheVariants.{Y};
 ghost use Rattle.half_sample.specs.Prediction.{interpolated, ReadsInside};
 
 use crate::rows::{of_four, of_two, store};
@@ -110,60 +109,5 @@ pub(crate) fn block<const N: usize, const H: usize>(
         (false, true, _) => block_of::<N, H>(reference, plane, x, y, false, true, 1, out),
         (true, true, 0) => block_of::<N, H>(reference, plane, x, y, true, true, 0, out),
         (true, true, _) => block_of::<N, H>(reference, plane, x, y, true, true, 1, out),
-    }
-}
-
-// Four rows of sixteen predicted samples of Y, each four further down. Called with a case that is
-// known, it has a loop for this case alone.
-#[inline(always)]
-fn quarter_of(
-    reference: PictureRef<'_>,
-    x: u32,
-    y: u32,
-    half_x: bool,
-    half_y: bool,
-    rounding: u8,
-    out: &mut [u8; 64],
-)
-    requires inside { ReadsInside (picture reference).format Y half_x half_y x (y + 12) 16 }
-    requires x { x < 65536 }
-    requires y { y < 60000 }
-    requires rounding { rounding ≤ 1 }
-    ensures { (k i : ℕ) → k < 4 → i < 16 → slice_index out.new (16 * k + i)
-        ≡ interpolated (picture reference.entry) Y half_x half_y rounding (x + i) (y + 4 * k) }
-{
-    for k in 0..4 {
-        let below = y + 4 * k as u32;
-        let samples = row::<16>(reference, Plane::Y, x, below, half_x, half_y, rounding);
-        store(Simd::from_array(samples), out, 16 * k);
-    }
-}
-
-// Four rows of sixteen predicted samples of Y, each four further down.
-#[inline(always)]
-pub(crate) fn quarter(
-    reference: PictureRef<'_>,
-    x: u32,
-    y: u32,
-    half_x: bool,
-    half_y: bool,
-    rounding: u8,
-    out: &mut [u8; 64],
-)
-    requires inside { ReadsInside (picture reference).format Y half_x half_y x (y + 12) 16 }
-    requires x { x < 65536 }
-    requires y { y < 60000 }
-    requires rounding { rounding ≤ 1 }
-    ensures { (k i : ℕ) → k < 4 → i < 16 → slice_index out.new (16 * k + i)
-        ≡ interpolated (picture reference.entry) Y half_x half_y rounding (x + i) (y + 4 * k) }
-{
-    match (half_x, half_y, rounding) {
-        (false, false, _) => quarter_of(reference, x, y, false, false, 0, out),
-        (true, false, 0) => quarter_of(reference, x, y, true, false, 0, out),
-        (true, false, _) => quarter_of(reference, x, y, true, false, 1, out),
-        (false, true, 0) => quarter_of(reference, x, y, false, true, 0, out),
-        (false, true, _) => quarter_of(reference, x, y, false, true, 1, out),
-        (true, true, 0) => quarter_of(reference, x, y, true, true, 0, out),
-        (true, true, _) => quarter_of(reference, x, y, true, true, 1, out),
     }
 }

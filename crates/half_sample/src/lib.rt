@@ -20,4 +20,4 @@ mod macroblock;
 mod place;
 mod rows;
 
-pub use macroblock::{Predicted, chroma, luma, luma_and_below, luma_quarter, predict};
+pub use macroblock::{Predicted, chroma, luma, luma_and_below, predict};

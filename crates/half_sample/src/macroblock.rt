@@ -5,9 +5,9 @@ ghost use Rattle.h263_types.specs.Vectors.{InReach};
 ghost use Rattle.h263_planes.specs.Lent.{picture};
 ghost use Rattle.h263_planes.specs.declared.Plane.TheVariants.{Y};
 ghost use Rattle.half_sample.specs.Macroblock.{IsPredicted};
-ghost use Rattle.half_sample.specs.Prediction.{one_below, ArePredicted, IsColour, IsQuarter};
+ghost use Rattle.half_sample.specs.Prediction.{one_below, ArePredicted, IsColour};
 
-use crate::block::{block, quarter};
+use crate::block::block;
 use crate::place::{chroma_place, is_chroma_half, is_luma_half, luma_place};
 use h263_planes::{PictureRef, Plane, mb_place};
 use h263_types::Vector;
@@ -86,35 +86,6 @@ pub fn luma_and_below(
         Plane::Y,
         luma_place(16 * column, vector.x),
         luma_place(16 * row, vector.y) as u16,
-        is_luma_half(vector.x),
-        is_luma_half(vector.y),
-        rounding,
-        out,
-    );
-}
-
-/// A quarter of the luma samples that a vector predicts for macroblock `mb`: rows `first`, 0 to 3,
-/// and those 4, 8 and 12 further down, one after the other. `rounding` is the picture's rounding
-/// bit, 0 or 1 (H.263, 6.1.2).
-pub fn luma_quarter(
-    reference: PictureRef<'_>,
-    mb: u32,
-    vector: Vector,
-    rounding: u8,
-    first: u32,
-    out: &mut [u8; 64],
-)
-    requires mb { mb < mbs_of (picture reference).format }
-    requires reach { InReach (picture reference).format mb vector.x vector.y }
-    requires rounding { rounding ≤ 1 }
-    requires first { first < 4 }
-    ensures { IsQuarter (picture reference.entry) mb vector rounding first out.new }
-{
-    let (column, row) = mb_place(reference.format(), mb);
-    quarter(
-        reference,
-        luma_place(16 * column, vector.x),
-        luma_place(16 * row, vector.y) + first,
         is_luma_half(vector.x),
         is_luma_half(vector.y),
         rounding,

@@ -4,7 +4,7 @@ ghost use Rattle.h263_planes.specs.Lent.{picture};
 
 use h263_planes::{PictureRef, Plane};
 use h263_types::{Format, Vector};
-use half_sample::{chroma, luma, luma_quarter};
+use half_sample::{chroma, luma};
 use std::process::Abort;
 use test_fixtures::codec::{SIZE, is_in_reach};
 
@@ -162,38 +162,5 @@ fn rows_of_eight_and_sixteen(rt: HostRuntime) {
         assert_eq!(rt; both[i as usize + 8], 75 + i);
         assert_eq!(rt; right[i as usize], 4 + i);
         assert_eq!(rt; whole[i as usize + 56], 248 + i);
-    }
-}
-
-// Each quarter of the prediction has its rows.
-fn assert_quarters(
-    rt: &impl Abort,
-    reference: PictureRef<'_>,
-    mb: u32,
-    vector: Vector,
-    rounding: u8,
-) {
-    let whole = luma_of(rt, reference, mb, vector, rounding);
-    assert!(rt; mb < reference.format().mbs() && rounding <= 1);
-    assert!(rt; is_in_reach(reference.format(), mb, vector));
-    for first in 0..4u32 {
-        let mut rows = [0; 64];
-        luma_quarter(reference, mb, vector, rounding, first, &mut rows);
-        for k in 0..64 {
-            let j = first as usize + 4 * (k / 16);
-            assert!(rt; rows[k] == whole[16 * j + k % 16]);
-        }
-    }
-}
-
-#[test]
-fn quarters_are_rows(rt: HostRuntime) {
-    let mut bytes = [0; SIZE];
-    for k in 0..SIZE {
-        bytes[k] = (k * k % 251) as u8;
-    }
-    let reference = PictureRef::new(Format::SubQcif, &bytes);
-    for (x, y, rounding) in [(0, 0, 0), (3, 0, 1), (-4, 7, 0), (5, -9, 1), (-31, -31, 0)] {
-        assert_quarters(&rt, reference, 18, Vector { x, y }, rounding);
     }
 }
