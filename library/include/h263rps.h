@@ -11,7 +11,8 @@
  *  - The answer is H263RPS_OK, or a refusal (enum h263rps_status) that changed nothing: neither the
  *    end nor what a pointer leads to. h263rps_status_text() names it.
  *  - You own all memory that you hand over, and get it back when the call returns. Nothing keeps a
- *    pointer of yours.
+ *    pointer of yours. What a call lends (h263rps_receiver_play_lent, h263rps_receiver_shown) is the
+ *    end's own: only read it, and only until the next call with that end.
  *  - What a call writes must not overlap with anything else that is handed to it.
  *  - An end is used by one thread, from its start to its finish, and by one call at a time. Ends
  *    share nothing: two may be used at once. No call from a signal handler, or in the child of a
@@ -224,6 +225,12 @@ typedef struct h263rps_reply {
     uint32_t fault; /* enum h263rps_message_fault where it is none, else 0 */
 } h263rps_reply;
 
+/* A picture in its place: Y, then Cb, then Cr. */
+typedef struct h263rps_lent {
+    const uint8_t *samples; /* not null, also before the call */
+    size_t length;
+} h263rps_lent;
+
 /* ---- the library's own functions: pointers aren't null, also where a length is 0 ------------- */
 
 uint32_t h263rps_raw_defaults(uint32_t format, h263rps_params *params);
@@ -235,6 +242,8 @@ uint32_t h263rps_raw_receiver_packet(h263rps_end *end, const uint8_t *bytes, siz
                                      h263rps_answer *answer);
 uint32_t h263rps_raw_receiver_play(h263rps_end *end, uint8_t *picture, size_t length,
                                    h263rps_answer *answer);
+uint32_t h263rps_raw_receiver_next(h263rps_end *end, h263rps_answer *answer);
+uint32_t h263rps_raw_receiver_shown(h263rps_end *end, h263rps_lent *lent);
 uint32_t h263rps_raw_receiver_finish(h263rps_end *end);
 
 uint32_t h263rps_raw_sender_start(h263rps_end *end, const h263rps_params *params, uint32_t *fault);
@@ -325,6 +334,35 @@ static inline uint32_t h263rps_receiver_play(h263rps_end *end, void *picture, si
     if (!end || !answer) return H263RPS_NULL;
     if (status) return status;
     return h263rps_raw_receiver_play(end, length ? (uint8_t *)picture : &nothing, length, answer);
+}
+
+/* Lends the picture that a receiver shows, without a copy: the one that was played last, and before
+ * the first play a grey one. `samples` then leads to h263rps_picture_size() bytes, which belong to
+ * the receiver. Only read them, and only until the next call with this end, whichever it is: a
+ * packet may overwrite them, and a finish frees them. `samples` is left alone where the call is
+ * refused.
+ * NOT_STARTED, OTHER_END. */
+static inline uint32_t h263rps_receiver_shown(h263rps_end *end, const uint8_t **samples) {
+    uint8_t nothing = 0;
+    h263rps_lent lent;
+    uint32_t status;
+    if (!end || !samples) return H263RPS_NULL;
+    lent.samples = &nothing;
+    lent.length = 0;
+    status = h263rps_raw_receiver_shown(end, &lent);
+    if (!status) *samples = lent.samples;
+    return status;
+}
+
+/* Plays the next picture as h263rps_receiver_play() does, but lends it where it copies it: `samples`
+ * is that of h263rps_receiver_shown(), good until the next call with this end.
+ * NOT_STARTED, OTHER_END, ENDED. */
+static inline uint32_t h263rps_receiver_play_lent(h263rps_end *end, const uint8_t **samples,
+                                                  h263rps_answer *answer) {
+    uint32_t status;
+    if (!end || !samples || !answer) return H263RPS_NULL;
+    status = h263rps_raw_receiver_next(end, answer);
+    return status ? status : h263rps_receiver_shown(end, samples);
 }
 
 /* Gives a receiver's memory back, and leaves `end` all zeros, ready for a start.

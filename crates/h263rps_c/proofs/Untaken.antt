@@ -7,8 +7,6 @@ use Rattle.receiver_end.specs.Answers.{takes}
 use Rattle.sender_end.specs.declared.answers.Feedback.{Feedback}
 use Rattle.sender_end.specs.declared.answers.Feedback.TheVariants as feedbacks
 use Rattle.sender_end.specs.Stands as senders
-use Rattle.h263rps_c.specs.declared.answers.Answer.{Answer}
-use Rattle.h263rps_c.specs.declared.answers.Reply.{Reply}
 use Rattle.h263rps_c.specs.Numbers.{heard_answer, reply_of}
 
 pub untaken : (heard : Heard) → 2 ≤ (heard_answer heard).kind → takes heard ≡ false

@@ -1,12 +1,10 @@
 -- The ends for which a slot stands, and what is told of them.
-use Rattle.std.specs.Prelude.{◌≡◌, ℕ, List, [], length, Option, Some, None}
+use Rattle.std.specs.Prelude.{◌≡◌, ℕ, List, [], Option, Some, None}
 use Rattle.h263_bits.specs.declared.fault.Fault.{Fault}
 use Rattle.h263_types.specs.declared.blocks.Mb.{Mb}
 use Rattle.h263_types.specs.declared.clock.Clock.{Clock}
 use Rattle.h263_types.specs.declared.params.Params.{Params}
-use Rattle.h263_planes.specs.Layout.{picture_of}
 use Rattle.h263_planes.specs.Picture.{Picture}
-use Rattle.back_messages.specs.declared.message.Message.{Message}
 use Rattle.call_model.specs.Coding as coding
 use Rattle.call_model.specs.Sending as call
 use Rattle.back_messages.specs.declared.message.MessageFault.{MessageFault}
@@ -25,14 +23,11 @@ use Rattle.receiver_end.specs.Answers.{IsHeard, IsPlayed}
 use Rattle.receiver_end.specs.State as receivers
 use Rattle.sender_end.specs.declared.answers.Coded.{Coded}
 use Rattle.sender_end.specs.Stands as senders
-use Rattle.sender_end.specs.State.{SenderState}
 use Rattle.h263rps_c.specs.declared.answers.Answer.{Answer}
 use Rattle.h263rps_c.specs.declared.answers.Made.{Made}
 use Rattle.h263rps_c.specs.declared.ends.End.{End}
 use Rattle.h263rps_c.specs.declared.ends.End.TheVariants.{Receiving, Sending}
-use Rattle.h263rps_c.specs.declared.pace.LinePace.{LinePace}
 use Rattle.h263rps_c.specs.Numbers.{heard_answer, made_of, played_answer, reply_of}
-use Rattle.h263rps_c.specs.Pace.{first_of, pace_of, target_of}
 
 -- ---- a receiver
 

@@ -1,4 +1,6 @@
 pub mod Holds
+pub mod Lending
+pub mod Returned
 pub mod Pace
 pub mod Asked
 pub mod Numbers

@@ -1,6 +1,5 @@
 -- The numbers of refusals, and where an end refuses.
 use Rattle.std.specs.Prelude.{ℕ, ◌==◌, nat_le, nat_lt, List, [], length, slice_index_or, Option, Some, None, Result, Ok, Err, if◌then◌else◌}
-use Rattle.h263_types.specs.declared.params.Params.{Params}
 use Rattle.h263_types.specs.Sizes.{size_of_picture}
 use Rattle.sender_end.specs.State.{SenderState}
 use Rattle.receiver_end.specs.declared.kept.Kept.{Kept}
@@ -33,6 +32,10 @@ refusal_in (Ok value) = None
 refusal_in (Err refusal) = Some refusal
 
 -- ---- where an end refuses
+
+-- a play
+abbrev pub next_refusal : Kept → Option Refusal
+next_refusal r = if nat_le 1048576 r.played then Some Ended else None
 
 -- a play into room for `count` bytes
 abbrev pub play_refusal : ℕ → Kept → Option Refusal

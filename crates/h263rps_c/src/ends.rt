@@ -18,7 +18,7 @@ ghost use Rattle.h263rps_c.specs.Ends.{HoldsReceiver, HoldsSender, packets_in};
 ghost use Rattle.h263rps_c.specs.Sending.{frame_of};
 ghost use Rattle.h263rps_c.specs.Messages.{messages_of};
 ghost use Rattle.h263rps_c.specs.Pace.{pace_of};
-ghost use Rattle.h263rps_c.specs.Refusals.{refusal_in, play_refusal, code_refusal, packet_refusal};
+ghost use Rattle.h263rps_c.specs.Refusals.{refusal_in, next_refusal, play_refusal, code_refusal, packet_refusal};
 ghost use Rattle.h263rps_c.specs.Slots.{for_receiver, for_sender, never};
 ghost use Rattle.h263rps_c.specs.declared.refusals.Refusal.TheVariants as refusals;
 
@@ -52,6 +52,24 @@ fn copy(to: &mut [u8], from: &[u8])
     ensures { to.new ≡ from.now }
 {
     to.copy_from_slice(from);
+}
+
+// Plays, if the run hasn't ended.
+fn play_next(receiver: &mut Receiver) -> Result<Played, Refusal>
+    ensures refusal { refusal_in result ≡ next_refusal receiver.old }
+    ensures same { IfErr result (λ why. receiver.new ≡ receiver.old) }
+    ensures params { receiver.new.params ≡ receiver.old.params }
+    ensures told { (past : List ReceiverEntry) → receivers.Stands receiver.old past
+        → IfOk result (λ played. IsPlayed receiver.old.params.clock played
+        (receivers.mark_after receiver.old.params past)
+        (receivers.message_after receiver.old.params past)) }
+    ensures stands { (past : List ReceiverEntry) → receivers.Stands receiver.old past
+        → IsOk result → receivers.Stands receiver.new (PlayNext ∷ past) }
+{
+    if receiver.played() >= MOST_PICTURES {
+        return Err(Refusal::Ended);
+    }
+    Ok(receiver.play())
 }
 
 // Plays into room for a picture.
@@ -140,6 +158,36 @@ impl End {
         match self {
             End::Sending(_) => Err(Refusal::OtherEnd),
             End::Receiving(receiver) => Ok(receiver.packet(bytes)),
+        }
+    }
+
+    /// Plays a receiver's next picture, which stays where it is.
+    pub fn next(&mut self) -> Result<Played, Refusal>
+        ensures refusal { refusal_in result ≡ for_receiver next_refusal (Some self.old) }
+        ensures same { IfErr result (λ why. self.new ≡ self.old) }
+        ensures told { (p : Params) (past : List ReceiverEntry)
+            → HoldsReceiver p past (Some self.old) → IfOk result (λ played. IsPlayed p.clock played
+            (receivers.mark_after p past) (receivers.message_after p past)) }
+        ensures stands { (p : Params) (past : List ReceiverEntry)
+            → HoldsReceiver p past (Some self.old) → IsOk result
+            → HoldsReceiver p (PlayNext ∷ past) (Some self.new) }
+    {
+        match self {
+            End::Sending(_) => Err(Refusal::OtherEnd),
+            End::Receiving(receiver) => play_next(receiver),
+        }
+    }
+
+    /// The samples that a receiver shows, lent.
+    pub fn shown(&self) -> Result<&[u8], Refusal>
+        ensures refusal { refusal_in result ≡ for_receiver never (Some self.now) }
+        ensures shown { (p : Params) (past : List ReceiverEntry)
+            → HoldsReceiver p past (Some self.now) → IfOk result (λ samples.
+            samples.now ≡ bytes_of (receivers.run_of p past).screen) }
+    {
+        match self {
+            End::Sending(_) => Err(Refusal::OtherEnd),
+            End::Receiving(receiver) => Ok(receiver.shown().bytes()),
         }
     }
 

@@ -89,6 +89,20 @@ impl Handle {
     }
 }
 
+impl Handle {
+    ghost use Rattle.std.specs.Borrow.{sem};
+    ghost use Rattle.h263rps_c.specs.Lending.{LendsEnd};
+
+    /// Lends the end in it.
+    pub fn end_mut(&mut self) -> &mut End
+        requires { IsSome self.old.inside }
+        ensures* writes_back { sem 𝓛 (LendsEnd self.entry result) }
+        ensures value { self.old.inside ≡ Some result.now }
+    {
+        unsafe { &mut *(self.at as *mut End) }
+    }
+}
+
 fn fresh(alloc: Global) -> Handle
     ensures { result.inside ≡ None }
 {
@@ -101,7 +115,7 @@ fn fresh(alloc: Global) -> Handle
 #[repr(C)]
 pub struct Slot {
     kind: u32,
-    handle: Handle,
+    pub handle: Handle,
     ghost none: { kind ≡ 0 → handle.inside ≡ None },
     ghost some: { kind ≢ 0 → IsSome handle.inside },
 }

@@ -6,7 +6,9 @@ ghost use Rattle.call_model.specs.Receiving.{Packet, PlayNext, ReceiverEntry};
 ghost use Rattle.receiver_end.specs.State as receivers;
 ghost use Rattle.h263rps_c.specs.Asked.{params_of};
 ghost use Rattle.h263rps_c.specs.Ends.{HoldsReceiver, TellsHeard, TellsPlayed};
-ghost use Rattle.h263rps_c.specs.Refusals.{play_refusal, status_of, refusal_number};
+ghost use Rattle.std.specs.Borrow.{sem};
+ghost use Rattle.h263rps_c.specs.Returned.{KeepsEnd};
+ghost use Rattle.h263rps_c.specs.Refusals.{next_refusal, play_refusal, refusal_in, status_of, refusal_number};
 ghost use Rattle.h263rps_c.specs.Slots.{fault_after, for_receiver, never, start_refusal};
 ghost use Rattle.h263rps_c.specs.declared.refusals.Refusal.TheVariants as refusals;
 
@@ -16,6 +18,12 @@ use crate::ends::End;
 use crate::handles::{Slot, put, taken};
 use crate::refusals::{OK, Refusal};
 use std::alloc::Global;
+
+/// Samples that are lent: Y, then Cb, then Cr.
+#[repr(C)]
+pub struct Lent<'a> {
+    pub samples: &'a [u8],
+}
 
 /// Starts a receiver in an empty slot. Where a parameter is out of its range `fault` has its
 /// number.
@@ -124,6 +132,66 @@ pub extern "C" fn h263rps_raw_receiver_play(
         Err(refusal) => refusal.number(),
         Ok(played) => {
             *answer = Answer::played(&played);
+            OK
+        }
+    }
+}
+
+/// Plays a receiver's next picture, which stays where it is.
+#[unsafe(no_mangle)]
+pub extern "C" fn h263rps_raw_receiver_next(slot: &mut Slot, answer: &mut Answer) -> u32
+    ensures result { result ≡ status_of (for_receiver next_refusal slot.old.handle.inside) }
+    ensures same { result ≢ 0 → slot.new.handle.inside ≡ slot.old.handle.inside }
+    ensures unanswered { result ≢ 0 → answer.new ≡ answer.old }
+    ensures stands { (p : Params) (past : List ReceiverEntry)
+        → HoldsReceiver p past slot.old.handle.inside → result ≡ 0
+        → HoldsReceiver p (PlayNext ∷ past) slot.new.handle.inside }
+    ensures answer { (p : Params) (past : List ReceiverEntry)
+        → HoldsReceiver p past slot.old.handle.inside → result ≡ 0
+        → TellsPlayed p.clock answer.new (receivers.mark_after p past)
+        (receivers.message_after p past) }
+{
+    if !slot.is_started() {
+        return Refusal::NotStarted.number();
+    }
+    match slot.handle.end_mut().next() {
+        Err(refusal) => refusal.number(),
+        Ok(played) => {
+            *answer = Answer::played(&played);
+            OK
+        }
+    }
+}
+
+// The samples that a receiver shows, lent. The slot keeps its end.
+fn samples_in(slot: &mut Slot) -> Result<&[u8], Refusal>
+    ensures refusal { refusal_in result ≡ for_receiver never slot.old.handle.inside }
+    ensures shown { (p : Params) (past : List ReceiverEntry)
+        → HoldsReceiver p past slot.old.handle.inside → IfOk result (λ samples.
+        samples.now ≡ bytes_of (receivers.run_of p past).screen) }
+    ensures* same { sem 𝓛 (KeepsEnd slot.entry) }
+{
+    if !slot.is_started() {
+        return Err(Refusal::NotStarted);
+    }
+    let end: &End = slot.handle.end_mut();
+    end.shown()
+}
+
+/// Lends the samples that a receiver shows. They are good until the next call with this slot, which
+/// keeps its end.
+#[unsafe(no_mangle)]
+pub extern "C" fn h263rps_raw_receiver_shown<'a>(slot: &'a mut Slot, lent: &mut Lent<'a>) -> u32
+    ensures result { result ≡ status_of (for_receiver never slot.old.handle.inside) }
+    ensures unlent { result ≢ 0 → lent.new ≡ lent.old }
+    ensures shown { (p : Params) (past : List ReceiverEntry)
+        → HoldsReceiver p past slot.old.handle.inside → result ≡ 0
+        → lent.new.samples.now ≡ bytes_of (receivers.run_of p past).screen }
+{
+    match samples_in(slot) {
+        Err(refusal) => refusal.number(),
+        Ok(samples) => {
+            lent.samples = samples;
             OK
         }
     }

@@ -1,37 +1,30 @@
-use Rattle.std.proofs.Common.{◌≡◌, List, [], ◌∷◌, ◌++◌, refl, sym, ap, subst}
-use mir.Val.{Val, vptr}
+use Rattle.std.proofs.Common.{◌≡◌, List, [], ◌∷◌, ◌++◌, refl, sym, subst}
+use mir.Val.{Val}
 use base.Logic.{SProp, ent, emp, id⊢}
-use base.Fml.{ftrue}
 use prog.Wp.{WpFn}
-use types.Kit.{‵, raw, ◌⊛◌, ◌$◌, ◌∵◌, !, qed, by, move, keep, drop, split, join, fsplit, fsplit3, fjoin, feq_l, suffices, use0, use1}
-use types.Run.{stop, fld, of_opd, no_more, and_then, returns, enter}
-use types.ByLocal.{alloc_all, pass_all, free_all, look_at, get, get_in, sets}
-use types.Part.{agg, sub, whole}
+use types.Kit.{‵, raw, ◌⊛◌, ◌$◌, ◌∵◌, !, qed, by, move, keep, split, fsplit3, fjoin, feq_l, suffices, use0, use1}
+use types.Run.{no_more, and_then, returns, enter}
+use types.ByLocal.{alloc_all, pass_all, free_all, look_at, get, sets}
+use types.Part.{agg}
 use contract.Monad.{fact, fact_i}
 use contract.Running.{tables}
-use denote.Exit.{yes, no}
-use denote.RattleType.{RattleType, owns}
+use denote.Exit.{yes}
+use denote.RattleType.{owns}
 use denote.Signature.{types_at, plain}
-use denote.Param.{layout}
-use denote.RawPtr.{Ptr, RawPtr, block_ptr, ptr_val}
-use denote.Steps.{nothing, heard}
+use denote.RawPtr.{RawPtr, ptr_val}
+use denote.Steps.{nothing}
 use denote.Triple.Entry.{alive}
 use denote.Triple.Walked.{Stays, stay_dropped, walk_of, Goes-dropped}
-use Rattle.core.proofs.alloc.Calls.{Goes-blank, handle_tells}
+use Rattle.core.proofs.alloc.Calls.{handle_tells}
 use Rattle.core.proofs.atomic.Steps.{Ptr-Good}
-use Rattle.core.proofs.cell.Inside.{Good}
 use Rattle.std.specs.declared.option.Option.{Option}
-use Rattle.core.specs.declared.option.Option.TheVariants.{None, Some}
-use Rattle.std.specs.contracts.alloc.Global as heap
+use Rattle.core.specs.declared.option.Option.TheVariants.{None}
 use Rattle.std.proofs.alloc.Global.TheLaws as heap_laws
-use Rattle.std.specs.contracts.impls.GlobalAllocator.TheImpl.{ghosts}
 use Rattle.std.proofs.raw_atomic.Walks.{proved_at, leaves}
 use Rattle.h263rps_c.specs.Holds.{holds}
 use Rattle.h263rps_c.specs.contracts.ends.End as held
-use Rattle.h263rps_c.specs.contracts.handles.Handle as handle
-use Rattle.h263rps_c.specs.contracts.handles.Loose as loose
-use Rattle.h263rps_c.proofs.LooseValues.{both, Loose, loose_good, loose_in, loose_out}
-use Rattle.h263rps_c.proofs.HandleValues.{Z, Hd, handle_in, al, handle_good}
+use Rattle.h263rps_c.proofs.LooseValues.{both}
+use Rattle.h263rps_c.proofs.HandleValues.{Z, handle_in, al, handle_good}
 use Rattle.h263rps_c.specs.contracts.handles.Handle.empty.{ended, clauses}
 use Rattle.h263rps_c.specs.contracts.handles.Handle.empty.Key.{name as #self}
 use Rattle.h263rps_c.proofs.handles.Handle.empty.Statement.{statement}
