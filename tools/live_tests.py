@@ -765,9 +765,7 @@ class CallsTest(unittest.TestCase):
     def test_video_that_comes_in(self) -> None:
         """On the standard input, from a pipe; frames that pile up are left out."""
         video = self.video(60)
-        with video.open("rb") as file:
-            give = subprocess.Popen(["cat"], stdin=file, stdout=subprocess.PIPE)
-        call = self.run_call("--format", "sub-qcif", "--camera", "-", "--screen", "none", given=give.stdout)
-        give.wait()
+        with video.open("rb") as file, subprocess.Popen(["cat"], stdin=file, stdout=subprocess.PIPE) as give:
+            call = self.run_call("--format", "sub-qcif", "--camera", "-", "--screen", "none", given=give.stdout)
         self.assertEqual(call.status, 0, call.told)
         self.assertEqual(call.count("sent", "sent") + call.count("left out", "sent"), 60, call.told)

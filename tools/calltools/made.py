@@ -1,7 +1,7 @@
 """Made input, the formula of docs/FORMATS.md: two moving ridges in Y, slopes in Cb and Cr."""
 
 import random
-from typing import BinaryIO
+from typing import BinaryIO, Iterator
 
 from .y4m import Size, write_frame, write_head
 
@@ -28,10 +28,19 @@ def with_noise(size: Size, samples: bytes, noise: int, draws: random.Random) -> 
     return noisy + cb + cr
 
 
-def write_video(file: BinaryIO, size: Size, frames: int, noise: int, seed: int = 1) -> None:
-    """A whole video. The seed makes the frames, and where there is noise it is drawn from it, too."""
+def frames(size: Size, count: int, noise: int, seed: int = 1, step: int = 1) -> Iterator[bytes]:
+    """The first frames of the video that a seed makes. Where there is noise, it is drawn from the seed, too.
+
+    From one frame to the next the video goes on by `step` of its frames: where that is 0, the picture is still.
+    """
     draws = random.Random(seed)
+    for number in range(count):
+        frame = made_frame(size, seed, step * number)
+        yield with_noise(size, frame, noise, draws) if noise else frame
+
+
+def write_video(file: BinaryIO, size: Size, count: int, noise: int, seed: int = 1) -> None:
+    """A whole video."""
     write_head(file, size)
-    for number in range(frames):
-        frame = made_frame(size, seed, number)
-        write_frame(file, with_noise(size, frame, noise, draws) if noise else frame)
+    for frame in frames(size, count, noise, seed):
+        write_frame(file, frame)

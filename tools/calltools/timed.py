@@ -1,9 +1,13 @@
 """Processor time of programs, and how much of it a frame takes."""
 
+import contextlib
+import os
 import resource
+import statistics
 import subprocess
+from dataclasses import dataclass
 from pathlib import Path
-from typing import Callable, Optional, Sequence
+from typing import Callable, Iterator, Optional, Sequence
 
 from .errors import BadInput
 
@@ -11,8 +15,43 @@ from .errors import BadInput
 Run = Callable[[Path], float]
 
 
+@dataclass(frozen=True)
+class Videos:
+    """The shorter video and the longer one, which has this many frames more."""
+
+    short: Path
+    long: Path
+    more: int
+
+
+@dataclass(frozen=True)
+class Contest:
+    """Runs to be compared, on the same videos."""
+
+    runs: Sequence[Run]
+    videos: Videos
+
+
+@dataclass(frozen=True)
+class FrameTime:
+    """Milliseconds of a frame: by the least times of the two videos, and by the middle of what the rounds tell.
+
+    None where the longer video took no more, so that nothing can be told.
+    """
+
+    least: Optional[float]
+    middle: Optional[float]
+
+
+@dataclass(frozen=True)
+class _Taken:
+    # The seconds of the shorter video and of the longer one, in the same round.
+    short: float
+    long: float
+
+
 def processor_time(words: Sequence[object]) -> float:
-    """The seconds that a program took of the processor. It must end with status 0."""
+    """The seconds that a program took of the processor, the system's with them. It must end with status 0."""
     before = resource.getrusage(resource.RUSAGE_CHILDREN)
     run = subprocess.run([str(word) for word in words], stdout=subprocess.DEVNULL, stderr=subprocess.DEVNULL)
     if run.returncode != 0:
@@ -21,22 +60,57 @@ def processor_time(words: Sequence[object]) -> float:
     return after.ru_utime + after.ru_stime - before.ru_utime - before.ru_stime
 
 
-def frame_times(runs: Sequence[Run], short: Path, long: Path, frames: int, times: int) -> list[Optional[float]]:
-    """Milliseconds a frame of each run: what a video with this many frames more takes more, each by the least of this
-    many times. The runs take turns. None where the longer video took no more, so that nothing can be told."""
-    rounds = [[run(video) for video in (short, long) for run in runs] for _ in range(times)]
-    least = [min(taken) for taken in zip(*rounds)]
-    more = [after - before for before, after in zip(least, least[len(runs) :])]
-    return [1000 * seconds / frames if seconds > 0 else None for seconds in more]
+@contextlib.contextmanager
+def on_one_core() -> Iterator[None]:
+    """Whatever is run meanwhile stays on one core, where the system lets us choose: a move to another core would empty
+    the caches, and cores need not be alike."""
+    if not hasattr(os, "sched_setaffinity"):
+        yield
+        return
+    allowed = os.sched_getaffinity(0)
+    os.sched_setaffinity(0, {max(allowed)})
+    try:
+        yield
+    finally:
+        os.sched_setaffinity(0, allowed)
 
 
-def coded_and_decoded(room: Path, options: Sequence[str]) -> Run:
-    """A run of ffmpeg that codes a video as H.263 at quantiser 8 by one thread, and decodes it again."""
+def frame_times(contests: Sequence[Contest], rounds: int, told: Callable[[int], None]) -> list[list[FrameTime]]:
+    """The frame times of each contest's runs. Before each round its number is told.
+
+    A round has each run of each contest once, so that a while in which the machine is slow falls on all of them. A
+    contest's runs take turns, and the order turns around from round to round.
+    """
+    taken: list[list[list[_Taken]]] = [[[] for _ in contest.runs] for contest in contests]
+    for number in range(rounds):
+        told(number)
+        for contest, of_runs in zip(contests, taken):
+            pairs = list(zip(contest.runs, of_runs))
+            for run, of_run in reversed(pairs) if number % 2 else pairs:
+                of_run.append(_Taken(run(contest.videos.short), run(contest.videos.long)))
+    return [
+        [_frame_time(of_run, contest.videos.more) for of_run in of_runs] for contest, of_runs in zip(contests, taken)
+    ]
+
+
+def _frame_time(taken: Sequence[_Taken], frames: int) -> FrameTime:
+    least = min(each.long for each in taken) - min(each.short for each in taken)
+    middle = statistics.median(each.long - each.short for each in taken)
+    return FrameTime(_milliseconds(least, frames), _milliseconds(middle, frames))
+
+
+def _milliseconds(seconds: float, frames: int) -> Optional[float]:
+    return 1000 * seconds / frames if seconds > 0 else None
+
+
+def coded_and_decoded(room: Path, quantiser: int, options: Sequence[str]) -> Run:
+    """A run of ffmpeg that codes a video as H.263 at this quantiser by one thread, and decodes it again."""
     quiet = ["ffmpeg", "-nostdin", "-y", "-v", "error", "-threads", "1"]
+    coder = ["-threads", "1", "-c:v", "h263", "-qscale:v", quantiser]
     coded = room / "coded.avi"
 
     def run(video: Path) -> float:
-        coding = processor_time([*quiet, "-i", video, "-threads", "1", "-c:v", "h263", "-qscale:v", "8", *options, coded])
+        coding = processor_time([*quiet, "-i", video, *coder, *options, coded])
         return coding + processor_time([*quiet, "-i", coded, "-threads", "1", "-f", "null", "-"])
 
     return run
