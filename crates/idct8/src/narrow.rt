@@ -42,29 +42,29 @@ const BASIS_6: [i32; 8] = [1108, -2676, 2676, -1108, -1108, 2676, -2676, 1108];
 
 const BASIS_7: [i32; 8] = [565, -1609, 2408, -2841, 2841, -2408, 1609, -565];
 
-/// The inverse transform of a block of values, as [`inverse`] gives it, in 16 bits. It is quick
-/// where the sum of the sizes of the values is at most 263, and quickest where only the first two
-/// rows have values, as in most blocks that are coded.
-pub fn narrow_inverse(values: &[i16; 64]) -> [i16; 64]
-    requires { All IsValue values.now }
-    ensures numbers { (y x : ℕ) → y < 8 → x < 8 → entry result y x ≡ inverse_at values.now y x }
-    ensures range { (y x : ℕ) → y < 8 → x < 8 → Within 32000 (entry result y x) }
+/// The inverse transform of a block of values, as [`inverse`] gives it, in 16 bits and in their
+/// place. It is quick where the sum of the sizes of the values is at most 263, and quickest where
+/// only the first two rows have values, as in most blocks that are coded.
+pub fn narrow_inverse(block: &mut [i16; 64])
+    requires { All IsValue block.old }
+    ensures numbers { (y x : ℕ)
+        → y < 8 → x < 8 → entry block.new y x ≡ inverse_at block.old y x }
+    ensures range { (y x : ℕ) → y < 8 → x < 8 → Within 32000 (entry block.new y x) }
 {
-    let first = sizes(values, 0, 16);
-    let second = sizes(values, 16, 32);
-    let last = sizes(values, 32, 64);
+    let first = sizes(block, 0, 16);
+    let second = sizes(block, 16, 32);
+    let last = sizes(block, 32, 64);
     if first + second + last > MOST {
-        return narrowed(&inverse(values));
+        *block = narrowed(&inverse(block));
+        return;
     }
-    let mut numbers = [0; 64];
     if last > 0 {
-        inverse_of_rows(values, 8, &mut numbers);
+        inverse_of_rows(block, 8);
     } else if second > 0 {
-        inverse_of_rows(values, 4, &mut numbers);
+        inverse_of_rows(block, 4);
     } else {
-        inverse_of_rows(values, 2, &mut numbers);
+        inverse_of_rows(block, 2);
     }
-    numbers
 }
 
 // The sum of the sizes of a block's values from one place to another, of which none counts further
@@ -100,15 +100,17 @@ fn narrowed(numbers: &[i32; 64]) -> [i16; 64]
 
 // The inverse transform of small values, of which those from row `count` on are zeros.
 #[inline(always)]
-fn inverse_of_rows(values: &[i16; 64], count: usize, out: &mut [i16; 64])
-    requires values { All (Within (2 ^ 11)) values.now }
-    requires small { sizes_of values.now ≤ 263 }
+fn inverse_of_rows(block: &mut [i16; 64], count: usize)
+    requires values { All (Within (2 ^ 11)) block.old }
+    requires small { sizes_of block.old ≤ 263 }
     requires count { count ≤ 8 }
     requires zeros { (j i : ℕ)
-        → count ≤ j → j < 8 → i < 8 → entry values.now j i ≡ pos 0 }
-    ensures { (r k : ℕ) → r < 8 → k < 8 → entry out.new r k ≡ transform_at Inverse values.now r k }
+        → count ≤ j → j < 8 → i < 8 → entry block.old j i ≡ pos 0 }
+    ensures { (r k : ℕ)
+        → r < 8 → k < 8 → entry block.new r k ≡ transform_at Inverse block.old r k }
 {
-    store_rounded(columns(sums_of_rows(values, count)), out);
+    let sums = columns(sums_of_rows(block, count));
+    store_rounded(sums, block);
 }
 
 // The first pass: the eight sums of each row.

@@ -27,10 +27,10 @@ pub(crate) fn intra_samples(quant: u8, block: &Block) -> [u8; 64]
         return samples;
     }
     idct8_laws::first_value_apart();
-    limited_sums(
-        &samples,
-        &narrow_inverse(&values_but_first(quant, block, marks)),
-    )
+    let mut numbers = [0; 64];
+    put_values_but_first(quant, block, marks, &mut numbers);
+    narrow_inverse(&mut numbers);
+    limited_sums(&samples, &numbers)
 }
 
 // A block of samples that are all INTRADC.
@@ -58,10 +58,10 @@ pub(crate) fn inter_samples(quant: u8, block: &Block, marks: u64, predicted: &[u
         let number = number_of_first(value(quant, block.levels[0]));
         return limited_sums_with_one(predicted, number);
     }
-    limited_sums(
-        predicted,
-        &narrow_inverse(&values_of_inter(quant, block, marks)),
-    )
+    let mut numbers = [0; 64];
+    put_values(quant, block, marks, &mut numbers);
+    narrow_inverse(&mut numbers);
+    limited_sums(predicted, &numbers)
 }
 
 // What the inverse transform gives at each place where all values but the first are 0.
@@ -86,42 +86,41 @@ pub(crate) fn marks_of(block: Block) -> u64
     block.marks()
 }
 
-// The values of a block of an inter macroblock, by rows.
-fn values_of_inter(quant: u8, block: &Block, marks: u64) -> [i16; 64]
+// Puts down the values of a block of an inter macroblock, by rows.
+#[inline(always)]
+fn put_values(quant: u8, block: &Block, marks: u64, values: &mut [i16; 64])
     requires quant { IsQuant quant }
     requires block { IsInterBlock block.now }
     requires marked { AreMarked block.now.levels marks }
-    ensures values { result ≡ inter_values quant block.now }
-    ensures range { All IsValue result }
+    ensures values { values.new ≡ inter_values quant block.now }
+    ensures range { All IsValue values.new }
 {
-    let mut values = values_but_first(quant, block, marks);
+    put_values_but_first(quant, block, marks, values);
     values[0] = value(quant, block.levels[0]);
-    values
 }
 
-// The values of a block's levels, by rows, and 0 for the first one. Goes from mark to mark, since
-// most levels are 0.
+// Puts down the values of a block's levels, by rows, and 0 for the first one. Goes from mark to
+// mark, since most levels are 0.
 #[inline(always)]
-fn values_but_first(quant: u8, block: &Block, marks: u64) -> [i16; 64]
+fn put_values_but_first(quant: u8, block: &Block, marks: u64, values: &mut [i16; 64])
     requires quant { IsQuant quant }
     requires levels { (k : ℕ) → 1 ≤ k → k < 64 → IsLevel (level_at block.now k) }
     requires marked { AreMarked block.now.levels marks }
-    ensures long { length result ≡ 64 }
-    ensures first { slice_index_or result 0 (pos 0) ≡ pos 0 }
-    ensures values { (at : ℕ)
-        → 1 ≤ at → at < 64 → slice_index_or result at (pos 0) ≡ inter_value quant block.now at }
-    ensures range { All IsValue result }
+    ensures long { length values.new ≡ 64 }
+    ensures first { slice_index_or values.new 0 (pos 0) ≡ pos 0 }
+    ensures values { (at : ℕ) → 1 ≤ at → at < 64
+        → slice_index_or values.new at (pos 0) ≡ inter_value quant block.now at }
+    ensures range { All IsValue values.new }
 {
     types_laws::lowest();
     quantiser_laws::one_order();
-    let mut values = [0; 64];
+    *values = [0; 64];
     let mut rest = marks & !1;
     'marks: while rest != 0 {
         let k = rest.trailing_zeros() as usize;
         values[block_place(k)] = value(quant, block.levels[k]);
         rest &= !(1 << k);
     }
-    values
 }
 
 // The sum of each sample and the number at its place, limited to 0 to 255.

@@ -7,7 +7,7 @@ use Rattle.quantiser.specs.Levels.{value_of}
 use Rattle.picture_recon.specs.Marks.{ArePut}
 use Rattle.picture_recon.proofs.Kept.{kept, kept_level}
 use Rattle.picture_recon.proofs.Walk.{starts, put, ends, not_first}
-use Rattle.picture_recon.proofs.values.values_but_first.Goals as goal
+use Rattle.picture_recon.proofs.values.put_values_but_first.Goals as goal
 
 pub marks-init : goal.marks-init
 marks-init c = (
