@@ -1,5 +1,5 @@
 -- Blocks of 16 x 16 samples and their differences.
-use Rattle.std.proofs.Common.{◌≡◌, refl, sym, ap, subst, ◌∙◌, arith, ℕ, ◌+◌, ◌-◌, ◌*◌, ◌/◌, ◌%◌, ◌<◌, ◌≤◌, List, ◌++◌, length, get_or, drop, take, slice_range, pos, ◌-ℤ◌, lit<}
+use Rattle.std.proofs.Common.{◌≡◌, refl, sym, ap, subst, ◌∙◌, arith, ℕ, ◌+◌, ◌-◌, ◌*◌, ◌/◌, ◌%◌, ◌<◌, ◌≤◌, List, ◌++◌, length, get_or, drop, take, slice_range, pos, ◌-ℤ◌}
 use lib.Lanes.{chunk}
 use Rattle.std.proofs.lemmas.Simd.{length-chunk, chunk-drop}
 use Rattle.std.proofs.lemmas.Grind.{same_number_lists}
@@ -95,33 +95,6 @@ four_apart left j a b c d ha hb hc hd =
     let nine : left (j + 8 + 1) ≡ left (j + 9) = ap left (omega arith) in
     let thirteen : left (j + 12 + 1) ≡ left (j + 13) = ap left (omega arith) in
     omega (arith, ha, hb, hc, hd, five, nine, thirteen)
-
--- the rows from the next one on have no more differences than those from a row on
-pub rows_fall : (p : Picture) (block : List ℕ) (x y j : ℕ) →
-    ((xs ys us vs : List ℕ) → length xs ≡ length us → differences (xs ++ ys) (us ++ vs) ≡ differences xs us + differences ys vs) →
-    j < 16 → length block ≡ 256 → differences_from block p x y (j + 1) ≤ differences_from block p x y j
-unfolding differences_from
-rows_fall p block x y j add hj hb =
-    let f = λ (i k : ℕ). sample_at p Y (x + i) (y + k) in
-    let row = chunk (16 * j) 16 (square f) in
-    let long : length row ≡ 16 = length-chunk (16 * j) 16 (square f) (omega (arith, length-square f)) in
-    let e = one_row_more f block row j add hj hb long (λ i hi. get_or-take 16 (drop (16 * j) (square f)) i 0 hi ∙ get_or-drop (16 * j) (square f) i 0 ∙ get_or-square f j i hj hi) in
-    omega (arith, e)
-
--- each fourth row has no more differences than all of them, nor has each second one
-pub quarter_small : (left : ℕ → ℕ) (a : ℕ) → ((j : ℕ) → j < 16 → left (j + 1) ≤ left j) →
-    a + (left 1 + left 5 + left 9 + left 13) ≡ left 0 + left 4 + left 8 + left 12 → a ≤ left 0
-quarter_small left a fall e =
-    let one : left 4 ≤ left 1 = omega (arith, fall 1 (lit< tt), fall 2 (lit< tt), fall 3 (lit< tt)) in
-    let five : left 8 ≤ left 5 = omega (arith, fall 5 (lit< tt), fall 6 (lit< tt), fall 7 (lit< tt)) in
-    let nine : left 12 ≤ left 9 = omega (arith, fall 9 (lit< tt), fall 10 (lit< tt), fall 11 (lit< tt)) in
-    omega (arith, one, five, nine, e)
-
-pub half_small : (left : ℕ → ℕ) (a b : ℕ) → ((j : ℕ) → j < 16 → left (j + 1) ≤ left j) →
-    a + (left 1 + left 5 + left 9 + left 13) ≡ left 0 + left 4 + left 8 + left 12 →
-    b + (left 3 + left 7 + left 11 + left 15) ≡ left 2 + left 6 + left 10 + left 14 → a + b ≤ left 0
-half_small left a b fall ea eb =
-    omega (arith, ea, eb, fall 1 (lit< tt), fall 3 (lit< tt), fall 5 (lit< tt), fall 7 (lit< tt), fall 9 (lit< tt), fall 11 (lit< tt), fall 13 (lit< tt))
 
 -- the four quarters are all rows
 pub quarters_add : (left : ℕ → ℕ) (a b c d : ℕ) → left 16 ≡ 0 →

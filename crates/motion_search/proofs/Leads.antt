@@ -1,5 +1,5 @@
 -- What the zero vector has ahead of the others.
-use Rattle.std.proofs.Common.{◌≡◌, refl, subst, sym, arith, ℕ, Bool, true, false, cond, ◌&&◌, pos, ◌-ℤ◌, ◌<ℤ◌, ◌⊎◌, inl, inr, Option, None, Some, IsNone, IfNone, ◌↔◌}
+use Rattle.std.proofs.Common.{◌≡◌, refl, subst, sym, arith, ℕ, Bool, true, false, cond, ◌&&◌, pos, ◌-ℤ◌, ◌<ℤ◌, ◌⊎◌, inl, inr}
 use Rattle.std.proofs.lemmas.Int.{ints}
 use Rattle.std.proofs.lemmas.Bool.Decides.{Decides-int_eq}
 use Rattle.std.specs.Ordering.{int_eq}
@@ -29,9 +29,3 @@ not_before_by_differences v n best more zero = by (zero_or_behind v)
     by : (v ≡ zero_vector) ⊎ (lead_of v ≡ 0) → before (costing v n) best ≡ false
     by (inl e) = zero e
     by (inr e) = dearer_not_before (costing v n) best (subst (λ (k : ℕ). best.cost <ℤ (pos n -ℤ pos k)) (sym e) (omega (arith, ints, more)))
-
--- what a sum that stops early says of the whole one
-pub stopped : (r : Option ℕ) (n : ℕ) (v : Vector) (best : Candidate) → IsNone r ↔ (best.cost <ℤ pos n) → (v ≡ zero_vector → before (costing v n) best ≡ false) →
-    IfNone r (before (costing v n) best ≡ false)
-stopped None n v best h zero = not_before_by_differences v n best (h.0 refl) zero
-stopped (Some k) n v best h zero = tt

@@ -1,6 +1,6 @@
 //! Vectors with their costs, and which of them comes first.
-ghost use Rattle.std.specs.Prelude.{◌≡◌, ℕ, ◌≤◌, ◌↔◌, pos, ◌-ℤ◌, ◌<ℤ◌, IfNone, IfSome, IsTrue, false, Option};
-ghost use Rattle.motion_search.specs.Order.{length_of, compared, before, first_of};
+ghost use Rattle.std.specs.Prelude.{◌≡◌, ◌≤◌, ◌↔◌, pos, ◌-ℤ◌, ◌<ℤ◌, IsTrue};
+ghost use Rattle.motion_search.specs.Order.{length_of, compared, first_of};
 ghost use Rattle.motion_search.specs.Cost.{lead_of, IsCost};
 
 use h263_types::Vector;
@@ -72,21 +72,4 @@ pub(crate) fn is_settled(best: Candidate) -> bool
     ensures { IsTrue result ↔ (best.cost <ℤ pos 0) }
 {
     best.cost < 0
-}
-
-// The first of the best one and a vector whose differences were summed up, or don't come before it.
-#[inline(always)]
-pub(crate) fn better(best: Candidate, vector: Vector, sum: Option<u32>) -> Candidate
-    requires cost { IsCost best.cost }
-    requires sum { IfSome sum (λ n. n ≤ 65280) }
-    ensures first { (n : ℕ) → IfNone sum
-        (before (record { vector = vector; cost = pos n -ℤ pos (lead_of vector) }) best ≡ false)
-        → IfSome sum (λ s. s ≡ n) →
-        result ≡ first_of best (record { vector = vector; cost = pos n -ℤ pos (lead_of vector) }) }
-    ensures cost { IsCost result.cost }
-{
-    match sum {
-        None => best,
-        Some(sum) => first(best, with_differences(vector, sum)),
-    }
 }

@@ -1,16 +1,16 @@
 //! Vectors of whole samples, compared on the lent rows of the reference.
-ghost use Rattle.std.specs.Prelude.{◌≡◌, ℕ, ◌+◌, ◌*◌, ◌%◌, ◌/◌, ◌<◌, ◌≤◌, ◌↔◌, pos, ◌<ℤ◌, false, IsNone, IfSome, length, slice_range};
+ghost use Rattle.std.specs.Prelude.{◌≡◌, ℕ, ◌+◌, ◌*◌, ◌%◌, ◌/◌, ◌<◌, ◌≤◌, pos, length, slice_range};
 ghost use Rattle.h263_types.specs.Sizes.{columns_of};
 ghost use Rattle.h263_types.specs.Vectors.{InReach, whole_place};
 ghost use Rattle.h263_planes.specs.Lent.{picture};
 ghost use Rattle.h263_planes.specs.Samples.{Inside};
 ghost use Rattle.h263_planes.specs.declared.Plane.TheVariants.{Y};
 ghost use Rattle.sad_kernel.specs.Differences.{differences};
-ghost use Rattle.motion_search.specs.Order.{before, first_of};
+ghost use Rattle.motion_search.specs.Order.{first_of};
 ghost use Rattle.motion_search.specs.Cost.{candidate_of, differences_from, IsCost};
-ghost use Rattle.motion_search.specs.Vectors.{zero_vector, IsEven};
+ghost use Rattle.motion_search.specs.Vectors.{IsEven};
 
-use crate::candidate::{Candidate, better};
+use crate::candidate::{Candidate, first, with_differences};
 use crate::window::Window;
 use h263_planes::{PictureRef, Plane};
 use h263_types::Vector;
@@ -97,45 +97,8 @@ pub(crate) fn differences_at(block: &[u8; 256], reference: PictureRef<'_>, x: u3
         + four_rows(block, reference, x, y, 3)
 }
 
-// The differences of a block from the 16 x 16 samples of Y at column `x` of row `y`, or `None`
-// where they are more than the best one costs. It sums up four rows that lie apart, since they tell
-// more of the whole than four neighbours, and asks; then four between these, and asks again. To ask
-// after each row costs more than it spares.
-#[inline(always)]
-fn differences_within(
-    block: &[u8; 256],
-    reference: PictureRef<'_>,
-    x: u32,
-    y: u16,
-    best: Candidate,
-) -> Option<u32>
-    requires inside { Inside (picture reference).format Y x (y + 15) 16 }
-    requires x { x < 65536 }
-    ensures none { IsNone result
-        ↔ (best.cost <ℤ pos (differences_from block.now (picture reference.entry) x y 0)) }
-    ensures some { IfSome result (λ sum.
-        sum ≡ differences_from block.now (picture reference.entry) x y 0) }
-    ensures most { IfSome result (λ sum. sum ≤ 65280) }
-{
-    sad_kernel_laws::parts_add();
-    let quarter = four_rows(block, reference, x, y, 0);
-    if quarter as i32 > best.cost {
-        return None;
-    }
-    let half = quarter + four_rows(block, reference, x, y, 2);
-    if half as i32 > best.cost {
-        return None;
-    }
-    let sum = half + four_rows(block, reference, x, y, 1) + four_rows(block, reference, x, y, 3);
-    if sum as i32 > best.cost {
-        None
-    } else {
-        Some(sum)
-    }
-}
-
-// The first of the best one and a vector of whole samples, which leads to column `x` of row `y`.
-// The zero vector has been looked at, so what it has ahead needs no look here.
+// The first of the best one and a vector of whole samples, which leads to column `x` of row `y`. All
+// rows are summed up before it asks: what the sums of areas let through mostly needs them all.
 #[inline(always)]
 pub(crate) fn better_whole(
     window: Window<'_>,
@@ -150,13 +113,11 @@ pub(crate) fn better_whole(
         ≡ whole_place (16 * (window.mb % columns_of (picture window.reference).format)) vector.x }
     requires y { pos y
         ≡ whole_place (16 * (window.mb / columns_of (picture window.reference).format)) vector.y }
-    requires zero { before (candidate_of window.block.now
-        (picture window.reference) window.mb 0 zero_vector) best ≡ false }
     requires cost { IsCost best.cost }
     ensures first { result ≡ first_of best (candidate_of window.entry.block.now
         (picture window.entry.reference) window.entry.mb 0 vector) }
     ensures cost { IsCost result.cost }
 {
-    let sum = differences_within(window.block, window.reference, x, y, best);
-    better(best, vector, sum)
+    let sum = differences_at(window.block, window.reference, x, y);
+    first(best, with_differences(vector, sum))
 }

@@ -104,8 +104,6 @@ fn without_rows(band: Band, reference: PictureRef<'_>, x: u32, y: u32) -> Band
 #[inline(always)]
 fn better_in_square(window: Window<'_>, column: u32, row: u32, best: Candidate) -> Candidate
     requires row { row ≤ 2 * window.radius }
-    requires zero { before (candidate_of window.block.now
-        (picture window.reference) window.mb 0 zero_vector) best ≡ false }
     requires candidate { IsWholeCandidate window.block.now
         (picture window.reference) window.mb window.radius 0 best }
     requires cost { IsCost best.cost }
@@ -138,8 +136,6 @@ fn best_of_marked(
 ) -> Candidate
     requires column { column ≤ 2 * window.radius }
     requires row { row ≤ 2 * window.radius }
-    requires zero { before (candidate_of window.block.now
-        (picture window.reference) window.mb 0 zero_vector) best ≡ false }
     requires candidate { IsWholeCandidate window.block.now
         (picture window.reference) window.mb window.radius 0 best }
     requires cost { IsCost best.cost }
@@ -271,8 +267,6 @@ fn best_of_strip(
 #[inline(always)]
 fn best_of_column(window: Window<'_>, column: u32, best: Candidate) -> Candidate
     requires column { column ≤ 2 * window.radius }
-    requires zero { before (candidate_of window.block.now
-        (picture window.reference) window.mb 0 zero_vector) best ≡ false }
     requires candidate { IsWholeCandidate window.block.now
         (picture window.reference) window.mb window.radius 0 best }
     requires cost { IsCost best.cost }
@@ -295,14 +289,16 @@ fn best_of_column(window: Window<'_>, column: u32, best: Candidate) -> Candidate
 
 // The first of the best one and the vectors in some columns of the square from `column` on, and the
 // column after these. It goes over sixteen columns at once where the picture has as many samples
-// as these read, and over one beside its right edge.
+// as these read, and over one beside its right edge. Called with each width by itself, it has code
+// for this width alone, whose rows stand at distances that are known.
 #[inline(always)]
-pub(crate) fn best_from(
+pub(crate) fn best_from<const WIDTH: u32>(
     window: Window<'_>,
     quarters: Quarters,
     column: u32,
     best: Candidate,
 ) -> (Candidate, u32)
+    requires width { width_of (picture window.reference).format ≡ WIDTH }
     requires column { column ≤ 2 * window.radius }
     requires across { (window.reach.left ≤ℤ whole_component window.radius column)
         × (whole_component window.radius column ≤ℤ window.reach.right) }
@@ -327,7 +323,7 @@ pub(crate) fn best_from(
     ensures most { result.1 ≤ column + 16 }
 {
     let x = place(window.left, column, window.radius);
-    if x + 32 <= window.reference.format().width() {
+    if x + 32 <= WIDTH {
         (
             best_of_strip(window, quarters, x, column, best),
             column + 16,

@@ -1,6 +1,6 @@
 //! The best of the vectors of whole samples within the radius.
 ghost use Rattle.std.specs.Prelude.{◌≡◌, ℕ, ◌<◌, ◌≤◌};
-ghost use Rattle.h263_types.specs.Sizes.{mbs_of};
+ghost use Rattle.h263_types.specs.Sizes.{mbs_of, width_of};
 ghost use Rattle.h263_planes.specs.Lent.{picture};
 ghost use Rattle.motion_search.specs.Cost.{candidate_of, IsCost};
 ghost use Rattle.motion_search.specs.Vectors.{zero_vector};
@@ -16,10 +16,9 @@ use h263_planes::{PictureRef, laws as planes_laws};
 use h263_types::{Format, Vector, reach};
 
 // The first of the vectors of whole samples within the radius. A low cost that is found early rules
-// out many of the others. So the one nearest to the guess is looked at before all others. Called in
-// a format that is known, it has code for this format alone.
+// out many of the others. So the one nearest to the guess is looked at before all others.
 #[inline(always)]
-fn best_in_format(
+fn best_in<const WIDTH: u32>(
     block: &[u8; 256],
     reference: PictureRef<'_>,
     mb: u32,
@@ -27,6 +26,7 @@ fn best_in_format(
     guess: Vector,
     zero: Candidate,
 ) -> Candidate
+    requires width { width_of (picture reference).format ≡ WIDTH }
     requires mb { mb < mbs_of (picture reference).format }
     requires radius { radius ≤ 15 }
     requires zero { zero ≡ candidate_of block.now (picture reference) mb 0 zero_vector }
@@ -54,7 +54,7 @@ fn best_in_format(
     let quarters = quarters_of(block);
     let mut column = first_column(radius, reach);
     while column < end_column(radius, reach) {
-        (first, column) = best_from(window, quarters, column, first);
+        (first, column) = best_from::<WIDTH>(window, quarters, column, first);
     }
     first
 }
@@ -80,16 +80,11 @@ pub(crate) fn best_of_whole(
     }
     let r = reference;
     match reference.format() {
-        Format::SubQcif => best_in_format(
-            block,
-            known(r, Format::SubQcif),
-            mb,
-            radius,
-            guess,
-            zero,
-        ),
-        Format::Qcif => best_in_format(block, known(r, Format::Qcif), mb, radius, guess, zero),
-        Format::Cif => best_in_format(block, known(r, Format::Cif), mb, radius, guess, zero),
+        Format::SubQcif => {
+            best_in::<128>(block, known(r, Format::SubQcif), mb, radius, guess, zero)
+        }
+        Format::Qcif => best_in::<176>(block, known(r, Format::Qcif), mb, radius, guess, zero),
+        Format::Cif => best_in::<352>(block, known(r, Format::Cif), mb, radius, guess, zero),
     }
 }
 

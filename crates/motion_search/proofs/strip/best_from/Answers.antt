@@ -8,12 +8,12 @@ use Rattle.motion_search.proofs.Reaches.{column_starts}
 use Rattle.motion_search.proofs.strip.best_from.Goals as goal
 
 pub place-x-requires-clause-inside : goal.place-x-requires-clause-inside
-place-x-requires-clause-inside c =
+place-x-requires-clause-inside g c =
     let w = c.args.window in
     column_starts (picture w.reference).format w.mb w.radius w.reach w.reaches 0 w.left c.args.column w.inside w.at_left c.requires.across
 
-pub returns-then-x-width-clause-none : goal.returns-then-x-width-clause-none
-returns-then-x-width-clause-none c = λ m n hm hn from to reached.
+pub returns-then-x-clause-none : goal.returns-then-x-clause-none
+returns-then-x-clause-none g c = λ m n hm hn from to reached.
     let w = c.args.window in
     let p = picture w.reference in
     let block = w.block.now in
@@ -22,8 +22,8 @@ returns-then-x-width-clause-none c = λ m n hm hn from to reached.
     subst (λ (k : ℕ). k < 2 * w.radius + 1 → InReach p.format w.mb (whole_at w.radius k m).x (whole_at w.radius k m).y → before (candidate_of block p w.mb 0 (whole_at w.radius k m)) c.best_of_strip.result ≡ false) place
     (λ hc there. c.best_of_strip.ensures.none m (n - column) hm (omega (arith, from, to)) hc there) hn reached
 
-pub returns-else-x-width-clause-none : goal.returns-else-x-width-clause-none
-returns-else-x-width-clause-none c = λ m n hm hn from to reached.
+pub returns-else-x-clause-none : goal.returns-else-x-clause-none
+returns-else-x-clause-none g c = λ m n hm hn from to reached.
     let w = c.args.window in
     let p = picture w.reference in
     let block = w.block.now in

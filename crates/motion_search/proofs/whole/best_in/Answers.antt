@@ -15,20 +15,17 @@ use Rattle.motion_search.proofs.Strips.{seen_or_next}
 use Rattle.motion_search.proofs.Bests.{is_best_whole, step_is_whole, step_kept, step_of, zero_is_candidate}
 use Rattle.motion_search.proofs.Orders.{not_itself}
 use Rattle.motion_search.proofs.Places.{not_rounded, whole_not_rounded}
-use Rattle.motion_search.proofs.whole.best_in_format.Goals as goal
+use Rattle.motion_search.proofs.whole.best_in.Goals as goal
 
 pub invariant_of-window-clause-reaches : goal.invariant_of-window-clause-reaches
-invariant_of-window-clause-reaches c =
+invariant_of-window-clause-reaches g c =
     subst (λ (f : Format). (x y : ℤ) → InReach f c.args.mb x y ↔ IsWithin c.reach-reach.result x y) c.format-format.ensures.format c.reach-reach.ensures
 
 zero_first : (block : List ℕ) (p : Picture) (mb : ℕ) (zero : Candidate) → zero ≡ candidate_of block p mb 0 zero_vector → before (candidate_of block p mb 0 zero_vector) zero ≡ false
 zero_first block p mb zero e = subst (λ (d : Candidate). before (candidate_of block p mb 0 zero_vector) d ≡ false) (sym e) (not_itself (candidate_of block p mb 0 zero_vector))
 
-pub better_at-first-requires-clause-zero : goal.better_at-first-requires-clause-zero
-better_at-first-requires-clause-zero c = zero_first c.args.block.now (picture c.args.reference) c.args.mb c.args.zero c.requires.zero
-
 pub loop-column-init : goal.loop-column-init
-loop-column-init c =
+loop-column-init g c =
     let block = c.args.block.now in
     let p = picture c.args.reference in
     let mb = c.args.mb in
@@ -49,10 +46,10 @@ loop-column-init c =
     }
 
 pub best_from-requires-clause-across : goal.best_from-requires-clause-across
-best_from-requires-clause-across c = (c.loop-column.invariant.left, ((c.end_column.ensures c.loop-column.column).0 c.loop-column-test.true).1)
+best_from-requires-clause-across g c = (c.loop-column.invariant.left, ((c.end_column.ensures c.loop-column.column).0 c.loop-column-test.true).1)
 
 pub loop-column-preserved : goal.loop-column-preserved
-loop-column-preserved c =
+loop-column-preserved g c =
     let block = c.args.block.now in
     let p = picture c.args.reference in
     let mb = c.args.mb in
@@ -72,7 +69,7 @@ loop-column-preserved c =
     }
 
 pub returns-clause-best : goal.returns-clause-best
-returns-clause-best c = λ r.
+returns-clause-best g c = λ r.
     let block = c.args.block.now in
     let p = picture c.args.reference in
     let mb = c.args.mb in
@@ -87,7 +84,7 @@ returns-clause-best c = λ r.
     c.loop-column.invariant.none j i hj hi (omega (arith, ends, c.loop-column-test.false)) reached) reaches))
 
 pub best_from-requires-clause-column : goal.best_from-requires-clause-column
-best_from-requires-clause-column c = omega (arith, ((c.end_column.ensures c.loop-column.column).0 c.loop-column-test.true).0)
+best_from-requires-clause-column g c = omega (arith, ((c.end_column.ensures c.loop-column.column).0 c.loop-column-test.true).0)
 
 pub loop-column-smaller : goal.loop-column-smaller
-loop-column-smaller c = omega (arith, c.best_from.ensures.next, ((c.end_column.ensures c.loop-column.column).0 c.loop-column-test.true).0)
+loop-column-smaller g c = omega (arith, c.best_from.ensures.next, ((c.end_column.ensures c.loop-column.column).0 c.loop-column-test.true).0)
