@@ -34,11 +34,11 @@ const UNTOUCHED: Answer = Answer {
 const ACK_0: [u8; 3] = [0xC0, 0x04, 0x00];
 
 // What is answered to a loan, how many samples are lent, and the first.
-fn lent(slot: &mut Slot) -> [u32; 3] {
+fn lent(slot: &mut Slot) -> (u32, usize, u8) {
     let mut lent = Lent { samples: &[77] };
     let status = h263rps_raw_receiver_shown(slot, &mut lent);
     let first = lent.samples.get(0).copied().unwrap_or(0);
-    [status, lent.samples.len() as u32, first as u32]
+    (status, lent.samples.len(), first)
 }
 
 // What a receiver's functions answer.
@@ -47,7 +47,7 @@ fn receiver_calls(alloc: Global, slot: &mut Slot) -> [u32; 5] {
     let mut room = [9; 4];
     let heard = h263rps_raw_receiver_packet(slot, &[1, 2, 3], &mut answer);
     let played = h263rps_raw_receiver_play(slot, &mut room, &mut answer);
-    let lent = lent(slot)[0];
+    let (lent, _, _) = lent(slot);
     let finished = h263rps_raw_receiver_finish(alloc, slot);
     [heard, played, lent, finished, answer.kind]
 }
@@ -96,7 +96,7 @@ fn the_other_end(rt: HostRuntime) {
     assert_eq!(rt; receiver_calls(rt.alloc(), &mut slot), [3, 3, 3, 3, 77]);
     let mut answer = UNTOUCHED;
     assert_eq!(rt; h263rps_raw_receiver_next(&mut slot, &mut answer), 3);
-    assert_eq!(rt; lent(&mut slot), [3, 1, 77]);
+    assert_eq!(rt; lent(&mut slot), (3, 1, 77));
     // a length that is wrong, no packet, a message about a picture that was not sent
     assert_eq!(rt; sender_calls(rt.alloc(), &mut slot), [7, 9, 0, 0, 1]);
     assert_eq!(rt;
@@ -219,12 +219,12 @@ fn a_call(rt: HostRuntime) -> Result<(), Fail> {
     assert_eq!(rt; picture.get(0).copied(), Some(128));
     let second = sent(&mut sender, &mut receiver, &mut picture);
     assert_eq!(rt; second, [0, 1, 0, 0]);
-    assert_eq!(rt; lent(&mut receiver), [0, 18432, 128]);
+    assert_eq!(rt; lent(&mut receiver), (0, 18432, 128));
     // nothing came of the third
     let mut answer = UNTOUCHED;
     assert_eq!(rt; h263rps_raw_receiver_next(&mut receiver, &mut answer), 0);
     assert_eq!(rt; (answer.kind, answer.message.length), (2, 3));
-    assert_eq!(rt; lent(&mut receiver), [0, 18432, 128]);
+    assert_eq!(rt; lent(&mut receiver), (0, 18432, 128));
     let _sender = sender.into_box();
     let _receiver = receiver.into_box();
     Ok(())
