@@ -9,7 +9,7 @@
 
 enum { PICTURES = 6, LOST = 2, SIZE = 38016 };
 
-static uint8_t captured[SIZE], shown[SIZE], packet[1400];
+static uint8_t captured[SIZE], packet[1400];
 
 /* Ends the program where a call was refused. */
 static void must(const char *name, uint32_t status) {
@@ -23,6 +23,16 @@ static void capture(unsigned n) {
     for (size_t i = 0; i < SIZE; i++) captured[i] = 128;
     for (unsigned y = 40; y < 100; y++)
         for (unsigned x = 0; x < 32; x++) captured[176 * y + 20 + 2 * n + x] = 200;
+}
+
+/* How far a sample that is shown is from the captured one at most. */
+static unsigned most_off(const uint8_t *shown) {
+    int most = 0;
+    for (size_t i = 0; i < SIZE; i++) {
+        int off = abs(shown[i] - captured[i]);
+        if (off > most) most = off;
+    }
+    return (unsigned)most;
 }
 
 /* Sends what the receiver says back to the sender. */
@@ -42,6 +52,7 @@ int main(void) {
     for (unsigned n = 0; n < PICTURES; n++) {
         h263rps_coded coded;
         h263rps_answer answer;
+        const uint8_t *shown = NULL;
         capture(n);
         must("code", h263rps_sender_code(&sender, captured, SIZE, NULL, 0, &coded));
         for (uint32_t i = 0; i < coded.packets; i++) {
@@ -51,12 +62,12 @@ int main(void) {
             must("packet", h263rps_receiver_packet(&receiver, packet, count, &answer));
             hand_back(&sender, &answer.message);
         }
-        must("play", h263rps_receiver_play(&receiver, shown, SIZE, &answer));
+        must("play", h263rps_receiver_play_lent(&receiver, &shown, &answer));
         hand_back(&sender, &answer.message);
         printf("picture %u: %u packets, ", (unsigned)coded.number, (unsigned)coded.packets);
         if (coded.intra) printf("intra");
         else printf("from picture %u", (unsigned)coded.reference);
-        printf(", shown %s\n", marks[answer.kind]);
+        printf(", shown %s, at most %u off\n", marks[answer.kind], most_off(shown));
     }
     must("finish", h263rps_sender_finish(&sender));
     must("finish", h263rps_receiver_finish(&receiver));

@@ -93,6 +93,10 @@ class _Coded(ctypes.Structure):
     _fields_ = [(name, ctypes.c_uint32) for name in ("number", "packets", "intra", "reference")]
 
 
+class _Lent(ctypes.Structure):
+    _fields_ = [("samples", ctypes.c_void_p), ("length", ctypes.c_size_t)]
+
+
 class _Reply(ctypes.Structure):
     _fields_ = [("kind", ctypes.c_uint32), ("fault", ctypes.c_uint32)]
 
@@ -111,6 +115,14 @@ class Played(NamedTuple):
 
     mark: str
     picture: bytes
+    message: bytes
+
+
+class PlayedLent(NamedTuple):
+    """The same, where the picture is lent until the next call of its receiver."""
+
+    mark: str
+    picture: memoryview
     message: bytes
 
 
@@ -146,6 +158,8 @@ def _library() -> ctypes.CDLL:
             "receiver_start": [pointer, pointer, pointer],
             "receiver_packet": [pointer, text, size, pointer],
             "receiver_play": [pointer, pointer, size, pointer],
+            "receiver_next": [pointer, pointer],
+            "receiver_shown": [pointer, pointer],
             "receiver_finish": [pointer],
             "sender_start": [pointer, pointer, pointer],
             "sender_code": [pointer, text, size, pointer, size, pointer],
@@ -241,6 +255,15 @@ class Sender(_Started):
 
 class Receiver(_Started):
     _name = "receiver"
+    _lent: memoryview | None = None
+
+    def _call(self, name: str, *words: object) -> int:
+        # What was lent is good until this call. Where something else still reads it (numpy.frombuffer
+        # of it), this is a BufferError, and the call isn't made.
+        if self._lent is not None:
+            self._lent.release()
+            self._lent = None
+        return super()._call(name, *words)
 
     def packet(self, packet: bytes) -> Heard:
         """Takes a whole RTP packet, whatever it is."""
@@ -254,3 +277,18 @@ class Receiver(_Started):
         answer, picture = _Answer(), ctypes.create_string_buffer(self._size)
         _must("play", self._call("play", picture, self._size, ctypes.byref(answer)))
         return Played(MARKS[answer.kind], picture.raw, answer.message.text())
+
+    def play_lent(self) -> PlayedLent:
+        """Plays the next picture, and lends it where `play` copies it."""
+        answer = _Answer()
+        _must("play", self._call("next", ctypes.byref(answer)))
+        return PlayedLent(MARKS[answer.kind], self.shown(), answer.message.text())
+
+    def shown(self) -> memoryview:
+        """Lends the picture that is shown, to be read until the next call of this receiver."""
+        nothing = ctypes.c_uint8()
+        lent = _Lent(ctypes.addressof(nothing), 0)
+        _must("shown", self._call("shown", ctypes.byref(lent)))
+        samples = (ctypes.c_uint8 * lent.length).from_address(lent.samples)
+        self._lent = memoryview(samples).cast("B").toreadonly()
+        return self._lent

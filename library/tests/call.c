@@ -1,5 +1,6 @@
 /* A call in memory over a trace: call IN.y4m TRACE OUT.yuv FORMAT QUANT LIMIT. It shows what
- * `h263rps call` shows. Lines of the trace: S, D n.i, D n.*, P, B k. */
+ * `h263rps call` shows; each second picture is lent, and the others are copied. Lines of the trace:
+ * S, D n.i, D n.*, P, B k. */
 #include "h263rps.h"
 
 #include <stdio.h>
@@ -62,7 +63,7 @@ int main(int argc, char **argv) {
     params.limit = (uint32_t)atoi(argv[6]);
     uint8_t *picture = (uint8_t *)malloc(size), *room = (uint8_t *)malloc(params.limit);
     h263rps_end sender = {0}, receiver = {0};
-    unsigned pictures = 0, marks[3] = {0}, refused = 0;
+    unsigned pictures = 0, played = 0, marks[3] = {0}, refused = 0;
     if (!in || !trace || !out || !picture || !room || !fgets(line, sizeof line, in)) return 2;
     clock_t begin = clock();
     must("start", h263rps_sender_start(&sender, &params, NULL));
@@ -96,10 +97,15 @@ int main(int argc, char **argv) {
                 keep_message(&answer.message);
             }
         } else if (line[0] == 'P') {
-            must("play", h263rps_receiver_play(&receiver, picture, size, &answer));
+            const uint8_t *shown = picture;
+            if (played++ % 2) {
+                must("play", h263rps_receiver_play_lent(&receiver, &shown, &answer));
+            } else {
+                must("play", h263rps_receiver_play(&receiver, picture, size, &answer));
+            }
             marks[answer.kind]++;
             keep_message(&answer.message);
-            fwrite(picture, 1, size, out);
+            fwrite(shown, 1, size, out);
         } else if (line[0] == 'B') {
             const text *message = &messages[k];
             must("feedback", h263rps_sender_feedback(&sender, message->bytes, message->length,

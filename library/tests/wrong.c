@@ -1,6 +1,7 @@
 /* Wrong calls, each refused by its number, and changing nothing; and the layout of the structs. */
 #include "h263rps.h"
 
+#include <stddef.h>
 #include <stdio.h>
 #include <string.h>
 
@@ -30,6 +31,8 @@ static void layout(void) {
     want("size of an answer", sizeof(h263rps_answer), 20);
     want("size of a picture", sizeof(h263rps_coded), 16);
     want("size of a reply", sizeof(h263rps_reply), 8);
+    want("size of what is lent", sizeof(h263rps_lent), 2 * sizeof(void *));
+    want("its length", offsetof(h263rps_lent, length), sizeof(void *));
     memset(&filled, 0xAA, sizeof filled);
     want("defaults", h263rps_defaults(H263RPS_CIF, &filled), H263RPS_OK);
     want("format", filled.format, H263RPS_CIF);
@@ -90,13 +93,17 @@ static void parameters(int receives) {
 
 /* Each call of a receiver answers `status`. */
 static void receiver_calls(h263rps_end *end, uint32_t status) {
+    const uint8_t *lent = room;
     memset(&answer, 0xAA, sizeof answer);
     memset(shown, 0xAA, SIZE);
     want("packet", h263rps_receiver_packet(end, "abc", 3, &answer), status);
     want("play", h263rps_receiver_play(end, shown, SIZE, &answer), status);
+    want("play lent", h263rps_receiver_play_lent(end, &lent, &answer), status);
+    want("shown", h263rps_receiver_shown(end, &lent), status);
     want("finish", h263rps_receiver_finish(end), status);
     want("answer is left", answer.kind, 0xAAAAAAAA);
     want("picture is left", shown[0], 0xAA);
+    want("nothing is lent", lent == room, 1);
 }
 
 static void sender_calls(h263rps_end *end, uint32_t status) {
@@ -110,6 +117,31 @@ static void sender_calls(h263rps_end *end, uint32_t status) {
     want("picture is left", coded.number, 0xAAAAAAAA);
     want("reply is left", reply.kind, 0xAAAAAAAA);
     want("count is left", (uint32_t)count, 77);
+}
+
+/* What is lent is the picture that is shown, where it was copied from, and stays until the next
+ * call. */
+static void lent_pictures(h263rps_end *end) {
+    const uint8_t *lent = NULL, *again = NULL;
+    h263rps_lent raw = {room, 77};
+    want("null", h263rps_receiver_shown(NULL, &lent), H263RPS_NULL);
+    want("null", h263rps_receiver_shown(end, NULL), H263RPS_NULL);
+    want("null", h263rps_receiver_play_lent(NULL, &lent, &answer), H263RPS_NULL);
+    want("null", h263rps_receiver_play_lent(end, NULL, &answer), H263RPS_NULL);
+    want("null", h263rps_receiver_play_lent(end, &lent, NULL), H263RPS_NULL);
+    want("shown", h263rps_receiver_shown(end, &lent), H263RPS_OK);
+    want("grey", lent[0] == 128 && lent[SIZE - 1] == 128, 1);
+    want("play lent", h263rps_receiver_play_lent(end, &lent, &answer), H263RPS_OK);
+    want("held", answer.kind, H263RPS_HELD);
+    want("a message", answer.message.length, 3);
+    want("shown", h263rps_receiver_shown(end, &again), H263RPS_OK);
+    want("one place", again == lent, 1);
+    want("the raw call", h263rps_raw_receiver_shown(end, &raw), H263RPS_OK);
+    want("its place", raw.samples == lent, 1);
+    want("its length", (uint32_t)raw.length, SIZE);
+    want("play", h263rps_receiver_play(end, shown, SIZE, &answer), H263RPS_OK);
+    want("shown", h263rps_receiver_shown(end, &lent), H263RPS_OK);
+    want("the copied one", memcmp(lent, shown, SIZE), 0);
 }
 
 static void receiver(void) {
@@ -134,6 +166,7 @@ static void receiver(void) {
     want("held", answer.kind, H263RPS_HELD);
     want("grey", shown[0] == 128 && shown[SIZE - 1] == 128, 1);
     want("a message", answer.message.length, 3);
+    lent_pictures(&end);
     want("finish", h263rps_receiver_finish(&end), H263RPS_OK);
     receiver_calls(&end, H263RPS_NOT_STARTED);
 }

@@ -21,6 +21,7 @@ use std::alloc::Global;
 
 /// Samples that are lent: Y, then Cb, then Cr.
 #[repr(C)]
+#[derive(Clone, Copy)]
 pub struct Lent<'a> {
     pub samples: &'a [u8],
 }
@@ -65,7 +66,6 @@ pub extern "C" fn h263rps_raw_receiver_start(
 /// Gives a packet to a receiver.
 #[unsafe(no_mangle)]
 pub extern "C" fn h263rps_raw_receiver_packet(
-    alloc: Global,
     slot: &mut Slot,
     bytes: &[u8],
     answer: &mut Answer,
@@ -83,13 +83,10 @@ pub extern "C" fn h263rps_raw_receiver_packet(
         → HoldsReceiver p past slot.old.handle.inside
         → TellsHeard p.clock answer.new (receivers.answer_after p past bytes.now) }
 {
-    let Some(end) = taken(alloc, slot) else {
+    if !slot.is_started() {
         return Refusal::NotStarted.number();
-    };
-    let mut end = end;
-    let heard = end.hear(bytes);
-    put(slot, end);
-    match heard {
+    }
+    match slot.handle.end_mut().hear(bytes) {
         Err(refusal) => refusal.number(),
         Ok(heard) => {
             *answer = Answer::heard(&heard);
@@ -101,7 +98,6 @@ pub extern "C" fn h263rps_raw_receiver_packet(
 /// Plays a receiver's next picture into room for it.
 #[unsafe(no_mangle)]
 pub extern "C" fn h263rps_raw_receiver_play(
-    alloc: Global,
     slot: &mut Slot,
     picture: &mut [u8],
     answer: &mut Answer,
@@ -122,13 +118,10 @@ pub extern "C" fn h263rps_raw_receiver_play(
         → HoldsReceiver p past slot.old.handle.inside → result ≡ 0
         → picture.new ≡ bytes_of (receivers.run_of p (PlayNext ∷ past)).screen }
 {
-    let Some(end) = taken(alloc, slot) else {
+    if !slot.is_started() {
         return Refusal::NotStarted.number();
-    };
-    let mut end = end;
-    let played = end.play(picture);
-    put(slot, end);
-    match played {
+    }
+    match slot.handle.end_mut().play(picture) {
         Err(refusal) => refusal.number(),
         Ok(played) => {
             *answer = Answer::played(&played);

@@ -63,7 +63,6 @@ pub extern "C" fn h263rps_raw_sender_start(
 /// Codes a sender's next picture, with up to four messages about pictures of the other direction.
 #[unsafe(no_mangle)]
 pub extern "C" fn h263rps_raw_sender_code(
-    alloc: Global,
     slot: &mut Slot,
     picture: &[u8],
     messages: &[Said],
@@ -85,13 +84,10 @@ pub extern "C" fn h263rps_raw_sender_code(
         → TellsCoded (length (senders.run_of p (pace_of target p) entries).coded)
         (senders.next_after p (pace_of target p) (frame_of p picture.now back) entries) made.new }
 {
-    let Some(end) = taken(alloc, slot) else {
+    if !slot.is_started() {
         return Refusal::NotStarted.number();
-    };
-    let mut end = end;
-    let coded = end.code(picture, messages);
-    put(slot, end);
-    match coded {
+    }
+    match slot.handle.end_mut().code(picture, messages) {
         Err(refusal) => refusal.number(),
         Ok(coded) => {
             *made = Made::of(&coded);
@@ -103,7 +99,6 @@ pub extern "C" fn h263rps_raw_sender_code(
 /// Copies a packet of the picture that a sender coded last to the start of a room.
 #[unsafe(no_mangle)]
 pub extern "C" fn h263rps_raw_sender_packet(
-    alloc: Global,
     slot: &mut Slot,
     number: u32,
     room: &mut [u8],
@@ -127,12 +122,10 @@ pub extern "C" fn h263rps_raw_sender_packet(
         → slice_index_or (packets_in slot.old.handle.inside) number []
         ≡ slice_index_or (senders.last_packets p (pace_of target p) entries) number [] }
 {
-    let Some(end) = taken(alloc, slot) else {
+    if !slot.is_started() {
         return Refusal::NotStarted.number();
-    };
-    let copied = end.packet(number, room);
-    put(slot, end);
-    match copied {
+    }
+    match slot.handle.end_mut().packet(number, room) {
         Err(refusal) => refusal.number(),
         Ok(copied) => {
             *count = copied;
@@ -144,7 +137,6 @@ pub extern "C" fn h263rps_raw_sender_packet(
 /// Gives a message of the other end to a sender.
 #[unsafe(no_mangle)]
 pub extern "C" fn h263rps_raw_sender_feedback(
-    alloc: Global,
     slot: &mut Slot,
     message: &[u8],
     reply: &mut Reply,
@@ -165,13 +157,10 @@ pub extern "C" fn h263rps_raw_sender_feedback(
         (length (senders.run_of p (pace_of target p) entries).coded)
         (read_message p.clock message.now)) }
 {
-    let Some(end) = taken(alloc, slot) else {
+    if !slot.is_started() {
         return Refusal::NotStarted.number();
-    };
-    let mut end = end;
-    let answer = end.feedback(message);
-    put(slot, end);
-    match answer {
+    }
+    match slot.handle.end_mut().feedback(message) {
         Err(refusal) => refusal.number(),
         Ok(answer) => {
             *reply = Reply::of(&answer);

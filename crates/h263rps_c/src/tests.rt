@@ -33,14 +33,23 @@ const UNTOUCHED: Answer = Answer {
 
 const ACK_0: [u8; 3] = [0xC0, 0x04, 0x00];
 
+// What is answered to a loan, how many samples are lent, and the first.
+fn lent(slot: &mut Slot) -> (u32, usize, u8) {
+    let mut lent = Lent { samples: &[77] };
+    let status = h263rps_raw_receiver_shown(slot, &mut lent);
+    let first = lent.samples.get(0).copied().unwrap_or(0);
+    (status, lent.samples.len(), first)
+}
+
 // What a receiver's functions answer.
-fn receiver_calls(alloc: Global, slot: &mut Slot) -> [u32; 4] {
+fn receiver_calls(alloc: Global, slot: &mut Slot) -> [u32; 5] {
     let mut answer = UNTOUCHED;
     let mut room = [9; 4];
-    let heard = h263rps_raw_receiver_packet(alloc, slot, &[1, 2, 3], &mut answer);
-    let played = h263rps_raw_receiver_play(alloc, slot, &mut room, &mut answer);
+    let heard = h263rps_raw_receiver_packet(slot, &[1, 2, 3], &mut answer);
+    let played = h263rps_raw_receiver_play(slot, &mut room, &mut answer);
+    let (lent, _, _) = lent(slot);
     let finished = h263rps_raw_receiver_finish(alloc, slot);
-    [heard, played, finished, answer.kind]
+    [heard, played, lent, finished, answer.kind]
 }
 
 // What a sender's functions answer.
@@ -57,9 +66,9 @@ fn sender_calls(alloc: Global, slot: &mut Slot) -> [u32; 5] {
     };
     let mut room = [9; 4];
     let mut count = 0;
-    let coded = h263rps_raw_sender_code(alloc, slot, &[1, 2, 3], &[], &mut made);
-    let packet = h263rps_raw_sender_packet(alloc, slot, 0, &mut room, &mut count);
-    let told = h263rps_raw_sender_feedback(alloc, slot, &ACK_0, &mut reply);
+    let coded = h263rps_raw_sender_code(slot, &[1, 2, 3], &[], &mut made);
+    let packet = h263rps_raw_sender_packet(slot, 0, &mut room, &mut count);
+    let told = h263rps_raw_sender_feedback(slot, &ACK_0, &mut reply);
     let finished = h263rps_raw_sender_finish(alloc, slot);
     [coded, packet, told, finished, reply.kind]
 }
@@ -67,7 +76,7 @@ fn sender_calls(alloc: Global, slot: &mut Slot) -> [u32; 5] {
 #[test]
 fn an_empty_slot(rt: HostRuntime) {
     let mut slot = Slot::vacant(rt.alloc());
-    assert_eq!(rt; receiver_calls(rt.alloc(), &mut slot), [1, 1, 1, 77]);
+    assert_eq!(rt; receiver_calls(rt.alloc(), &mut slot), [1, 1, 1, 1, 77]);
     assert_eq!(rt; sender_calls(rt.alloc(), &mut slot), [1, 1, 1, 1, 77]);
     let _end = slot.into_box();
 }
@@ -84,7 +93,10 @@ fn the_other_end(rt: HostRuntime) {
         h263rps_raw_receiver_start(rt.alloc(), &mut slot, &ASKED, &mut fault),
         2
     );
-    assert_eq!(rt; receiver_calls(rt.alloc(), &mut slot), [3, 3, 3, 77]);
+    assert_eq!(rt; receiver_calls(rt.alloc(), &mut slot), [3, 3, 3, 3, 77]);
+    let mut answer = UNTOUCHED;
+    assert_eq!(rt; h263rps_raw_receiver_next(&mut slot, &mut answer), 3);
+    assert_eq!(rt; lent(&mut slot), (3, 1, 77));
     // a length that is wrong, no packet, a message about a picture that was not sent
     assert_eq!(rt; sender_calls(rt.alloc(), &mut slot), [7, 9, 0, 0, 1]);
     assert_eq!(rt;
@@ -93,7 +105,7 @@ fn the_other_end(rt: HostRuntime) {
     );
     assert_eq!(rt; sender_calls(rt.alloc(), &mut slot), [3, 3, 3, 3, 77]);
     // a packet that is refused, and a room that is too short
-    assert_eq!(rt; receiver_calls(rt.alloc(), &mut slot), [0, 7, 0, 5]);
+    assert_eq!(rt; receiver_calls(rt.alloc(), &mut slot), [0, 7, 0, 0, 5]);
     assert_eq!(rt; fault, 77);
     let _end = slot.into_box();
 }
@@ -161,7 +173,7 @@ fn parameters(rt: HostRuntime) {
 
 // A picture of a sender goes to a receiver: whether anything is refused, what its last packet is
 // answered, how it is shown, and whether it is intra.
-fn sent(alloc: Global, sender: &mut Slot, receiver: &mut Slot, picture: &mut [u8]) -> [u32; 4] {
+fn sent(sender: &mut Slot, receiver: &mut Slot, picture: &mut [u8]) -> [u32; 4] {
     let mut made = Made {
         number: 0,
         packets: 0,
@@ -171,20 +183,20 @@ fn sent(alloc: Global, sender: &mut Slot, receiver: &mut Slot, picture: &mut [u8
     let mut heard = UNTOUCHED;
     let mut room = [0; 1400];
     let mut count = 0;
-    let mut refused = h263rps_raw_sender_code(alloc, sender, picture, &[], &mut made);
+    let mut refused = h263rps_raw_sender_code(sender, picture, &[], &mut made);
     for i in 0..made.packets.min(9) {
-        refused |= h263rps_raw_sender_packet(alloc, sender, i, &mut room, &mut count);
+        refused |= h263rps_raw_sender_packet(sender, i, &mut room, &mut count);
         let packet = &room[..count.min(1400)];
-        refused |= h263rps_raw_receiver_packet(alloc, receiver, packet, &mut heard);
+        refused |= h263rps_raw_receiver_packet(receiver, packet, &mut heard);
     }
     let mut reply = Reply {
         kind: 77,
         fault: 77,
     };
     let said = &heard.message.bytes[..heard.message.length.min(5) as usize];
-    refused |= h263rps_raw_sender_feedback(alloc, sender, said, &mut reply);
+    refused |= h263rps_raw_sender_feedback(sender, said, &mut reply);
     let completed = heard.kind;
-    refused |= h263rps_raw_receiver_play(alloc, receiver, picture, &mut heard);
+    refused |= h263rps_raw_receiver_play(receiver, picture, &mut heard);
     [refused, completed, heard.kind, made.intra]
 }
 
@@ -202,11 +214,17 @@ fn a_call(rt: HostRuntime) -> Result<(), Fail> {
         h263rps_raw_receiver_start(rt.alloc(), &mut receiver, &ASKED, &mut fault),
         0
     );
-    let first = sent(rt.alloc(), &mut sender, &mut receiver, &mut picture);
+    let first = sent(&mut sender, &mut receiver, &mut picture);
     assert_eq!(rt; first, [0, 1, 0, 1]);
     assert_eq!(rt; picture.get(0).copied(), Some(128));
-    let second = sent(rt.alloc(), &mut sender, &mut receiver, &mut picture);
+    let second = sent(&mut sender, &mut receiver, &mut picture);
     assert_eq!(rt; second, [0, 1, 0, 0]);
+    assert_eq!(rt; lent(&mut receiver), (0, 18432, 128));
+    // nothing came of the third
+    let mut answer = UNTOUCHED;
+    assert_eq!(rt; h263rps_raw_receiver_next(&mut receiver, &mut answer), 0);
+    assert_eq!(rt; (answer.kind, answer.message.length), (2, 3));
+    assert_eq!(rt; lent(&mut receiver), (0, 18432, 128));
     let _sender = sender.into_box();
     let _receiver = receiver.into_box();
     Ok(())

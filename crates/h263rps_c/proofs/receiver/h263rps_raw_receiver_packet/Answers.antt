@@ -1,4 +1,4 @@
-use Rattle.std.proofs.Common.{rules, ◌≡◌, ◌≤◌, ◌∷◌, Option, Some, ap, sym, subst, ◌∙◌}
+use Rattle.std.proofs.Common.{◌≡◌, ◌≤◌, ◌∷◌, Option, Some, ap, sym, subst, ◌∙◌}
 use Rattle.call_model.specs.Receiving.{Packet}
 use Rattle.h263rps_c.specs.declared.ends.End.{End}
 use Rattle.h263rps_c.specs.declared.answers.Answer.{Answer}
@@ -9,14 +9,9 @@ use Rattle.h263rps_c.proofs.receiver.h263rps_raw_receiver_packet.Goals as goal
 
 pub returns-in-Ok-clause-untaken : goal.returns-in-Ok-clause-untaken
 returns-in-Ok-clause-untaken c = λ status two.
-    let had : c.args.slot.now.handle.inside ≡ Some c.deref_mut.result.now = search rules in
-    let has : c.put.new.slot.handle.inside ≡ Some c.hear-heard.new.self = search rules in
     let told : 2 ≤ (heard_answer c.in-Ok.heard).kind = subst (λ (a : Answer). 2 ≤ a.kind) c.heard.ensures two in
-    has ∙ ap Some (c.in-Ok.ensures.untaken (untaken c.in-Ok.heard told)) ∙ sym had
+    ap Some (c.in-Ok.ensures.untaken (untaken c.in-Ok.heard told)) ∙ sym c.end_mut.ensures.value
 
 pub returns-in-Ok-clause-stands : goal.returns-in-Ok-clause-stands
 returns-in-Ok-clause-stands c = λ p past before.
-    let had : c.args.slot.now.handle.inside ≡ Some c.deref_mut.result.now = search rules in
-    let has : c.put.new.slot.handle.inside ≡ Some c.hear-heard.new.self = search rules in
-    subst (λ (o : Option End). HoldsReceiver p (Packet c.args.bytes.now ∷ past) o) (sym has)
-    (c.hear-heard.ensures.stands p past (subst (λ (o : Option End). HoldsReceiver p past o) had before))
+    c.hear.ensures.stands p past (subst (λ (o : Option End). HoldsReceiver p past o) c.end_mut.ensures.value before)

@@ -1,4 +1,4 @@
-use Rattle.std.proofs.Common.{rules, ◌≡◌, ◌≤◌, ◌∷◌, Option, Some, ap, sym, subst, ◌∙◌}
+use Rattle.std.proofs.Common.{◌≡◌, ◌≤◌, ◌∷◌, Option, Some, ap, sym, subst, ◌∙◌}
 use Rattle.call_model.specs.Sending.{Feedback}
 use Rattle.h263rps_c.specs.declared.ends.End.{End}
 use Rattle.h263rps_c.specs.declared.answers.Reply.{Reply}
@@ -9,14 +9,9 @@ use Rattle.h263rps_c.proofs.sender.h263rps_raw_sender_feedback.Goals as goal
 
 pub returns-in-Ok-clause-unnoted : goal.returns-in-Ok-clause-unnoted
 returns-in-Ok-clause-unnoted c = λ status one.
-    let had : c.args.slot.now.handle.inside ≡ Some c.deref_mut.result.now = search rules in
-    let has : c.put.new.slot.handle.inside ≡ Some c.feedback-answer.new.self = search rules in
     let told : 1 ≤ (reply_of c.in-Ok.answer).kind = subst (λ (r : Reply). 1 ≤ r.kind) c.of.ensures one in
-    has ∙ ap Some (c.in-Ok.ensures.unnoted (unnoted c.in-Ok.answer told)) ∙ sym had
+    ap Some (c.in-Ok.ensures.unnoted (unnoted c.in-Ok.answer told)) ∙ sym c.end_mut.ensures.value
 
 pub returns-in-Ok-clause-stands : goal.returns-in-Ok-clause-stands
 returns-in-Ok-clause-stands c = λ p target entries before.
-    let had : c.args.slot.now.handle.inside ≡ Some c.deref_mut.result.now = search rules in
-    let has : c.put.new.slot.handle.inside ≡ Some c.feedback-answer.new.self = search rules in
-    subst (λ (o : Option End). HoldsSender p target (Feedback c.args.message.now ∷ entries) o) (sym has)
-    (c.feedback-answer.ensures.stands p target entries (subst (λ (o : Option End). HoldsSender p target entries o) had before))
+    c.feedback.ensures.stands p target entries (subst (λ (o : Option End). HoldsSender p target entries o) c.end_mut.ensures.value before)

@@ -1,4 +1,4 @@
-use Rattle.std.proofs.Common.{rules, ◌≡◌, Option, Some, Err, ap, sym, subst, ◌∙◌}
+use Rattle.std.proofs.Common.{◌≡◌, Option, Some, Err, ap, sym, subst, ◌∙◌}
 use Rattle.h263rps_c.specs.declared.ends.End.{End}
 use Rattle.h263rps_c.specs.Ends.{HoldsSender}
 use Rattle.h263rps_c.proofs.RefusalNumbers.{short_room}
@@ -6,6 +6,5 @@ use Rattle.h263rps_c.proofs.sender.h263rps_raw_sender_packet.Goals as goal
 
 pub returns-in-Err-clause-enough : goal.returns-in-Err-clause-enough
 returns-in-Err-clause-enough c = λ p target entries before status.
-    let had : c.args.slot.now.handle.inside ≡ Some c.deref.result.now = search rules in
-    c.in-Err.ensures.enough p target entries (subst (λ (o : Option End). HoldsSender p target entries o) had before)
+    c.in-Err.ensures.enough p target entries (subst (λ (o : Option End). HoldsSender p target entries o) c.end_mut.ensures.value before)
     (ap Err (short_room c.in-Err.refusal (sym c.number-in-Err.ensures.value ∙ status)))
