@@ -205,26 +205,37 @@ fn inter_blocks(
     types_laws::one_more::<Block>();
     let mut residuals = [0; 64];
     for block in 0..6u32 {
-        let number = block as usize;
         block_residuals(frame, mb, block, predicted, &mut residuals);
-        out[number] = residual_block(quant, keep, &residuals);
+        residual_block(quant, keep, &residuals, &mut out[block as usize]);
     }
 }
 
-// The macroblock coded by itself.
+// The macroblock coded by itself. Its levels are written where they stay.
 fn intra_macroblock(frame: PictureRef<'_>, mb: u32, quant: u8, keep: u8, out: &mut Mb)
     requires quant { IsQuant quant }
     requires mb { mb < mbs_of (picture frame).format }
     ensures { out.new ≡ choice.intra_of (picture frame.entry) quant keep mb }
 {
-    let mut coded = [Block { levels: [0; 64] }; 6];
+    *out = Mb::Intra {
+        quant,
+        blocks: [Block { levels: [0; 64] }; 6],
+    };
+    match out {
+        Mb::Intra { blocks, .. } => intra_blocks(frame, mb, quant, keep, blocks),
+        _ => {}
+    }
+}
+
+// The levels of a macroblock's six blocks.
+fn intra_blocks(frame: PictureRef<'_>, mb: u32, quant: u8, keep: u8, out: &mut [Block; 6])
+    requires quant { IsQuant quant }
+    requires mb { mb < mbs_of (picture frame).format }
+    ensures { out.new ≡ choice.blocks_of (picture frame.entry) quant keep mb }
+{
+    types_laws::one_more::<Block>();
     let mut samples = [0; 64];
     for block in 0..6u32 {
         block_samples(frame, mb, block, &mut samples);
-        coded[block as usize] = intra_block(quant, keep, &samples);
+        intra_block(quant, keep, &samples, &mut out[block as usize]);
     }
-    *out = Mb::Intra {
-        quant,
-        blocks: coded,
-    };
 }

@@ -20,8 +20,8 @@ loop-block-preserved c =
       λ q r v is d.
           let block : ℕ → Block = λ b. residual_levels_of c.args.quant c.args.keep (residuals_of p q r c.args.mb v b) in
           let left = residuals_are p q r c.args.mb v b c.block_residuals.new.residuals predicted c.block_residuals.ensures.long c.block_residuals.ensures.residuals (λ k h. six_predicted q c.args.mb r v c.args.predicted.now is b k c.loop-block-test.true h) in
-          let now : c.residual_block.result ≡ block b = c.residual_block.ensures ∙ ap (λ (residuals : List ℤ). residual_levels_of c.args.quant c.args.keep residuals) left in
-          c.one_more.ensures block c.loop-block.out b c.residual_block.result d room now (c.loop-block.invariant.1 q r v is d),
+          let now : c.residual_block.new.out ≡ block b = c.residual_block.ensures ∙ ap (λ (residuals : List ℤ). residual_levels_of c.args.quant c.args.keep residuals) left in
+          c.one_more.ensures block c.loop-block.out b c.residual_block.new.out d room now (c.loop-block.invariant.1 q r v is d),
     )
 
 pub returns : goal.returns
