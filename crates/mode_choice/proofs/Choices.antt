@@ -24,7 +24,7 @@ use Rattle.mode_choice.proofs.Levels.{blocks_in_range, residual_blocks_in_range}
 
 -- ---- vectors
 
-one_of_two : {X : Type 0} (A : X → Type 0) (b : Bool) (x y : X) → A x → A y → A (cond b x y)
+pub one_of_two : {X : Type 0} (A : X → Type 0) (b : Bool) (x y : X) → A x → A y → A (cond b x y)
 one_of_two A true x y hx hy = hx
 one_of_two A false x y hx hy = hy
 

@@ -6,3 +6,4 @@ pub mod Choices
 pub mod Walk
 pub mod Whole
 pub mod Empties
+pub mod Searched

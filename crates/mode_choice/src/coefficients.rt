@@ -31,31 +31,36 @@ pub(crate) fn least_size(coding: Coding, quant: u8) -> u32
     }
 }
 
-// The levels of coefficients that stand by rows, in the zigzag order: 0 from place `keep` on. The
-// first one is a level as the others are. Goes from mark to mark, since most levels are 0.
+// Writes the levels of coefficients that stand by rows, in the zigzag order: 0 from place `keep` on.
+// The first one is a level as the others are. Goes from mark to mark, since most levels are 0.
 #[inline(always)]
-pub(crate) fn levels_in(coding: Coding, quant: u8, keep: u8, coefficients: &[i32; 64]) -> [i16; 64]
+pub(crate) fn levels_in(
+    coding: Coding,
+    quant: u8,
+    keep: u8,
+    coefficients: &[i32; 64],
+    out: &mut [i16; 64],
+)
     requires quant { IsQuant quant }
     requires coefficients { (at : ℕ)
         → at < 64 → IsCoefficient (slice_index_or coefficients.now at (pos 0)) }
-    ensures long { length result ≡ 64 }
+    ensures long { length out.new ≡ 64 }
     ensures levels { (k : ℕ)
-        → k < 64 → slice_index_or result k (pos 0) ≡ level_in coding quant keep coefficients.now k }
-    ensures range { All IsLevel result }
+        → k < 64 → slice_index_or out.new k (pos 0) ≡ level_in coding quant keep coefficients.now k }
+    ensures range { All IsLevel out.new }
 {
     types_laws::lowest();
     types_laws::marks();
     quantiser_laws::one_order();
     let by_rows = levels_by_rows(coding, quant, coefficients);
-    let mut levels = [0; 64];
+    *out = [0; 64];
     let mut rest = Block { levels: by_rows }.marks();
     'marks: while rest != 0 {
         let at = rest.trailing_zeros() as usize;
         let k = zigzag_place(at);
-        levels[k] = kept(by_rows[at], k, keep);
+        out[k] = kept(by_rows[at], k, keep);
         rest &= !(1 << at);
     }
-    levels
 }
 
 // The level at place `k`, which is 0 from place `keep` on.

@@ -9,17 +9,16 @@ use crate::coefficients::{Coding, levels_in};
 use h263_types::Block;
 use idct8::forward;
 
-// The levels of a block of samples.
-pub(crate) fn intra_block(quant: u8, keep: u8, samples: &[i16; 64]) -> Block
+// Writes the levels of a block of samples.
+pub(crate) fn intra_block(quant: u8, keep: u8, samples: &[i16; 64], out: &mut Block)
     requires quant { IsQuant quant }
     requires samples { All IsSample samples.now }
-    ensures levels { result ≡ levels_of quant keep samples.now }
-    ensures range { IsIntraBlock result }
+    ensures levels { out.new ≡ levels_of quant keep samples.now }
+    ensures range { IsIntraBlock out.new }
 {
     let coefficients = forward(samples);
-    let mut levels = levels_in(Coding::Intra, quant, keep, &coefficients);
-    levels[0] = intra_dc(coefficients[0]);
-    Block { levels }
+    levels_in(Coding::Intra, quant, keep, &coefficients, &mut out.levels);
+    out.levels[0] = intra_dc(coefficients[0]);
 }
 
 // The INTRADC value of a block's first coefficient.

@@ -2,7 +2,7 @@
 //! encoder.
 //!
 //! [`choose`] answers a macroblock as an [`Mb`](h263_types::Mb): not coded, predicted by a vector,
-//! or coded by itself.
+//! or coded by itself. [`choose_into`] writes it into a place that is kept, a [`Chosen`].
 //!
 //! ```rust
 //! // one sample that is lighter by 78 leaves no level
@@ -13,6 +13,7 @@
 //! ```
 #![tactic(auto)]
 
+mod chosen;
 mod coefficients;
 mod deviation;
 mod intra;
@@ -22,4 +23,5 @@ mod predicted;
 mod residual;
 mod samples;
 
+pub use chosen::Chosen;
 pub use macroblock::{choose, choose_into};

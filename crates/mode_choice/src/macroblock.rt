@@ -1,15 +1,18 @@
 //! The choice of a macroblock.
-ghost use Rattle.std.specs.Prelude.{◌≡◌, ◌<◌, ◌≤◌};
+ghost use Rattle.std.specs.Prelude.{◌≡◌, ℕ, ◌<◌, ◌≤◌, Some};
 ghost use Rattle.std.specs.Option.{option_map};
 ghost use Rattle.h263_types.specs.Blocks.{HasQuant, IsMb, IsOfKind, IsQuant};
 ghost use Rattle.h263_types.specs.References.{ReachesInside};
 ghost use Rattle.h263_types.specs.Sizes.{mbs_of};
-ghost use Rattle.h263_types.specs.Vectors.{InReach};
+ghost use Rattle.h263_types.specs.declared.vector.Vector.{Vector};
 ghost use Rattle.h263_planes.specs.Lent.{picture};
+ghost use Rattle.h263_planes.specs.Picture.{Picture};
 ghost use Rattle.h263_planes.specs.References.{HasReferenceOnlyInP};
+ghost use Rattle.half_sample.specs.Macroblock.{IsPredicted, IsPredictionOf};
 ghost use Rattle.motion_search.specs.Cost.{samples_of, IsCost};
 ghost use Rattle.mode_choice.specs.Choice as choice;
 
+use crate::chosen::{Chosen, predict_into};
 use crate::deviation::deviation;
 use crate::intra::intra_block;
 use crate::laws;
@@ -18,7 +21,7 @@ use crate::residual::{are_empty, residual_block};
 use crate::samples::block_samples;
 use h263_planes::PictureRef;
 use h263_types::{Block, Mb, Params, Vector, laws as types_laws};
-use half_sample::predict;
+use half_sample::Predicted;
 use motion_search::search_from;
 use picture_header::Header;
 
@@ -46,7 +49,7 @@ pub fn choose(
     ensures reach { ReachesInside (picture frame.entry).format mb result }
     ensures plain { HasQuant header.now.quant result }
 {
-    let mut chosen = Mb::Skip;
+    let mut chosen = Chosen::new();
     choose_into(
         frame,
         reference,
@@ -56,11 +59,12 @@ pub fn choose(
         Vector::ZERO,
         &mut chosen,
     );
-    chosen
+    chosen.mb
 }
 
-/// The same, into its place. The choice is that of `choose` whatever the guess is; it comes sooner
-/// where the guess, as the vector of a neighbour, is near to the best vector.
+/// The same, into its place, with what the vector of an inter macroblock predicts. The choice is
+/// that of `choose` whatever the guess is; it comes sooner where the guess, as the vector of a
+/// neighbour, is near to the best vector.
 pub fn choose_into(
     frame: PictureRef<'_>,
     reference: Option<PictureRef<'_>>,
@@ -68,7 +72,7 @@ pub fn choose_into(
     header: &Header,
     params: &Params,
     guess: Vector,
-    out: &mut Mb,
+    out: &mut Chosen,
 )
     requires reference { HasReferenceOnlyInP header.now.kind
         (picture frame).format (option_map picture reference) }
@@ -76,16 +80,18 @@ pub fn choose_into(
     requires rounding { header.now.rounding ≤ 1 }
     requires radius { params.now.radius ≤ 15 }
     requires mb { mb < mbs_of (picture frame).format }
-    ensures choice { out.new ≡ choice.choice_of
+    ensures choice { out.new.mb ≡ choice.choice_of
         (picture frame.entry) (option_map picture reference.entry) header.now params.now mb }
-    ensures in_range { IsMb out.new }
-    ensures of_kind { IsOfKind header.now.kind out.new }
-    ensures reach { ReachesInside (picture frame.entry).format mb out.new }
-    ensures plain { HasQuant header.now.quant out.new }
+    ensures in_range { IsMb out.new.mb }
+    ensures of_kind { IsOfKind header.now.kind out.new.mb }
+    ensures reach { ReachesInside (picture frame.entry).format mb out.new.mb }
+    ensures plain { HasQuant header.now.quant out.new.mb }
+    ensures predicted { IsPredictionOf header.now.rounding (option_map picture reference.entry)
+        mb out.new.mb out.new.predicted }
 {
     laws::chosen_is_in_range();
     match reference {
-        None => intra_macroblock(frame, mb, header.quant, params.keep, out),
+        None => intra_macroblock(frame, mb, header.quant, params.keep, &mut out.mb),
         Some(reference) => macroblock_in_p(frame, reference, mb, header, params, guess, out),
     }
 }
@@ -99,22 +105,34 @@ fn macroblock_in_p(
     header: &Header,
     params: &Params,
     guess: Vector,
-    out: &mut Mb,
+    out: &mut Chosen,
 )
     requires format { (picture frame).format ≡ (picture reference).format }
     requires quant { IsQuant header.now.quant }
     requires rounding { header.now.rounding ≤ 1 }
     requires radius { params.now.radius ≤ 15 }
     requires mb { mb < mbs_of (picture frame).format }
-    ensures { out.new ≡ choice.choice_in_p
+    ensures choice { out.new.mb ≡ choice.choice_in_p
         (picture frame.entry) (picture reference.entry) header.now params.now mb }
+    ensures predicted { IsPredictionOf header.now.rounding (Some (picture reference.entry))
+        mb out.new.mb out.new.predicted }
 {
     let (vector, cost) = search_from(frame, reference, mb, params.radius, header.rounding, guess);
     if is_nearer_to_mean(frame, mb, cost) {
-        intra_macroblock(frame, mb, header.quant, params.keep, out);
+        intra_macroblock(frame, mb, header.quant, params.keep, &mut out.mb);
         return;
     }
-    inter_macroblock(frame, reference, mb, vector, header, params.keep, out);
+    predict_into(reference, mb, vector, header.rounding, &mut out.predicted);
+    let predicted = &out.predicted;
+    inter_macroblock(
+        frame,
+        mb,
+        vector,
+        header.quant,
+        params.keep,
+        predicted,
+        &mut out.mb,
+    );
 }
 
 // Whether a macroblock is coded by itself, where the best vector costs this much: at 500 or less it
@@ -140,80 +158,84 @@ fn is_intra(deviation: u32, cost: i32) -> bool
     (deviation as i32) < cost - 500
 }
 
-// The macroblock predicted by a vector: it isn't coded where the vector is zero and no level is
-// left.
+// The macroblock predicted by a vector, whose samples are given: it isn't coded where the vector is
+// zero and no level is left.
 fn inter_macroblock(
     frame: PictureRef<'_>,
-    reference: PictureRef<'_>,
     mb: u32,
     vector: Vector,
-    header: &Header,
+    quant: u8,
     keep: u8,
+    predicted: &Predicted,
     out: &mut Mb,
 )
-    requires format { (picture frame).format ≡ (picture reference).format }
-    requires quant { IsQuant header.now.quant }
-    requires rounding { header.now.rounding ≤ 1 }
-    requires mb { mb < mbs_of (picture reference).format }
-    requires reach { InReach (picture reference).format mb vector.x vector.y }
-    ensures { out.new ≡ choice.inter_of (picture frame.entry)
-        (picture reference.entry) header.now.quant keep header.now.rounding mb vector }
+    requires quant { IsQuant quant }
+    requires mb { mb < mbs_of (picture frame).format }
+    ensures { (reference : Picture) (r : ℕ) → IsPredicted reference mb vector r predicted.now
+        → out.new ≡ choice.inter_of (picture frame.entry) reference quant keep r mb vector }
 {
     let mut blocks = [Block { levels: [0; 64] }; 6];
-    inter_blocks(frame, reference, mb, vector, header, keep, &mut blocks);
+    inter_blocks(frame, mb, quant, keep, predicted, &mut blocks);
     if vector.x == 0 && vector.y == 0 && are_empty(&blocks) {
         *out = Mb::Skip;
         return;
     }
     *out = Mb::Inter {
-        quant: header.quant,
+        quant,
         vector,
         blocks,
     };
 }
 
-// The levels of what a vector leaves of a macroblock's six blocks.
+// The levels of what a prediction leaves of a macroblock's six blocks.
 fn inter_blocks(
     frame: PictureRef<'_>,
-    reference: PictureRef<'_>,
     mb: u32,
-    vector: Vector,
-    header: &Header,
+    quant: u8,
     keep: u8,
+    predicted: &Predicted,
     out: &mut [Block; 6],
 )
-    requires format { (picture frame).format ≡ (picture reference).format }
-    requires quant { IsQuant header.now.quant }
-    requires rounding { header.now.rounding ≤ 1 }
-    requires mb { mb < mbs_of (picture reference).format }
-    requires reach { InReach (picture reference).format mb vector.x vector.y }
-    ensures { out.new ≡ choice.residual_blocks_of (picture frame.entry)
-        (picture reference.entry) header.now.quant keep header.now.rounding mb vector }
+    requires quant { IsQuant quant }
+    requires mb { mb < mbs_of (picture frame).format }
+    ensures { (reference : Picture) (r : ℕ)
+        (v : Vector) → IsPredicted reference mb v r predicted.now → out.new
+        ≡ choice.residual_blocks_of (picture frame.entry) reference quant keep r mb v }
 {
     types_laws::one_more::<Block>();
-    let predicted = predict(reference, mb, vector, header.rounding);
     let mut residuals = [0; 64];
     for block in 0..6u32 {
-        let number = block as usize;
-        block_residuals(frame, mb, block, &predicted, &mut residuals);
-        out[number] = residual_block(header.quant, keep, &residuals);
+        block_residuals(frame, mb, block, predicted, &mut residuals);
+        residual_block(quant, keep, &residuals, &mut out[block as usize]);
     }
 }
 
-// The macroblock coded by itself.
+// The macroblock coded by itself. Its levels are written where they stay.
 fn intra_macroblock(frame: PictureRef<'_>, mb: u32, quant: u8, keep: u8, out: &mut Mb)
     requires quant { IsQuant quant }
     requires mb { mb < mbs_of (picture frame).format }
     ensures { out.new ≡ choice.intra_of (picture frame.entry) quant keep mb }
 {
-    let mut coded = [Block { levels: [0; 64] }; 6];
+    *out = Mb::Intra {
+        quant,
+        blocks: [Block { levels: [0; 64] }; 6],
+    };
+    match out {
+        Mb::Intra { blocks, .. } => intra_blocks(frame, mb, quant, keep, blocks),
+        _ => {}
+    }
+}
+
+// The levels of a macroblock's six blocks.
+fn intra_blocks(frame: PictureRef<'_>, mb: u32, quant: u8, keep: u8, out: &mut [Block; 6])
+    requires quant { IsQuant quant }
+    requires mb { mb < mbs_of (picture frame).format }
+    ensures { out.new ≡ choice.blocks_of (picture frame.entry) quant keep mb }
+{
+    types_laws::one_more::<Block>();
     let mut samples = [0; 64];
     for block in 0..6u32 {
         block_samples(frame, mb, block, &mut samples);
-        coded[block as usize] = intra_block(quant, keep, &samples);
+        intra_block(quant, keep, &samples, &mut out[block as usize]);
     }
-    *out = Mb::Intra {
-        quant,
-        blocks: coded,
-    };
 }

@@ -11,19 +11,18 @@ use crate::coefficients::{Coding, least_size, levels_in};
 use h263_types::Block;
 use idct8::{are_below, forward, laws as idct8_laws};
 
-// The levels of a block of residuals.
-pub(crate) fn residual_block(quant: u8, keep: u8, residuals: &[i16; 64]) -> Block
+// Writes the levels of a block of residuals.
+pub(crate) fn residual_block(quant: u8, keep: u8, residuals: &[i16; 64], out: &mut Block)
     requires quant { IsQuant quant }
     requires residuals { All IsSample residuals.now }
-    ensures { result ≡ choice.residual_levels_of quant keep residuals.now }
+    ensures { out.new ≡ choice.residual_levels_of quant keep residuals.now }
 {
     if are_small(quant, residuals) {
-        return Block { levels: [0; 64] };
+        out.levels = [0; 64];
+        return;
     }
     let coefficients = forward(residuals);
-    Block {
-        levels: levels_in(Coding::Inter, quant, keep, &coefficients),
-    }
+    levels_in(Coding::Inter, quant, keep, &coefficients, &mut out.levels);
 }
 
 // Whether residuals are so small that they leave no level, which needs no transform. Most blocks of

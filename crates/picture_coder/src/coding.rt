@@ -16,10 +16,10 @@ ghost use Rattle.packet_cutter.specs.Packets.{ArePacketsOf};
 
 use h263_planes::{PictureMut, PictureRef};
 use h263_types::{Mb, Params, Vector};
-use mode_choice::{choose_into, laws as mode_choice_laws};
+use mode_choice::{Chosen, choose_into, laws as mode_choice_laws};
 use packet_cutter::Cutter;
 use picture_header::Header;
-use picture_recon::{laws as picture_recon_laws, recon_mb};
+use picture_recon::{laws as picture_recon_laws, recon_predicted};
 
 /// Codes `frame` as picture `number` with this header. `cutter`, which was started with these
 /// parameters, then holds the picture's packets of at most `params.limit` bytes, one slice each,
@@ -71,13 +71,13 @@ pub fn code_picture(
     picture_recon_laws::shown_one_by_one();
     work.is_picture();
     cutter.begin(number, header);
-    let mut mb = Mb::Skip;
+    let mut chosen = Chosen::new();
     let mut guess = Vector::ZERO;
     for at in 0..params.format.mbs() {
-        choose_into(frame, reference, at, header, params, guess, &mut mb);
-        cutter.add(&mb);
-        recon_mb(&mb, at, header, reference, work);
-        guess = vector_of(&mb);
+        choose_into(frame, reference, at, header, params, guess, &mut chosen);
+        cutter.add(&chosen.mb);
+        recon_predicted(&chosen.mb, &chosen.predicted, at, header, reference, work);
+        guess = vector_of(&chosen.mb);
     }
     cutter.finish();
 }

@@ -23,10 +23,10 @@ marks-preserved c =
     let v : ℤ = to_z w16 (of_z w16 c.kept.result) in
     let same : v ≡ c.kept.result = level_kept c.kept.result c.kept.ensures.range in
     let row_kept : to_z w16 (of_z w16 row) ≡ row = level_kept row (c.levels_by_rows-by_rows.ensures.range at (pos 0) (subst (λ (n : ℕ). at < n) (sym c.levels_by_rows-by_rows.ensures.long) mark.below)) in
-    set_one c.one_order.ensures c.args.coding c.args.quant c.args.keep c.args.coefficients.now at c.zigzag_place-k.result rest c.marks.levels v
+    set_one c.one_order.ensures c.args.coding c.args.quant c.args.keep c.args.coefficients.now at c.zigzag_place-k.result rest c.marks.out v
     mark c.zigzag_place-k.ensures.place c.zigzag_place-k.ensures.range
     (same ∙ c.kept.ensures.level ∙ ap (λ (z : ℤ). cond (nat_lt c.zigzag_place-k.result c.args.keep) z (pos 0)) (row_kept ∙ c.levels_by_rows-by_rows.ensures.levels at mark.below))
     (subst IsLevel (sym same) c.kept.ensures.range) c.marks.invariant
 
 pub returns-clause-levels : goal.returns-clause-levels
-returns-clause-levels c = ends c.args.coding c.args.quant c.args.keep c.args.coefficients.now c.marks.rest c.marks.levels c.marks-test.false c.marks.invariant
+returns-clause-levels c = ends c.args.coding c.args.quant c.args.keep c.args.coefficients.now c.marks.rest c.marks.out c.marks-test.false c.marks.invariant

@@ -12,8 +12,8 @@ use Rattle.quantiser.specs.Levels.{intra_level}
 use Rattle.mode_choice.proofs.Walk.{is_forward_at}
 use Rattle.mode_choice.proofs.intra.intra_block.Goals as goal
 
-pub levels_in-levels-requires-clause-coefficients : goal.levels_in-levels-requires-clause-coefficients
-levels_in-levels-requires-clause-coefficients c at h = is_coefficient c.forward-coefficients.result at h c.forward-coefficients.ensures.range
+pub levels_in-requires-clause-coefficients : goal.levels_in-requires-clause-coefficients
+levels_in-requires-clause-coefficients c at h = is_coefficient c.forward-coefficients.result at h c.forward-coefficients.ensures.range
 
 dc_kept : (z : ℤ) → IsDc z → to_z w16 (of_z w16 z) ≡ z
 dc_kept z h = omega (arith, ints)
@@ -43,7 +43,7 @@ returns-clause-levels c =
     ∙ c.intra_dc.ensures.value
     ∙ ap (λ (f : ℤ). limited_dc (int_shr (f +ℤ pos 4) 3)) (coefficient_kept (get_or coefficients 0 (pos 0)) ok ∙ is_forward_at coefficients samples 0 c.forward-coefficients.ensures.coefficients) in
     let block : List ℤ → Block = λ ls. record { levels = ls } in
-    ap block (fill_by_all (λ (k : ℕ). level_of quant keep k (coefficient_at samples k)) (slice_set c.levels_in-levels.result 0 dc) 64 (pos 0) (length-set c.levels_in-levels.result 0 dc ∙ c.levels_in-levels.ensures.long)
-    (with_first quant keep samples c.levels_in-levels.result dc c.levels_in-levels.ensures.long first
-    (λ k some below. c.levels_in-levels.ensures.levels k below
+    ap block (fill_by_all (λ (k : ℕ). level_of quant keep k (coefficient_at samples k)) (slice_set c.levels_in.new.out 0 dc) 64 (pos 0) (length-set c.levels_in.new.out 0 dc ∙ c.levels_in.ensures.long)
+    (with_first quant keep samples c.levels_in.new.out dc c.levels_in.ensures.long first
+    (λ k some below. c.levels_in.ensures.levels k below
     ∙ ap (λ (f : ℤ). cond (nat_lt k keep) (intra_level quant f) (pos 0)) (is_forward_at coefficients samples k c.forward-coefficients.ensures.coefficients) ∙ behind k _ _ some)))

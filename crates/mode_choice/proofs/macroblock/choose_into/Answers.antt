@@ -13,11 +13,11 @@ returns-in-None-clause-in_range c =
 
 pub returns-in-Some-clause-in_range : goal.returns-in-Some-clause-in_range
 returns-in-Some-clause-in_range c =
-    subst IsMb (sym c.macroblock_in_p.ensures) (c.chosen_is_in_range.ensures.in_range (picture c.args.frame) (Some (picture c.in-Some.reference)) c.args.header.now c.args.params.now c.args.mb c.requires.quant)
+    subst IsMb (sym c.macroblock_in_p.ensures.choice) (c.chosen_is_in_range.ensures.in_range (picture c.args.frame) (Some (picture c.in-Some.reference)) c.args.header.now c.args.params.now c.args.mb c.requires.quant)
 
 pub returns-in-Some-clause-reach : goal.returns-in-Some-clause-reach
 returns-in-Some-clause-reach c =
     let f = (picture c.args.frame).format in
     let only = subst (λ (reference : Option PictureRef). HasReferenceOnlyInP c.args.header.now.kind f (option_map picture reference)) c.in-Some.is c.requires.reference in
-    subst (ReachesInside f c.args.mb) (sym c.macroblock_in_p.ensures)
+    subst (ReachesInside f c.args.mb) (sym c.macroblock_in_p.ensures.choice)
     (c.chosen_is_in_range.ensures.reach (picture c.args.frame) (Some (picture c.in-Some.reference)) c.args.header.now c.args.params.now c.args.mb only c.requires.mb)

@@ -8,24 +8,24 @@ use Rattle.mode_choice.proofs.Blocks.{residuals_are, six_predicted}
 use Rattle.mode_choice.proofs.macroblock.inter_blocks.Goals as goal
 
 pub loop-block-init : goal.loop-block-init
-loop-block-init c = (omega arith, λ d b h. absurd (omega (arith, h)))
+loop-block-init c = (omega arith, λ q r v is d b h. absurd (omega (arith, h)))
 
 pub loop-block-preserved : goal.loop-block-preserved
 loop-block-preserved c =
     let p = picture c.args.frame in
-    let q = picture c.args.reference in
     let b : ℕ = c.loop-block.block in
-    let predicted : ℕ → ℕ = predicted_at c.predict-predicted.result b in
-    let block : ℕ → Block = λ b. residual_levels_of c.args.header.now.quant c.args.keep (residuals_of p q c.args.header.now.rounding c.args.mb c.args.vector b) in
-    let left = residuals_are p q c.args.header.now.rounding c.args.mb c.args.vector b c.block_residuals.new.residuals predicted c.block_residuals.ensures.long c.block_residuals.ensures.residuals (λ k h. six_predicted q c.args.mb c.args.header.now.rounding c.args.vector c.predict-predicted.result c.predict-predicted.ensures b k c.loop-block-test.true h) in
-    let now : c.residual_block.result ≡ block b = c.residual_block.ensures ∙ ap (λ (residuals : List ℤ). residual_levels_of c.args.header.now.quant c.args.keep residuals) left in
+    let predicted : ℕ → ℕ = predicted_at c.args.predicted.now b in
     let room : b < length c.loop-block.out = omega (arith, c.loop-block.invariant.0) in (
       length-set c.loop-block.out b _ ∙ c.loop-block.invariant.0,
-      λ d. c.one_more.ensures block c.loop-block.out b c.residual_block.result d room now (c.loop-block.invariant.1 d),
+      λ q r v is d.
+          let block : ℕ → Block = λ b. residual_levels_of c.args.quant c.args.keep (residuals_of p q r c.args.mb v b) in
+          let left = residuals_are p q r c.args.mb v b c.block_residuals.new.residuals predicted c.block_residuals.ensures.long c.block_residuals.ensures.residuals (λ k h. six_predicted q c.args.mb r v c.args.predicted.now is b k c.loop-block-test.true h) in
+          let now : c.residual_block.new.out ≡ block b = c.residual_block.ensures ∙ ap (λ (residuals : List ℤ). residual_levels_of c.args.quant c.args.keep residuals) left in
+          c.one_more.ensures block c.loop-block.out b c.residual_block.new.out d room now (c.loop-block.invariant.1 q r v is d),
     )
 
 pub returns : goal.returns
 unfolding residual_blocks_of
-returns c =
-    let block : ℕ → Block = λ b. residual_levels_of c.args.header.now.quant c.args.keep (residuals_of (picture c.args.frame) (picture c.args.reference) c.args.header.now.rounding c.args.mb c.args.vector b) in
-    fill_by_all block c.loop-block.out 6 (block 0) c.loop-block.invariant.0 (λ b h. c.loop-block.invariant.1 (block 0) b (omega arith))
+returns c = λ q r v is.
+    let block : ℕ → Block = λ b. residual_levels_of c.args.quant c.args.keep (residuals_of (picture c.args.frame) q r c.args.mb v b) in
+    fill_by_all block c.loop-block.out 6 (block 0) c.loop-block.invariant.0 (λ b h. c.loop-block.invariant.1 q r v is (block 0) b (omega arith))

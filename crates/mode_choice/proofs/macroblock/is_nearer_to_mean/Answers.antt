@@ -1,9 +1,10 @@
-use Rattle.std.proofs.Common.{◌≡◌, ap, ◌∙◌, arith, ℕ, ℤ, false, pos, ◌-ℤ◌, ◌≤ℤ◌, to_z, of_z, w32}
+use Rattle.std.proofs.Common.{◌≡◌, ap, ◌∙◌, arith, ℕ, ℤ, false, pos, ◌-ℤ◌, ◌≤ℤ◌}
 use Rattle.std.specs.Prelude.{int_lt}
 use Rattle.std.proofs.lemmas.Int.{ints}
 use Rattle.h263_planes.specs.Lent.{picture}
-use Rattle.motion_search.specs.Cost.{samples_of, IsCost}
+use Rattle.motion_search.specs.Cost.{samples_of}
 use Rattle.mode_choice.specs.Choice.{deviation_of, is_intra}
+use Rattle.mode_choice.proofs.Searched.{cost_kept}
 use Rattle.mode_choice.proofs.macroblock.is_nearer_to_mean.Goals as goal
 
 -- no sum is below a number that isn't above 0
@@ -12,9 +13,6 @@ none_below deviation cost h = grind (arith, ints)
 
 pub returns-then-cost-le500 : goal.returns-then-cost-le500
 returns-then-cost-le500 c = none_below (deviation_of (samples_of (picture c.args.frame) c.args.mb)) c.args.cost (omega (arith, ints, c.if-cost-le500.true, c.requires.cost.low, c.requires.cost.high))
-
-cost_kept : (z : ℤ) → IsCost z → to_z w32 (of_z w32 z) ≡ z
-cost_kept z h = omega (arith, ints)
 
 pub returns : goal.returns
 returns c =

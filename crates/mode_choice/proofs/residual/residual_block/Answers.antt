@@ -17,6 +17,6 @@ pub returns : goal.returns
 unfolding residual_levels_of
 returns c =
     let block : List ℤ → Block = λ ls. record { levels = ls } in
-    ap block (fill_by_all (λ (k : ℕ). residual_level_of c.args.quant c.args.keep k (coefficient_at c.args.residuals.now k)) c.levels_in.result 64 (pos 0) c.levels_in.ensures.long
+    ap block (fill_by_all (λ (k : ℕ). residual_level_of c.args.quant c.args.keep k (coefficient_at c.args.residuals.now k)) c.levels_in.new.out 64 (pos 0) c.levels_in.ensures.long
     (λ k h. c.levels_in.ensures.levels k h
     ∙ ap (λ (f : ℤ). cond (nat_lt k c.args.keep) (inter_level c.args.quant f) (pos 0)) (is_forward_at c.forward-coefficients.result c.args.residuals.now k c.forward-coefficients.ensures.coefficients)))

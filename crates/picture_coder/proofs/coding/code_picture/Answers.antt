@@ -21,7 +21,7 @@ loop-at-preserved c =
     let mbs = choices_of frame reference h params in
     let at = c.loop-at.at in
     let old = lent.work c.loop-at.work in
-    let new = lent.work c.recon_mb.new.out in
+    let new = lent.work c.recon_predicted.new.out in
     let inside : at < mbs_of frame.format = subst (λ (f : Format). at < mbs_of f) (sym c.requires.frame_format) (omega (arith, c.mbs-at-end.ensures, c.loop-at-test.true)) in
     let chosen = c.choose_into.ensures.choice ∙ sym (c.one_for_each_place.ensures.each frame reference h params at inside) in
     record {
@@ -39,12 +39,12 @@ loop-at-preserved c =
       limit = c.add.ensures.rest.limit ∙ c.loop-at.invariant.limit;
       sequence = c.add.ensures.rest.sequence ∙ c.loop-at.invariant.sequence;
       shown = record {
-        whole = c.recon_mb.ensures.whole;
-        format = c.recon_mb.ensures.format;
+        whole = c.recon_predicted.ensures.whole;
+        format = c.recon_predicted.ensures.format;
         shows = c.shown_one_by_one.ensures.macroblock h.format h.rounding reference mbs at old new c.loop-at.invariant.shown.shows
-            (subst (λ (m : Mb). SetsMb h.format h.rounding reference at m old new) chosen c.recon_mb.ensures.samples);
+            (subst (λ (m : Mb). SetsMb h.format h.rounding reference at m old new) chosen c.recon_predicted.ensures.samples);
       };
-      same_loan = c.recon_mb.ensures.same_loan ∙ c.loop-at.invariant.same_loan;
+      same_loan = c.recon_predicted.ensures.same_loan ∙ c.loop-at.invariant.same_loan;
     }
 
 -- at the loop's end the cutter holds all that was chosen

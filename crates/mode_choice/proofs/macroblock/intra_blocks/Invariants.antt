@@ -2,10 +2,10 @@ use Rattle.std.proofs.Common.{◌≡◌, ℕ, ◌<◌, length, get_or}
 use Rattle.h263_types.specs.declared.blocks.Block.{Block}
 use Rattle.h263_planes.specs.Lent.{picture}
 use Rattle.mode_choice.specs.Choice.{levels_of, samples_of}
-use Rattle.mode_choice.proofs.macroblock.intra_macroblock.Given as goal
+use Rattle.mode_choice.proofs.macroblock.intra_blocks.Given as goal
 
 -- the blocks before `block` stand
 abbrev pub invariant-loop-block : goal.invariant-loop-block
 invariant-loop-block l =
-    (length l.coded ≡ 6)
-    × ((d : Block) (b : ℕ) → b < l.block → get_or l.coded b d ≡ levels_of l.quant l.keep (samples_of (picture l.frame) l.mb b))
+    (length l.out ≡ 6)
+    × ((d : Block) (b : ℕ) → b < l.block → get_or l.out b d ≡ levels_of l.quant l.keep (samples_of (picture l.frame) l.mb b))

@@ -1,0 +1,51 @@
+//! What is chosen of a macroblock, and what its vector predicts.
+ghost use Rattle.std.specs.Prelude.{◌≤◌, ◌<◌};
+ghost use Rattle.h263_types.specs.Sizes.{mbs_of};
+ghost use Rattle.h263_types.specs.Vectors.{InReach};
+ghost use Rattle.h263_planes.specs.Lent.{picture};
+ghost use Rattle.half_sample.specs.Macroblock.{IsPredicted};
+
+use h263_planes::{PictureRef, Plane};
+use h263_types::{Mb, Vector};
+use half_sample::{Predicted, chroma, luma};
+
+/// A macroblock as it is chosen, and the samples that the vector of an inter macroblock predicts:
+/// they needn't be predicted again where it is reconstructed. Beside other macroblocks the samples
+/// are those of an earlier one.
+#[derive(Drop)]
+pub struct Chosen {
+    pub mb: Mb,
+    pub predicted: Predicted,
+}
+
+impl Chosen {
+    /// A place for what is chosen, one macroblock after the other.
+    pub fn new() -> Chosen {
+        Chosen {
+            mb: Mb::Skip,
+            predicted: Predicted {
+                y: [0; 256],
+                cb: [0; 64],
+                cr: [0; 64],
+            },
+        }
+    }
+}
+
+// The samples that a vector predicts for macroblock `mb` in the three planes, into their place.
+pub(crate) fn predict_into(
+    reference: PictureRef<'_>,
+    mb: u32,
+    vector: Vector,
+    rounding: u8,
+    out: &mut Predicted,
+)
+    requires mb { mb < mbs_of (picture reference).format }
+    requires reach { InReach (picture reference).format mb vector.x vector.y }
+    requires rounding { rounding ≤ 1 }
+    ensures { IsPredicted (picture reference.entry) mb vector rounding out.new }
+{
+    luma(reference, mb, vector, rounding, &mut out.y);
+    chroma(reference, Plane::Cb, mb, vector, rounding, &mut out.cb);
+    chroma(reference, Plane::Cr, mb, vector, rounding, &mut out.cr);
+}
