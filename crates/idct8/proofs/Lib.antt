@@ -15,5 +15,5 @@ pub mod Parity
 pub mod Squares
 pub mod Low
 pub mod Columns
-pub mod Rows
 pub mod First
+pub mod Halves

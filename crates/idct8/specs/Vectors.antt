@@ -17,6 +17,11 @@ pub record EightWithin (n : ℕ) (v : List ℤ) : Type 0 where
   pub long : length v ≡ 8
   pub within : (i : ℕ) → i < 8 → Within n (lane v i)
 
+-- sixteen numbers from -n to n
+pub record SixteenWithin (n : ℕ) (v : List ℤ) : Type 0 where
+  pub long : length v ≡ 16
+  pub within : (i : ℕ) → i < 16 → Within n (lane v i)
+
 -- vector j of some rows
 abbrev pub row_at : List Row → ℕ → List ℤ
 row_at v j = (slice_index_or v j (record { lanes = [] })).lanes

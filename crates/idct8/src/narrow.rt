@@ -1,7 +1,7 @@
 //! The inverse transform in 16 bits. What a coded block holds is mostly zeros and small values, and
 //! then both passes fit 32 bits: no number of the basis is further from 0 than 2841, so no double
 //! sum is further than 2841 * 2841 times the sum of the sizes of the values.
-ghost use Rattle.std.specs.Prelude.{◌≡◌, ℕ, ◌+◌, ◌*◌, ◌-◌, ◌^◌, ◌<◌, ◌≤◌, pos, ◌+ℤ◌, ◌*ℤ◌, All, slice_index_or};
+ghost use Rattle.std.specs.Prelude.{◌≡◌, ℕ, ◌+◌, ◌*◌, ◌-◌, ◌^◌, ◌<◌, ◌≤◌, pos, ◌+ℤ◌, ◌-ℤ◌, ◌*ℤ◌, All, slice_index_or};
 ghost use Rattle.std.specs.Int.{int_shr};
 ghost use Rattle.std.specs.Simd.Lanes.{put_chunk};
 ghost use Rattle.h263_types.specs.Blocks.{IsValue};
@@ -10,7 +10,7 @@ ghost use Rattle.idct8.specs.Transform.{entry, inverse_at};
 ghost use Rattle.idct8.specs.Passes.{AreColumnSums, pass_at, row_sums, transform_at};
 ghost use Rattle.idct8.specs.Sizes.{cut_size, sizes_of};
 ghost use Rattle.idct8.specs.Sums.{total};
-ghost use Rattle.idct8.specs.Vectors.{lane, EightWithin, SumsWithin, column_at, sum_at};
+ghost use Rattle.idct8.specs.Vectors.{lane, EightWithin, SixteenWithin, SumsWithin, column_at, sum_at};
 ghost use Rattle.idct8.specs.declared.passes.Direction.TheVariants.{Inverse};
 
 use crate::parts::{HALF, ROUNDED_BITS};
@@ -25,22 +25,18 @@ const MOST: u16 = 263;
 // A size counts no further than this, so that 64 of them fit 16 bits. It is more than `MOST`.
 const LARGE: u16 = 1023;
 
-// The rows of the basis, by frequency.
-const BASIS_0: [i32; 8] = [2048, 2048, 2048, 2048, 2048, 2048, 2048, 2048];
+// The basis at the first four places, by pairs of frequencies: for each place the numbers of 0 and
+// 2, then for each those of 1 and 3.
+const FIRST_PAIRS: [i32; 16] = [
+    2048, 2676, 2048, 1108, 2048, -1108, 2048, -2676, 2841, 2408, 2408, -565, 1609, -2841, 565,
+    -1609,
+];
 
-const BASIS_1: [i32; 8] = [2841, 2408, 1609, 565, -565, -1609, -2408, -2841];
-
-const BASIS_2: [i32; 8] = [2676, 1108, -1108, -2676, -2676, -1108, 1108, 2676];
-
-const BASIS_3: [i32; 8] = [2408, -565, -2841, -1609, 1609, 2841, 565, -2408];
-
-const BASIS_4: [i32; 8] = [2048, -2048, -2048, 2048, 2048, -2048, -2048, 2048];
-
-const BASIS_5: [i32; 8] = [1609, -2841, 565, 2408, -2408, -565, 2841, -1609];
-
-const BASIS_6: [i32; 8] = [1108, -2676, 2676, -1108, -1108, 2676, -2676, 1108];
-
-const BASIS_7: [i32; 8] = [565, -1609, 2408, -2841, 2841, -2408, 1609, -565];
+// Those of 4 and 6, then those of 5 and 7.
+const LAST_PAIRS: [i32; 16] = [
+    2048, 1108, -2048, -2676, -2048, 2676, 2048, -1108, 1609, 565, -2841, -1609, 565, 2408, 2408,
+    -2841,
+];
 
 /// The inverse transform of a block of values, as [`inverse`] gives it, in 16 bits and in their
 /// place. It is quick where the sum of the sizes of the values is at most 263, and quickest where
@@ -135,35 +131,50 @@ fn sums_of_rows(values: &[i16; 64], count: usize) -> Sums
     sums
 }
 
-// The eight sums of a row at once: each of its numbers times its row of the basis. So the row needs
-// no transposition.
+// The eight sums of a row at once. The even rows of the basis are symmetric and the odd ones
+// antisymmetric, so places x and 7 - x share their two halves. The row needs no transposition.
 #[inline(always)]
 fn row_of_sums(r: i16x8) -> i32x8
     requires { EightWithin 8191 r }
     ensures sums { (k : ℕ) → k < 8 → lane result k ≡ pass_at Inverse r k }
     ensures size { EightWithin (2 ^ 28) result }
 {
-    let r = r.to_array();
-    two_of_row(r[0], BASIS_0, r[1], BASIS_1)
-        + two_of_row(r[2], BASIS_2, r[3], BASIS_3)
-        + two_of_row(r[4], BASIS_4, r[5], BASIS_5)
-        + two_of_row(r[6], BASIS_6, r[7], BASIS_7)
+    let first = r.swizzle([0, 2, 0, 2, 0, 2, 0, 2, 1, 3, 1, 3, 1, 3, 1, 3]);
+    let last = r.swizzle([4, 6, 4, 6, 4, 6, 4, 6, 5, 7, 5, 7, 5, 7, 5, 7]);
+    unfolded(dots(first, FIRST_PAIRS) + dots(last, LAST_PAIRS))
 }
 
-// Two numbers of a row times their rows of the basis.
+// The sums of two products of neighbours: the compiler knows this form, and it is one instruction
+// for four of them.
 #[inline(always)]
-fn two_of_row(a: i16, m: [i32; 8], b: i16, n: [i32; 8]) -> i32x8
-    requires a { Within 8191 a }
-    requires b { Within 8191 b }
-    requires m { All (Within 2841) m }
-    requires n { All (Within 2841) n }
-    ensures sums { (k : ℕ) → k < 8 → lane result k
-        ≡ slice_index_or m k (pos 0) *ℤ a +ℤ slice_index_or n k (pos 0) *ℤ b }
+fn dots(a: i16x16, m: [i32; 16]) -> i32x8
+    requires a { SixteenWithin 8191 a }
+    requires m { SixteenWithin 2841 m }
+    ensures sums { (i : ℕ) → i < 8 → lane result i
+        ≡ lane m (2 * i) *ℤ lane a (2 * i) +ℤ lane m (2 * i + 1) *ℤ lane a (2 * i + 1) }
     ensures size { EightWithin (2 ^ 26) result }
 {
-    let a: i32x8 = i16x8::splat(a).cast();
-    let b: i32x8 = i16x8::splat(b).cast();
-    a * i32x8::from_array(m) + b * i32x8::from_array(n)
+    let a: i32x16 = a.cast();
+    let products = a * i32x16::from_array(m);
+    let even: i32x8 = products.swizzle([0, 2, 4, 6, 8, 10, 12, 14]);
+    let odd: i32x8 = products.swizzle([1, 3, 5, 7, 9, 11, 13, 15]);
+    even + odd
+}
+
+// Eight sums from their even and their odd halves, four each: the sums of the halves in order, and
+// their differences from the last to the first.
+#[inline(always)]
+fn unfolded(halves: i32x8) -> i32x8
+    requires { EightWithin (2 ^ 27) halves }
+    ensures sums { (k : ℕ) → k < 4 → lane result k ≡ lane halves k +ℤ lane halves (4 + k) }
+    ensures differences { (k : ℕ) → k < 4
+        → lane result (7 - k) ≡ lane halves k -ℤ lane halves (4 + k) }
+    ensures size { EightWithin (2 ^ 28) result }
+{
+    let swapped = halves.swizzle([4, 5, 6, 7, 0, 1, 2, 3]);
+    let sums = halves + swapped;
+    let differences = halves - swapped;
+    sums.shuffle(differences, [0, 1, 2, 3, 11, 10, 9, 8])
 }
 
 // The second pass, and half of what rounding divides by: for each y the sum over v of
