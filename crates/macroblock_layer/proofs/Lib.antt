@@ -1,5 +1,6 @@
 pub mod Ranges
 pub mod Leads
+pub mod Skipped
 pub mod Productive
 pub mod Within
 pub mod Blocks

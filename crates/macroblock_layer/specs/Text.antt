@@ -43,6 +43,12 @@ unfoldable pub lead_turn : Kind → Unit {0} → Syntax (Turn (Unit {0}) Lead)
 lead_turn kinds.I u = class_turn kinds.I
 lead_turn kinds.P u = field 1 any λ cod. either (cod == 1) (done (finally Skipped)) (class_turn kinds.P)
 
+-- whether the bits begin with a macroblock that isn't coded: one bit of COD, in P
+abbrev pub is_skipped : Kind → List Bool → Bool
+is_skipped kinds.I bits = false
+is_skipped kinds.P [] = false
+is_skipped kinds.P (cod ∷ bits) = cod
+
 unfoldable pub lead : Kind → Syntax Lead
 lead kind = repeat tt (lead_turn kind)
 

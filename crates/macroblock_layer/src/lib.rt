@@ -20,5 +20,5 @@ mod reading;
 mod writing;
 
 pub use prediction::predictor;
-pub use reading::read_mb;
+pub use reading::{pass_skipped, read_mb};
 pub use writing::write_mb;

@@ -1,11 +1,13 @@
 //! Reads macroblocks.
-ghost use Rattle.std.specs.Prelude.{◌≡◌, ℕ, ℤ, List, Bool, ◌++◌, ◌≤ℤ◌, ◌+ℤ◌, pos, negsuc, IfOk, IsOkAnd};
+ghost use Rattle.std.specs.Prelude.{◌≡◌, ℕ, ℤ, List, Bool, ◌++◌, ◌≤ℤ◌, ◌+ℤ◌, pos, negsuc, true, false, Ok, IfOk, IsOkAnd};
 ghost use Rattle.h263_bits.specs.Reading.{Gives, Takes, first_fault};
 ghost use Rattle.h263_bits.specs.Syntax.{reading, Turn};
 ghost use Rattle.h263_types.specs.Blocks.{IsQuant, IsMb, IsOfKind};
 ghost use Rattle.h263_types.specs.declared.blocks.Mb.{Mb};
+ghost use Rattle.h263_types.specs.declared.blocks.Mb.TheVariants.{Skip};
+ghost use Rattle.h263_types.specs.declared.vector.Reach.{Reach};
 ghost use Rattle.h263_types.specs.declared.vector.Vector.{Vector};
-ghost use Rattle.macroblock_layer.specs.Text.{class_turn, lead_turn, lead, is_intra, quantiser, limited, difference, moved, wrapped, is_within_across, is_within_along, is_within, vector, intra, inter, blocks, intra_mb, inter_mb, coded_mb, behind, mb, IsMbText, macroblock_fault};
+ghost use Rattle.macroblock_layer.specs.Text.{class_turn, lead_turn, is_skipped, lead, is_intra, quantiser, limited, difference, moved, wrapped, is_within_across, is_within_along, is_within, vector, intra, inter, blocks, intra_mb, inter_mb, coded_mb, behind, mb, IsMbText, macroblock_fault};
 ghost use Rattle.macroblock_layer.specs.Turns.{turn_of, IsIntraOf, IsInterOf, IsMovedOf, moved_mb};
 ghost use Rattle.macroblock_layer.specs.declared.reading.Lead.{Lead};
 
@@ -388,6 +390,36 @@ fn read_behind(
         }
         Lead::Coded { class, cbpc } => read_coded_mb(reader, near, class, cbpc, out),
     }
+}
+
+// Whether a macroblock that isn't coded stands next.
+fn is_skipped(reader: &BitReader<'_>, kind: Kind) -> bool
+    ensures { result ≡ is_skipped kind reader.now.bits }
+{
+    match kind {
+        Kind::I => false,
+        Kind::P => {
+            if reader.rest() == 0 {
+                return false;
+            }
+            reader.peek(1) == 1
+        }
+    }
+}
+
+/// Passes over a macroblock that isn't coded, where one stands next: its one bit is read for itself,
+/// whatever the quantiser, the reach and the prediction are, so that these needn't be worked out.
+pub fn pass_skipped(reader: &mut BitReader<'_>, kind: Kind) -> bool
+    ensures value { result ≡ is_skipped kind reader.old.bits }
+    ensures skipped { result ≡ true → (quant : ℕ) (reach : Reach) (predictor : Vector)
+        → reading (mb kind quant reach predictor) reader.old ≡ Ok (Skip, reader.new) }
+    ensures coded { result ≡ false → reader.new ≡ reader.old }
+{
+    if !is_skipped(reader, kind) {
+        return false;
+    }
+    reader.skip(1);
+    true
 }
 
 /// Reads a macroblock of a picture of this kind (H.263, 5.3): `quant` is the quantiser before it, 1

@@ -17,7 +17,7 @@ use crate::head::read_head;
 use crate::shared::{quant_after, vector_of};
 use h263_bits::{BitReader, Fault, FaultKind};
 use h263_types::{Format, Mb, Reach, SliceHead, Vector, reach};
-use macroblock_layer::{laws as macroblock_layer_laws, predictor, read_mb};
+use macroblock_layer::{laws as macroblock_layer_laws, pass_skipped, predictor, read_mb};
 use picture_header::Header;
 
 // Whether fewer than 8 bits are left, all 0.
@@ -60,6 +60,10 @@ fn read_next(
         (predictor_of vectors.now first at (columns_of header.now.format))) reader.old) }
     ensures range { IfOk result (λ _. IsMbAt header.now at out.new) }
 {
+    if pass_skipped(reader, header.kind) {
+        *out = Mb::Skip;
+        return Ok(());
+    }
     let predictor = predictor(vectors, first, at, header.format.columns());
     let reach = reach_of(header.format, at);
     read_mb(reader, header.kind, quant, predictor, reach, out)
