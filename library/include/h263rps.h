@@ -11,8 +11,8 @@
  *  - The answer is H263RPS_OK, or a refusal (enum h263rps_status) that changed nothing: neither the
  *    end nor what a pointer leads to. h263rps_status_text() names it.
  *  - You own all memory that you hand over, and get it back when the call returns. Nothing keeps a
- *    pointer of yours. What a call lends (h263rps_receiver_play_lent, h263rps_receiver_shown) is the
- *    end's own: only read it, and only until the next call with that end.
+ *    pointer of yours. What a call lends (h263rps_receiver_play_lent, h263rps_receiver_shown) is
+ *    the end's own: only read it, and only until the next call with that end.
  *  - What a call writes must not overlap with anything else that is handed to it.
  *  - An end is used by one thread, from its start to its finish, and by one call at a time. Ends
  *    share nothing: two may be used at once. No call from a signal handler, or in the child of a
@@ -354,8 +354,8 @@ static inline uint32_t h263rps_receiver_shown(h263rps_end *end, const uint8_t **
     return status;
 }
 
-/* Plays the next picture as h263rps_receiver_play() does, but lends it where it copies it: `samples`
- * is that of h263rps_receiver_shown(), good until the next call with this end.
+/* Plays the next picture as h263rps_receiver_play() does, but lends it where that one copies it:
+ * `samples` is that of h263rps_receiver_shown(), good until the next call with this end.
  * NOT_STARTED, OTHER_END, ENDED. */
 static inline uint32_t h263rps_receiver_play_lent(h263rps_end *end, const uint8_t **samples,
                                                   h263rps_answer *answer) {
