@@ -16,7 +16,7 @@ use Rattle.command_words.specs.Asked.{Asked, HasNames, IsGiven, asked, name_in, 
 use Rattle.desk_program.specs.Ends.{Gains, HasCause, IsReadOut, Tells}
 use Rattle.desk_program.specs.Attached.{AreAttached, AttachedAt}
 use Rattle.desk_program.specs.Lines.{Finishes, end_text}
-use Rattle.desk_program.specs.Promises.{HasPrefixes, HasStatus, HasTexts, IsNotUsage, IsSettled, IsStopped, IsUnopened, TakesInput}
+use Rattle.desk_program.specs.Promises.{HasPrefixes, HasStatus, LacksMemory, HasTexts, IsNotUsage, IsSettled, IsStopped, IsUnopened, TakesInput}
 use Rattle.h263rps.specs.Output.{the_word, word_stop, command_of, roles_of, source_of, run_of, output_of, order_from, source_from}
 use Rattle.h263rps.specs.Promises.{IsRunOf, IsRun}
 use Rattle.h263rps.proofs.Promised.{performed, some_since, nothing_done, report_unopened, words_unread, usage_told, since_attached}
@@ -74,6 +74,7 @@ module _ (a : Asked) (c : Command) (is : a.command ≡ c) (rightly : IsRefusedRi
     (words : IsNotUsage result)
     (unopened : IsUnopened result → Gains (end_text result) old.written new.written)
     (causes : HasCause result old.faults new.faults)
+    (no_memory : LacksMemory ((Report, []) ∷ roles) result old new)
     (attached : AttachedAt ((Report, []) ∷ roles) result new)
     (whole_input : (inputs : Role → List ℕ) → Tells old inputs → IsReadOut result (source_of c) new)
     (taken_input : (inputs : Role → List ℕ) → Tells old inputs → TakesInput result (run_of c inputs) end_text inputs old.written new) where
@@ -81,7 +82,7 @@ module _ (a : Asked) (c : Command) (is : a.command ≡ c) (rightly : IsRefusedRi
   carried_out =
       as_run a c is rightly result old new
       (subst (λ (l : List (Role × Text)). IsRunOf (run_of c) ((Report, []) ∷ l) (source_of c) result old new) own
-      (performed (run_of c) roles (source_of c) old new result status texts prefixes words unopened causes attached whole_input taken_input))
+      (performed (run_of c) roles (source_of c) old new result status texts prefixes words unopened causes no_memory attached whole_input taken_input))
       words
 
 -- Usage was told, since there is no command
@@ -144,10 +145,10 @@ unread_run o mid new are rest result told = record {
     ends (inr cut) = inr (inr (inr (inr cut.cause)))
 
 -- nothing was done, for want of memory
-pub starved_run : (o : Option Asked) (old new : Outside) → NoneAttached new.attached → new.written ≡ old.written → IsRun o OutOfMemory old new
-starved_run o old new none same = record {
+pub starved_run : (o : Option Asked) (old new : Outside) → NoneAttached new.attached → new.written ≡ old.written → new.faults ≡ old.faults → IsRun o OutOfMemory old new
+starved_run o old new none same quiet = record {
   run = subst (λ (order : List (Role × Text)). IsRunOf (output_of o) order (source_from o) OutOfMemory old new) (begins_with_report o)
-      (nothing_done (output_of o) (rest_of o) (source_from o) old new none same);
+      (nothing_done (output_of o) (rest_of o) (source_from o) old new none same quiet);
   usage = λ u. absurd (cc u);
   no_command = λ n. inr (inl refl);
   refused = λ inputs told fault r. absurd (cc r);
@@ -166,12 +167,12 @@ unopened_run o old new none same rose = record {
 
 -- the report could not be attached
 pub report_failed : (o : Option Asked) (old new : Outside) (status : Status) → NoneAttached new.attached → new.written ≡ old.written
-    → HasCause status old.faults new.faults → (status ≡ OpenFault Report) ⊎ (status ≡ OutOfMemory) → IsRun o status old new
-report_failed o old new status none same cause (inl is) =
+    → HasCause status old.faults new.faults → (status ≡ OutOfMemory → new.faults ≡ old.faults) → (status ≡ OpenFault Report) ⊎ (status ≡ OutOfMemory) → IsRun o status old new
+report_failed o old new status none same cause quiet (inl is) =
     subst (λ (s : Status). IsRun o s old new) (sym is)
     (unopened_run o old new none same (subst (λ (s : Status). HasCause s old.faults new.faults) is cause))
-report_failed o old new status none same cause (inr is) =
-    subst (λ (s : Status). IsRun o s old new) (sym is) (starved_run o old new none same)
+report_failed o old new status none same cause quiet (inr is) =
+    subst (λ (s : Status). IsRun o s old new) (sym is) (starved_run o old new none same (quiet is))
 
 -- the report alone is attached
 pub report_alone : (old mid : Outside) → NoneAttached old.attached → mid.attached ≡ with_role old.attached Report true → IfSome (mid.name Report) (λ told. told ≡ []) → AreAttached ((Report, []) ∷ []) mid
@@ -182,9 +183,9 @@ report_alone old mid none attached named = record { roles = λ r. ap (λ (f : Ro
     at r false = ap (λ (f : Role → Bool). f r) none
 
 -- the same from before the report was attached
-pub run_since : (o : Option Asked) (old mid new : Outside) (result : Status) → OnlyAttaches old mid → IsRun o result mid new → IsRun o result old new
-run_since o old mid new result attaches run = record {
-  run = since_attached (output_of o) (order_from o) (source_from o) old mid new attaches result run.run;
+pub run_since : (o : Option Asked) (old mid new : Outside) (result : Status) → OnlyAttaches old mid → mid.faults ≡ old.faults → IsRun o result mid new → IsRun o result old new
+run_since o old mid new result attaches quiet run = record {
+  run = since_attached (output_of o) (order_from o) (source_from o) old mid new attaches quiet result run.run;
   usage = run.usage;
   no_command = λ n. ends (run.no_command n);
   refused = λ inputs told fault r. run.refused inputs (λ role input. ap (λ (l : Role → Option (List ℕ)). l role) attaches.left ∙ told role input) fault r;
@@ -204,5 +205,5 @@ stopped_run words stops.Usage mid new none are rest result told =
     subst (λ (o : Option Asked). IsRun o result mid new) (sym (none refl)) (usage_run mid new are rest result told)
 
 -- the words were a command, which was carried out from where the report was attached
-pub asked_run : (words : List Text) (a : Asked) (old mid new : Outside) (result : Status) → OnlyAttaches old mid → asked words ≡ Some a → IsRun (Some a) result mid new → IsRun (command_of words) result old new
-asked_run words a old mid new result attaches is run = run_since (command_of words) old mid new result attaches (subst (λ (o : Option Asked). IsRun o result mid new) (sym is) run)
+pub asked_run : (words : List Text) (a : Asked) (old mid new : Outside) (result : Status) → OnlyAttaches old mid → mid.faults ≡ old.faults → asked words ≡ Some a → IsRun (Some a) result mid new → IsRun (command_of words) result old new
+asked_run words a old mid new result attaches quiet is run = run_since (command_of words) old mid new result attaches quiet (subst (λ (o : Option Asked). IsRun o result mid new) (sym is) run)

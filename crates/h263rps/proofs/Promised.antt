@@ -1,5 +1,5 @@
 -- A run keeps its promises, whichever way it ends.
-use Rattle.std.proofs.Common.{◌≡◌, inl, inr, ℕ, ◌≤◌, Bool, true, false, List, [], ◌∷◌, Option, Some, None, IfSome, if◌then◌else◌, refl, sym, ap, ◌∙◌, subst, arith, append-nil}
+use Rattle.std.proofs.Common.{◌≡◌, ◌⊎◌, inl, inr, ℕ, ◌≤◌, Bool, true, false, List, [], ◌∷◌, Option, Some, None, IfSome, if◌then◌else◌, refl, sym, ap, ◌∙◌, subst, arith, append-nil}
 use Rattle.std.specs.List.{AllByRecursion}
 use Rattle.h263_outside.specs.Desk.{Outside, Faults, NoneFalls, SomeRose, Rose, NoneAttached, OnlyAttaches, OnlyWrites, is_role, appended}
 use Rattle.h263_outside.specs.Gains.{gained, Front}
@@ -14,7 +14,7 @@ use Rattle.desk_program.specs.Run.{Run, text_of}
 use Rattle.desk_program.specs.Ends.{Tells, Gains, HasCause, CauseIn, IsReadOut}
 use Rattle.desk_program.specs.Attached.{AreAttached, AttachedAt, SomeAttached}
 use Rattle.desk_program.specs.Lines.{end_text, Finishes, IsUntold}
-use Rattle.desk_program.specs.Promises.{IsSettled, IsStopped, IsUnopened, UnopenedIn, AskedIn, IsNotUsage, HasStatus, HasTexts, HasPrefixes, ReportIn, TakesInput}
+use Rattle.desk_program.specs.Promises.{IsSettled, IsStopped, IsUnopened, UnopenedIn, AskedIn, IsNotUsage, HasStatus, LacksMemory, HasTexts, HasPrefixes, ReportIn, TakesInput}
 use Rattle.h263rps.specs.Promises.{IsRunOf}
 
 -- nothing was gained
@@ -102,8 +102,8 @@ is_unopened (unopened role) is asked = tt
 
 module _ (output : (Role → List ℕ) → Run) (order : List (Role × List ℕ)) (source : Option Role) where
   -- nothing was done, for want of memory
-  pub nothing_done : (old new : Outside) → NoneAttached new.attached → new.written ≡ old.written → IsRunOf output ((Report, []) ∷ order) source OutOfMemory old new
-  nothing_done old new none same = record {
+  pub nothing_done : (old new : Outside) → NoneAttached new.attached → new.written ≡ old.written → new.faults ≡ old.faults → IsRunOf output ((Report, []) ∷ order) source OutOfMemory old new
+  nothing_done old new none same quiet = record {
     status = λ inputs told. inr (inr refl);
     texts = λ inputs told settled. absurd settled;
     prefixes = λ inputs told stopped. record {
@@ -112,6 +112,7 @@ module _ (output : (Role → List ℕ) → Run) (order : List (Role × List ℕ)
     };
     unread = λ is. absurd (cc is);
     causes = tt;
+    no_memory = λ is. inr quiet;
     attached = record { first = []; rest = (Report, []) ∷ order; whole = refl; attached = none_attached new none };
     whole_input = λ inputs told. tt;
     taken_input = λ inputs told. tt;
@@ -126,6 +127,7 @@ module _ (output : (Role → List ℕ) → Run) (order : List (Role × List ℕ)
     prefixes = λ inputs told stopped. absurd stopped;
     unread = λ is. gains_nothing (end_text (OpenFault Report)) old.written new.written no_line same;
     causes = rose;
+    no_memory = λ is. absurd (cc is);
     attached = record { first = []; name = []; rest = order; whole = refl; attached = none_attached new none };
     whole_input = λ inputs told. tt;
     taken_input = λ inputs told. tt;
@@ -154,14 +156,15 @@ module _ (output : (Role → List ℕ) → Run) (order : List (Role × List ℕ)
       };
       unread = λ is. absurd (cc is);
       causes = told.cause;
+      no_memory = λ is. absurd (cc is);
       attached = report_alone order new (still_attached _ mid new rest are);
       whole_input = λ inputs tells. tt;
       taken_input = λ inputs tells. tt;
     }
 
     -- there was no memory for the words
-    no_memory : new.written ≡ appended mid.written Report (status_text OutOfMemory) → IsRunOf output ((Report, []) ∷ order) source OutOfMemory mid new
-    no_memory written = record {
+    words_starved : new.written ≡ appended mid.written Report (status_text OutOfMemory) → new.faults ≡ mid.faults → IsRunOf output ((Report, []) ∷ order) source OutOfMemory mid new
+    words_starved written quiet = record {
       status = λ inputs tells. inr (inr refl);
       texts = λ inputs tells settled. absurd settled;
       prefixes = λ inputs tells stopped. record {
@@ -170,13 +173,14 @@ module _ (output : (Role → List ℕ) → Run) (order : List (Role × List ℕ)
       };
       unread = λ is. absurd (cc is);
       causes = tt;
+      no_memory = λ is. inr quiet;
       attached = report_alone order new (still_attached _ mid new rest are);
       whole_input = λ inputs tells. tt;
       taken_input = λ inputs tells. tt;
     }
 
     pub words_unread : (result : Status) → Finishes OutOfMemory result mid new → IsRunOf output ((Report, []) ∷ order) source result mid new
-    words_unread result (inl told) = subst (λ (s : Status). IsRunOf output ((Report, []) ∷ order) source s mid new) (sym told.same) (no_memory told.written)
+    words_unread result (inl told) = subst (λ (s : Status). IsRunOf output ((Report, []) ∷ order) source s mid new) (sym told.same) (words_starved told.written told.faults)
     words_unread result (inr cut) =
         subst (λ (s : Status). IsRunOf output ((Report, []) ∷ order) source s mid new) (sym cut.fault)
         (line_cut OutOfMemory (record { fault = refl; written = cut.written; cause = cut.cause }))
@@ -189,6 +193,7 @@ module _ (output : (Role → List ℕ) → Run) (order : List (Role × List ℕ)
       (words : IsNotUsage result)
       (unopened : IsUnopened result → Gains (end_text result) mid.written new.written)
       (causes : HasCause result mid.faults new.faults)
+      (no_memory : LacksMemory ((Report, []) ∷ order) result mid new)
       (attached : AttachedAt ((Report, []) ∷ order) result new)
       (whole_input : (inputs : Role → List ℕ) → Tells mid inputs → IsReadOut result source new)
       (taken_input : (inputs : Role → List ℕ) → Tells mid inputs → TakesInput result (output inputs) end_text inputs mid.written new) where
@@ -202,6 +207,7 @@ module _ (output : (Role → List ℕ) → Run) (order : List (Role × List ℕ)
       };
       unread = λ is. unopened (is_unopened (phase result) is words);
       causes = causes;
+      no_memory = no_memory;
       attached = attached;
       whole_input = whole_input;
       taken_input = taken_input;
@@ -217,6 +223,7 @@ module _ (output : (Role → List ℕ) → Run) (source : Option Role) (mid new 
     prefixes = λ inputs tells stopped. absurd stopped;
     unread = λ is. gains_line Usage mid.written new.written written;
     causes = tt;
+    no_memory = λ is. absurd (cc is);
     attached = still_attached _ mid new rest are;
     whole_input = λ inputs tells. tt;
     taken_input = λ inputs tells. tt;
@@ -229,13 +236,17 @@ module _ (output : (Role → List ℕ) → Run) (source : Option Role) (mid new 
       (line_cut output [] source mid new are rest Usage (record { fault = refl; written = cut.written; cause = cut.cause }))
 
 -- the same from an earlier outside, where only roles were attached since
-module _ (output : (Role → List ℕ) → Run) (order : List (Role × List ℕ)) (source : Option Role) (old mid new : Outside) (attaches : OnlyAttaches old mid) (result : Status) where
+module _ (output : (Role → List ℕ) → Run) (order : List (Role × List ℕ)) (source : Option Role) (old mid new : Outside) (attaches : OnlyAttaches old mid) (quiet : mid.faults ≡ old.faults) (result : Status) where
   tells_since : (inputs : Role → List ℕ) → Tells old inputs → Tells mid inputs
   tells_since inputs told = λ r input. ap (λ (l : Role → Option (List ℕ)). l r) attaches.left ∙ told r input
 
   status_since : (run : Run) → HasStatus run result mid.faults new.faults → HasStatus run result old.faults new.faults
   status_since run (inl some) = inl (some_since old.faults mid.faults new.faults attaches.faults some)
   status_since run (inr rest) = inr rest
+
+  lacks_since : AreAttached order new ⊎ (new.faults ≡ mid.faults) → AreAttached order new ⊎ (new.faults ≡ old.faults)
+  lacks_since (inl all) = inl all
+  lacks_since (inr same) = inr (same ∙ quiet)
 
   pub since_attached : IsRunOf output order source result mid new → IsRunOf output order source result old new
   since_attached run = record {
@@ -253,6 +264,7 @@ module _ (output : (Role → List ℕ) → Run) (order : List (Role × List ℕ)
     };
     unread = λ is. subst (λ (w : Role → Option (List ℕ)). Gains (end_text result) w new.written) attaches.written (run.unread is);
     causes = cause_since (phase result) old.faults mid.faults new.faults attaches.faults run.causes;
+    no_memory = λ is. lacks_since (run.no_memory is);
     attached = run.attached;
     whole_input = λ inputs told. run.whole_input inputs (tells_since inputs told);
     taken_input = λ inputs told.

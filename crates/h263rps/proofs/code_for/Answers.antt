@@ -11,5 +11,5 @@ pub returns-in-Ok-clause-run : goal.returns-in-Ok-clause-run
 returns-in-Ok-clause-run g c =
     let old = g.D.Desk.outside c.args.desk.now in
     let asked = command_of (map string_bytes c.in-Ok.words.items) in
-    let exit : IsExit asked c.code-in-Err-texts_of.result old old = record { result = OutOfMemory; code_is = c.code-in-Err-texts_of.ensures; run = starved_run asked old old c.requires refl } in
+    let exit : IsExit asked c.code-in-Err-texts_of.result old old = record { result = OutOfMemory; code_is = c.code-in-Err-texts_of.ensures; run = starved_run asked old old c.requires refl refl } in
     rw c.in-Ok.is exit
