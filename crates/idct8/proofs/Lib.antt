@@ -17,3 +17,4 @@ pub mod Low
 pub mod Columns
 pub mod First
 pub mod Halves
+pub mod Products

@@ -135,14 +135,14 @@ module _ (c0 c1 c2 c3 c4 c5 c6 c7 : ℤ) where
   pub forward_sum_6 : {s q r p0 p1 p2 p3 : ℤ} → s ≡ pos 1108 *ℤ q -ℤ pos 2676 *ℤ r → q ≡ p0 -ℤ p3 → r ≡ p1 -ℤ p2 → p0 ≡ c0 +ℤ c7 → p1 ≡ c1 +ℤ c6 → p2 ≡ c2 +ℤ c5 → p3 ≡ c3 +ℤ c4 → s ≡ pass_at Forward (c0 ∷ c1 ∷ c2 ∷ c3 ∷ c4 ∷ c5 ∷ c6 ∷ c7 ∷ []) 6
   forward_sum_6 {s} {q} {r} {p0} {p1} {p2} {p3} hs hq hr h0 h1 h2 h3 = let plain : s ≡ pos 0 +ℤ pos 1108 *ℤ c0 +ℤ neg_ℤ (pos 2676) *ℤ c1 +ℤ pos 2676 *ℤ c2 +ℤ neg_ℤ (pos 1108) *ℤ c3 +ℤ neg_ℤ (pos 1108) *ℤ c4 +ℤ pos 2676 *ℤ c5 +ℤ neg_ℤ (pos 2676) *ℤ c6 +ℤ pos 1108 *ℤ c7 = omega (arith, ints) in plain ∙ sym forward_6
 
-  pub forward_sum_1 : {s a b m0 m1 m2 m3 : ℤ} → s ≡ a +ℤ b → a ≡ pos 2841 *ℤ m0 +ℤ pos 565 *ℤ m3 → b ≡ pos 1609 *ℤ m2 +ℤ pos 2408 *ℤ m1 → m0 ≡ c0 -ℤ c7 → m1 ≡ c1 -ℤ c6 → m2 ≡ c2 -ℤ c5 → m3 ≡ c3 -ℤ c4 → s ≡ pass_at Forward (c0 ∷ c1 ∷ c2 ∷ c3 ∷ c4 ∷ c5 ∷ c6 ∷ c7 ∷ []) 1
-  forward_sum_1 {s} {a} {b} {m0} {m1} {m2} {m3} hs ha hb h0 h1 h2 h3 = let plain : s ≡ pos 0 +ℤ pos 2841 *ℤ c0 +ℤ pos 2408 *ℤ c1 +ℤ pos 1609 *ℤ c2 +ℤ pos 565 *ℤ c3 +ℤ neg_ℤ (pos 565) *ℤ c4 +ℤ neg_ℤ (pos 1609) *ℤ c5 +ℤ neg_ℤ (pos 2408) *ℤ c6 +ℤ neg_ℤ (pos 2841) *ℤ c7 = omega (arith, ints) in plain ∙ sym forward_1
+  pub forward_sum_1 : {s m0 m1 m2 m3 : ℤ} → s ≡ pos 2841 *ℤ m0 +ℤ pos 2408 *ℤ m1 +ℤ (pos 1609 *ℤ m2 +ℤ pos 565 *ℤ m3) → m0 ≡ c0 -ℤ c7 → m1 ≡ c1 -ℤ c6 → m2 ≡ c2 -ℤ c5 → m3 ≡ c3 -ℤ c4 → s ≡ pass_at Forward (c0 ∷ c1 ∷ c2 ∷ c3 ∷ c4 ∷ c5 ∷ c6 ∷ c7 ∷ []) 1
+  forward_sum_1 {s} {m0} {m1} {m2} {m3} hs h0 h1 h2 h3 = let plain : s ≡ pos 0 +ℤ pos 2841 *ℤ c0 +ℤ pos 2408 *ℤ c1 +ℤ pos 1609 *ℤ c2 +ℤ pos 565 *ℤ c3 +ℤ neg_ℤ (pos 565) *ℤ c4 +ℤ neg_ℤ (pos 1609) *ℤ c5 +ℤ neg_ℤ (pos 2408) *ℤ c6 +ℤ neg_ℤ (pos 2841) *ℤ c7 = omega (arith, ints) in plain ∙ sym forward_1
 
-  pub forward_sum_3 : {s a b m0 m1 m2 m3 : ℤ} → s ≡ a -ℤ b → a ≡ pos 2408 *ℤ m0 -ℤ pos 1609 *ℤ m3 → b ≡ pos 565 *ℤ m1 +ℤ pos 2841 *ℤ m2 → m0 ≡ c0 -ℤ c7 → m1 ≡ c1 -ℤ c6 → m2 ≡ c2 -ℤ c5 → m3 ≡ c3 -ℤ c4 → s ≡ pass_at Forward (c0 ∷ c1 ∷ c2 ∷ c3 ∷ c4 ∷ c5 ∷ c6 ∷ c7 ∷ []) 3
-  forward_sum_3 {s} {a} {b} {m0} {m1} {m2} {m3} hs ha hb h0 h1 h2 h3 = let plain : s ≡ pos 0 +ℤ pos 2408 *ℤ c0 +ℤ neg_ℤ (pos 565) *ℤ c1 +ℤ neg_ℤ (pos 2841) *ℤ c2 +ℤ neg_ℤ (pos 1609) *ℤ c3 +ℤ pos 1609 *ℤ c4 +ℤ pos 2841 *ℤ c5 +ℤ pos 565 *ℤ c6 +ℤ neg_ℤ (pos 2408) *ℤ c7 = omega (arith, ints) in plain ∙ sym forward_3
+  pub forward_sum_3 : {s m0 m1 m2 m3 : ℤ} → s ≡ pos 2408 *ℤ m0 +ℤ neg_ℤ (pos 565) *ℤ m1 +ℤ (neg_ℤ (pos 2841) *ℤ m2 +ℤ neg_ℤ (pos 1609) *ℤ m3) → m0 ≡ c0 -ℤ c7 → m1 ≡ c1 -ℤ c6 → m2 ≡ c2 -ℤ c5 → m3 ≡ c3 -ℤ c4 → s ≡ pass_at Forward (c0 ∷ c1 ∷ c2 ∷ c3 ∷ c4 ∷ c5 ∷ c6 ∷ c7 ∷ []) 3
+  forward_sum_3 {s} {m0} {m1} {m2} {m3} hs h0 h1 h2 h3 = let plain : s ≡ pos 0 +ℤ pos 2408 *ℤ c0 +ℤ neg_ℤ (pos 565) *ℤ c1 +ℤ neg_ℤ (pos 2841) *ℤ c2 +ℤ neg_ℤ (pos 1609) *ℤ c3 +ℤ pos 1609 *ℤ c4 +ℤ pos 2841 *ℤ c5 +ℤ pos 565 *ℤ c6 +ℤ neg_ℤ (pos 2408) *ℤ c7 = omega (arith, ints) in plain ∙ sym forward_3
 
-  pub forward_sum_5 : {s a b m0 m1 m2 m3 : ℤ} → s ≡ a -ℤ b → a ≡ pos 1609 *ℤ m0 +ℤ pos 2408 *ℤ m3 → b ≡ pos 2841 *ℤ m1 -ℤ pos 565 *ℤ m2 → m0 ≡ c0 -ℤ c7 → m1 ≡ c1 -ℤ c6 → m2 ≡ c2 -ℤ c5 → m3 ≡ c3 -ℤ c4 → s ≡ pass_at Forward (c0 ∷ c1 ∷ c2 ∷ c3 ∷ c4 ∷ c5 ∷ c6 ∷ c7 ∷ []) 5
-  forward_sum_5 {s} {a} {b} {m0} {m1} {m2} {m3} hs ha hb h0 h1 h2 h3 = let plain : s ≡ pos 0 +ℤ pos 1609 *ℤ c0 +ℤ neg_ℤ (pos 2841) *ℤ c1 +ℤ pos 565 *ℤ c2 +ℤ pos 2408 *ℤ c3 +ℤ neg_ℤ (pos 2408) *ℤ c4 +ℤ neg_ℤ (pos 565) *ℤ c5 +ℤ pos 2841 *ℤ c6 +ℤ neg_ℤ (pos 1609) *ℤ c7 = omega (arith, ints) in plain ∙ sym forward_5
+  pub forward_sum_5 : {s m0 m1 m2 m3 : ℤ} → s ≡ pos 1609 *ℤ m0 +ℤ neg_ℤ (pos 2841) *ℤ m1 +ℤ (pos 565 *ℤ m2 +ℤ pos 2408 *ℤ m3) → m0 ≡ c0 -ℤ c7 → m1 ≡ c1 -ℤ c6 → m2 ≡ c2 -ℤ c5 → m3 ≡ c3 -ℤ c4 → s ≡ pass_at Forward (c0 ∷ c1 ∷ c2 ∷ c3 ∷ c4 ∷ c5 ∷ c6 ∷ c7 ∷ []) 5
+  forward_sum_5 {s} {m0} {m1} {m2} {m3} hs h0 h1 h2 h3 = let plain : s ≡ pos 0 +ℤ pos 1609 *ℤ c0 +ℤ neg_ℤ (pos 2841) *ℤ c1 +ℤ pos 565 *ℤ c2 +ℤ pos 2408 *ℤ c3 +ℤ neg_ℤ (pos 2408) *ℤ c4 +ℤ neg_ℤ (pos 565) *ℤ c5 +ℤ pos 2841 *ℤ c6 +ℤ neg_ℤ (pos 1609) *ℤ c7 = omega (arith, ints) in plain ∙ sym forward_5
 
-  pub forward_sum_7 : {s a b m0 m1 m2 m3 : ℤ} → s ≡ a +ℤ b → a ≡ pos 565 *ℤ m0 -ℤ pos 2841 *ℤ m3 → b ≡ pos 2408 *ℤ m2 -ℤ pos 1609 *ℤ m1 → m0 ≡ c0 -ℤ c7 → m1 ≡ c1 -ℤ c6 → m2 ≡ c2 -ℤ c5 → m3 ≡ c3 -ℤ c4 → s ≡ pass_at Forward (c0 ∷ c1 ∷ c2 ∷ c3 ∷ c4 ∷ c5 ∷ c6 ∷ c7 ∷ []) 7
-  forward_sum_7 {s} {a} {b} {m0} {m1} {m2} {m3} hs ha hb h0 h1 h2 h3 = let plain : s ≡ pos 0 +ℤ pos 565 *ℤ c0 +ℤ neg_ℤ (pos 1609) *ℤ c1 +ℤ pos 2408 *ℤ c2 +ℤ neg_ℤ (pos 2841) *ℤ c3 +ℤ pos 2841 *ℤ c4 +ℤ neg_ℤ (pos 2408) *ℤ c5 +ℤ pos 1609 *ℤ c6 +ℤ neg_ℤ (pos 565) *ℤ c7 = omega (arith, ints) in plain ∙ sym forward_7
+  pub forward_sum_7 : {s m0 m1 m2 m3 : ℤ} → s ≡ pos 565 *ℤ m0 +ℤ neg_ℤ (pos 1609) *ℤ m1 +ℤ (pos 2408 *ℤ m2 +ℤ neg_ℤ (pos 2841) *ℤ m3) → m0 ≡ c0 -ℤ c7 → m1 ≡ c1 -ℤ c6 → m2 ≡ c2 -ℤ c5 → m3 ≡ c3 -ℤ c4 → s ≡ pass_at Forward (c0 ∷ c1 ∷ c2 ∷ c3 ∷ c4 ∷ c5 ∷ c6 ∷ c7 ∷ []) 7
+  forward_sum_7 {s} {m0} {m1} {m2} {m3} hs h0 h1 h2 h3 = let plain : s ≡ pos 0 +ℤ pos 565 *ℤ c0 +ℤ neg_ℤ (pos 1609) *ℤ c1 +ℤ pos 2408 *ℤ c2 +ℤ neg_ℤ (pos 2841) *ℤ c3 +ℤ pos 2841 *ℤ c4 +ℤ neg_ℤ (pos 2408) *ℤ c5 +ℤ pos 1609 *ℤ c6 +ℤ neg_ℤ (pos 565) *ℤ c7 = omega (arith, ints) in plain ∙ sym forward_7

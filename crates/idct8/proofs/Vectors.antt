@@ -37,7 +37,7 @@ pub record Words (w : Width) (n : ℕ) (us : List ℕ) (f : ℕ → ℤ) : Type 
   pub small : (i : ℕ) → i < 8 → Within n (f i)
 
 -- the words of the numbers that an operation gives
-plus_is : (a b : ℤ) (m n : ℕ) → m + n ≤ 2 ^ 31 - 1 → Within m a → Within n b → plus (of_z w32 a) (of_z w32 b) ≡ of_z w32 (a +ℤ b)
+pub plus_is : (a b : ℤ) (m n : ℕ) → m + n ≤ 2 ^ 31 - 1 → Within m a → Within n b → plus (of_z w32 a) (of_z w32 b) ≡ of_z w32 (a +ℤ b)
 plus_is a b m n h ha hb = omega (arith, ints)
 
 minus_is : (a b : ℤ) (m n : ℕ) → m + n ≤ 2 ^ 31 - 1 → Within m a → Within n b → minus (of_z w32 a) (of_z w32 b) ≡ of_z w32 (a -ℤ b)
@@ -65,7 +65,7 @@ times_is x m hx hm =
     rw (to_z-of_z w32 x fx, to_z-of_z w32 m fm) at (wrapping_mul-bits w32 (of_z w32 x) (of_z w32 m) bx bm) ∙ int_wrap_fits w32 (x *ℤ m) fits in
     sym (of_z-to_z w32 (times (of_z w32 x) (of_z w32 m)) (omega arith)) ∙ ap (of_z w32) (e ∙ *ℤ_comm x m)
 
-plus_small : (a b : ℤ) (m n : ℕ) → Within m a → Within n b → Within (m + n) (a +ℤ b)
+pub plus_small : (a b : ℤ) (m n : ℕ) → Within m a → Within n b → Within (m + n) (a +ℤ b)
 plus_small a b m n ha hb = omega (arith, ints)
 
 minus_small : (a b : ℤ) (m n : ℕ) → Within m a → Within n b → Within (m + n) (a -ℤ b)

@@ -6,7 +6,7 @@ ghost use Rattle.idct8.specs.Vectors.{lane, RowsWithin, SumsWithin, list_at, sum
 ghost use Rattle.idct8.specs.Passes.{pass_at};
 ghost use Rattle.idct8.specs.declared.passes.Direction.TheVariants.{Inverse, Forward};
 
-use crate::terms::{halves, mirrored, mirrored_less, pair, pair_of_sums, rotated};
+use crate::terms::{four_products, halves, mirrored, mirrored_less, pair, pair_of_sums, rotated};
 use std::simd::prelude::*;
 
 // Which of the two transforms.
@@ -82,27 +82,19 @@ fn forward_pass(r: Rows) -> Sums
     let (q1, r1) = pair_of_sums(p1, p2);
     let (s0, s4) = rotated(2048, q0, 2048, q1);
     let (s2, s6) = rotated(2676, r0, 1108, r1);
-    let (s1a, s7a) = rotated(2841, m0, 565, m3);
-    let (s1b, s7b) = rotated(1609, m2, 2408, m1);
-    let (s5a, s3a) = rotated(1609, m0, 2408, m3);
-    let (s3b, s5b) = rotated(565, m1, 2841, m2);
+    let s1 = four_products((2841, 2408, 1609, 565), m0, m1, m2, m3);
+    let s3 = four_products((2408, -565, -2841, -1609), m0, m1, m2, m3);
+    let s5 = four_products((1609, -2841, 565, 2408), m0, m1, m2, m3);
+    let s7 = four_products((565, -1609, 2408, -2841), m0, m1, m2, m3);
     [
         Sum { lanes: s0 },
-        Sum {
-            lanes: halves(s1a, s1b).0,
-        },
+        Sum { lanes: s1 },
         Sum { lanes: s2 },
-        Sum {
-            lanes: halves(s3a, s3b).1,
-        },
+        Sum { lanes: s3 },
         Sum { lanes: s4 },
-        Sum {
-            lanes: halves(s5a, s5b).1,
-        },
+        Sum { lanes: s5 },
         Sum { lanes: s6 },
-        Sum {
-            lanes: halves(s7a, s7b).0,
-        },
+        Sum { lanes: s7 },
     ]
 }
 

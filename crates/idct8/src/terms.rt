@@ -24,6 +24,42 @@ pub(crate) fn rotated(m0: i32, a: i16x8, m1: i32, b: i16x8) -> (i32x8, i32x8)
     (x * m0 + y * m1, x * m1 - y * m0)
 }
 
+// The lanes of two vectors, one after the other.
+const JOINED: [usize; 16] = [0, 1, 2, 3, 4, 5, 6, 7, 8, 9, 10, 11, 12, 13, 14, 15];
+
+// The sums of four products. The first two stand beside the last two, in sixteen lanes. One
+// instruction gives sums of two products; in a plain sum of four the compiler finds it for one pair
+// alone, since it first reorders such a sum into a chain, but it leaves sixteen lanes as they are.
+#[inline(always)]
+pub(crate) fn four_products(
+    m: (i32, i32, i32, i32),
+    a: i16x8,
+    b: i16x8,
+    c: i16x8,
+    d: i16x8,
+) -> i32x8
+    requires m0 { Within (2 ^ 12) m.0 }
+    requires m1 { Within (2 ^ 12) m.1 }
+    requires m2 { Within (2 ^ 12) m.2 }
+    requires m3 { Within (2 ^ 12) m.3 }
+    requires a { EightWithin 16382 a }
+    requires b { EightWithin 16382 b }
+    requires c { EightWithin 16382 c }
+    requires d { EightWithin 16382 d }
+    ensures sums { (i : ℕ) → i < 8 → lane result i
+        ≡ m.0 *ℤ lane a i +ℤ m.1 *ℤ lane b i +ℤ (m.2 *ℤ lane c i +ℤ m.3 *ℤ lane d i) }
+    ensures size { EightWithin (2 ^ 29) result }
+{
+    let x: i16x16 = a.shuffle(c, JOINED);
+    let y: i16x16 = b.shuffle(d, JOINED);
+    let mx: i32x16 = i32x8::splat(m.0).shuffle(i32x8::splat(m.2), JOINED);
+    let my: i32x16 = i32x8::splat(m.1).shuffle(i32x8::splat(m.3), JOINED);
+    let x: i32x16 = x.cast();
+    let y: i32x16 = y.cast();
+    let sums = x * mx + y * my;
+    sums.extract::<0, 8>() + sums.extract::<8, 8>()
+}
+
 // The sum and the difference of two sums of two products.
 #[inline(always)]
 pub(crate) fn halves(a: i32x8, b: i32x8) -> (i32x8, i32x8)
