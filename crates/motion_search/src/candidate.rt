@@ -31,11 +31,21 @@ fn compare(a: Candidate, b: Candidate) -> Ordering
     by_cost.then(by_length.then(by_row.then(by_column)))
 }
 
-// The one of two candidates that comes first.
+// Whether a candidate costs more than another.
+#[inline(always)]
+fn is_dearer(one: Candidate, other: Candidate) -> bool
+    ensures { IsTrue result ↔ (other.cost <ℤ one.cost) }
+{
+    one.cost > other.cost
+}
+
+// The one of two candidates that comes first. Mostly the cost alone tells.
 pub(crate) fn first(best: Candidate, other: Candidate) -> Candidate
     ensures { result ≡ first_of best other }
 {
-    if compare(other, best).is_lt() {
+    if is_dearer(other, best) {
+        best
+    } else if compare(other, best).is_lt() {
         other
     } else {
         best

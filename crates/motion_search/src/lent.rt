@@ -1,14 +1,14 @@
 //! Vectors of whole samples, compared on the lent rows of the reference.
-ghost use Rattle.std.specs.Prelude.{◌≡◌, ℕ, ◌+◌, ◌*◌, ◌%◌, ◌/◌, ◌<◌, ◌≤◌, pos, length, slice_range};
+ghost use Rattle.std.specs.Prelude.{◌≡◌, ℕ, ◌+◌, ◌*◌, ◌%◌, ◌/◌, ◌<◌, ◌≤◌, pos, false, length, slice_range};
 ghost use Rattle.h263_types.specs.Sizes.{columns_of};
 ghost use Rattle.h263_types.specs.Vectors.{InReach, whole_place};
 ghost use Rattle.h263_planes.specs.Lent.{picture};
 ghost use Rattle.h263_planes.specs.Samples.{Inside};
 ghost use Rattle.h263_planes.specs.declared.Plane.TheVariants.{Y};
 ghost use Rattle.sad_kernel.specs.Differences.{differences};
-ghost use Rattle.motion_search.specs.Order.{first_of};
+ghost use Rattle.motion_search.specs.Order.{before, first_of};
 ghost use Rattle.motion_search.specs.Cost.{candidate_of, differences_from, IsCost};
-ghost use Rattle.motion_search.specs.Vectors.{IsEven};
+ghost use Rattle.motion_search.specs.Vectors.{zero_vector, IsEven};
 
 use crate::candidate::{Candidate, first, with_differences};
 use crate::window::Window;
@@ -98,7 +98,8 @@ pub(crate) fn differences_at(block: &[u8; 256], reference: PictureRef<'_>, x: u3
 }
 
 // The first of the best one and a vector of whole samples, which leads to column `x` of row `y`. All
-// rows are summed up before it asks: what the sums of areas let through mostly needs them all.
+// rows are summed up before it asks: what the sums of areas let through mostly needs them all. The
+// zero vector has been looked at, so what it has ahead needs no look where the sum is too high.
 #[inline(always)]
 pub(crate) fn better_whole(
     window: Window<'_>,
@@ -113,11 +114,17 @@ pub(crate) fn better_whole(
         ≡ whole_place (16 * (window.mb % columns_of (picture window.reference).format)) vector.x }
     requires y { pos y
         ≡ whole_place (16 * (window.mb / columns_of (picture window.reference).format)) vector.y }
+    requires zero { before (candidate_of window.block.now
+        (picture window.reference) window.mb 0 zero_vector) best ≡ false }
     requires cost { IsCost best.cost }
     ensures first { result ≡ first_of best (candidate_of window.entry.block.now
         (picture window.entry.reference) window.entry.mb 0 vector) }
     ensures cost { IsCost result.cost }
 {
     let sum = differences_at(window.block, window.reference, x, y);
-    first(best, with_differences(vector, sum))
+    if sum as i32 > best.cost {
+        best
+    } else {
+        first(best, with_differences(vector, sum))
+    }
 }

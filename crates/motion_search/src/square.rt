@@ -127,6 +127,8 @@ pub(crate) fn nearest(radius: u8, component: i8) -> u32
 pub(crate) fn better_at(window: Window<'_>, column: u32, row: u32, best: Candidate) -> Candidate
     requires column { column ≤ 2 * window.radius }
     requires row { row ≤ 2 * window.radius }
+    requires zero { before (candidate_of window.block.now
+        (picture window.reference) window.mb 0 zero_vector) best ≡ false }
     requires cost { IsCost best.cost }
     ensures first { result ≡ (if in_reach (picture window.entry.reference).format window.entry.mb
         (whole_at window.entry.radius column row)

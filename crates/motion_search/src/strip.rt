@@ -104,6 +104,8 @@ fn without_rows(band: Band, reference: PictureRef<'_>, x: u32, y: u32) -> Band
 #[inline(always)]
 fn better_in_square(window: Window<'_>, column: u32, row: u32, best: Candidate) -> Candidate
     requires row { row ≤ 2 * window.radius }
+    requires zero { before (candidate_of window.block.now
+        (picture window.reference) window.mb 0 zero_vector) best ≡ false }
     requires candidate { IsWholeCandidate window.block.now
         (picture window.reference) window.mb window.radius 0 best }
     requires cost { IsCost best.cost }
@@ -136,6 +138,8 @@ fn best_of_marked(
 ) -> Candidate
     requires column { column ≤ 2 * window.radius }
     requires row { row ≤ 2 * window.radius }
+    requires zero { before (candidate_of window.block.now
+        (picture window.reference) window.mb 0 zero_vector) best ≡ false }
     requires candidate { IsWholeCandidate window.block.now
         (picture window.reference) window.mb window.radius 0 best }
     requires cost { IsCost best.cost }
@@ -267,6 +271,8 @@ fn best_of_strip(
 #[inline(always)]
 fn best_of_column(window: Window<'_>, column: u32, best: Candidate) -> Candidate
     requires column { column ≤ 2 * window.radius }
+    requires zero { before (candidate_of window.block.now
+        (picture window.reference) window.mb 0 zero_vector) best ≡ false }
     requires candidate { IsWholeCandidate window.block.now
         (picture window.reference) window.mb window.radius 0 best }
     requires cost { IsCost best.cost }

@@ -3,11 +3,16 @@ use Rattle.h263_types.specs.Vectors.{InReach}
 use Rattle.h263_planes.specs.Lent.{picture}
 use Rattle.motion_search.specs.Order.{before}
 use Rattle.motion_search.specs.Cost.{candidate_of}
-use Rattle.motion_search.specs.Vectors.{whole_at}
+use Rattle.motion_search.specs.Vectors.{whole_at, zero_vector}
 use Rattle.motion_search.proofs.strip.best_of_column.Goals as goal
 
 pub loop-row-init : goal.loop-row-init
 loop-row-init c = record { candidate = c.requires.candidate; kept = λ d h. h; none = λ m hm hc reached. absurd (omega (arith, hm)); cost = c.requires.cost }
+
+pub better_in_square-first-requires-clause-zero : goal.better_in_square-first-requires-clause-zero
+better_in_square-first-requires-clause-zero c =
+    let w = c.args.window in
+    c.loop-row.invariant.kept (candidate_of w.block.now (picture w.reference) w.mb 0 zero_vector) c.requires.zero
 
 pub loop-row-preserved : goal.loop-row-preserved
 loop-row-preserved c =

@@ -5,12 +5,17 @@ use Rattle.h263_types.specs.Vectors.{InReach}
 use Rattle.h263_planes.specs.Lent.{picture}
 use Rattle.motion_search.specs.Order.{before}
 use Rattle.motion_search.specs.Cost.{candidate_of}
-use Rattle.motion_search.specs.Vectors.{whole_at}
+use Rattle.motion_search.specs.Vectors.{whole_at, zero_vector}
 use Rattle.motion_search.proofs.Strips.{marked_or_kept}
 use Rattle.motion_search.proofs.strip.best_of_marked.Goals as goal
 
 pub loop-left-init : goal.loop-left-init
 loop-left-init c = record { candidate = c.requires.candidate; kept = λ d h. h; none = λ i hi unmarked hc reached. c.requires.others i hi unmarked reached; cost = c.requires.cost }
+
+pub better_in_square-first-requires-clause-zero : goal.better_in_square-first-requires-clause-zero
+better_in_square-first-requires-clause-zero c =
+    let w = c.args.window in
+    c.loop-left.invariant.kept (candidate_of w.block.now (picture w.reference) w.mb 0 zero_vector) c.requires.zero
 
 pub loop-left-preserved : goal.loop-left-preserved
 loop-left-preserved c =

@@ -24,6 +24,9 @@ invariant_of-window-clause-reaches g c =
 zero_first : (block : List ℕ) (p : Picture) (mb : ℕ) (zero : Candidate) → zero ≡ candidate_of block p mb 0 zero_vector → before (candidate_of block p mb 0 zero_vector) zero ≡ false
 zero_first block p mb zero e = subst (λ (d : Candidate). before (candidate_of block p mb 0 zero_vector) d ≡ false) (sym e) (not_itself (candidate_of block p mb 0 zero_vector))
 
+pub better_at-first-requires-clause-zero : goal.better_at-first-requires-clause-zero
+better_at-first-requires-clause-zero g c = zero_first c.args.block.now (picture c.args.reference) c.args.mb c.args.zero c.requires.zero
+
 pub loop-column-init : goal.loop-column-init
 loop-column-init g c =
     let block = c.args.block.now in
