@@ -1,5 +1,4 @@
-use Rattle.std.proofs.Common.{◌≡◌, ◌≤◌, ◌∷◌, Option, Some, ap, sym, subst, ◌∙◌}
-use Rattle.call_model.specs.Receiving.{Packet}
+use Rattle.std.proofs.Common.{◌≤◌, Option, Some, ap, sym, subst, ◌∙◌}
 use Rattle.h263rps_c.specs.declared.ends.End.{End}
 use Rattle.h263rps_c.specs.declared.answers.Answer.{Answer}
 use Rattle.h263rps_c.specs.Ends.{HoldsReceiver}

@@ -1,6 +1,5 @@
-use Rattle.std.proofs.Common.{rules, ◌≡◌, ◌∷◌, Option, Some, subst}
+use Rattle.std.proofs.Common.{rules, Option, subst}
 use Rattle.std.specs.Prelude.{IsOk}
-use Rattle.call_model.specs.Receiving.{PlayNext}
 use Rattle.h263rps_c.specs.declared.ends.End.{End}
 use Rattle.h263rps_c.specs.Ends.{HoldsReceiver}
 use Rattle.h263rps_c.proofs.receiver.h263rps_raw_receiver_play.Goals as goal

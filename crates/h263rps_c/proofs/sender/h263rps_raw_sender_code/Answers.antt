@@ -1,9 +1,7 @@
-use Rattle.std.proofs.Common.{rules, ◌≡◌, ◌∷◌, Option, Some, subst}
+use Rattle.std.proofs.Common.{rules, Option, subst}
 use Rattle.std.specs.Prelude.{IsOk}
-use Rattle.call_model.specs.Sending.{Capture}
 use Rattle.h263rps_c.specs.declared.ends.End.{End}
 use Rattle.h263rps_c.specs.Ends.{HoldsSender}
-use Rattle.h263rps_c.specs.Sending.{frame_of}
 use Rattle.h263rps_c.proofs.sender.h263rps_raw_sender_code.Goals as goal
 
 pub returns-in-Ok-clause-stands : goal.returns-in-Ok-clause-stands

@@ -1,5 +1,4 @@
-use Rattle.std.proofs.Common.{◌≡◌, ◌≤◌, ◌∷◌, Option, Some, ap, sym, subst, ◌∙◌}
-use Rattle.call_model.specs.Sending.{Feedback}
+use Rattle.std.proofs.Common.{◌≤◌, Option, Some, ap, sym, subst, ◌∙◌}
 use Rattle.h263rps_c.specs.declared.ends.End.{End}
 use Rattle.h263rps_c.specs.declared.answers.Reply.{Reply}
 use Rattle.h263rps_c.specs.Ends.{HoldsSender}

@@ -1,4 +1,4 @@
-use Rattle.std.proofs.Common.{◌≡◌, Option, Some, Err, ap, sym, subst, ◌∙◌}
+use Rattle.std.proofs.Common.{Option, Err, ap, sym, subst, ◌∙◌}
 use Rattle.h263rps_c.specs.declared.ends.End.{End}
 use Rattle.h263rps_c.specs.Ends.{HoldsSender}
 use Rattle.h263rps_c.proofs.RefusalNumbers.{short_room}
