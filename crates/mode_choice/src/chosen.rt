@@ -19,8 +19,16 @@ pub struct Chosen {
 }
 
 impl Chosen {
+    ghost use Rattle.std.specs.Prelude.{◌≡◌, replicate};
+    ghost use Rattle.h263_types.specs.declared.blocks.Mb.TheVariants.{Skip};
+
     /// A place for what is chosen, one macroblock after the other.
-    pub fn new() -> Chosen {
+    pub fn new() -> Chosen
+        ensures mb { result.mb ≡ Skip }
+        ensures y { result.predicted.y ≡ replicate 256 0 }
+        ensures cb { result.predicted.cb ≡ replicate 64 0 }
+        ensures cr { result.predicted.cr ≡ replicate 64 0 }
+    {
         Chosen {
             mb: Mb::Skip,
             predicted: Predicted {
