@@ -48,7 +48,7 @@ fn fill(writer: &mut SliceWriter<'_>, mbs: &[Mb]) -> u32
     let mut apart = MbRoom::new();
     let mut count = 0;
     'each: for mb in mbs {
-        if writer.add_by(mb, &mut apart) == Added::Full {
+        if writer.add(mb, &mut apart) == Added::Full {
             return count;
         }
         count += 1;

@@ -8,7 +8,7 @@
 //! ```rust
 //! let mut bytes = [0xFF; 1150];
 //! let mut writer = SliceWriter::start(&mut bytes, &PREDICTED, false, 207);
-//! let _added = writer.add(&Mb::Skip);
+//! let _added = writer.add(&Mb::Skip, &mut MbRoom::new());
 //! assert_eq!(rt; writer.finish(), 5);
 //! assert_eq!(rt; &bytes[..5], [0xD9, 0xE8, 0xE8, 0x00, 0xC0].as_slice());
 //! ```

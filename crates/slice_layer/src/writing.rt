@@ -121,35 +121,9 @@ impl<'a> SliceWriter<'a> {
     }
 
     /// Adds the next macroblock. Where the slice with it, up to a whole byte, would have more bytes
-    /// than were lent, it answers `Full`, and nothing changes.
-    pub fn add(&mut self, mb: &Mb) -> Added
-        requires mb { IsMb mb.now }
-        requires kind { IsOfKind (kind_of self.old) mb.now }
-        requires step { IsStepped (quant_of self.old) mb.now }
-        requires left { next_of self.old < mbs_of (format_of self.old) }
-        ensures answer { (h : Header) (begins : Bool) (first : ℕ) (mbs : List Mb)
-            → HoldsSlice self.old h begins first mbs → result ≡ answer (length (bytes_in self.old))
-            (bytes_of (slice_text h begins first (mbs ++ mb.now ∷ []))) }
-        ensures fits { (h : Header) (begins : Bool) (first : ℕ) (mbs : List Mb)
-            → HoldsSlice self.old h begins first mbs
-            → result ≡ Added.Fits → HoldsSlice self.new h begins first (mbs ++ mb.now ∷ []) }
-        ensures full { result ≡ Added.Full → self.new ≡ self.old }
-        // There is room for the first macroblock.
-        ensures first { (h : Header) (begins : Bool) (first : ℕ) → IsHeader h → 1150
-            ≤ length (bytes_in self.old) → HoldsSlice self.old h begins first [] → result ≡ Added.Fits }
-        ensures slice { GoesOn self.old self.new }
-        ensures next { result ≡ Added.Fits → next_of self.new ≡ next_of self.old + 1 }
-        ensures quant { result ≡ Added.Fits
-            → quant_of self.new ≡ quant_after (quant_of self.old) mb.now }
-        ensures whole { HasWholeBlocks mb.now }
-        ensures room { length (bytes_in self.new) ≡ length (bytes_in self.old) }
-    {
-        self.add_by(mb, &mut MbRoom::new())
-    }
-
-    /// Adds the next macroblock, as [`add`](SliceWriter::add) does. Its text is first written into
-    /// room that is lent, which one caller makes once for many macroblocks.
-    pub fn add_by(&mut self, mb: &Mb, apart: &mut MbRoom) -> Added
+    /// than were lent, it answers `Full`, and nothing changes. Its text is first written into
+    /// `apart`, which a caller makes once for many macroblocks.
+    pub fn add(&mut self, mb: &Mb, apart: &mut MbRoom) -> Added
         requires mb { IsMb mb.now }
         requires kind { IsOfKind (kind_of self.old) mb.now }
         requires step { IsStepped (quant_of self.old) mb.now }

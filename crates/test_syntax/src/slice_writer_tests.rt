@@ -15,7 +15,7 @@ ghost use Rattle.slice_layer.specs.Writer.{kind_of, format_of, first_of, next_of
 use h263_bits::Fault;
 use h263_types::{Kind, Mb, Vector};
 use picture_header::Header;
-use slice_layer::{Added, SliceWriter};
+use slice_layer::{Added, MbRoom, SliceWriter};
 use std::test::Fail;
 use test_fixtures::codec;
 use test_fixtures::codec::{
@@ -79,9 +79,10 @@ fn add_times(writer: &mut SliceWriter<'_>, mb: &Mb, times: u32) -> u32
     ensures next { next_of writer.new ≡ next_of writer.old + result }
     ensures few { result ≤ times }
 {
+    let mut apart = MbRoom::new();
     let mut fits = 0;
     'times: for _time in 0..times {
-        match writer.add(mb) {
+        match writer.add(mb, &mut apart) {
             Added::Fits => fits += 1,
             Added::Full => {}
         }
@@ -167,10 +168,11 @@ fn nothing_changes_where_it_is_full(rt: HostRuntime) -> Result<(), Fail> {
     assert!(rt; steps(8, 8, &small));
     let mut bytes = [0xFF; 1150];
     let mut writer = SliceWriter::start(&mut bytes, &INTER_OF_CIF, false, 1);
+    let mut apart = MbRoom::new();
     let fits = add_times(&mut writer, &mb, 157);
     assert_eq!(rt; fits, 157);
-    assert_eq!(rt; writer.add(&large), Added::Full);
-    assert_eq!(rt; writer.add(&small), Added::Fits);
+    assert_eq!(rt; writer.add(&large, &mut apart), Added::Full);
+    assert_eq!(rt; writer.add(&small, &mut apart), Added::Fits);
     let size = writer.finish();
     assert_eq!(rt; size, 1144);
     assert_eq!(rt; &bytes[1142..1144], [0x8F, 0x80].as_slice());
@@ -189,10 +191,11 @@ fn predicted_vector_and_quantiser(rt: HostRuntime) -> Result<(), Fail> {
     assert!(rt; steps(10, 10, &last));
     let mut bytes = [0xFF; 1150];
     let mut writer = SliceWriter::start(&mut bytes, &INTER_OF_CIF, false, 207);
-    assert_eq!(rt; writer.add(&first), Added::Fits);
-    assert_eq!(rt; writer.add(&second), Added::Fits);
-    assert_eq!(rt; writer.add(&Mb::Skip), Added::Fits);
-    assert_eq!(rt; writer.add(&last), Added::Fits);
+    let mut apart = MbRoom::new();
+    assert_eq!(rt; writer.add(&first, &mut apart), Added::Fits);
+    assert_eq!(rt; writer.add(&second, &mut apart), Added::Fits);
+    assert_eq!(rt; writer.add(&Mb::Skip, &mut apart), Added::Fits);
+    assert_eq!(rt; writer.add(&last, &mut apart), Added::Fits);
     let size = writer.finish();
     assert_eq!(rt; size, 15);
     assert_eq!(rt;
@@ -217,7 +220,7 @@ fn write_skip(bytes: &mut [u8], header: &Header, begins: bool, first: u32) -> u3
         ≡ padded (slice_text header.now begins first (mbs.Skip ∷ [])) }
 {
     let mut writer = SliceWriter::start(bytes, header, begins, first);
-    let _added = writer.add(&Mb::Skip);
+    let _added = writer.add(&Mb::Skip, &mut MbRoom::new());
     writer.finish()
 }
 
