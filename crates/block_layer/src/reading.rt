@@ -41,7 +41,6 @@ fn read_placed(reader: &mut BitReader<'_>, place: usize) -> Result<Placed, Fault
 }
 
 // Events from a place on, up to the one with LAST 1.
-#[inline(always)]
 fn read_events(reader: &mut BitReader<'_>, from: usize, levels: &mut [i16; 64]) -> Result<(), Fault>
     requires { from ≤ 64 }
     ensures { Gives

@@ -42,6 +42,7 @@ struct Pattern {
 
 // MCBPC; none for stuffing.
 #[tactic(auto, unfolding(crate::specs::Text::class_turn, h263_bits::specs::Syntax::reading))]
+#[inline(always)]
 fn read_class_turn(reader: &mut BitReader<'_>, kind: Kind) -> Result<Option<Lead>, Fault>
     ensures { Gives turn_of result reader.new (reading (class_turn kind) reader.old) }
 {
