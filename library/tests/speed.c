@@ -1,9 +1,9 @@
-/* Times, as `bench` takes them: speed IN.y4m FRAMES [copied]. The video is CIF. First all pictures
- * are coded and heard, and their packets and messages kept. Then a sender alone codes them, and
- * its packets are taken out; then a receiver alone hears them, and plays each, lent or copied. A
- * frame is copied to one place before its time begins, as `bench` makes it there. At last both ends
- * take turns, picture by picture, as in a call. Times are in microseconds a picture, but that of a
- * packet that is refused, which is in nanoseconds. */
+/* Times, as `bench` takes them: speed FRAMES [copied]. The video is the made one in CIF. First all
+ * pictures are coded and heard, and their packets and messages kept. Then a sender alone codes
+ * them, and its packets are taken out; then a receiver alone hears them, and plays each, lent or
+ * copied. As in `bench`, each frame is made at one place just before its time begins. At last both
+ * ends take turns, picture by picture, as in a call. Times are in microseconds a picture, but that
+ * of a packet that is refused, which is in nanoseconds. */
 #define _POSIX_C_SOURCE 200809L
 
 #include "h263rps.h"
@@ -13,19 +13,36 @@
 #include <string.h>
 #include <time.h>
 
-enum { SIZE = 152064, LIMIT = 1400, REFUSALS = 1000000 };
+enum { WIDTH = 352, HEIGHT = 288, SIZE = WIDTH * HEIGHT * 3 / 2, LIMIT = 1400, REFUSALS = 1000000 };
 
 typedef struct packet {
     uint8_t *bytes;
     size_t length;
 } packet;
 
-static uint8_t *frames, *samples, *shown, room[LIMIT];
+static uint8_t *samples, *shown, room[LIMIT];
 static packet *packets;
 static size_t *first; /* of each picture, and how many there are in all */
 static h263rps_message *messages;
 static h263rps_params params;
 static int copied;
+
+/* The distance of v modulo 128 from 64 (docs/FORMATS.md, "Made input"). */
+static int ridge(size_t v) {
+    return abs((int)(v % 128) - 64);
+}
+
+/* Makes frame n of the video. */
+static void make(size_t n) {
+    uint8_t *at = samples;
+    for (size_t y = 0; y < HEIGHT; y++)
+        for (size_t x = 0; x < WIDTH; x++)
+            *at++ = (uint8_t)(60 + ridge(x + 2 * n) + ridge(2 * y + 2 * n));
+    for (size_t y = 0; y < HEIGHT / 2; y++)
+        for (size_t x = 0; x < WIDTH / 2; x++) *at++ = (uint8_t)(96 + ridge(x + n));
+    for (size_t y = 0; y < HEIGHT / 2; y++)
+        for (size_t x = 0; x < WIDTH / 2; x++) *at++ = (uint8_t)(160 - ridge(y + n));
+}
 
 static double now(void) {
     struct timespec t;
@@ -77,7 +94,8 @@ static void record(size_t count) {
     size_t all = 0, most = 0;
     for (size_t n = 0; n < count; n++) {
         h263rps_coded coded;
-        must(h263rps_sender_code(&sender, frames + n * SIZE, SIZE, NULL, 0, &coded));
+        make(n);
+        must(h263rps_sender_code(&sender, samples, SIZE, NULL, 0, &coded));
         first[n] = all;
         for (uint32_t i = 0; i < coded.packets; i++) {
             h263rps_answer answer;
@@ -108,7 +126,7 @@ static double send(size_t count) {
     for (size_t n = 0; n < count; n++) {
         h263rps_coded coded;
         size_t length;
-        memcpy(samples, frames + n * SIZE, SIZE);
+        make(n);
         double begin = now();
         must(h263rps_sender_code(&sender, samples, SIZE, NULL, 0, &coded));
         for (uint32_t i = 0; i < coded.packets; i++)
@@ -144,7 +162,7 @@ static double in_turn(size_t count) {
         h263rps_answer answer;
         h263rps_coded coded;
         size_t length;
-        memcpy(samples, frames + n * SIZE, SIZE);
+        make(n);
         double begin = now();
         must(h263rps_sender_code(&sender, samples, SIZE, NULL, 0, &coded));
         for (uint32_t i = 0; i < coded.packets; i++) {
@@ -172,21 +190,14 @@ static double refuse(void) {
 }
 
 int main(int argc, char **argv) {
-    char line[256];
-    if (argc < 3 || argc > 4) return 2;
-    size_t count = strtoul(argv[2], NULL, 10), have = 0, bytes = 0, exact = 0;
-    FILE *in = fopen(argv[1], "rb");
-    if (!in || !count || !fgets(line, sizeof line, in)) return 2;
-    copied = argc == 4 && !strcmp(argv[3], "copied");
-    frames = (uint8_t *)memory(count * SIZE);
+    if (argc < 2 || argc > 3) return 2;
+    size_t count = strtoul(argv[1], NULL, 10), bytes = 0, exact = 0;
+    if (!count) return 2;
+    copied = argc == 3 && !strcmp(argv[2], "copied");
     samples = (uint8_t *)memory(SIZE);
     shown = (uint8_t *)memory(SIZE);
     first = (size_t *)memory((count + 1) * sizeof *first);
     messages = (h263rps_message *)memory(count * sizeof *messages);
-    while (have < count && fgets(line, sizeof line, in)
-           && fread(frames + have * SIZE, 1, SIZE, in) == SIZE) have++;
-    fclose(in);
-    if (have < count) return 2;
     must(h263rps_defaults(H263RPS_CIF, &params));
     record(count);
     for (size_t i = 0; i < first[count]; i++) bytes += packets[i].length;
