@@ -9,9 +9,9 @@ use h263_planes::{PictureRef, Plane};
 use h263_types::{Mb, Vector};
 use half_sample::{Predicted, chroma, luma};
 
-/// A macroblock as it is chosen, and the samples that the vector of an inter macroblock predicts:
-/// they needn't be predicted again where it is reconstructed. Beside other macroblocks the samples
-/// are those of an earlier one.
+/// A macroblock as it is chosen, and the samples that the vector of an inter macroblock predicts,
+/// so that they needn't be predicted again to reconstruct it. With any other macroblock the samples
+/// are left over from an earlier one.
 #[derive(Drop)]
 pub struct Chosen {
     pub mb: Mb,

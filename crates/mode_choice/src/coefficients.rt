@@ -31,8 +31,8 @@ pub(crate) fn least_size(coding: Coding, quant: u8) -> u32
     }
 }
 
-// Writes the levels of coefficients that stand by rows, in the zigzag order: 0 from place `keep` on.
-// The first one is a level as the others are. Goes from mark to mark, since most levels are 0.
+// Writes the levels of coefficients that stand by rows, in the zigzag order: 0 from place `keep`
+// on. The first one is a level as the others are. Goes from mark to mark, since most levels are 0.
 #[inline(always)]
 pub(crate) fn levels_in(
     coding: Coding,
@@ -45,8 +45,8 @@ pub(crate) fn levels_in(
     requires coefficients { (at : ℕ)
         → at < 64 → IsCoefficient (slice_index_or coefficients.now at (pos 0)) }
     ensures long { length out.new ≡ 64 }
-    ensures levels { (k : ℕ)
-        → k < 64 → slice_index_or out.new k (pos 0) ≡ level_in coding quant keep coefficients.now k }
+    ensures levels { (k : ℕ) → k < 64 → slice_index_or out.new k (pos 0)
+        ≡ level_in coding quant keep coefficients.now k }
     ensures range { All IsLevel out.new }
 {
     types_laws::lowest();
