@@ -8,6 +8,7 @@ pub mod Sizes
 pub mod Zeros
 pub mod Vectors
 pub mod Eights
+pub mod Products
 pub mod Rotations
 pub mod Shifts
 pub mod Weaving
@@ -17,4 +18,3 @@ pub mod Low
 pub mod Columns
 pub mod First
 pub mod Halves
-pub mod Products
