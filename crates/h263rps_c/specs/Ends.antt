@@ -5,6 +5,7 @@ use Rattle.h263_types.specs.declared.blocks.Mb.{Mb}
 use Rattle.h263_types.specs.declared.clock.Clock.{Clock}
 use Rattle.h263_types.specs.declared.params.Params.{Params}
 use Rattle.h263_planes.specs.Picture.{Picture}
+use Rattle.h263_planes.specs.Samples.{bytes_of}
 use Rattle.call_model.specs.Coding as coding
 use Rattle.call_model.specs.Sending as call
 use Rattle.back_messages.specs.declared.message.MessageFault.{MessageFault}
@@ -36,6 +37,11 @@ abbrev pub HoldsReceiver : Params → List ReceiverEntry → Option End → Type
 HoldsReceiver p past None = ⊥
 HoldsReceiver p past (Some (Sending s)) = ⊥
 HoldsReceiver p past (Some (Receiving r)) = (r.params ≡ p) × receivers.Stands r past
+
+-- these bytes are the picture that a receiver inside shows
+abbrev pub ShowsPicture : Option End → List ℕ → Type 0
+ShowsPicture inside bytes = (p : Params) (past : List ReceiverEntry)
+    → HoldsReceiver p past inside → bytes ≡ bytes_of (receivers.run_of p past).screen
 
 -- the answer to a packet is this one, in numbers
 pub record TellsHeard (clock : Clock) (answer : Answer) (heard : runs.Heard Fault) : Type 0 where

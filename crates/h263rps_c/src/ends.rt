@@ -14,7 +14,7 @@ ghost use Rattle.call_encoding.specs.Messages.{read_message};
 ghost use Rattle.receiver_end.specs.Answers.{IsHeard, IsPlayed, takes};
 ghost use Rattle.receiver_end.specs.State as receivers;
 ghost use Rattle.sender_end.specs.Stands as senders;
-ghost use Rattle.h263rps_c.specs.Ends.{HoldsReceiver, HoldsSender, packets_in};
+ghost use Rattle.h263rps_c.specs.Ends.{HoldsReceiver, HoldsSender, ShowsPicture, packets_in};
 ghost use Rattle.h263rps_c.specs.Sending.{frame_of};
 ghost use Rattle.h263rps_c.specs.Messages.{messages_of};
 ghost use Rattle.h263rps_c.specs.Pace.{pace_of};
@@ -181,9 +181,7 @@ impl End {
     /// The samples that a receiver shows, lent.
     pub fn shown(&self) -> Result<&[u8], Refusal>
         ensures refusal { refusal_in result ≡ for_receiver never (Some self.now) }
-        ensures shown { (p : Params) (past : List ReceiverEntry)
-            → HoldsReceiver p past (Some self.now) → IfOk result (λ samples.
-            samples.now ≡ bytes_of (receivers.run_of p past).screen) }
+        ensures shown { IfOk result (λ samples. ShowsPicture (Some self.now) samples.now) }
     {
         match self {
             End::Sending(_) => Err(Refusal::OtherEnd),

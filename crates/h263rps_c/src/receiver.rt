@@ -1,11 +1,11 @@
 //! A receiver for C.
-ghost use Rattle.std.specs.Prelude.{◌≡◌, ◌≢◌, ◌≤◌, List, [], ◌∷◌, None, IfOk, length};
+ghost use Rattle.std.specs.Prelude.{◌≡◌, ◌≢◌, ◌≤◌, List, [], ◌∷◌, None, Ok, IfOk, length};
 ghost use Rattle.h263_types.specs.declared.params.Params.{Params};
 ghost use Rattle.h263_planes.specs.Samples.{bytes_of};
 ghost use Rattle.call_model.specs.Receiving.{Packet, PlayNext, ReceiverEntry};
 ghost use Rattle.receiver_end.specs.State as receivers;
 ghost use Rattle.h263rps_c.specs.Asked.{params_of};
-ghost use Rattle.h263rps_c.specs.Ends.{HoldsReceiver, TellsHeard, TellsPlayed};
+ghost use Rattle.h263rps_c.specs.Ends.{HoldsReceiver, ShowsPicture, TellsHeard, TellsPlayed};
 ghost use Rattle.std.specs.Borrow.{sem};
 ghost use Rattle.h263rps_c.specs.Returned.{KeepsEnd};
 ghost use Rattle.h263rps_c.specs.Refusals.{next_refusal, play_refusal, refusal_in, status_of, refusal_number};
@@ -159,9 +159,8 @@ pub extern "C" fn h263rps_raw_receiver_next(slot: &mut Slot, answer: &mut Answer
 // The samples that a receiver shows, lent. The slot keeps its end.
 fn samples_in(slot: &mut Slot) -> Result<&[u8], Refusal>
     ensures refusal { refusal_in result ≡ for_receiver never slot.old.handle.inside }
-    ensures shown { (p : Params) (past : List ReceiverEntry)
-        → HoldsReceiver p past slot.old.handle.inside → IfOk result (λ samples.
-        samples.now ≡ bytes_of (receivers.run_of p past).screen) }
+    ensures shown { IfOk result
+        (λ samples. ShowsPicture slot.old.handle.inside samples.now) }
     ensures* same { sem 𝓛 (KeepsEnd slot.entry) }
 {
     if !slot.is_started() {
@@ -171,23 +170,32 @@ fn samples_in(slot: &mut Slot) -> Result<&[u8], Refusal>
     end.shown()
 }
 
-/// Lends the samples that a receiver shows. They are good until the next call with this slot, which
-/// keeps its end.
-#[unsafe(no_mangle)]
-pub extern "C" fn h263rps_raw_receiver_shown<'a>(slot: &'a mut Slot, lent: &mut Lent<'a>) -> u32
-    ensures result { result ≡ status_of (for_receiver never slot.old.handle.inside) }
+// Writes down what is lent, if anything is.
+fn note<'a>(samples: Result<&'a [u8], Refusal>, lent: &mut Lent<'a>) -> u32
+    ensures result { result ≡ status_of (refusal_in samples.entry) }
     ensures unlent { result ≢ 0 → lent.new ≡ lent.old }
-    ensures shown { (p : Params) (past : List ReceiverEntry)
-        → HoldsReceiver p past slot.old.handle.inside → result ≡ 0
-        → lent.new.samples.now ≡ bytes_of (receivers.run_of p past).screen }
+    ensures lent { result ≡ 0 → samples.entry ≡ Ok lent.new.samples }
 {
-    match samples_in(slot) {
+    match samples {
         Err(refusal) => refusal.number(),
         Ok(samples) => {
             lent.samples = samples;
             OK
         }
     }
+}
+
+/// Lends the samples that a receiver shows. They are good until the next call with this slot, which
+/// keeps its end.
+#[unsafe(no_mangle)]
+pub extern "C" fn h263rps_raw_receiver_shown<'a>(slot: &'a mut Slot, lent: &mut Lent<'a>) -> u32
+    ensures result { result ≡ status_of (for_receiver never slot.old.handle.inside) }
+    ensures unlent { result ≢ 0 → lent.new ≡ lent.old }
+    ensures shown { result ≡ 0
+        → ShowsPicture slot.old.handle.inside lent.new.samples.now }
+    ensures* same { sem 𝓛 (KeepsEnd slot.entry) }
+{
+    note(samples_in(slot), lent)
 }
 
 /// Gives a receiver's memory back, and leaves its slot empty.
