@@ -72,7 +72,7 @@ module _ {Style Mb Picture Fault : Type 0} (decoding : Decoding Style Mb Picture
 
 module _ {Frame Style Mb Picture Fault MessageFault : Type 0}
     (coding : Coding Frame Style Mb Picture Fault MessageFault) (rules : Rules) where
-  -- The two ends have done what the ideal call says, and the five statements hold that carry this
+  -- The two ends have done what the ideal call says, and the six statements hold that carry this
   -- from event to event.
   pub record EndsFollow (c : Call Style Mb Picture) (both : Joined Style Mb Picture) : Type 0 where
     pub agree : Agree coding rules c both

@@ -21,7 +21,7 @@ pub struct Params {
     pub limit: u32,
     /// How many pictures each end keeps, 2 to 64.
     pub slots: u32,
-    /// How many pictures the receiver's play lies behind, 0 to `slots` - 2.
+    /// The most pictures that may come before their turn, 0 to `slots` - 2.
     pub lead: u32,
     /// The version of the receiver's messages, 1 or 2; those of version 2 name further complete
     /// pictures.

@@ -14,7 +14,7 @@ use std::alloc::Global;
 /// The machine of the command.
 pub type Join = LogMachine<Joining>;
 
-/// The joiner, the receiver behind it, and what was counted.
+/// The joiner, the receiver after it, and what was counted.
 pub struct Joining {
     joiner: Joiner,
     receiving: Receiving,
