@@ -49,6 +49,7 @@ fn step_at(steps: &[i8], place: usize) -> i8
     steps[place]
 }
 
+#[inline(always)]
 fn read_intra_mcbpc(reader: &mut BitReader<'_>) -> Result<Mcbpc, Fault>
     ensures { Gives
         (λ (m : Mcbpc). m) result reader.new (word_at (mcbpc_words kinds.I) reader.old) }
@@ -57,6 +58,7 @@ fn read_intra_mcbpc(reader: &mut BitReader<'_>) -> Result<Mcbpc, Fault>
     Ok(symbol_at(&INTRA_MCBPC_SYMBOLS, place))
 }
 
+#[inline(always)]
 fn read_inter_mcbpc(reader: &mut BitReader<'_>) -> Result<Mcbpc, Fault>
     ensures { Gives
         (λ (m : Mcbpc). m) result reader.new (word_at (mcbpc_words kinds.P) reader.old) }
@@ -66,6 +68,7 @@ fn read_inter_mcbpc(reader: &mut BitReader<'_>) -> Result<Mcbpc, Fault>
 }
 
 /// MCBPC of a kind of picture (H.263 5.3.2).
+#[inline(always)]
 pub fn read_mcbpc(reader: &mut BitReader<'_>, kind: Kind) -> Result<Mcbpc, Fault>
     // What is read is spelled by the bits that were taken.
     ensures found { IfOk result (λ m. Takes reader.old reader.new (Spells (mcbpc kind) m)) }
