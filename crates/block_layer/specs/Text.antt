@@ -26,7 +26,8 @@ pub record Placed : Type 0 where
   pub last : Bool
 
 unfoldable pub placed : ℕ → Syntax Placed
-placed place = part event (allowed_place place) λ e. done (record { place = place + e.run; level = e.level; last = e.last })
+placed place = part event (allowed_place place)
+    λ e. done (record { place = place + e.run; level = e.level; last = e.last })
 
 abbrev pub after_event : List ℤ → Placed → Turn Events (List ℤ)
 after_event levels p =

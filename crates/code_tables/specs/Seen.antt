@@ -1,4 +1,5 @@
--- Events and differences by their first bits, as one number: an event has 22 bits at most, as an escape, and a difference 13.
+-- Events and differences by their first bits, as one number: an event has 22 bits at most, as an
+-- escape, and a difference 13.
 use Rattle.std.specs.Prelude.{◌≡◌, ℕ, ◌≤◌, length, take, Option, Ok}
 use Rattle.h263_bits.specs.Bits.{number}
 use Rattle.h263_bits.specs.Reading.{Bits, skip}

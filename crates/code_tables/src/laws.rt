@@ -51,7 +51,6 @@ pub fn in_a_syntax()
 {}
 
 /// There are 102 words of events, and this many of each length from 2 to 12 bits.
-#[tactic(auto, unfolding(crate::specs::Tables::words_of_length, crate::specs::Tables::tcoef_words, crate::specs::Tables::last_0_texts, crate::specs::Tables::last_1_texts))]
 pub fn event_words()
     ensures lengths { map words_of_length (2 ∷ 3 ∷ 4 ∷ 5 ∷ 6 ∷ 7 ∷ 8 ∷ 9 ∷ 10 ∷ 11 ∷ 12 ∷ [])
         ≡ 1 ∷ 1 ∷ 3 ∷ 3 ∷ 10 ∷ 8 ∷ 13 ∷ 21 ∷ 14 ∷ 12 ∷ 16 ∷ [] }

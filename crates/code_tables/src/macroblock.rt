@@ -49,6 +49,7 @@ fn step_at(steps: &[i8], place: usize) -> i8
     steps[place]
 }
 
+#[inline(always)]
 fn read_intra_mcbpc(reader: &mut BitReader<'_>) -> Result<Mcbpc, Fault>
     ensures { Gives
         (λ (m : Mcbpc). m) result reader.new (word_at (mcbpc_words kinds.I) reader.old) }
@@ -57,6 +58,7 @@ fn read_intra_mcbpc(reader: &mut BitReader<'_>) -> Result<Mcbpc, Fault>
     Ok(symbol_at(&INTRA_MCBPC_SYMBOLS, place))
 }
 
+#[inline(always)]
 fn read_inter_mcbpc(reader: &mut BitReader<'_>) -> Result<Mcbpc, Fault>
     ensures { Gives
         (λ (m : Mcbpc). m) result reader.new (word_at (mcbpc_words kinds.P) reader.old) }
@@ -66,7 +68,7 @@ fn read_inter_mcbpc(reader: &mut BitReader<'_>) -> Result<Mcbpc, Fault>
 }
 
 /// MCBPC of a kind of picture (H.263 5.3.2).
-#[tactic(auto, unfolding(crate::specs::Mcbpc::mcbpc, crate::specs::Mcbpc::mcbpc_table, h263_bits::specs::Syntax::reading))]
+#[inline(always)]
 pub fn read_mcbpc(reader: &mut BitReader<'_>, kind: Kind) -> Result<Mcbpc, Fault>
     // What is read is spelled by the bits that were taken.
     ensures found { IfOk result (λ m. Takes reader.old reader.new (Spells (mcbpc kind) m)) }
@@ -95,7 +97,6 @@ fn read_step(reader: &mut BitReader<'_>) -> Result<i8, Fault>
 }
 
 /// DQUANT, the step of the quantiser (H.263 5.3.6): -2, -1, 1 or 2.
-#[tactic(auto, unfolding(crate::specs::Mcbpc::dquant, crate::specs::Mcbpc::dquant_table, h263_bits::specs::Syntax::reading))]
 pub fn read_dquant(reader: &mut BitReader<'_>) -> Result<i8, Fault>
     // What is read is spelled by the bits that were taken.
     ensures found { IfOk result (λ step. Takes reader.old reader.new (Spells dquant step)) }

@@ -8,7 +8,7 @@ ghost use Rattle.h263_bits.specs.Reading.{Gives, Takes};
 ghost use Rattle.h263_bits.specs.Syntax.{reading, word_at, Spells};
 ghost use Rattle.h263_bits.specs.Elements.{IsWordOf, IsWordFault};
 ghost use Rattle.code_tables.specs.EventWords.{IsEventFault};
-ghost use Rattle.code_tables.specs.Tables.{cbpy, cbpy_texts, cbpy_text, magnitude_texts, size_of, sign_text, mvd_text, cbpy_words, magnitude_words, tcoef_words, mvd, mvd_words, Coefficient as Event, signed, level_of, mvd_parts, event, event_parts, byte_of, escape_fields, event_text, IsEvent};
+ghost use Rattle.code_tables.specs.Tables.{cbpy, cbpy_texts, cbpy_text, magnitude_texts, size_of, sign_text, mvd_text, cbpy_words, magnitude_table, event_table, mvd, mvd_words, Coefficient as Event, signed, level_of, mvd_parts, event, event_parts, byte_of, escape_fields, event_text, IsEvent};
 ghost use Rattle.code_tables.specs.Events.{event_of_code, coefficient_of};
 
 use crate::code::{Coefficient, Level, read_code, write_code, write_signed_code};
@@ -27,7 +27,6 @@ fn read_pattern(reader: &mut BitReader<'_>) -> Result<usize, Fault>
 
 /// CBPY, the pattern of the luminance blocks, 0 to 15 (H.263 5.3.5). An inter macroblock has the
 /// word of the complement.
-#[tactic(auto, unfolding(crate::specs::Tables::cbpy, crate::specs::Tables::cbpy_table, h263_bits::specs::Syntax::reading))]
 pub fn read_cbpy(reader: &mut BitReader<'_>, intra: bool) -> Result<u8, Fault>
     // What is read is spelled by the bits that were taken.
     ensures found { IfOk result (λ pattern.
@@ -50,13 +49,13 @@ pub fn read_cbpy(reader: &mut BitReader<'_>, intra: bool) -> Result<u8, Fault>
 }
 
 fn read_magnitude(reader: &mut BitReader<'_>) -> Result<usize, Fault>
-    ensures reads { Gives (λ (i : ℕ). i) result reader.new (word_at magnitude_words reader.old) }
+    ensures reads { Gives (λ (i : ℕ). i) result reader.new (word_at magnitude_table.list reader.old) }
     ensures below { IfOk result (λ i. i < 33) }
 {
     read_code(reader, &MAGNITUDES, &MAGNITUDES_FAST, &MAGNITUDES_LONG)
 }
 
-#[tactic(auto, unfolding(crate::specs::Tables::mvd_parts, crate::specs::Tables::magnitude_table, h263_bits::specs::Syntax::reading))]
+#[tactic(auto, unfolding(crate::specs::Tables::mvd_parts, h263_bits::specs::Syntax::reading))]
 fn read_mvd_parts(reader: &mut BitReader<'_>) -> Result<i8, Fault>
     ensures { Gives (λ (v : ℤ). v) result reader.new (reading mvd_parts reader.old) }
 {
@@ -103,14 +102,14 @@ pub fn read_mvd(reader: &mut BitReader<'_>) -> Result<i8, Fault>
 }
 
 fn read_event_word(reader: &mut BitReader<'_>) -> Result<Option<Level>, Fault>
-    ensures reads { Gives event_of_code result reader.new (word_at tcoef_words reader.old) }
+    ensures reads { Gives event_of_code result reader.new (word_at event_table.list reader.old) }
     ensures small { IfOk result (λ o. IfSome o (λ level. level.size < 128)) }
 {
     let place = read_code(reader, &EVENTS, &EVENTS_FAST, &EVENTS_LONG)?;
     Ok(level_at(&LEVELS, place))
 }
 
-#[tactic(auto, unfolding(crate::specs::Tables::event_parts, crate::specs::Tables::event_table, h263_bits::specs::Syntax::reading))]
+#[tactic(auto, unfolding(crate::specs::Tables::event_parts, h263_bits::specs::Syntax::reading))]
 fn read_event_parts(reader: &mut BitReader<'_>) -> Result<Coefficient, Fault>
     ensures { Gives coefficient_of result reader.new (reading event_parts reader.old) }
 {

@@ -40,33 +40,39 @@ fn reach_of(format: Format, at: u32) -> Reach
     reach(format, at)
 }
 
-// Macroblock `at` of the picture, in a slice that begins with macroblock `first`; the vectors are
-// those before it.
+// The next macroblock of a slice: its number, that of the slice's first one, and the quantiser in
+// force before it.
+#[derive(Clone, Copy)]
+struct Next {
+    at: u32,
+    first: u32,
+    quant: u8,
+}
+
+// The next macroblock; the vectors are those before it.
 fn read_next(
     reader: &mut BitReader<'_>,
     header: &Header,
-    first: u32,
-    at: u32,
-    quant: u8,
+    next: Next,
     vectors: &[Vector],
     out: &mut Mb,
 ) -> Result<(), Fault>
-    requires quant { IsQuant quant }
-    requires order { first ≤ at }
-    requires within { at < mbs_of header.now.format }
-    requires vectors { length vectors.now ≡ at }
+    requires quant { IsQuant next.quant }
+    requires order { next.first ≤ next.at }
+    requires within { next.at < mbs_of header.now.format }
+    requires vectors { length vectors.now ≡ next.at }
     ensures reads { Gives (λ _. out.new) result reader.new
-        (reading (mb header.now.kind quant (reach_of header.now.format at)
-        (predictor_of vectors.now first at (columns_of header.now.format))) reader.old) }
-    ensures range { IfOk result (λ _. IsMbAt header.now at out.new) }
+        (reading (mb header.now.kind next.quant (reach_of header.now.format next.at)
+        (predictor_of vectors.now next.first next.at (columns_of header.now.format))) reader.old) }
+    ensures range { IfOk result (λ _. IsMbAt header.now next.at out.new) }
 {
     if pass_skipped(reader, header.kind) {
         *out = Mb::Skip;
         return Ok(());
     }
-    let predictor = predictor(vectors, first, at, header.format.columns());
-    let reach = reach_of(header.format, at);
-    read_mb(reader, header.kind, quant, predictor, reach, out)
+    let predictor = predictor(vectors, next.first, next.at, header.format.columns());
+    let reach = reach_of(header.format, next.at);
+    read_mb(reader, header.kind, next.quant, predictor, reach, out)
 }
 
 // The macroblocks of a slice from number `first` on, up to the padding, into their places.
@@ -94,7 +100,8 @@ fn read_body(
             return Err(FaultKind::Trailing.at(reader.at()));
         }
         let k = at as usize;
-        read_next(reader, header, first, at, quant, &vectors[..k], &mut out[k])?;
+        let next = Next { at, first, quant };
+        read_next(reader, header, next, &vectors[..k], &mut out[k])?;
         quant = quant_after(quant, &out[k]);
         vectors[k] = vector_of(&out[k]);
         at += 1;

@@ -11,7 +11,7 @@ ghost use Rattle.macroblock_layer.specs.Written.{IsStepped, mb_text};
 ghost use Rattle.slice_layer.specs.Around.{vector_of, quant_after};
 
 use crate::shared::{quant_after, vector_of};
-use crate::writing_text::{MbRoom, paste, write_apart, write_front};
+use crate::writing_text::{LastBits, MbRoom, paste, write_apart, write_front};
 use h263_bits::BitReader;
 use h263_types::{Format, Kind, Mb, Vector};
 use macroblock_layer::predictor;
@@ -94,13 +94,15 @@ impl<'a> SliceWriter<'a> {
     }
 
     // The bits after the last whole byte.
-    fn last_bits(&self) -> u32
+    fn last_bits(&self) -> LastBits
         ensures bits { take (8 * (self.now.len / 8)) (bits_of (bytes_in self.now))
-            ++ spelled (self.now.len % 8) result ≡ take self.now.len (bits_of (bytes_in self.now)) }
-        ensures below { result < 2 ^ (self.now.len % 8) }
+            ++ spelled result.count result.number ≡ take self.now.len (bits_of (bytes_in self.now)) }
+        ensures below { result.number < 2 ^ result.count }
+        ensures count { result.count ≡ self.now.len % 8 }
     {
-        let from = self.len - self.len % 8;
-        BitReader::new(self.bytes, from, self.len).peek(self.len % 8)
+        let count = self.len % 8;
+        let number = BitReader::new(self.bytes, self.len - count, self.len).peek(count);
+        LastBits { number, count }
     }
 
     // What the macroblocks after this one depend on.
@@ -147,24 +149,15 @@ impl<'a> SliceWriter<'a> {
     {
         picture_header_laws::in_a_syntax();
         let predictor = self.predictor(mb);
-        let front = self.last_bits();
-        let count = self.len % 8;
-        let len = write_apart(
-            &mut apart.bytes,
-            front,
-            count,
-            self.kind,
-            self.quant,
-            predictor,
-            mb,
-        );
+        let last = self.last_bits();
+        let len = write_apart(&mut apart.bytes, last, self.kind, self.quant, predictor, mb);
         let at = (self.len / 8) as usize;
         let size = ((len + 7) / 8) as usize;
         if self.bytes.len() < at + size {
             return Added::Full;
         }
         paste(self.bytes, at, &apart.bytes[..size]);
-        self.len += len - count;
+        self.len += len - last.count;
         self.keep(mb);
         Added::Fits
     }

@@ -48,36 +48,44 @@ pub struct MbRoom {
 }
 
 impl MbRoom {
+    /// Room for one macroblock at a time: 7 bits and the longest text take 1,063 bytes.
     pub fn new() -> MbRoom {
         MbRoom { bytes: [0; 1063] }
     }
 }
 
-/// Writes a macroblock's text after the `count` bits of a number. Answers how many bits that are
-/// together.
+/// The bits of a text after its last whole byte: the `count` bits of a number.
+#[derive(Clone, Copy)]
+pub struct LastBits {
+    pub number: u32,
+    pub count: u32,
+}
+
+/// Writes a macroblock's text after the last bits of what stands before it. Answers how many bits
+/// that are together.
 pub fn write_apart(
     bytes: &mut [u8; 1063],
-    front: u32,
-    count: u32,
+    last: LastBits,
     kind: Kind,
     quant: u8,
     predictor: Vector,
     mb: &Mb,
 ) -> u32
-    requires few { count < 8 }
-    requires fits { front < 2 ^ count }
+    requires few { last.count < 8 }
+    requires fits { last.number < 2 ^ last.count }
     requires quant { IsQuant quant }
     requires mb { IsMb mb.now }
     requires kind { IsOfKind kind mb.now }
     requires step { IsStepped quant mb.now }
-    ensures text { IsFront (spelled count front ++ mb_text kind quant predictor mb.now) bytes.new }
-    ensures len { result ≡ count + length (mb_text kind quant predictor mb.now) }
+    ensures text { IsFront
+        (spelled last.count last.number ++ mb_text kind quant predictor mb.now) bytes.new }
+    ensures len { result ≡ last.count + length (mb_text kind quant predictor mb.now) }
     ensures short { result ≤ 8499 }
     ensures whole { HasWholeBlocks mb.now }
 {
     mb.is_whole();
     let mut writer = BitWriter::new(bytes);
-    writer.put(front, count);
+    writer.put(last.number, last.count);
     write_mb(&mut writer, kind, quant, predictor, mb);
     pad(&mut writer)
 }

@@ -71,8 +71,8 @@ pub const FAR: Reach = Reach {
 };
 
 /// Four messages of a picture header, each after its BCI `1`, and a fifth `1`.
-pub const MESSAGES: &str =
-    "1 11 0 0000000000 1 0000000000 1 11 0 0000000001 1 0000000001 1 11 0 0000000010 1 0000000010 1 11 0 0000000011 1 0000000011 1";
+pub const MESSAGES: &str = "1 11 0 0000000000 1 0000000000 1 11 0 0000000001 1 0000000001 \
+     1 11 0 0000000010 1 0000000010 1 11 0 0000000011 1 0000000011 1";
 
 /// The packet of picture 0 of sub-QCIF, each sample 100: packed by another program from the
 /// formats.

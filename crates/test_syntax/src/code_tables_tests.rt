@@ -78,7 +78,6 @@ fn faults_of_words(rt: HostRuntime) {
 
 // A difference of -63, taken as 1, the longest word of MCBPC in P, the shortest of CBPY, and a step
 // of -2.
-#[tactic(auto, unfolding(code_tables::specs::Tables::mvd_text, code_tables::specs::Tables::magnitude_texts, code_tables::specs::Tables::cbpy_text, code_tables::specs::Tables::cbpy_texts, code_tables::specs::Mcbpc::mcbpc_text, code_tables::specs::Mcbpc::class_texts, code_tables::specs::Mcbpc::dquant_text))]
 #[test]
 fn words(rt: HostRuntime) -> Result<(), Fail> {
     let mut bytes = [0u8; 2];
@@ -101,7 +100,6 @@ fn words(rt: HostRuntime) -> Result<(), Fail> {
 }
 
 // The three events (0, 0, 1), (1, 0, -1) and (1, 5, -20), the last one as an escape.
-#[tactic(auto, unfolding(code_tables::specs::Tables::event_text, code_tables::specs::Tables::triple_text, code_tables::specs::Tables::last_0_texts, code_tables::specs::Tables::last_1_texts, h263_bits::specs::Bits::spelled))]
 #[test]
 fn events_written(rt: HostRuntime) {
     let mut bytes = [0u8; 4];

@@ -10,7 +10,7 @@ ghost use Rattle.h263_types.specs.Blocks.{IsMb, IsOfKind};
 ghost use Rattle.h263_types.specs.Sizes.{mbs_of};
 ghost use Rattle.macroblock_layer.specs.Written.{IsStepped};
 ghost use Rattle.slice_layer.specs.Around.{quant_after};
-ghost use Rattle.slice_layer.specs.Writer.{kind_of, format_of, first_of, next_of, quant_of};
+ghost use Rattle.slice_layer.specs.Writer.{kind_of, format_of, next_of, quant_of, GoesOn};
 
 use h263_bits::Fault;
 use h263_types::{Kind, Mb, Vector};
@@ -72,10 +72,8 @@ fn add_times(writer: &mut SliceWriter<'_>, mb: &Mb, times: u32) -> u32
     requires step { IsStepped (quant_of writer.old) mb.now }
     requires same { quant_after (quant_of writer.old) mb.now ≡ quant_of writer.old }
     requires left { next_of writer.old + times ≤ mbs_of (format_of writer.old) }
-    ensures kind { kind_of writer.new ≡ kind_of writer.old }
-    ensures format { format_of writer.new ≡ format_of writer.old }
+    ensures slice { GoesOn writer.old writer.new }
     ensures quant { quant_of writer.new ≡ quant_of writer.old }
-    ensures from { first_of writer.new ≡ first_of writer.old }
     ensures next { next_of writer.new ≡ next_of writer.old + result }
     ensures few { result ≤ times }
 {
@@ -160,7 +158,9 @@ fn full_at_the_room(rt: HostRuntime) {
 fn nothing_changes_where_it_is_full(rt: HostRuntime) -> Result<(), Fail> {
     let mb = flat_mb();
     let large = read_text(
-        "0 011 0011 11 0000110 0010 0000011 1 000000 01111111 0000011 1 000000 01111111 0000011 1 000000 01111111 0000011 1 000000 01111111",
+        "0 011 0011 11 0000110 0010 \
+         0000011 1 000000 01111111 0000011 1 000000 01111111 \
+         0000011 1 000000 01111111 0000011 1 000000 01111111",
     )?;
     let small = read_text("0 1 11 1 1")?;
     assert!(rt; steps(8, 8, &mb));

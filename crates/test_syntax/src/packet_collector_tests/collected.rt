@@ -85,6 +85,40 @@ fn take_both(rt: &impl Abort, alloc: Global) -> Result<(), OutOfMemory> {
     Ok(())
 }
 
+// Headers of another picture than the first slice's: each differs from its header in one field, that
+// of a P picture in TRP, too.
+const OTHER_HEADERS: [Header; 7] = [
+    Header {
+        tr: 1,
+        ..INTRA_OF_CIF
+    },
+    Header {
+        rounding: 1,
+        ..INTRA_OF_CIF
+    },
+    Header {
+        channel: 0,
+        ..INTRA_OF_CIF
+    },
+    Header {
+        quant: 9,
+        ..INTRA_OF_CIF
+    },
+    Header {
+        kind: Kind::P,
+        trp: Some(1),
+        ..INTRA_OF_CIF
+    },
+    Header {
+        back: [Some(Message::Ack { tr: 0, marks: None }), None, None, None],
+        ..INTRA_OF_CIF
+    },
+    Header {
+        clock: Clock::Custom,
+        ..INTRA_OF_CIF
+    },
+];
+
 #[test]
 fn where_a_piece_stands(rt: HostRuntime) -> Result<(), Fail> {
     if let Err(OutOfMemory) = stand(&rt, rt.alloc()) {
@@ -107,39 +141,7 @@ fn stand(rt: &impl Abort, alloc: Global) -> Result<(), OutOfMemory> {
         };
         assert_eq!(rt; collector.place(2, &piece), place);
     }
-    let mut back = [None; 4];
-    back[0] = Some(Message::Ack { tr: 0, marks: None });
-    for header in [
-        Header {
-            tr: 1,
-            ..INTRA_OF_CIF
-        },
-        Header {
-            rounding: 1,
-            ..INTRA_OF_CIF
-        },
-        Header {
-            channel: 0,
-            ..INTRA_OF_CIF
-        },
-        Header {
-            quant: 9,
-            ..INTRA_OF_CIF
-        },
-        Header {
-            kind: Kind::P,
-            trp: Some(1),
-            ..INTRA_OF_CIF
-        },
-        Header {
-            back,
-            ..INTRA_OF_CIF
-        },
-        Header {
-            clock: Clock::Custom,
-            ..INTRA_OF_CIF
-        },
-    ] {
+    for header in OTHER_HEADERS {
         let piece = Piece {
             header,
             head: FIRST,

@@ -51,12 +51,14 @@ fn one_change_each(rt: HostRuntime) {
 // The header of a P picture of sub-QCIF, TR 1, TRP 0 and quantiser 8, and of its first slice. A
 // space stands between fields.
 const PICTURE: &str =
-    "100000 00000001 10 000 111 001 001 0 0000011000 1000 001 00 1 001 0 00 111 1 0000000000 01 01000 0 1 000000 1";
+    "100000 00000001 10 000 111 001 001 0 0000011000 1000 001 00 1 001 0 00 111 1 0000000000 01 \
+     01000 0 1 000000 1";
 
 // The same header as the extra one, its padding of 3 bits, and the header of a slice from
 // macroblock 7 on.
 const SLICE: &str =
-    "100000 00000001 10 000 111 001 001 0 0000011000 1000 001 00 1 001 0 00 111 1 0000000000 01 01000 0 000 1 1 000111 01000 1 11 0 1 0000000000 01";
+    "100000 00000001 10 000 111 001 001 0 0000011000 1000 001 00 1 001 0 00 111 1 0000000000 01 \
+     01000 0 000 1 1 000111 01000 1 11 0 1 0000000000 01";
 
 // What is read of a packet whose payload header is `payload`, before the text's first bits and
 // others after them.

@@ -10,12 +10,12 @@ use Rattle.slice_layer.proofs.writing_text.write_apart.Goals as goal
 
 pub returns-clause-text : goal.returns-clause-text
 returns-clause-text c =
-    let front = spelled c.args.count c.args.front in
+    let front = spelled c.args.last.count c.args.last.number in
     let text = mb_text c.args.kind c.args.quant c.args.predictor c.args.mb.now in
     let whole = front ++ text in
     let first = c.put.ensures.bits.text ∙ ap (λ (t : List Bool). t ++ front) c.new-writer.ensures.none in
     let second = c.write_mb.ensures.bits.text ∙ ap (λ (t : List Bool). t ++ text) first in
-    let len : length whole ≡ c.args.count + length text = omega (arith, length-append front text, length-spelled c.args.count c.args.front) in
+    let len : length whole ≡ c.args.last.count + length text = omega (arith, length-append front text, length-spelled c.args.last.count c.args.last.number) in
     let all : len_of c.write_mb.new.writer ≡ length whole = omega (arith, len, c.write_mb.ensures.len, c.put.ensures.len, c.new-writer.ensures.len) in
     let pad : List Bool = spelled (to_byte (len_of c.write_mb.new.writer)) 0 in
     let text_is : written c.pad.new.writer ≡ padded whole =

@@ -1,14 +1,12 @@
 use Rattle.std.proofs.Common.{◌≡◌, ◌+◌, ◌≤◌}
-use Rattle.slice_layer.specs.Writer.{kind_of, format_of, first_of, next_of, quant_of}
+use Rattle.slice_layer.specs.Writer.{next_of, quant_of, GoesOn}
 use Rattle.test_syntax.proofs.slice_writer_tests.add_times.Given as goal
 
 -- what stays of the writer, and the number of the next macroblock
 abbrev pub invariant-times : goal.invariant-times
 invariant-times l = record {
-  kind : kind_of l.writer ≡ kind_of l.initial.writer;
-  format : format_of l.writer ≡ format_of l.initial.writer;
+  slice : GoesOn l.initial.writer l.writer;
   quant : quant_of l.writer ≡ quant_of l.initial.writer;
-  from : first_of l.writer ≡ first_of l.initial.writer;
   next : next_of l.writer ≡ next_of l.initial.writer + l.fits;
   few : l.fits ≤ l._time;
 }

@@ -30,15 +30,15 @@ returns-clause-fits c h begins first mbs holds fits =
     let w = c.args.self.now in
     let m = c.args.mb.now in
     let apart = c.write_apart-len.new.bytes in
-    let front = spelled (w.len % 8) c.last_bits-front.result in
+    let front = spelled c.last_bits-last.result.count c.last_bits-last.result.number in
     let more = mb_text (kind_of w) (quant_of w) c.predictor-predictor.result m in
     let size = (c.write_apart-len.result + 7) / 8 in
-    let few : length front ≡ w.len % 8 = length-spelled (w.len % 8) c.last_bits-front.result in
+    let few : length front ≡ w.len % 8 = length-spelled c.last_bits-last.result.count c.last_bits-last.result.number ∙ c.last_bits-last.ensures.count in
     let bytes : size ≡ bytes_of (front ++ more) = omega (arith, length-append front more, few, c.write_apart-len.ensures.len) in
     let long : length (take size apart) ≡ size = omega (arith, length-take size apart, c.write_apart-len.array_long, c.write_apart-len.ensures.short) in
     let pasted = ap (λ (k : ℕ). take (w.len / 8 + k) c.paste.new.bytes) (sym long) ∙ c.paste.ensures.front in
     let text : IsFront (slice_text h begins first mbs ++ more) c.paste.new.bytes =
-    grown (bytes_in w) c.paste.new.bytes apart (slice_text h begins first mbs) front more w.len size holds.len w.inside holds.text few c.last_bits-front.ensures.bits bytes c.write_apart-len.ensures.text pasted in
+    grown (bytes_in w) c.paste.new.bytes apart (slice_text h begins first mbs) front more w.len size holds.len w.inside holds.text few c.last_bits-last.ensures.bits bytes c.write_apart-len.ensures.text pasted in
     let next = next_is w h begins first mbs m c.predictor-predictor.result holds c.predictor-predictor.ensures in
     let written : IsFront (slice_text h begins first mbs ++ next_text h first mbs m) c.paste.new.bytes = subst (λ (t : List Bool). IsFront (slice_text h begins first mbs ++ t) c.paste.new.bytes) next text in
     held w c.keep.new.self h begins first mbs m holds (subst (λ (l : List ℕ). IsFront (slice_text h begins first mbs ++ next_text h first mbs m) l) (sym c.keep.ensures.bytes) written)
