@@ -4,7 +4,6 @@ use Rattle.std.specs.Prelude.{◌&&◌, nat_le}
 use Rattle.std.specs.declared.vec.Vec.{Vec}
 use Rattle.std.specs.Vec.{with_items}
 use Rattle.std.proofs.lemmas.List.{with_items_is}
-use Rattle.std.proofs.lemmas.Bool.{leb-true}
 use Rattle.h263_outside.specs.Desk.{Outside}
 use Rattle.h263_outside.specs.declared.desk.Role.{Role}
 use Rattle.h263_outside.specs.declared.desk.Role.TheVariants.{Video, Pictures, Report}
@@ -29,15 +28,9 @@ use Rattle.call_command.specs.declared.terms.Terms.{Terms}
 use Rattle.call_command.specs.Call.{CallState, all_played, by_ends, call_begin, first_state, frame_step, head_step, may_read, play_texts, video_step, with_format, with_picture}
 use Rattle.one_way.specs.Counts.{call_text}
 use Rattle.call_command.specs.Laws.{VideoLaws}
+use Rattle.call_command.proofs.Lines.{not_held}
 
 -- ---- what was taken holds no whole head or frame
-
-pub not_held : (size k : ℕ) → (size ≤ k → ⊥) → nat_le size k ≡ false
-not_held size k few = at_test (nat_le size k) refl
-  where
-    at_test : (t : Bool) → nat_le size k ≡ t → t ≡ false
-    at_test true is = absurd (few (leb-true size k is))
-    at_test false is = refl
 
 part_of : (size k : ℕ) → (size ≤ k → ⊥) → (true && nat_le size k && true && true) ≡ false
 part_of size k few = ap (λ (b : Bool). true && b && true && true) (not_held size k few)

@@ -3,6 +3,7 @@ mod After
 mod Half
 mod Agreeing
 mod Writing
+mod Lines
 mod FrameTurning
 mod Counting
 mod Readying

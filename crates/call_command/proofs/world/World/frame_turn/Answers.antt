@@ -43,7 +43,7 @@ returns-in_err-frame g c =
     let x = parts_of m in
     let stop = c.in_err-frame.field-0.0 in
     turn_gave_up m _ old mid c.from_residual.result (video_stop stop) c.from_residual.ensures.1 refl (video_answers m.terms.plain stop) (video_stops stop)
-    (video_cause stop old.faults mid.faults c.in_err-frame.ensures.cause) (reads_keep old mid c.frame.ensures.rest)
+    (video_cause stop old.faults mid.faults (λ is. c.in_err-frame.ensures.cause (ap (λ e. Err e) is))) (reads_keep old mid c.frame.ensures.rest)
     (λ s inputs k told.
     let here = state_of x s.before s.frames s.past in
     let e = gives_so (Err stop) here x.video c.frame.new.self (inputs Video) c.frame.new.out _ refl refl c.requires.ready.format (c.in_err-frame.ensures.gives (inputs Video) (told Video refl)) in

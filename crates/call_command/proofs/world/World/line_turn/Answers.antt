@@ -46,11 +46,11 @@ returns-in_err-line g c =
     let x = parts_of m in
     let stop = c.in_err-line.field-0.0 in
     turn_gave_up m _ old mid c.from_residual.result (trace_stop stop) c.from_residual.ensures.1 refl (trace_answers m.terms.plain c.requires.recorded stop) (trace_halts stop)
-    (trace_cause stop old.faults mid.faults c.in_err-line.ensures.cause) (reads_keep old mid c.next.ensures.rest)
+    (trace_cause stop old.faults mid.faults (λ is. c.in_err-line.ensures.cause (ap (λ e. Err e) is))) (reads_keep old mid c.next.ensures.rest)
     (λ s inputs k told.
     let here = state_of x s.before s.frames s.past in
     line_by_line x s inputs k.is c.requires.recorded (λ (step : Step CallState) (now : Bool). GivesUp (phase (trace_stop stop)) (trace_stop stop) step now inputs old mid)
-    (trace_stops c.of_turns.ensures here inputs old mid told c.next.ensures.others c.next.ensures.rest.written x.carrier.trace c.next.new.self (record { lines_are = refl; ended_is = refl }) stop
+    (trace_stops c.of_turns.ensures here inputs old mid (record { told = told; others = c.next.ensures.others; written = c.next.ensures.rest.written }) x.carrier.trace c.next.new.self (record { lines_are = refl; ended_is = refl }) stop
     (c.in_err-line.ensures.gives (inputs Events) (told Events refl)) c.in_err-line.ensures.moves))
     (λ s stand. stand)
 
@@ -69,7 +69,7 @@ returns-in_err-tell_counts g c =
     let here = state_of x s.before s.frames s.past in
     let e = answered (Ok c.in_ok-line.field-0) (Ok None) x.carrier.trace c.next.new.self (inputs Events) _ (ap (λ (o : Option (ℕ × Line)). Ok o) c.in_default.is) (c.in_ok-line.ensures.gives (inputs Events) (told Events refl)) in
     line_by_line x s inputs k.is c.requires.recorded (λ (step : Step CallState) (now : Bool). GainsFronts (step_texts step) old.written new.written)
-    (trace_cut c.of_turns.ensures here inputs old mid told c.next.ensures.others c.next.ensures.rest.written x.carrier.trace c.next.new.self (record { lines_are = refl; ended_is = refl }) e k.over
+    (trace_cut c.of_turns.ensures here inputs old mid (record { told = told; others = c.next.ensures.others; written = c.next.ensures.rest.written }) x.carrier.trace c.next.new.self (record { lines_are = refl; ended_is = refl }) e k.over
     new c.tell_counts.ensures.rest.left (counts_of x.carrier.network.way.tally x.receiver.played x.sender.sent) (counts_are x (c.of_the_way.ensures x.terms.params) s inputs k) c.in_err-tell_counts.ensures.err))
 
 pub returns-in_default : goal.returns-in_default
@@ -85,13 +85,13 @@ returns-in_default g c =
     let here = state_of x s.before s.frames s.past in
     let e = answered (Ok c.in_ok-line.field-0) (Ok None) x.carrier.trace c.next.new.self (inputs Events) _ (ap (λ (o : Option (ℕ × Line)). Ok o) c.in_default.is) (c.in_ok-line.ensures.gives (inputs Events) (told Events refl)) in
     line_by_line x s inputs k.is c.requires.recorded (λ (step : Step CallState) (now : Bool). Ended step Fine inputs old new)
-    (trace_ends c.of_turns.ensures here inputs old mid told c.next.ensures.others c.next.ensures.rest.written x.carrier.trace c.next.new.self (record { lines_are = refl; ended_is = refl }) e k.over
+    (trace_ends c.of_turns.ensures here inputs old mid (record { told = told; others = c.next.ensures.others; written = c.next.ensures.rest.written }) x.carrier.trace c.next.new.self (record { lines_are = refl; ended_is = refl }) e k.over
     new c.tell_counts.ensures.rest.left (counts_of x.carrier.network.way.tally x.receiver.played x.sender.sent) (counts_are x (c.of_the_way.ensures x.terms.params) s inputs k) c.in_ok-tell_counts.ensures.ok))
     (λ s inputs k told.
     let here = state_of x s.before s.frames s.past in
     let e = answered (Ok c.in_ok-line.field-0) (Ok None) x.carrier.trace c.next.new.self (inputs Events) _ (ap (λ (o : Option (ℕ × Line)). Ok o) c.in_default.is) (c.in_ok-line.ensures.gives (inputs Events) (told Events refl)) in
     subst (λ (b : Bool). new.left (if b then Video else Events) ≡ Some []) (sym c.requires.recorded)
-    (read_out c.of_turns.ensures here inputs old mid told c.next.ensures.others c.next.ensures.rest.written x.carrier.trace c.next.new.self (record { lines_are = refl; ended_is = refl }) e k.over new c.tell_counts.ensures.rest.left))
+    (read_out c.of_turns.ensures here inputs old mid (record { told = told; others = c.next.ensures.others; written = c.next.ensures.rest.written }) x.carrier.trace c.next.new.self (record { lines_are = refl; ended_is = refl }) e k.over new c.tell_counts.ensures.rest.left))
     (λ s stand. stand)
 
 -- ---- a line that was read
