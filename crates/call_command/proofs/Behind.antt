@@ -252,6 +252,10 @@ module _ (x : Parts) (s : CallState) (inputs : Role → List ℕ) (k : StoodBefo
 
 -- ---- what a line's turn is, by what the line says
 
+-- what was asked, by what the line says
+pub asked : (r : Result Unit Told) (event said : Line) (refusal : Event → Option Refusal) → event ≡ said → IsChecked r event refusal → IsChecked r said refusal
+asked r event said refusal is checked = subst (λ (e : Line). IsChecked r e refusal) is checked
+
 -- a line whose event is done
 pub line_goes_on : (x y : World) (line : ℕ) (event said : Line) (mid new : Outside) → event ≡ said → names_of y ≡ names_of x
     → more_of (parts_of y) ≡ more_of (parts_of x) → PartsReady (parts_of y) new.attached → KeepsRoles mid new
@@ -281,8 +285,8 @@ pub asks_frame : (x y : World) (line : ℕ) (event : Line) (r : Result Bool Stat
 asks_frame x y line event r mid new is t none = subst (λ (e : Line). TakesLine x y line e r mid new) (sym is) (record {
   gives = λ old s inputs b.
       subst (λ (step : Step CallState). TurnGives r step (PartsStand (parts_of y)) may_read true inputs old new) (sym (capture_is (parts_of x) s inputs b.stood (none old s inputs b)))
-      (t.gives old s inputs (asked old s inputs b));
-  whole = λ old s inputs b. t.whole old s inputs (asked old s inputs b);
+      (t.gives old s inputs (is_asked old s inputs b));
+  whole = λ old s inputs b. t.whole old s inputs (is_asked old s inputs b);
   keeps = t.keeps;
   lasts = t.lasts;
   falls = t.falls;
@@ -293,5 +297,5 @@ asks_frame x y line event r mid new is t none = subst (λ (e : Line). TakesLine 
   rest = t.rest;
 })
   where
-    asked : (old : Outside) (s : CallState) (inputs : Role → List ℕ) → IsRead (parts_of x) line mid old s inputs → IsAsked (parts_of x) line mid old s inputs
-    asked old s inputs b = record { read = b; none = none old s inputs b }
+    is_asked : (old : Outside) (s : CallState) (inputs : Role → List ℕ) → IsRead (parts_of x) line mid old s inputs → IsAsked (parts_of x) line mid old s inputs
+    is_asked old s inputs b = record { read = b; none = none old s inputs b }

@@ -1,5 +1,5 @@
 -- The parts of a call against the state at which they stand, and the kinds of turns.
-use Rattle.std.proofs.Common.{◌≡◌, ℕ, ◌+◌, ◌≤◌, Bool, true, false, List, [], ◌++◌, Option, Some, Result, Ok, Err, IsErrAnd, IsErrOf, refl, sym, subst, ap, ◌∙◌, arith}
+use Rattle.std.proofs.Common.{◌≡◌, ℕ, ◌+◌, ◌≤◌, Bool, true, false, List, [], ◌++◌, Some, Result, Ok, Err, IsErrAnd, refl, sym, subst, ap, ◌∙◌, arith}
 use Rattle.std.specs.Prelude.{if◌then◌else◌}
 use Rattle.std.proofs.lemmas.List.{append-nil}
 use Rattle.h263_outside.specs.Desk.{Faults, NoneFalls, OnlyReads, OnlyWrites, Outside, Rose}
@@ -7,7 +7,6 @@ use Rattle.h263_outside.specs.declared.desk.Role.{Role}
 use Rattle.h263_outside.specs.declared.desk.Role.TheVariants.{Video, Events}
 use Rattle.y4m.specs.declared.fault.VideoStop.{VideoStop}
 use Rattle.y4m.specs.declared.fault.VideoStop.TheVariants as video
-use Rattle.loss_trace.specs.declared.event.Event.{Event as Line}
 use Rattle.loss_trace.specs.declared.fault.TraceStop.{TraceStop}
 use Rattle.loss_trace.specs.declared.fault.TraceStop.TheVariants as trace
 use Rattle.call_report.specs.declared.status.Status.{Status}
@@ -111,6 +110,9 @@ keeps_then old mid new first keeps = record {
   };
   loans = keeps.loans ∙ first.loans;
 }
+
+pub reads_then_writes : (old mid new : Outside) → OnlyReads old mid → OnlyWrites mid new → KeepsRoles old new
+reads_then_writes old mid new r w = keeps_then old mid new (reads_keep old mid r) (writes_keep mid new w)
 
 pub roles_same : (now : Outside) → KeepsRoles now now
 roles_same now = record {

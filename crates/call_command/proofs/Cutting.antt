@@ -1,5 +1,5 @@
 -- Each turn of the trace takes its line, and so bytes that hold no whole line hold no turn.
-use Rattle.std.proofs.Common.{◌≡◌, ℕ, ◌+◌, ◌≤◌, Bool, true, false, List, [], ◌∷◌, take, Option, Some, None, Result, Ok, Err, refl, arith}
+use Rattle.std.proofs.Common.{ℕ, ◌+◌, ◌≤◌, Bool, true, false, List, [], ◌∷◌, take, Option, Some, None, Result, Ok, Err, refl, arith}
 use Rattle.std.specs.Prelude.{nat_lt, if◌then◌else◌}
 use Rattle.h263_outside.specs.declared.desk.Role.{Role}
 use Rattle.h263_outside.specs.declared.desk.Role.TheVariants.{Video, Events}

@@ -87,8 +87,11 @@ gives_so (Ok false) s reader new rest out left more at format gives = gives
 gives_so (Err (Refused fault)) s reader new rest out left more at format (some, is) = (some, (λ i. next_frame (more i) (sym format i) (at i) rest) ∙ is)
 gives_so (Err Read) s reader new rest out left more at format (k, gone, lost) = (k, gone, subst (λ (f : Format). IsErr (frame_of f s.at (take k rest))) format (subst (λ (a : ℕ). IsErr (frame_of reader.format a (take k rest))) (sym at) lost))
 
-pub given : (r known : Result Bool VideoStop) (reader new : Y4mReader) (rest out : List ℕ) (left : Option (List ℕ)) → r ≡ known → FrameGives r reader rest out new left → FrameGives known reader rest out new left
-given r known reader new rest out left is gives = subst (λ (x : Result Bool VideoStop). FrameGives x reader rest out new left) is gives
+-- the same where its answer is known
+pub given_so : (r known : Result Bool VideoStop) (s : CallState) (reader new : Y4mReader) (rest out : List ℕ) (left : Option (List ℕ)) → r ≡ known
+    → s.more ≡ reader.more → s.at ≡ reader.at → reader.format ≡ s.params.format → FrameGives r reader rest out new left → Gives known s rest out new left
+given_so r known s reader new rest out left is more at format gives =
+    gives_so known s reader new rest out left more at format (subst (λ (x : Result Bool VideoStop). FrameGives x reader rest out new left) is gives)
 
 -- ---- what gives up
 

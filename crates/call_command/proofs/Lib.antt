@@ -11,6 +11,7 @@ mod Starting
 mod Cutting
 mod LineTurning
 mod Behind
+mod Delivering
 mod LineRead
 mod Capturing
 mod Framing

@@ -18,7 +18,7 @@ use Rattle.desk_program.specs.Ends.{EndsBy, Gains, IsPart, Tells, holds}
 use Rattle.desk_program.specs.Texts.{and_of, no_bytes, no_texts, of}
 use Rattle.desk_program.specs.Laws.{TurnLaws}
 use Rattle.call_command.specs.Call.{bad_line, line_size, refused_line}
-use Rattle.call_command.specs.Laws.{IsPlayedOut, TakesTheLine}
+use Rattle.call_command.specs.Laws.{IsPlayedOut, TakesTheLine, frame_turn}
 use Rattle.call_command.specs.Standing.{HasTaken, ReadsTrace}
 
 -- ---- the bytes of a line
@@ -109,10 +109,9 @@ abbrev pub with_frame_bytes : List ℕ → ℕ → Role → ℕ
 with_frame_bytes trace n = and_of (of Events (line_size trace)) (of Video n)
 
 pub frame_held : (trace : List ℕ) (size k : ℕ) → (size ≤ k → ⊥)
-    → holds (record { taken = with_frame_bytes trace size; whole = is_closed trace; texts = no_texts }) (with_frame_bytes trace k) ≡ false
+    → holds (frame_turn trace size) (with_frame_bytes trace k) ≡ false
 frame_held trace size k few =
-    no_frame_held (record { taken = with_frame_bytes trace size; whole = is_closed trace; texts = no_texts }) (with_frame_bytes trace k)
-    (λ (whole : 0 + size ≤ 0 + k). few (omega (arith, whole)))
+    no_frame_held (frame_turn trace size) (with_frame_bytes trace k) (λ (whole : 0 + size ≤ 0 + k). few (omega (arith, whole)))
 
 -- ---- a line that is refused: it is taken, and nothing of the video
 

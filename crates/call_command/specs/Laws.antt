@@ -45,6 +45,15 @@ abbrev pub TakesTheLine : List ℕ → List Turn → Type 0
 TakesTheLine trace [] = Unit {0}
 TakesTheLine trace (turn ∷ turns) = (turn.whole ≡ is_closed trace) × (line_size trace ≤ turn.taken Events)
 
+-- the turn of a line whose frame is sent
+abbrev pub frame_turn : List ℕ → ℕ → Turn
+frame_turn trace size =
+    record {
+      taken = and_of (of Events (line_size trace)) (of Video size);
+      whole = is_closed trace;
+      texts = no_texts;
+    }
+
 -- the trace is read out: with this text the call ends
 pub record IsPlayedOut (inputs : Role → List ℕ) (old mid new : Outside) : Type 0 where
   pub nothing : inputs Events ≡ []
@@ -60,8 +69,7 @@ pub record LineLaws : Type 0 where
   pub line_part : (trace : List ℕ) (k : ℕ) (turns : List Turn) → NoNewline (take k trace)
       → TakesTheLine trace turns → IsPart turns (of Events k)
   pub frame_part : (trace : List ℕ) (size k : ℕ) → (size ≤ k → ⊥)
-      → holds (record { taken = and_of (of Events (line_size trace)) (of Video size); whole = is_closed trace; texts = no_texts })
-      (and_of (of Events (line_size trace)) (of Video k)) ≡ false
+      → holds (frame_turn trace size) (and_of (of Events (line_size trace)) (of Video k)) ≡ false
   -- this many bytes of the trace were read, or its first line
   pub some : (inputs : Role → List ℕ) (old mid : Outside) (k : ℕ) → ReadsTrace inputs old mid
       → mid.left Events ≡ Some (drop k (inputs Events)) → Tells mid (behind inputs (of Events k))
@@ -85,9 +93,12 @@ pub record StepLaws : Type 0 where
   pub both : (old mid new : Outside) → KeepsRoles old mid → KeepsRoles mid new → KeepsRoles old new
   pub none : (now : Outside) → KeepsRoles now now
   -- a cause since a step is one since before it
-  pub since : (status : Status) (old mid new : Faults) → NoneFalls old mid → HasCause status mid new → HasCause status old new
+  pub since : (status : Status) (old mid new : Faults) → NoneFalls old mid
+      → HasCause status mid new → HasCause status old new
   -- a stop by the reader of the video, or of the trace: its cause is a read that failed
   pub video_stops : (stop : VideoStop) → IsStop (video_stop stop)
-  pub video_cause : (stop : VideoStop) (old new : Faults) → (stop ≡ video.Read → Rose old.read new.read) → HasCause (video_stop stop) old new
+  pub video_cause : (stop : VideoStop) (old new : Faults) → (stop ≡ video.Read → Rose old.read new.read)
+      → HasCause (video_stop stop) old new
   pub trace_stops : (stop : TraceStop) → IsStop (trace_stop stop)
-  pub trace_cause : (stop : TraceStop) (old new : Faults) → (stop ≡ trace.Read → Rose old.read new.read) → HasCause (trace_stop stop) old new
+  pub trace_cause : (stop : TraceStop) (old new : Faults) → (stop ≡ trace.Read → Rose old.read new.read)
+      → HasCause (trace_stop stop) old new
