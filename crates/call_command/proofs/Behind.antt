@@ -44,7 +44,8 @@ use Rattle.call_command.specs.Standing.{HasDone, HasTaken, Parts, PartsReady, Pa
 use Rattle.call_command.specs.Turning.{IsAsked, IsChecked, IsRead, TakesFrame, TakesLine, names_of}
 use Rattle.call_command.proofs.After.{longer, push_then}
 use Rattle.call_command.proofs.Counting.{done_now, goes_on, was_cut}
-use Rattle.call_command.proofs.LineTurning.{double_not, line_goes, line_refused, nothing_behind}
+use Rattle.call_command.proofs.LineTurning.{line_goes, line_refused}
+use Rattle.call_command.proofs.Lines.{nothing_behind}
 
 -- ---- a line that was read
 
@@ -103,7 +104,7 @@ module _ (x : Parts) (s : CallState) (inputs : Role → List ℕ) (k : StoodBefo
         → Ended (unless s trace e (refusal_at by_ends s e) step) (TraceRefused fault) inputs before mid
     event_refused e step refused =
         let told_so = refused.2 in
-        line_refused laws s inputs before mid taken (TraceRefused fault) (fault_of (s.lines + 1) e refused.0) _
+        line_refused s inputs before mid taken laws (TraceRefused fault) (fault_of (s.lines + 1) e refused.0) _
         (ap (λ (f : TraceFault). TraceRefused f) fault_is ∙ (λ i. TraceRefused (fault_at (number i) (told_so i))))
         (ap (λ (o : Option Refusal). unless s trace e o step) (refusal_here e ∙ refused.1))
 
@@ -177,7 +178,7 @@ module _ (x : Parts) (s : CallState) (inputs : Role → List ℕ) (k : StoodBefo
         → ((later : List Frame) → HasDone y s.before (s.frames ++ later) events)
         → Went (event_step by_ends s inputs trace event) (PartsStand y) may_read true inputs before mid
     event_goes laws before mid taken event events is holds =
-        line_goes laws s inputs before mid taken (record s { past = events }) _ (PartsStand y) is (stands_event events holds)
+        line_goes s inputs before mid taken (record s { past = events }) no_texts _ (PartsStand y) is (stands_event events holds) mid refl (laws.no_text mid.written mid.written refl)
 
   -- ---- all packets of a picture
 
@@ -241,16 +242,8 @@ module _ (x : Parts) (s : CallState) (inputs : Role → List ℕ) (k : StoodBefo
 
     pub play_goes : (stands : CallState → (Role → List ℕ) → Type 0) → stands (after_line (with_play s) trace) (behind inputs taken_line)
         → Gains (texts_at p x.receiver.played) old.written new.written → Went (event_step by_ends s inputs trace says.Play) stands may_read true inputs before new
-    play_goes stands kept gains = record {
-      next = after_line (with_play s) trace;
-      turn = line_turn trace shown;
-      could = refl;
-      is = play_is;
-      kept = kept;
-      whole = sym (double_not (is_closed trace));
-      left = λ r input. ap (λ (l : Role → Option (List ℕ)). l r) still ∙ taken.left r input;
-      written = subst (λ (w : Role → Option (List ℕ)). Gains shown w new.written) taken.written (subst (λ (t : Role → List ℕ). Gains t old.written new.written) (texts_are laws) gains);
-    }
+    play_goes stands kept gains =
+        line_goes s inputs before old taken (with_play s) shown _ stands play_is kept new still (subst (λ (t : Role → List ℕ). Gains t old.written new.written) (texts_are laws) gains)
 
     pub play_cut : GainsFronts (texts_at p x.receiver.played) old.written new.written → GainsFronts (step_texts (event_step by_ends s inputs trace says.Play)) before.written new.written
     play_cut gains =
@@ -258,6 +251,10 @@ module _ (x : Parts) (s : CallState) (inputs : Role → List ℕ) (k : StoodBefo
         (subst (λ (w : Role → Option (List ℕ)). GainsFronts shown w new.written) taken.written (subst (λ (t : Role → List ℕ). GainsFronts t old.written new.written) (texts_are laws) gains))
 
 -- ---- what a line's turn is, by what the line says
+
+-- what was asked, by what the line says
+pub asked : (r : Result Unit Told) (event said : Line) (refusal : Event → Option Refusal) → event ≡ said → IsChecked r event refusal → IsChecked r said refusal
+asked r event said refusal is checked = subst (λ (e : Line). IsChecked r e refusal) is checked
 
 -- a line whose event is done
 pub line_goes_on : (x y : World) (line : ℕ) (event said : Line) (mid new : Outside) → event ≡ said → names_of y ≡ names_of x
@@ -288,8 +285,8 @@ pub asks_frame : (x y : World) (line : ℕ) (event : Line) (r : Result Bool Stat
 asks_frame x y line event r mid new is t none = subst (λ (e : Line). TakesLine x y line e r mid new) (sym is) (record {
   gives = λ old s inputs b.
       subst (λ (step : Step CallState). TurnGives r step (PartsStand (parts_of y)) may_read true inputs old new) (sym (capture_is (parts_of x) s inputs b.stood (none old s inputs b)))
-      (t.gives old s inputs (asked old s inputs b));
-  whole = λ old s inputs b. t.whole old s inputs (asked old s inputs b);
+      (t.gives old s inputs (is_asked old s inputs b));
+  whole = λ old s inputs b. t.whole old s inputs (is_asked old s inputs b);
   keeps = t.keeps;
   lasts = t.lasts;
   falls = t.falls;
@@ -300,5 +297,5 @@ asks_frame x y line event r mid new is t none = subst (λ (e : Line). TakesLine 
   rest = t.rest;
 })
   where
-    asked : (old : Outside) (s : CallState) (inputs : Role → List ℕ) → IsRead (parts_of x) line mid old s inputs → IsAsked (parts_of x) line mid old s inputs
-    asked old s inputs b = record { read = b; none = none old s inputs b }
+    is_asked : (old : Outside) (s : CallState) (inputs : Role → List ℕ) → IsRead (parts_of x) line mid old s inputs → IsAsked (parts_of x) line mid old s inputs
+    is_asked old s inputs b = record { read = b; none = none old s inputs b }

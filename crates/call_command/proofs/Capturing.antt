@@ -1,9 +1,8 @@
 -- What a line `S` makes of the frame that is read for it.
-use Rattle.std.proofs.Common.{◌≡◌, ◌≢◌, ℕ, ◌+◌, ◌-◌, ◌<◌, ◌≤◌, Bool, true, false, List, [], ◌∷◌, length, take, drop, Some, Result, Ok, Err, IsErr, refl, sym, ap, subst, ◌∙◌, arith}
-use Rattle.std.specs.Prelude.{◌&&◌, nat_le}
+use Rattle.std.proofs.Common.{◌≡◌, ◌≢◌, ℕ, ◌+◌, ◌-◌, ◌<◌, true, false, List, [], ◌∷◌, length, take, drop, Some, Result, Ok, Err, IsErr, refl, sym, ap, subst, ◌∙◌, arith}
 use Rattle.h263_outside.specs.Desk.{Outside}
 use Rattle.h263_outside.specs.declared.desk.Role.{Role}
-use Rattle.h263_outside.specs.declared.desk.Role.TheVariants.{Video, Events, Video2}
+use Rattle.h263_outside.specs.declared.desk.Role.TheVariants.{Video, Events}
 use Rattle.h263_planes.specs.Layout.{picture_of}
 use Rattle.y4m.specs.declared.fault.Y4mFault.{Y4mFault}
 use Rattle.y4m.specs.declared.fault.VideoStop.{VideoStop}
@@ -14,42 +13,28 @@ use Rattle.loss_trace.specs.declared.fault.TraceFault.TheVariants.{NoFrame}
 use Rattle.loss_trace.specs.Lines.{is_closed}
 use Rattle.call_report.specs.declared.status.Status.TheVariants.{TraceRefused, VideoRefused}
 use Rattle.call_report.specs.Status.{phase, video_stop}
-use Rattle.desk_program.specs.Run.{Step, Turn, behind, refusal}
-use Rattle.desk_program.specs.Ends.{Tells, holds, IsPart, Went, Ended, EndsBy, GivesUp, step_turns}
-use Rattle.desk_program.specs.Texts.{no_texts, of, and_of}
+use Rattle.desk_program.specs.Run.{Step, behind, refusal}
+use Rattle.desk_program.specs.Ends.{Tells, IsPart, Went, Ended, EndsBy, GivesUp, step_turns}
+use Rattle.desk_program.specs.Texts.{no_texts, of}
 use Rattle.desk_program.specs.Laws.{TurnLaws}
 use Rattle.one_way.specs.Both.{bare}
 use Rattle.call_command.specs.Call.{CallState, after_line, capture_step, captured_step, line_size, may_read, refused_line, with_frame}
 use Rattle.call_command.specs.Laws.{VideoLaws}
 use Rattle.call_command.specs.Standing.{HasTaken}
-use Rattle.call_command.proofs.Cutting.{and_false}
-use Rattle.call_command.proofs.LineTurning.{double_not}
-use Rattle.call_command.proofs.FrameTurning.{Gives, next_is, not_an_err, not_held}
+use Rattle.call_command.proofs.FrameTurning.{Gives, next_is, not_an_err}
+use Rattle.call_command.proofs.Lines.{double_not, frame_held, refused_by, with_frame_bytes}
 
 -- ---- a part of a frame holds no turn
 
--- the bytes of the line, and this many of its frame
-abbrev some_of : List ℕ → ℕ → Role → ℕ
-some_of trace n = and_of (of Events (line_size trace)) (of Video n)
-
-no_frame_held : (t : Turn) (k : Role → ℕ) → (t.taken Video ≤ k Video → ⊥) → holds t k ≡ false
-no_frame_held t k few =
-    ap (λ (b : Bool). t.whole && b && nat_le (t.taken Events) (k Events) && nat_le (t.taken Video2) (k Video2)) (not_held (t.taken Video) (k Video) few)
-    ∙ ap (λ (b : Bool). b && nat_le (t.taken Events) (k Events) && nat_le (t.taken Video2) (k Video2)) (and_false t.whole)
-
-frame_held : (trace : List ℕ) (size n : ℕ) → (size ≤ n → ⊥) → holds (record { taken = some_of trace size; whole = is_closed trace; texts = no_texts }) (some_of trace n) ≡ false
-frame_held trace size n few =
-    no_frame_held (record { taken = some_of trace size; whole = is_closed trace; texts = no_texts }) (some_of trace n) (λ (whole : 0 + size ≤ 0 + n). few (omega (arith, whole)))
-
 frame_part : VideoLaws → (s : CallState) (trace video : List ℕ) (n : ℕ) (r : Result (List ℕ) Y4mFault) → next_frame s.more s.params.format s.at video ≡ r
-    → IsErr (frame_of s.params.format s.at (take n video)) → IsPart (step_turns (captured_step s trace (frame_size s.params.format video) r)) (some_of trace n)
+    → IsErr (frame_of s.params.format s.at (take n video)) → IsPart (step_turns (captured_step s trace (frame_size s.params.format video) r)) (with_frame_bytes trace n)
 frame_part laws s trace video n (Ok frame) is lost =
     frame_held trace (frame_size s.params.format video) n
     (λ whole. not_an_err _ frame (laws.frame s.params.format s.at n video frame (next_is s.more s.params.format s.at video frame is) whole).0 lost)
 frame_part laws s trace video n (Err fault) is lost = tt
 
 video_part : VideoLaws → (s : CallState) (trace video : List ℕ) (n : ℕ) → IsErr (frame_of s.params.format s.at (take n video))
-    → IsPart (step_turns (capture_step s trace video)) (some_of trace n)
+    → IsPart (step_turns (capture_step s trace video)) (with_frame_bytes trace n)
 video_part laws s trace [] n lost = tt
 video_part laws s trace (b ∷ rest) n lost = frame_part laws s trace (b ∷ rest) n (next_frame s.more s.params.format s.at (b ∷ rest)) refl lost
 
@@ -69,7 +54,7 @@ module _ (turns : TurnLaws) (laws : VideoLaws) (s : CallState) (inputs : Role �
   abbrev step : Step CallState
   step = capture_step s trace (inputs Video)
 
-  video_told : (k : ℕ) → mid.left Video ≡ Some (drop k (inputs Video)) → Tells mid (behind inputs (some_of trace k))
+  video_told : (k : ℕ) → mid.left Video ≡ Some (drop k (inputs Video)) → Tells mid (behind inputs (with_frame_bytes trace k))
   video_told k gone =
       turns.both_reads (of Events (line_size trace)) (of Video k) mid inputs
       (turns.one_read Video k old mid (behind inputs (of Events (line_size trace))) taken.left gone others)
@@ -77,7 +62,7 @@ module _ (turns : TurnLaws) (laws : VideoLaws) (s : CallState) (inputs : Role �
   pub frame_stops : (stop : VideoStop) → Gives (Err stop) s (inputs Video) out reader (mid.left Video)
       → GivesUp (phase (video_stop stop)) (video_stop stop) step true inputs before mid
   frame_stops Read e = record {
-    part = some_of trace e.0;
+    part = with_frame_bytes trace e.0;
     partly = video_part laws s trace (inputs Video) e.0 e.2;
     could = refl;
     left = video_told e.0 e.1;
@@ -97,8 +82,10 @@ module _ (turns : TurnLaws) (laws : VideoLaws) (s : CallState) (inputs : Role �
     last = refused_line trace (NoFrame (s.lines + 1));
     is = ap (capture_step s trace) e.0;
     by = subst (λ (n : ℕ). EndsBy (refused_line trace (NoFrame (s.lines + 1))) (TraceRefused (NoFrame n)) inputs before mid) (sym is)
-        (turns.ends (TraceRefused (NoFrame (s.lines + 1))) (of Events (line_size trace)) no_texts inputs before mid
-        (turns.none_read Video old mid (behind inputs (of Events (line_size trace))) taken.left e.0 e.1 others) (turns.no_text before.written mid.written (same ∙ taken.written)));
+        (refused_by turns (NoFrame (s.lines + 1)) inputs before mid (record {
+          left = turns.none_read Video old mid (behind inputs (of Events (line_size trace))) taken.left e.0 e.1 others;
+          written = same ∙ taken.written;
+        }));
   }
 
   -- the frame is sent
@@ -109,11 +96,11 @@ module _ (turns : TurnLaws) (laws : VideoLaws) (s : CallState) (inputs : Role �
     abbrev sent : CallState
     sent = record (after_line (with_frame s (bare (picture_of s.params.format out))) trace) { at = s.at + size; more = s.more - 1 }
 
-    pub frame_sent : (stands : CallState → (Role → List ℕ) → Type 0) → stands sent (behind inputs (some_of trace size))
+    pub frame_sent : (stands : CallState → (Role → List ℕ) → Type 0) → stands sent (behind inputs (with_frame_bytes trace size))
         → Went step stands may_read true inputs before mid
     frame_sent stands kept = record {
       next = sent;
-      turn = record { taken = some_of trace size; whole = is_closed trace; texts = no_texts };
+      turn = record { taken = with_frame_bytes trace size; whole = is_closed trace; texts = no_texts };
       could = refl;
       is = video_next s trace (inputs Video) (Ok out) e.0 e.1;
       kept = kept;

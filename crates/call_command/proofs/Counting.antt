@@ -1,5 +1,5 @@
 -- The parts of a call against the state at which they stand, and the kinds of turns.
-use Rattle.std.proofs.Common.{◌≡◌, ℕ, ◌+◌, ◌≤◌, Bool, true, false, List, [], ◌++◌, Option, Some, Result, Ok, Err, IsErrAnd, IsErrOf, refl, sym, subst, ap, ◌∙◌, arith}
+use Rattle.std.proofs.Common.{◌≡◌, ℕ, ◌+◌, ◌≤◌, Bool, true, false, List, [], ◌++◌, Some, Result, Ok, Err, IsErrAnd, refl, sym, subst, ap, ◌∙◌, arith}
 use Rattle.std.specs.Prelude.{if◌then◌else◌}
 use Rattle.std.proofs.lemmas.List.{append-nil}
 use Rattle.h263_outside.specs.Desk.{Faults, NoneFalls, OnlyReads, OnlyWrites, Outside, Rose}
@@ -7,7 +7,6 @@ use Rattle.h263_outside.specs.declared.desk.Role.{Role}
 use Rattle.h263_outside.specs.declared.desk.Role.TheVariants.{Video, Events}
 use Rattle.y4m.specs.declared.fault.VideoStop.{VideoStop}
 use Rattle.y4m.specs.declared.fault.VideoStop.TheVariants as video
-use Rattle.loss_trace.specs.declared.event.Event.{Event as Line}
 use Rattle.loss_trace.specs.declared.fault.TraceStop.{TraceStop}
 use Rattle.loss_trace.specs.declared.fault.TraceStop.TheVariants as trace
 use Rattle.call_report.specs.declared.status.Status.{Status}
@@ -93,18 +92,6 @@ cause_since status old mid new still rose cause = by_phase (phase status) cause
     by_phase starved cause = tt
     by_phase unasked cause = tt
 
-pub keeps_since : (old mid new : Outside) → mid.attached ≡ old.attached → mid.name ≡ old.name → NoneFalls old.faults mid.faults → mid.loans ≡ old.loans → KeepsRoles mid new → KeepsRoles old new
-keeps_since old mid new attached name still loans keeps = record {
-  attached = keeps.attached ∙ attached;
-  name = keeps.name ∙ name;
-  faults = record {
-    attach = omega (arith, still.attach, keeps.faults.attach);
-    read = omega (arith, still.read, keeps.faults.read);
-    write = omega (arith, still.write, keeps.faults.write);
-  };
-  loans = keeps.loans ∙ loans;
-}
-
 -- after reads, and after writes
 pub reads_keep : (old new : Outside) → OnlyReads old new → KeepsRoles old new
 reads_keep old new r = record { attached = r.attached; name = r.name; faults = r.faults; loans = r.loans }
@@ -113,7 +100,19 @@ pub writes_keep : (old new : Outside) → OnlyWrites old new → KeepsRoles old 
 writes_keep old new r = record { attached = r.attached; name = r.name; faults = r.faults; loans = r.loans }
 
 pub keeps_then : (old mid new : Outside) → KeepsRoles old mid → KeepsRoles mid new → KeepsRoles old new
-keeps_then old mid new first keeps = keeps_since old mid new first.attached first.name first.faults first.loans keeps
+keeps_then old mid new first keeps = record {
+  attached = keeps.attached ∙ first.attached;
+  name = keeps.name ∙ first.name;
+  faults = record {
+    attach = omega (arith, first.faults.attach, keeps.faults.attach);
+    read = omega (arith, first.faults.read, keeps.faults.read);
+    write = omega (arith, first.faults.write, keeps.faults.write);
+  };
+  loans = keeps.loans ∙ first.loans;
+}
+
+pub reads_then_writes : (old mid new : Outside) → OnlyReads old mid → OnlyWrites mid new → KeepsRoles old new
+reads_then_writes old mid new r w = keeps_then old mid new (reads_keep old mid r) (writes_keep mid new w)
 
 pub roles_same : (now : Outside) → KeepsRoles now now
 roles_same now = record {
@@ -129,7 +128,7 @@ pub video_stops : (stop : VideoStop) → IsStop (video_stop stop)
 video_stops video.Read = tt
 video_stops (video.Refused fault) = tt
 
-pub video_cause : (stop : VideoStop) (old new : Faults) → (IsErrOf {T = Bool} {E = VideoStop} (Err stop) video.Read → Rose old.read new.read) → HasCause (video_stop stop) old new
+pub video_cause : (stop : VideoStop) (old new : Faults) → (stop ≡ video.Read → Rose old.read new.read) → HasCause (video_stop stop) old new
 video_cause video.Read old new rose = rose refl
 video_cause (video.Refused fault) old new rose = tt
 
@@ -147,7 +146,7 @@ trace_halts trace.Read = tt
 trace_halts (trace.Bad line) = tt
 trace_halts (trace.TooMany line) = tt
 
-pub trace_cause : (stop : TraceStop) (old new : Faults) → (IsErrOf {T = Option (ℕ × Line)} {E = TraceStop} (Err stop) trace.Read → Rose old.read new.read) → HasCause (trace_stop stop) old new
+pub trace_cause : (stop : TraceStop) (old new : Faults) → (stop ≡ trace.Read → Rose old.read new.read) → HasCause (trace_stop stop) old new
 trace_cause trace.Read old new rose = rose refl
 trace_cause (trace.Bad line) old new rose = tt
 trace_cause (trace.TooMany line) old new rose = tt

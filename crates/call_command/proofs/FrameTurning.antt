@@ -4,7 +4,6 @@ use Rattle.std.specs.Prelude.{◌&&◌, nat_le}
 use Rattle.std.specs.declared.vec.Vec.{Vec}
 use Rattle.std.specs.Vec.{with_items}
 use Rattle.std.proofs.lemmas.List.{with_items_is}
-use Rattle.std.proofs.lemmas.Bool.{leb-true}
 use Rattle.h263_outside.specs.Desk.{Outside}
 use Rattle.h263_outside.specs.declared.desk.Role.{Role}
 use Rattle.h263_outside.specs.declared.desk.Role.TheVariants.{Video, Pictures, Report}
@@ -29,15 +28,9 @@ use Rattle.call_command.specs.declared.terms.Terms.{Terms}
 use Rattle.call_command.specs.Call.{CallState, all_played, by_ends, call_begin, first_state, frame_step, head_step, may_read, play_texts, video_step, with_format, with_picture}
 use Rattle.one_way.specs.Counts.{call_text}
 use Rattle.call_command.specs.Laws.{VideoLaws}
+use Rattle.call_command.proofs.Lines.{not_held}
 
 -- ---- what was taken holds no whole head or frame
-
-pub not_held : (size k : ℕ) → (size ≤ k → ⊥) → nat_le size k ≡ false
-not_held size k few = at_test (nat_le size k) refl
-  where
-    at_test : (t : Bool) → nat_le size k ≡ t → t ≡ false
-    at_test true is = absurd (few (leb-true size k is))
-    at_test false is = refl
 
 part_of : (size k : ℕ) → (size ≤ k → ⊥) → (true && nat_le size k && true && true) ≡ false
 part_of size k few = ap (λ (b : Bool). true && b && true && true) (not_held size k few)
@@ -94,8 +87,11 @@ gives_so (Ok false) s reader new rest out left more at format gives = gives
 gives_so (Err (Refused fault)) s reader new rest out left more at format (some, is) = (some, (λ i. next_frame (more i) (sym format i) (at i) rest) ∙ is)
 gives_so (Err Read) s reader new rest out left more at format (k, gone, lost) = (k, gone, subst (λ (f : Format). IsErr (frame_of f s.at (take k rest))) format (subst (λ (a : ℕ). IsErr (frame_of reader.format a (take k rest))) (sym at) lost))
 
-pub given : (r known : Result Bool VideoStop) (reader new : Y4mReader) (rest out : List ℕ) (left : Option (List ℕ)) → r ≡ known → FrameGives r reader rest out new left → FrameGives known reader rest out new left
-given r known reader new rest out left is gives = subst (λ (x : Result Bool VideoStop). FrameGives x reader rest out new left) is gives
+-- the same where its answer is known
+pub given_so : (r known : Result Bool VideoStop) (s : CallState) (reader new : Y4mReader) (rest out : List ℕ) (left : Option (List ℕ)) → r ≡ known
+    → s.more ≡ reader.more → s.at ≡ reader.at → reader.format ≡ s.params.format → FrameGives r reader rest out new left → Gives known s rest out new left
+given_so r known s reader new rest out left is more at format gives =
+    gives_so known s reader new rest out left more at format (subst (λ (x : Result Bool VideoStop). FrameGives x reader rest out new left) is gives)
 
 -- ---- what gives up
 

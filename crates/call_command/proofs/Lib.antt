@@ -3,6 +3,7 @@ mod After
 mod Half
 mod Agreeing
 mod Writing
+mod Lines
 mod FrameTurning
 mod Counting
 mod Readying
@@ -10,6 +11,7 @@ mod Starting
 mod Cutting
 mod LineTurning
 mod Behind
+mod Delivering
 mod LineRead
 mod Capturing
 mod Framing

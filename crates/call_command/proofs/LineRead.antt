@@ -14,7 +14,7 @@ use Rattle.desk_program.specs.Ends.{Falls, Tells, TurnGives}
 use Rattle.desk_program.specs.Laws.{TurnLaws}
 use Rattle.call_command.specs.declared.world.World.{World}
 use Rattle.call_command.specs.Call.{CallState, by_ends, event_step, may_read, talk_step}
-use Rattle.call_command.specs.Standing.{HasRoom, Parts, PartsReady, PartsStand, more_of, parts_of, state_of}
+use Rattle.call_command.specs.Standing.{HasRoom, Parts, PartsReady, PartsStand, ReadsTrace, more_of, parts_of, state_of}
 use Rattle.call_command.specs.Turning.{IsRead, TakesLine, TakesTurn}
 use Rattle.call_command.proofs.Behind.{stood_behind}
 use Rattle.call_command.proofs.Counting.{cause_since, keeps_then, line_by_line, reads_keep}
@@ -62,6 +62,9 @@ module _ {m : World} {after : TraceReader} {line : ℕ} {event : Line} {old mid 
       ready_so x old.attached mid.attached ready w.rest.attached x.video x.sender x.receiver (record x.carrier { trace = after })
       refl refl ready.can refl ready.sent ready.played ready.level ready.frame (λ plain. absurd (cc (plain, w.recorded))) ready.counted (omega (arith, ready.said, w.moves.2))
 
+  only : {inputs : Role → List ℕ} → Tells old inputs → ReadsTrace inputs old mid
+  only told = record { told = told; others = w.others; written = w.rest.written }
+
   was_read : (s : CallState) (inputs : Role → List ℕ) → PartsStand x s inputs → Tells old inputs
       → IsRead (parts_of (read_on m after)) line mid old (state_of x s.before s.frames s.past) inputs
   was_read s inputs k told =
@@ -69,8 +72,8 @@ module _ {m : World} {after : TraceReader} {line : ℕ} {event : Line} {old mid 
       let e = w.gives (inputs Events) (told Events refl) in
       record {
         stood = stood_behind x s inputs k w.recorded after _ w.moves.2 e.0;
-        number = found_number w.laws here inputs old mid told w.others w.rest.written m.carrier.trace after (record { lines_are = refl; ended_is = refl }) (line, event) e w.moves after.few;
-        taken = found_taken w.laws here inputs old mid told w.others w.rest.written m.carrier.trace after (record { lines_are = refl; ended_is = refl }) (line, event) e w.moves after.few;
+        number = found_number w.laws here inputs old mid (only told) m.carrier.trace after (record { lines_are = refl; ended_is = refl }) (line, event) e w.moves after.few;
+        taken = found_taken w.laws here inputs old mid (only told) m.carrier.trace after (record { lines_are = refl; ended_is = refl }) (line, event) e w.moves after.few;
       }
 
   -- what the line makes of the world and the desk, the turn makes of them
@@ -81,8 +84,8 @@ module _ {m : World} {after : TraceReader} {line : ℕ} {event : Line} {old mid 
         let here = state_of x s.before s.frames s.past in
         let stands = PartsStand (parts_of y) in
         let e = w.gives (inputs Events) (b.told Events refl) in
-        let step_is = found_is w.laws here inputs old mid b.told w.others w.rest.written m.carrier.trace after (record { lines_are = refl; ended_is = refl }) (line, event) e w.moves after.few in
-        let could = found_could w.laws here inputs old mid b.told w.others w.rest.written m.carrier.trace after (record { lines_are = refl; ended_is = refl }) (line, event) e w.moves after.few in
+        let step_is = found_is w.laws here inputs old mid (only b.told) m.carrier.trace after (record { lines_are = refl; ended_is = refl }) (line, event) e w.moves after.few in
+        let could = found_could w.laws here inputs old mid (only b.told) m.carrier.trace after (record { lines_are = refl; ended_is = refl }) (line, event) e w.moves after.few in
         subst (λ (q : Outside). TurnGives result (talk_step s inputs) stands may_read (may_read s) inputs q new) (sym b.same)
         (line_by_line x s inputs b.stands.is w.recorded (λ (step : Step CallState) (now : Bool). TurnGives result step stands may_read now inputs old new)
         (subst (λ (step : Step CallState). TurnGives result step stands may_read (may_read here) inputs old new) (sym step_is)

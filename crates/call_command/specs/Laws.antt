@@ -1,12 +1,28 @@
--- What holds of a call by both ends, and of a video.
-use Rattle.std.specs.Prelude.{◌≡◌, ℕ, ◌≤◌, List, [], take, Ok}
+-- What holds of a call by both ends, of a video, and of the turns of lines.
+use Rattle.std.specs.Prelude.{◌≡◌, ℕ, ◌≤◌, true, false, List, [], ◌∷◌, take, drop, Some, Ok}
+use Rattle.h263_outside.specs.Desk.{Faults, NoneFalls, OnlyReads, OnlyWrites, Outside, Rose}
 use Rattle.h263_outside.specs.declared.desk.Role.{Role}
+use Rattle.h263_outside.specs.declared.desk.Role.TheVariants.{Events, Video}
 use Rattle.h263_types.specs.declared.format.Format.{Format}
 use Rattle.y4m.specs.Head.{head_of, head_size}
 use Rattle.y4m.specs.Frame.{frame_of, frame_size}
-use Rattle.desk_program.specs.Run.{run_of}
+use Rattle.y4m.specs.declared.fault.VideoStop.{VideoStop}
+use Rattle.y4m.specs.declared.fault.VideoStop.TheVariants as video
+use Rattle.loss_trace.specs.Lines.{NoNewline, behind_line, is_closed}
+use Rattle.loss_trace.specs.Reader.{IsOver}
+use Rattle.loss_trace.specs.declared.fault.TraceFault.{TraceFault}
+use Rattle.loss_trace.specs.declared.fault.TraceStop.{TraceStop}
+use Rattle.loss_trace.specs.declared.fault.TraceStop.TheVariants as trace
+use Rattle.loss_trace.specs.declared.reader.TraceReader.{TraceReader}
+use Rattle.call_report.specs.Status.{trace_stop, video_stop}
+use Rattle.call_report.specs.declared.status.Status.{Status}
+use Rattle.call_report.specs.declared.status.Status.TheVariants.{Ok as Fine, TraceRefused}
+use Rattle.desk_program.specs.Ends.{EndsBy, Gains, HasCause, IsPart, IsStop, KeepsRoles, Tells, holds}
+use Rattle.desk_program.specs.Run.{Turn, behind, run_of}
+use Rattle.desk_program.specs.Texts.{and_of, no_texts, of}
 use Rattle.call_command.specs.declared.terms.Terms.{Terms}
-use Rattle.call_command.specs.Call.{call_step, first_state, talk_step}
+use Rattle.call_command.specs.Call.{bad_line, call_step, first_state, line_size, refused_line, talk_step}
+use Rattle.call_command.specs.Standing.{HasTaken, ReadsTrace}
 
 -- from the first state on, with a receiver that had heard nothing, the call by both ends is the ideal
 -- call: the same turns, and the same end
@@ -21,3 +37,68 @@ pub record VideoLaws : Type 0 where
       → (head_of (take k video) ≡ Ok f) × (head_size (take k video) ≡ head_size video)
   pub frame : (f : Format) (at k : ℕ) (rest planes : List ℕ) → frame_of f at rest ≡ Ok planes → frame_size f rest ≤ k
       → (frame_of f at (take k rest) ≡ Ok planes) × (frame_size f (take k rest) ≡ frame_size f rest)
+
+-- ---- the turns of lines, whatever a machine keeps in mind
+
+-- the turn takes the first line, which shows by its newline where it ends
+abbrev pub TakesTheLine : List ℕ → List Turn → Type 0
+TakesTheLine trace [] = Unit {0}
+TakesTheLine trace (turn ∷ turns) = (turn.whole ≡ is_closed trace) × (line_size trace ≤ turn.taken Events)
+
+-- the turn of a line whose frame is sent
+abbrev pub frame_turn : List ℕ → ℕ → Turn
+frame_turn trace size =
+    record {
+      taken = and_of (of Events (line_size trace)) (of Video size);
+      whole = is_closed trace;
+      texts = no_texts;
+    }
+
+-- the trace is read out: with this text the call ends
+pub record IsPlayedOut (inputs : Role → List ℕ) (old mid new : Outside) : Type 0 where
+  pub nothing : inputs Events ≡ []
+  pub told : Tells new inputs
+  pub ends : (texts : Role → List ℕ) → Gains texts mid.written new.written
+      → EndsBy (record { status = Fine; taken = λ _. Some 0; texts = texts }) Fine inputs old new
+
+pub record LineLaws : Type 0 where
+  -- what stands after the first line: nothing where it has no newline
+  pub gone : (trace : List ℕ) → drop (line_size trace) trace ≡ behind_line trace
+  pub last : (trace : List ℕ) → is_closed trace ≡ false → drop (line_size trace) trace ≡ []
+  -- bytes without a newline hold no turn, and neither does the line with a part of its frame
+  pub line_part : (trace : List ℕ) (k : ℕ) (turns : List Turn) → NoNewline (take k trace)
+      → TakesTheLine trace turns → IsPart turns (of Events k)
+  pub frame_part : (trace : List ℕ) (size k : ℕ) → (size ≤ k → ⊥)
+      → holds (frame_turn trace size) (and_of (of Events (line_size trace)) (of Video k)) ≡ false
+  -- this many bytes of the trace were read, or its first line
+  pub some : (inputs : Role → List ℕ) (old mid : Outside) (k : ℕ) → ReadsTrace inputs old mid
+      → mid.left Events ≡ Some (drop k (inputs Events)) → Tells mid (behind inputs (of Events k))
+  pub line : (inputs : Role → List ℕ) (old mid : Outside) → ReadsTrace inputs old mid
+      → mid.left Events ≡ Some (behind_line (inputs Events)) → HasTaken inputs old mid
+  -- a line that says an event which is refused, and one that says none or is one too many
+  pub refused : (fault : TraceFault) (inputs : Role → List ℕ) (old mid : Outside) → HasTaken inputs old mid
+      → EndsBy (refused_line (inputs Events) fault) (TraceRefused fault) inputs old mid
+  pub bad : (fault : TraceFault) (inputs : Role → List ℕ) (old mid : Outside) → ReadsTrace inputs old mid
+      → EndsBy (bad_line fault) (TraceRefused fault) inputs old mid
+  -- no line is left: the trace was read out before, or is now
+  pub over : (reader : TraceReader) (inputs : Role → List ℕ) (old mid new : Outside) → ReadsTrace inputs old mid
+      → IsOver reader (inputs Events) (mid.left Events) → (reader.ended ≡ true → inputs Events ≡ [])
+      → new.left ≡ mid.left → IsPlayedOut inputs old mid new
+
+-- how two steps over a desk add up, and why a turn stops
+pub record StepLaws : Type 0 where
+  -- the roles are kept by reads, by writes, by one step after another, and where nothing is done
+  pub reads : (old new : Outside) → OnlyReads old new → KeepsRoles old new
+  pub writes : (old new : Outside) → OnlyWrites old new → KeepsRoles old new
+  pub both : (old mid new : Outside) → KeepsRoles old mid → KeepsRoles mid new → KeepsRoles old new
+  pub none : (now : Outside) → KeepsRoles now now
+  -- a cause since a step is one since before it
+  pub since : (status : Status) (old mid new : Faults) → NoneFalls old mid
+      → HasCause status mid new → HasCause status old new
+  -- a stop by the reader of the video, or of the trace: its cause is a read that failed
+  pub video_stops : (stop : VideoStop) → IsStop (video_stop stop)
+  pub video_cause : (stop : VideoStop) (old new : Faults) → (stop ≡ video.Read → Rose old.read new.read)
+      → HasCause (video_stop stop) old new
+  pub trace_stops : (stop : TraceStop) → IsStop (trace_stop stop)
+  pub trace_cause : (stop : TraceStop) (old new : Faults) → (stop ≡ trace.Read → Rose old.read new.read)
+      → HasCause (trace_stop stop) old new

@@ -1,5 +1,5 @@
 -- What the machine of a call keeps in mind, and what it is ready for.
-use Rattle.std.specs.Prelude.{◌≡◌, ℕ, ◌+◌, ◌-◌, ◌*◌, ◌≤◌, Bool, if◌then◌else◌, true, false, List, [], ◌++◌, length, Some, None, Option}
+use Rattle.std.specs.Prelude.{◌≡◌, ◌≢◌, ℕ, ◌+◌, ◌-◌, ◌*◌, ◌≤◌, Bool, if◌then◌else◌, true, false, List, [], ◌++◌, length, Some, None, Option}
 use Rattle.h263_types.specs.Clocks.{period_of}
 use Rattle.h263_types.specs.Params.{IsParams}
 use Rattle.h263_types.specs.Sizes.{size_of_picture}
@@ -136,6 +136,12 @@ pub record IsFresh (t : Terms) (carrier : Carrier) : Type 0 where
   pub network_is : IsNewNetwork t.params (pictures_kept t) carrier.network
 
 -- ---- a line that was read
+
+-- of the inputs nothing but the trace was read, and nothing was written
+pub record ReadsTrace (inputs : Role → List ℕ) (old new : Outside) : Type 0 where
+  pub told : Tells old inputs
+  pub others : (r : Role) → r ≢ Events → new.left r ≡ old.left r
+  pub written : new.written ≡ old.written
 
 -- its bytes were taken, and nothing was written
 pub record HasTaken (inputs : Role → List ℕ) (old new : Outside) : Type 0 where

@@ -53,7 +53,9 @@ IsAnswer plain (Video2Refused fault) = ⊥
 
 -- both ends stand for what they stood for
 abbrev pub LeavesEnds : World → World → Type 0
-LeavesEnds x y = (s : CallState) → EndsStand x.terms x.sender.now x.receiver.now s → EndsStand y.terms y.sender.now y.receiver.now s
+LeavesEnds x y =
+    (s : CallState) → EndsStand x.terms x.sender.now x.receiver.now s
+    → EndsStand y.terms y.sender.now y.receiver.now s
 
 -- ---- a turn
 
@@ -96,8 +98,8 @@ pub record IsRead (x : Parts) (line : ℕ) (now old : Outside) (s : CallState) (
 
 abbrev pub TakesLine : World → World → ℕ → Line → Result Bool Status → Outside → Outside → Type 0
 TakesLine x y line event result mid new =
-    IsTurn x y result mid new (IsRead (parts_of x) line mid) (λ s inputs. event_step by_ends s inputs (inputs Events) event)
-    (λ _. true) (more_of (parts_of x) + 1)
+    IsTurn x y result mid new (IsRead (parts_of x) line mid)
+    (λ s inputs. event_step by_ends s inputs (inputs Events) event) (λ _. true) (more_of (parts_of x) + 1)
 
 -- and a frame is asked for that may be captured
 pub record IsAsked (x : Parts) (line : ℕ) (now old : Outside) (s : CallState) (inputs : Role → List ℕ) : Type 0 where
@@ -106,8 +108,8 @@ pub record IsAsked (x : Parts) (line : ℕ) (now old : Outside) (s : CallState) 
 
 abbrev pub TakesFrame : World → World → ℕ → Result Bool Status → Outside → Outside → Type 0
 TakesFrame x y line result mid new =
-    IsTurn x y result mid new (IsAsked (parts_of x) line mid) (λ s inputs. capture_step s (inputs Events) (inputs Video))
-    (λ _. true) (more_of (parts_of x) + 1)
+    IsTurn x y result mid new (IsAsked (parts_of x) line mid)
+    (λ s inputs. capture_step s (inputs Events) (inputs Video)) (λ _. true) (more_of (parts_of x) + 1)
 
 -- ---- a line
 

@@ -127,11 +127,14 @@ impl Acts for Call {
         desk_program_laws::of_runs::<World>();
         match begin(alloc, setup, desk) {
             Ok(mut begun) => {
+                let terms = Terms {
+                    params: begun.params,
+                    plain: setup.plain,
+                };
                 let status = converse(
                     alloc,
                     desk,
-                    &begun.params,
-                    setup.plain,
+                    &terms,
                     &mut begun.video,
                     &mut begun.both.sender,
                     &mut begun.both.receiver,

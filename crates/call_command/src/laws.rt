@@ -13,10 +13,12 @@ ghost use Rattle.call_report.specs.declared.status.Status.TheVariants.{VideoRefu
 ghost use Rattle.desk_program.specs.Run.{run_from};
 ghost use Rattle.call_command.specs.declared.terms.Terms.{Terms};
 ghost use Rattle.call_command.specs.Call.{call_begin, call_step, most_turns};
-ghost use Rattle.call_command.specs.Laws.{TalkIsTheCall, VideoLaws};
+ghost use Rattle.call_command.specs.Laws.{LineLaws, StepLaws, TalkIsTheCall, VideoLaws};
 ghost use Rattle.call_command.specs.Plain.{ShowsEachFrame, status_for};
 
 use call_model::laws::searches;
+use desk_program::laws::of_turns;
+use h263_outside::laws::calls;
 use one_way::laws as one_way_laws;
 use y4m::laws::{cut_behind, frame_by_frame};
 
@@ -69,4 +71,18 @@ pub fn of_the_video()
     ensures { VideoLaws }
 {
     cut_behind();
+}
+
+/// What the turns of lines take and leave of a trace, whatever a machine keeps in mind.
+pub fn of_lines()
+    ensures { LineLaws }
+{
+    of_turns();
+}
+
+/// How two steps over a desk add up, and why a turn stops.
+pub fn of_steps()
+    ensures { StepLaws }
+{
+    calls();
 }

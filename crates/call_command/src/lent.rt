@@ -20,7 +20,7 @@ use crate::{Terms, laws};
 use call_report::Status;
 use desk_program::{Turns, laws as desk_program_laws, take_turns};
 use h263_outside::Desk;
-use h263_types::{FixedPace, Params};
+use h263_types::FixedPace;
 use one_way::laws as one_way_laws;
 use receiver_end::Receiver;
 use sender_end::Sender;
@@ -73,42 +73,37 @@ impl<'a> Turns for World<'a> {
 pub fn converse<D: Desk>(
     alloc: Global,
     desk: &mut D,
-    params: &Params,
-    plain: bool,
+    terms: &Terms,
     video: &mut Y4mReader,
     sender: &mut Sender<FixedPace>,
     receiver: &mut Receiver,
 ) -> Status
-    requires opens { CallOpens (record { params = params.now; plain = plain })
-        (D.outside desk.old).attached }
-    requires format { video.old.format ≡ params.now.format }
+    requires opens { CallOpens terms.now (D.outside desk.old).attached }
+    requires format { video.old.format ≡ terms.now.params.format }
     requires frames { video.old.more ≡ 1048576 }
-    requires sender_params { sender.old.params ≡ params.now }
-    requires receiver_params { receiver.old.params ≡ params.now }
-    requires quant { sender.old.pace.quant ≡ params.now.quant }
+    requires sender_params { sender.old.params ≡ terms.now.params }
+    requires receiver_params { receiver.old.params ≡ terms.now.params }
+    requires quant { sender.old.pace.quant ≡ terms.now.params.quant }
     requires sent { sender.old.sent ≡ 0 }
-    requires sends { sender_end.Stands (steady params.now) sender.old [] }
+    requires sends { sender_end.Stands (steady terms.now.params) sender.old [] }
     requires played { receiver.old.played ≡ 0 }
     ensures gives { (before : List ReceiverEntry) (inputs : Role → List ℕ)
         → receiver_end.Stands receiver.old before → Tells (D.outside desk.old) inputs
-        → HasEnded (talk_of (record { params = params.now; plain = plain }) before video.old.at
-        inputs) silent result inputs (D.outside desk.old).written (D.outside desk.new) }
+        → HasEnded (talk_of terms.now before video.old.at inputs) silent result inputs
+        (D.outside desk.old).written (D.outside desk.new) }
     ensures alone { (run : Run) (inputs : Role → List ℕ) (start : Role → Option (List ℕ))
         → receiver_end.Stands receiver.old []
-        → IsUnderWay call_step may_read run inputs start
-        (IsFirst (record { params = params.now; plain = plain }) video.old.at)
-        (most_turns plain) (D.outside desk.old)
+        → IsUnderWay call_step may_read run inputs start (IsFirst terms.now video.old.at)
+        (most_turns terms.now.plain) (D.outside desk.old)
         → HasEnded run silent result inputs start (D.outside desk.new) }
     ensures stands { (before : List ReceiverEntry) (inputs : Role → List ℕ)
         → receiver_end.Stands receiver.old before → Tells (D.outside desk.old) inputs
-        → AfterAll result (EndsStand (record { params = params.now; plain = plain })
-        sender.new receiver.new
-        (talk_end (record { params = params.now; plain = plain }) before video.old.at inputs)) }
+        → AfterAll result (EndsStand terms.now sender.new receiver.new
+        (talk_end terms.now before video.old.at inputs)) }
     ensures whole_input { (before : List ReceiverEntry) (inputs : Role → List ℕ)
         → receiver_end.Stands receiver.old before → Tells (D.outside desk.old) inputs
-        → IsReadOut result (Some (source_of (record { params = params.now; plain = plain })))
-        (D.outside desk.new) }
-    ensures answers { IsAnswer plain result }
+        → IsReadOut result (Some (source_of terms.now)) (D.outside desk.new) }
+    ensures answers { IsAnswer terms.now.plain result }
     ensures pace { sender.new.pace ≡ sender.old.pace }
     ensures later { IsLater result }
     ensures cause { HasCause result (D.outside desk.old).faults (D.outside desk.new).faults }
@@ -118,15 +113,11 @@ pub fn converse<D: Desk>(
     desk_program_laws::of_runs::<World>();
     laws::talks_agree();
     one_way_laws::of_the_way();
-    let terms = Terms {
-        params: *params,
-        plain,
-    };
-    let Ok(carrier) = Carrier::start(alloc, &terms) else {
+    let Ok(carrier) = Carrier::start(alloc, terms) else {
         return Status::OutOfMemory;
     };
     let mut world = World {
-        terms,
+        terms: *terms,
         video,
         sender,
         receiver,

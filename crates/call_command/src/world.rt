@@ -46,8 +46,8 @@ fn fault_at(line: u32, refusal: Refusal) -> TraceFault
 }
 
 impl<'a> World<'a> {
-    ghost use Rattle.call_command.specs.Standing.{HasDone, PartsReady, parts_of};
-    ghost use Rattle.call_command.specs.Turning.{IsAhead, IsChecked, TakesFrame, TakesTurn};
+    ghost use Rattle.call_command.specs.Standing.{HasDone, HasRoom, PartsReady, parts_of};
+    ghost use Rattle.call_command.specs.Turning.{IsAhead, IsChecked, TakesFrame, TakesLine, TakesTurn};
 
     /// Over the plain trace: the next frame is sent, its packets are delivered, and the next
     /// picture is played. False at the end of the video.
@@ -81,13 +81,26 @@ impl<'a> World<'a> {
     {
         desk_program_laws::of_turns();
         outside_laws::calls();
-        one_way_laws::later_frames();
         one_way_laws::of_the_way();
-        one_way_laws::of_near_events();
         let Some((line, event)) = self.carrier.trace.next(desk)? else {
             tell_counts(desk, &self.carrier.network.way, self.sender, self.receiver)?;
             return Ok(false);
         };
+        self.event_turn(desk, line, event)
+    }
+
+    // What the line says that was read last is done, or refused.
+    fn event_turn<D: Desk>(&mut self, desk: &mut D, line: u32, event: Event) -> Result<bool, Status>
+        requires ready { PartsReady (parts_of self.old) (D.outside desk.old).attached }
+        requires recorded { self.old.terms.plain ≡ false }
+        requires room { HasRoom (parts_of self.old) }
+        ensures { TakesLine self.old self.new line event result
+            (D.outside desk.old) (D.outside desk.new) }
+    {
+        desk_program_laws::of_turns();
+        one_way_laws::later_frames();
+        one_way_laws::of_the_way();
+        one_way_laws::of_near_events();
         if let Err(refusal) = self.check(event) {
             let fault = fault_at(line, refusal);
             return Err(Status::TraceRefused { fault });

@@ -1,11 +1,12 @@
 -- What a line of the made trace says, by both ends.
-use Rattle.std.proofs.Common.{◌≡◌, ℕ, zero, suc, ◌+◌, ◌<◌, List, [], ◌∷◌, ◌++◌, length, map, sym, ap, subst, ◌∙◌, arith}
+use Rattle.std.proofs.Common.{◌≡◌, ℕ, zero, suc, ◌+◌, ◌<◌, List, [], ◌∷◌, ◌++◌, length, map, refl, sym, ap, subst, ◌∙◌, arith}
 use Rattle.std.specs.List.{range_with_len}
 use Rattle.h263_types.specs.declared.blocks.Mb.{Mb}
 use Rattle.h263_types.specs.declared.params.Params.{Params}
 use Rattle.h263_planes.specs.Picture.{Picture}
 use Rattle.loss_trace.specs.declared.event.Event.{Event as Line}
 use Rattle.make_input.specs.Expanded.{onto}
+use Rattle.call_rings.specs.Keeping.{period_of}
 use Rattle.call_model.specs.Coding.{pictures_of}
 use Rattle.call_model.specs.IdealCall.{Event, Deliver, encoded, slices_at}
 use Rattle.call_model.specs.JoinedRun.{Joined}
@@ -13,18 +14,23 @@ use Rattle.call_model.specs.Lawful.{IsPace}
 use Rattle.call_decoding.specs.Rules.{rules_of}
 use Rattle.call_decoding.specs.Styles.{Style}
 use Rattle.coded_call.specs.Coding.{coding}
+use Rattle.receiver_end.specs.State as receiver_end
+use Rattle.receiver_end.specs.declared.kept.Kept.{Kept}
+use Rattle.one_way.specs.declared.network.Network.{Network}
+use Rattle.one_way.specs.declared.way.Way.{Way}
 use Rattle.one_way.specs.Both.{both_after, steady}
-use Rattle.one_way.specs.Counts.{call_text, counts_of, counts_text}
+use Rattle.one_way.specs.Counts.{call_text, counts_of, counts_text, total_of}
+use Rattle.one_way.specs.Network.{IsAmongLast}
 use Rattle.one_way.specs.Laws.{NearLaws, ShowTheSame, WayLaws}
 use Rattle.one_way.specs.Seen.{Seen, in_call}
 use Rattle.one_way.specs.Trace.{delivered}
-use Rattle.one_way.specs.Way.{MayHappenNow}
+use Rattle.one_way.specs.Way.{CanSend, MayHappenNow}
 use Rattle.demo_command.specs.declared.demo.Demo.{Demo}
 use Rattle.demo_command.specs.declared.terms.DemoTerms.{DemoTerms}
 use Rattle.demo_command.specs.Demo.{made_call, made_video, with_line}
 use Rattle.demo_command.specs.Laws.{MadeLaws}
-use Rattle.demo_command.specs.Machine.{HasDone, IsNearNow}
-use Rattle.demo_command.proofs.Made.{near_onto}
+use Rattle.demo_command.specs.Machine.{HasDone, IsNearNow, LineReady}
+use Rattle.demo_command.proofs.Made.{near_onto, steady_is}
 
 -- what is so after a line, by what the line says
 pub as_line : (t : DemoTerms) (past : List Event) (line event : Line) (P : List Event → Type 0) → event ≡ line
@@ -47,6 +53,28 @@ delivered_from n from (suc count) past =
 -- a near event is near by both ends
 pub may_now : (t : DemoTerms) → NearLaws t.params → IsPace (steady t.params) → (past : List Event) (e : Event) → IsNearNow t (e ∷ past) → MayHappenNow t.params [] (made_video t) past e
 may_now t near_laws paced past e near = ((near_laws.near (steady t.params) (made_video t) (e ∷ past) paced).0 near).0
+
+-- a machine is as ready after packets that were delivered
+pub ready_delivered : (m : Demo) → LineReady m → (network : Network) (receiver : Kept) → network.way ≡ m.network.way → receiver.played ≡ m.both.receiver.played
+    → LineReady (record m { both = record m.both { receiver = receiver }; network = network })
+ready_delivered m r network receiver way played = record {
+  params = r.params;
+  frame = r.frame;
+  sender_params = r.sender_params;
+  can = subst (λ (w : Way). CanSend w m.both.sender) (sym way) r.can;
+  period = ap (λ (w : Way). period_of w.packets) way ∙ r.period;
+  few = r.few;
+  counted = ap (λ (w : Way). total_of w.tally) way ∙ r.counted ∙ sym played;
+}
+
+-- a packet that is near by both ends is among those that are kept
+pub may_deliver : (m : Demo) → LineReady m → NearLaws m.terms.params → (past : List Event) → HasDone m past → (n j : ℕ) → IsNearNow m.terms (Deliver n j ∷ past)
+    → IsAmongLast m.network.way.packets (length (both_after m.terms.params (steady m.terms.params) (made_video m.terms) [] past).sender.coded) n × MayHappenNow m.terms.params [] (made_video m.terms) past (Deliver n j)
+may_deliver m r laws past h n j near =
+    let p = m.terms.params in
+    let may = may_now m.terms laws (steady_is p r.params) past (Deliver n j) near in
+    let kept = laws.packets (receiver_end.run_of p []) (steady p) (made_video m.terms) past n j refl (may, h.way_holds.near) in
+    ((may.0, omega (arith, kept, r.period)), may)
 
 -- the line of the counts
 pub counts_are : (m : Demo) → WayLaws m.terms.params → (past : List Event) → HasDone m past → ShowTheSame m.terms.params (made_video m.terms) past

@@ -56,6 +56,14 @@ pub record LineReady (m : Demo) : Type 0 where
   pub few : m.both.sender.sent ≤ 10000
   pub counted : total_of m.network.way.tally ≡ m.both.receiver.played
 
+-- one picture more was sent, and all else that counts stays as it was
+pub record SendsOne (old new : Demo) : Type 0 where
+  pub terms : new.terms ≡ old.terms
+  pub lines : new.lines ≡ old.lines
+  pub sent : new.both.sender.sent ≡ old.both.sender.sent + 1
+  pub messages : new.network.messages ≡ old.network.messages
+  pub played : new.both.receiver.played ≡ old.both.receiver.played
+
 -- ---- the machine
 
 -- its lines and its ends are those of the state, which is on its way to the whole made call

@@ -27,18 +27,14 @@ impl Demo {
     ghost use Rattle.call_rings.specs.Messages.{said_of};
     ghost use Rattle.demo_command.specs.Demo.{with_line};
     ghost use Rattle.demo_command.specs.Machine.{AreInPlace, HasDone, IsNearNow, LineReady};
-    ghost use Rattle.demo_command.specs.Machine.{sent_after};
+    ghost use Rattle.demo_command.specs.Machine.{SendsOne, sent_after};
 
     // `S`: the next frame is made and sent.
     fn send_made(&mut self)
         requires ready { LineReady self.old }
         requires left { self.old.both.sender.sent < 10000 }
         ensures ready { LineReady self.new }
-        ensures terms { self.new.terms ≡ self.old.terms }
-        ensures lines { self.new.lines ≡ self.old.lines }
-        ensures sent { self.new.both.sender.sent ≡ self.old.both.sender.sent + 1 }
-        ensures messages { self.new.network.messages ≡ self.old.network.messages }
-        ensures played { self.new.both.receiver.played ≡ self.old.both.receiver.played }
+        ensures sends { SendsOne self.old self.new }
         ensures done { (past : List Happens) → HasDone self.old past
             → IsNearNow self.old.terms (Send ∷ past) → HasDone self.new (Send ∷ past) }
     {

@@ -1,7 +1,5 @@
 -- What a line `S` makes of the frame that is read for it, over a desk where its party is the first one.
 use Rattle.std.proofs.Common.{◌≡◌, ◌≢◌, ℕ, zero, suc, ◌+◌, ◌<◌, ◌≤◌, Bool, true, false, List, [], ◌∷◌, length, take, drop, Option, Some, Result, Ok, Err, IsErr, refl, sym, ap, subst, ◌∙◌, arith}
-use Rattle.std.specs.Prelude.{◌&&◌, nat_le}
-use Rattle.std.proofs.lemmas.Bool.{leb-true}
 use Rattle.h263_types.specs.declared.format.Format.{Format}
 use Rattle.h263_outside.specs.Desk.{Outside}
 use Rattle.h263_outside.specs.declared.desk.Role.{Role}
@@ -23,20 +21,12 @@ use Rattle.desk_program.specs.Laws.{TurnLaws}
 use Rattle.duplex_call.specs.declared.line.Party.{Party}
 use Rattle.duplex_command.specs.Duplex.{DuplexState, VideoPlace, after_line, capture_step, captured_step, may_read, place_of, with_frame}
 use Rattle.call_command.specs.Call.{line_size, refused_line}
-use Rattle.call_command.specs.Laws.{VideoLaws}
+use Rattle.call_command.specs.Laws.{LineLaws, VideoLaws}
 use Rattle.call_command.specs.Standing.{HasTaken}
 use Rattle.duplex_command.specs.Standing.{place_in}
-use Rattle.duplex_command.proofs.Cutting.{and_false}
 use Rattle.duplex_command.proofs.LineTurning.{double_not}
 
 -- ---- a part of a frame holds no turn
-
-not_held : (size k : ℕ) → (size ≤ k → ⊥) → nat_le size k ≡ false
-not_held size k few = at_test (nat_le size k) refl
-  where
-    at_test : (t : Bool) → nat_le size k ≡ t → t ≡ false
-    at_test true is = absurd (few (leb-true size k is))
-    at_test false is = refl
 
 not_an_err : {T E : Type 0} (r : Result T E) (x : T) → r ≡ Ok x → IsErr r → ⊥
 not_an_err {T} {E} r x is lost = ok_is_none x (subst IsErr is lost)
@@ -52,15 +42,6 @@ next_is (suc n) f at rest frame is = is
 abbrev some_of : List ℕ → ℕ → Role → ℕ
 some_of trace n = and_of (of Events (line_size trace)) (of Video n)
 
-no_frame_held : (t : Turn) (k : Role → ℕ) → (t.taken Video ≤ k Video → ⊥) → holds t k ≡ false
-no_frame_held t k few =
-    ap (λ (b : Bool). t.whole && b && nat_le (t.taken Events) (k Events) && nat_le (t.taken Video2) (k Video2)) (not_held (t.taken Video) (k Video) few)
-    ∙ ap (λ (b : Bool). b && nat_le (t.taken Events) (k Events) && nat_le (t.taken Video2) (k Video2)) (and_false t.whole)
-
-frame_held : (trace : List ℕ) (size n : ℕ) → (size ≤ n → ⊥) → holds (record { taken = some_of trace size; whole = is_closed trace; texts = no_texts }) (some_of trace n) ≡ false
-frame_held trace size n few =
-    no_frame_held (record { taken = some_of trace size; whole = is_closed trace; texts = no_texts }) (some_of trace n) (λ (whole : 0 + size ≤ 0 + n). few (omega (arith, whole)))
-
 module _ (x : Party) (s : DuplexState) where
   abbrev format : Format
   format = (s.params x).format
@@ -74,16 +55,16 @@ module _ (x : Party) (s : DuplexState) where
   abbrev captured : List ℕ → ℕ → Result (List ℕ) Y4mFault → Step DuplexState
   captured trace size r = captured_step Video Pictures VideoRefused x s trace size r
 
-  frame_part : VideoLaws → (trace video : List ℕ) (n : ℕ) (r : Result (List ℕ) Y4mFault) → next_frame place.more format place.at video ≡ r
+  frame_part : LineLaws → VideoLaws → (trace video : List ℕ) (n : ℕ) (r : Result (List ℕ) Y4mFault) → next_frame place.more format place.at video ≡ r
       → IsErr (frame_of format place.at (take n video)) → IsPart (step_turns (captured trace (frame_size format video) r)) (some_of trace n)
-  frame_part laws trace video n (Ok frame) is lost =
-      frame_held trace (frame_size format video) n
+  frame_part lines laws trace video n (Ok frame) is lost =
+      lines.frame_part trace (frame_size format video) n
       (λ whole. not_an_err _ frame (laws.frame format place.at n video frame (next_is place.more format place.at video frame is) whole).0 lost)
-  frame_part laws trace video n (Err fault) is lost = tt
+  frame_part lines laws trace video n (Err fault) is lost = tt
 
-  video_part : VideoLaws → (trace video : List ℕ) (n : ℕ) → IsErr (frame_of format place.at (take n video)) → IsPart (step_turns (step_at trace video)) (some_of trace n)
-  video_part laws trace [] n lost = tt
-  video_part laws trace (b ∷ rest) n lost = frame_part laws trace (b ∷ rest) n (next_frame place.more format place.at (b ∷ rest)) refl lost
+  video_part : LineLaws → VideoLaws → (trace video : List ℕ) (n : ℕ) → IsErr (frame_of format place.at (take n video)) → IsPart (step_turns (step_at trace video)) (some_of trace n)
+  video_part lines laws trace [] n lost = tt
+  video_part lines laws trace (b ∷ rest) n lost = frame_part lines laws trace (b ∷ rest) n (next_frame place.more format place.at (b ∷ rest)) refl lost
 
   video_next : (trace video : List ℕ) (r : Result (List ℕ) Y4mFault) → 0 < length video → next_frame place.more format place.at video ≡ r
       → step_at trace video ≡ captured trace (frame_size format video) r
@@ -113,7 +94,7 @@ module _ (x : Party) (s : DuplexState) where
 
   -- ---- the capture: `old` is the desk after the line, `mid` after the read of the frame
 
-  module _ (turns : TurnLaws) (laws : VideoLaws) (inputs : Role → List ℕ) (before old mid : Outside) (taken : HasTaken inputs before old) (others : (r : Role) → r ≢ Video → mid.left r ≡ old.left r) (same : mid.written ≡ old.written) (reader : Y4mReader) (out : List ℕ) where
+  module _ (turns : TurnLaws) (lines : LineLaws) (laws : VideoLaws) (inputs : Role → List ℕ) (before old mid : Outside) (taken : HasTaken inputs before old) (others : (r : Role) → r ≢ Video → mid.left r ≡ old.left r) (same : mid.written ≡ old.written) (reader : Y4mReader) (out : List ℕ) where
     abbrev trace : List ℕ
     trace = inputs Events
 
@@ -129,7 +110,7 @@ module _ (x : Party) (s : DuplexState) where
         → GivesUp (phase (video_stop stop)) (video_stop stop) step true inputs before mid
     frame_stops Read e = record {
       part = some_of trace e.0;
-      partly = video_part laws trace (inputs Video) e.0 e.2;
+      partly = video_part lines laws trace (inputs Video) e.0 e.2;
       could = refl;
       left = video_told e.0 e.1;
       written = same ∙ taken.written;
@@ -148,8 +129,10 @@ module _ (x : Party) (s : DuplexState) where
       last = refused_line trace (NoFrame (s.lines + 1));
       is = ap (step_at trace) e.0;
       by = subst (λ (n : ℕ). EndsBy (refused_line trace (NoFrame (s.lines + 1))) (TraceRefused (NoFrame n)) inputs before mid) (sym is)
-          (turns.ends (TraceRefused (NoFrame (s.lines + 1))) (of Events (line_size trace)) no_texts inputs before mid
-          (turns.none_read Video old mid (behind inputs (of Events (line_size trace))) taken.left e.0 e.1 others) (turns.no_text before.written mid.written (same ∙ taken.written)));
+          (lines.refused (NoFrame (s.lines + 1)) inputs before mid (record {
+            left = turns.none_read Video old mid (behind inputs (of Events (line_size trace))) taken.left e.0 e.1 others;
+            written = same ∙ taken.written;
+          }));
     }
 
     -- the frame is sent

@@ -16,7 +16,7 @@ use Rattle.desk_program.specs.Run.{Step, behind}
 use Rattle.desk_program.specs.Run.Step.{Goes}
 use Rattle.desk_program.specs.Ends.{Ended, Gains, GainsFronts, KeepsRoles, TurnGives, Went, step_texts}
 use Rattle.desk_program.specs.Laws.{TurnLaws}
-use Rattle.desk_program.specs.Texts.{and_of, of}
+use Rattle.desk_program.specs.Texts.{and_of, no_texts, of}
 use Rattle.call_model.specs.IdealCall.{Event, Send, Deliver, Play, Back}
 use Rattle.call_model.specs.Refusals.{Refusal}
 use Rattle.call_encoding.specs.Frames.{Frame}
@@ -33,11 +33,12 @@ use Rattle.duplex_ends.specs.declared.party.PartyEnds.{PartyEnds}
 use Rattle.duplex_command.specs.declared.station.Station.{Station}
 use Rattle.duplex_command.specs.Duplex.{DuplexState, after_line, capture_step, event_step, may_read, place_of, play_step, play_texts, quiet_step, refusal_at, seen_of, unless, with_frame, with_next}
 use Rattle.call_command.specs.Call.{line_size, line_turn}
+use Rattle.call_command.specs.Laws.{LineLaws}
 use Rattle.call_command.specs.Refused.{fault_at, fault_of}
 use Rattle.call_command.specs.Turning.{IsChecked}
 use Rattle.duplex_command.specs.Standing.{StationReady, StationsReady, StationsStand, place_in}
 use Rattle.duplex_command.specs.Turning.{IsPartyTurn, IsRead, TakesFrame}
-use Rattle.duplex_command.proofs.LineTurning.{double_not, line_goes, line_refused, place_same}
+use Rattle.duplex_command.proofs.LineTurning.{line_goes, line_refused, place_same}
 use Rattle.duplex_command.proofs.PartyTurns.{was_cut, went_on}
 
 -- ---- at some point of the call
@@ -85,11 +86,11 @@ module _ (x : Party) (own far : Station) (line : ℕ) (trace_new : TraceReader) 
 
   -- ---- a refused event
 
-  module _ (laws : TurnLaws) (told : Told) (fault : TraceFault) (fault_is : fault ≡ fault_at line told) where
+  module _ (laws : LineLaws) (told : Told) (fault : TraceFault) (fault_is : fault ≡ fault_at line told) where
     event_refused : (e : Event) (step : Step DuplexState) → IsAllowed (Err told) e (refusal_at x s e) → Ended (unless s trace e (refusal_at x s e) step) (TraceRefused fault) inputs before mid
     event_refused e step refused =
         let told_so = refused.2 in
-        line_refused laws s inputs before mid b.taken (TraceRefused fault) (fault_of (s.lines + 1) e refused.0) _
+        line_refused s inputs before mid b.taken laws (TraceRefused fault) (fault_of (s.lines + 1) e refused.0) _
         (ap (λ (f : TraceFault). TraceRefused f) fault_is ∙ (λ i. TraceRefused (fault_at (b.number i) (told_so i))))
         (ap (λ (o : Option Refusal). unless s trace e o step) refused.1)
 
@@ -130,8 +131,8 @@ module _ (x : Party) (own far : Station) (line : ℕ) (trace_new : TraceReader) 
       → step_of event ≡ quiet_step s trace ways → HoldsPair s.params x own_new.ends far_new.ends ways
       → Went (step_of event) (λ next rest. StationsStand x own_new far_new trace_new next (rest Events)) may_read true inputs before mid
   event_goes laws own_new far_new event ways own_same far_same is holds =
-      line_goes laws s inputs before mid b.taken (record s { ways = ways }) _ (λ next rest. StationsStand x own_new far_new trace_new next (rest Events)) is
-      (stands_event own_new far_new ways own_same far_same holds)
+      line_goes s inputs before mid b.taken (record s { ways = ways }) no_texts _ (λ next rest. StationsStand x own_new far_new trace_new next (rest Events)) is
+      (stands_event own_new far_new ways own_same far_same holds) mid refl (laws.no_text mid.written mid.written refl)
 
   -- ---- the next picture was played
 
@@ -144,16 +145,7 @@ module _ (x : Party) (own far : Station) (line : ℕ) (trace_new : TraceReader) 
 
     pub play_goes : (stands : DuplexState → (Role → List ℕ) → Type 0) → stands (after_line (with_next x s) trace) (behind inputs taken_line)
         → Gains shown mid.written new.written → Went (step_of says.Play) stands may_read true inputs before new
-    play_goes stands kept gains = record {
-      next = after_line (with_next x s) trace;
-      turn = line_turn trace shown;
-      could = refl;
-      is = play_is;
-      kept = kept;
-      whole = sym (double_not (is_closed trace));
-      left = λ r input. ap (λ (l : Role → Option (List ℕ)). l r) still ∙ b.taken.left r input;
-      written = subst (λ (w : Role → Option (List ℕ)). Gains shown w new.written) b.taken.written gains;
-    }
+    play_goes stands kept gains = line_goes s inputs before mid b.taken (with_next x s) shown _ stands play_is kept new still gains
 
     pub play_cut : GainsFronts shown mid.written new.written → GainsFronts (step_texts (step_of says.Play)) before.written new.written
     play_cut gains =

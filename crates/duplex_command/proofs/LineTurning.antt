@@ -1,11 +1,11 @@
 -- The turns of lines, by what the reader of the trace says and what was written.
-use Rattle.std.proofs.Common.{◌≡◌, ◌≢◌, ℕ, zero, suc, ◌+◌, ◌<◌, ◌≤◌, Bool, true, false, not, List, [], ◌∷◌, length, take, drop, codes, Option, Some, None, Ok, Err, refl, sym, ap, ◌∙◌, subst, arith, lit≤, length-append}
-use Rattle.std.specs.Prelude.{min, if◌then◌else◌}
+use Rattle.std.proofs.Common.{◌≡◌, ℕ, zero, suc, ◌+◌, ◌<◌, ◌≤◌, Bool, true, false, not, List, [], ◌∷◌, length, take, drop, codes, Option, Some, None, Ok, Err, refl, sym, ap, ◌∙◌, subst, arith, lit≤, length-append}
+use Rattle.std.specs.Prelude.{if◌then◌else◌}
 use Rattle.std.specs.Str.{bytes_eq}
-use Rattle.std.proofs.lemmas.Bool.{lt-ltb, le-ltb, ltb-false}
-use Rattle.h263_outside.specs.Desk.{Outside, IsInput}
+use Rattle.std.proofs.lemmas.Bool.{lt-ltb, le-ltb, not-true}
+use Rattle.h263_outside.specs.Desk.{Outside}
 use Rattle.h263_outside.specs.declared.desk.Role.{Role}
-use Rattle.h263_outside.specs.declared.desk.Role.TheVariants.{Video, Events, Pictures, Wire, Report, Video2, Pictures2}
+use Rattle.h263_outside.specs.declared.desk.Role.TheVariants.{Events}
 use Rattle.loss_trace.specs.declared.event.Event.{Event as Line}
 use Rattle.loss_trace.specs.declared.event.Event.TheVariants as says
 use Rattle.loss_trace.specs.declared.fault.TraceFault.{TraceFault}
@@ -14,7 +14,7 @@ use Rattle.loss_trace.specs.declared.fault.TraceStop.{TraceStop}
 use Rattle.loss_trace.specs.declared.fault.TraceStop.TheVariants as stops
 use Rattle.loss_trace.specs.declared.reader.TraceReader.{TraceReader}
 use Rattle.loss_trace.specs.Line.{IsLine, IsPart, Number, Part, Spell, Word, parts_of}
-use Rattle.loss_trace.specs.Lines.{first_line, is_closed, behind_line}
+use Rattle.loss_trace.specs.Lines.{first_line, is_closed}
 use Rattle.loss_trace.specs.Reader.{BytesGive, Moves, Passes}
 use Rattle.loss_trace.specs.Reading.{event_in}
 use Rattle.call_report.specs.declared.status.Status.{Status}
@@ -22,55 +22,19 @@ use Rattle.call_report.specs.declared.status.Status.TheVariants.{Ok as Fine, Tra
 use Rattle.call_report.specs.Status.{phase, trace_stop}
 use Rattle.desk_program.specs.Run.{End, Step, behind}
 use Rattle.desk_program.specs.Run.Step.{Goes, Ends}
-use Rattle.desk_program.specs.Ends.{Tells, Gains, GainsFronts, Went, Ended, EndsBy, GivesUp, step_texts}
-use Rattle.desk_program.specs.Texts.{no_bytes, no_texts, of}
-use Rattle.desk_program.specs.Laws.{TurnLaws}
+use Rattle.desk_program.specs.Ends.{Gains, GainsFronts, Went, Ended, EndsBy, GivesUp, step_texts}
+use Rattle.desk_program.specs.Texts.{no_texts, of}
 use Rattle.duplex_call.specs.declared.line.Party.{Party}
 use Rattle.duplex_call.specs.declared.line.Party.TheVariants.{A, B}
 use Rattle.duplex_call.specs.Duplex.{other}
 use Rattle.duplex_call.specs.Lines.{lettered, of_party, party_event}
 use Rattle.duplex_command.specs.Duplex.{DuplexState, after_line, all_played, both_counts, duplex_step, line_step, may_read, place_of, trace_step}
 use Rattle.call_command.specs.Call.{bad_line, line_size, line_turn, refused_line}
-use Rattle.call_command.specs.Standing.{HasTaken}
+use Rattle.call_command.specs.Laws.{IsPlayedOut, LineLaws}
+use Rattle.call_command.specs.Standing.{HasTaken, ReadsTrace}
 use Rattle.duplex_command.specs.Standing.{StationsStand}
 use Rattle.duplex_command.specs.declared.station.Station.{Station}
 use Rattle.duplex_command.proofs.Cutting.{trace_part}
-
--- ---- the bytes of a line
-
-drop_all : (xs : List ℕ) (k : ℕ) → length xs ≤ k → drop k xs ≡ []
-drop_all [] zero few = refl
-drop_all [] (suc k) few = refl
-drop_all (x ∷ xs) zero few = absurd (omega (arith, few))
-drop_all (x ∷ xs) (suc k) few = drop_all xs k (omega (arith, few))
-
-drop_min : (k : ℕ) (xs : List ℕ) → drop (min k (length xs)) xs ≡ drop k xs
-drop_min zero xs = ap (λ (n : ℕ). drop n xs) (none (length xs))
-  where
-    none : (n : ℕ) → min 0 n ≡ 0
-    none n = omega arith
-drop_min (suc k) [] = nothing (min (suc k) 0)
-  where
-    nothing : (n : ℕ) → drop {A = ℕ} n [] ≡ []
-    nothing zero = refl
-    nothing (suc n) = refl
-drop_min (suc k) (x ∷ xs) = ap (λ (n : ℕ). drop n (x ∷ xs)) (one_more k (length xs)) ∙ drop_min k xs
-  where
-    one_more : (a b : ℕ) → min (suc a) (suc b) ≡ suc (min a b)
-    one_more a b = omega arith
-
--- after the line
-pub line_gone : (trace : List ℕ) → drop (line_size trace) trace ≡ behind_line trace
-line_gone trace = drop_min (length (first_line trace) + 1) trace
-
--- after one that has no newline there is nothing
-nothing_behind : (trace : List ℕ) → is_closed trace ≡ false → drop (line_size trace) trace ≡ []
-nothing_behind trace open_end =
-    line_gone trace ∙ drop_all trace (length (first_line trace) + 1) (omega (arith, ltb-false (length (first_line trace)) (length trace) open_end))
-
-pub double_not : (b : Bool) → not (not b) ≡ b
-double_not true = refl
-double_not false = refl
 
 -- ---- a line of more than 64 bytes says no event
 
@@ -148,33 +112,36 @@ many_is s inputs (b ∷ trace) some many =
 abbrev step_of : End → Step DuplexState
 step_of last = Ends last
 
-module _ (laws : TurnLaws) (s : DuplexState) (inputs : Role → List ℕ) (before mid : Outside) (taken : HasTaken inputs before mid) where
+pub double_not : (b : Bool) → not (not b) ≡ b
+double_not true = refl
+double_not false = refl
+
+module _ (s : DuplexState) (inputs : Role → List ℕ) (before mid : Outside) (taken : HasTaken inputs before mid) where
   abbrev trace : List ℕ
   trace = inputs Events
 
   -- a refused line is taken, and nothing of the videos
-  pub line_refused : (status : Status) (fault : TraceFault) (step : Step DuplexState) → status ≡ TraceRefused fault → step ≡ step_of (refused_line trace fault)
+  pub line_refused : LineLaws → (status : Status) (fault : TraceFault) (step : Step DuplexState) → status ≡ TraceRefused fault → step ≡ step_of (refused_line trace fault)
       → Ended step status inputs before mid
-  line_refused status fault step status_is is = record {
+  line_refused laws status fault step status_is is = record {
     last = refused_line trace fault;
     is = is;
-    by = subst (λ (z : Status). EndsBy (refused_line trace fault) z inputs before mid) (sym status_is)
-        (laws.ends (TraceRefused fault) (of Events (line_size trace)) no_texts inputs before mid taken.left (laws.no_text before.written mid.written taken.written));
+    by = subst (λ (z : Status). EndsBy (refused_line trace fault) z inputs before mid) (sym status_is) (laws.refused fault inputs before mid taken);
   }
 
-  -- one that is done goes on
-  pub line_goes : (next : DuplexState) (step : Step DuplexState) (stands : DuplexState → (Role → List ℕ) → Type 0)
-      → step ≡ Goes (after_line next trace) (line_turn trace no_texts)
-      → stands (after_line next trace) (behind inputs (of Events (line_size trace))) → Went step stands may_read true inputs before mid
-  line_goes next step stands is kept = record {
+  -- one that is done goes on, and writes these texts
+  pub line_goes : (next : DuplexState) (texts : Role → List ℕ) (step : Step DuplexState) (stands : DuplexState → (Role → List ℕ) → Type 0)
+      → step ≡ Goes (after_line next trace) (line_turn trace texts) → stands (after_line next trace) (behind inputs (of Events (line_size trace)))
+      → (new : Outside) → new.left ≡ mid.left → Gains texts mid.written new.written → Went step stands may_read true inputs before new
+  line_goes next texts step stands is kept new still gains = record {
     next = after_line next trace;
-    turn = line_turn trace no_texts;
+    turn = line_turn trace texts;
     could = refl;
     is = is;
     kept = kept;
     whole = sym (double_not (is_closed trace));
-    left = taken.left;
-    written = laws.no_text before.written mid.written taken.written;
+    left = λ r input. ap (λ (l : Role → Option (List ℕ)). l r) still ∙ taken.left r input;
+    written = subst (λ (w : Role → Option (List ℕ)). Gains texts w new.written) taken.written gains;
   }
 
 -- ---- the reader of the trace
@@ -185,69 +152,48 @@ place_same A s t a b = a
 place_same B s t a b = b
 
 -- after a line the stations stand where it was passed
-pub passed : (x : Party) (own far : Station) (s : DuplexState) (rest : List ℕ) (old after : TraceReader) (left : Option (List ℕ))
+pub passed : LineLaws → (x : Party) (own far : Station) (s : DuplexState) (rest : List ℕ) (old after : TraceReader) (left : Option (List ℕ))
     → StationsStand x own far old s rest → after.lines ≡ old.lines + 1 → Passes rest after left
     → StationsStand x own far after (after_line s rest) (drop (line_size rest) rest)
-passed x own far s rest old after left k lines passes = record {
+passed laws x own far s rest old after left k lines passes = record {
   own_place = place_same x (after_line s rest) s refl refl ∙ k.own_place;
   far_place = place_same (other x) (after_line s rest) s refl refl ∙ k.far_place;
   lines = ap (λ (n : ℕ). n + 1) k.lines ∙ sym lines;
   ended = sym passes.ends;
-  over = λ ended. nothing_behind rest (open_end (is_closed rest) (sym passes.ends ∙ ended));
+  over = λ ended. laws.last rest (not-true (is_closed rest) (sym passes.ends ∙ ended));
   holds = k.holds;
 }
-  where
-    open_end : (b : Bool) → not b ≡ true → b ≡ false
-    open_end true is = absurd (cc is)
-    open_end false is = refl
 
 -- the reader is where the state says
 pub record IsReadAt (s : DuplexState) (reader : TraceReader) : Type 0 where
   pub lines_are : s.lines ≡ reader.lines
   pub ended_is : s.ended ≡ reader.ended
 
-module _ (laws : TurnLaws) (s : DuplexState) (inputs : Role → List ℕ) (old mid : Outside) (told : Tells old inputs) (others : (r : Role) → r ≢ Events → mid.left r ≡ old.left r) (same : mid.written ≡ old.written) (reader after : TraceReader) (at : IsReadAt s reader) where
+module _ (laws : LineLaws) (s : DuplexState) (inputs : Role → List ℕ) (old mid : Outside) (read : ReadsTrace inputs old mid) (reader after : TraceReader) (at : IsReadAt s reader) where
   going : reader.ended ≡ false → may_read s ≡ true
   going is = ap not (at.ended_is ∙ is)
 
-  -- of the other inputs nothing was taken
   bad_ends : (fault : TraceFault) (step : Step DuplexState) → step ≡ step_of (bad_line fault) → Ended step (TraceRefused fault) inputs old mid
-  bad_ends fault step is = record {
-    last = bad_line fault;
-    is = is;
-    by = record { known = refl; left = left_at; written = laws.no_text old.written mid.written same };
-  }
-    where
-      zero_is : (k : ℕ) → 0 ≡ k → 0 ≡ 0 + k
-      zero_is k is = omega (arith, is)
-
-      left_at : (r : Role) → IsInput r → (k : ℕ) → (bad_line fault).taken r ≡ Some k → mid.left r ≡ Some (behind inputs (λ _. 0 + k) r)
-      left_at Video input k said = others Video (λ same. cc) ∙ told Video input ∙ ap (λ (n : ℕ). Some (drop n (inputs Video))) (zero_is k (cc said))
-      left_at Events input k said = absurd (cc said)
-      left_at Video2 input k said = others Video2 (λ same. cc) ∙ told Video2 input ∙ ap (λ (n : ℕ). Some (drop n (inputs Video2))) (zero_is k (cc said))
-      left_at Pictures input k said = absurd (cc input)
-      left_at Wire input k said = absurd (cc input)
-      left_at Report input k said = absurd (cc input)
-      left_at Pictures2 input k said = absurd (cc input)
+  bad_ends fault step is = record { last = bad_line fault; is = is; by = laws.bad fault inputs old mid read }
 
   pub trace_stops : ReadLines → (buf : List ℕ) (stop : TraceStop) → BytesGive (Err stop) reader (inputs Events) buf after (mid.left Events) → Moves {A = ℕ} (Err stop) reader after
       → GivesUp (phase (trace_stop stop)) (trace_stop stop) (duplex_step s inputs) (may_read s) inputs old mid
-  trace_stops read buf stops.Read e moves = record {
+  trace_stops lines buf stops.Read e moves = record {
     part = of Events e.taken;
-    partly = trace_part s inputs e.taken e.free;
+    partly = trace_part laws s inputs e.taken e.free;
     could = going moves.0;
-    left = laws.one_read Events e.taken old mid inputs told e.gone others;
-    written = same;
+    left = laws.some inputs old mid e.taken read e.gone;
+    written = read.written;
   }
-  trace_stops read buf (stops.Bad line) e moves =
+  trace_stops lines buf (stops.Bad line) e moves =
       bad_ends (BadLine line) _
-      (line_is s inputs (inputs Events) None (some_bytes (inputs Events) e.0) (omega (arith, moves.1, at.lines_are)) (long_is_bad read (first_line (inputs Events)) e.0)
+      (line_is s inputs (inputs Events) None (some_bytes (inputs Events) e.0) (omega (arith, moves.1, at.lines_are)) (long_is_bad lines (first_line (inputs Events)) e.0)
       ∙ ap (λ (n : ℕ). step_of (bad_line (BadLine n))) (ap (λ (n : ℕ). n + 1) at.lines_are ∙ sym moves.2))
     where
       some_bytes : (trace : List ℕ) → 64 < length (first_line trace) → 0 < length trace
       some_bytes [] long = absurd (omega (arith, long))
       some_bytes (b ∷ trace) long = omega arith
-  trace_stops read buf (stops.TooMany line) e moves =
+  trace_stops lines buf (stops.TooMany line) e moves =
       bad_ends (TooMany line) _
       (many_is s inputs (inputs Events) e.0 (at.lines_are ∙ moves.1)
       ∙ ap (λ (n : ℕ). step_of (bad_line (TooMany n))) (omega (arith, at.lines_are, moves.1, moves.2)))
@@ -261,10 +207,7 @@ module _ (laws : TurnLaws) (s : DuplexState) (inputs : Role → List ℕ) (old m
     found_number = moves.1 ∙ ap (λ (n : ℕ). n + 1) (sym at.lines_are)
 
     pub found_taken : HasTaken inputs old mid
-    found_taken = record {
-      left = laws.one_read Events (line_size (inputs Events)) old mid inputs told (e.0.gone ∙ ap (λ (l : List ℕ). Some l) (sym (line_gone (inputs Events)))) others;
-      written = same;
-    }
+    found_taken = laws.line inputs old mid read e.0.gone
 
     pub found_could : may_read s ≡ true
     found_could = going moves.0
@@ -276,39 +219,26 @@ module _ (laws : TurnLaws) (s : DuplexState) (inputs : Role → List ℕ) (old m
     -- an empty line
     pub found_empty : party_event (take found.1 buf) ≡ Some None → (stands : DuplexState → (Role → List ℕ) → Type 0)
         → stands (after_line s (inputs Events)) (behind inputs (of Events (line_size (inputs Events))))
-        → Went (duplex_step s inputs) stands may_read (may_read s) inputs old mid
-    found_empty said stands kept =
+        → Gains no_texts mid.written mid.written → Went (duplex_step s inputs) stands may_read (may_read s) inputs old mid
+    found_empty said stands kept silent =
         subst (λ (b : Bool). Went (duplex_step s inputs) stands may_read b inputs old mid) (sym found_could)
-        (line_goes laws s inputs old mid found_taken s _ stands (found_is (Some None) said) kept)
+        (line_goes s inputs old mid found_taken s no_texts _ stands (found_is (Some None) said) kept mid refl silent)
 
-  -- ---- the end of the trace: it was read out before, or is now
-
+  -- the end of the trace
   module _ (buf : List ℕ) (e : BytesGive (Ok None) reader (inputs Events) buf after (mid.left Events)) (over : reader.ended ≡ true → inputs Events ≡ []) (new : Outside) (still : new.left ≡ mid.left) where
-    nothing : inputs Events ≡ []
-    nothing = by_end reader.ended refl
-      where
-        by_end : (b : Bool) → reader.ended ≡ b → inputs Events ≡ []
-        by_end true is = over is
-        by_end false is = e.1 is
+    out : IsPlayedOut inputs old mid new
+    out = laws.over reader inputs old mid new read e over still
 
     end_is : duplex_step s inputs ≡ step_of (all_played s)
-    end_is = ap (trace_step s inputs) nothing
-
-    told_still : Tells new inputs
-    told_still r input = ap (λ (l : Role → Option (List ℕ)). l r) still ∙ laws.none_read Events old mid inputs told nothing (e.0 ∙ ap (λ (l : List ℕ). Some l) nothing) others r input
+    end_is = ap (trace_step s inputs) out.nothing
 
     pub read_out : new.left Events ≡ Some []
-    read_out = told_still Events refl ∙ ap (λ (l : List ℕ). Some l) nothing
+    read_out = out.told Events refl ∙ ap (λ (l : List ℕ). Some l) out.nothing
 
     pub trace_ends : Gains (both_counts s.params s.ways) mid.written new.written → Ended (duplex_step s inputs) Fine inputs old new
-    trace_ends gains = record {
-      last = all_played s;
-      is = end_is;
-      by = laws.ends Fine no_bytes (both_counts s.params s.ways) inputs old new told_still
-          (subst (λ (w : Role → Option (List ℕ)). Gains (both_counts s.params s.ways) w new.written) same gains);
-    }
+    trace_ends gains = record { last = all_played s; is = end_is; by = out.ends (both_counts s.params s.ways) gains }
 
     pub trace_cut : GainsFronts (both_counts s.params s.ways) mid.written new.written → GainsFronts (step_texts (duplex_step s inputs)) old.written new.written
     trace_cut gains =
         subst (λ (x : Step DuplexState). GainsFronts (step_texts x) old.written new.written) (sym end_is)
-        (subst (λ (w : Role → Option (List ℕ)). GainsFronts (both_counts s.params s.ways) w new.written) same gains)
+        (subst (λ (w : Role → Option (List ℕ)). GainsFronts (both_counts s.params s.ways) w new.written) read.written gains)

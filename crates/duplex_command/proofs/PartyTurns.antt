@@ -1,88 +1,19 @@
--- The kinds of turns of a party, and how the answers of two steps add up.
-use Rattle.std.proofs.Common.{◌≡◌, ℕ, ◌≤◌, Bool, true, List, Option, Result, Ok, Err, IsErrAnd, IsErrOf, refl, sym, subst, ◌∙◌, arith}
-use Rattle.h263_outside.specs.Desk.{Faults, NoneFalls, OnlyReads, OnlyWrites, Outside, Rose}
+-- The kinds of turns of a party.
+use Rattle.std.proofs.Common.{◌≡◌, ℕ, Bool, true, List, Result, Ok, Err, IsErrAnd, sym, subst, ◌∙◌}
+use Rattle.h263_outside.specs.Desk.{Outside, Rose}
 use Rattle.h263_outside.specs.declared.desk.Role.{Role}
 use Rattle.h263_outside.specs.declared.desk.Role.TheVariants.{Events}
-use Rattle.y4m.specs.declared.fault.VideoStop.{VideoStop}
-use Rattle.y4m.specs.declared.fault.VideoStop.TheVariants as video
-use Rattle.loss_trace.specs.declared.fault.TraceStop.{TraceStop}
-use Rattle.loss_trace.specs.declared.fault.TraceStop.TheVariants as trace
 use Rattle.loss_trace.specs.declared.reader.TraceReader.{TraceReader}
 use Rattle.call_report.specs.declared.status.Status.{Status}
 use Rattle.call_report.specs.declared.status.Status.TheVariants.{WriteFault}
-use Rattle.call_report.specs.Status.{Phase, phase, trace_stop, video_stop}
-use Rattle.call_report.specs.Status.Phase.{finished, refused, unread, unwritten, starved, unasked, unopened}
+use Rattle.call_report.specs.Status.{phase}
 use Rattle.desk_program.specs.Run.{Step}
-use Rattle.desk_program.specs.Ends.{CauseIn, GainsFronts, GivesUp, HasCause, IsStop, KeepsRoles, Went, step_texts}
+use Rattle.desk_program.specs.Ends.{GainsFronts, GivesUp, HasCause, IsStop, KeepsRoles, Went, step_texts}
 use Rattle.duplex_call.specs.declared.line.Party.{Party}
 use Rattle.duplex_command.specs.declared.station.Station.{Station}
 use Rattle.duplex_command.specs.Duplex.{DuplexState, may_read}
 use Rattle.duplex_command.specs.Standing.{StationsReady, StationsStand}
 use Rattle.duplex_command.specs.Turning.{IsPartyTurn}
-
--- ---- how the answers of two steps add up
-
--- a count that rose after a read rose since before it
-pub cause_since : (status : Status) (old mid new : Faults) → NoneFalls old mid → ((a b c : ℕ) → a ≤ b → Rose b c → Rose a c) → HasCause status mid new → HasCause status old new
-cause_since status old mid new still rose cause = by_phase (phase status) cause
-  where
-    by_phase : (ph : Phase) → CauseIn ph mid new → CauseIn ph old new
-    by_phase unread cause = rose old.read mid.read new.read still.read cause
-    by_phase unwritten cause = rose old.write mid.write new.write still.write cause
-    by_phase (unopened role) cause = rose old.attach mid.attach new.attach still.attach cause
-    by_phase finished cause = tt
-    by_phase refused cause = tt
-    by_phase starved cause = tt
-    by_phase unasked cause = tt
-
--- after reads, and after writes
-pub reads_keep : (old new : Outside) → OnlyReads old new → KeepsRoles old new
-reads_keep old new r = record { attached = r.attached; name = r.name; faults = r.faults; loans = r.loans }
-
-pub writes_keep : (old new : Outside) → OnlyWrites old new → KeepsRoles old new
-writes_keep old new r = record { attached = r.attached; name = r.name; faults = r.faults; loans = r.loans }
-
-pub keeps_then : (old mid new : Outside) → KeepsRoles old mid → KeepsRoles mid new → KeepsRoles old new
-keeps_then old mid new first keeps = record {
-  attached = keeps.attached ∙ first.attached;
-  name = keeps.name ∙ first.name;
-  faults = record {
-    attach = omega (arith, first.faults.attach, keeps.faults.attach);
-    read = omega (arith, first.faults.read, keeps.faults.read);
-    write = omega (arith, first.faults.write, keeps.faults.write);
-  };
-  loans = keeps.loans ∙ first.loans;
-}
-
-pub roles_same : (now : Outside) → KeepsRoles now now
-roles_same now = record {
-  attached = refl;
-  name = refl;
-  faults = record { attach = omega arith; read = omega arith; write = omega arith };
-  loans = refl;
-}
-
--- ---- why a turn stops
-
-pub video_stops : (stop : VideoStop) → IsStop (video_stop stop)
-video_stops video.Read = tt
-video_stops (video.Refused fault) = tt
-
-pub video_cause : (stop : VideoStop) (old new : Faults) → (IsErrOf {T = Bool} {E = VideoStop} (Err stop) video.Read → Rose old.read new.read) → HasCause (video_stop stop) old new
-video_cause video.Read old new rose = rose refl
-video_cause (video.Refused fault) old new rose = tt
-
-pub trace_halts : (stop : TraceStop) → IsStop (trace_stop stop)
-trace_halts trace.Read = tt
-trace_halts (trace.Bad line) = tt
-trace_halts (trace.TooMany line) = tt
-
-pub trace_cause : (stop : TraceStop) (old new : Faults) → (IsErrOf {T = Option (ℕ × ℕ)} {E = TraceStop} (Err stop) trace.Read → Rose old.read new.read) → HasCause (trace_stop stop) old new
-trace_cause trace.Read old new rose = rose refl
-trace_cause (trace.Bad line) old new rose = tt
-trace_cause (trace.TooMany line) old new rose = tt
-
--- ---- kinds of turns
 
 module _ (x : Party) (own far : Station) (mid new : Outside) (room : ℕ)
     (Begins : TraceReader → Outside → DuplexState → (Role → List ℕ) → Type 0)

@@ -13,8 +13,8 @@ use Rattle.call_report.specs.declared.status.Status.TheVariants.{Ok as Fine, Tra
 use Rattle.call_report.specs.Status.{Phase, phase}
 use Rattle.call_report.specs.Status.Phase.{finished, refused, unread, unwritten, starved, unasked, unopened}
 use Rattle.desk_program.specs.Run.{Step}
-use Rattle.desk_program.specs.Ends.{Ended, Falls, GainsFronts, GivesUp, HasCause, IsStop, KeepsRoles, OnEnd, OnGoing, OnSettled, OnceSettled, Tells, TurnGives, Went, step_texts, turn_status}
-use Rattle.desk_program.specs.Laws.{TurnLaws}
+use Rattle.desk_program.specs.Ends.{Ended, Falls, Gains, GainsFronts, GivesUp, HasCause, IsStop, KeepsRoles, OnEnd, OnGoing, OnSettled, OnceSettled, Tells, TurnGives, Went, step_texts, turn_status}
+use Rattle.desk_program.specs.Texts.{no_texts}
 use Rattle.duplex_call.specs.declared.line.Party.{Party}
 use Rattle.duplex_call.specs.declared.line.Party.TheVariants.{A}
 use Rattle.duplex_call.specs.Lines.{party_event}
@@ -22,11 +22,12 @@ use Rattle.duplex_command.specs.declared.event.Said.{Said}
 use Rattle.duplex_command.specs.declared.talk.Talk.{Talk}
 use Rattle.duplex_command.specs.Duplex.{DuplexState, after_line, duplex_step, line_step, may_read, party_step}
 use Rattle.call_command.specs.Call.{line_size}
+use Rattle.call_command.specs.Laws.{LineLaws, StepLaws}
+use Rattle.call_command.specs.Standing.{ReadsTrace}
 use Rattle.duplex_command.specs.Standing.{DuplexOpens, StationsReady, StationsStand, TalkReady, TalkStands, more_of}
 use Rattle.duplex_command.specs.Turning.{IsRead, TakesLine, TakesTurn}
 use Rattle.duplex_command.proofs.AtParty.{ready_so}
 use Rattle.duplex_command.proofs.LineTurning.{IsReadAt, found_bad, found_could, found_empty, found_is, found_number, found_taken, passed}
-use Rattle.duplex_command.proofs.PartyTurns.{cause_since, keeps_then, reads_keep, roles_same}
 
 -- what the reader says, where its answer is known
 pub says : (r known : Result (Option (ℕ × ℕ)) TraceStop) (old new : TraceReader) (rest buf : List ℕ) (left : Option (List ℕ)) → r ≡ known → BytesGive r old rest buf new left → BytesGive known old rest buf new left
@@ -124,10 +125,13 @@ pub record WasRead (m : Talk) (after : TraceReader) (buf : List ℕ) (found : �
   pub rest : OnlyReads old mid
   pub few : after.lines ≤ 16777216
 
-module _ (turns : TurnLaws) (m : Talk) (after : TraceReader) (buf : List ℕ) (found : ℕ × ℕ) (old mid : Outside) (w : WasRead m after buf found old mid) where
+module _ (lines : LineLaws) (steps : StepLaws) (m : Talk) (after : TraceReader) (buf : List ℕ) (found : ℕ × ℕ) (old mid : Outside) (w : WasRead m after buf found old mid) where
   module _ (s : DuplexState) (inputs : Role → List ℕ) (k : TalkStands m s inputs) (told : Tells old inputs) where
     abbrev e : BytesGive (Ok (Some found)) m.trace (inputs Events) buf after (mid.left Events)
     e = w.gives (inputs Events) (told Events refl)
+
+    only : ReadsTrace inputs old mid
+    only = record { told = told; others = w.others; written = w.rest.written }
 
     at : IsReadAt s m.trace
     at = record { lines_are = k.lines; ended_is = k.ended }
@@ -136,26 +140,26 @@ module _ (turns : TurnLaws) (m : Talk) (after : TraceReader) (buf : List ℕ) (f
     fits = take_within found.1 buf (ap (λ (l : List ℕ). length l) e.2 ∙ e.1)
 
     step_is : (o : Option (Option (Party × Line))) → party_event (take found.1 buf) ≡ o → duplex_step s inputs ≡ line_step s inputs o
-    step_is o said = found_is turns s inputs old mid told w.others w.rest.written m.trace after at buf found e w.moves w.few o said
+    step_is o said = found_is lines s inputs old mid only m.trace after at buf found e w.moves w.few o said
 
     could : may_read s ≡ true
-    could = found_could turns s inputs old mid told w.others w.rest.written m.trace after at buf found e w.moves w.few
+    could = found_could lines s inputs old mid only m.trace after at buf found e w.moves w.few
 
     stood : StationsStand A m.a m.b after (after_line s (inputs Events)) (drop (line_size (inputs Events)) (inputs Events))
-    stood = passed A m.a m.b s (inputs Events) m.trace after (mid.left Events) k w.moves.2 e.0
+    stood = passed lines A m.a m.b s (inputs Events) m.trace after (mid.left Events) k w.moves.2 e.0
 
     line_read : IsRead A m.a m.b found.0 after mid old s inputs
     line_read = record {
       stood = stood;
-      number = found_number turns s inputs old mid told w.others w.rest.written m.trace after at buf found e w.moves w.few;
-      taken = found_taken turns s inputs old mid told w.others w.rest.written m.trace after at buf found e w.moves w.few;
+      number = found_number lines s inputs old mid only m.trace after at buf found e w.moves w.few;
+      taken = found_taken lines s inputs old mid only m.trace after at buf found e w.moves w.few;
     }
 
   -- a line that says nothing
   pub line_bad : (found.1 ≤ length buf → party_event (take found.1 buf) ≡ None) → (s : DuplexState) (inputs : Role → List ℕ) → TalkStands m s inputs → Tells old inputs
       → Ended (duplex_step s inputs) (TraceRefused (BadLine found.0)) inputs old mid
   line_bad said s inputs k told =
-      found_bad turns s inputs old mid told w.others w.rest.written m.trace after (at s inputs k told) buf found (e s inputs k told) w.moves w.few (said (fits s inputs k told))
+      found_bad lines s inputs old mid (only s inputs k told) m.trace after (at s inputs k told) buf found (e s inputs k told) w.moves w.few (said (fits s inputs k told))
 
   fewer : 16777216 - after.lines + 1 ≡ 16777216 - m.trace.lines
   fewer = omega (arith, w.moves.2, w.few)
@@ -164,19 +168,20 @@ module _ (turns : TurnLaws) (m : Talk) (after : TraceReader) (buf : List ℕ) (f
   opens_still new r rest = subst DuplexOpens (sym (rest.attached ∙ w.rest.attached)) r.opens
 
   -- an empty line
-  pub line_empty : (found.1 ≤ length buf → party_event (take found.1 buf) ≡ Some None) → TalkReady m old.attached → TakesTurn m (record m { trace = after }) (Ok true) old mid
-  line_empty said r =
-      turn_goes_on m (record m { trace = after }) old mid fewer (record { opens = opens_still mid r (roles_same mid); stations = r.stations }) (reads_keep old mid w.rest)
+  pub line_empty : (found.1 ≤ length buf → party_event (take found.1 buf) ≡ Some None) → TalkReady m old.attached → Gains no_texts mid.written mid.written
+      → TakesTurn m (record m { trace = after }) (Ok true) old mid
+  line_empty said r silent =
+      turn_goes_on m (record m { trace = after }) old mid fewer (record { opens = opens_still mid r (steps.none mid); stations = r.stations }) (steps.reads old mid w.rest)
       (λ s inputs k told.
-      found_empty turns s inputs old mid told w.others w.rest.written m.trace after (at s inputs k told) buf found (e s inputs k told) w.moves w.few (said (fits s inputs k told))
-      (TalkStands (record m { trace = after })) (stood s inputs k told))
+      found_empty lines s inputs old mid (only s inputs k told) m.trace after (at s inputs k told) buf found (e s inputs k told) w.moves w.few (said (fits s inputs k told))
+      (TalkStands (record m { trace = after })) (stood s inputs k told) silent)
 
   -- a line that says an event of a party
   pub line_done : (said : Said) → said.line ≡ found.0 → (found.1 ≤ length buf → party_event (take found.1 buf) ≡ Some (Some (said.party, said.event)))
-      → ((a b c : ℕ) → a ≤ b → Rose b c → Rose a c) → TalkReady m old.attached
+      → TalkReady m old.attached
       → (y : Talk) (r : Result Bool Status) (new : Outside) (room : ℕ) → y.trace ≡ after → length y.frame.items ≡ room
       → TakesLine m.a m.b y.a y.b said r mid new room → TakesTurn m y r old new
-  line_done said number said_so rose ready y r new room trace_is frame_is t = record {
+  line_done said number said_so ready y r new room trace_is frame_is t = record {
     gives = λ s inputs k told.
         let stands : DuplexState → (Role → List ℕ) → Type 0 = λ next rest. StationsStand A y.a y.b after next (rest Events) in
         subst (λ (reader : TraceReader). TurnGives r (duplex_step s inputs) (λ next rest. StationsStand A y.a y.b reader next (rest Events)) may_read (may_read s) inputs old new) (sym trace_is)
@@ -188,6 +193,6 @@ module _ (turns : TurnLaws) (m : Talk) (after : TraceReader) (buf : List ℕ) (f
     ready = ready_so r (StationsReady y.a y.b room) (TalkReady y new.attached)
         (λ stations. record { opens = opens_still new ready t.rest; stations = subst (λ (n : ℕ). StationsReady y.a y.b n) (sym frame_is) stations }) t.ready;
     stop = t.stop;
-    cause = cause_since (turn_status r) old.faults mid.faults new.faults w.rest.faults rose t.cause;
-    rest = keeps_then old mid new (reads_keep old mid w.rest) t.rest;
+    cause = steps.since (turn_status r) old.faults mid.faults new.faults w.rest.faults t.cause;
+    rest = steps.both old mid new (steps.reads old mid w.rest) t.rest;
   }

@@ -87,6 +87,8 @@ fn send_frame<D: Desk>(
     desk_program_laws::of_turns();
     outside_laws::calls();
     call_command_laws::of_the_video();
+    call_command_laws::of_lines();
+    call_command_laws::of_steps();
     laws::of_refusals();
     if !own.video.frame(desk, planes)? {
         return Err(Status::TraceRefused {
@@ -113,6 +115,8 @@ fn party_turn<D: Desk>(
         result (D.outside desk.old) (D.outside desk.new) (length frame.old) }
 {
     desk_program_laws::of_turns();
+    call_command_laws::of_lines();
+    call_command_laws::of_steps();
     laws::of_refusals();
     if let Err(refusal) = check(said.event, own, far) {
         let fault = fault_at(said.line, refusal);

@@ -5,6 +5,7 @@ ghost use Rattle.duplex_call.specs.Lines.{party_event};
 use crate::Station;
 use crate::event::{Said, event_turn};
 use crate::show::tell_counts;
+use call_command::laws as call_command_laws;
 use call_report::Status;
 use desk_program::{Turns, laws as desk_program_laws};
 use duplex_call::{Party, party_line};
@@ -53,6 +54,8 @@ impl Talk {
     {
         desk_program_laws::of_turns();
         outside_laws::calls();
+        call_command_laws::of_lines();
+        call_command_laws::of_steps();
         loss_trace_laws::exact_lines();
         let mut bytes = [0; 64];
         let Some((line, length)) = self.trace.raw(desk, &mut bytes)? else {

@@ -498,12 +498,15 @@ fn conversed(alloc: Global) -> Result<(Status, bool, bool), OutOfMemory> {
             return Err(OutOfMemory);
         }
     };
+    let terms = Terms {
+        params,
+        plain: true,
+    };
     let status = match hear_another(alloc, &params, &mut receiver) {
         Ok(()) => converse(
             alloc,
             &mut desk,
-            &params,
-            true,
+            &terms,
             &mut video,
             &mut sender,
             &mut receiver,
@@ -546,11 +549,14 @@ fn refused(alloc: Global, trace: &[u8]) -> Result<(Status, bool), OutOfMemory> {
     };
     let params = Params::of(video.format());
     let mut both = Both::start(alloc, &params)?;
+    let terms = Terms {
+        params,
+        plain: false,
+    };
     let status = converse(
         alloc,
         &mut desk,
-        &params,
-        false,
+        &terms,
         &mut video,
         &mut both.sender,
         &mut both.receiver,

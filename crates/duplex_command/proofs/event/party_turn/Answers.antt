@@ -13,7 +13,7 @@ use Rattle.duplex_command.specs.Duplex.{event_step}
 use Rattle.duplex_command.specs.Standing.{StationsStand}
 use Rattle.duplex_command.specs.Turning.{IsRead, MayBeDone}
 use Rattle.duplex_command.proofs.Doing.{asked, event_cut, event_done, event_goes, frame_asked, is_in_call, line_is_refused, may_happen, one_left, play_cut, play_goes, stands_event, station_kept, step_is}
-use Rattle.duplex_command.proofs.PartyTurns.{gave_up, roles_same, writes_keep}
+use Rattle.duplex_command.proofs.PartyTurns.{gave_up}
 use Rattle.duplex_command.proofs.event.party_turn.Goals as goal
 
 pub check-requires : goal.check-requires
@@ -28,9 +28,9 @@ returns-in-Err g c =
     let x = said.party in
     let status = TraceRefused c.fault_at-fault.result in
     gave_up x own far old old (length c.args.frame.now) (λ trace. IsRead x own far said.line trace old) (λ s inputs. event_step Video Pictures VideoRefused x s (inputs Events) inputs said.event)
-    (Err status) status refl tt tt (roles_same old)
+    (Err status) status refl tt tt (c.of_steps.ensures.none old)
     (λ trace o s inputs b.
-    line_is_refused x own far said.line trace o old s inputs b c.of_turns.ensures c.in-Err.refusal c.fault_at-fault.result c.fault_at-fault.ensures said.event
+    line_is_refused x own far said.line trace o old s inputs b c.of_lines.ensures c.in-Err.refusal c.fault_at-fault.result c.fault_at-fault.ensures said.event
     (c.in-Err.ensures.refusal s.params x s.ways b.stood.holds))
 
 pub returns-in-Nothing : goal.returns-in-Nothing
@@ -40,7 +40,7 @@ returns-in-Nothing g c =
     let far = c.args.far.now in
     let said = c.args.said in
     let x = said.party in
-    event_done x own far own far said.line (length c.args.frame.now) said.event says.Nothing old old c.in-Nothing.is c.requires.ready (roles_same old)
+    event_done x own far own far said.line (length c.args.frame.now) said.event says.Nothing old old c.in-Nothing.is c.requires.ready (c.of_steps.ensures.none old)
     (λ trace o s inputs b. event_goes x own far said.line trace o old s inputs b c.of_turns.ensures own far says.Nothing s.ways refl refl refl b.stood.holds)
 
 pub returns-in-Back : goal.returns-in-Back
@@ -92,7 +92,7 @@ returns-in-Packet g c =
       far_ready = station_kept far done.new.far room r.far_ready done.ensures.keeps.far_params done.ensures.keeps.far_sent;
       ends = done.ensures.ready;
     })
-    (roles_same old)
+    (c.of_steps.ensures.none old)
     (λ trace o s inputs b.
     let none : refusal_of (sides s.params) (one_left s.params x s.ways) x (Deliver n j) s.ways ≡ None =
     asked (Ok c.in_default.field-0) said.event (says.Packet n j) (λ e. refusal_of (sides s.params) (one_left s.params x s.ways) x e s.ways) c.in-Packet.is
@@ -124,7 +124,7 @@ returns-in-All g c =
       far_ready = station_kept far done.new.far room r.far_ready done.ensures.keeps.far_params done.ensures.keeps.far_sent;
       ends = done.ensures.ready;
     })
-    (roles_same old)
+    (c.of_steps.ensures.none old)
     (λ trace o s inputs b.
     let none : refusal_of (sides s.params) (one_left s.params x s.ways) x (Deliver n 0) s.ways ≡ None =
     asked (Ok c.in_default.field-0) said.event (says.All n) (λ e. refusal_of (sides s.params) (one_left s.params x s.ways) x e s.ways) c.in-All.is
@@ -152,7 +152,7 @@ returns-in_err-play_next-in-Play g c =
     let far_new : Station = record far { ends = c.play_next.new.far } in
     let failed = c.in_err-play_next-in-Play in
     event_cut x own far own_new far_new said.line (length c.args.frame.now) said.event says.Play old new c.in-Play.is
-    c.from_residual.result failed.field-0.0 c.from_residual.ensures.1 failed.ensures.kind failed.ensures.cause (writes_keep old new c.play_next.ensures.rest)
+    c.from_residual.result failed.field-0.0 c.from_residual.ensures.1 failed.ensures.kind failed.ensures.cause (c.of_steps.ensures.writes old new c.play_next.ensures.rest)
     (λ trace o s inputs b.
     let none : refusal_of (sides s.params) (one_left s.params x s.ways) x Play s.ways ≡ None =
     asked (Ok c.in_default.field-0) said.event says.Play (λ e. refusal_of (sides s.params) (one_left s.params x s.ways) x e s.ways) c.in-Play.is
@@ -181,7 +181,7 @@ returns-in_ok-play_next-in-Play g c =
       far_ready = station_kept far c.play_next.new.far room r.far_ready done.keeps.far_params (ap (λ s. s.sent) done.keeps.far_sender);
       ends = done.ready;
     })
-    (writes_keep old new done.rest)
+    (c.of_steps.ensures.writes old new done.rest)
     (λ trace o s inputs b.
     let none : refusal_of (sides s.params) (one_left s.params x s.ways) x Play s.ways ≡ None =
     asked (Ok c.in_default.field-0) said.event says.Play (λ e. refusal_of (sides s.params) (one_left s.params x s.ways) x e s.ways) c.in-Play.is

@@ -28,9 +28,9 @@ use Rattle.call_command.specs.declared.carrier.Carrier.{Carrier}
 use Rattle.call_command.specs.Call.{CallState, may_read}
 use Rattle.call_command.specs.Standing.{PartsStand, parts_of, state_of}
 use Rattle.call_command.specs.Turning.{Names, names_of}
-use Rattle.call_command.proofs.Counting.{counts_are, keeps_then, plainly, reads_keep, turn_gave_up, turn_goes_on, turn_is_over, turn_was_cut, video_answers, video_cause, video_stops, writes_keep}
+use Rattle.call_command.proofs.Counting.{counts_are, plainly, reads_keep, reads_then_writes, turn_gave_up, turn_goes_on, turn_is_over, turn_was_cut, video_answers, video_cause, video_stops}
 use Rattle.call_command.proofs.Framing.{among_last, at, count_of, may_deliver, may_play, may_send, stands_after, texts_are}
-use Rattle.call_command.proofs.FrameTurning.{end_cut, frame_cut, frame_goes, frame_stops, given, gives_so, lent, video_ends}
+use Rattle.call_command.proofs.FrameTurning.{end_cut, frame_cut, frame_goes, frame_stops, given_so, gives_so, lent, video_ends}
 use Rattle.call_command.proofs.Readying.{can_still, few_mbs, plain_keeps, ready_so}
 use Rattle.call_command.proofs.world.World.frame_turn.Goals as goal
 
@@ -43,7 +43,7 @@ returns-in_err-frame g c =
     let x = parts_of m in
     let stop = c.in_err-frame.field-0.0 in
     turn_gave_up m _ old mid c.from_residual.result (video_stop stop) c.from_residual.ensures.1 refl (video_answers m.terms.plain stop) (video_stops stop)
-    (video_cause stop old.faults mid.faults c.in_err-frame.ensures.cause) (reads_keep old mid c.frame.ensures.rest)
+    (video_cause stop old.faults mid.faults (λ is. c.in_err-frame.ensures.cause (ap (λ e. Err e) is))) (reads_keep old mid c.frame.ensures.rest)
     (λ s inputs k told.
     let here = state_of x s.before s.frames s.past in
     let e = gives_so (Err stop) here x.video c.frame.new.self (inputs Video) c.frame.new.out _ refl refl c.requires.ready.format (c.in_err-frame.ensures.gives (inputs Video) (told Video refl)) in
@@ -62,12 +62,10 @@ returns-in_err-tell_counts g c =
     let counts = counts_of x.carrier.network.way.tally x.receiver.played x.sender.sent in
     turn_was_cut m _ old new c.from_residual-in_err-tell_counts.result c.in_err-tell_counts.field-0.0 c.from_residual-in_err-tell_counts.ensures.1 refl c.in_err-tell_counts.ensures.kind
     (c.calls.ensures.rose_since old.faults.write mid.faults.write new.faults.write c.frame.ensures.rest.faults.write c.in_err-tell_counts.ensures.cause)
-    (keeps_then old mid new (reads_keep old mid c.frame.ensures.rest) (writes_keep mid new c.tell_counts.ensures.rest))
+    (reads_then_writes old mid new c.frame.ensures.rest c.tell_counts.ensures.rest)
     (λ s inputs k told.
     let here = state_of x s.before s.frames s.past in
-    let e = gives_so (Ok false) here x.video c.frame.new.self (inputs Video) c.frame.new.out _ refl refl c.requires.ready.format
-    (given (Ok c.in_ok-frame.field-0) (Ok false) x.video c.frame.new.self (inputs Video) c.frame.new.out _ (ap (λ (b : Bool). Ok b) c.if-not-branch.true) (c.in_ok-frame.ensures.gives (inputs Video) (told Video refl)))
-    in
+    let e = given_so (Ok c.in_ok-frame.field-0) (Ok false) here x.video c.frame.new.self (inputs Video) c.frame.new.out _ (ap (λ (b : Bool). Ok b) c.if-not-branch.true) refl refl c.requires.ready.format (c.in_ok-frame.ensures.gives (inputs Video) (told Video refl)) in
     plainly x s inputs k.is c.requires.plain (λ (step : Step CallState) (now : Bool). GainsFronts (step_texts step) old.written new.written)
     (end_cut c.of_turns.ensures c.of_the_video.ensures inputs old mid told c.frame.ensures.others c.frame.ensures.rest.written new c.tell_counts.ensures.rest.left here c.frame.new.out c.frame.new.self e
     counts (counts_are x (c.of_the_way.ensures x.terms.params) s inputs k) c.in_err-tell_counts.ensures.err))
@@ -81,18 +79,17 @@ returns-then-not-branch g c =
     let m = c.args.self.now in
     let x = parts_of m in
     let counts = counts_of x.carrier.network.way.tally x.receiver.played x.sender.sent in
-    turn_is_over m _ old new refl (keeps_then old mid new (reads_keep old mid c.frame.ensures.rest) (writes_keep mid new c.tell_counts.ensures.rest))
+    turn_is_over m _ old new refl (reads_then_writes old mid new c.frame.ensures.rest c.tell_counts.ensures.rest)
     (λ s inputs k told.
     let here = state_of x s.before s.frames s.past in
-    let e = gives_so (Ok false) here x.video c.frame.new.self (inputs Video) c.frame.new.out _ refl refl c.requires.ready.format
-    (given (Ok c.in_ok-frame.field-0) (Ok false) x.video c.frame.new.self (inputs Video) c.frame.new.out _ (ap (λ (b : Bool). Ok b) c.if-not-branch.true) (c.in_ok-frame.ensures.gives (inputs Video) (told Video refl)))
-    in
+    let e = given_so (Ok c.in_ok-frame.field-0) (Ok false) here x.video c.frame.new.self (inputs Video) c.frame.new.out _ (ap (λ (b : Bool). Ok b) c.if-not-branch.true) refl refl c.requires.ready.format (c.in_ok-frame.ensures.gives (inputs Video) (told Video refl)) in
     plainly x s inputs k.is c.requires.plain (λ (step : Step CallState) (now : Bool). Ended step Fine inputs old new)
     (video_ends c.of_turns.ensures c.of_the_video.ensures inputs old mid told c.frame.ensures.others c.frame.ensures.rest.written new c.tell_counts.ensures.rest.left here c.frame.new.out c.frame.new.self e
     counts (counts_are x (c.of_the_way.ensures x.terms.params) s inputs k) c.in_ok-tell_counts.ensures.ok))
     (λ s inputs k told.
-    let gone = (given (Ok c.in_ok-frame.field-0) (Ok false) x.video c.frame.new.self (inputs Video) c.frame.new.out _ (ap (λ (b : Bool). Ok b) c.if-not-branch.true) (c.in_ok-frame.ensures.gives (inputs Video) (told Video refl))).1 in
-    let out = ap (λ (l : Role → Option (List ℕ)). l Video) c.tell_counts.ensures.rest.left ∙ gone in
+    let here = state_of x s.before s.frames s.past in
+    let e = given_so (Ok c.in_ok-frame.field-0) (Ok false) here x.video c.frame.new.self (inputs Video) c.frame.new.out _ (ap (λ (b : Bool). Ok b) c.if-not-branch.true) refl refl c.requires.ready.format (c.in_ok-frame.ensures.gives (inputs Video) (told Video refl)) in
+    let out = ap (λ (l : Role → Option (List ℕ)). l Video) c.tell_counts.ensures.rest.left ∙ e.1 in
     subst (λ (b : Bool). new.left (if b then Video else Events) ≡ Some []) (sym c.requires.plain) out)
     (λ s stand. stand)
 
@@ -111,16 +108,14 @@ returns-in_err-play_next g c =
     turn_was_cut m _ old new c.from_residual-in_err-play_next.result c.in_err-play_next.field-0.0 c.from_residual-in_err-play_next.ensures.1
     (ap (λ (q : FixedPace). let names : Names = record (names_of m) { pace = q } in names) c.send-sent.ensures.same.pace) c.in_err-play_next.ensures.kind
     (c.calls.ensures.rose_since old.faults.write mid.faults.write new.faults.write c.frame.ensures.rest.faults.write c.in_err-play_next.ensures.cause)
-    (keeps_then old mid new (reads_keep old mid c.frame.ensures.rest) (writes_keep mid new c.play_next.ensures.rest))
+    (reads_then_writes old mid new c.frame.ensures.rest c.play_next.ensures.rest)
     (λ s inputs k told.
     let here = state_of x s.before s.frames s.past in
     let level = r.level c.requires.plain in
     let laws = c.of_the_way.ensures p in
     let events = c.of_events.ensures p in
     let later_law = c.later_frames.ensures p in
-    let e = gives_so (Ok true) here x.video c.frame.new.self (inputs Video) out _ refl refl r.format
-    (given (Ok c.in_ok-frame.field-0) (Ok true) x.video c.frame.new.self (inputs Video) out _ (ap (λ (b : Bool). Ok b) c.if-not-branch.false) (c.in_ok-frame.ensures.gives (inputs Video) (told Video refl)))
-    in
+    let e = given_so (Ok c.in_ok-frame.field-0) (Ok true) here x.video c.frame.new.self (inputs Video) out _ (ap (λ (b : Bool). Ok b) c.if-not-branch.false) refl refl r.format (c.in_ok-frame.ensures.gives (inputs Video) (told Video refl)) in
     let out_is : c.deref.result.now ≡ out = lent x.carrier.frame out c.deref.result.now _ c.deref.ensures.value c.frame.auto.out c.deref_mut.ensures.len in
     let picture_is : picture c.new-frame.result ≡ picture_of p.format out = c.new-frame.ensures.picture ∙ ap (λ (l : List ℕ). picture_of p.format l) out_is in
     let all = s.frames ++ bare (picture_of p.format out) ∷ [] in
@@ -171,15 +166,13 @@ returns g c =
     (λ plain. omega (arith, level, c.send-sent.ensures.sent, c.play_next.ensures.played, c.deliver_all.ensures.played))
     long (λ plain. r.unread plain) c.play_next.ensures.counted
     (omega (arith, r.said, c.play_next.ensures.few, c.deliver_all.ensures.few, c.send-sent.ensures.ready.most, few_mbs sender.params.format, c.send-sent.ensures.sent)))
-    (keeps_then old mid new (reads_keep old mid c.frame.ensures.rest) (writes_keep mid new c.play_next.ensures.rest))
+    (reads_then_writes old mid new c.frame.ensures.rest c.play_next.ensures.rest)
     (λ s inputs k told.
     let here = state_of x s.before s.frames s.past in
     let laws = c.of_the_way.ensures p in
     let events = c.of_events.ensures p in
     let later_law = c.later_frames.ensures p in
-    let e = gives_so (Ok true) here x.video c.frame.new.self (inputs Video) out _ refl refl r.format
-    (given (Ok c.in_ok-frame.field-0) (Ok true) x.video c.frame.new.self (inputs Video) out _ (ap (λ (b : Bool). Ok b) c.if-not-branch.false) (c.in_ok-frame.ensures.gives (inputs Video) (told Video refl)))
-    in
+    let e = given_so (Ok c.in_ok-frame.field-0) (Ok true) here x.video c.frame.new.self (inputs Video) out _ (ap (λ (b : Bool). Ok b) c.if-not-branch.false) refl refl r.format (c.in_ok-frame.ensures.gives (inputs Video) (told Video refl)) in
     let out_is : c.deref.result.now ≡ out = lent x.carrier.frame out c.deref.result.now _ c.deref.ensures.value c.frame.auto.out c.deref_mut.ensures.len in
     let picture_is : picture c.new-frame.result ≡ picture_of p.format out = c.new-frame.ensures.picture ∙ ap (λ (l : List ℕ). picture_of p.format l) out_is in
     let f : Frame = bare (picture_of p.format out) in

@@ -25,7 +25,7 @@ use Rattle.call_command.proofs.After.{at_end, below_end}
 use Rattle.call_command.proofs.Behind.{format_is, refusal_here, refusal_later, stands_sent, video_format, video_more, video_place}
 use Rattle.call_command.proofs.Capturing.{frame_missing, frame_sent, frame_stops}
 use Rattle.call_command.proofs.Counting.{gave_up, goes_on, reads_keep, video_answers, video_cause, video_stops}
-use Rattle.call_command.proofs.FrameTurning.{given, gives_so, lent}
+use Rattle.call_command.proofs.FrameTurning.{given_so, gives_so, lent}
 use Rattle.call_command.proofs.Readying.{ready_so}
 use Rattle.call_command.proofs.world.World.send_frame.Goals as goal
 
@@ -40,7 +40,7 @@ returns-in_err-frame g c =
     let out = c.frame.new.out in
     gave_up m _ old mid (IsAsked x c.args.line old) (λ s inputs. capture_step s (inputs Events) (inputs Video)) (λ _. true) (more_of x + 1)
     c.from_residual.result (video_stop stop) c.from_residual.ensures.1 refl (video_answers m.terms.plain stop) (video_stops stop)
-    (video_cause stop old.faults mid.faults c.in_err-frame.ensures.cause) (reads_keep old mid c.frame.ensures.rest)
+    (video_cause stop old.faults mid.faults (λ is. c.in_err-frame.ensures.cause (ap (λ e. Err e) is))) (reads_keep old mid c.frame.ensures.rest)
     (λ o s inputs b.
     let k = b.read.stood in
     let taken = b.read.taken in
@@ -62,9 +62,7 @@ returns-then-not-branch g c =
     (λ o s inputs b.
     let k = b.read.stood in
     let taken = b.read.taken in
-    let e = gives_so (Ok false) s x.video c.frame.new.self (inputs Video) out _ (video_more x s inputs k) (video_place x s inputs k) (video_format x s inputs k c.requires.ready.format)
-    (given (Ok c.in_ok-frame.field-0) (Ok false) x.video c.frame.new.self (inputs Video) out _ (ap (λ (b : Bool). Ok b) c.if-not-branch.true) (c.in_ok-frame.ensures.gives (inputs Video) (taken.left Video refl)))
-    in
+    let e = given_so (Ok c.in_ok-frame.field-0) (Ok false) s x.video c.frame.new.self (inputs Video) out _ (ap (λ (b : Bool). Ok b) c.if-not-branch.true) (video_more x s inputs k) (video_place x s inputs k) (video_format x s inputs k c.requires.ready.format) (c.in_ok-frame.ensures.gives (inputs Video) (taken.left Video refl)) in
     frame_missing c.of_turns.ensures c.of_the_video.ensures s inputs o old mid taken c.frame.ensures.others c.frame.ensures.rest.written c.frame.new.self out c.args.line b.read.number e)
     (λ s stand. stand)
 
@@ -96,9 +94,7 @@ returns g c =
     (λ o s inputs b.
     let k = b.read.stood in
     let taken = b.read.taken in
-    let e = gives_so (Ok true) s x.video c.frame.new.self (inputs Video) out _ (video_more x s inputs k) (video_place x s inputs k) (video_format x s inputs k r.format)
-    (given (Ok c.in_ok-frame.field-0) (Ok true) x.video c.frame.new.self (inputs Video) out _ (ap (λ (b : Bool). Ok b) c.if-not-branch.false) (c.in_ok-frame.ensures.gives (inputs Video) (taken.left Video refl)))
-    in
+    let e = given_so (Ok c.in_ok-frame.field-0) (Ok true) s x.video c.frame.new.self (inputs Video) out _ (ap (λ (b : Bool). Ok b) c.if-not-branch.false) (video_more x s inputs k) (video_place x s inputs k) (video_format x s inputs k r.format) (c.in_ok-frame.ensures.gives (inputs Video) (taken.left Video refl)) in
     let out_is : c.deref.result.now ≡ out = lent x.carrier.frame out c.deref.result.now _ c.deref.ensures.value c.frame.auto.out c.deref_mut.ensures.len in
     let picture_is : picture c.new-frame.result ≡ picture_of s.params.format out = c.new-frame.ensures.picture ∙ (λ i. picture_of (format_is x s inputs k i) (out_is i)) in
     let f : Frame = bare (picture_of s.params.format out) in

@@ -6,16 +6,14 @@ use Rattle.h263_types.specs.declared.format.Format.TheVariants.{SubQcif, Qcif, C
 use Rattle.loss_trace.specs.declared.event.Event.{Event as Line}
 use Rattle.loss_trace.specs.declared.event.Event.TheVariants as says
 use Rattle.call_rings.specs.Keeping.{period_of}
-use Rattle.call_model.specs.IdealCall.{Event as Happens, Deliver, Play, Back}
-use Rattle.receiver_end.specs.State as receiver_end
+use Rattle.call_model.specs.IdealCall.{Event as Happens, Play, Back}
 use Rattle.one_way.specs.declared.way.Way.{Way}
 use Rattle.one_way.specs.Both.{both_after, steady}
-use Rattle.one_way.specs.Counts.{total_of}
 use Rattle.one_way.specs.Way.{CanSend}
 use Rattle.demo_command.specs.declared.demo.Demo.{Demo}
 use Rattle.demo_command.specs.Demo.{made_video}
 use Rattle.demo_command.specs.Machine.{AreInPlace, HasDone}
-use Rattle.demo_command.proofs.Doing.{all_are, as_line, may_now, near_first}
+use Rattle.demo_command.proofs.Doing.{all_are, as_line, may_deliver, may_now, near_first, ready_delivered}
 use Rattle.demo_command.proofs.Made.{steady_is}
 use Rattle.demo_command.proofs.demo.Demo.take_line.Goals as goal
 
@@ -32,49 +30,22 @@ returns-in-Send-clause-done c = λ past h.
     as_line c.args.self.now.terms past says.Send c.args.event (HasDone c.send_made.new.self) c.in-Send.is (c.send_made.ensures.done past h)
 
 pub returns-in-Packet-clause-ready : goal.returns-in-Packet-clause-ready
-returns-in-Packet-clause-ready c =
-    let m = c.args.self.now in
-    let r = c.requires.ready in
-    let way = c.deliver.ensures.way in
-    record {
-      params = r.params;
-      frame = r.frame;
-      sender_params = r.sender_params;
-      can = subst (λ (w : Way). CanSend w m.both.sender) (sym way) r.can;
-      period = ap (λ (w : Way). period_of w.packets) way ∙ r.period;
-      few = r.few;
-      counted = ap (λ (w : Way). total_of w.tally) way ∙ r.counted ∙ sym c.deliver.ensures.played;
-    }
+returns-in-Packet-clause-ready c = ready_delivered c.args.self.now c.requires.ready c.deliver.new.self c.deliver.new.receiver c.deliver.ensures.way c.deliver.ensures.played
 
 pub returns-in-Packet-clause-done : goal.returns-in-Packet-clause-done
 returns-in-Packet-clause-done c = λ past h.
     let m = c.args.self.now in
-    let t = m.terms in
-    let p = t.params in
+    let p = m.terms.params in
     let n = c.in-Packet.number in
     let j = c.in-Packet.place in
     let r = c.requires.ready in
-    let laws = c.of_near_events.ensures p r.params in
-    as_line t past (says.Packet n j) c.args.event (HasDone (record m { both = record m.both { receiver = c.deliver.new.receiver }; network = c.deliver.new.self })) c.in-Packet.is
+    as_line m.terms past (says.Packet n j) c.args.event (HasDone (record m { both = record m.both { receiver = c.deliver.new.receiver }; network = c.deliver.new.self })) c.in-Packet.is
     (λ near.
-    let may = may_now t laws (steady_is p r.params) past (Deliver n j) near in
-    let kept = laws.packets (receiver_end.run_of p []) (steady p) (made_video t) past n j refl (may, h.way_holds.near) in
-    c.deliver.ensures.holds p m.both.sender [] (made_video t) past h (may.0, omega (arith, kept, r.period)) may)
+    let may = may_deliver m r (c.of_near_events.ensures p r.params) past h n j near in
+    c.deliver.ensures.holds p m.both.sender [] (made_video m.terms) past h may.0 may.1)
 
 pub returns-in-All-clause-ready : goal.returns-in-All-clause-ready
-returns-in-All-clause-ready c =
-    let m = c.args.self.now in
-    let r = c.requires.ready in
-    let way = c.deliver_all.ensures.way in
-    record {
-      params = r.params;
-      frame = r.frame;
-      sender_params = r.sender_params;
-      can = subst (λ (w : Way). CanSend w m.both.sender) (sym way) r.can;
-      period = ap (λ (w : Way). period_of w.packets) way ∙ r.period;
-      few = r.few;
-      counted = ap (λ (w : Way). total_of w.tally) way ∙ r.counted ∙ sym c.deliver_all.ensures.played;
-    }
+returns-in-All-clause-ready c = ready_delivered c.args.self.now c.requires.ready c.deliver_all.new.self c.deliver_all.new.receiver c.deliver_all.ensures.way c.deliver_all.ensures.played
 
 pub deliver_all-requires : goal.deliver_all-requires
 deliver_all-requires c = omega (arith, c.requires.said, c.requires.ready.can.most, few_mbs c.args.self.now.both.sender.params.format)
@@ -89,7 +60,6 @@ returns-in-All-clause-done c = λ past h.
     let p = t.params in
     let n = c.in-All.number in
     let r = c.requires.ready in
-    let laws = c.of_near_events.ensures p r.params in
     let made = c.of_made_input.ensures t r.params in
     let same = c.ends_agree.ensures p (made_video t) past r.params h.way_holds.near in
     let after : Demo = record m { both = record m.both { receiver = c.deliver_all.new.receiver }; network = c.deliver_all.new.self } in
@@ -98,10 +68,9 @@ returns-in-All-clause-done c = λ past h.
     let sent : n < length (both_after p (steady p) (made_video t) [] past).sender.coded = omega (arith, placed, coded) in
     as_line t past (says.All n) c.args.event (HasDone after) c.in-All.is
     (λ near.
-    let may = may_now t laws (steady_is p r.params) past (Deliver n 0) (near_first t made past same n sent near) in
-    let kept = laws.packets (receiver_end.run_of p []) (steady p) (made_video t) past n 0 refl (may, h.way_holds.near) in
+    let may = may_deliver m r (c.of_near_events.ensures p r.params) past h n 0 (near_first t made past same n sent near) in
     subst (λ (l : List Happens). HasDone after l) (all_are t made past same n)
-    (c.deliver_all.ensures.holds p m.both.sender [] (made_video t) past h (may.0, omega (arith, kept, r.period)) may))
+    (c.deliver_all.ensures.holds p m.both.sender [] (made_video t) past h may.0 may.1))
 
 pub returns-in-Back-clause-ready : goal.returns-in-Back-clause-ready
 returns-in-Back-clause-ready c =

@@ -1,0 +1,82 @@
+-- A line of a recorded trace that delivers packets.
+use Rattle.std.proofs.Common.{◌≡◌, ℕ, ◌+◌, ◌*◌, ◌≤◌, Bool, true, false, List, ◌++◌, length, None, Ok, refl, sym, ap, subst, ◌∙◌, arith}
+use Rattle.h263_outside.specs.Desk.{Outside}
+use Rattle.h263_outside.specs.declared.desk.Role.{Role}
+use Rattle.h263_outside.specs.declared.desk.Role.TheVariants.{Events}
+use Rattle.loss_trace.specs.declared.event.Event.{Event as Line}
+use Rattle.desk_program.specs.Run.Step.{Goes}
+use Rattle.desk_program.specs.Ends.{Went}
+use Rattle.desk_program.specs.Laws.{TurnLaws}
+use Rattle.desk_program.specs.Texts.{no_texts}
+use Rattle.call_rings.specs.Keeping.{period_of}
+use Rattle.call_rings.specs.Messages.{said_of}
+use Rattle.call_model.specs.IdealCall.{Event, Deliver}
+use Rattle.call_encoding.specs.Frames.{Frame}
+use Rattle.receiver_end.specs.declared.kept.Kept.{Kept}
+use Rattle.receiver_end.specs.State as receiver_end
+use Rattle.one_way.specs.declared.network.Network.{Network}
+use Rattle.one_way.specs.declared.way.Way.{Way}
+use Rattle.one_way.specs.Both.{both_after, steady}
+use Rattle.one_way.specs.Counts.{total_of}
+use Rattle.one_way.specs.Network.{IsAmongLast}
+use Rattle.one_way.specs.Laws.{NearLaws}
+use Rattle.one_way.specs.Refused.{refusal_after}
+use Rattle.one_way.specs.Way.{CanSend, MayHappenNow}
+use Rattle.call_command.specs.declared.world.World.{World}
+use Rattle.call_command.specs.Call.{CallState, after_line, by_ends, event_step, line_turn, may_read}
+use Rattle.call_command.specs.Standing.{HasDone, Parts, PartsReady, PartsStand, StoodBefore, more_of, parts_of}
+use Rattle.call_command.specs.Turning.{TakesLine, names_of}
+use Rattle.call_command.proofs.Behind.{done_here, event_goes, line_goes_on}
+use Rattle.call_command.proofs.Counting.{roles_same}
+use Rattle.call_command.proofs.Readying.{ready_so, recorded_keeps}
+
+-- the parts after a delivery
+abbrev pub with_network : Parts → Network → Kept → Parts
+with_network x network receiver = record x { receiver = receiver; carrier = record x.carrier { network = network } }
+
+module _ (x : Parts) (attached : Role → Bool) (r : PartsReady x attached) (recorded : x.terms.plain ≡ false) where
+  -- the parts are as ready after it
+  pub ready_delivered : (network : Network) (receiver : Kept) → network.way ≡ x.carrier.network.way → receiver.played ≡ x.receiver.played
+      → said_of network.messages ≤ 400 * (x.carrier.trace.lines + x.sender.sent)
+      → PartsReady (with_network x network receiver) attached
+  ready_delivered network receiver way played said =
+      ready_so x attached attached r refl x.video x.sender receiver (record x.carrier { network = network }) refl refl
+      (subst (λ (w : Way). CanSend w x.sender) (sym way) r.can) (ap (λ (w : Way). period_of w.packets) way)
+      r.sent (omega (arith, r.played, played)) (λ plain. absurd (cc (plain, recorded))) r.frame (λ plain. absurd (cc (plain, recorded)))
+      (ap (λ (w : Way). total_of w.tally) way ∙ r.counted ∙ sym played) said
+
+  -- a packet that is not refused is among those that are kept, and near
+  pub may_deliver : NearLaws x.terms.params → (s : CallState) (inputs : Role → List ℕ) → StoodBefore x s inputs → (later : List Frame) (n j : ℕ)
+      → refusal_after x.terms.params s.before (s.frames ++ later) s.past (Deliver n j) ≡ None
+      → IsAmongLast x.carrier.network.way.packets (length (both_after x.terms.params (steady x.terms.params) (s.frames ++ later) s.before s.past).sender.coded) n
+      × MayHappenNow x.terms.params s.before (s.frames ++ later) s.past (Deliver n j)
+  may_deliver near s inputs k later n j none =
+      let p = x.terms.params in
+      let may = near.deliver s.before (s.frames ++ later) s.past n j none in
+      let among = near.packets (receiver_end.run_of p s.before) (steady p) (s.frames ++ later) s.past n j k.begun (may, (k.holds later).way_holds.near) in
+      ((may.0, omega (arith, among, recorded_keeps x.terms _ r.period recorded)), may)
+
+-- the packets of a line are delivered, of which one tells whether they may be
+pub delivered_goes_on : (m y : World) (line : ℕ) (event said : Line) (n j : ℕ) (mid : Outside) (network : Network) (receiver : Kept) (events : CallState → List Event)
+    → event ≡ said → names_of y ≡ names_of m → parts_of y ≡ with_network (parts_of m) network receiver
+    → PartsReady (parts_of m) mid.attached → m.terms.plain ≡ false → network.way ≡ m.carrier.network.way → receiver.played ≡ m.receiver.now.played
+    → said_of network.messages ≤ 400 * (m.carrier.trace.lines + m.sender.now.sent) → NearLaws m.terms.params → TurnLaws
+    → ((s : CallState) (inputs : Role → List ℕ) → StoodBefore (parts_of m) s inputs → refusal_after m.terms.params s.before s.frames s.past (Deliver n j) ≡ None
+    → event_step by_ends s inputs (inputs Events) said ≡ Goes (after_line (record s { past = events s }) (inputs Events)) (line_turn (inputs Events) no_texts))
+    → ((s : CallState) (frames : List Frame) → (receiver_end.run_of m.terms.params s.before).played ≡ 0 → HasDone (parts_of m) s.before frames s.past
+    → refusal_after m.terms.params s.before frames s.past (Deliver n j) ≡ None)
+    → ((s : CallState) (inputs : Role → List ℕ) (k : StoodBefore (parts_of m) s inputs) (later : List Frame)
+    → IsAmongLast m.carrier.network.way.packets (length (both_after m.terms.params (steady m.terms.params) (s.frames ++ later) s.before s.past).sender.coded) n
+    × MayHappenNow m.terms.params s.before (s.frames ++ later) s.past (Deliver n j)
+    → HasDone (with_network (parts_of m) network receiver) s.before (s.frames ++ later) (events s))
+    → TakesLine m y line event (Ok true) mid mid
+delivered_goes_on m y line event said n j mid network receiver events is names same r recorded way played few near turns step none holds =
+    let x = parts_of m in
+    line_goes_on m y line event said mid mid is names (ap more_of same)
+    (subst (λ (q : Parts). PartsReady q mid.attached) (sym same) (ready_delivered x mid.attached r recorded network receiver way played few)) (roles_same mid)
+    (λ o s inputs b.
+    let k = b.stood in
+    subst (λ (q : Parts). Went (event_step by_ends s inputs (inputs Events) said) (PartsStand q) may_read true inputs o mid) (sym same)
+    (event_goes x s inputs k x.sender receiver (record x.carrier { network = network }) refl refl turns o mid b.taken said (events s)
+    (step s inputs k (none s s.frames k.begun (done_here x s inputs k)))
+    (λ later. holds s inputs k later (may_deliver x mid.attached r recorded near s inputs k later n j (none s (s.frames ++ later) k.begun (k.holds later))))))

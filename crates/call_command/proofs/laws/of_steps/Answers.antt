@@ -1,0 +1,15 @@
+use Rattle.call_command.proofs.Counting.{cause_since, keeps_then, reads_keep, roles_same, trace_cause, trace_halts, video_cause, video_stops, writes_keep}
+use Rattle.call_command.proofs.laws.of_steps.Goals as goal
+
+pub returns : goal.returns
+returns c = record {
+  reads = reads_keep;
+  writes = writes_keep;
+  both = keeps_then;
+  none = roles_same;
+  since = λ status old mid new still cause. cause_since status old mid new still c.calls.ensures.rose_since cause;
+  video_stops = video_stops;
+  video_cause = video_cause;
+  trace_stops = trace_halts;
+  trace_cause = trace_cause;
+}

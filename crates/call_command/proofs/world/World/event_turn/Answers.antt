@@ -1,0 +1,182 @@
+use Rattle.std.proofs.Common.{◌≡◌, ℕ, ◌<◌, List, ◌∷◌, ◌++◌, length, None, Ok, Err, refl, sym, ap, subst, true, ◌+◌, ◌∙◌, arith}
+use Rattle.h263_outside.specs.declared.desk.Role.TheVariants.{Events}
+use Rattle.h263_types.specs.declared.params.Params.{Params}
+use Rattle.h263_types.specs.declared.pace.FixedPace.{FixedPace}
+use Rattle.loss_trace.specs.declared.event.Event.{Event as Line}
+use Rattle.loss_trace.specs.declared.event.Event.TheVariants as says
+use Rattle.call_report.specs.declared.status.Status.TheVariants.{TraceRefused}
+use Rattle.call_rings.specs.Keeping.{period_of}
+use Rattle.call_model.specs.IdealCall.{Deliver, Back, Play, Send, slices_at}
+use Rattle.call_encoding.specs.Frames.{Frame}
+use Rattle.one_way.specs.declared.way.Way.{Way}
+use Rattle.one_way.specs.Refused.{refusal_after}
+use Rattle.one_way.specs.Trace.{delivered}
+use Rattle.one_way.specs.Way.{CanSend, HoldsNetwork}
+use Rattle.call_command.specs.declared.carrier.Carrier.{Carrier}
+use Rattle.call_command.specs.Call.{by_ends, event_step}
+use Rattle.call_command.specs.Standing.{HasDone, PartsStand, more_of, parts_of}
+use Rattle.call_command.specs.Turning.{IsAhead, IsRead, Names, names_of}
+use Rattle.call_command.proofs.Behind.{asked, asks_frame, count_same, done_here, event_goes, line_goes_on, line_is_refused, line_was_cut, message_is, packet_is, packets_is, play_cut, play_goes, refusal_here, stands_event}
+use Rattle.call_command.proofs.Counting.{gave_up, roles_same, writes_keep}
+use Rattle.call_command.proofs.Delivering.{delivered_goes_on}
+use Rattle.call_command.proofs.Readying.{can_still, few_mbs, ready_so}
+use Rattle.call_command.proofs.world.World.event_turn.Goals as goal
+
+pub returns-in-Err : goal.returns-in-Err
+returns-in-Err g c =
+    let old = g.D.Desk.outside c.args.desk.now in
+    let m = c.args.self.now in
+    let x = parts_of m in
+    let status = TraceRefused c.fault_at-fault.result in
+    gave_up m _ old old (IsRead x c.args.line old) (λ s inputs. event_step by_ends s inputs (inputs Events) c.args.event) (λ _. true) (more_of x + 1)
+    (Err status) status refl refl c.requires.recorded tt tt (roles_same old)
+    (λ o s inputs b.
+    line_is_refused x s inputs b.stood c.of_turns.ensures o old b.taken c.in-Err.refusal c.args.line b.number c.fault_at-fault.result c.fault_at-fault.ensures c.args.event
+    (c.in-Err.ensures.refusal s.before s.frames s.past b.stood.begun (done_here x s inputs b.stood)))
+    (λ s stand. stand)
+
+pub returns-in-Nothing : goal.returns-in-Nothing
+returns-in-Nothing g c =
+    let old = g.D.Desk.outside c.args.desk.now in
+    let m = c.args.self.now in
+    let x = parts_of m in
+    let r = c.requires.ready in
+    line_goes_on m _ c.args.line c.args.event says.Nothing old old c.in-Nothing.is refl refl r (roles_same old)
+    (λ o s inputs b. event_goes x s inputs b.stood x.sender x.receiver x.carrier refl refl c.of_turns.ensures o old b.taken says.Nothing s.past refl b.stood.holds)
+
+-- ---- a frame
+
+pub returns-in-Send : goal.returns-in-Send
+returns-in-Send g c =
+    let outside = g.D.Desk.outside in
+    let m = c.args.self.now in
+    let x = parts_of m in
+    asks_frame m _ c.args.line c.args.event c.send_frame.result (outside c.args.desk.now) (outside c.send_frame.new.desk) c.in-Send.is c.send_frame.ensures
+    (λ o s inputs b.
+    let checked = c.in_default.ensures.refusal s.before s.frames s.past b.stood.begun (done_here x s inputs b.stood) in
+    refusal_here x s inputs b.stood Send ∙ asked (Ok c.in_default.field-0) _ says.Send (refusal_after x.terms.params s.before s.frames s.past) c.in-Send.is checked)
+
+-- ---- a packet
+
+pub returns-in-Packet : goal.returns-in-Packet
+returns-in-Packet g c =
+    let m = c.args.self.now in
+    let p = m.terms.params in
+    let r = c.requires.ready in
+    let n = c.in-Packet.number in
+    let j = c.in-Packet.place in
+    let done = c.deliver in
+    delivered_goes_on m _ c.args.line c.args.event (says.Packet n j) n j (g.D.Desk.outside c.args.desk.now) done.new.self done.new.receiver (λ s. Deliver n j ∷ s.past) c.in-Packet.is refl refl
+    r c.requires.recorded done.ensures.way done.ensures.played (omega (arith, done.ensures.few, c.requires.room)) (c.of_near_events.ensures p r.opens.params) c.of_turns.ensures
+    (λ s inputs k. packet_is (parts_of m) s inputs k n j)
+    (λ s frames begun h. asked (Ok c.in_default.field-0) _ (says.Packet n j) (refusal_after p s.before frames s.past) c.in-Packet.is (c.in_default.ensures.refusal s.before frames s.past begun h))
+    (λ s inputs k later may. done.ensures.holds p m.sender.now s.before (s.frames ++ later) s.past (k.holds later) may.0 may.1)
+
+pub returns-in-All : goal.returns-in-All
+returns-in-All g c =
+    let m = c.args.self.now in
+    let x = parts_of m in
+    let p = x.terms.params in
+    let r = c.requires.ready in
+    let n = c.in-All.number in
+    let done = c.deliver_all in
+    delivered_goes_on m _ c.args.line c.args.event (says.All n) n 0 (g.D.Desk.outside c.args.desk.now) done.new.self done.new.receiver (λ s. delivered n (length (slices_at (by_ends s).coded n)) ++ s.past) c.in-All.is refl refl
+    r c.requires.recorded done.ensures.way done.ensures.played (omega (arith, done.ensures.few, c.requires.room, r.can.most, few_mbs x.sender.params.format)) (c.of_near_events.ensures p r.opens.params) c.of_turns.ensures
+    (λ s inputs k. packets_is x s inputs k n)
+    (λ s frames begun h. asked (Ok c.in_default.field-0) _ (says.All n) (refusal_after p s.before frames s.past) c.in-All.is (c.in_default.ensures.refusal s.before frames s.past begun h))
+    (λ s inputs k later may.
+    subst (λ (count : ℕ). HoldsNetwork p done.new.self x.sender done.new.receiver s.before (s.frames ++ later) (delivered n count ++ s.past)) (count_same x s inputs k (c.later_frames.ensures p) n later)
+    (done.ensures.holds p x.sender s.before (s.frames ++ later) s.past (k.holds later) may.0 may.1))
+
+-- ---- a message
+
+pub returns-in-Back : goal.returns-in-Back
+returns-in-Back g c =
+    let old = g.D.Desk.outside c.args.desk.now in
+    let m = c.args.self.now in
+    let x = parts_of m in
+    let p = x.terms.params in
+    let r = c.requires.ready in
+    let k = c.in-Back.message in
+    let done = c.bring_back in
+    let sender = done.new.sender in
+    line_goes_on m _ c.args.line c.args.event (says.Back k) old old c.in-Back.is
+    (ap (λ (q : FixedPace). let names : Names = record (names_of m) { pace = q } in names) done.ensures.same.pace) refl
+    (ready_so x old.attached old.attached r refl x.video sender x.receiver x.carrier refl done.ensures.same.params (done.ensures.ready r.can) refl
+    (omega (arith, r.sent, done.ensures.sent)) (omega (arith, r.played, done.ensures.sent)) (λ plain. absurd (cc (plain, c.requires.recorded))) r.frame (λ plain. absurd (cc (plain, c.requires.recorded)))
+    r.counted (omega (arith, c.requires.room, done.ensures.sent)))
+    (roles_same old)
+    (λ o s inputs b.
+    let stood = b.stood in
+    let near_laws = c.of_near_events.ensures p r.opens.params in
+    let none : (frames : List Frame) → HasDone x s.before frames s.past → refusal_after p s.before frames s.past (Back k) ≡ None =
+    λ frames h. asked (Ok c.in_default.field-0) _ (says.Back k) (refusal_after p s.before frames s.past) c.in-Back.is (c.in_default.ensures.refusal s.before frames s.past stood.begun h)
+    in
+    event_goes x s inputs stood sender x.receiver x.carrier refl done.ensures.sent c.of_turns.ensures o old b.taken (says.Back k) (Back k ∷ s.past)
+    (message_is x s inputs stood k (none s.frames (done_here x s inputs stood)))
+    (λ later.
+    let frames = s.frames ++ later in
+    let h = stood.holds later in
+    done.ensures.holds p x.receiver s.before frames s.past r.opens.params (r.can.quant_is ∙ ap (λ (q : Params). q.quant) r.sender_params) stood.begun h
+    (near_laws.back s.before frames s.past k (none frames h))))
+
+-- ---- a play
+
+pub returns-in_err-play_next-in-Play : goal.returns-in_err-play_next-in-Play
+returns-in_err-play_next-in-Play g c =
+    let outside = g.D.Desk.outside in
+    let old = outside c.args.desk.now in
+    let new = outside c.play_next.new.desk in
+    let m = c.args.self.now in
+    let x = parts_of m in
+    let p = x.terms.params in
+    let r = c.requires.ready in
+    line_was_cut m _ c.args.line c.args.event says.Play c.from_residual.result c.in_err-play_next-in-Play.field-0.0 old new c.in-Play.is c.from_residual.ensures.1 refl
+    c.in_err-play_next-in-Play.ensures.kind c.in_err-play_next-in-Play.ensures.cause
+    (writes_keep old new c.play_next.ensures.rest)
+    (λ o s inputs b.
+    let k = b.stood in
+    let h = done_here x s inputs k in
+    let near_laws = c.of_near_events.ensures p r.opens.params in
+    let none : refusal_after p s.before s.frames s.past Play ≡ None =
+    asked (Ok c.in_default.field-0) _ says.Play (refusal_after p s.before s.frames s.past) c.in-Play.is (c.in_default.ensures.refusal s.before s.frames s.past k.begun h)
+    in
+    play_cut x s inputs k (c.of_the_way.ensures p) o old new b.taken c.play_next.ensures.rest.left none
+    (c.in_err-play_next-in-Play.ensures.err p x.sender s.before s.frames s.past k.begun h (near_laws.play s.before s.frames s.past none)))
+
+pub returns-in_ok-play_next-in-Play : goal.returns-in_ok-play_next-in-Play
+returns-in_ok-play_next-in-Play g c =
+    let outside = g.D.Desk.outside in
+    let old = outside c.args.desk.now in
+    let new = outside c.play_next.new.desk in
+    let m = c.args.self.now in
+    let x = parts_of m in
+    let p = x.terms.params in
+    let r = c.requires.ready in
+    let played = c.play_next.ensures in
+    let ahead : x.receiver.played < x.sender.sent = subst (λ (e : Line). IsAhead (Ok c.in_default.field-0) e x.receiver.played x.sender.sent) c.in-Play.is c.in_default.ensures.ahead in
+    let carrier : Carrier = record x.carrier { network = c.play_next.new.network } in
+    line_goes_on m _ c.args.line c.args.event says.Play old new c.in-Play.is refl refl
+    (ready_so x old.attached new.attached r played.rest.attached x.video x.sender c.play_next.new.receiver carrier refl refl
+    (subst (λ (w : Way). CanSend w x.sender) (sym played.way) (can_still x.carrier.network.way c.play_next.new.network.way.tally x.sender r.can))
+    (ap (λ (w : Way). period_of w.packets) played.way)
+    r.sent (omega (arith, played.played, ahead)) (λ plain. absurd (cc (plain, c.requires.recorded))) r.frame (λ plain. absurd (cc (plain, c.requires.recorded)))
+    played.counted (omega (arith, played.few, c.requires.room)))
+    (writes_keep old new played.rest)
+    (λ o s inputs b.
+    let k = b.stood in
+    let near_laws = c.of_near_events.ensures p r.opens.params in
+    let none : (frames : List Frame) → HasDone x s.before frames s.past → refusal_after p s.before frames s.past Play ≡ None =
+    λ frames h. asked (Ok c.in_default.field-0) _ says.Play (refusal_after p s.before frames s.past) c.in-Play.is (c.in_default.ensures.refusal s.before frames s.past k.begun h)
+    in
+    let here = done_here x s inputs k in
+    play_goes x s inputs k (c.of_the_way.ensures p) o old new b.taken played.rest.left (none s.frames here) (PartsStand (record x { receiver = c.play_next.new.receiver; carrier = carrier }))
+    (stands_event x s inputs k x.sender c.play_next.new.receiver carrier refl refl (Play ∷ s.past)
+    (λ later. played.holds p x.sender s.before (s.frames ++ later) s.past (k.holds later) (near_laws.play s.before (s.frames ++ later) s.past (none (s.frames ++ later) (k.holds later)))))
+    (c.in_ok-play_next-in-Play.ensures.ok p x.sender s.before s.frames s.past k.begun here (near_laws.play s.before s.frames s.past (none s.frames here))))
+
+pub play_next-requires-clause-played : goal.play_next-requires-clause-played
+play_next-requires-clause-played g c =
+    let x = parts_of c.args.self.now in
+    let ahead : x.receiver.played < x.sender.sent = subst (λ (e : Line). IsAhead (Ok c.in_default.field-0) e x.receiver.played x.sender.sent) c.in-Play.is c.in_default.ensures.ahead in
+    omega (arith, ahead, c.requires.ready.sent)
