@@ -1,5 +1,5 @@
 -- Rows of areas that are kept in the places of their rows modulo 8.
-use Rattle.std.proofs.Common.{◌≡◌, ◌≢◌, ◌∙◌, ap, sym, subst, arith, ℕ, ◌+◌, ◌%◌, ◌<◌, List, [], length, length-set, slice_set, get_or-set_same, get_or-set_other, below_more}
+use Rattle.std.proofs.Common.{◌≡◌, ◌≢◌, ◌∙◌, ap, subst, arith, ℕ, ◌+◌, ◌%◌, ◌<◌, List, [], length, length-set, slice_set, get_or-set_same, get_or-set_other, below_more}
 use Rattle.motion_search.specs.declared.areas.Halves.{Halves}
 use Rattle.motion_search.specs.Areas.{AreHalves, AreRows, half_at, halves_away}
 

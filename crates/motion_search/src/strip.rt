@@ -1,17 +1,15 @@
 //! The vectors of whole samples by strips: sixteen columns of the square around zero, from its
 //! uppermost row down.
-ghost use Rattle.std.specs.Prelude.{◌≡◌, ℕ, ◌+◌, ◌*◌, ◌<◌, ◌≤◌, pos, ◌≤ℤ◌, false};
+ghost use Rattle.std.specs.Prelude.{◌≡◌, ℕ, ◌+◌, ◌*◌, ◌<◌, ◌≤◌, pos, ◌≤ℤ◌};
 ghost use Rattle.std.specs.Int.{bit_at};
 ghost use Rattle.h263_types.specs.Sizes.{width_of};
-ghost use Rattle.h263_types.specs.Vectors.{InReach, whole_place};
+ghost use Rattle.h263_types.specs.Vectors.{whole_place};
 ghost use Rattle.h263_planes.specs.Lent.{picture};
 ghost use Rattle.h263_planes.specs.Samples.{Inside, IsPicture};
 ghost use Rattle.h263_planes.specs.declared.Plane.TheVariants.{Y};
-ghost use Rattle.motion_search.specs.declared.candidate.Candidate.{Candidate};
-ghost use Rattle.motion_search.specs.Order.{before};
-ghost use Rattle.motion_search.specs.Cost.{candidate_of, IsCost};
-ghost use Rattle.motion_search.specs.Vectors.{whole_at, whole_component, zero_vector};
-ghost use Rattle.motion_search.specs.Best.{IsWholeCandidate};
+ghost use Rattle.motion_search.specs.Cost.{IsCost};
+ghost use Rattle.motion_search.specs.Vectors.{whole_component};
+ghost use Rattle.motion_search.specs.SoFar.{IsBehind, IsKept, IsSoFar};
 ghost use Rattle.motion_search.specs.Areas.{AreColumns, AreHalves, AreQuarters, AreRows, samples_from};
 
 use crate::areas::{
@@ -126,20 +124,11 @@ fn begun(
 #[inline(always)]
 fn better_in_square(window: Window<'_>, column: u32, row: u32, best: Candidate) -> Candidate
     requires row { row ≤ 2 * window.radius }
-    requires zero { before (candidate_of window.block.now
-        (picture window.reference) window.mb 0 zero_vector) best ≡ false }
-    requires candidate { IsWholeCandidate window.block.now
-        (picture window.reference) window.mb window.radius 0 best }
-    requires cost { IsCost best.cost }
-    ensures candidate { IsWholeCandidate window.entry.block.now
-        (picture window.entry.reference) window.entry.mb window.entry.radius 0 result }
-    ensures kept { (d : Candidate) → before d best ≡ false → before d result ≡ false }
+    requires so_far { IsSoFar window best }
+    ensures so_far { IsSoFar window.entry result }
+    ensures kept { IsKept best result }
     ensures none { column < 2 * window.entry.radius + 1
-        → InReach (picture window.entry.reference).format window.entry.mb
-        (whole_at window.entry.radius column row).x (whole_at window.entry.radius column row).y
-        → before (candidate_of window.entry.block.now (picture window.entry.reference)
-        window.entry.mb 0 (whole_at window.entry.radius column row)) result ≡ false }
-    ensures cost { IsCost result.cost }
+        → IsBehind window.entry column row result }
 {
     if column <= 2 * u32::from(window.radius) {
         better_at(window, column, row, best)
@@ -160,26 +149,13 @@ fn best_of_marked(
 ) -> Candidate
     requires column { column ≤ 2 * window.radius }
     requires row { row ≤ 2 * window.radius }
-    requires zero { before (candidate_of window.block.now
-        (picture window.reference) window.mb 0 zero_vector) best ≡ false }
-    requires candidate { IsWholeCandidate window.block.now
-        (picture window.reference) window.mb window.radius 0 best }
-    requires cost { IsCost best.cost }
-    requires others { (i : ℕ) → i < 16 → bit_at marks i ≡ 0
-        → InReach (picture window.reference).format window.mb
-        (whole_at window.radius (column + i) row).x (whole_at window.radius (column + i) row).y
-        → before (candidate_of window.block.now (picture window.reference)
-        window.mb 0 (whole_at window.radius (column + i) row)) best ≡ false }
-    ensures candidate { IsWholeCandidate window.entry.block.now
-        (picture window.entry.reference) window.entry.mb window.entry.radius 0 result }
-    ensures kept { (d : Candidate) → before d best ≡ false → before d result ≡ false }
+    requires so_far { IsSoFar window best }
+    requires others { (i : ℕ)
+        → i < 16 → bit_at marks i ≡ 0 → IsBehind window (column + i) row best }
+    ensures so_far { IsSoFar window.entry result }
+    ensures kept { IsKept best result }
     ensures none { (i : ℕ) → i < 16 → column + i < 2 * window.entry.radius + 1
-        → InReach (picture window.entry.reference).format window.entry.mb
-        (whole_at window.entry.radius (column + i) row).x
-        (whole_at window.entry.radius (column + i) row).y
-        → before (candidate_of window.entry.block.now (picture window.entry.reference)
-        window.entry.mb 0 (whole_at window.entry.radius (column + i) row)) result ≡ false }
-    ensures cost { IsCost result.cost }
+        → IsBehind window.entry (column + i) row result }
 {
     let mut first = best;
     let mut left = marks;
@@ -217,22 +193,11 @@ fn best_of_strip(
     requires column { column ≤ 2 * window.radius }
     requires quarters { AreQuarters window.block.now quarters }
     requires whole { IsPicture (picture window.reference) }
-    requires zero { before (candidate_of window.block.now
-        (picture window.reference) window.mb 0 zero_vector) best ≡ false }
-    requires candidate { IsWholeCandidate window.block.now
-        (picture window.reference) window.mb window.radius 0 best }
-    requires cost { IsCost best.cost }
-    ensures candidate { IsWholeCandidate window.entry.block.now
-        (picture window.entry.reference) window.entry.mb window.entry.radius 0 result }
-    ensures kept { (d : Candidate) → before d best ≡ false → before d result ≡ false }
+    requires so_far { IsSoFar window best }
+    ensures so_far { IsSoFar window.entry result }
+    ensures kept { IsKept best result }
     ensures none { (m i : ℕ) → m < 2 * window.entry.radius + 1 → i < 16
-        → column + i < 2 * window.entry.radius + 1
-        → InReach (picture window.entry.reference).format window.entry.mb
-        (whole_at window.entry.radius (column + i) m).x
-        (whole_at window.entry.radius (column + i) m).y
-        → before (candidate_of window.entry.block.now (picture window.entry.reference)
-        window.entry.mb 0 (whole_at window.entry.radius (column + i) m)) result ≡ false }
-    ensures cost { IsCost result.cost }
+        → column + i < 2 * window.entry.radius + 1 → IsBehind window.entry (column + i) m result }
 {
     let first_row = first_row(window.radius, window.reach);
     let top = place(window.top, first_row, window.radius);
@@ -256,20 +221,11 @@ fn best_of_strip(
 #[inline(always)]
 fn best_of_column(window: Window<'_>, column: u32, best: Candidate) -> Candidate
     requires column { column ≤ 2 * window.radius }
-    requires zero { before (candidate_of window.block.now
-        (picture window.reference) window.mb 0 zero_vector) best ≡ false }
-    requires candidate { IsWholeCandidate window.block.now
-        (picture window.reference) window.mb window.radius 0 best }
-    requires cost { IsCost best.cost }
-    ensures candidate { IsWholeCandidate window.entry.block.now
-        (picture window.entry.reference) window.entry.mb window.entry.radius 0 result }
-    ensures kept { (d : Candidate) → before d best ≡ false → before d result ≡ false }
-    ensures none { (m : ℕ) → m < 2 * window.entry.radius + 1
-        → InReach (picture window.entry.reference).format window.entry.mb
-        (whole_at window.entry.radius column m).x (whole_at window.entry.radius column m).y
-        → before (candidate_of window.entry.block.now (picture window.entry.reference)
-        window.entry.mb 0 (whole_at window.entry.radius column m)) result ≡ false }
-    ensures cost { IsCost result.cost }
+    requires so_far { IsSoFar window best }
+    ensures so_far { IsSoFar window.entry result }
+    ensures kept { IsKept best result }
+    ensures none { (m : ℕ)
+        → m < 2 * window.entry.radius + 1 → IsBehind window.entry column m result }
 {
     let mut first = best;
     for row in 0..2 * u32::from(window.radius) + 1 {
@@ -295,21 +251,11 @@ pub(crate) fn best_from<const WIDTH: u32>(
         × (whole_component window.radius column ≤ℤ window.reach.right) }
     requires quarters { AreQuarters window.block.now quarters }
     requires whole { IsPicture (picture window.reference) }
-    requires zero { before (candidate_of window.block.now
-        (picture window.reference) window.mb 0 zero_vector) best ≡ false }
-    requires candidate { IsWholeCandidate window.block.now
-        (picture window.reference) window.mb window.radius 0 best }
-    requires cost { IsCost best.cost }
-    ensures candidate { IsWholeCandidate window.entry.block.now
-        (picture window.entry.reference) window.entry.mb window.entry.radius 0 result.0 }
-    ensures kept { (d : Candidate) → before d best ≡ false → before d result.0 ≡ false }
+    requires so_far { IsSoFar window best }
+    ensures so_far { IsSoFar window.entry result.0 }
+    ensures kept { IsKept best result.0 }
     ensures none { (m n : ℕ) → m < 2 * window.entry.radius + 1 → n < 2 * window.entry.radius + 1
-        → column ≤ n → n < result.1
-        → InReach (picture window.entry.reference).format window.entry.mb
-        (whole_at window.entry.radius n m).x (whole_at window.entry.radius n m).y
-        → before (candidate_of window.entry.block.now (picture window.entry.reference)
-        window.entry.mb 0 (whole_at window.entry.radius n m)) result.0 ≡ false }
-    ensures cost { IsCost result.0.cost }
+        → column ≤ n → n < result.1 → IsBehind window.entry n m result.0 }
     ensures next { column < result.1 }
     ensures most { result.1 ≤ column + 16 }
 {

@@ -1,4 +1,4 @@
-use Rattle.std.proofs.Common.{◌≡◌, ℕ, ◌+◌, arith, subst, sym}
+use Rattle.std.proofs.Common.{◌≡◌, ℕ, ◌+◌, arith, subst}
 use Rattle.h263_planes.specs.Lent.{picture}
 use Rattle.motion_search.specs.Areas.{AreColumns, AreRows, samples_from}
 use Rattle.motion_search.proofs.Uppers.{one_row}

@@ -1,10 +1,9 @@
-use Rattle.std.proofs.Common.{◌≡◌, subst, arith, below_more, ℕ, ◌<◌, ◌+◌, ◌*◌, ◌%◌, false, slice_set}
+use Rattle.std.proofs.Common.{◌≡◌, subst, arith, below_more, ℕ, ◌<◌, ◌+◌, ◌*◌, ◌%◌, slice_set}
 use Rattle.std.proofs.lemmas.Int.{ints}
-use Rattle.h263_types.specs.Vectors.{InReach}
 use Rattle.h263_planes.specs.Lent.{picture}
-use Rattle.motion_search.specs.Order.{before}
 use Rattle.motion_search.specs.Cost.{candidate_of}
-use Rattle.motion_search.specs.Vectors.{whole_at, zero_vector}
+use Rattle.motion_search.specs.Vectors.{whole_at}
+use Rattle.motion_search.specs.SoFar.{IsBehind}
 use Rattle.motion_search.specs.Areas.{AreColumns, AreRows, samples_from}
 use Rattle.motion_search.proofs.Reaches.{first_row_small, first_in_rows, between_rows, after_first_row, before_end_row, row_inside, row_ends}
 use Rattle.motion_search.proofs.Strips.{are_bytes, next_place, unmarked_not_before}
@@ -42,12 +41,11 @@ loop-row-init c =
       rows = λ y e.
           let same : c.place-top.result ≡ y = omega (arith, ints, e, c.place-top.ensures.place) in
           subst (λ (k : ℕ). AreRows (samples_from (picture w.reference) c.args.x) c.args.quarters.top_left c.args.quarters.top_right k 8 c.begun-columns.new.uppers) same c.begun-columns.ensures.uppers;
-      candidate = c.requires.candidate;
+      so_far = c.requires.so_far;
       kept = λ d h. h;
       none = λ m i hm hi hc reached.
           let past = after_first_row f w.mb w.radius w.reach w.reaches m c.first_row-first_row.result (c.args.column + i) c.first_row-first_row.ensures reached in
           absurd (omega (arith, hm, past));
-      cost = c.requires.cost;
     }
 
 pub place-y-requires-clause-k : goal.place-y-requires-clause-k
@@ -74,11 +72,6 @@ next_halves-requires-clause-columns c = c.loop-row.invariant.sums c.place-y.resu
 pub best_of_marked-first-requires-clause-row : goal.best_of_marked-first-requires-clause-row
 best_of_marked-first-requires-clause-row c = omega (arith, ((c.end_row-row-end.ensures c.loop-row.row).0 c.loop-row-test.true).0)
 
-pub best_of_marked-first-requires-clause-zero : goal.best_of_marked-first-requires-clause-zero
-best_of_marked-first-requires-clause-zero c =
-    let w = c.args.window in
-    c.loop-row.invariant.kept (candidate_of w.block.now (picture w.reference) w.mb 0 zero_vector) c.requires.zero
-
 pub best_of_marked-first-requires-clause-others : goal.best_of_marked-first-requires-clause-others
 best_of_marked-first-requires-clause-others c = λ i hi unmarked reached.
     let w = c.args.window in
@@ -90,13 +83,12 @@ best_of_marked-first-requires-clause-others c = λ i hi unmarked reached.
     w.at_left w.at_top c.requires.x c.place-y.ensures.place c.most.ensures
     (c.marks_of-marks.ensures f y w.block.now q (are_bytes p c.args.x c.requires.whole) c.requires.quarters
     (first_row_at f q.top_left q.top_right y c.loop-row.uppers (c.loop-row.invariant.rows y c.place-y.ensures.place)) c.next_halves.ensures.lower i hi unmarked)
-    (best_of_marked-first-requires-clause-zero c)
+    c.loop-row.invariant.so_far.zero
 
 pub loop-row-preserved : goal.loop-row-preserved
 loop-row-preserved c =
     let w = c.args.window in
     let p = picture w.reference in
-    let block = w.block.now in
     let row = c.loop-row.row in
     let y = c.place-y.result in
     let inv = c.loop-row.invariant in
@@ -111,13 +103,12 @@ loop-row-preserved c =
           let same : y + 1 ≡ k = omega (arith, ints, e, next_place w.top y w.radius row 1 c.place-y.ensures.place) in
           subst (λ (n : ℕ). AreRows (samples_from p c.args.x) q.top_left q.top_right n 8 (slice_set c.loop-row.uppers (y % 8) c.next_halves.result.0)) same
           (next_rows (samples_from p c.args.x) q.top_left q.top_right y c.loop-row.uppers c.next_halves.result.0 (inv.rows y c.place-y.ensures.place) c.next_halves.ensures.upper);
-      candidate = next.ensures.candidate;
+      so_far = next.ensures.so_far;
       kept = λ d h. next.ensures.kept d (inv.kept d h);
       none = λ m i hm.
-          below_more (λ m. i < 16 → c.args.column + i < 2 * w.radius + 1 → InReach p.format w.mb (whole_at w.radius (c.args.column + i) m).x (whole_at w.radius (c.args.column + i) m).y → before (candidate_of block p w.mb 0 (whole_at w.radius (c.args.column + i) m)) next.result ≡ false) row
-          (λ m hm hi hc reached. next.ensures.kept (candidate_of block p w.mb 0 (whole_at w.radius (c.args.column + i) m)) (inv.none m i hm hi hc reached))
-          (λ hi hc reached. next.ensures.none i hi hc reached) m hm;
-      cost = next.ensures.cost;
+          below_more (λ m. i < 16 → c.args.column + i < 2 * w.radius + 1 → IsBehind w (c.args.column + i) m next.result) row
+          (λ m hm hi hc reached. next.ensures.kept (candidate_of w.block.now p w.mb 0 (whole_at w.radius (c.args.column + i) m)) (inv.none m i hm hi hc reached))
+          (λ hi hc. next.ensures.none i hi hc) m hm;
     }
 
 pub returns-clause-none : goal.returns-clause-none

@@ -1,4 +1,4 @@
-use Rattle.std.proofs.Common.{◌≡◌, refl, ℕ, ◌+◌, arith, subst}
+use Rattle.std.proofs.Common.{◌≡◌, refl, ℕ, arith, subst}
 use Rattle.h263_planes.specs.Lent.{picture}
 use Rattle.motion_search.specs.Areas.{AreColumns, samples_from}
 use Rattle.motion_search.proofs.strip.seven_rows.Goals as goal
