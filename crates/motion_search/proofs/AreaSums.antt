@@ -11,7 +11,7 @@ use Rattle.std.proofs.lemmas.List.FromFn.{length-map-range_with_len, get_or-map-
 use Rattle.std.proofs.lemmas.Simd.{zip2-map, bitmask_splat, bit_mask_l}
 use Rattle.sad_kernel.specs.Differences.{differences}
 use Rattle.motion_search.specs.Cost.{square}
-use Rattle.motion_search.specs.Areas.{total, column_sum, area_sum, AreBytes, sixteen, in_block, IsRow}
+use Rattle.motion_search.specs.Areas.{total, column_sum, area_sum, AreBytes, half_away, halves_away, sixteen, in_block, IsRow}
 use Rattle.motion_search.proofs.Blocks.{length-square, get_or-square}
 
 -- ---- sums of numbers by their places
@@ -286,16 +286,24 @@ right_areas f y l r h el er =
     ∙ ap (λ (xs : List ℕ). moved 8 (lanes_left (sixteen (λ i. column_sum f i y 8)) xs) (lanes_right xs)) er
     ∙ right_lanes (λ k. column_sum f k y 8) ∙ areas_of f 8 y h
 
--- four vectors together
-pub four_lanes : (p q r s : ℕ → ℕ) (ps qs rs ss : List ℕ) → ps ≡ sixteen p → qs ≡ sixteen q → rs ≡ sixteen r → ss ≡ sixteen s →
-    ((i : ℕ) → p i ≤ 16320) → ((i : ℕ) → q i ≤ 16320) → ((i : ℕ) → r i ≤ 16320) → ((i : ℕ) → s i ≤ 16320) →
-    zip2 plus (zip2 plus ps qs) (zip2 plus rs ss) ≡ sixteen (λ i. p i + q i + (r i + s i))
-four_lanes p q r s ps qs rs ss ep eq er es hp hq hr hs =
-    let upper : zip2 plus ps qs ≡ sixteen (λ i. plus (p i) (q i)) = (let e : zip2 plus ps qs ≡ zip2 plus (sixteen p) (sixteen q) = cc (ep, eq) in e ∙ zip2-sixteen plus p q) in
-    let lower : zip2 plus rs ss ≡ sixteen (λ i. plus (r i) (s i)) = (let e : zip2 plus rs ss ≡ zip2 plus (sixteen r) (sixteen s) = cc (er, es) in e ∙ zip2-sixteen plus r s) in
-    let both : zip2 plus (zip2 plus ps qs) (zip2 plus rs ss) ≡ zip2 plus (sixteen (λ i. plus (p i) (q i))) (sixteen (λ i. plus (r i) (s i))) = cc (upper, lower) in
-    both ∙ zip2-sixteen plus (λ i. plus (p i) (q i)) (λ i. plus (r i) (s i))
-    ∙ sixteen_is (λ i. plus (plus (p i) (q i)) (plus (r i) (s i))) (λ i. p i + q i + (r i + s i)) (λ i hi. omega (arith, hp i, hq i, hr i, hs i))
+-- two vectors together
+pub both_lanes : (p q : ℕ → ℕ) (ps qs : List ℕ) → ps ≡ sixteen p → qs ≡ sixteen q → ((i : ℕ) → p i + q i < 65536) → zip2 plus ps qs ≡ sixteen (λ i. p i + q i)
+both_lanes p q ps qs ep eq h =
+    let both : zip2 plus ps qs ≡ zip2 plus (sixteen p) (sixteen q) = cc (ep, eq) in
+    both ∙ zip2-sixteen plus p q ∙ sixteen_is (λ i. plus (p i) (q i)) (λ i. p i + q i) (λ i hi. omega (arith, h i))
+
+small_apart : (a b : ℕ) → a ≤ 16320 → b ≤ 16320 → abs_diff a b ≤ 16320
+small_apart a b ha hb = omega (arith, ha, hb)
+
+pub half_small : (f : ℕ → ℕ → ℕ) (left right x y : ℕ) → AreBytes f → left ≤ 16320 → right ≤ 16320 → half_away f left right x y ≤ 32640
+half_small f left right x y h hl hr = omega (arith, small_apart (area_sum f x y) left (area_small f x y h) hl, small_apart (area_sum f (8 + x) y) right (area_small f (8 + x) y h) hr)
+
+-- two areas beside each other
+pub half_lanes : (f : ℕ → ℕ → ℕ) (left right y : ℕ) (xs ys : List ℕ) → AreBytes f → left ≤ 16320 → right ≤ 16320 →
+    xs ≡ sixteen (λ i. abs_diff (area_sum f i y) left) → ys ≡ sixteen (λ i. abs_diff (area_sum f (8 + i) y) right) → zip2 plus xs ys ≡ halves_away f left right y
+half_lanes f left right y xs ys h hl hr ex ey =
+    both_lanes (λ i. abs_diff (area_sum f i y) left) (λ i. abs_diff (area_sum f (8 + i) y) right) xs ys ex ey
+    (λ i. omega (arith, half_small f left right i y h hl hr))
 
 -- a lane that isn't marked has more than the most
 pub mark_tells : (xs : List ℕ) (f : ℕ → ℕ) (most i : ℕ) → xs ≡ sixteen f → i < 16 →
@@ -334,9 +342,6 @@ ruled_out f y i tl tr bl br block long etl etr ebl ebr =
 
 pub more_than : (m s n : ℕ) → m < s → s ≤ n → m < n
 more_than m s n h k = omega (arith, h, k)
-
-pub small_apart : (a b : ℕ) → a ≤ 16320 → b ≤ 16320 → abs_diff a b ≤ 16320
-small_apart a b ha hb = omega (arith, ha, hb)
 
 -- ---- a block's own rows, in its sixteen columns twice
 

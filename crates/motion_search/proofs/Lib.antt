@@ -9,3 +9,4 @@ pub mod Pairs
 pub mod Nears
 pub mod AreaSums
 pub mod Strips
+pub mod Uppers

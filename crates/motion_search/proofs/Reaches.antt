@@ -16,25 +16,19 @@ Reaches f mb reach = (x y : ℤ) → InReach f mb x y ↔ IsWithin reach x y
 abbrev pub IsInRows : ℕ → Reach → ℕ → Type 0
 IsInRows radius reach row = (reach.up ≤ℤ whole_component radius row) × (whole_component radius row ≤ℤ reach.down)
 
--- what two ends of a row of the square say
-abbrev pub IsFirst : ℕ → Reach → ℕ → Type 0
-IsFirst radius reach first = (n : ℕ) → (first ≤ n) ↔ (reach.left ≤ℤ whole_component radius n)
+-- what the two ends of the square's columns or rows say
+abbrev pub IsFirst : ℕ → ℤ → ℕ → Type 0
+IsFirst radius least first = (n : ℕ) → (first ≤ n) ↔ (least ≤ℤ whole_component radius n)
 
-abbrev pub IsFirstRow : ℕ → Reach → ℕ → Type 0
-IsFirstRow radius reach first = (n : ℕ) → (first ≤ n) ↔ (reach.up ≤ℤ whole_component radius n)
-
-abbrev pub IsEndRow : ℕ → Reach → ℕ → Type 0
-IsEndRow radius reach end = (n : ℕ) → (n < end) ↔ ((n < 2 * radius + 1) × (whole_component radius n ≤ℤ reach.down))
-
-abbrev pub IsEnd : ℕ → Reach → ℕ → Type 0
-IsEnd radius reach end = (n : ℕ) → (n < end) ↔ ((n < 2 * radius + 1) × (whole_component radius n ≤ℤ reach.right))
+abbrev pub IsEnd : ℕ → ℤ → ℕ → Type 0
+IsEnd radius most end = (n : ℕ) → (n < end) ↔ ((n < 2 * radius + 1) × (whole_component radius n ≤ℤ most))
 
 module _ (f : Format) (mb radius : ℕ) (reach : Reach) (is : Reaches f mb reach) (row : ℕ) where
   -- a place in reach lies between the ends
-  pub from_first : (first i : ℕ) → IsFirst radius reach first → InReach f mb (whole_component radius i) (whole_component radius row) → first ≤ i
+  pub from_first : (first i : ℕ) → IsFirst radius reach.left first → InReach f mb (whole_component radius i) (whole_component radius row) → first ≤ i
   from_first first i at_first h = (at_first i).1 ((is (whole_component radius i) (whole_component radius row)).0 h).0.0
 
-  pub before_end : (end i : ℕ) → IsEnd radius reach end → i < 2 * radius + 1 → InReach f mb (whole_component radius i) (whole_component radius row) → i < end
+  pub before_end : (end i : ℕ) → IsEnd radius reach.right end → i < 2 * radius + 1 → InReach f mb (whole_component radius i) (whole_component radius row) → i < end
   before_end end i at_end hi h = (at_end i).1 (hi, ((is (whole_component radius i) (whole_component radius row)).0 h).0.1)
 
   pub in_rows : (i : ℕ) → InReach f mb (whole_component radius i) (whole_component radius row) → IsInRows radius reach row
@@ -61,24 +55,24 @@ module _ (f : Format) (mb radius : ℕ) (reach : Reach) (is : Reaches f mb reach
       subst (λ (k : ℕ). pos 0 ≤ℤ whole_place k (whole_component radius i)) (sym e)
       ((is (whole_component radius i) (pos 0)).1 (across, ((is (pos 0) (pos 0)).0 (zero_reaches f mb h)).1)).0.2.0
 
-  pub first_row_small : (first : ℕ) → mb < mbs_of f → IsFirstRow radius reach first → first ≤ radius
+  pub first_row_small : (first : ℕ) → mb < mbs_of f → IsFirst radius reach.up first → first ≤ radius
   first_row_small first h at_first =
       let zero = ((is (pos 0) (pos 0)).0 (zero_reaches f mb h)).1 in
       (at_first radius).1 (omega (arith, ints, zero.0))
 
   -- the first row of the square leads no further up or down than the reach, since the zero vector's doesn't
-  pub first_in_rows : (first : ℕ) → mb < mbs_of f → IsFirstRow radius reach first → IsInRows radius reach first
+  pub first_in_rows : (first : ℕ) → mb < mbs_of f → IsFirst radius reach.up first → IsInRows radius reach first
   first_in_rows first h at_first =
       let zero = ((is (pos 0) (pos 0)).0 (zero_reaches f mb h)).1 in
       let above = first_row_small first h at_first in
       ((at_first first).0 (omega arith), omega (arith, ints, zero.1, above))
 
   -- the rows between the two ends lead no further up or down than the reach
-  pub between_rows : (first end : ℕ) → IsFirstRow radius reach first → IsEndRow radius reach end → first ≤ row → row < end → IsInRows radius reach row
+  pub between_rows : (first end : ℕ) → IsFirst radius reach.up first → IsEnd radius reach.down end → first ≤ row → row < end → IsInRows radius reach row
   between_rows first end at_first at_end from to = ((at_first row).0 from, ((at_end row).0 to).1)
 
-  pub after_first_row : (first i : ℕ) → IsFirstRow radius reach first → InReach f mb (whole_component radius i) (whole_component radius row) → first ≤ row
+  pub after_first_row : (first i : ℕ) → IsFirst radius reach.up first → InReach f mb (whole_component radius i) (whole_component radius row) → first ≤ row
   after_first_row first i at_first h = (at_first row).1 (in_rows i h).0
 
-  pub before_end_row : (end i : ℕ) → IsEndRow radius reach end → row < 2 * radius + 1 → InReach f mb (whole_component radius i) (whole_component radius row) → row < end
+  pub before_end_row : (end i : ℕ) → IsEnd radius reach.down end → row < 2 * radius + 1 → InReach f mb (whole_component radius i) (whole_component radius row) → row < end
   before_end_row end i at_end hi h = (at_end row).1 (hi, (in_rows i h).1)

@@ -1,11 +1,12 @@
 -- Sums of samples over areas of 8 x 8.
-use Rattle.std.specs.Prelude.{◌≡◌, ℕ, zero, suc, ◌+◌, ◌*◌, ◌<◌, List, length, map, slice_index}
+use Rattle.std.specs.Prelude.{◌≡◌, ℕ, zero, suc, ◌+◌, ◌*◌, ◌%◌, ◌<◌, List, [], length, map, slice_index, slice_index_or}
+use Rattle.std.specs.Int.{abs_diff}
 use Rattle.std.specs.List.{range_with_len}
 use Rattle.h263_planes.specs.Picture.{Picture}
 use Rattle.h263_planes.specs.Samples.{sample_at, AreSamples}
 use Rattle.h263_planes.specs.declared.Plane.TheVariants.{Y}
-use Rattle.motion_search.specs.declared.areas.Band.{Band}
 use Rattle.motion_search.specs.declared.areas.Columns.{Columns}
+use Rattle.motion_search.specs.declared.areas.Halves.{Halves}
 use Rattle.motion_search.specs.declared.areas.Quarters.{Quarters}
 
 -- f 0 + f 1 + .. + f (n - 1)
@@ -55,7 +56,21 @@ pub record AreQuarters (block : List ℕ) (q : Quarters) : Type 0 where
 abbrev pub samples_from : Picture → ℕ → ℕ → ℕ → ℕ
 samples_from p x i j = sample_at p Y (x + i) j
 
--- the sums of n rows from row y on, and of n rows from eight rows below it on
-pub record IsBand (f : ℕ → ℕ → ℕ) (y n : ℕ) (b : Band) : Type 0 where
-  pub top : AreColumns f y n b.top
-  pub bottom : AreColumns f (y + 8) n b.bottom
+-- how far the areas at columns x and x + 8 of row y are from two sums, taken together
+abbrev pub half_away : (ℕ → ℕ → ℕ) → ℕ → ℕ → ℕ → ℕ → ℕ
+half_away f left right x y = abs_diff (area_sum f x y) left + abs_diff (area_sum f (8 + x) y) right
+
+-- the same of the sixteen columns from the first one on
+abbrev pub halves_away : (ℕ → ℕ → ℕ) → ℕ → ℕ → ℕ → List ℕ
+halves_away f left right y = sixteen (λ i. half_away f left right i y)
+
+abbrev pub AreHalves : (ℕ → ℕ → ℕ) → ℕ → ℕ → ℕ → Halves → Type 0
+AreHalves f left right y h = h.away ≡ halves_away f left right y
+
+abbrev pub half_at : List Halves → ℕ → List ℕ
+half_at hs k = (slice_index_or hs k (record { away = [] })).away
+
+-- those of n rows from row y on, each in the place of its row modulo 8
+pub record AreRows (f : ℕ → ℕ → ℕ) (left right y n : ℕ) (hs : List Halves) : Type 0 where
+  pub long : length hs ≡ 8
+  pub rows : (k : ℕ) → k < n → half_at hs ((y + k) % 8) ≡ halves_away f left right (y + k)

@@ -4,3 +4,4 @@ pub mod Vectors
 pub mod Best
 pub mod Rows
 pub mod Areas
+pub mod SoFar

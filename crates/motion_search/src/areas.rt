@@ -4,7 +4,8 @@ ghost use Rattle.std.specs.Prelude.{◌≡◌, ℕ, ◌+◌, ◌%◌, ◌<◌, �
 ghost use Rattle.std.specs.Int.{abs_diff, bit_at};
 ghost use Rattle.sad_kernel.specs.Differences.{differences};
 ghost use Rattle.motion_search.specs.Cost.{square};
-ghost use Rattle.motion_search.specs.Areas.{area_sum, AreBytes, AreColumns, AreQuarters, in_block, IsBand, IsRow, sixteen};
+ghost use Rattle.motion_search.specs.declared.areas.Quarters.{Quarters};
+ghost use Rattle.motion_search.specs.Areas.{area_sum, AreBytes, AreColumns, AreHalves, AreQuarters, in_block, IsRow, sixteen};
 
 use crate::lent::block_row;
 use h263_planes::laws as planes_laws;
@@ -17,11 +18,12 @@ pub(crate) struct Columns {
     pub(crate) right: u16x16,
 }
 
-// Those over some rows, and those over as many rows that begin eight rows below.
+// How far the sums of sixteen areas and of the areas eight columns to the right of them are from
+// those of two quarters, taken together. The borrow checker takes an array of such structs, but none
+// of vectors.
 #[derive(Clone, Copy)]
-pub(crate) struct Band {
-    pub(crate) top: Columns,
-    pub(crate) bottom: Columns,
+pub(crate) struct Halves {
+    pub(crate) away: u16x16,
 }
 
 // The sums of the 8 x 8 samples of the four quarters of a block.
@@ -123,24 +125,41 @@ fn away(sums: u16x16, sum: u16) -> u16x16
     (sums - other).simd_min(other - sums)
 }
 
-// Of the sixteen areas of 16 x 16 samples beside each other those that may differ from a block by
-// `most` or less: bit i for the one in column i. The others differ by more.
+// How far the areas of a row are from the upper quarters of a block, and how far from the lower ones.
 #[inline(always)]
-pub(crate) fn marks_of(quarters: Quarters, band: Band, most: u16) -> u64
+pub(crate) fn halves_of(quarters: Quarters, columns: Columns) -> (Halves, Halves)
     requires top_left { quarters.top_left ≤ 16320 }
     requires top_right { quarters.top_right ≤ 16320 }
     requires bottom_left { quarters.bottom_left ≤ 16320 }
     requires bottom_right { quarters.bottom_right ≤ 16320 }
-    ensures { (f : ℕ → ℕ → ℕ) (y : ℕ) (block : List ℕ)
-        → AreBytes f → IsBand f y 8 band → AreQuarters block quarters
+    ensures upper { (f : ℕ → ℕ → ℕ) (y : ℕ) → AreBytes f → AreColumns f y 8 columns
+        → AreHalves f quarters.top_left quarters.top_right y result.0 }
+    ensures lower { (f : ℕ → ℕ → ℕ) (y : ℕ) → AreBytes f → AreColumns f y 8 columns
+        → AreHalves f quarters.bottom_left quarters.bottom_right y result.1 }
+{
+    let (left, right) = areas(columns);
+    let upper = Halves {
+        away: away(left, quarters.top_left) + away(right, quarters.top_right),
+    };
+    let lower = Halves {
+        away: away(left, quarters.bottom_left) + away(right, quarters.bottom_right),
+    };
+    (upper, lower)
+}
+
+// Of sixteen blocks beside each other, whose halves are given, those that may differ from a block by
+// `most` or less: bit i for the one in column i. The others differ by more.
+#[inline(always)]
+pub(crate) fn marks_of(upper: Halves, lower: Halves, most: u16) -> u64
+    ensures { (f : ℕ → ℕ → ℕ) (y : ℕ) (block : List ℕ) (q : Quarters)
+        → AreBytes f → AreQuarters block q → AreHalves f q.top_left q.top_right y upper
+        → AreHalves f q.bottom_left q.bottom_right (y + 8) lower
         → (i : ℕ) → i < 16 → bit_at result i ≡ 0
         → most < differences block (square (λ k j. f (i + k) (y + j))) }
 {
-    let (top_left, top_right) = areas(band.top);
-    let (bottom_left, bottom_right) = areas(band.bottom);
-    let upper = away(top_left, quarters.top_left) + away(top_right, quarters.top_right);
-    let lower = away(bottom_left, quarters.bottom_left) + away(bottom_right, quarters.bottom_right);
-    (upper + lower).simd_le(u16x16::splat(most)).to_bitmask()
+    (upper.away + lower.away)
+        .simd_le(u16x16::splat(most))
+        .to_bitmask()
 }
 
 // The sums of eight rows of a block from row `j` on, in its sixteen columns twice.

@@ -15,31 +15,6 @@ use crate::within::{are_within, is_within};
 use h263_planes::PictureRef;
 use h263_types::{Reach, Vector, reach};
 
-// The first of the best one and a vector, where that is in reach.
-fn better_in_reach(
-    block: &[u8; 256],
-    reference: PictureRef<'_>,
-    mb: u32,
-    rounding: u8,
-    reach: Reach,
-    vector: Vector,
-    best: Candidate,
-) -> Candidate
-    requires mb { mb < mbs_of (picture reference).format }
-    requires reach { (x y : ℤ) → InReach (picture reference).format mb x y ↔ IsWithin reach x y }
-    requires rounding { rounding ≤ 1 }
-    requires cost { IsCost best.cost }
-    ensures first { result ≡ (if in_reach (picture reference.entry).format mb vector then first_of
-        best (candidate_of block.now (picture reference.entry) mb rounding vector) else best) }
-    ensures cost { IsCost result.cost }
-{
-    if is_within(reach, vector) {
-        better_predicted(block, reference, mb, rounding, vector, best)
-    } else {
-        best
-    }
-}
-
 // The first of a candidate and those of its neighbours that are in reach, each by itself: at the
 // picture's edge.
 fn best_at_edge(
@@ -61,7 +36,9 @@ fn best_at_edge(
     let mut first = best;
     for n in 0..8u32 {
         let vector = neighbour(best.vector, n);
-        first = better_in_reach(block, reference, mb, rounding, reach, vector, first);
+        if is_within(reach, vector) {
+            first = better_predicted(block, reference, mb, rounding, vector, first);
+        }
     }
     first
 }

@@ -1,25 +1,26 @@
 //! The vectors of whole samples by strips: sixteen columns of the square around zero, from its
 //! uppermost row down.
-ghost use Rattle.std.specs.Prelude.{◌≡◌, ℕ, ◌+◌, ◌*◌, ◌<◌, ◌≤◌, pos, ◌≤ℤ◌, false};
+ghost use Rattle.std.specs.Prelude.{◌≡◌, ℕ, ◌+◌, ◌*◌, ◌<◌, ◌≤◌, pos, ◌≤ℤ◌};
 ghost use Rattle.std.specs.Int.{bit_at};
 ghost use Rattle.h263_types.specs.Sizes.{width_of};
-ghost use Rattle.h263_types.specs.Vectors.{InReach, whole_place};
+ghost use Rattle.h263_types.specs.Vectors.{whole_place};
 ghost use Rattle.h263_planes.specs.Lent.{picture};
 ghost use Rattle.h263_planes.specs.Samples.{Inside, IsPicture};
 ghost use Rattle.h263_planes.specs.declared.Plane.TheVariants.{Y};
-ghost use Rattle.motion_search.specs.declared.candidate.Candidate.{Candidate};
-ghost use Rattle.motion_search.specs.Order.{before};
-ghost use Rattle.motion_search.specs.Cost.{candidate_of, IsCost};
-ghost use Rattle.motion_search.specs.Vectors.{whole_at, whole_component, zero_vector};
-ghost use Rattle.motion_search.specs.Best.{IsWholeCandidate};
-ghost use Rattle.motion_search.specs.Areas.{AreColumns, AreQuarters, IsBand, samples_from};
+ghost use Rattle.motion_search.specs.Cost.{IsCost};
+ghost use Rattle.motion_search.specs.Vectors.{whole_component};
+ghost use Rattle.motion_search.specs.SoFar.{IsBehind, IsKept, IsSoFar};
+ghost use Rattle.motion_search.specs.Areas.{AreColumns, AreHalves, AreQuarters, AreRows, samples_from};
 
-use crate::areas::{Band, Columns, Quarters, marks_of, no_rows, with_row, without_row};
+use crate::areas::{
+    Columns, Halves, Quarters, halves_of, marks_of, no_rows, with_row, without_row,
+};
 use crate::candidate::Candidate;
 use crate::marks::{lowest, without};
 use crate::square::{better_at, end_row, first_row, place};
 use crate::window::Window;
 use h263_planes::{PictureRef, Plane};
+use std::simd::prelude::*;
 
 // The sums with row `y` of the 32 samples of Y from column `x` on.
 #[inline(always)]
@@ -49,54 +50,73 @@ fn without_samples(columns: Columns, reference: PictureRef<'_>, x: u32, y: u32) 
     without_row(columns, left, right)
 }
 
-// The sums of seven rows, from row `y` and from row `y + 8` on.
+// The sums of seven rows from row `y` on.
 #[inline(always)]
-fn begun(reference: PictureRef<'_>, x: u32, y: u32) -> Band
-    requires inside { Inside (picture reference).format Y x (y + 14) 32 }
+fn seven_rows(reference: PictureRef<'_>, x: u32, y: u32) -> Columns
+    requires inside { Inside (picture reference).format Y x (y + 6) 32 }
     requires whole { IsPicture (picture reference) }
     requires y { y < 65536 }
-    ensures { IsBand (samples_from (picture reference.entry) x) y 7 result }
+    ensures { AreColumns (samples_from (picture reference.entry) x) y 7 result }
 {
-    let mut band = Band {
-        top: no_rows(),
-        bottom: no_rows(),
-    };
+    let mut columns = no_rows();
     for j in 0..7u32 {
-        band = with_rows(band, reference, x, y + j);
+        columns = with_samples(columns, reference, x, y + j);
     }
-    band
+    columns
 }
 
-// The sums with rows `y` and `y + 8` of the 32 samples of Y from column `x` on.
+// The next row of areas down a strip, row `y`, from the sums of seven rows: how far its areas are
+// from the upper quarters, how far from the lower ones, and the sums of the seven rows after it.
 #[inline(always)]
-fn with_rows(band: Band, reference: PictureRef<'_>, x: u32, y: u32) -> Band
-    requires inside { Inside (picture reference).format Y x (y + 8) 32 }
-    requires whole { IsPicture (picture reference) }
+fn next_halves(
+    window: Window<'_>,
+    quarters: Quarters,
+    columns: Columns,
+    x: u32,
+    y: u32,
+) -> (Halves, Halves, Columns)
+    requires inside { Inside (picture window.reference).format Y x (y + 7) 32 }
+    requires whole { IsPicture (picture window.reference) }
     requires y { y < 65550 }
-    ensures { (top n : ℕ) → n < 8 → y ≡ top + n
-        → IsBand (samples_from (picture reference.entry) x) top n band
-        → IsBand (samples_from (picture reference.entry) x) top (n + 1) result }
+    requires quarters { AreQuarters window.block.now quarters }
+    requires columns { AreColumns (samples_from (picture window.reference) x) y 7 columns }
+    ensures upper { AreHalves (samples_from (picture window.entry.reference) x)
+        quarters.top_left quarters.top_right y result.0 }
+    ensures lower { AreHalves (samples_from (picture window.entry.reference) x)
+        quarters.bottom_left quarters.bottom_right y result.1 }
+    ensures next { AreColumns (samples_from (picture window.entry.reference) x) (y + 1) 7 result.2 }
 {
-    Band {
-        top: with_samples(band.top, reference, x, y),
-        bottom: with_samples(band.bottom, reference, x, y + 8),
-    }
+    let full = with_samples(columns, window.reference, x, y + 7);
+    let (upper, lower) = halves_of(quarters, full);
+    (upper, lower, without_samples(full, window.reference, x, y))
 }
 
-// The sums without their uppermost rows, which are rows `y` and `y + 8`.
+// Goes down the first eight rows of areas, from row `y` on. How far these are from the upper quarters
+// is put into `uppers`, each in the place of its row modulo 8. The sums are those of the seven rows
+// after them.
 #[inline(always)]
-fn without_rows(band: Band, reference: PictureRef<'_>, x: u32, y: u32) -> Band
-    requires inside { Inside (picture reference).format Y x (y + 8) 32 }
-    requires whole { IsPicture (picture reference) }
-    requires y { y < 65550 }
-    ensures { (n : ℕ) → n < 8
-        → IsBand (samples_from (picture reference.entry) x) y (n + 1) band
-        → IsBand (samples_from (picture reference.entry) x) (y + 1) n result }
+fn begun(
+    window: Window<'_>,
+    quarters: Quarters,
+    x: u32,
+    y: u32,
+    uppers: &mut [Halves; 8],
+) -> Columns
+    requires inside { Inside (picture window.reference).format Y x (y + 14) 32 }
+    requires whole { IsPicture (picture window.reference) }
+    requires y { y < 65536 }
+    requires quarters { AreQuarters window.block.now quarters }
+    ensures uppers { AreRows (samples_from (picture window.entry.reference) x)
+        quarters.top_left quarters.top_right y 8 uppers.new }
+    ensures next { AreColumns (samples_from (picture window.entry.reference) x) (y + 8) 7 result }
 {
-    Band {
-        top: without_samples(band.top, reference, x, y),
-        bottom: without_samples(band.bottom, reference, x, y + 8),
+    let mut columns = seven_rows(window.reference, x, y);
+    for k in 0..8u32 {
+        let (upper, _, next) = next_halves(window, quarters, columns, x, y + k);
+        uppers[((y + k) % 8) as usize] = upper;
+        columns = next;
     }
+    columns
 }
 
 // The first of the best one and the vector in a column and a row, where that is in the square and in
@@ -104,20 +124,11 @@ fn without_rows(band: Band, reference: PictureRef<'_>, x: u32, y: u32) -> Band
 #[inline(always)]
 fn better_in_square(window: Window<'_>, column: u32, row: u32, best: Candidate) -> Candidate
     requires row { row ≤ 2 * window.radius }
-    requires zero { before (candidate_of window.block.now
-        (picture window.reference) window.mb 0 zero_vector) best ≡ false }
-    requires candidate { IsWholeCandidate window.block.now
-        (picture window.reference) window.mb window.radius 0 best }
-    requires cost { IsCost best.cost }
-    ensures candidate { IsWholeCandidate window.entry.block.now
-        (picture window.entry.reference) window.entry.mb window.entry.radius 0 result }
-    ensures kept { (d : Candidate) → before d best ≡ false → before d result ≡ false }
+    requires so_far { IsSoFar window best }
+    ensures so_far { IsSoFar window.entry result }
+    ensures kept { IsKept best result }
     ensures none { column < 2 * window.entry.radius + 1
-        → InReach (picture window.entry.reference).format window.entry.mb
-        (whole_at window.entry.radius column row).x (whole_at window.entry.radius column row).y
-        → before (candidate_of window.entry.block.now (picture window.entry.reference)
-        window.entry.mb 0 (whole_at window.entry.radius column row)) result ≡ false }
-    ensures cost { IsCost result.cost }
+        → IsBehind window.entry column row result }
 {
     if column <= 2 * u32::from(window.radius) {
         better_at(window, column, row, best)
@@ -138,26 +149,13 @@ fn best_of_marked(
 ) -> Candidate
     requires column { column ≤ 2 * window.radius }
     requires row { row ≤ 2 * window.radius }
-    requires zero { before (candidate_of window.block.now
-        (picture window.reference) window.mb 0 zero_vector) best ≡ false }
-    requires candidate { IsWholeCandidate window.block.now
-        (picture window.reference) window.mb window.radius 0 best }
-    requires cost { IsCost best.cost }
-    requires others { (i : ℕ) → i < 16 → bit_at marks i ≡ 0
-        → InReach (picture window.reference).format window.mb
-        (whole_at window.radius (column + i) row).x (whole_at window.radius (column + i) row).y
-        → before (candidate_of window.block.now (picture window.reference)
-        window.mb 0 (whole_at window.radius (column + i) row)) best ≡ false }
-    ensures candidate { IsWholeCandidate window.entry.block.now
-        (picture window.entry.reference) window.entry.mb window.entry.radius 0 result }
-    ensures kept { (d : Candidate) → before d best ≡ false → before d result ≡ false }
+    requires so_far { IsSoFar window best }
+    requires others { (i : ℕ)
+        → i < 16 → bit_at marks i ≡ 0 → IsBehind window (column + i) row best }
+    ensures so_far { IsSoFar window.entry result }
+    ensures kept { IsKept best result }
     ensures none { (i : ℕ) → i < 16 → column + i < 2 * window.entry.radius + 1
-        → InReach (picture window.entry.reference).format window.entry.mb
-        (whole_at window.entry.radius (column + i) row).x
-        (whole_at window.entry.radius (column + i) row).y
-        → before (candidate_of window.entry.block.now (picture window.entry.reference)
-        window.entry.mb 0 (whole_at window.entry.radius (column + i) row)) result ≡ false }
-    ensures cost { IsCost result.cost }
+        → IsBehind window.entry (column + i) row result }
 {
     let mut first = best;
     let mut left = marks;
@@ -179,48 +177,9 @@ fn most(best: Candidate) -> u16
     if best.cost < 0 { 0 } else { best.cost as u16 }
 }
 
-// The first of the best one and sixteen vectors beside each other, which lead to columns from `x`
-// on of row `y`.
-#[inline(always)]
-fn best_of_sixteen(
-    window: Window<'_>,
-    quarters: Quarters,
-    band: Band,
-    x: u32,
-    y: u32,
-    column: u32,
-    row: u32,
-    best: Candidate,
-) -> Candidate
-    requires x { pos x ≡ whole_place window.left (whole_component window.radius column) }
-    requires y { pos y ≡ whole_place window.top (whole_component window.radius row) }
-    requires column { column ≤ 2 * window.radius }
-    requires row { row ≤ 2 * window.radius }
-    requires quarters { AreQuarters window.block.now quarters }
-    requires band { IsBand (samples_from (picture window.reference) x) y 8 band }
-    requires whole { IsPicture (picture window.reference) }
-    requires zero { before (candidate_of window.block.now
-        (picture window.reference) window.mb 0 zero_vector) best ≡ false }
-    requires candidate { IsWholeCandidate window.block.now
-        (picture window.reference) window.mb window.radius 0 best }
-    requires cost { IsCost best.cost }
-    ensures candidate { IsWholeCandidate window.entry.block.now
-        (picture window.entry.reference) window.entry.mb window.entry.radius 0 result }
-    ensures kept { (d : Candidate) → before d best ≡ false → before d result ≡ false }
-    ensures none { (i : ℕ) → i < 16 → column + i < 2 * window.entry.radius + 1
-        → InReach (picture window.entry.reference).format window.entry.mb
-        (whole_at window.entry.radius (column + i) row).x
-        (whole_at window.entry.radius (column + i) row).y
-        → before (candidate_of window.entry.block.now (picture window.entry.reference)
-        window.entry.mb 0 (whole_at window.entry.radius (column + i) row)) result ≡ false }
-    ensures cost { IsCost result.cost }
-{
-    let marks = marks_of(quarters, band, most(best));
-    best_of_marked(window, column, row, marks, best)
-}
-
 // The first of the best one and the vectors in sixteen columns of the square, the first of which
-// lead to column `x`. The sums of areas are carried from row to row.
+// lead to column `x`. The lower half of a block is the upper half of the one eight rows below: each
+// row of areas is summed up once, and kept for eight rows.
 #[inline(always)]
 fn best_of_strip(
     window: Window<'_>,
@@ -234,35 +193,26 @@ fn best_of_strip(
     requires column { column ≤ 2 * window.radius }
     requires quarters { AreQuarters window.block.now quarters }
     requires whole { IsPicture (picture window.reference) }
-    requires zero { before (candidate_of window.block.now
-        (picture window.reference) window.mb 0 zero_vector) best ≡ false }
-    requires candidate { IsWholeCandidate window.block.now
-        (picture window.reference) window.mb window.radius 0 best }
-    requires cost { IsCost best.cost }
-    ensures candidate { IsWholeCandidate window.entry.block.now
-        (picture window.entry.reference) window.entry.mb window.entry.radius 0 result }
-    ensures kept { (d : Candidate) → before d best ≡ false → before d result ≡ false }
+    requires so_far { IsSoFar window best }
+    ensures so_far { IsSoFar window.entry result }
+    ensures kept { IsKept best result }
     ensures none { (m i : ℕ) → m < 2 * window.entry.radius + 1 → i < 16
-        → column + i < 2 * window.entry.radius + 1
-        → InReach (picture window.entry.reference).format window.entry.mb
-        (whole_at window.entry.radius (column + i) m).x
-        (whole_at window.entry.radius (column + i) m).y
-        → before (candidate_of window.entry.block.now (picture window.entry.reference)
-        window.entry.mb 0 (whole_at window.entry.radius (column + i) m)) result ≡ false }
-    ensures cost { IsCost result.cost }
+        → column + i < 2 * window.entry.radius + 1 → IsBehind window.entry (column + i) m result }
 {
     let first_row = first_row(window.radius, window.reach);
-    let mut band = begun(
-        window.reference,
-        x,
-        place(window.top, first_row, window.radius),
-    );
+    let top = place(window.top, first_row, window.radius);
+    let mut uppers = [Halves {
+        away: u16x16::splat(0),
+    }; 8];
+    let mut columns = begun(window, quarters, x, top, &mut uppers);
     let mut first = best;
     for row in first_row..end_row(window.radius, window.reach) {
         let y = place(window.top, row, window.radius);
-        let full = with_rows(band, window.reference, x, y + 7);
-        first = best_of_sixteen(window, quarters, full, x, y, column, row, first);
-        band = without_rows(full, window.reference, x, y);
+        let (upper, lower, next) = next_halves(window, quarters, columns, x, y + 8);
+        let marks = marks_of(uppers[(y % 8) as usize], lower, most(first));
+        uppers[(y % 8) as usize] = upper;
+        first = best_of_marked(window, column, row, marks, first);
+        columns = next;
     }
     first
 }
@@ -271,20 +221,11 @@ fn best_of_strip(
 #[inline(always)]
 fn best_of_column(window: Window<'_>, column: u32, best: Candidate) -> Candidate
     requires column { column ≤ 2 * window.radius }
-    requires zero { before (candidate_of window.block.now
-        (picture window.reference) window.mb 0 zero_vector) best ≡ false }
-    requires candidate { IsWholeCandidate window.block.now
-        (picture window.reference) window.mb window.radius 0 best }
-    requires cost { IsCost best.cost }
-    ensures candidate { IsWholeCandidate window.entry.block.now
-        (picture window.entry.reference) window.entry.mb window.entry.radius 0 result }
-    ensures kept { (d : Candidate) → before d best ≡ false → before d result ≡ false }
-    ensures none { (m : ℕ) → m < 2 * window.entry.radius + 1
-        → InReach (picture window.entry.reference).format window.entry.mb
-        (whole_at window.entry.radius column m).x (whole_at window.entry.radius column m).y
-        → before (candidate_of window.entry.block.now (picture window.entry.reference)
-        window.entry.mb 0 (whole_at window.entry.radius column m)) result ≡ false }
-    ensures cost { IsCost result.cost }
+    requires so_far { IsSoFar window best }
+    ensures so_far { IsSoFar window.entry result }
+    ensures kept { IsKept best result }
+    ensures none { (m : ℕ)
+        → m < 2 * window.entry.radius + 1 → IsBehind window.entry column m result }
 {
     let mut first = best;
     for row in 0..2 * u32::from(window.radius) + 1 {
@@ -310,21 +251,11 @@ pub(crate) fn best_from<const WIDTH: u32>(
         × (whole_component window.radius column ≤ℤ window.reach.right) }
     requires quarters { AreQuarters window.block.now quarters }
     requires whole { IsPicture (picture window.reference) }
-    requires zero { before (candidate_of window.block.now
-        (picture window.reference) window.mb 0 zero_vector) best ≡ false }
-    requires candidate { IsWholeCandidate window.block.now
-        (picture window.reference) window.mb window.radius 0 best }
-    requires cost { IsCost best.cost }
-    ensures candidate { IsWholeCandidate window.entry.block.now
-        (picture window.entry.reference) window.entry.mb window.entry.radius 0 result.0 }
-    ensures kept { (d : Candidate) → before d best ≡ false → before d result.0 ≡ false }
+    requires so_far { IsSoFar window best }
+    ensures so_far { IsSoFar window.entry result.0 }
+    ensures kept { IsKept best result.0 }
     ensures none { (m n : ℕ) → m < 2 * window.entry.radius + 1 → n < 2 * window.entry.radius + 1
-        → column ≤ n → n < result.1
-        → InReach (picture window.entry.reference).format window.entry.mb
-        (whole_at window.entry.radius n m).x (whole_at window.entry.radius n m).y
-        → before (candidate_of window.entry.block.now (picture window.entry.reference)
-        window.entry.mb 0 (whole_at window.entry.radius n m)) result.0 ≡ false }
-    ensures cost { IsCost result.0.cost }
+        → column ≤ n → n < result.1 → IsBehind window.entry n m result.0 }
     ensures next { column < result.1 }
     ensures most { result.1 ≤ column + 16 }
 {

@@ -1,27 +1,18 @@
-use Rattle.std.proofs.Common.{ℕ, ◌+◌}
-use Rattle.std.specs.Int.{abs_diff}
+use Rattle.std.proofs.Common.{ℕ, ◌+◌, arith}
 use Rattle.sad_kernel.specs.Differences.{differences}
 use Rattle.motion_search.specs.Cost.{square}
-use Rattle.motion_search.specs.Areas.{area_sum}
-use Rattle.motion_search.proofs.AreaSums.{four_lanes, mark_tells, ruled_out, more_than, small_apart, area_small}
+use Rattle.motion_search.specs.Areas.{half_away}
+use Rattle.motion_search.proofs.AreaSums.{block_area_small, both_lanes, half_small, mark_tells, more_than, ruled_out}
 use Rattle.motion_search.proofs.areas.marks_of.Goals as goal
 
 pub returns : goal.returns
-returns c = λ f y block h band own i hi unmarked.
-    let q = c.args.quarters in
-    let top = c.areas.ensures f y h band.top in
-    let bottom = c.areas-2.ensures f (y + 8) h band.bottom in
-    let a = λ (k : ℕ). abs_diff (area_sum f k y) q.top_left in
-    let b = λ (k : ℕ). abs_diff (area_sum f (8 + k) y) q.top_right in
-    let d = λ (k : ℕ). abs_diff (area_sum f k (y + 8)) q.bottom_left in
-    let e = λ (k : ℕ). abs_diff (area_sum f (8 + k) (y + 8)) q.bottom_right in
-    let sums = four_lanes a b d e c.away.result c.away-2.result c.away-3.result c.away-4.result
-    (c.away.ensures (λ k. area_sum f k y) (λ k. area_small f k y h) top.0) (c.away-2.ensures (λ k. area_sum f (8 + k) y) (λ k. area_small f (8 + k) y h) top.1)
-    (c.away-3.ensures (λ k. area_sum f k (y + 8)) (λ k. area_small f k (y + 8) h) bottom.0) (c.away-4.ensures (λ k. area_sum f (8 + k) (y + 8)) (λ k. area_small f (8 + k) (y + 8) h) bottom.1)
-    (λ k. small_apart (area_sum f k y) q.top_left (area_small f k y h) c.requires.top_left)
-    (λ k. small_apart (area_sum f (8 + k) y) q.top_right (area_small f (8 + k) y h) c.requires.top_right)
-    (λ k. small_apart (area_sum f k (y + 8)) q.bottom_left (area_small f k (y + 8) h) c.requires.bottom_left)
-    (λ k. small_apart (area_sum f (8 + k) (y + 8)) q.bottom_right (area_small f (8 + k) (y + 8) h) c.requires.bottom_right) in
-    more_than c.args.most (a i + b i + (d i + e i)) (differences block (square (λ k j. f (i + k) (y + j))))
-    (mark_tells _ (λ k. a k + b k + (d k + e k)) c.args.most i sums hi unmarked)
+returns c = λ f y block q h own upper lower i hi unmarked.
+    let small = λ (n u v : ℕ). block_area_small block n u v own.samples in
+    let top = λ (k : ℕ). half_away f q.top_left q.top_right k y in
+    let bottom = λ (k : ℕ). half_away f q.bottom_left q.bottom_right k (y + 8) in
+    let top_small = λ (k : ℕ). half_small f q.top_left q.top_right k y h (small q.top_left 0 0 own.top_left) (small q.top_right 8 0 own.top_right) in
+    let bottom_small = λ (k : ℕ). half_small f q.bottom_left q.bottom_right k (y + 8) h (small q.bottom_left 0 8 own.bottom_left) (small q.bottom_right 8 8 own.bottom_right) in
+    let sums = both_lanes top bottom c.args.upper.away c.args.lower.away upper lower (λ k. omega (arith, top_small k, bottom_small k)) in
+    more_than c.args.most (top i + bottom i) (differences block (square (λ k j. f (i + k) (y + j))))
+    (mark_tells _ (λ k. top k + bottom k) c.args.most i sums hi unmarked)
     (ruled_out f y i q.top_left q.top_right q.bottom_left q.bottom_right block own.long own.top_left own.top_right own.bottom_left own.bottom_right)

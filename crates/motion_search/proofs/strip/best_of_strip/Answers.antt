@@ -1,33 +1,33 @@
-use Rattle.std.proofs.Common.{◌≡◌, refl, subst, arith, below_more, ℕ, ◌<◌, ◌+◌, ◌*◌, false}
+use Rattle.std.proofs.Common.{◌≡◌, subst, arith, below_more, ℕ, ◌<◌, ◌+◌, ◌*◌, ◌%◌, slice_set}
 use Rattle.std.proofs.lemmas.Int.{ints}
-use Rattle.h263_types.specs.Vectors.{InReach}
 use Rattle.h263_planes.specs.Lent.{picture}
-use Rattle.motion_search.specs.Order.{before}
 use Rattle.motion_search.specs.Cost.{candidate_of}
-use Rattle.motion_search.specs.Vectors.{whole_at, zero_vector}
-use Rattle.motion_search.specs.Areas.{IsBand, samples_from}
+use Rattle.motion_search.specs.Vectors.{whole_at}
+use Rattle.motion_search.specs.SoFar.{IsBehind}
+use Rattle.motion_search.specs.Areas.{AreColumns, AreRows, samples_from}
 use Rattle.motion_search.proofs.Reaches.{first_row_small, first_in_rows, between_rows, after_first_row, before_end_row, row_inside, row_ends}
-use Rattle.motion_search.proofs.Strips.{next_place}
+use Rattle.motion_search.proofs.Strips.{are_bytes, next_place, unmarked_not_before}
+use Rattle.motion_search.proofs.Uppers.{first_row_at, next_rows}
 use Rattle.motion_search.proofs.strip.best_of_strip.Goals as goal
 
-pub place-requires-clause-k : goal.place-requires-clause-k
-place-requires-clause-k c =
+pub place-top-requires-clause-k : goal.place-top-requires-clause-k
+place-top-requires-clause-k c =
     let w = c.args.window in
     omega (arith, first_row_small (picture w.reference).format w.mb w.radius w.reach w.reaches 0 c.first_row-first_row.result w.inside c.first_row-first_row.ensures)
 
-pub place-requires-clause-inside : goal.place-requires-clause-inside
-place-requires-clause-inside c =
+pub place-top-requires-clause-inside : goal.place-top-requires-clause-inside
+place-top-requires-clause-inside c =
     let w = c.args.window in
     let f = (picture w.reference).format in
     let first = c.first_row-first_row.result in
     row_inside f w.mb w.radius w.reach w.reaches first w.top w.inside w.at_top (first_in_rows f w.mb w.radius w.reach w.reaches 0 first w.inside c.first_row-first_row.ensures)
 
-pub begun-band-requires-clause-inside : goal.begun-band-requires-clause-inside
-begun-band-requires-clause-inside c =
+pub begun-columns-requires-clause-inside : goal.begun-columns-requires-clause-inside
+begun-columns-requires-clause-inside c =
     let w = c.args.window in
     let f = (picture w.reference).format in
     let first = c.first_row-first_row.result in
-    let ends = row_ends f w.mb w.radius w.reach w.reaches first w.top c.place.result w.inside w.at_top (first_in_rows f w.mb w.radius w.reach w.reaches 0 first w.inside c.first_row-first_row.ensures) c.place.ensures.place in
+    let ends = row_ends f w.mb w.radius w.reach w.reaches first w.top c.place-top.result w.inside w.at_top (first_in_rows f w.mb w.radius w.reach w.reaches 0 first w.inside c.first_row-first_row.ensures) c.place-top.ensures.place in
     record { in_row = c.requires.room; in_plane = omega (arith, ends) }
 
 pub loop-row-init : goal.loop-row-init
@@ -36,14 +36,16 @@ loop-row-init c =
     let f = (picture w.reference).format in
     record {
       sums = λ y e.
-          let same : c.place.result ≡ y = omega (arith, ints, e, c.place.ensures.place) in
-          subst (λ (k : ℕ). IsBand (samples_from (picture w.reference) c.args.x) k 7 c.begun-band.result) same c.begun-band.ensures;
-      candidate = c.requires.candidate;
+          let same : c.place-top.result ≡ y = omega (arith, ints, e, c.place-top.ensures.place) in
+          subst (λ (k : ℕ). AreColumns (samples_from (picture w.reference) c.args.x) (k + 8) 7 c.begun-columns.result) same c.begun-columns.ensures.next;
+      rows = λ y e.
+          let same : c.place-top.result ≡ y = omega (arith, ints, e, c.place-top.ensures.place) in
+          subst (λ (k : ℕ). AreRows (samples_from (picture w.reference) c.args.x) c.args.quarters.top_left c.args.quarters.top_right k 8 c.begun-columns.new.uppers) same c.begun-columns.ensures.uppers;
+      so_far = c.requires.so_far;
       kept = λ d h. h;
       none = λ m i hm hi hc reached.
           let past = after_first_row f w.mb w.radius w.reach w.reaches m c.first_row-first_row.result (c.args.column + i) c.first_row-first_row.ensures reached in
           absurd (omega (arith, hm, past));
-      cost = c.requires.cost;
     }
 
 pub place-y-requires-clause-k : goal.place-y-requires-clause-k
@@ -56,56 +58,57 @@ place-y-requires-clause-inside c =
     row_inside f w.mb w.radius w.reach w.reaches c.loop-row.row w.top w.inside w.at_top
     (between_rows f w.mb w.radius w.reach w.reaches c.loop-row.row c.first_row-first_row.result c.end_row-row-end.result c.first_row-first_row.ensures c.end_row-row-end.ensures c.loop-row.auto.row c.loop-row-test.true)
 
-pub with_rows-full-requires-clause-inside : goal.with_rows-full-requires-clause-inside
-with_rows-full-requires-clause-inside c =
+pub next_halves-requires-clause-inside : goal.next_halves-requires-clause-inside
+next_halves-requires-clause-inside c =
     let w = c.args.window in
     let f = (picture w.reference).format in
     let row = c.loop-row.row in
     let down = between_rows f w.mb w.radius w.reach w.reaches row c.first_row-first_row.result c.end_row-row-end.result c.first_row-first_row.ensures c.end_row-row-end.ensures c.loop-row.auto.row c.loop-row-test.true in
     record { in_row = c.requires.room; in_plane = omega (arith, row_ends f w.mb w.radius w.reach w.reaches row w.top c.place-y.result w.inside w.at_top down c.place-y.ensures.place) }
 
-pub best_of_sixteen-first-requires-clause-row : goal.best_of_sixteen-first-requires-clause-row
-best_of_sixteen-first-requires-clause-row c = omega (arith, ((c.end_row-row-end.ensures c.loop-row.row).0 c.loop-row-test.true).0)
+pub next_halves-requires-clause-columns : goal.next_halves-requires-clause-columns
+next_halves-requires-clause-columns c = c.loop-row.invariant.sums c.place-y.result c.place-y.ensures.place
 
-pub best_of_sixteen-first-requires-clause-band : goal.best_of_sixteen-first-requires-clause-band
-best_of_sixteen-first-requires-clause-band c =
+pub best_of_marked-first-requires-clause-row : goal.best_of_marked-first-requires-clause-row
+best_of_marked-first-requires-clause-row c = omega (arith, ((c.end_row-row-end.ensures c.loop-row.row).0 c.loop-row-test.true).0)
+
+pub best_of_marked-first-requires-clause-others : goal.best_of_marked-first-requires-clause-others
+best_of_marked-first-requires-clause-others c = λ i hi unmarked reached.
+    let w = c.args.window in
+    let p = picture w.reference in
+    let q = c.args.quarters in
+    let f = samples_from p c.args.x in
     let y = c.place-y.result in
-    c.with_rows-full.ensures y 7 (omega arith) refl (c.loop-row.invariant.sums y c.place-y.ensures.place)
-
-pub best_of_sixteen-first-requires-clause-zero : goal.best_of_sixteen-first-requires-clause-zero
-best_of_sixteen-first-requires-clause-zero c =
-    let w = c.args.window in
-    c.loop-row.invariant.kept (candidate_of w.block.now (picture w.reference) w.mb 0 zero_vector) c.requires.zero
-
-pub without_rows-band-requires-clause-inside : goal.without_rows-band-requires-clause-inside
-without_rows-band-requires-clause-inside c =
-    let w = c.args.window in
-    let f = (picture w.reference).format in
-    let row = c.loop-row.row in
-    let down = between_rows f w.mb w.radius w.reach w.reaches row c.first_row-first_row.result c.end_row-row-end.result c.first_row-first_row.ensures c.end_row-row-end.ensures c.loop-row.auto.row c.loop-row-test.true in
-    record { in_row = c.requires.room; in_plane = omega (arith, row_ends f w.mb w.radius w.reach w.reaches row w.top c.place-y.result w.inside w.at_top down c.place-y.ensures.place) }
+    unmarked_not_before w.block.now p w.mb w.radius w.left w.top c.args.x y c.args.column c.loop-row.row i c.most.result c.loop-row.first
+    w.at_left w.at_top c.requires.x c.place-y.ensures.place c.most.ensures
+    (c.marks_of-marks.ensures f y w.block.now q (are_bytes p c.args.x c.requires.whole) c.requires.quarters
+    (first_row_at f q.top_left q.top_right y c.loop-row.uppers (c.loop-row.invariant.rows y c.place-y.ensures.place)) c.next_halves.ensures.lower i hi unmarked)
+    c.loop-row.invariant.so_far.zero
 
 pub loop-row-preserved : goal.loop-row-preserved
 loop-row-preserved c =
     let w = c.args.window in
     let p = picture w.reference in
-    let block = w.block.now in
     let row = c.loop-row.row in
     let y = c.place-y.result in
     let inv = c.loop-row.invariant in
-    let next = c.best_of_sixteen-first in
-    let full = c.with_rows-full.ensures y 7 (omega arith) refl (inv.sums y c.place-y.ensures.place) in
+    let next = c.best_of_marked-first in
+    let q = c.args.quarters in
     record {
       sums = λ k e.
           let same : y + 1 ≡ k = omega (arith, ints, e, next_place w.top y w.radius row 1 c.place-y.ensures.place) in
-          subst (λ (n : ℕ). IsBand (samples_from p c.args.x) n 7 c.without_rows-band.result) same (c.without_rows-band.ensures 7 (omega arith) full);
-      candidate = next.ensures.candidate;
+          let below : y + 8 + 1 ≡ k + 8 = omega (arith, same) in
+          subst (λ (n : ℕ). AreColumns (samples_from p c.args.x) n 7 c.next_halves.result.2) below c.next_halves.ensures.next;
+      rows = λ k e.
+          let same : y + 1 ≡ k = omega (arith, ints, e, next_place w.top y w.radius row 1 c.place-y.ensures.place) in
+          subst (λ (n : ℕ). AreRows (samples_from p c.args.x) q.top_left q.top_right n 8 (slice_set c.loop-row.uppers (y % 8) c.next_halves.result.0)) same
+          (next_rows (samples_from p c.args.x) q.top_left q.top_right y c.loop-row.uppers c.next_halves.result.0 (inv.rows y c.place-y.ensures.place) c.next_halves.ensures.upper);
+      so_far = next.ensures.so_far;
       kept = λ d h. next.ensures.kept d (inv.kept d h);
       none = λ m i hm.
-          below_more (λ m. i < 16 → c.args.column + i < 2 * w.radius + 1 → InReach p.format w.mb (whole_at w.radius (c.args.column + i) m).x (whole_at w.radius (c.args.column + i) m).y → before (candidate_of block p w.mb 0 (whole_at w.radius (c.args.column + i) m)) next.result ≡ false) row
-          (λ m hm hi hc reached. next.ensures.kept (candidate_of block p w.mb 0 (whole_at w.radius (c.args.column + i) m)) (inv.none m i hm hi hc reached))
-          (λ hi hc reached. next.ensures.none i hi hc reached) m hm;
-      cost = next.ensures.cost;
+          below_more (λ m. i < 16 → c.args.column + i < 2 * w.radius + 1 → IsBehind w (c.args.column + i) m next.result) row
+          (λ m hm hi hc reached. next.ensures.kept (candidate_of w.block.now p w.mb 0 (whole_at w.radius (c.args.column + i) m)) (inv.none m i hm hi hc reached))
+          (λ hi hc. next.ensures.none i hi hc) m hm;
     }
 
 pub returns-clause-none : goal.returns-clause-none

@@ -62,13 +62,13 @@ loop-column-preserved g c =
     let next = c.best_from in
     record {
       left = omega (arith, ints, inv.left, next.ensures.next);
-      candidate = next.ensures.candidate;
+      candidate = next.ensures.so_far.candidate;
       none = λ m n hm hn to reached.
           seen_or_next (n < next.result.1 → before (candidate_of block p mb 0 (whole_at radius n m)) next.result.0 ≡ false) n column
           (λ before_it _. next.ensures.kept (candidate_of block p mb 0 (whole_at radius n m)) (inv.none m n hm hn before_it reached))
           (λ from to. next.ensures.none m n hm hn from to reached) to;
-      zero = next.ensures.kept (candidate_of block p mb 0 zero_vector) inv.zero;
-      cost = next.ensures.cost;
+      zero = next.ensures.so_far.zero;
+      cost = next.ensures.so_far.cost;
     }
 
 pub returns-clause-best : goal.returns-clause-best
