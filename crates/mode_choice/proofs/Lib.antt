@@ -1,4 +1,5 @@
 pub mod Lanes
+pub mod Rows
 pub mod Levels
 pub mod Blocks
 pub mod Differences
