@@ -5,6 +5,7 @@ pub mod Blocks
 pub mod Differences
 pub mod Choices
 pub mod Walk
+pub mod Zeros
 pub mod Whole
 pub mod Empties
 pub mod Searched
