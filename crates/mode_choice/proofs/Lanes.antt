@@ -1,5 +1,5 @@
--- The differences of bytes, as the lanes compute them.
-use Rattle.std.proofs.Common.{◌≡◌, ℕ, zero, suc, ◌+◌, ◌-◌, ◌%◌, ◌^◌, ◌<◌, ◌≤◌, lit≤, ap, ◌∙◌, List, [], ◌∷◌, map, length, get_or, arith, ℤ, pos, ◌-ℤ◌, to_z, of_z, w16, FitsSigned}
+-- Bytes as numbers of 16 bits, and their differences, as the lanes compute them.
+use Rattle.std.proofs.Common.{◌≡◌, ℕ, zero, suc, ◌+◌, ◌-◌, ◌%◌, ◌^◌, ◌<◌, ◌≤◌, lit≤, refl, ap, ◌∙◌, List, [], ◌∷◌, map, length, get_or, arith, ℤ, pos, ◌-ℤ◌, to_z, of_z, w16, FitsSigned}
 use lib.Lanes.{zip2}
 use Rattle.std.proofs.lemmas.Int.{ints, to_z-of_z}
 use Rattle.idct8.specs.Ranges.{Within}
@@ -28,3 +28,24 @@ difference_at [] ys i hx hy bx by = absurd (omega (arith, hx))
 difference_at (x ∷ xs) [] i hx hy bx by = absurd (omega (arith, hy))
 difference_at (x ∷ xs) (y ∷ ys) zero hx hy bx by = one_difference x y bx by
 difference_at (x ∷ xs) (y ∷ ys) (suc i) hx hy bx by = difference_at xs ys i (omega (arith, hx)) (omega (arith, hy)) bx by
+
+pub length_differences : (xs ys : List ℕ) → length xs ≡ length ys → length (differences_l xs ys) ≡ length xs
+length_differences [] ys e = refl
+length_differences (x ∷ xs) [] e = absurd (omega (arith, e))
+length_differences (x ∷ xs) (y ∷ ys) e = omega (arith, length_differences xs ys (omega (arith, e)))
+
+-- bytes that are widened alone
+abbrev pub widened_l : List ℕ → List ℤ
+widened_l xs = map (to_z w16) (map (λ (k : ℕ). k) xs)
+
+one_widened : (x : ℕ) → x < 256 → to_z w16 x ≡ pos x
+one_widened x h = omega (arith, ints)
+
+pub widened_at : (xs : List ℕ) (i : ℕ) → i < length xs → get_or xs i 0 < 256 → get_or (widened_l xs) i (pos 0) ≡ pos (get_or xs i 0)
+widened_at [] i h b = absurd (omega (arith, h))
+widened_at (x ∷ xs) zero h b = one_widened x b
+widened_at (x ∷ xs) (suc i) h b = widened_at xs i (omega (arith, h)) b
+
+pub length_widened : (xs : List ℕ) → length (widened_l xs) ≡ length xs
+length_widened [] = refl
+length_widened (x ∷ xs) = omega (arith, length_widened xs)

@@ -1,9 +1,11 @@
 pub mod Lanes
+pub mod Rows
 pub mod Levels
 pub mod Blocks
 pub mod Differences
 pub mod Choices
 pub mod Walk
+pub mod Zeros
 pub mod Whole
 pub mod Empties
 pub mod Searched

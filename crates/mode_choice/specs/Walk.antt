@@ -1,6 +1,7 @@
 -- The levels of a block's coefficients, which stand by rows.
-use Rattle.std.specs.Prelude.{◌≡◌, ℕ, ◌+◌, ◌*◌, ◌/◌, ◌<◌, pos, ℤ, List, All, length, nat_eq, nat_lt, slice_index_or, if◌then◌else◌}
+use Rattle.std.specs.Prelude.{◌≡◌, ℕ, ◌+◌, ◌*◌, ◌/◌, ◌<◌, ◌≤◌, pos, ℤ, List, All, length, nat_eq, nat_lt, replicate, slice_index_or, if◌then◌else◌}
 use Rattle.std.specs.Int.{bit_at}
+use Rattle.h263_types.specs.declared.blocks.Block.{Block}
 use Rattle.h263_types.specs.Blocks.{IsLevel}
 use Rattle.quantiser.specs.Levels.{inter_level, intra_level}
 use Rattle.quantiser.specs.Zigzag.{block_place_of}
@@ -21,6 +22,14 @@ least_of Inter quant = 2 * quant + quant / 2
 abbrev pub level_in : Coding → ℕ → ℕ → List ℤ → ℕ → ℤ
 level_in coding quant keep coefficients k =
     if nat_lt k keep then level_by coding quant (slice_index_or coefficients (block_place_of k) (pos 0)) else pos 0
+
+-- a block before its levels are put into it
+abbrev pub zero_block : Block
+zero_block = record { levels = replicate 64 (pos 0) }
+
+-- of a macroblock's blocks those from n on are so
+abbrev pub AreZerosFrom : ℕ → List Block → Type 0
+AreZerosFrom n blocks = (d : Block) (b : ℕ) → n ≤ b → b < 6 → slice_index_or blocks b d ≡ zero_block
 
 -- the levels whose marks aren't in the rest stand at their places of the zigzag order, and zeros at the places of the
 -- others; a mark is the bit of a level's place in the block

@@ -1,13 +1,12 @@
 //! The levels of a block's coefficients, by rows and then in the zigzag order.
-ghost use Rattle.std.specs.Prelude.{◌≡◌, ℕ, ◌≤◌, ◌<◌, pos, All, length, nat_lt, slice_index_or, if◌then◌else◌};
+ghost use Rattle.std.specs.Prelude.{◌≡◌, ℕ, ◌≤◌, ◌<◌, pos, All, length, nat_lt, replicate, slice_index_or, if◌then◌else◌};
 ghost use Rattle.h263_types.specs.Blocks.{IsCoefficient, IsLevel, IsQuant};
 ghost use Rattle.quantiser.specs.Factors.{IsFactor, IsWord, limited_to_word};
 ghost use Rattle.mode_choice.specs.Walk.{least_of, level_by, level_in};
 
 use h263_types::{Block, laws as types_laws};
 use quantiser::{
-    Factor, factor_of, laws as quantiser_laws, level_inter_by, level_intra_by, limited,
-    zigzag_place,
+    Factor, laws as quantiser_laws, level_inter_by, level_intra_by, limited, zigzag_place,
 };
 
 // How a block is coded: by itself, or as what a prediction leaves.
@@ -15,6 +14,15 @@ use quantiser::{
 pub(crate) enum Coding {
     Intra,
     Inter,
+}
+
+// What turns coefficients into levels: the quantiser, its factor, which is worked out once for a
+// macroblock, and how many places of the zigzag order are kept.
+#[derive(Clone, Copy, Debug)]
+pub(crate) struct Quantisation {
+    pub(crate) quant: u8,
+    pub(crate) factor: Factor,
+    pub(crate) keep: u8,
 }
 
 // The size from which on a coefficient has a level.
@@ -31,34 +39,35 @@ pub(crate) fn least_size(coding: Coding, quant: u8) -> u32
     }
 }
 
-// Writes the levels of coefficients that stand by rows, in the zigzag order: 0 from place `keep`
-// on. The first one is a level as the others are. Goes from mark to mark, since most levels are 0.
+// Puts the levels of coefficients that stand by rows into zeros, in the zigzag order: 0 from place
+// `keep` on. The first one is a level as the others are. Goes from mark to mark, since most levels
+// are 0.
 #[inline(always)]
 pub(crate) fn levels_in(
     coding: Coding,
-    quant: u8,
-    keep: u8,
+    quantisation: Quantisation,
     coefficients: &[i32; 64],
     out: &mut [i16; 64],
 )
-    requires quant { IsQuant quant }
+    requires quant { IsQuant quantisation.quant }
+    requires factor { IsFactor quantisation.quant quantisation.factor }
     requires coefficients { (at : ℕ)
         → at < 64 → IsCoefficient (slice_index_or coefficients.now at (pos 0)) }
+    requires zeros { out.old ≡ replicate 64 (pos 0) }
     ensures long { length out.new ≡ 64 }
     ensures levels { (k : ℕ) → k < 64 → slice_index_or out.new k (pos 0)
-        ≡ level_in coding quant keep coefficients.now k }
+        ≡ level_in coding quantisation.quant quantisation.keep coefficients.now k }
     ensures range { All IsLevel out.new }
 {
     types_laws::lowest();
     types_laws::marks();
     quantiser_laws::one_order();
-    let by_rows = levels_by_rows(coding, quant, coefficients);
-    *out = [0; 64];
+    let by_rows = levels_by_rows(coding, quantisation, coefficients);
     let mut rest = Block { levels: by_rows }.marks();
     'marks: while rest != 0 {
         let at = rest.trailing_zeros() as usize;
         let k = zigzag_place(at);
-        out[k] = kept(by_rows[at], k, keep);
+        out[k] = kept(by_rows[at], k, quantisation.keep);
         rest &= !(1 << at);
     }
 }
@@ -76,22 +85,22 @@ fn kept(level: i16, k: usize, keep: u8) -> i16
 // The levels of all coefficients, by rows. There is no branch on any of them, so that they are
 // taken together: eight at a time, since the coefficients are limited to 16 bits first.
 #[inline(always)]
-fn levels_by_rows(coding: Coding, quant: u8, coefficients: &[i32; 64]) -> [i16; 64]
-    requires quant { IsQuant quant }
+fn levels_by_rows(coding: Coding, quantisation: Quantisation, coefficients: &[i32; 64]) -> [i16; 64]
+    requires quant { IsQuant quantisation.quant }
+    requires factor { IsFactor quantisation.quant quantisation.factor }
     requires coefficients { (at : ℕ)
         → at < 64 → IsCoefficient (slice_index_or coefficients.now at (pos 0)) }
     ensures long { length result ≡ 64 }
     ensures levels { (at : ℕ) → at < 64 → slice_index_or result at (pos 0)
-        ≡ level_by coding quant (slice_index_or coefficients.now at (pos 0)) }
+        ≡ level_by coding quantisation.quant (slice_index_or coefficients.now at (pos 0)) }
     ensures range { All IsLevel result }
 {
     types_laws::one_more::<i16>();
     quantiser_laws::limited_coefficients();
-    let factor = factor_of(quant);
     let limited = limited_by_rows(coefficients);
     let mut levels = [0; 64];
     for at in 0..64 {
-        levels[at] = level(coding, quant, factor, limited[at]);
+        levels[at] = level(coding, quantisation, limited[at]);
     }
     levels
 }
@@ -115,13 +124,14 @@ fn limited_by_rows(coefficients: &[i32; 64]) -> [i16; 64]
 
 // The level of a coefficient of 16 bits, by the quantiser's factor.
 #[inline(always)]
-fn level(coding: Coding, quant: u8, factor: Factor, coefficient: i16) -> i16
-    requires quant { IsQuant quant }
-    requires factor { IsFactor quant factor }
+fn level(coding: Coding, quantisation: Quantisation, coefficient: i16) -> i16
+    requires quant { IsQuant quantisation.quant }
+    requires factor { IsFactor quantisation.quant quantisation.factor }
     requires coefficient { IsWord coefficient }
-    ensures level { result ≡ level_by coding quant coefficient }
+    ensures level { result ≡ level_by coding quantisation.quant coefficient }
     ensures range { IsLevel result }
 {
+    let Quantisation { quant, factor, .. } = quantisation;
     match coding {
         Coding::Intra => level_intra_by(quant, factor, coefficient),
         Coding::Inter => level_inter_by(quant, factor, coefficient),

@@ -3,21 +3,25 @@ ghost use Rattle.std.specs.Prelude.{◌≡◌, All, pos, ◌+ℤ◌};
 ghost use Rattle.std.specs.Int.{int_shr};
 ghost use Rattle.h263_types.specs.Blocks.{IsCoefficient, IsDc, IsIntraBlock, IsQuant};
 ghost use Rattle.idct8.specs.Ranges.{IsSample};
+ghost use Rattle.quantiser.specs.Factors.{IsFactor};
 ghost use Rattle.mode_choice.specs.Choice.{levels_of, limited_dc};
+ghost use Rattle.mode_choice.specs.Walk.{zero_block};
 
-use crate::coefficients::{Coding, levels_in};
+use crate::coefficients::{Coding, Quantisation, levels_in};
 use h263_types::Block;
 use idct8::forward;
 
-// Writes the levels of a block of samples.
-pub(crate) fn intra_block(quant: u8, keep: u8, samples: &[i16; 64], out: &mut Block)
-    requires quant { IsQuant quant }
+// Puts the levels of a block of samples into a block of zeros.
+pub(crate) fn intra_block(quantisation: Quantisation, samples: &[i16; 64], out: &mut Block)
+    requires quant { IsQuant quantisation.quant }
+    requires factor { IsFactor quantisation.quant quantisation.factor }
     requires samples { All IsSample samples.now }
-    ensures levels { out.new ≡ levels_of quant keep samples.now }
+    requires zeros { out.old ≡ zero_block }
+    ensures levels { out.new ≡ levels_of quantisation.quant quantisation.keep samples.now }
     ensures range { IsIntraBlock out.new }
 {
     let coefficients = forward(samples);
-    levels_in(Coding::Intra, quant, keep, &coefficients, &mut out.levels);
+    levels_in(Coding::Intra, quantisation, &coefficients, &mut out.levels);
     out.levels[0] = intra_dc(coefficients[0]);
 }
 

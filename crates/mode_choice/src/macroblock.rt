@@ -1,5 +1,5 @@
 //! The choice of a macroblock.
-ghost use Rattle.std.specs.Prelude.{◌≡◌, ℕ, ◌<◌, ◌≤◌, Some};
+ghost use Rattle.std.specs.Prelude.{◌≡◌, ℕ, ◌<◌, ◌≤◌, Some, replicate};
 ghost use Rattle.std.specs.Option.{option_map};
 ghost use Rattle.h263_types.specs.Blocks.{HasQuant, IsMb, IsOfKind, IsQuant};
 ghost use Rattle.h263_types.specs.References.{ReachesInside};
@@ -10,9 +10,12 @@ ghost use Rattle.h263_planes.specs.Picture.{Picture};
 ghost use Rattle.h263_planes.specs.References.{HasReferenceOnlyInP};
 ghost use Rattle.half_sample.specs.Macroblock.{IsPredicted, IsPredictionOf};
 ghost use Rattle.motion_search.specs.Cost.{samples_of, IsCost};
+ghost use Rattle.quantiser.specs.Factors.{IsFactor};
 ghost use Rattle.mode_choice.specs.Choice as choice;
+ghost use Rattle.mode_choice.specs.Walk.{zero_block};
 
 use crate::chosen::{Chosen, predict_into};
+use crate::coefficients::Quantisation;
 use crate::deviation::deviation;
 use crate::intra::intra_block;
 use crate::laws;
@@ -24,6 +27,7 @@ use h263_types::{Block, Mb, Params, Vector, laws as types_laws};
 use half_sample::Predicted;
 use motion_search::search_from;
 use picture_header::Header;
+use quantiser::factor_of;
 
 /// The macroblock that is coded at place `mb` of `frame`, with the quantiser of the header and with
 /// the first `keep` places of each block's zigzag order. Without a reference, which only a P
@@ -123,16 +127,13 @@ fn macroblock_in_p(
         return;
     }
     predict_into(reference, mb, vector, header.rounding, &mut out.predicted);
+    let quantisation = Quantisation {
+        quant: header.quant,
+        factor: factor_of(header.quant),
+        keep: params.keep,
+    };
     let predicted = &out.predicted;
-    inter_macroblock(
-        frame,
-        mb,
-        vector,
-        header.quant,
-        params.keep,
-        predicted,
-        &mut out.mb,
-    );
+    inter_macroblock(frame, mb, vector, quantisation, predicted, &mut out.mb);
 }
 
 // Whether a macroblock is coded by itself, where the best vector costs this much: at 500 or less it
@@ -164,49 +165,52 @@ fn inter_macroblock(
     frame: PictureRef<'_>,
     mb: u32,
     vector: Vector,
-    quant: u8,
-    keep: u8,
+    quantisation: Quantisation,
     predicted: &Predicted,
     out: &mut Mb,
 )
-    requires quant { IsQuant quant }
+    requires quant { IsQuant quantisation.quant }
+    requires factor { IsFactor quantisation.quant quantisation.factor }
     requires mb { mb < mbs_of (picture frame).format }
     ensures { (reference : Picture) (r : ℕ) → IsPredicted reference mb vector r predicted.now
-        → out.new ≡ choice.inter_of (picture frame.entry) reference quant keep r mb vector }
+        → out.new ≡ choice.inter_of (picture frame.entry) reference
+        quantisation.quant quantisation.keep r mb vector }
 {
     let mut blocks = [Block { levels: [0; 64] }; 6];
-    inter_blocks(frame, mb, quant, keep, predicted, &mut blocks);
+    inter_blocks(frame, mb, quantisation, predicted, &mut blocks);
     if vector.x == 0 && vector.y == 0 && are_empty(&blocks) {
         *out = Mb::Skip;
         return;
     }
     *out = Mb::Inter {
-        quant,
+        quant: quantisation.quant,
         vector,
         blocks,
     };
 }
 
-// The levels of what a prediction leaves of a macroblock's six blocks.
+// Puts the levels of what a prediction leaves of a macroblock's six blocks into zeros.
 fn inter_blocks(
     frame: PictureRef<'_>,
     mb: u32,
-    quant: u8,
-    keep: u8,
+    quantisation: Quantisation,
     predicted: &Predicted,
     out: &mut [Block; 6],
 )
-    requires quant { IsQuant quant }
+    requires quant { IsQuant quantisation.quant }
+    requires factor { IsFactor quantisation.quant quantisation.factor }
     requires mb { mb < mbs_of (picture frame).format }
+    requires zeros { out.old ≡ replicate 6 zero_block }
     ensures { (reference : Picture) (r : ℕ)
         (v : Vector) → IsPredicted reference mb v r predicted.now → out.new
-        ≡ choice.residual_blocks_of (picture frame.entry) reference quant keep r mb v }
+        ≡ choice.residual_blocks_of (picture frame.entry) reference
+        quantisation.quant quantisation.keep r mb v }
 {
     types_laws::one_more::<Block>();
     let mut residuals = [0; 64];
     for block in 0..6u32 {
         block_residuals(frame, mb, block, predicted, &mut residuals);
-        residual_block(quant, keep, &residuals, &mut out[block as usize]);
+        residual_block(quantisation, &residuals, &mut out[block as usize]);
     }
 }
 
@@ -220,22 +224,30 @@ fn intra_macroblock(frame: PictureRef<'_>, mb: u32, quant: u8, keep: u8, out: &m
         quant,
         blocks: [Block { levels: [0; 64] }; 6],
     };
+    let quantisation = Quantisation {
+        quant,
+        factor: factor_of(quant),
+        keep,
+    };
     match out {
-        Mb::Intra { blocks, .. } => intra_blocks(frame, mb, quant, keep, blocks),
+        Mb::Intra { blocks, .. } => intra_blocks(frame, mb, quantisation, blocks),
         _ => {}
     }
 }
 
-// The levels of a macroblock's six blocks.
-fn intra_blocks(frame: PictureRef<'_>, mb: u32, quant: u8, keep: u8, out: &mut [Block; 6])
-    requires quant { IsQuant quant }
+// Puts the levels of a macroblock's six blocks into zeros.
+fn intra_blocks(frame: PictureRef<'_>, mb: u32, quantisation: Quantisation, out: &mut [Block; 6])
+    requires quant { IsQuant quantisation.quant }
+    requires factor { IsFactor quantisation.quant quantisation.factor }
     requires mb { mb < mbs_of (picture frame).format }
-    ensures { out.new ≡ choice.blocks_of (picture frame.entry) quant keep mb }
+    requires zeros { out.old ≡ replicate 6 zero_block }
+    ensures { out.new
+        ≡ choice.blocks_of (picture frame.entry) quantisation.quant quantisation.keep mb }
 {
     types_laws::one_more::<Block>();
     let mut samples = [0; 64];
     for block in 0..6u32 {
         block_samples(frame, mb, block, &mut samples);
-        intra_block(quant, keep, &samples, &mut out[block as usize]);
+        intra_block(quantisation, &samples, &mut out[block as usize]);
     }
 }

@@ -126,30 +126,20 @@ fn differences(
     }
 }
 
-// Writes row `j` of a block: eight samples less the predicted ones.
+// Writes row `j` of a block: eight samples less the predicted ones, taken and put in lanes.
 #[inline(always)]
-fn put_difference(residuals: &mut [i16; 64], j: usize, row: &[u8], predicted: &[u8])
+fn put_difference(residuals: &mut [i16], j: usize, row: &[u8], predicted: &[u8])
+    requires block { length residuals.old ≡ 64 }
     requires j { j < 8 }
     requires row { length row.now ≡ 8 }
     requires predicted { length predicted.now ≡ 8 }
-    ensures { (k : ℕ) → k < 64 → slice_index_or residuals.new k (pos 0)
+    ensures long { length residuals.new ≡ 64 }
+    ensures residuals { (k : ℕ) → k < 64 → slice_index_or residuals.new k (pos 0)
         ≡ (if nat_eq (k / 8) j
         then pos (slice_index row.now (k % 8)) -ℤ pos (slice_index predicted.now (k % 8))
         else slice_index_or residuals.old k (pos 0)) }
 {
-    let at = 8 * j;
-    residuals[at..at + 8].copy_from_slice(&difference(row, predicted));
-}
-
-// Eight bytes less eight others, taken in lanes.
-#[inline(always)]
-fn difference(row: &[u8], predicted: &[u8]) -> [i16; 8]
-    requires row { length row.now ≡ 8 }
-    requires predicted { length predicted.now ≡ 8 }
-    ensures { (x : ℕ) → x < 8 → slice_index_or result x (pos 0)
-        ≡ (pos (slice_index row.now x) -ℤ pos (slice_index predicted.now x)) }
-{
     let samples: i16x8 = u8x8::from_slice(row).cast();
     let predicted: i16x8 = u8x8::from_slice(predicted).cast();
-    (samples - predicted).to_array()
+    (samples - predicted).copy_to_slice(&mut residuals[8 * j..]);
 }

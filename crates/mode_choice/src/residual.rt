@@ -4,25 +4,29 @@ ghost use Rattle.h263_types.specs.Blocks.{IsQuant};
 ghost use Rattle.idct8.specs.Ranges.{IsSample};
 ghost use Rattle.idct8.specs.Sums.{total};
 ghost use Rattle.idct8.specs.Vectors.{square};
+ghost use Rattle.quantiser.specs.Factors.{IsFactor};
 ghost use Rattle.quantiser.specs.Levels.{inter_level};
 ghost use Rattle.mode_choice.specs.Choice as choice;
+ghost use Rattle.mode_choice.specs.Walk.{zero_block};
 
-use crate::coefficients::{Coding, least_size, levels_in};
+use crate::coefficients::{Coding, Quantisation, least_size, levels_in};
 use h263_types::Block;
 use idct8::{are_below, forward, laws as idct8_laws};
 
-// Writes the levels of a block of residuals.
-pub(crate) fn residual_block(quant: u8, keep: u8, residuals: &[i16; 64], out: &mut Block)
-    requires quant { IsQuant quant }
+// Puts the levels of a block of residuals into a block of zeros.
+pub(crate) fn residual_block(quantisation: Quantisation, residuals: &[i16; 64], out: &mut Block)
+    requires quant { IsQuant quantisation.quant }
+    requires factor { IsFactor quantisation.quant quantisation.factor }
     requires residuals { All IsSample residuals.now }
-    ensures { out.new ≡ choice.residual_levels_of quant keep residuals.now }
+    requires zeros { out.old ≡ zero_block }
+    ensures { out.new
+        ≡ choice.residual_levels_of quantisation.quant quantisation.keep residuals.now }
 {
-    if are_small(quant, residuals) {
-        out.levels = [0; 64];
+    if are_small(quantisation.quant, residuals) {
         return;
     }
     let coefficients = forward(residuals);
-    levels_in(Coding::Inter, quant, keep, &coefficients, &mut out.levels);
+    levels_in(Coding::Inter, quantisation, &coefficients, &mut out.levels);
 }
 
 // Whether residuals are so small that they leave no level, which needs no transform. Most blocks of

@@ -40,24 +40,18 @@ fn square(frame: PictureRef<'_>, plane: Plane, x: u32, y: u32, samples: &mut [i1
     }
 }
 
-// Writes row `y` of a block.
+// Writes row `y` of a block: eight bytes as signed numbers, taken and put in lanes. That is one
+// store, where an array would first be made in memory, and then copied.
 #[inline(always)]
-fn put_row(samples: &mut [i16; 64], y: usize, row: &[u8])
+fn put_row(samples: &mut [i16], y: usize, row: &[u8])
+    requires block { length samples.old ≡ 64 }
     requires y { y < 8 }
     requires row { length row.now ≡ 8 }
-    ensures { (k : ℕ) → k < 64 → slice_index_or samples.new k (pos 0) ≡ (if nat_eq (k / 8) y
+    ensures long { length samples.new ≡ 64 }
+    ensures samples { (k : ℕ) → k < 64
+        → slice_index_or samples.new k (pos 0) ≡ (if nat_eq (k / 8) y
         then pos (slice_index row.now (k % 8)) else slice_index_or samples.old k (pos 0)) }
 {
-    let at = 8 * y;
-    samples[at..at + 8].copy_from_slice(&widened(row));
-}
-
-// Eight bytes as signed numbers, taken in lanes.
-#[inline(always)]
-fn widened(row: &[u8]) -> [i16; 8]
-    requires { length row.now ≡ 8 }
-    ensures { (x : ℕ) → x < 8 → slice_index_or result x (pos 0) ≡ pos (slice_index row.now x) }
-{
     let numbers: i16x8 = u8x8::from_slice(row).cast();
-    numbers.to_array()
+    numbers.copy_to_slice(&mut samples[8 * y..]);
 }

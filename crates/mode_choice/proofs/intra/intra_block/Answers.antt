@@ -1,4 +1,4 @@
-use Rattle.std.proofs.Common.{◌≡◌, ◌∙◌, ℕ, zero, suc, ℤ, pos, List, ap, arith, lit<, length, length-set, slice_set, ◌<◌, ◌≤◌, ◌+ℤ◌, nat_eq, nat_lt, get_or, get_or-set_same, get_or-set_other, cond, to_z, of_z, w16}
+use Rattle.std.proofs.Common.{◌≡◌, ◌∙◌, ℕ, zero, suc, ℤ, pos, List, ap, sym, subst, arith, lit<, length, length-set, slice_set, ◌<◌, ◌≤◌, ◌+ℤ◌, nat_eq, nat_lt, get_or, get_or-set_same, get_or-set_other, cond, to_z, of_z, w16}
 use Rattle.std.specs.Int.{int_shr}
 use Rattle.std.proofs.lemmas.Int.{ints}
 use Rattle.std.proofs.lemmas.Bool.Decides.{nat_tests}
@@ -14,6 +14,14 @@ use Rattle.mode_choice.proofs.intra.intra_block.Goals as goal
 
 pub levels_in-requires-clause-coefficients : goal.levels_in-requires-clause-coefficients
 levels_in-requires-clause-coefficients c at h = is_coefficient c.forward-coefficients.result at h c.forward-coefficients.ensures.range
+
+pub levels_in-requires-clause-zeros : goal.levels_in-requires-clause-zeros
+levels_in-requires-clause-zeros c = ap (λ (b : Block). b.levels) c.requires.zeros
+
+pub intra_dc-requires : goal.intra_dc-requires
+intra_dc-requires c =
+    let ok = is_coefficient c.forward-coefficients.result 0 (lit< tt) c.forward-coefficients.ensures.range in
+    subst IsCoefficient (sym (coefficient_kept (get_or c.forward-coefficients.result 0 (pos 0)) ok)) ok
 
 dc_kept : (z : ℤ) → IsDc z → to_z w16 (of_z w16 z) ≡ z
 dc_kept z h = omega (arith, ints)
@@ -32,8 +40,8 @@ behind k dc l h = grind (arith, nat_tests)
 pub returns-clause-levels : goal.returns-clause-levels
 unfolding levels_of block_place_of
 returns-clause-levels c =
-    let quant : ℕ = c.args.quant in
-    let keep : ℕ = c.args.keep in
+    let quant : ℕ = c.args.quantisation.quant in
+    let keep : ℕ = c.args.quantisation.keep in
     let samples : List ℤ = c.args.samples.now in
     let coefficients : List ℤ = c.forward-coefficients.result in
     let dc : ℤ = to_z w16 (of_z w16 c.intra_dc.result) in
