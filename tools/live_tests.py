@@ -186,7 +186,7 @@ class PartsTest(unittest.TestCase):
         found = [frame for at in range(0, len(video), 1_000) for frame in cutter.frames(video[at : at + 1_000])]
         with open(EXAMPLES / "video.y4m", "rb") as file:
             self.assertEqual(found, list(y4m.Y4mReader(file, "video")))
-        for bad in (b"RIFF\n", b"Y" * 256, b"YUV4MPEG2 W16 H16\nFRAM\n"):
+        for bad in (b"RIFF\n", b"Y" * 256, y4m.head_bytes(y4m.Size(16, 16)) + b"FRAM\n"):
             with self.assertRaises(errors.BadInput):
                 list(y4m_pipe.FrameCutter("camera").frames(bad))
 

@@ -1,12 +1,10 @@
 //! A picture coded whole, with no sender around it.
-ghost use Rattle.std.specs.Prelude.{◌≡◌, ◌<◌, ◌≤◌, IfOk, length};
-ghost use Rattle.std.specs.Option.{option_map};
+ghost use Rattle.std.specs.Prelude.{◌≡◌, ◌<◌, ◌≤◌, IfOk, IfSome, length};
 ghost use Rattle.h263_types.specs.Clocks.{period_of};
 ghost use Rattle.h263_types.specs.Params.{IsParams};
 ghost use Rattle.h263_types.specs.Sizes.{size_of_picture};
 ghost use Rattle.h263_types.specs.declared.Kind.TheVariants.{I};
 ghost use Rattle.h263_planes.specs.Lent.{picture};
-ghost use Rattle.h263_planes.specs.References.{HasReferenceOnlyInP};
 ghost use Rattle.picture_header.specs.Ranges.{IsHeader};
 ghost use Rattle.packet_cutter.specs.Cutting.{format_of, limit_of, packets_of};
 
@@ -95,13 +93,11 @@ impl Coder {
         requires { (picture frame).format ≡ self.old.params.format }
         ensures { self.new.params ≡ self.old.params }
     {
-        let header = header_of(&self.params, number);
         code_into(
             &self.params,
             frame,
             None,
             number,
-            &header,
             &mut self.cutter,
             &mut self.work,
         );
@@ -113,15 +109,12 @@ impl Coder {
         requires rounding { rounding ≤ 1 }
         ensures { self.new.params ≡ self.old.params }
     {
-        let before = tr_of(&self.params, number.saturating_sub(1));
-        let header = header_of(&self.params, number).predicted(rounding, before);
-        let reference = PictureRef::new(self.params.format, &self.last);
+        let before = PictureRef::new(self.params.format, &self.last);
         code_into(
             &self.params,
             frame,
-            Some(reference),
+            Some((before, rounding)),
             number,
-            &header,
             &mut self.cutter,
             &mut self.work,
         );
@@ -151,22 +144,19 @@ fn header_of(params: &Params, number: u32) -> Header
     )
 }
 
-// Codes a picture into bytes, from its reference if it has one.
+// Codes a picture into bytes, from the one before with a rounding, or by itself.
 fn code_into(
     params: &Params,
     frame: PictureRef<'_>,
-    reference: Option<PictureRef<'_>>,
+    before: Option<(PictureRef<'_>, u8)>,
     number: u32,
-    header: &Header,
     cutter: &mut Cutter,
     bytes: &mut [u8],
 )
     requires params { IsParams params.now }
     requires frame { (picture frame).format ≡ params.now.format }
-    requires reference { HasReferenceOnlyInP header.now.kind params.now.format
-        (option_map picture reference) }
-    requires header { IsHeader header.now }
-    requires header_format { header.now.format ≡ params.now.format }
+    requires before { IfSome before (λ from. (picture from.0).format ≡ params.now.format) }
+    requires rounding { IfSome before (λ from. from.1 ≤ 1) }
     requires cutter_format { format_of cutter.old ≡ params.now.format }
     requires cutter_limit { limit_of cutter.old ≡ params.now.limit }
     requires bytes { length bytes.old ≡ size_of_picture params.now.format }
@@ -174,5 +164,13 @@ fn code_into(
     ensures cutter_limit { limit_of cutter.new ≡ params.now.limit }
 {
     let mut work = PictureMut::new(params.format, bytes);
-    code_picture(frame, reference, number, header, params, cutter, &mut work);
+    let header = header_of(params, number);
+    match before {
+        None => code_picture(frame, None, number, &header, params, cutter, &mut work),
+        Some((reference, rounding)) => {
+            let header = header.predicted(rounding, tr_of(params, number.saturating_sub(1)));
+            let reference = Some(reference);
+            code_picture(frame, reference, number, &header, params, cutter, &mut work);
+        }
+    }
 }

@@ -2,6 +2,8 @@
 use command_words::{Command, WordStop, Words};
 use h263_outside::Role;
 use h263_types::{Clock, Format, Params};
+use std::alloc::Global;
+use std::process::Abort;
 
 // Words after the program's name that are no command.
 static USAGE: [&[&str]; 76] = [
@@ -327,12 +329,21 @@ static BOTH: [&str; 9] = [
     "out2",
 ];
 
-#[test]
-fn one_command_of_each(rt: HostRuntime) {
+// Words, and the command that they ask for.
+type Asked = (&'static [&'static str], Command);
+
+// `call`, also of two parties, and `send`.
+fn asked_of_senders() -> [Asked; 4] {
     let params = Params::of(Format::Qcif);
     let call = Command::Call {
         params,
         traced: false,
+    };
+    let duplex = Command::Duplex {
+        params: Params {
+            messages: 2,
+            ..params
+        },
     };
     let send = Command::Send {
         params: Params {
@@ -345,17 +356,29 @@ fn one_command_of_each(rt: HostRuntime) {
         params,
         target: Some(100),
     };
+    [
+        (PLAIN.as_slice(), call),
+        (BOTH.as_slice(), duplex),
+        (SENDING.as_slice(), send),
+        (FOLLOWING.as_slice(), following),
+    ]
+}
+
+// `recv`, also with a joiner, and the commands without a network.
+fn asked_of_others() -> [Asked; 5] {
     let recv = Command::Recv {
         params: Params {
-            format: Format::SubQcif,
             slots: 2,
             lead: 0,
             messages: 2,
-            ..params
+            ..Params::of(Format::SubQcif)
         },
         join: false,
     };
-    let joining = Command::Recv { params, join: true };
+    let joining = Command::Recv {
+        params: Params::of(Format::Qcif),
+        join: true,
+    };
     let demo = Command::Demo {
         params: Params::of(Format::Cif),
         seed: 999_999_999,
@@ -372,25 +395,24 @@ fn one_command_of_each(rt: HostRuntime) {
             ..Params::of(Format::SubQcif)
         },
     };
-    let duplex = Command::Duplex {
-        params: Params {
-            messages: 2,
-            ..params
-        },
-    };
-    let table = [
-        (PLAIN.as_slice(), call),
-        (SENDING.as_slice(), send),
-        (FOLLOWING.as_slice(), following),
+    [
         (RECEIVING.as_slice(), recv),
         (JOINING.as_slice(), joining),
         (MADE.as_slice(), demo),
         (MEASURED.as_slice(), rate),
         (AUDITED.as_slice(), audit),
-        (BOTH.as_slice(), duplex),
-    ];
+    ]
+}
+
+fn assert_asked(rt: &impl Abort, alloc: Global, table: &[Asked]) {
     for (words, command) in table {
-        let read = Words::read(rt.alloc(), words).expect(&rt, "a command");
-        assert_eq!(rt; read.command(), command, "{words:?}");
+        let read = Words::read(alloc, words).expect(rt, "a command");
+        assert_eq!(rt; read.command(), *command, "{words:?}");
     }
+}
+
+#[test]
+fn one_command_of_each(rt: HostRuntime) {
+    assert_asked(&rt, rt.alloc(), &asked_of_senders());
+    assert_asked(&rt, rt.alloc(), &asked_of_others());
 }

@@ -137,15 +137,13 @@ fn assert_coded(rt: &impl Abort, cutter: &Cutter, shown: &[u8], want: Want<'_>) 
     assert_eq!(rt; sums(shown), picture);
 }
 
-// Codes a frame of the moving pictures, and looks at what comes out.
-fn assert_moving(
-    rt: &impl Abort,
+// Codes the frame of the moving pictures that the header numbers.
+fn code_moving(
     header: &Header,
     before: Option<PictureRef<'_>>,
     params: &Params,
     cutter: &mut Cutter,
     out: &mut [u8; SIZE],
-    want: Want<'_>,
 )
     requires number { header.now.tr < 3 }
     requires header { IsHeader header.now }
@@ -164,7 +162,6 @@ fn assert_moving(
     let frame = PictureRef::new(params.format, &frame);
     let mut work = PictureMut::new(params.format, out);
     code_picture(frame, before, number, header, params, cutter, &mut work);
-    assert_coded(rt, cutter, out, want);
 }
 
 fn assert_three(
@@ -180,29 +177,16 @@ fn assert_three(
     let mut cutter = Cutter::start(alloc, params)?;
     let [mut first, mut second, mut third] = [[0; SIZE]; 3];
     let header = Header { quant, ..INTRA };
-    assert_moving(rt, &header, None, params, &mut cutter, &mut first, wants[0]);
+    code_moving(&header, None, params, &mut cutter, &mut first);
+    assert_coded(rt, &cutter, &first, wants[0]);
     let header = Header { quant, ..INTER };
     let before = Some(PictureRef::new(params.format, &first));
-    assert_moving(
-        rt,
-        &header,
-        before,
-        params,
-        &mut cutter,
-        &mut second,
-        wants[1],
-    );
+    code_moving(&header, before, params, &mut cutter, &mut second);
+    assert_coded(rt, &cutter, &second, wants[1]);
     let header = Header { quant, ..THIRD };
     let before = Some(PictureRef::new(params.format, &second));
-    assert_moving(
-        rt,
-        &header,
-        before,
-        params,
-        &mut cutter,
-        &mut third,
-        wants[2],
-    );
+    code_moving(&header, before, params, &mut cutter, &mut third);
+    assert_coded(rt, &cutter, &third, wants[2]);
     Ok(())
 }
 
