@@ -114,7 +114,8 @@ module _ {Frame Style Mb Picture Fault MessageFault : Type 0}
     (rules : Rules) (pace : List ℕ → ℕ) (frames : List Frame) where
   abbrev pub CountsAreThose : Type 0
   CountsAreThose = (past : List Event) →
-      (AllMayHappen coding rules pace frames past → length (ideal coding rules pace frames past).coded ≡ sent_before past)
+      (AllMayHappen coding rules pace frames past
+      → length (ideal coding rules pace frames past).coded ≡ sent_before past)
       × ((ideal coding rules pace frames past).played ≡ played_before past)
 
   abbrev pub ArrivedWasDelivered : Type 0

@@ -19,7 +19,8 @@ module _ {Style Mb Picture Fault : Type 0} (decoding : Decoding Style Mb Picture
     receiver_said [] = []
     receiver_said (Deliver n j ∷ past) =
         receiver_said past ++ option_map_or
-        (λ bytes. answer_says (heard decoding rules (received decoding rules source packets past) (decoding.read bytes)))
+        (λ bytes. answer_says
+        (heard decoding rules (received decoding rules source packets past) (decoding.read bytes)))
         (slice_get (packets (call_from decoding.pictures rules source past).coded n) j) []
     receiver_said (Play ∷ past) =
         receiver_said past ++ option_map_or (λ m. m ∷ [])

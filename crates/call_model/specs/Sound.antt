@@ -85,7 +85,8 @@ module _ {Style Mb Picture Fault : Type 0} (decoding : Decoding Style Mb Picture
     abbrev pub AnswersAsTheCall : ℕ → List Event → Type 0
     AnswersAsTheCall count past = (n j : ℕ) (bytes : List ℕ) →
         let c = call_from decoding.pictures rules source past in
-        MayHappen rules count c (Deliver n j) → IsSoundEvent c (Deliver n j) → slice_get (packets c.coded n) j ≡ Some bytes
+        MayHappen rules count c (Deliver n j) → IsSoundEvent c (Deliver n j)
+        → slice_get (packets c.coded n) j ≡ Some bytes
         → heard decoding rules (received past) (decoding.read bytes) ≡ delivery_answer rules c n j
 
     -- and each play shows what the call shows, and says what it says
@@ -111,7 +112,8 @@ module _ {Style Mb Picture Fault : Type 0} (decoding : Decoding Style Mb Picture
     pub state : ReceiverIsAt (call_from decoding.pictures rules source past) (received source packets past)
     pub answers : AnswersAsTheCall source packets count past
     pub plays : PlaysAsTheCall source packets count past
-    pub messages : (k : ℕ) (note : NumberedMessage) → slice_get (call_from decoding.pictures rules source past).said k ≡ Some note
+    pub messages : (k : ℕ) (note : NumberedMessage)
+        → slice_get (call_from decoding.pictures rules source past).said k ≡ Some note
         → IsUnderstood (call_from decoding.pictures rules source past) note
 
   abbrev pub AnySoundSender : Type 0

@@ -150,4 +150,5 @@ module _ {Shot Frame Style Mb Picture Fault MessageFault : Type 0}
     -- each event is near after those before it
     abbrev pub AllMayHappenOf : List Lettered → Type 0
     AllMayHappenOf [] = ⊤
-    AllMayHappenOf (e ∷ past) = MayHappenOf (length (shots e.party)) e.party e.event (ways_after past) × AllMayHappenOf past
+    AllMayHappenOf (e ∷ past) =
+        MayHappenOf (length (shots e.party)) e.party e.event (ways_after past) × AllMayHappenOf past

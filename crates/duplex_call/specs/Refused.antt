@@ -40,4 +40,5 @@ module _ {Shot Frame Style Mb Picture Fault MessageFault : Type 0}
   abbrev pub passed : (Party → List Shot) → List Lettered → Bool
   passed shots [] = true
   passed shots (e ∷ past) =
-      not (is_some (refusal_of (length (shots e.party)) e.party e.event (ways_after side shots past))) && passed shots past
+      not (is_some (refusal_of (length (shots e.party)) e.party e.event (ways_after side shots past)))
+      && passed shots past

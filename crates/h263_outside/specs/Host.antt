@@ -26,7 +26,9 @@ no_faults = record { attach = 0; read = 0; write = 0 }
 
 -- what a desk over the host tells
 abbrev pub host_outside : {R F D I A : Type 0} → HostDesk R F D I A → Outside
-host_outside d = silent_outside (by_role (is_some d.video) (is_some d.events) (is_some d.pictures) (is_some d.wire) d.reports (is_some d.video2) (is_some d.pictures2)) d.attach_faults d.read_faults d.write_faults
+host_outside d = silent_outside (by_role (is_some d.video) (is_some d.events)
+    (is_some d.pictures) (is_some d.wire) d.reports (is_some d.video2) (is_some d.pictures2))
+    d.attach_faults d.read_faults d.write_faults
 
 -- the file that a role reads
 abbrev pub input_of : {R F D I A : Type 0} → Role → HostDesk R F D I A → Option F

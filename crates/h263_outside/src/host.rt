@@ -32,7 +32,9 @@ pub struct HostDesk<R: Runtime> {
 }
 
 impl<R: Runtime> HostDesk<R> {
-    ghost use Rattle.h263_outside.specs.Host.{no_faults};
+    ghost use Rattle.std.specs.Prelude.{true, false, MatchOption};
+    ghost use Rattle.h263_outside.specs.Host.{host_outside, no_faults};
+    ghost use Rattle.h263_outside.specs.Desk.{with_role};
 
     /// A desk with nothing attached, which opens its files and prints by this runtime.
     pub fn new(rt: R) -> Self
@@ -69,6 +71,27 @@ impl<R: Runtime> HostDesk<R> {
             file.set_len(0).ok()?;
         }
         Some(file)
+    }
+
+    // Opens the file of a role that has none, or leaves all as it is. The report needs none.
+    fn open_role(&mut self, role: Role, name: &str) -> Option<()>
+        requires { (host_outside self.old).attached role ≡ false }
+        ensures attached { MatchOption result
+            ((host_outside self.new).attached ≡ (host_outside self.old).attached)
+            (λ _. (host_outside self.new).attached
+            ≡ with_role (host_outside self.old).attached role true) }
+        ensures faults { (host_outside self.new).faults ≡ (host_outside self.old).faults }
+    {
+        match role {
+            Role::Video => self.video = Some(fs::open(&self.rt, name).ok()?),
+            Role::Events => self.events = Some(fs::open(&self.rt, name).ok()?),
+            Role::Pictures => self.pictures = Some(self.create(name)?),
+            Role::Wire => self.wire = Some(self.create(name)?),
+            Role::Report => self.reports = true,
+            Role::Video2 => self.video2 = Some(fs::open(&self.rt, name).ok()?),
+            Role::Pictures2 => self.pictures2 = Some(self.create(name)?),
+        }
+        Some(())
     }
 
     // Whether one of the inputs is this file.
@@ -166,50 +189,13 @@ impl<R: Runtime> Desk for HostDesk<R> {
             ≡ record ((host_outside self.old).faults)
             { attach = raised_count (host_outside self.old).faults.attach }) }
     {
-        match role {
-            Role::Video => {
-                if let Ok(file) = fs::open(&self.rt, name) {
-                    self.video = Some(file);
-                    return Ok(());
-                }
-            }
-            Role::Events => {
-                if let Ok(file) = fs::open(&self.rt, name) {
-                    self.events = Some(file);
-                    return Ok(());
-                }
-            }
-            Role::Pictures => {
-                if let Some(file) = self.create(name) {
-                    self.pictures = Some(file);
-                    return Ok(());
-                }
-            }
-            Role::Wire => {
-                if let Some(file) = self.create(name) {
-                    self.wire = Some(file);
-                    return Ok(());
-                }
-            }
-            Role::Report => {
-                self.reports = true;
-                return Ok(());
-            }
-            Role::Video2 => {
-                if let Ok(file) = fs::open(&self.rt, name) {
-                    self.video2 = Some(file);
-                    return Ok(());
-                }
-            }
-            Role::Pictures2 => {
-                if let Some(file) = self.create(name) {
-                    self.pictures2 = Some(file);
-                    return Ok(());
-                }
+        match self.open_role(role, name) {
+            Some(()) => Ok(()),
+            None => {
+                self.attach_faults = raised(self.attach_faults);
+                Err(Unattached::Failed)
             }
         }
-        self.attach_faults = raised(self.attach_faults);
-        Err(Unattached::Failed)
     }
 
     fn read(&mut self, role: Role, buf: &mut [u8]) -> Result<usize, Failed>

@@ -99,6 +99,17 @@ pub struct MemoryDesk {
 impl Input {
     ghost use Rattle.h263_outside.specs.Memory.{moved_count, OnlyMoves};
 
+    fn attach(&mut self, name: Vec<u8>)
+        ensures attached { self.new.attached ≡ true }
+        ensures name { self.new.name.items ≡ name.items }
+        ensures is_put { self.new.is_put ≡ self.old.is_put }
+        ensures bytes { self.new.bytes.items ≡ self.old.bytes.items }
+        ensures at { self.new.at ≡ self.old.at }
+    {
+        self.attached = true;
+        self.name = name;
+    }
+
     // Copies bytes to the start of the buffer, a piece at most.
     fn read(&mut self, piece: usize, buf: &mut [u8]) -> usize
         requires piece { 0 < piece }
@@ -120,6 +131,16 @@ impl Input {
 
 impl Output {
     ghost use Rattle.h263_outside.specs.Memory.{moved_count};
+
+    fn attach(&mut self, name: Vec<u8>)
+        ensures attached { self.new.attached ≡ true }
+        ensures name { self.new.name.items ≡ name.items }
+        ensures bytes { self.new.bytes.items ≡ self.old.bytes.items }
+        ensures room { self.new.room ≡ self.old.room }
+    {
+        self.attached = true;
+        self.name = name;
+    }
 
     // Takes the first bytes, a piece at most, and as far as there is room.
     fn write(&mut self, piece: usize, bytes: &[u8]) -> usize
@@ -326,34 +347,13 @@ impl Desk for MemoryDesk {
         }
         let name = name.as_bytes().to_vec(self.alloc)?;
         match role {
-            Role::Video => {
-                self.video.attached = true;
-                self.video.name = name;
-            }
-            Role::Events => {
-                self.events.attached = true;
-                self.events.name = name;
-            }
-            Role::Pictures => {
-                self.pictures.attached = true;
-                self.pictures.name = name;
-            }
-            Role::Wire => {
-                self.wire.attached = true;
-                self.wire.name = name;
-            }
-            Role::Report => {
-                self.report.attached = true;
-                self.report.name = name;
-            }
-            Role::Video2 => {
-                self.video2.attached = true;
-                self.video2.name = name;
-            }
-            Role::Pictures2 => {
-                self.pictures2.attached = true;
-                self.pictures2.name = name;
-            }
+            Role::Video => self.video.attach(name),
+            Role::Events => self.events.attach(name),
+            Role::Pictures => self.pictures.attach(name),
+            Role::Wire => self.wire.attach(name),
+            Role::Report => self.report.attach(name),
+            Role::Video2 => self.video2.attach(name),
+            Role::Pictures2 => self.pictures2.attach(name),
         }
         Ok(())
     }

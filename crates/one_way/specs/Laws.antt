@@ -56,7 +56,8 @@ ShowTheSame p frames past =
 
 -- a message is said by the bytes that are written of it, and a picture has a packet for each slice
 pub record MessageLaws (p : Params) : Type 0 where
-  pub said : (clock : Clock) (said : MessageBytes) (message : Message) → AreBytes (text_of said) → IsSaid clock said message
+  pub said : (clock : Clock) (said : MessageBytes) (message : Message)
+      → AreBytes (text_of said) → IsSaid clock said message
       → text_of said ≡ write_message message
   pub count : (number sequence : ℕ) (h : Header Style) (slices : List (Slice Mb))
       → length ((encoding p).packets number sequence h slices) ≡ length slices
@@ -75,7 +76,8 @@ pub record NearLaws (p : Params) : Type 0 where
   -- a capture that isn't far is near where there is a frame for it
   pub capture : (before : List ReceiverEntry) (frames : List Frame) (past : List Event)
       → refusal_after p before frames past Send ≡ None
-      → length (both_after p (steady p) frames before past).sender.coded < length frames → MayHappenNow p before frames past Send
+      → length (both_after p (steady p) frames before past).sender.coded < length frames
+      → MayHappenNow p before frames past Send
   pub deliver : (before : List ReceiverEntry) (frames : List Frame) (past : List Event) (n j : ℕ)
       → refusal_after p before frames past (Deliver n j) ≡ None → MayHappenNow p before frames past (Deliver n j)
   pub play : (before : List ReceiverEntry) (frames : List Frame) (past : List Event)
@@ -86,20 +88,24 @@ pub record NearLaws (p : Params) : Type 0 where
 -- what both ends have done, by their own counts and pictures
 pub record WayLaws (p : Params) : Type 0 where
   -- a new network keeps what was done in no event
-  pub first : (pictures : ℕ) (network : Network) (sender : State) (receiver : Kept) (before : List ReceiverEntry) (frames : List Frame)
+  pub first : (pictures : ℕ) (network : Network) (sender : State) (receiver : Kept)
+      (before : List ReceiverEntry) (frames : List Frame)
       → IsNewNetwork p pictures network → sender.params ≡ p → sender_end.Stands (steady p) sender []
       → receiver.params ≡ p → receiver_end.Stands receiver before
       → HoldsNetwork p network sender receiver before frames []
   pub sent : (sender : State) (receiver : Kept) (before : List ReceiverEntry) (frames : List Frame) (past : List Event)
       → AreJoined p (steady p) sender receiver frames before past
       → sender.sent ≡ length (both_after p (steady p) frames before past).sender.coded
-  pub played : (sender : State) (receiver : Kept) (before : List ReceiverEntry) (frames : List Frame) (past : List Event)
+  pub played : (sender : State) (receiver : Kept) (before : List ReceiverEntry) (frames : List Frame)
+      (past : List Event)
       → AreJoined p (steady p) sender receiver frames before past
       → receiver.played ≡ (both_after p (steady p) frames before past).receiver.played
   -- the picture that a receiver shows, for each list of entries that it stands for
-  pub shown : (sender : State) (receiver : Kept) (before : List ReceiverEntry) (frames : List Frame) (past : List Event) (picture : Picture)
+  pub shown : (sender : State) (receiver : Kept) (before : List ReceiverEntry) (frames : List Frame)
+      (past : List Event) (picture : Picture)
       → AreJoined p (steady p) sender receiver frames before past
-      → ((entries : List ReceiverEntry) → receiver_end.Stands receiver entries → picture ≡ (receiver_end.run_of receiver.params entries).screen)
+      → ((entries : List ReceiverEntry) → receiver_end.Stands receiver entries
+      → picture ≡ (receiver_end.run_of receiver.params entries).screen)
       → picture ≡ (both_after p (steady p) frames before past).receiver.screen
 
 -- what single events leave of both ends as it was
@@ -108,21 +114,28 @@ pub record EventLaws (p : Params) : Type 0 where
   pub captured : (before : List ReceiverEntry) (frames : List Frame) (past : List Event) (frame : Frame)
       → slice_get frames (length (both_after p (steady p) frames before past).sender.coded) ≡ Some frame
       → (both_after p (steady p) frames before (Send ∷ past)).sender.coded
-      ≡ (both_after p (steady p) frames before past).sender.coded ++ next_of p (steady p) frame (both_after p (steady p) frames before past) ∷ []
+      ≡ (both_after p (steady p) frames before past).sender.coded
+      ++ next_of p (steady p) frame (both_after p (steady p) frames before past) ∷ []
   -- deliveries leave the sender and the plays as they were, and all of a picture's packets are near
   -- where one is
   pub sender : (before : List ReceiverEntry) (frames : List Frame) (n count : ℕ) (past : List Event)
-      → (both_after p (steady p) frames before (delivered n count ++ past)).sender ≡ (both_after p (steady p) frames before past).sender
+      → (both_after p (steady p) frames before (delivered n count ++ past)).sender
+      ≡ (both_after p (steady p) frames before past).sender
   pub plays : (before : List ReceiverEntry) (frames : List Frame) (n count : ℕ) (past : List Event)
-      → (both_after p (steady p) frames before (delivered n count ++ past)).plays ≡ (both_after p (steady p) frames before past).plays
+      → (both_after p (steady p) frames before (delivered n count ++ past)).plays
+      ≡ (both_after p (steady p) frames before past).plays
   pub played : (before : List ReceiverEntry) (frames : List Frame) (n count : ℕ) (past : List Event)
-      → (both_after p (steady p) frames before (delivered n count ++ past)).receiver.played ≡ (both_after p (steady p) frames before past).receiver.played
+      → (both_after p (steady p) frames before (delivered n count ++ past)).receiver.played
+      ≡ (both_after p (steady p) frames before past).receiver.played
   pub near : (before : List ReceiverEntry) (frames : List Frame) (n count j : ℕ) (past : List Event)
       → MayHappenNow p before frames past (Deliver n j)
       → AllMayHappenBoth (coding p) (rules_of p) (receiver_end.run_of p before) (steady p) frames past
-      → AllMayHappenBoth (coding p) (rules_of p) (receiver_end.run_of p before) (steady p) frames (delivered n count ++ past)
+      → AllMayHappenBoth (coding p) (rules_of p) (receiver_end.run_of p before) (steady p) frames
+      (delivered n count ++ past)
   -- one packet and one message leave the pictures as they were
   pub packet : (before : List ReceiverEntry) (frames : List Frame) (n j : ℕ) (past : List Event)
-      → (both_after p (steady p) frames before (Deliver n j ∷ past)).sender ≡ (both_after p (steady p) frames before past).sender
+      → (both_after p (steady p) frames before (Deliver n j ∷ past)).sender
+      ≡ (both_after p (steady p) frames before past).sender
   pub message : (before : List ReceiverEntry) (frames : List Frame) (k : ℕ) (past : List Event)
-      → (both_after p (steady p) frames before (Back k ∷ past)).sender.coded ≡ (both_after p (steady p) frames before past).sender.coded
+      → (both_after p (steady p) frames before (Back k ∷ past)).sender.coded
+      ≡ (both_after p (steady p) frames before past).sender.coded

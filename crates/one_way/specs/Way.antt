@@ -22,7 +22,8 @@ use Rattle.one_way.specs.Network.{HasMessages, HasPackets, HasReferences, IsKeep
 
 -- an event is in place and near after these
 abbrev pub MayHappenNow : Params → List ReceiverEntry → List Frame → List Event → Event → Type 0
-MayHappenNow p before frames past e = MayHappenBoth (coding p) (rules_of p) frames (both_after p (steady p) frames before past) e
+MayHappenNow p before frames past e =
+    MayHappenBoth (coding p) (rules_of p) frames (both_after p (steady p) frames before past) e
 
 -- Both ends have done these events, where these frames are there to be sent and the receiver had
 -- heard these entries before. The events are near, the marks of the plays are counted, and the

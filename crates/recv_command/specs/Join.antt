@@ -97,7 +97,8 @@ packets_in (Packet bytes ∷ past) = bytes ∷ packets_in past
 unfoldable pub through : Format → List ReceiverEntry → List ReceiverEntry
 through format [] = []
 through format (PlayNext ∷ past) = PlayNext ∷ through format past
-through format (Packet bytes ∷ past) = reverse (map Packet (given_next format (packets_in past) bytes)) ++ through format past
+through format (Packet bytes ∷ past) =
+    reverse (map Packet (given_next format (packets_in past) bytes)) ++ through format past
 
 -- what the command keeps in mind after these entries
 abbrev pub joins_entry : JoinState → ReceiverEntry → JoinState
@@ -138,12 +139,14 @@ pub record HasSaid (said : Result (Unit {0}) Status) (old now : Outside) : Type 
   pub rest : OnlyWrites old now
 
 -- this was written, or a prefix of it
-pub record Said (texts : Role → List ℕ) (said : Result (Unit {0}) Status) (old now : Role → Option (List ℕ)) : Type 0 where
+pub record Said (texts : Role → List ℕ) (said : Result (Unit {0}) Status)
+    (old now : Role → Option (List ℕ)) : Type 0 where
   pub ok : OnOk said (Gains texts old now)
   pub err : OnErr said (GainsFronts texts old now)
 
 -- with the packets that are left the receiver has heard all, and has said what was to be said so far
-pub record IsHearing (receiving : Receiving) (left : List (List ℕ)) (said : Result (Unit {0}) Status) (all : Hearing) (old now : Role → Option (List ℕ)) : Type 0 where
+pub record IsHearing (receiving : Receiving) (left : List (List ℕ))
+    (said : Result (Unit {0}) Status) (all : Hearing) (old now : Role → Option (List ℕ)) : Type 0 where
   pub so_far : Hearing
   pub rest : hears_next so_far left ≡ all
   pub stands : RecvStands receiving so_far.state

@@ -5,7 +5,8 @@ use Rattle.call_model.specs.Coding.{Rules}
 use Rattle.reference_selector.specs.declared.Selector.{Selector}
 
 -- of each of the last `slots` numbers below sent the selector has the depth, and whether it is known
-pub record SelectorStands (rules : Rules) (selector : Selector) (sent : ℕ) (depth : ℕ → ℕ) (known : ℕ → Bool) : Type 0 where
+pub record SelectorStands (rules : Rules) (selector : Selector)
+    (sent : ℕ) (depth : ℕ → ℕ) (known : ℕ → Bool) : Type 0 where
   pub slots : selector.slots ≡ rules.slots
   pub lead : selector.lead ≡ rules.lead
   pub half : rules.half ≡ half_of selector.clock

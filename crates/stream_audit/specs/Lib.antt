@@ -6,3 +6,4 @@ pub mod Logs
 pub mod State
 pub mod Text
 pub mod Worked
+pub mod Computing

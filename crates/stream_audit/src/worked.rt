@@ -1,6 +1,6 @@
 //! Logs that are judged: over pictures of two macroblocks what the definitions say of them,
 //! computed.
-#![tactic(auto, unfolding(call_model::specs::Coding::has_mb, call_model::specs::Coding::same_header, call_model::specs::Sending::nearest_below, call_model::specs::Numbers::first_from, call_model::specs::Sending::made_known, call_model::specs::Sending::called_complete, call_model::specs::Sending::nearest, call_model::specs::Receiving::heard, call_model::specs::Receiving::answer, call_model::specs::Receiving::header_fits, call_model::specs::Receiving::has_reference, call_model::specs::Receiving::has_taken, call_model::specs::Receiving::is_complete, call_model::specs::Receiving::taken_after, call_model::specs::Receiving::piece_number, call_model::specs::Receiving::played_message, call_model::specs::Receiving::played_picture))]
+#![tactic(auto, unfolding(crate::specs::Computing::small_logs))]
 
 ghost use Rattle.std.specs.Prelude.{◌≡◌, List, [], ◌∷◌};
 ghost use Rattle.stream_audit.specs.declared.verdict.Rule.TheVariants as rule;
