@@ -42,8 +42,8 @@ pub fn is_inter_coded(block: &Block) -> bool
     is_coded_by(false, block.marks())
 }
 
-/// Whether a block of an intra or of an inter macroblock is coded, by its marks: a level isn't 0, in
-/// an intra macroblock another one than INTRADC.
+/// Whether a block of an intra or of an inter macroblock is coded, by its marks: a level isn't 0,
+/// in an intra macroblock another one than INTRADC.
 #[inline(always)]
 pub fn is_coded_by(intra: bool, marks: u64) -> bool
     ensures { (levels : List ℤ) → marks ≡ marks_of levels → result ≡ coded_in intra levels }

@@ -3,9 +3,9 @@
 //!
 //! `specs/` has each table as the standard prints it, and says which bits spell which value. A
 //! reader finds exactly that, or the first fault at its place: words by a look at twelve bits, an
-//! event by one at 22, and what begins with no word by a search. A writer writes the word at a place
-//! of the table. [`Mcbpc`] with its [`MbClass`] and [`Coefficient`] are the values that aren't
-//! numbers.
+//! event by one at 22, and what begins with no word by a search. A writer writes the word at a
+//! place of the table. [`Mcbpc`] with its [`MbClass`] and [`Coefficient`] are the values that
+//! aren't numbers.
 //!
 //! ```rust
 //! let mut bytes = [0u8; 2];

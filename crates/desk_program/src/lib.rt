@@ -1,9 +1,9 @@
 //! One loop for every command: a machine takes one event after another, over any desk.
 //!
 //! A machine is a type with [`Turns`]: it says in definitions what it does next, and how it does
-//! that in memory, over a [`Desk`](h263_outside::Desk). A command with [`Begins`] starts a machine by
-//! what the words ask for. [`perform`] attaches its roles and runs it. What a run as a whole writes,
-//! takes and answers follows here, once for all commands.
+//! that in memory, over a [`Desk`](h263_outside::Desk). A command with [`Begins`] starts a machine
+//! by what the words ask for. [`perform`] attaches its roles and runs it. What a run as a whole
+//! writes, takes and answers follows here, once for all commands.
 //!
 //! ```rust
 //! attach_all(desk, &[(Role::Report, "")])?;

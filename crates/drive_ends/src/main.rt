@@ -86,8 +86,8 @@ impl Ends {
     }
 }
 
-// The network: it brings all packets of a picture in their order, or none. Answers what the receiver
-// says when the picture is complete.
+// The network: it brings all packets of a picture in their order, or none. Answers what the
+// receiver says when the picture is complete.
 fn carry(sender: &Sender<FixedPace>, receiver: &mut Receiver, coded: Coded) -> Option<MessageBytes>
     requires { coded.packets ≡ length sender.now.packets }
     ensures { receiver.new.played ≡ receiver.old.played }

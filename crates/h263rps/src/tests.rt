@@ -1,5 +1,5 @@
-//! Runs over a desk in memory. The top call is the program's own, so its tests stand here and not in
-//! `test_commands`.
+//! Runs over a desk in memory. The top call is the program's own, so its tests stand here and not
+//! in `test_commands`.
 ghost use Rattle.std.specs.Prelude.{◌<◌};
 
 use super::*;

@@ -1,5 +1,5 @@
-//! What a block without values gives, what INTRADC adds, and how large coefficients are. Each law is the contract of a
-//! function that does nothing.
+//! What a block without values gives, what INTRADC adds, and how large coefficients are. Each law
+//! is the contract of a function that does nothing.
 ghost use Rattle.std.specs.Prelude.{◌≡◌, ℕ, ◌+◌, ◌*◌, ◌<◌, ◌≤◌, ℤ, pos, ◌+ℤ◌, ◌*ℤ◌, List, slice_index_or, unsigned_abs};
 ghost use Rattle.idct8.specs.Sums.{total};
 ghost use Rattle.idct8.specs.Transform.{forward_at, inverse_at};
@@ -19,9 +19,9 @@ pub fn small_squares()
         → unsigned_abs (forward_at samples v u) < least }
 {}
 
-/// INTRADC is added to each number as it is: the inverse transform of a block whose first value is 8
-/// times INTRADC is INTRADC and that of the other values, since what the first value stands for is
-/// a multiple of what rounding divides by.
+/// INTRADC is added to each number as it is: the inverse transform of a block whose first value is
+/// 8 times INTRADC is INTRADC and that of the other values, since what the first value stands for
+/// is a multiple of what rounding divides by.
 pub fn first_value_apart()
     ensures { (values others : List ℤ) (dc : ℤ) → slice_index_or values 0 (pos 0) ≡ pos 8 *ℤ dc
         → slice_index_or others 0 (pos 0) ≡ pos 0 → ((at : ℕ) → 1 ≤ at → at < 64

@@ -408,8 +408,9 @@ fn is_skipped(reader: &BitReader<'_>, kind: Kind) -> bool
     }
 }
 
-/// Passes over a macroblock that isn't coded, where one stands next: its one bit is read for itself,
-/// whatever the quantiser, the reach and the prediction are, so that these needn't be worked out.
+/// Passes over a macroblock that isn't coded, where one stands next: its one bit is read for
+/// itself, whatever the quantiser, the reach and the prediction are, so that these needn't be
+/// worked out.
 pub fn pass_skipped(reader: &mut BitReader<'_>, kind: Kind) -> bool
     ensures value { result ≡ is_skipped kind reader.old.bits }
     ensures skipped { result ≡ true → (quant : ℕ) (reach : Reach) (predictor : Vector)

@@ -97,9 +97,9 @@ pub(crate) fn differences_at(block: &[u8; 256], reference: PictureRef<'_>, x: u3
         + four_rows(block, reference, x, y, 3)
 }
 
-// The first of the best one and a vector of whole samples, which leads to column `x` of row `y`. All
-// rows are summed up before it asks: what the sums of areas let through mostly needs them all. The
-// zero vector has been looked at, so what it has ahead needs no look where the sum is too high.
+// The first of the best one and a vector of whole samples, which leads to column `x` of row `y`.
+// All rows are summed up before it asks: what the sums of areas let through mostly needs them all.
+// The zero vector has been looked at, so what it has ahead needs no look where the sum is too high.
 #[inline(always)]
 pub(crate) fn better_whole(
     window: Window<'_>,

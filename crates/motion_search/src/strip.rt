@@ -91,9 +91,9 @@ fn next_halves(
     (upper, lower, without_samples(full, window.reference, x, y))
 }
 
-// Goes down the first eight rows of areas, from row `y` on. How far these are from the upper quarters
-// is put into `uppers`, each in the place of its row modulo 8. The sums are those of the seven rows
-// after them.
+// Goes down the first eight rows of areas, from row `y` on. How far these are from the upper
+// quarters is put into `uppers`, each in the place of its row modulo 8. The sums are those of the
+// seven rows after them.
 #[inline(always)]
 fn begun(
     window: Window<'_>,
@@ -119,8 +119,8 @@ fn begun(
     columns
 }
 
-// The first of the best one and the vector in a column and a row, where that is in the square and in
-// reach.
+// The first of the best one and the vector in a column and a row, where that is in the square and
+// in reach.
 #[inline(always)]
 fn better_in_square(window: Window<'_>, column: u32, row: u32, best: Candidate) -> Candidate
     requires row { row ≤ 2 * window.radius }

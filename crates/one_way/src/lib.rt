@@ -3,8 +3,8 @@
 //!
 //! `specs/Both` joins both ends, `specs/Way` says what is kept between them. Both ends are lent to
 //! each call of a [`Way`]; it answers what the receiver says, and a [`Network`] keeps that besides,
-//! by its number, for a trace that brings it back so. What an event may not do is a [`Refusal`]; the
-//! `check` functions tell it by the counts of both ends, before anything is done.
+//! by its number, for a trace that brings it back so. What an event may not do is a [`Refusal`];
+//! the `check` functions tell it by the counts of both ends, before anything is done.
 //!
 //! ```rust
 //! let mut network = Network::start(alloc, &params, params.clock.period())?;

@@ -19,8 +19,8 @@ fn name_of<'a>(words: &Words<'a>, role: Role) -> &'a str {
     words.name(role).unwrap_or("")
 }
 
-/// Runs the command that the words ask for, where it is one of one end, a call over a trace, also of
-/// two parties, or an audit.
+/// Runs the command that the words ask for, where it is one of one end, a call over a trace, also
+/// of two parties, or an audit.
 pub fn run<D: Desk>(alloc: Global, words: &Words<'_>, desk: &mut D) -> Status
     requires none { NoneAttached (D.outside desk.old).attached }
     requires command { IsCommand (asked_of words.now).command }

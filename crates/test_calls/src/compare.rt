@@ -133,8 +133,8 @@ pub fn compare_audit(
     Ok(same && status == Status::Ok)
 }
 
-/// Runs the call of this video over the trace `NAME.trace`, and compares its report with `NAME.txt`,
-/// and its pictures, if they are given.
+/// Runs the call of this video over the trace `NAME.trace`, and compares its report with
+/// `NAME.txt`, and its pictures, if they are given.
 pub fn compare_call(
     rt: &HostRuntime,
     name: &str,

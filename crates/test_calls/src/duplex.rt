@@ -2,8 +2,8 @@
 //! and one against two senders and two receivers that are joined by hand.
 //!
 //! A call `NAME` of the independent program runs over the trace `NAME.trace`. Party a sends the
-//! video `NAME.a.y4m`, which is shown as `NAME.a.out.y4m`, and party b `NAME.b.y4m`. The report is in
-//! `NAME.txt`.
+//! video `NAME.a.y4m`, which is shown as `NAME.a.out.y4m`, and party b `NAME.b.y4m`. The report is
+//! in `NAME.txt`.
 use crate::by_hand::joined_by_hand;
 use crate::command::run;
 use crate::compare::{PIECE, ROOM, compare_run};
@@ -41,8 +41,8 @@ type Far = Option<(u32, u32, u32)>;
 
 // A party is 128 pictures ahead of what was played of it at most, and a packet is heard up to 127
 // plays after its picture's. The message of a's picture 0 rides in b's picture 0, and may be handed
-// over until a has sent 127 pictures more: the header is asked for even where there is no packet, and
-// the packet's own distance before that of its messages.
+// over until a has sent 127 pictures more: the header is asked for even where there is no packet,
+// and the packet's own distance before that of its messages.
 const LATE: [(&str, Lines, Far); 9] = [
     ("capture", &[(b"a S\n", 128)], None),
     ("far capture", &[(b"a S\n", 129)], Some((129, 128, 0))),

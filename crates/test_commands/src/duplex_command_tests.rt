@@ -283,7 +283,8 @@ fn refused_videos(rt: HostRuntime) -> Result<(), Fail> {
 
 // ---- the trace cut anywhere
 
-// A line of the trace; what it shows of a and of b, and its line of the report; the counts after it.
+// A line of the trace; what it shows of a and of b, and its line of the report; the counts after
+// it.
 type Turn = (
     &'static [u8],
     Parts<'static>,
@@ -452,9 +453,9 @@ const PIECE: &[u8] = &[64; 4096];
 const GREY_PIECE: &[u8] = &[128; 4096];
 
 // Six roles are attached; both heads are read byte by byte, and written. Each line of the trace is
-// read byte by byte; a frame's line is too, and its planes are in five pieces. A picture's line, its
-// planes in five pieces and its line of the report are written. The end of the trace is met, and the
-// counts of both parties are written.
+// read byte by byte; a frame's line is too, and its planes are in five pieces. A picture's line,
+// its planes in five pieces and its line of the report are written. The end of the trace is met,
+// and the counts of both parties are written.
 const FAILING: &[Failing] = &[
     (&[0], NO_REPORT, NOTHING, NOTHING, NOTHING),
     (&[1], NO_VIDEO, NOTHING, NOTHING, &[b"cannot open video\n"]),

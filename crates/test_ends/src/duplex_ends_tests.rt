@@ -326,8 +326,8 @@ fn no_packet_brings_no_message(rt: HostRuntime) -> Result<(), Fail> {
     Ok(())
 }
 
-// The acknowledgement of picture 0, as it is said, and how the data of a packet begins whose picture
-// carries it.
+// The acknowledgement of picture 0, as it is said, and how the data of a packet begins whose
+// picture carries it.
 const ACK_0: [u8; 3] = [0xC0, 0x04, 0x00];
 
 const CARRIES_ACK_0: [u8; 14] = [

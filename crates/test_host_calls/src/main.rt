@@ -1,8 +1,8 @@
 //! A test of `demo`, `call` and `duplex` on the host's own files and standard output, one after the
 //! other: a call on made input, of which some pictures are lost; the call of `examples/` over its
-//! trace with a burst of losses; that of two parties; and one whose trace asks for a frame too many.
-//! What they report is stored, and the process ends with the status of the last. Where another ends
-//! with one that isn't 0, or memory runs out before, it ends with status 1.
+//! trace with a burst of losses; that of two parties; and one whose trace asks for a frame too
+//! many. What they report is stored, and the process ends with the status of the last. Where
+//! another ends with one that isn't 0, or memory runs out before, it ends with status 1.
 #![tactic(auto)]
 
 ghost use Rattle.std.specs.Prelude.{[], ◌∷◌};

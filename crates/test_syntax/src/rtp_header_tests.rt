@@ -4,7 +4,8 @@ use rtp_header::{Rtp, read, write};
 use std::test::Fail;
 use test_fixtures::codec::FLAT_PACKET;
 
-// What is read of the first `len` bytes of the flat packet, 20 at most, where three bytes have other values.
+// What is read of the first `len` bytes of the flat packet, 20 at most, where three bytes have
+// other values.
 fn read_changed(len: usize, changes: [(usize, u8); 3]) -> Result<Rtp, Fault> {
     let mut bytes = [0; 20];
     bytes.copy_from_slice(&FLAT_PACKET[..20]);

@@ -85,8 +85,8 @@ fn take_both(rt: &impl Abort, alloc: Global) -> Result<(), OutOfMemory> {
     Ok(())
 }
 
-// Headers of another picture than the first slice's: each differs from its header in one field, that
-// of a P picture in TRP, too.
+// Headers of another picture than the first slice's: each differs from its header in one field,
+// that of a P picture in TRP, too.
 const OTHER_HEADERS: [Header; 7] = [
     Header {
         tr: 1,
