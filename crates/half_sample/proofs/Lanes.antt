@@ -6,8 +6,9 @@ use Rattle.std.specs.Int.RustNames.{bit_or, bit_xor}
 use Rattle.std.specs.Int.Bits.{bit_and, xor_add_and}
 use Rattle.std.proofs.lemmas.Nat.{and_mask}
 use Rattle.std.proofs.lemmas.Nat.Bits.{bit_at_lowest, bit_at_and, bit_at_or}
-use Rattle.std.proofs.lemmas.Simd.{chunk-fits, below_from_Fits}
-use Rattle.half_sample.specs.Averages.{average, average4}
+use Rattle.std.proofs.lemmas.List.{get_or-replicate, length-replicate}
+use Rattle.std.proofs.lemmas.Simd.{chunk-fits, below_from_Fits, get_or-zip2, length-zip2, Each1-get_or}
+use Rattle.half_sample.specs.Averages.{average, average4, excess_of}
 
 -- ---- the lowest bits
 
@@ -32,33 +33,25 @@ one_of_two zero x y hr hx hy = let none : bit_and (bit_xor x y) 0 ≡ (bit_xor x
 one_of_two (suc zero) x y hr hx hy = let odd : bit_and (bit_xor x y) 1 ≡ (bit_xor x y) % 2 = and_mask (bit_xor x y) 1 in omega (arith, odd, low_xor x y, hx, hy)
 one_of_two (suc (suc r)) x y hr hx hy = absurd (omega (arith, hr))
 
+-- Whether two quarters are too many (with the rounding bit), or only three: by the lowest bits of the sums.
+pub excess_up : (u l t : ℕ) → bit_and (bit_and (bit_or u l) t) 1 ≡ excess_of 0 u l t
+excess_up u l t =
+    let low : bit_and (bit_and (bit_or u l) t) 1 ≡ bit_and (bit_or u l) t % 2 = and_mask (bit_and (bit_or u l) t) 1 in
+    omega (arith, low, low_and (bit_or u l) t, low_or u l)
+
+pub excess_down : (u l t : ℕ) → bit_and (bit_or (bit_and u l) t) 1 ≡ excess_of 1 u l t
+excess_down u l t =
+    let low : bit_and (bit_or (bit_and u l) t) 1 ≡ bit_or (bit_and u l) t % 2 = and_mask (bit_or (bit_and u l) t) 1 in
+    omega (arith, low, low_or (bit_and u l) t, low_and u l)
+
 -- The average of four by three averages of two, each rounded up. Say e = 1 where x + y is odd, f = 1 where u + v is, and
 -- t = 1 where the sum of their averages is. Then the average of the averages is (x + y + u + v + e + f + 2 t) / 4, a
--- whole number: roundings have added e + f + 2 t quarters. (x + y + u + v + 2) / 4 is to have two quarters at most, so the
--- average is too high by 1 where they are three or four: where t and one of e and f are 1.
-abbrev pub excess_up : ℕ → ℕ → ℕ → ℕ → ℕ
-excess_up x y u v = bit_and (bit_and (bit_or (bit_xor x y) (bit_xor u v)) (bit_xor (average 0 x y) (average 0 u v))) 1
-
-one_up : (x y u v : ℕ) → x < 256 → y < 256 → u < 256 → v < 256 → minus (average 0 (average 0 x y) (average 0 u v)) (excess_up x y u v) ≡ average4 0 x y u v
-one_up x y u v hx hy hu hv =
-    let e = bit_xor x y in
-    let f = bit_xor u v in
-    let t = bit_xor (average 0 x y) (average 0 u v) in
-    let low : excess_up x y u v ≡ (bit_and (bit_or e f) t) % 2 = and_mask (bit_and (bit_or e f) t) 1 in
-    omega (arith, low, low_and (bit_or e f) t, low_or e f, low_xor x y, low_xor u v, low_xor (average 0 x y) (average 0 u v), hx, hy, hu, hv)
-
--- (x + y + u + v + 1) / 4 is to have one quarter at most: it is too high by 1 where they are two or more, so where t is
--- 1, or e and f are.
-abbrev pub excess_down : ℕ → ℕ → ℕ → ℕ → ℕ
-excess_down x y u v = bit_and (bit_or (bit_and (bit_xor x y) (bit_xor u v)) (bit_xor (average 0 x y) (average 0 u v))) 1
-
-one_down : (x y u v : ℕ) → x < 256 → y < 256 → u < 256 → v < 256 → minus (average 0 (average 0 x y) (average 0 u v)) (excess_down x y u v) ≡ average4 1 x y u v
-one_down x y u v hx hy hu hv =
-    let e = bit_xor x y in
-    let f = bit_xor u v in
-    let t = bit_xor (average 0 x y) (average 0 u v) in
-    let low : excess_down x y u v ≡ (bit_or (bit_and e f) t) % 2 = and_mask (bit_or (bit_and e f) t) 1 in
-    omega (arith, low, low_or (bit_and e f) t, low_and e f, low_xor x y, low_xor u v, low_xor (average 0 x y) (average 0 u v), hx, hy, hu, hv)
+-- whole number: roundings have added e + f + 2 t quarters. (x + y + u + v + 2 - r) / 4 is to have 2 - r quarters at most,
+-- so the average is too high by 1 where they are more.
+one_of_four : (r x y u v : ℕ) → r ≤ 1 → x < 256 → y < 256 → u < 256 → v < 256 →
+    minus (average 0 (average 0 x y) (average 0 u v)) (excess_of r (bit_xor x y) (bit_xor u v) (bit_xor (average 0 x y) (average 0 u v))) ≡ average4 r x y u v
+one_of_four r x y u v hr hx hy hu hv =
+    omega (arith, low_xor x y, low_xor u v, low_xor (average 0 x y) (average 0 u v), hr, hx, hy, hu, hv)
 
 -- ---- all lanes
 
@@ -109,46 +102,50 @@ two_at (suc n) r (x ∷ xs) [] i hr ex ey hx hy hi = absurd (omega arith)
 two_at (suc n) r (x ∷ xs) (y ∷ ys) zero hr ex ey hx hy hi = one_of_two r x y hr hx.0 hy.0
 two_at (suc n) r (x ∷ xs) (y ∷ ys) (suc i) hr ex ey hx hy hi = two_at n r xs ys i hr (omega arith) (omega arith) hx.1 hy.1 (omega arith)
 
--- the averages of four, less their excess
-abbrev pub less_l : List ℕ → List ℕ → List ℕ → List ℕ → List ℕ → List ℕ
-less_l xs ys us vs excess = zip2 minus (zip2 (average 0) (zip2 (average 0) xs ys) (zip2 (average 0) us vs)) excess
+-- a lane of what two vectors give
+lane : (f : ℕ → ℕ → ℕ) {n : ℕ} (xs ys : List ℕ) (i : ℕ) → length xs ≡ n → length ys ≡ n → i < n → get_or (zip2 f xs ys) i 0 ≡ f (get_or xs i 0) (get_or ys i 0)
+lane f xs ys i ex ey hi = get_or-zip2 f xs ys i 0 0 0 (omega (arith, ex, hi)) (omega (arith, ey, hi))
 
-abbrev pub up_l : ℕ → List ℕ → List ℕ → List ℕ → List ℕ → List ℕ
-up_l n xs ys us vs =
-    less_l xs ys us vs
-    (zip2 bit_and (zip2 bit_and (zip2 bit_or (zip2 bit_xor xs ys) (zip2 bit_xor us vs)) (zip2 bit_xor (zip2 (average 0) xs ys) (zip2 (average 0) us vs))) (replicate n 1))
+-- and how many there are
+pub lanes : (f : ℕ → ℕ → ℕ) {n : ℕ} (xs ys : List ℕ) → length xs ≡ n → length ys ≡ n → length (zip2 f xs ys) ≡ n
+lanes f xs ys ex ey = length-zip2 f xs ys (ex ∙ sym ey) ∙ ex
 
-abbrev pub down_l : ℕ → List ℕ → List ℕ → List ℕ → List ℕ → List ℕ
-down_l n xs ys us vs =
-    less_l xs ys us vs
-    (zip2 bit_and (zip2 bit_or (zip2 bit_and (zip2 bit_xor xs ys) (zip2 bit_xor us vs)) (zip2 bit_xor (zip2 (average 0) xs ys) (zip2 (average 0) us vs))) (replicate n 1))
+-- a lane of the excess, whose two steps are f and g
+abbrev pub excess_l : (ℕ → ℕ → ℕ) → (ℕ → ℕ → ℕ) → ℕ → List ℕ → List ℕ → List ℕ → List ℕ
+excess_l f g n us ls ts = zip2 bit_and (zip2 g (zip2 f us ls) ts) (replicate n 1)
 
--- what holds of each four samples holds of each four lanes
-abbrev LaneByLane : (ℕ → List ℕ → List ℕ → List ℕ → List ℕ → List ℕ) → ℕ → Type 0
-LaneByLane f r =
-    (n : ℕ) (xs ys us vs : List ℕ) (i : ℕ) → length xs ≡ n → length ys ≡ n → length us ≡ n → length vs ≡ n →
+pub excess_length : (f g : ℕ → ℕ → ℕ) (n : ℕ) (us ls ts : List ℕ) → length us ≡ n → length ls ≡ n → length ts ≡ n → length (excess_l f g n us ls ts) ≡ n
+excess_length f g n us ls ts eu el et =
+    lanes bit_and (zip2 g (zip2 f us ls) ts) (replicate n 1) (lanes g (zip2 f us ls) ts (lanes f us ls eu el) et) (length-replicate n 1)
+
+pub excess_at : (f g : ℕ → ℕ → ℕ) (n : ℕ) (us ls ts : List ℕ) (i : ℕ) → length us ≡ n → length ls ≡ n → length ts ≡ n → i < n →
+    get_or (excess_l f g n us ls ts) i 0 ≡ bit_and (g (f (get_or us i 0) (get_or ls i 0)) (get_or ts i 0)) 1
+excess_at f g n us ls ts i eu el et hi =
+    let first = lanes f us ls eu el in
+    lane bit_and (zip2 g (zip2 f us ls) ts) (replicate n 1) i (lanes g (zip2 f us ls) ts first et) (length-replicate n 1) hi
+    ∙ cc (lane g (zip2 f us ls) ts i first et hi, lane f us ls i eu el hi, get_or-replicate {A = ℕ} n i 1 0 hi)
+
+-- a lane of the averages of four, less their excess
+pub four_at : (n r : ℕ) (xs ys us vs es : List ℕ) (i : ℕ) → r ≤ 1 → length xs ≡ n → length ys ≡ n → length us ≡ n → length vs ≡ n → length es ≡ n →
     Each1 (λ x. x < 256) xs → Each1 (λ x. x < 256) ys → Each1 (λ x. x < 256) us → Each1 (λ x. x < 256) vs → i < n →
-    get_or (f n xs ys us vs) i 0 ≡ average4 r (get_or xs i 0) (get_or ys i 0) (get_or us i 0) (get_or vs i 0)
-
-pub up_at : LaneByLane up_l 0
-up_at zero xs ys us vs i ex ey eu ev hx hy hu hv hi = absurd (omega arith)
-up_at (suc n) [] ys us vs i ex ey eu ev hx hy hu hv hi = absurd (omega arith)
-up_at (suc n) (x ∷ xs) [] us vs i ex ey eu ev hx hy hu hv hi = absurd (omega arith)
-up_at (suc n) (x ∷ xs) (y ∷ ys) [] vs i ex ey eu ev hx hy hu hv hi = absurd (omega arith)
-up_at (suc n) (x ∷ xs) (y ∷ ys) (u ∷ us) [] i ex ey eu ev hx hy hu hv hi = absurd (omega arith)
-up_at (suc n) (x ∷ xs) (y ∷ ys) (u ∷ us) (v ∷ vs) zero ex ey eu ev hx hy hu hv hi = one_up x y u v hx.0 hy.0 hu.0 hv.0
-up_at (suc n) (x ∷ xs) (y ∷ ys) (u ∷ us) (v ∷ vs) (suc i) ex ey eu ev hx hy hu hv hi =
-    up_at n xs ys us vs i (omega arith) (omega arith) (omega arith) (omega arith) hx.1 hy.1 hu.1 hv.1 (omega arith)
-
-pub down_at : LaneByLane down_l 1
-down_at zero xs ys us vs i ex ey eu ev hx hy hu hv hi = absurd (omega arith)
-down_at (suc n) [] ys us vs i ex ey eu ev hx hy hu hv hi = absurd (omega arith)
-down_at (suc n) (x ∷ xs) [] us vs i ex ey eu ev hx hy hu hv hi = absurd (omega arith)
-down_at (suc n) (x ∷ xs) (y ∷ ys) [] vs i ex ey eu ev hx hy hu hv hi = absurd (omega arith)
-down_at (suc n) (x ∷ xs) (y ∷ ys) (u ∷ us) [] i ex ey eu ev hx hy hu hv hi = absurd (omega arith)
-down_at (suc n) (x ∷ xs) (y ∷ ys) (u ∷ us) (v ∷ vs) zero ex ey eu ev hx hy hu hv hi = one_down x y u v hx.0 hy.0 hu.0 hv.0
-down_at (suc n) (x ∷ xs) (y ∷ ys) (u ∷ us) (v ∷ vs) (suc i) ex ey eu ev hx hy hu hv hi =
-    down_at n xs ys us vs i (omega arith) (omega arith) (omega arith) (omega arith) hx.1 hy.1 hu.1 hv.1 (omega arith)
+    get_or es i 0 ≡ excess_of r (get_or (zip2 bit_xor xs ys) i 0) (get_or (zip2 bit_xor us vs) i 0) (get_or (zip2 bit_xor (zip2 (average 0) xs ys) (zip2 (average 0) us vs)) i 0) →
+    get_or (zip2 minus (zip2 (average 0) (zip2 (average 0) xs ys) (zip2 (average 0) us vs)) es) i 0 ≡ average4 r (get_or xs i 0) (get_or ys i 0) (get_or us i 0) (get_or vs i 0)
+four_at n r xs ys us vs es i hr ex ey eu ev ee hx hy hu hv hi he =
+    let mean = average 0 in
+    let above = lanes mean xs ys ex ey in
+    let below = lanes mean us vs eu ev in
+    let small = λ (zs : List ℕ) (ez : length zs ≡ n) (hz : Each1 (λ x. x < 256) zs). Each1-get_or (λ x. x < 256) zs i 0 (omega (arith, ez, hi)) hz in
+    lane minus (zip2 mean (zip2 mean xs ys) (zip2 mean us vs)) es i (lanes mean (zip2 mean xs ys) (zip2 mean us vs) above below) ee hi
+    ∙ cc (
+      he,
+      lane mean (zip2 mean xs ys) (zip2 mean us vs) i above below hi,
+      lane bit_xor (zip2 mean xs ys) (zip2 mean us vs) i above below hi,
+      lane mean xs ys i ex ey hi,
+      lane mean us vs i eu ev hi,
+      lane bit_xor xs ys i ex ey hi,
+      lane bit_xor us vs i eu ev hi,
+    )
+    ∙ one_of_four r (get_or xs i 0) (get_or ys i 0) (get_or us i 0) (get_or vs i 0) hr (small xs ex hx) (small ys ey hy) (small us eu hu) (small vs ev hv)
 
 -- ---- loads
 

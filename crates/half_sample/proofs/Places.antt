@@ -1,5 +1,5 @@
 -- From a moved block to its moved samples, and that they lie inside the plane.
-use Rattle.std.proofs.Common.{◌≡◌, ℕ, zero, suc, min, negsuc, refl, ◌+◌, ◌*◌, ◌/◌, ◌%◌, ◌≤◌, ◌<◌, ℤ, pos, ◌+ℤ◌, Bool, cond, not, nat_eq, arith, ap, ◌∙◌, sym, subst, unsigned_abs}
+use Rattle.std.proofs.Common.{◌≡◌, ℕ, zero, suc, min, negsuc, refl, ◌+◌, ◌*◌, ◌/◌, ◌%◌, ◌≤◌, ℤ, pos, ◌+ℤ◌, ◌≤ℤ◌, Bool, cond, not, nat_eq, arith, ap, ◌∙◌, sym, subst, unsigned_abs}
 use Rattle.std.proofs.lemmas.Int.{ints}
 use Rattle.std.proofs.lemmas.Bool.Decides.{nat_tests}
 use Rattle.std.specs.Int.{int_shr}
@@ -12,7 +12,10 @@ use Rattle.h263_planes.specs.Picture.{Picture}
 use Rattle.h263_planes.specs.declared.Plane.{Plane}
 use Rattle.h263_planes.specs.declared.Plane.TheVariants.{Y, Cb, Cr}
 use Rattle.h263_planes.specs.Samples.{Inside}
-use Rattle.half_sample.specs.Prediction.{interpolated, predicted_sample, moved, whole_part, is_half, one_below, IsColour}
+use Rattle.half_sample.specs.Prediction.{columns_in, interpolated, predicted_sample, moved, whole_part, is_half, one_below, IsColour}
+use Rattle.half_sample.specs.Places.{BlockInside, IsHalfOf, LeadsTo}
+use Rattle.half_sample.specs.declared.place.Half.{Half}
+use Rattle.half_sample.specs.declared.place.Place.{Place}
 
 -- a sample further in the block moves as far
 moved_more : (a x i : ℕ) (whole : ℤ) → pos x ≡ pos a +ℤ whole → x + i ≡ moved (a + i) whole
@@ -21,26 +24,31 @@ moved_more a x i whole h =
     sym (ap unsigned_abs e)
 
 -- the samples of a block that was moved are the predicted ones
-pub block_sample : (p : Picture) (plane : Plane) (r ax ay i j : ℕ) (v : Vector) {x y : ℕ} {hx hy : Bool} →
-    pos x ≡ pos ax +ℤ whole_part plane v.x → pos y ≡ pos ay +ℤ whole_part plane v.y → hx ≡ is_half plane v.x → hy ≡ is_half plane v.y →
-    interpolated p plane hx hy r (x + i) (y + j) ≡ predicted_sample p plane (ax + i) (ay + j) v r
-block_sample p plane r ax ay i j v {x} {y} {hx} {hy} ex ey ehx ehy =
-    cc (ehx, ehy, moved_more ax x i (whole_part plane v.x) ex, moved_more ay y j (whole_part plane v.y) ey)
+pub block_sample : (n : ℕ) (p : Picture) (plane : Plane) (r mb i j : ℕ) (v : Vector) (to : Place) (half : Half) →
+    LeadsTo n p.format plane mb v to → IsHalfOf plane v half →
+    interpolated p plane half.x half.y r (to.x + i) (to.y + j) ≡ predicted_sample p plane (n * (mb % columns_of p.format) + i) (n * (mb / columns_of p.format) + j) v r
+block_sample n p plane r mb i j v to half leads is =
+    cc (is.x, is.y, moved_more (n * (mb % columns_of p.format)) to.x i (whole_part plane v.x) leads.x, moved_more (n * (mb / columns_of p.format)) to.y j (whole_part plane v.y) leads.y)
 
 -- a place by equal columns and an equal component
 pub same_place : (f : ℕ → ℕ) (part : ℤ → ℤ) {r k k' : ℕ} {z z' : ℤ} → pos r ≡ pos (f k) +ℤ part z → k ≡ k' → z ≡ z' → pos r ≡ pos (f k') +ℤ part z'
 same_place f part {r} {k} {k'} {z} {z'} h ek ez = h ∙ ap (λ (m : ℕ). pos (f m) +ℤ part z) ek ∙ ap (λ (y : ℤ). pos (f k') +ℤ part y) ez
 
--- both colours read a component alike
-pub colour_part : (plane : Plane) (v : ℤ) → IsColour plane → whole_part Cb v ≡ whole_part plane v
-colour_part Y v h = absurd h
-colour_part Cb v h = refl
-colour_part Cr v h = refl
+-- both colours read a vector alike
+pub colour_leads : (plane : Plane) (n : ℕ) (f : Format) (mb : ℕ) (v : Vector) (to : Place) → IsColour plane → LeadsTo n f Cb mb v to → LeadsTo n f plane mb v to
+colour_leads Y n f mb v to k leads = absurd k
+colour_leads Cb n f mb v to k leads = leads
+colour_leads Cr n f mb v to k leads = record { x = leads.x; y = leads.y }
 
-pub colour_half : (plane : Plane) (v : ℤ) → IsColour plane → is_half Cb v ≡ is_half plane v
-colour_half Y v h = absurd h
-colour_half Cb v h = refl
-colour_half Cr v h = refl
+pub colour_half : (plane : Plane) (v : Vector) (half : Half) → IsColour plane → IsHalfOf Cb v half → IsHalfOf plane v half
+colour_half Y v half k is = absurd k
+colour_half Cb v half k is = is
+colour_half Cr v half k is = record { x = is.x; y = is.y }
+
+pub colour_inside : (plane : Plane) (f : Format) (x y n : ℕ) → IsColour plane → Inside f Cb x y n → Inside f plane x y n
+colour_inside Y f x y n k inside = absurd k
+colour_inside Cb f x y n k inside = inside
+colour_inside Cr f x y n k inside = record { in_row = inside.in_row; in_plane = inside.in_plane }
 
 -- what a luma component in reach reads ends inside
 luma_ends : (at size x : ℕ) (half : Bool) (v : ℤ) → InSide at size v → pos x ≡ whole_place at v → half ≡ is_half Y v → x + (16 + cond half 1 0) ≤ size
@@ -49,12 +57,10 @@ luma_ends at size x half v h e eh =
     let k' : cond half 1 0 ≡ unsigned_abs v % 2 = ap (λ (b : Bool). cond b 1 0) eh ∙ k in
     omega (arith, ints, h, e, k')
 
-pub luma_inside : (f : Format) (mb : ℕ) (v : Vector) {x y : ℕ} {hx hy : Bool} → InReach f mb v.x v.y →
-    pos x ≡ whole_place (16 * (mb % columns_of f)) v.x → pos y ≡ whole_place (16 * (mb / columns_of f)) v.y → hx ≡ is_half Y v.x → hy ≡ is_half Y v.y →
-    Inside f Y x (y + 15 + cond hy 1 0) (16 + cond hx 1 0)
-luma_inside f mb v {x} {y} {hx} {hy} r ex ey ehx ehy =
-    let across = luma_ends (16 * (mb % columns_of f)) (width_of f) x hx v.x r.0.2 ex ehx in
-    let down = luma_ends (16 * (mb / columns_of f)) (height_of f) y hy v.y r.1.2 ey ehy in
+pub luma_inside : (f : Format) (mb : ℕ) (v : Vector) (to : Place) (half : Half) → InReach f mb v.x v.y → LeadsTo 16 f Y mb v to → IsHalfOf Y v half → BlockInside 16 16 f Y to half
+luma_inside f mb v to half r leads is =
+    let across = luma_ends (16 * (mb % columns_of f)) (width_of f) to.x half.x v.x r.0.2 leads.x is.x in
+    let down = luma_ends (16 * (mb / columns_of f)) (height_of f) to.y half.y v.y r.1.2 leads.y is.y in
     record { in_row = across; in_plane = omega arith }
 
 -- a component that leads one whole sample further
@@ -66,30 +72,32 @@ further (negsuc (suc (suc n))) =
     let e : negsuc (suc (suc n)) +ℤ pos 2 ≡ negsuc n = omega (arith, ints) in
     subst (λ (w : ℤ). (int_shr w 1 ≡ int_shr (negsuc (suc (suc n))) 1 +ℤ pos 1) × (unsigned_abs w % 2 ≡ suc (suc (suc n)) % 2)) (sym e) (omega (arith, ints), omega arith)
 
-still_half : (v : ℤ) {half : Bool} → half ≡ is_half Y v → half ≡ is_half Y (v +ℤ pos 2)
-still_half v h = h ∙ ap (λ (n : ℕ). nat_eq n 1) (sym (further v).1)
+one_further : (at y : ℕ) (v : ℤ) → pos y ≡ whole_place at v → pos (y + 1) ≡ whole_place at (v +ℤ pos 2)
+one_further at y v h = omega (arith, ints, h, (further v).0)
 
-one_further : (at : ℕ) (v : ℤ) {y : ℕ} → pos y ≡ whole_place at v → pos (y + 1) ≡ whole_place at (v +ℤ pos 2)
-one_further at v h = omega (arith, ints, h, (further v).0)
+-- the place one row further down
+abbrev pub next_row : Place → Place
+next_row to = record { x = to.x; y = to.y + 1 }
+
+next_leads : (f : Format) (mb : ℕ) (v : Vector) (to : Place) → LeadsTo 16 f Y mb v to → LeadsTo 16 f Y mb (one_below v) (next_row to)
+next_leads f mb v to leads = record { x = leads.x; y = one_further (16 * (mb / columns_of f)) to.y v.y leads.y }
+
+next_half : (v : Vector) (half : Half) → IsHalfOf Y v half → IsHalfOf Y (one_below v) half
+next_half v half is = record { x = is.x; y = is.y ∙ ap (λ (n : ℕ). nat_eq n 1) (sym (further v.y).1) }
 
 -- a row further down, they are those of the vector one whole sample further down
-pub sample_below : (p : Picture) (r ax ay i j : ℕ) (v : Vector) {x y : ℕ} {hx hy : Bool} →
-    pos x ≡ pos ax +ℤ whole_part Y v.x → pos y ≡ pos ay +ℤ whole_part Y v.y → hx ≡ is_half Y v.x → hy ≡ is_half Y v.y →
-    interpolated p Y hx hy r (x + i) (y + (j + 1)) ≡ predicted_sample p Y (ax + i) (ay + j) (one_below v) r
-sample_below p r ax ay i j v {x} {y} {hx} {hy} ex ey ehx ehy =
-    let next : y + (j + 1) ≡ y + 1 + j = omega arith in
-    ap (λ (k : ℕ). interpolated p Y hx hy r (x + i) k) next
-    ∙ block_sample p Y r ax ay i j (one_below v) ex (one_further ay v.y ey) ehx (still_half v.y ehy)
+pub sample_below : (p : Picture) (r mb i j : ℕ) (v : Vector) (to : Place) (half : Half) → LeadsTo 16 p.format Y mb v to → IsHalfOf Y v half →
+    interpolated p Y half.x half.y r (to.x + i) (to.y + (j + 1)) ≡ predicted_sample p Y (16 * (mb % columns_of p.format) + i) (16 * (mb / columns_of p.format) + j) (one_below v) r
+sample_below p r mb i j v to half leads is =
+    let next : to.y + (j + 1) ≡ to.y + 1 + j = omega arith in
+    ap (λ (k : ℕ). interpolated p Y half.x half.y r (to.x + i) k) next
+    ∙ block_sample 16 p Y r mb i j (one_below v) (next_row to) half (next_leads p.format mb v to leads) (next_half v half is)
 
 -- what sixteen rows and one more read ends inside where the vector one whole sample further down is in reach too
-pub taller_inside : (f : Format) (mb : ℕ) (v : Vector) {x y : ℕ} {hx hy : Bool} → InReach f mb v.x v.y → InReach f mb v.x (v.y +ℤ pos 2) →
-    pos x ≡ whole_place (16 * (mb % columns_of f)) v.x → pos y ≡ whole_place (16 * (mb / columns_of f)) v.y → hx ≡ is_half Y v.x → hy ≡ is_half Y v.y →
-    Inside f Y x (y + 16 + cond hy 1 0) (16 + cond hx 1 0)
-taller_inside f mb v {x} {y} {hx} {hy} r below ex ey ehx ehy =
-    let top = 16 * (mb / columns_of f) in
-    let across = luma_ends (16 * (mb % columns_of f)) (width_of f) x hx v.x r.0.2 ex ehx in
-    let down = luma_ends top (height_of f) (y + 1) hy (v.y +ℤ pos 2) below.1.2 (one_further top v.y ey) (still_half v.y ehy) in
-    record { in_row = across; in_plane = omega (arith, down) }
+pub taller_inside : (f : Format) (mb : ℕ) (v : Vector) (to : Place) (half : Half) → InReach f mb v.x (v.y +ℤ pos 2) → LeadsTo 16 f Y mb v to → IsHalfOf Y v half → BlockInside 16 17 f Y to half
+taller_inside f mb v to half below leads is =
+    let inside = luma_inside f mb (one_below v) (next_row to) half below (next_leads f mb v to leads) (next_half v half is) in
+    record { in_row = inside.in_row; in_plane = omega (arith, inside.in_plane) }
 
 -- what a component of a colour in reach reads ends inside
 colour_ends_at : (k half x : ℕ) (v : ℤ) → InSide (16 * k) (2 * half) v → pos x ≡ pos (8 * k) +ℤ int_shr v 2 → x + (8 + cond (is_half Cb v) 1 0) ≤ half
@@ -117,21 +125,25 @@ down_twice SubQcif = refl
 down_twice Qcif = refl
 down_twice Cif = refl
 
+cb_not_before : (k size : ℕ) (v : ℤ) → InSide (16 * k) size v → pos 0 ≤ℤ (pos (8 * k) +ℤ int_shr v 2)
+cb_not_before k size (pos n) h = omega (arith, ints)
+cb_not_before k size (negsuc n) h = omega (arith, ints, h)
+
 -- the samples of Cb that a vector in reach leads to lie inside
-cb_inside : (f : Format) (mb : ℕ) (v : Vector) {x y : ℕ} {hx hy : Bool} → InReach f mb v.x v.y →
-    pos x ≡ pos (8 * (mb % columns_of f)) +ℤ int_shr v.x 2 → pos y ≡ pos (8 * (mb / columns_of f)) +ℤ int_shr v.y 2 → hx ≡ is_half Cb v.x → hy ≡ is_half Cb v.y →
-    Inside f Cb x (y + 7 + cond hy 1 0) (8 + cond hx 1 0)
-cb_inside f mb v {x} {y} {hx} {hy} r ex ey ehx ehy =
-    let across = colour_ends (mb % columns_of f) (width_of f) x hx v.x (across_twice f) r.0.2 ex ehx in
-    let down = colour_ends (mb / columns_of f) (height_of f) y hy v.y (down_twice f) r.1.2 ey ehy in
+pub cb_inside : (f : Format) (mb : ℕ) (v : Vector) (to : Place) (half : Half) → InReach f mb v.x v.y → LeadsTo 8 f Cb mb v to → IsHalfOf Cb v half → BlockInside 8 8 f Cb to half
+cb_inside f mb v to half r leads is =
+    let across = colour_ends (mb % columns_of f) (width_of f) to.x half.x v.x (across_twice f) r.0.2 leads.x is.x in
+    let down = colour_ends (mb / columns_of f) (height_of f) to.y half.y v.y (down_twice f) r.1.2 leads.y is.y in
     record { in_row = across; in_plane = omega arith }
 
--- and those of either colour
-pub colour_inside : (f : Format) (plane : Plane) (mb : ℕ) (v : Vector) {x y : ℕ} {hx hy : Bool} → IsColour plane → InReach f mb v.x v.y →
-    pos x ≡ pos (8 * (mb % columns_of f)) +ℤ int_shr v.x 2 → pos y ≡ pos (8 * (mb / columns_of f)) +ℤ int_shr v.y 2 → hx ≡ is_half Cb v.x → hy ≡ is_half Cb v.y →
-    Inside f plane x (y + 7 + cond hy 1 0) (8 + cond hx 1 0)
-colour_inside f Y mb v k r ex ey ehx ehy = absurd k
-colour_inside f Cb mb v k r ex ey ehx ehy = cb_inside f mb v r ex ey ehx ehy
-colour_inside f Cr mb v k r ex ey ehx ehy =
-    let i = cb_inside f mb v r ex ey ehx ehy in
-    record { in_row = i.in_row; in_plane = i.in_plane }
+-- a component in reach doesn't lead before the plane
+pub not_before : (plane : Plane) (k size : ℕ) (v : ℤ) → InSide (16 * k) size v → pos 0 ≤ℤ (pos (columns_in plane * k) +ℤ whole_part plane v)
+not_before Y k size v h = h.0
+not_before Cb k size v h = cb_not_before k size v h
+not_before Cr k size v h = cb_not_before k size v h
+
+-- by an equal column and an equal component
+pub at_place : (plane : Plane) {k k' : ℕ} {z z' : ℤ} → k ≡ k' → z ≡ z' → pos 0 ≤ℤ (pos (columns_in plane * k') +ℤ whole_part plane z') → pos 0 ≤ℤ (pos (columns_in plane * k) +ℤ whole_part plane z)
+at_place plane {k} {k'} {z} {z'} ek ez h =
+    subst (λ (m : ℕ). pos 0 ≤ℤ (pos (columns_in plane * m) +ℤ whole_part plane z)) (sym ek)
+    (subst (λ (y : ℤ). pos 0 ≤ℤ (pos (columns_in plane * k') +ℤ whole_part plane y)) (sym ez) h)

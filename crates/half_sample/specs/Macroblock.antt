@@ -14,8 +14,8 @@ pub record IsPredicted (p : Picture) (at : ℕ) (v : Vector) (r : ℕ) (samples 
   pub cb : ArePredicted 8 p Cb at v r samples.cb
   pub cr : ArePredicted 8 p Cr at v r samples.cr
 
--- the samples are those that the vector of macroblock `at` predicts from the reference, where it is an inter macroblock;
--- of other macroblocks nothing is said
+-- the samples are those that the vector of macroblock `at` predicts from the reference, where it is an
+-- inter macroblock; of other macroblocks nothing is said
 abbrev pub IsPredictionOf : ℕ → Option Picture → ℕ → Mb → Predicted → Type 0
 IsPredictionOf r reference at Skip samples = Unit {0}
 IsPredictionOf r reference at (Intra quant blocks) samples = Unit {0}

@@ -16,6 +16,12 @@ IsColour Y = ⊥
 IsColour Cb = Unit {0}
 IsColour Cr = Unit {0}
 
+-- how many columns and rows of samples a macroblock has in a plane
+abbrev pub columns_in : Plane → ℕ
+columns_in Y = 16
+columns_in Cb = 8
+columns_in Cr = 8
+
 -- the whole samples of a component, rounded down: a component counts half samples of Y, quarters of Cb and Cr
 abbrev pub whole_part : Plane → ℤ → ℤ
 whole_part Y v = int_shr v 1

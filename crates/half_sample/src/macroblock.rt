@@ -8,8 +8,8 @@ ghost use Rattle.half_sample.specs.Macroblock.{IsPredicted};
 ghost use Rattle.half_sample.specs.Prediction.{one_below, ArePredicted, IsColour};
 
 use crate::block::block;
-use crate::place::{chroma_place, is_chroma_half, is_luma_half, luma_place};
-use h263_planes::{PictureRef, Plane, mb_place};
+use crate::place::{half_of, place_of};
+use h263_planes::{PictureRef, Plane};
 use h263_types::Vector;
 
 /// The samples that a vector predicts for a macroblock, by rows from the top: 16 x 16 of Y, 8 x 8
@@ -49,17 +49,9 @@ pub fn luma(reference: PictureRef<'_>, mb: u32, vector: Vector, rounding: u8, ou
     requires rounding { rounding ≤ 1 }
     ensures { ArePredicted 16 (picture reference.entry) Y mb vector rounding out.new }
 {
-    let (column, row) = mb_place(reference.format(), mb);
-    block::<16, 16>(
-        reference,
-        Plane::Y,
-        luma_place(16 * column, vector.x),
-        luma_place(16 * row, vector.y) as u16,
-        is_luma_half(vector.x),
-        is_luma_half(vector.y),
-        rounding,
-        out,
-    );
+    let place = place_of(reference, Plane::Y, mb, vector);
+    let half = half_of(Plane::Y, vector);
+    block::<16, 16>(reference, Plane::Y, place, half, rounding, out);
 }
 
 /// The luma samples that a vector predicts for macroblock `mb`, by rows from the top, and one row
@@ -80,17 +72,9 @@ pub fn luma_and_below(
     ensures lower { ArePredicted 16
         (picture reference.entry) Y mb (one_below vector) rounding (drop 16 out.new) }
 {
-    let (column, row) = mb_place(reference.format(), mb);
-    block::<16, 17>(
-        reference,
-        Plane::Y,
-        luma_place(16 * column, vector.x),
-        luma_place(16 * row, vector.y) as u16,
-        is_luma_half(vector.x),
-        is_luma_half(vector.y),
-        rounding,
-        out,
-    );
+    let place = place_of(reference, Plane::Y, mb, vector);
+    let half = half_of(Plane::Y, vector);
+    block::<16, 17>(reference, Plane::Y, place, half, rounding, out);
 }
 
 /// The 8 x 8 samples of a colour, Cb or Cr, that the macroblock's luma vector predicts, by rows
@@ -109,15 +93,8 @@ pub fn chroma(
     requires rounding { rounding ≤ 1 }
     ensures { ArePredicted 8 (picture reference.entry) plane mb vector rounding out.new }
 {
-    let (column, row) = mb_place(reference.format(), mb);
-    block::<8, 8>(
-        reference,
-        plane,
-        chroma_place(8 * column, vector.x),
-        chroma_place(8 * row, vector.y) as u16,
-        is_chroma_half(vector.x),
-        is_chroma_half(vector.y),
-        rounding,
-        out,
-    );
+    // Both colours are read alike.
+    let place = place_of(reference, Plane::Cb, mb, vector);
+    let half = half_of(Plane::Cb, vector);
+    block::<8, 8>(reference, plane, place, half, rounding, out);
 }

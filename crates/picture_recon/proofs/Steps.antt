@@ -1,13 +1,15 @@
 -- The steps of the loops that fill a block, a macroblock and a slice.
-use Rattle.std.proofs.Common.{◌≡◌, ◌≢◌, ℕ, zero, suc, ◌+◌, ◌*◌, ◌-◌, ◌%◌, ◌<◌, ◌≤◌, ℤ, pos, List, length, get_or, drop, slice_set, slice_range, map, Bool, true, false, cond, ◌&&◌, nat_eq, nat_le, nat_lt, refl, ap, ◌∙◌, arith, lit<, length-set, get_or-set_same, get_or-set_other, get_or-take, get_or-drop}
+use Rattle.std.proofs.Common.{◌≡◌, ◌≢◌, ℕ, zero, suc, ◌+◌, ◌*◌, ◌-◌, ◌%◌, ◌<◌, ◌≤◌, ℤ, pos, List, length, get_or, drop, slice_set, slice_range, map, Bool, true, false, cond, ◌&&◌, nat_eq, nat_le, nat_lt, refl, ap, sym, ◌∙◌, arith, lit<, length-set, get_or-set_same, get_or-set_other, get_or-take, get_or-drop}
 use Rattle.std.specs.List.{range_with_len}
 use Rattle.std.proofs.lemmas.List.FromFn.{fill_by_all}
 use Rattle.std.proofs.lemmas.Bool.Decides.{nat_tests}
 use Rattle.h263_planes.specs.declared.Plane.{Plane}
 use Rattle.h263_planes.specs.declared.Plane.TheVariants.{Y, Cb, Cr}
-use Rattle.h263_planes.specs.Blocks.{block_of}
+use Rattle.h263_types.specs.declared.format.Format.{Format}
+use Rattle.h263_planes.specs.Blocks.{block_of, mb_of}
 use Rattle.h263_planes.specs.Picture.{Picture}
 use Rattle.h263_planes.specs.Samples.{in_block, sample_at, same_plane}
+use Rattle.picture_recon.specs.Coded.{SetsBlock, SetsBlocks}
 use Rattle.picture_recon.proofs.InSquare.{is_in, other_test}
 
 -- a block whose first value is put in last
@@ -65,30 +67,33 @@ in_row block x y k i j mx my hk hj hx hi =
 not_yet : (m at bl b before val old : ℕ) → before ≡ cond (nat_eq m at && nat_lt bl b) val old → bl ≡ b → before ≡ old
 not_yet m at bl b before val old h e = grind (arith, nat_tests)
 
--- one more block of a predicted macroblock, whose samples stood as predicted
-pub more_added : (m at bl b now old before val : ℕ) (added : ℕ → ℕ) →
-    now ≡ cond (nat_eq m at && nat_eq bl b) (added before) before → before ≡ cond (nat_eq m at && nat_lt bl b) val old →
-    (m ≡ at → bl ≡ b → added old ≡ val) → now ≡ cond (nat_eq m at && nat_lt bl (b + 1)) val old
-more_added m at bl b now old before val added h1 h2 h3 =
-    let same : bl ≡ b → added before ≡ added old = λ e. ap added (not_yet m at bl b before val old h2 e) in
+one_more : (m at bl b now old before : ℕ) (value : ℕ → ℕ → ℕ) →
+    now ≡ cond (nat_eq m at && nat_eq bl b) (value b before) before → before ≡ cond (nat_eq m at && nat_lt bl b) (value bl old) old →
+    now ≡ cond (nat_eq m at && nat_lt bl (b + 1)) (value bl old) old
+one_more m at bl b now old before value h1 h2 =
+    let same : bl ≡ b → value b before ≡ value bl old = λ e. ap (value b) (not_yet m at bl b before (value bl old) old h2 e) ∙ ap (λ (k : ℕ). value k old) (sym e) in
     grind (arith, nat_tests)
 
--- the samples of a macroblock, where all of them were predicted first
-pub all_added : (m at now val predicted init old : ℕ) → now ≡ cond (nat_eq m at) val init → init ≡ cond (nat_eq m at) predicted old → now ≡ cond (nat_eq m at) val old
-all_added m at now val predicted init old h1 h2 = grind (arith, nat_tests)
+-- one more block of a macroblock
+pub more_blocks : (f : Format) (at b : ℕ) (value : ℕ → ℕ → ℕ → ℕ → ℕ) (old p q : Picture) →
+    SetsBlocks f at b value old p → SetsBlock f at b (value b) p q → SetsBlocks f at (b + 1) value old q
+more_blocks f at b value old p q before now plane x y h =
+    one_more (mb_of f plane x y) at (block_of plane x y) b (sample_at q plane x y) (sample_at old plane x y) (sample_at p plane x y)
+    (λ (k n : ℕ). value k n (y % 8) (x % 8)) (now plane x y h) (before plane x y h)
 
-pub within_macroblock : (m at init predicted old : ℕ) → init ≡ cond (nat_eq m at) predicted old → m ≡ at → init ≡ predicted
+within_macroblock : (m at init predicted old : ℕ) → init ≡ cond (nat_eq m at) predicted old → m ≡ at → init ≡ predicted
 within_macroblock m at init predicted old h e = grind (arith, nat_tests)
+
+-- the samples of a macroblock, where all of them were predicted first
+pub over_predicted : (m at now first predicted old : ℕ) (value : ℕ → ℕ) →
+    now ≡ cond (nat_eq m at) (value first) first → first ≡ cond (nat_eq m at) predicted old → now ≡ cond (nat_eq m at) (value predicted) old
+over_predicted m at now first predicted old value h1 h2 =
+    let same : m ≡ at → value first ≡ value predicted = λ e. ap value (within_macroblock m at first predicted old h2 e) in
+    grind (arith, nat_tests)
 
 -- a block to which nothing is added
 pub nothing_added : (m at bl b s : ℕ) (added : ℕ) → (m ≡ at → s ≡ added) → s ≡ cond (nat_eq m at && nat_eq bl b) added s
 nothing_added m at bl b s added h = grind (arith, nat_tests)
-
--- one more block of a macroblock
-pub more_blocks : (m at bl b now blk old before val : ℕ) →
-    now ≡ cond (nat_eq m at && nat_eq bl b) blk before → before ≡ cond (nat_eq m at && nat_lt bl b) val old → (bl ≡ b → blk ≡ val) →
-    now ≡ cond (nat_eq m at && nat_lt bl (b + 1)) val old
-more_blocks m at bl b now blk old before val h1 h2 h3 = grind (arith, nat_tests)
 
 -- a macroblock has six blocks
 pub six_blocks : (plane : Plane) (x y : ℕ) → block_of plane x y < 6

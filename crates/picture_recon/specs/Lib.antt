@@ -2,3 +2,4 @@ pub mod Marks
 pub mod Samples
 pub mod Squares
 pub mod Shown
+pub mod Coded

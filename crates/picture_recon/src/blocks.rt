@@ -1,11 +1,12 @@
 //! A block in a picture.
-ghost use Rattle.std.specs.Prelude.{◌≡◌, ℕ, ◌+◌, ◌*◌, ◌%◌, ◌<◌, ◌&&◌, slice_index, nat_eq, if◌then◌else◌};
+ghost use Rattle.std.specs.Prelude.{◌≡◌, ℕ, ◌+◌, ◌*◌, ◌%◌, ◌<◌, slice_index, if◌then◌else◌};
 ghost use Rattle.h263_types.specs.Sizes.{mbs_of};
 ghost use Rattle.h263_planes.specs.declared.Plane.{Plane};
-ghost use Rattle.h263_planes.specs.Blocks.{IsCorner, block_of, mb_of};
+ghost use Rattle.h263_planes.specs.Blocks.{IsCorner};
 ghost use Rattle.h263_planes.specs.Lent.{picture};
 ghost use Rattle.h263_planes.specs.Samples.{Inside, IsPicture, in_block, sample_at};
 ghost use Rattle.h263_planes.specs.Work.{loan_of, work};
+ghost use Rattle.picture_recon.specs.Coded.{SetsBlock};
 
 use h263_planes::{Corner, PictureMut, PictureRef, block_corner};
 use h263_types::Format;
@@ -26,10 +27,8 @@ pub(crate) fn put_block(
     ensures same_loan { loan_of out.new ≡ loan_of out.old }
     ensures format { (work out.new).format ≡ format }
     ensures whole { IsPicture (work out.new) }
-    ensures samples { (plane : Plane) (x y : ℕ) → Inside format plane x y 1
-        → sample_at (work out.new) plane x y ≡ (if nat_eq (mb_of format plane x y) at
-        && nat_eq (block_of plane x y) block then slice_index samples.now (8 * (y % 8) + x % 8)
-        else sample_at (work out.old) plane x y) }
+    ensures samples { SetsBlock format at block
+        (λ old y x. slice_index samples.now (8 * y + x)) (work out.old) (work out.new) }
 {
     put_samples(out, block_corner(format, at, block), samples);
 }

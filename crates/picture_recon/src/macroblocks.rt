@@ -1,26 +1,24 @@
 //! Reconstruction of macroblocks in their picture.
-ghost use Rattle.std.specs.Prelude.{◌≡◌, ℕ, ◌+◌, ◌%◌, ◌<◌, ◌≤◌, ◌&&◌, length, nat_eq, nat_le, nat_lt, if◌then◌else◌, Option};
+ghost use Rattle.std.specs.Prelude.{◌≡◌, ℕ, ◌+◌, ◌<◌, ◌≤◌, ◌&&◌, length, nat_le, nat_lt, if◌then◌else◌, Option};
 ghost use Rattle.std.specs.Option.{option_map};
-ghost use Rattle.h263_types.specs.Blocks.{IsHeadOf, IsIntraBlock, IsIntraMb, IsMb, IsOfKind, IsQuant, mb_in};
+ghost use Rattle.h263_types.specs.Blocks.{IsHeadOf, IsIntraMb, IsMb, IsOfKind, mb_in};
 ghost use Rattle.h263_types.specs.References.{ReachesInside};
 ghost use Rattle.h263_types.specs.Sizes.{mbs_of};
 ghost use Rattle.h263_types.specs.declared.blocks.Mb.TheVariants.{Intra};
 ghost use Rattle.h263_planes.specs.declared.Plane.{Plane};
-ghost use Rattle.h263_planes.specs.Blocks.{block_of, mb_of};
+ghost use Rattle.h263_planes.specs.Blocks.{mb_of};
 ghost use Rattle.h263_planes.specs.Lent.{picture};
 ghost use Rattle.h263_planes.specs.Picture.{Picture};
 ghost use Rattle.h263_planes.specs.References.{HasReference};
 ghost use Rattle.h263_planes.specs.Samples.{Inside, IsPicture, sample_at};
 ghost use Rattle.h263_planes.specs.Work.{loan_of, work};
 ghost use Rattle.half_sample.specs.Macroblock.{IsPredictionOf};
-ghost use Rattle.idct8.specs.Transform.{inverse_at};
-ghost use Rattle.picture_recon.specs.Samples.{intra_values, limited, sample_in};
+ghost use Rattle.picture_recon.specs.Samples.{sample_in};
 ghost use Rattle.picture_recon.specs.Shown.{SetsMb};
 
-use crate::blocks::put_block;
+use crate::coded::{Coding, draw_blocks};
 use crate::predicted::put_inter;
 use crate::skipped::put_skipped;
-use crate::values::intra_samples;
 use h263_planes::{PictureMut, PictureRef};
 use h263_types::{Block, Format, Mb, SliceHead};
 use half_sample::{Predicted, predict};
@@ -113,8 +111,7 @@ pub fn recon_predicted(
     }
 }
 
-// Sets the samples of an intra macroblock. Luma stands apart from the colours, so that each is
-// compiled for its plane.
+// Sets the samples of an intra macroblock.
 fn put_intra(quant: u8, blocks: &[Block; 6], at: u32, format: Format, out: &mut PictureMut<'_>)
     requires format { (work out.old).format ≡ format }
     requires at { at < mbs_of format }
@@ -126,40 +123,7 @@ fn put_intra(quant: u8, blocks: &[Block; 6], at: u32, format: Format, out: &mut 
     ensures samples { (rounding : ℕ) (reference : Option Picture) →
         SetsMb format rounding reference at (Intra quant blocks.now) (work out.old) (work out.new) }
 {
-    for block in 0..4u32 {
-        put_intra_block(quant, &blocks[block as usize], at, block, format, out);
-    }
-    put_intra_block(quant, &blocks[4], at, 4, format, out);
-    put_intra_block(quant, &blocks[5], at, 5, format, out);
-}
-
-// Sets the samples of block `block` of macroblock `at` to those that its levels stand for.
-#[inline(always)]
-fn put_intra_block(
-    quant: u8,
-    levels: &Block,
-    at: u32,
-    block: u32,
-    format: Format,
-    out: &mut PictureMut<'_>,
-)
-    requires format { (work out.old).format ≡ format }
-    requires at { at < mbs_of format }
-    requires block { block < 6 }
-    requires quant { IsQuant quant }
-    requires levels { IsIntraBlock levels.now }
-    requires whole { IsPicture (work out.old) }
-    ensures same_loan { loan_of out.new ≡ loan_of out.old }
-    ensures format { (work out.new).format ≡ format }
-    ensures whole { IsPicture (work out.new) }
-    ensures samples { (plane : Plane) (x y : ℕ)
-        → Inside format plane x y 1 → sample_at (work out.new) plane x y
-        ≡ (if nat_eq (mb_of format plane x y) at && nat_eq (block_of plane x y) block
-        then limited (inverse_at (intra_values quant levels.now) (y % 8) (x % 8))
-        else sample_at (work out.old) plane x y) }
-{
-    let samples = intra_samples(quant, levels);
-    put_block(out, format, at, block, &samples);
+    draw_blocks(Coding::Alone { quant }, blocks, at, format, out);
 }
 
 /// Sets the samples of the macroblocks of a slice in `out`, a picture of the header's format. `mbs`

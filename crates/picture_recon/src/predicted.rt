@@ -1,32 +1,26 @@
 //! Macroblocks that are predicted from the reference (H.263, 6.1 and 6.3).
-ghost use Rattle.std.specs.Prelude.{◌≡◌, ℕ, ◌*◌, ◌%◌, ◌<◌, ◌≤◌, ◌&&◌, pos, ◌+ℤ◌, All, length, nat_eq, if◌then◌else◌, Some};
+ghost use Rattle.std.specs.Prelude.{◌≡◌, ℕ, ◌*◌, ◌<◌, ◌≤◌, ◌&&◌, All, length, nat_eq, if◌then◌else◌, Some};
 ghost use Rattle.h263_types.specs.Blocks.{IsInterBlock, IsQuant};
 ghost use Rattle.h263_types.specs.Sizes.{mbs_of};
 ghost use Rattle.h263_types.specs.declared.blocks.Mb.TheVariants.{Inter};
 ghost use Rattle.h263_types.specs.declared.vector.Vector.{Vector};
 ghost use Rattle.h263_planes.specs.declared.Plane.{Plane};
-ghost use Rattle.h263_planes.specs.Blocks.{block_of, mb_of};
+ghost use Rattle.h263_planes.specs.Blocks.{mb_of};
 ghost use Rattle.h263_planes.specs.Picture.{Picture};
 ghost use Rattle.h263_planes.specs.Samples.{Inside, IsPicture, same_plane, sample_at};
 ghost use Rattle.h263_planes.specs.Work.{loan_of, work};
 ghost use Rattle.half_sample.specs.Macroblock.{IsPredicted};
-ghost use Rattle.half_sample.specs.Prediction.{ArePredicted, predicted_sample};
-ghost use Rattle.idct8.specs.Transform.{inverse_at};
-ghost use Rattle.picture_recon.specs.Samples.{inter_values, limited};
+ghost use Rattle.half_sample.specs.Prediction.{ArePredicted, columns_in, predicted_sample};
 ghost use Rattle.picture_recon.specs.Shown.{SetsMb};
-ghost use Rattle.picture_recon.specs.Squares.{columns_in};
 
-use crate::blocks::{put_samples, samples_at};
+use crate::coded::{Coding, draw_blocks};
 use crate::squares::square_of;
-use crate::values::{inter_samples, marks_of};
-use h263_planes::{PictureMut, Plane, block_corner};
+use h263_planes::{PictureMut, Plane};
 use h263_types::{Block, Format};
 use half_sample::Predicted;
-use idct8::laws as idct8_laws;
-use quantiser::laws as quantiser_laws;
 
 // Sets the samples of an inter macroblock: the predicted ones, and then those of the blocks that
-// have levels. Luma stands apart from the colours, so that each is compiled for its plane.
+// have levels.
 pub(crate) fn put_inter(
     predicted: &Predicted,
     quant: u8,
@@ -48,49 +42,7 @@ pub(crate) fn put_inter(
         → SetsMb format r (Some p) at (Inter quant v blocks.now) (work out.old) (work out.new) }
 {
     put_predicted(predicted, at, format, out);
-    for block in 0..4u32 {
-        add_block(quant, &blocks[block as usize], at, block, format, out);
-    }
-    add_block(quant, &blocks[4], at, 4, format, out);
-    add_block(quant, &blocks[5], at, 5, format, out);
-}
-
-// Adds what its levels stand for to the samples of block `block` of macroblock `at`, which are the
-// predicted ones.
-#[inline(always)]
-fn add_block(
-    quant: u8,
-    levels: &Block,
-    at: u32,
-    block: u32,
-    format: Format,
-    out: &mut PictureMut<'_>,
-)
-    requires format { (work out.old).format ≡ format }
-    requires at { at < mbs_of format }
-    requires block { block < 6 }
-    requires quant { IsQuant quant }
-    requires levels { IsInterBlock levels.now }
-    requires whole { IsPicture (work out.old) }
-    ensures same_loan { loan_of out.new ≡ loan_of out.old }
-    ensures format { (work out.new).format ≡ format }
-    ensures whole { IsPicture (work out.new) }
-    ensures samples { (plane : Plane) (x y : ℕ)
-        → Inside format plane x y 1 → sample_at (work out.new) plane x y
-        ≡ (if nat_eq (mb_of format plane x y) at && nat_eq (block_of plane x y) block
-        then limited (pos (sample_at (work out.old) plane x y) +ℤ inverse_at
-        (inter_values quant levels.now) (y % 8) (x % 8)) else sample_at (work out.old) plane x y) }
-{
-    let marks = marks_of(*levels);
-    if marks == 0 {
-        quantiser_laws::one_order();
-        idct8_laws::zeros_give_zeros();
-        return;
-    }
-    let corner = block_corner(format, at, block);
-    let predicted = samples_at(out.seen(), corner);
-    let samples = inter_samples(quant, levels, marks, &predicted);
-    put_samples(out, corner, &samples);
+    draw_blocks(Coding::Added { quant }, blocks, at, format, out);
 }
 
 // Sets the samples of macroblock `at` to the predicted ones.

@@ -4,7 +4,8 @@ ghost use Rattle.h263_types.specs.Sizes.{columns_of, mbs_of};
 ghost use Rattle.h263_planes.specs.declared.Plane.{Plane};
 ghost use Rattle.h263_planes.specs.Blocks.{mb_of};
 ghost use Rattle.h263_planes.specs.Samples.{Inside, in_block, same_plane};
-ghost use Rattle.picture_recon.specs.Squares.{IsInside, columns_in};
+ghost use Rattle.half_sample.specs.Prediction.{columns_in};
+ghost use Rattle.picture_recon.specs.Squares.{IsInside};
 
 use h263_planes::{Plane, mb_place};
 use h263_types::Format;

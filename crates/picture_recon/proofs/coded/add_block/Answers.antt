@@ -10,7 +10,7 @@ use Rattle.picture_recon.proofs.Kept.{sample_kept}
 use Rattle.picture_recon.proofs.Flat.{no_levels}
 use Rattle.picture_recon.proofs.Steps.{block_put, nothing_added}
 use Rattle.picture_recon.proofs.Walk.{none_at_all}
-use Rattle.picture_recon.proofs.predicted.add_block.Goals as goal
+use Rattle.picture_recon.proofs.coded.add_block.Goals as goal
 
 pub returns-then-marks-eq0-clause-samples : goal.returns-then-marks-eq0-clause-samples
 returns-then-marks-eq0-clause-samples c = λ plane x y h.

@@ -1,0 +1,43 @@
+-- The samples that the levels of a macroblock's blocks stand for (H.263, 6.2 and 6.3).
+use Rattle.std.specs.Prelude.{◌≡◌, ℕ, ◌%◌, pos, ◌+ℤ◌, ◌&&◌, nat_eq, nat_lt, if◌then◌else◌}
+use Rattle.h263_types.specs.declared.blocks.Block.{Block}
+use Rattle.h263_types.specs.declared.format.Format.{Format}
+use Rattle.h263_types.specs.Blocks.{IsInterBlock, IsIntraBlock, IsQuant}
+use Rattle.h263_planes.specs.declared.Plane.{Plane}
+use Rattle.h263_planes.specs.Blocks.{block_of, mb_of}
+use Rattle.h263_planes.specs.Picture.{Picture}
+use Rattle.h263_planes.specs.Samples.{Inside, sample_at}
+use Rattle.idct8.specs.Transform.{inverse_at}
+use Rattle.picture_recon.specs.declared.coded.Coding.{Coding}
+use Rattle.picture_recon.specs.declared.coded.Coding.TheVariants.{Alone, Added}
+use Rattle.picture_recon.specs.Samples.{inter_values, intra_values, limited}
+
+-- the quantiser is one
+abbrev pub HasQuant : Coding → Type 0
+HasQuant (Alone quant) = IsQuant quant
+HasQuant (Added quant) = IsQuant quant
+
+-- the levels are in their range
+abbrev pub IsCodedBlock : Coding → Block → Type 0
+IsCodedBlock (Alone quant) = IsIntraBlock
+IsCodedBlock (Added quant) = IsInterBlock
+
+-- the sample in row y and column x of a block, over the one that stood there
+abbrev pub coded_sample : Coding → Block → ℕ → ℕ → ℕ → ℕ
+coded_sample (Alone quant) levels old y x = limited (inverse_at (intra_values quant levels) y x)
+coded_sample (Added quant) levels old y x = limited (pos old +ℤ inverse_at (inter_values quant levels) y x)
+
+-- block b of macroblock `at` is set, each sample by the one that stood there, its row and its column in the block; all
+-- other samples stay
+abbrev pub SetsBlock : Format → ℕ → ℕ → (ℕ → ℕ → ℕ → ℕ) → Picture → Picture → Type 0
+SetsBlock f at b value old new =
+    (plane : Plane) (x y : ℕ) → Inside f plane x y 1
+    → sample_at new plane x y ≡ (if nat_eq (mb_of f plane x y) at && nat_eq (block_of plane x y) b
+    then value (sample_at old plane x y) (y % 8) (x % 8) else sample_at old plane x y)
+
+-- and so the first `count` blocks, each with values of its own
+abbrev pub SetsBlocks : Format → ℕ → ℕ → (ℕ → ℕ → ℕ → ℕ → ℕ) → Picture → Picture → Type 0
+SetsBlocks f at count value old new =
+    (plane : Plane) (x y : ℕ) → Inside f plane x y 1
+    → sample_at new plane x y ≡ (if nat_eq (mb_of f plane x y) at && nat_lt (block_of plane x y) count
+    then value (block_of plane x y) (sample_at old plane x y) (y % 8) (x % 8) else sample_at old plane x y)
