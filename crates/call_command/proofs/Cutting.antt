@@ -17,11 +17,11 @@ use Rattle.desk_program.specs.Texts.{of}
 use Rattle.call_model.specs.IdealCall.{Event, Send, Deliver, Play, Back}
 use Rattle.call_model.specs.Refusals.{Refusal}
 use Rattle.call_command.specs.Call.{CallState, bad_line, by_ends, capture_step, captured_step, event_step, line_size, line_step, refusal_at, trace_step, unless}
-use Rattle.call_command.specs.Laws.{TakesTheLine}
+use Rattle.call_command.specs.Laws.{CoversLine}
 use Rattle.call_command.proofs.Lines.{line_part}
 
 abbrev IsLineTurn : List ℕ → Step CallState → Type 0
-IsLineTurn trace step = TakesTheLine trace (step_turns step)
+IsLineTurn trace step = CoversLine trace (step_turns step)
 
 module _ (s : CallState) (inputs : Role → List ℕ) (trace : List ℕ) where
   same_size : (n : ℕ) → n ≤ n

@@ -18,7 +18,7 @@ use Rattle.desk_program.specs.Ends.{EndsBy, Gains, IsPart, Tells, holds}
 use Rattle.desk_program.specs.Texts.{and_of, no_bytes, no_texts, of}
 use Rattle.desk_program.specs.Laws.{TurnLaws}
 use Rattle.call_command.specs.Call.{bad_line, line_size, refused_line}
-use Rattle.call_command.specs.Laws.{IsPlayedOut, TakesTheLine, frame_turn}
+use Rattle.call_command.specs.Laws.{IsPlayedOut, CoversLine, capture_turn}
 use Rattle.call_command.specs.Standing.{HasTaken, ReadsTrace}
 
 -- ---- the bytes of a line
@@ -91,7 +91,7 @@ no_frame_held t k few =
     ∙ ap (λ (b : Bool). b && nat_le (t.taken Events) (k Events) && nat_le (t.taken Video2) (k Video2)) (and-false t.whole)
 
 -- bytes of the trace without a newline hold none
-pub line_part : (trace : List ℕ) (k : ℕ) (turns : List Turn) → NoNewline (take k trace) → TakesTheLine trace turns → IsPart turns (of Events k)
+pub line_part : (trace : List ℕ) (k : ℕ) (turns : List Turn) → NoNewline (take k trace) → CoversLine trace turns → IsPart turns (of Events k)
 line_part trace k [] free takes = tt
 line_part trace k (turn ∷ turns) free takes = by_end (is_closed trace) refl
   where
@@ -109,9 +109,9 @@ abbrev pub with_frame_bytes : List ℕ → ℕ → Role → ℕ
 with_frame_bytes trace n = and_of (of Events (line_size trace)) (of Video n)
 
 pub frame_held : (trace : List ℕ) (size k : ℕ) → (size ≤ k → ⊥)
-    → holds (frame_turn trace size) (with_frame_bytes trace k) ≡ false
+    → holds (capture_turn trace size) (with_frame_bytes trace k) ≡ false
 frame_held trace size k few =
-    no_frame_held (frame_turn trace size) (with_frame_bytes trace k) (λ (whole : 0 + size ≤ 0 + k). few (omega (arith, whole)))
+    no_frame_held (capture_turn trace size) (with_frame_bytes trace k) (λ (whole : 0 + size ≤ 0 + k). few (omega (arith, whole)))
 
 -- ---- a line that is refused: it is taken, and nothing of the video
 

@@ -41,13 +41,13 @@ pub record VideoLaws : Type 0 where
 -- ---- the turns of lines, whatever a machine keeps in mind
 
 -- the turn takes the first line, which shows by its newline where it ends
-abbrev pub TakesTheLine : List ℕ → List Turn → Type 0
-TakesTheLine trace [] = Unit {0}
-TakesTheLine trace (turn ∷ turns) = (turn.whole ≡ is_closed trace) × (line_size trace ≤ turn.taken Events)
+abbrev pub CoversLine : List ℕ → List Turn → Type 0
+CoversLine trace [] = Unit {0}
+CoversLine trace (turn ∷ turns) = (turn.whole ≡ is_closed trace) × (line_size trace ≤ turn.taken Events)
 
 -- the turn of a line whose frame is sent
-abbrev pub frame_turn : List ℕ → ℕ → Turn
-frame_turn trace size =
+abbrev pub capture_turn : List ℕ → ℕ → Turn
+capture_turn trace size =
     record {
       taken = and_of (of Events (line_size trace)) (of Video size);
       whole = is_closed trace;
@@ -67,9 +67,9 @@ pub record LineLaws : Type 0 where
   pub last : (trace : List ℕ) → is_closed trace ≡ false → drop (line_size trace) trace ≡ []
   -- bytes without a newline hold no turn, and neither does the line with a part of its frame
   pub line_part : (trace : List ℕ) (k : ℕ) (turns : List Turn) → NoNewline (take k trace)
-      → TakesTheLine trace turns → IsPart turns (of Events k)
+      → CoversLine trace turns → IsPart turns (of Events k)
   pub frame_part : (trace : List ℕ) (size k : ℕ) → (size ≤ k → ⊥)
-      → holds (frame_turn trace size) (and_of (of Events (line_size trace)) (of Video k)) ≡ false
+      → holds (capture_turn trace size) (and_of (of Events (line_size trace)) (of Video k)) ≡ false
   -- this many bytes of the trace were read, or its first line
   pub some : (inputs : Role → List ℕ) (old mid : Outside) (k : ℕ) → ReadsTrace inputs old mid
       → mid.left Events ≡ Some (drop k (inputs Events)) → Tells mid (behind inputs (of Events k))

@@ -1,9 +1,8 @@
 -- A turn of a party as one of the call of both.
-use Rattle.std.proofs.Common.{ℕ, Bool, true, false, List, Option, Result, Ok, Err, ap, subst}
+use Rattle.std.proofs.Common.{◌≡◌, ℕ, Bool, true, false, List, Option, Result, Ok, Err, sym, ap, subst}
 use Rattle.h263_outside.specs.Desk.{Outside, exchanged_outside}
 use Rattle.h263_outside.specs.declared.desk.Role.{Role}
 use Rattle.h263_outside.specs.declared.desk.Role.TheVariants.{Video, Events, Pictures, Video2, Pictures2}
-use Rattle.loss_trace.specs.declared.event.Event.{Event as Line}
 use Rattle.loss_trace.specs.declared.reader.TraceReader.{TraceReader}
 use Rattle.call_report.specs.declared.status.Status.{Status}
 use Rattle.call_report.specs.declared.status.Status.TheVariants.{VideoRefused, Video2Refused}
@@ -114,18 +113,20 @@ module _ (laws : Laws) where
   pub stations_too : (own far : Station) (room : ℕ) → StationsReady own far room → StationsReady far own room
   stations_too own far room r = record { own_ready = r.far_ready; far_ready = r.own_ready; ends = in_call_too laws own.ends far.ends r.ends }
 
-  module _ (a b a_new b_new : Station) (line : ℕ) (event : Line) (r : Result Bool Status) (mid new : Outside) (room : ℕ) where
-    -- of the first party
-    pub line_of_a : TakesEvent Video Pictures VideoRefused a b a_new b_new (record { line = line; party = A; event = event }) r mid new room
-        → TakesLine a b a_new b_new (record { line = line; party = A; event = event }) r mid new room
-    line_of_a t = record { gives = t.gives; goes_on = t.goes_on; ready = t.ready; stop = t.stop; cause = t.cause; rest = t.rest }
+  module _ (a b a_new b_new : Station) (said : Said) (r : Result Bool Status) (mid new : Outside) (room : ℕ) where
+    abbrev by_party : Party → Said
+    by_party x = record { line = said.line; party = x; event = said.event }
 
-    -- of the second
-    pub line_of_b : TakesEvent Video2 Pictures2 Video2Refused b a b_new a_new (record { line = line; party = B; event = event }) r mid new room
-        → TakesLine a b a_new b_new (record { line = line; party = B; event = event }) r mid new room
-    line_of_b t = record {
+    party_is : (x : Party) → said.party ≡ x → said ≡ by_party x
+    party_is x is = λ i. record { line = said.line; party = is i; event = said.event }
+
+    a_line : TakesEvent Video Pictures VideoRefused a b a_new b_new (by_party A) r mid new room → TakesLine a b a_new b_new (by_party A) r mid new room
+    a_line t = record { gives = t.gives; goes_on = t.goes_on; ready = t.ready; stop = t.stop; cause = t.cause; rest = t.rest }
+
+    b_line : TakesEvent Video2 Pictures2 Video2Refused b a b_new a_new (by_party B) r mid new room → TakesLine a b a_new b_new (by_party B) r mid new room
+    b_line t = record {
       gives = λ trace old s inputs k.
-          stands_so r (party_step B s inputs event) (λ next rest. StationsStand B b_new a_new trace next (rest Events)) (λ next rest. StationsStand A a_new b_new trace next (rest Events))
+          stands_so r (party_step B s inputs said.event) (λ next rest. StationsStand B b_new a_new trace next (rest Events)) (λ next rest. StationsStand A a_new b_new trace next (rest Events))
           may_read true inputs old new (λ next rest stand. to_a a_new b_new trace next (rest Events) stand)
           (t.gives trace old s inputs (record { stood = to_b a b trace _ _ k.stood; number = k.number; taken = k.taken }));
       goes_on = t.goes_on;
@@ -134,3 +135,15 @@ module _ (laws : Laws) where
       cause = t.cause;
       rest = t.rest;
     }
+
+    -- of the first party
+    pub line_of_a : said.party ≡ A → TakesEvent Video Pictures VideoRefused a b a_new b_new said r mid new room → TakesLine a b a_new b_new said r mid new room
+    line_of_a is t =
+        subst (λ (q : Said). TakesLine a b a_new b_new q r mid new room) (sym (party_is A is))
+        (a_line (subst (λ (q : Said). TakesEvent Video Pictures VideoRefused a b a_new b_new q r mid new room) (party_is A is) t))
+
+    -- of the second
+    pub line_of_b : said.party ≡ B → TakesEvent Video2 Pictures2 Video2Refused b a b_new a_new said r mid new room → TakesLine a b a_new b_new said r mid new room
+    line_of_b is t =
+        subst (λ (q : Said). TakesLine a b a_new b_new q r mid new room) (sym (party_is B is))
+        (b_line (subst (λ (q : Said). TakesEvent Video2 Pictures2 Video2Refused b a b_new a_new q r mid new room) (party_is B is) t))

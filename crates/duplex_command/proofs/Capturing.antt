@@ -1,9 +1,9 @@
 -- What a line `S` makes of the frame that is read for it, over a desk where its party is the first one.
-use Rattle.std.proofs.Common.{◌≡◌, ◌≢◌, ℕ, zero, suc, ◌+◌, ◌<◌, ◌≤◌, Bool, true, false, List, [], ◌∷◌, length, take, drop, Option, Some, Result, Ok, Err, IsErr, refl, sym, ap, subst, ◌∙◌, arith}
+use Rattle.std.proofs.Common.{◌≡◌, ◌≢◌, ℕ, zero, suc, ◌+◌, ◌<◌, Bool, true, false, List, [], ◌∷◌, length, take, drop, Option, Some, Result, Ok, Err, IsErr, refl, sym, ap, subst, ◌∙◌, arith}
 use Rattle.h263_types.specs.declared.format.Format.{Format}
 use Rattle.h263_outside.specs.Desk.{Outside}
 use Rattle.h263_outside.specs.declared.desk.Role.{Role}
-use Rattle.h263_outside.specs.declared.desk.Role.TheVariants.{Video, Events, Pictures, Video2}
+use Rattle.h263_outside.specs.declared.desk.Role.TheVariants.{Video, Events, Pictures}
 use Rattle.y4m.specs.declared.fault.Y4mFault.{Y4mFault}
 use Rattle.y4m.specs.declared.fault.VideoStop.{VideoStop}
 use Rattle.y4m.specs.declared.fault.VideoStop.TheVariants.{Read, Refused}
@@ -14,8 +14,8 @@ use Rattle.loss_trace.specs.declared.fault.TraceFault.TheVariants.{NoFrame}
 use Rattle.loss_trace.specs.Lines.{is_closed}
 use Rattle.call_report.specs.declared.status.Status.TheVariants.{TraceRefused, VideoRefused}
 use Rattle.call_report.specs.Status.{phase, video_stop}
-use Rattle.desk_program.specs.Run.{Step, Turn, behind, refusal}
-use Rattle.desk_program.specs.Ends.{Tells, holds, IsPart, Went, Ended, EndsBy, GivesUp, step_turns}
+use Rattle.desk_program.specs.Run.{Step, behind, refusal}
+use Rattle.desk_program.specs.Ends.{Tells, IsPart, Went, Ended, EndsBy, GivesUp, step_turns}
 use Rattle.desk_program.specs.Texts.{no_texts, of, and_of}
 use Rattle.desk_program.specs.Laws.{TurnLaws}
 use Rattle.duplex_call.specs.declared.line.Party.{Party}

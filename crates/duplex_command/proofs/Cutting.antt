@@ -17,13 +17,13 @@ use Rattle.desk_program.specs.Texts.{of}
 use Rattle.call_model.specs.IdealCall.{Event, Send, Deliver, Play}
 use Rattle.call_model.specs.Refusals.{Refusal}
 use Rattle.call_command.specs.Call.{bad_line, line_size}
-use Rattle.call_command.specs.Laws.{LineLaws, TakesTheLine}
+use Rattle.call_command.specs.Laws.{LineLaws, CoversLine}
 use Rattle.duplex_call.specs.declared.line.Party.{Party}
 use Rattle.duplex_call.specs.Lines.{party_event}
 use Rattle.duplex_command.specs.Duplex.{DuplexState, capture_step, captured_step, event_step, line_step, pictures_of, place_of, refusal_at, refused_video, trace_step, unless, video_of}
 
 abbrev IsLineTurn : List ℕ → Step DuplexState → Type 0
-IsLineTurn trace step = TakesTheLine trace (step_turns step)
+IsLineTurn trace step = CoversLine trace (step_turns step)
 
 same_size : (n : ℕ) → n ≤ n
 same_size n = omega arith

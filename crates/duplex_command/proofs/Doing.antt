@@ -9,7 +9,6 @@ use Rattle.loss_trace.specs.declared.event.Event.{Event as Line}
 use Rattle.loss_trace.specs.declared.event.Event.TheVariants as says
 use Rattle.loss_trace.specs.declared.fault.TraceFault.{TraceFault}
 use Rattle.loss_trace.specs.declared.reader.TraceReader.{TraceReader}
-use Rattle.loss_trace.specs.Lines.{is_closed}
 use Rattle.call_report.specs.declared.status.Status.{Status}
 use Rattle.call_report.specs.declared.status.Status.TheVariants.{TraceRefused, VideoRefused, WriteFault}
 use Rattle.desk_program.specs.Run.{Step, behind}
@@ -27,13 +26,14 @@ use Rattle.duplex_call.specs.declared.line.Party.{Party}
 use Rattle.duplex_call.specs.declared.line.Party.TheVariants.{A, B}
 use Rattle.duplex_call.specs.Duplex.{MayHappenOf, WayRuns, other, with_shot}
 use Rattle.duplex_call.specs.Refused.{NoneWhereItMayHappenOf, refusal_of}
+use Rattle.duplex_ends.specs.Keeping.{KeepsInDelivery}
 use Rattle.duplex_ends.specs.Pair.{AreInCall, HoldsPair, IsInCall}
 use Rattle.duplex_ends.specs.Ways.{call_in, sides}
 use Rattle.duplex_ends.specs.declared.party.PartyEnds.{PartyEnds}
 use Rattle.duplex_command.specs.declared.station.Station.{Station}
 use Rattle.duplex_command.specs.Duplex.{DuplexState, after_line, capture_step, event_step, may_read, place_of, play_step, play_texts, quiet_step, refusal_at, seen_of, unless, with_frame, with_next}
 use Rattle.call_command.specs.Call.{line_size, line_turn}
-use Rattle.call_command.specs.Laws.{LineLaws}
+use Rattle.call_command.specs.Laws.{LineLaws, StepLaws}
 use Rattle.call_command.specs.Refused.{fault_at, fault_of}
 use Rattle.call_command.specs.Turning.{IsChecked}
 use Rattle.duplex_command.specs.Standing.{StationReady, StationsReady, StationsStand, place_in}
@@ -67,6 +67,15 @@ station_kept station ends room r params sent =
       frame = omega (arith, r.frame, ap size_of_picture same);
       sent = omega (arith, r.sent, sent);
     }
+
+-- both are, after a delivery
+stations_delivered : (own far : Station) (own_ends far_ends : PartyEnds) (room : ℕ) → StationsReady own far room → AreInCall own_ends far_ends → KeepsInDelivery own.ends far.ends own_ends far_ends
+    → StationsReady (record own { ends = own_ends }) (record far { ends = far_ends }) room
+stations_delivered own far own_ends far_ends room r ends keeps = record {
+  own_ready = station_kept own own_ends room r.own_ready keeps.own_params (ap (λ s. s.sent) keeps.own_sender);
+  far_ready = station_kept far far_ends room r.far_ready keeps.far_params keeps.far_sent;
+  ends = ends;
+}
 
 -- what was asked, by what the line says
 pub asked : (r : Result Unit Told) (event said : Line) (refusal : Event → Option Refusal) → event ≡ said → IsChecked r event refusal → IsChecked r said refusal
@@ -198,6 +207,25 @@ module _ (x : Party) (own far own_new far_new : Station) (line room : ℕ) (even
       → GainsFronts (step_texts (event_step Video Pictures VideoRefused x s (inputs Events) inputs said)) old.written new.written)
       → LineTurn event r
   event_cut is r status answer kind rose rest gives = subst (λ (e : Line). LineTurn e r) (sym is) (was_cut x own_new far_new mid new room _ _ r status answer kind rose rest gives)
+
+-- one that delivers packets of a picture, of which one tells whether it may be done
+pub delivery_done : (x : Party) (own far : Station) (own_ends far_ends : PartyEnds) (line room : ℕ) (event said : Line) (n j : ℕ) (mid : Outside)
+    → TurnLaws → StepLaws → Refusals → event ≡ said → StationsReady own far room → AreInCall own_ends far_ends → KeepsInDelivery own.ends far.ends own_ends far_ends
+    → (after : (Party → Params) → WayRuns Frame → WayRuns Frame)
+    → ((s : DuplexState) (inputs : Role → List ℕ) → event_step Video Pictures VideoRefused x s (inputs Events) inputs said
+    ≡ unless s (inputs Events) (Deliver n j) (refusal_at x s (Deliver n j)) (quiet_step s (inputs Events) (after s.params s.ways)))
+    → ((s : DuplexState) → HoldsPair s.params x own.ends far.ends s.ways → refusal_at x s (Deliver n j) ≡ None)
+    → ((p : Party → Params) (ways : WayRuns Frame) (left : ℕ) → HoldsPair p x own.ends far.ends ways → MayHappenOf (sides p) left x (Deliver n j) ways → HoldsPair p x own_ends far_ends (after p ways))
+    → LineTurn x own far (record own { ends = own_ends }) (record far { ends = far_ends }) line room event said mid mid event (Ok true)
+delivery_done x own far own_ends far_ends line room event said n j mid turns steps refusals is ready ends keeps after step none holds =
+    let own_new : Station = record own { ends = own_ends } in
+    let far_new : Station = record far { ends = far_ends } in
+    event_done x own far own_new far_new line room event said mid mid is (stations_delivered own far own_ends far_ends room ready ends keeps) (steps.none mid)
+    (λ trace old s inputs b.
+    let free = none s b.stood.holds in
+    event_goes x own far line trace old mid s inputs b turns own_new far_new said (after s.params s.ways) refl refl
+    (step s inputs ∙ step_is x own far line trace old mid s inputs b (Deliver n j) _ free)
+    (holds s.params s.ways (one_left s.params x s.ways) b.stood.holds (may_happen refusals s.params x s.ways (Deliver n j) free)))
 
 -- one that asks for a frame
 pub frame_asked : (x : Party) (own far own_new : Station) (line room : ℕ) (event : Line) (r : Result Bool Status) (mid new : Outside) → event ≡ says.Send

@@ -1,9 +1,4 @@
-use Rattle.std.proofs.Common.{◌≡◌, length, sym, subst}
-use Rattle.h263_outside.specs.declared.desk.Role.TheVariants.{Video, Pictures, Video2, Pictures2}
-use Rattle.call_report.specs.declared.status.Status.TheVariants.{VideoRefused, Video2Refused}
-use Rattle.duplex_call.specs.declared.line.Party.TheVariants.{A, B}
-use Rattle.duplex_command.specs.declared.event.Said.{Said}
-use Rattle.duplex_command.specs.Turning.{TakesEvent, TakesLine}
+use Rattle.std.proofs.Common.{length}
 use Rattle.duplex_command.proofs.AtParty.{line_of_a, line_of_b, stations_too}
 use Rattle.duplex_command.proofs.event.event_turn.Goals as goal
 
@@ -23,33 +18,11 @@ second_turn-requires-clause-ready g c = stations_too c.of_pairs.ensures c.args.a
 pub returns-in-A : goal.returns-in-A
 returns-in-A g c =
     let outside = g.D.Desk.outside in
-    let old = outside c.args.desk.now in
-    let new = outside c.party_turn.new.desk in
-    let a = c.args.a.now in
-    let b = c.args.b.now in
-    let a_new = c.party_turn.new.own in
-    let b_new = c.party_turn.new.far in
-    let said = c.args.said in
-    let room = length c.args.frame.now in
-    let r = c.party_turn.result in
-    let is : said ≡ (let here : Said = record { line = said.line; party = A; event = said.event } in here) = λ i. record { line = said.line; party = c.in-A.is i; event = said.event } in
-    subst (λ (q : Said). TakesLine a b a_new b_new q r old new room) (sym is)
-    (line_of_a c.of_pairs.ensures a b a_new b_new said.line said.event r old new room
-    (subst (λ (q : Said). TakesEvent Video Pictures VideoRefused a b a_new b_new q r old new room) is c.party_turn.ensures))
+    line_of_a c.of_pairs.ensures c.args.a.now c.args.b.now c.party_turn.new.own c.party_turn.new.far c.args.said c.party_turn.result (outside c.args.desk.now) (outside c.party_turn.new.desk)
+    (length c.args.frame.now) c.in-A.is c.party_turn.ensures
 
 pub returns-in-B : goal.returns-in-B
 returns-in-B g c =
     let outside = g.D.Desk.outside in
-    let old = outside c.args.desk.now in
-    let new = outside c.second_turn.new.desk in
-    let a = c.args.a.now in
-    let b = c.args.b.now in
-    let a_new = c.second_turn.new.far in
-    let b_new = c.second_turn.new.own in
-    let said = c.args.said in
-    let room = length c.args.frame.now in
-    let r = c.second_turn.result in
-    let is : said ≡ (let here : Said = record { line = said.line; party = B; event = said.event } in here) = λ i. record { line = said.line; party = c.in-B.is i; event = said.event } in
-    subst (λ (q : Said). TakesLine a b a_new b_new q r old new room) (sym is)
-    (line_of_b c.of_pairs.ensures a b a_new b_new said.line said.event r old new room
-    (subst (λ (q : Said). TakesEvent Video2 Pictures2 Video2Refused b a b_new a_new q r old new room) is c.second_turn.ensures))
+    line_of_b c.of_pairs.ensures c.args.a.now c.args.b.now c.second_turn.new.far c.second_turn.new.own c.args.said c.second_turn.result (outside c.args.desk.now) (outside c.second_turn.new.desk)
+    (length c.args.frame.now) c.in-B.is c.second_turn.ensures

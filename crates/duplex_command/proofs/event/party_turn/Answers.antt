@@ -3,16 +3,15 @@ use Rattle.h263_outside.specs.declared.desk.Role.TheVariants.{Video, Events, Pic
 use Rattle.loss_trace.specs.declared.event.Event.{Event as Line}
 use Rattle.loss_trace.specs.declared.event.Event.TheVariants as says
 use Rattle.call_report.specs.declared.status.Status.TheVariants.{TraceRefused, VideoRefused}
-use Rattle.call_model.specs.IdealCall.{Send, Deliver, Play}
+use Rattle.call_model.specs.IdealCall.{Send, Play}
 use Rattle.duplex_call.specs.Duplex.{with_delivery, with_play}
-use Rattle.duplex_call.specs.Refused.{refusal_of}
 use Rattle.duplex_ends.specs.Pair.{MayHappenNow}
 use Rattle.duplex_ends.specs.Ways.{sides, with_whole}
 use Rattle.duplex_command.specs.declared.station.Station.{Station}
-use Rattle.duplex_command.specs.Duplex.{event_step}
+use Rattle.duplex_command.specs.Duplex.{event_step, refusal_at}
 use Rattle.duplex_command.specs.Standing.{StationsStand}
 use Rattle.duplex_command.specs.Turning.{IsRead, MayBeDone}
-use Rattle.duplex_command.proofs.Doing.{asked, event_cut, event_done, event_goes, frame_asked, is_in_call, line_is_refused, may_happen, one_left, play_cut, play_goes, stands_event, station_kept, step_is}
+use Rattle.duplex_command.proofs.Doing.{asked, delivery_done, event_cut, event_done, event_goes, frame_asked, is_in_call, line_is_refused, may_happen, one_left, play_cut, play_goes, stands_event, station_kept}
 use Rattle.duplex_command.proofs.PartyTurns.{gave_up}
 use Rattle.duplex_command.proofs.event.party_turn.Goals as goal
 
@@ -64,7 +63,7 @@ returns-in-Send g c =
     let may : MayHappenNow own.ends far.ends Send = subst (λ (e : Line). MayBeDone own.ends far.ends e) c.in-Send.is c.in_default.ensures.may in
     frame_asked x own far c.send_frame.new.own said.line room said.event c.send_frame.result (outside c.args.desk.now) (outside c.send_frame.new.desk) c.in-Send.is
     (c.send_frame.ensures far room (record { stations = c.requires.ready; may = may }))
-    (λ trace o s inputs b. asked (Ok c.in_default.field-0) said.event says.Send (λ e. refusal_of (sides s.params) (one_left s.params x s.ways) x e s.ways) c.in-Send.is
+    (λ trace o s inputs b. asked (Ok c.in_default.field-0) said.event says.Send (refusal_at x s) c.in-Send.is
     (c.in_default.ensures.refusal s.params x s.ways b.stood.holds))
 
 -- ---- packets
@@ -74,65 +73,31 @@ deliver-requires g c = subst (λ (e : Line). MayBeDone c.args.own.now.ends c.arg
 
 pub returns-in-Packet : goal.returns-in-Packet
 returns-in-Packet g c =
-    let old = g.D.Desk.outside c.args.desk.now in
-    let own = c.args.own.now in
-    let far = c.args.far.now in
     let said = c.args.said in
     let x = said.party in
     let n = c.in-Packet.number in
     let j = c.in-Packet.place in
     let done = c.deliver in
-    let room = length c.args.frame.now in
-    let r = c.requires.ready in
-    let own_new : Station = record own { ends = done.new.own } in
-    let far_new : Station = record far { ends = done.new.far } in
-    event_done x own far own_new far_new said.line room said.event (says.Packet n j) old old c.in-Packet.is
-    (record {
-      own_ready = station_kept own done.new.own room r.own_ready done.ensures.keeps.own_params (ap (λ s. s.sent) done.ensures.keeps.own_sender);
-      far_ready = station_kept far done.new.far room r.far_ready done.ensures.keeps.far_params done.ensures.keeps.far_sent;
-      ends = done.ensures.ready;
-    })
-    (c.of_steps.ensures.none old)
-    (λ trace o s inputs b.
-    let none : refusal_of (sides s.params) (one_left s.params x s.ways) x (Deliver n j) s.ways ≡ None =
-    asked (Ok c.in_default.field-0) said.event (says.Packet n j) (λ e. refusal_of (sides s.params) (one_left s.params x s.ways) x e s.ways) c.in-Packet.is
-    (c.in_default.ensures.refusal s.params x s.ways b.stood.holds)
-    in
-    event_goes x own far said.line trace o old s inputs b c.of_turns.ensures own_new far_new (says.Packet n j) (with_delivery (sides s.params) x n j s.ways) refl refl
-    (step_is x own far said.line trace o old s inputs b (Deliver n j) _ none)
-    (done.ensures.holds s.params x s.ways (one_left s.params x s.ways) b.stood.holds (may_happen c.of_refusals.ensures s.params x s.ways (Deliver n j) none)))
+    delivery_done x c.args.own.now c.args.far.now done.new.own done.new.far said.line (length c.args.frame.now) said.event (says.Packet n j) n j (g.D.Desk.outside c.args.desk.now)
+    c.of_turns.ensures c.of_steps.ensures c.of_refusals.ensures c.in-Packet.is c.requires.ready done.ensures.ready done.ensures.keeps
+    (λ p ways. with_delivery (sides p) x n j ways) (λ s inputs. refl)
+    (λ s held. asked (Ok c.in_default.field-0) said.event (says.Packet n j) (refusal_at x s) c.in-Packet.is (c.in_default.ensures.refusal s.params x s.ways held))
+    (λ p ways left. done.ensures.holds p x ways left)
 
 pub deliver_all-requires : goal.deliver_all-requires
 deliver_all-requires g c = subst (λ (e : Line). MayBeDone c.args.own.now.ends c.args.far.now.ends e) c.in-All.is c.in_default.ensures.may
 
 pub returns-in-All : goal.returns-in-All
 returns-in-All g c =
-    let old = g.D.Desk.outside c.args.desk.now in
-    let own = c.args.own.now in
-    let far = c.args.far.now in
     let said = c.args.said in
     let x = said.party in
     let n = c.in-All.number in
     let done = c.deliver_all in
-    let room = length c.args.frame.now in
-    let r = c.requires.ready in
-    let own_new : Station = record own { ends = done.new.own } in
-    let far_new : Station = record far { ends = done.new.far } in
-    event_done x own far own_new far_new said.line room said.event (says.All n) old old c.in-All.is
-    (record {
-      own_ready = station_kept own done.new.own room r.own_ready done.ensures.keeps.own_params (ap (λ s. s.sent) done.ensures.keeps.own_sender);
-      far_ready = station_kept far done.new.far room r.far_ready done.ensures.keeps.far_params done.ensures.keeps.far_sent;
-      ends = done.ensures.ready;
-    })
-    (c.of_steps.ensures.none old)
-    (λ trace o s inputs b.
-    let none : refusal_of (sides s.params) (one_left s.params x s.ways) x (Deliver n 0) s.ways ≡ None =
-    asked (Ok c.in_default.field-0) said.event (says.All n) (λ e. refusal_of (sides s.params) (one_left s.params x s.ways) x e s.ways) c.in-All.is
-    (c.in_default.ensures.refusal s.params x s.ways b.stood.holds)
-    in
-    event_goes x own far said.line trace o old s inputs b c.of_turns.ensures own_new far_new (says.All n) (with_whole s.params x n s.ways) refl refl
-    (step_is x own far said.line trace o old s inputs b (Deliver n 0) _ none)
-    (done.ensures.holds s.params x s.ways (one_left s.params x s.ways) b.stood.holds (may_happen c.of_refusals.ensures s.params x s.ways (Deliver n 0) none)))
+    delivery_done x c.args.own.now c.args.far.now done.new.own done.new.far said.line (length c.args.frame.now) said.event (says.All n) n 0 (g.D.Desk.outside c.args.desk.now)
+    c.of_turns.ensures c.of_steps.ensures c.of_refusals.ensures c.in-All.is c.requires.ready done.ensures.ready done.ensures.keeps
+    (λ p ways. with_whole p x n ways) (λ s inputs. refl)
+    (λ s held. asked (Ok c.in_default.field-0) said.event (says.All n) (refusal_at x s) c.in-All.is (c.in_default.ensures.refusal s.params x s.ways held))
+    (λ p ways left. done.ensures.holds p x ways left)
 
 -- ---- a play
 
@@ -154,8 +119,8 @@ returns-in_err-play_next-in-Play g c =
     event_cut x own far own_new far_new said.line (length c.args.frame.now) said.event says.Play old new c.in-Play.is
     c.from_residual.result failed.field-0.0 c.from_residual.ensures.1 failed.ensures.kind failed.ensures.cause (c.of_steps.ensures.writes old new c.play_next.ensures.rest)
     (λ trace o s inputs b.
-    let none : refusal_of (sides s.params) (one_left s.params x s.ways) x Play s.ways ≡ None =
-    asked (Ok c.in_default.field-0) said.event says.Play (λ e. refusal_of (sides s.params) (one_left s.params x s.ways) x e s.ways) c.in-Play.is
+    let none : refusal_at x s Play ≡ None =
+    asked (Ok c.in_default.field-0) said.event says.Play (refusal_at x s) c.in-Play.is
     (c.in_default.ensures.refusal s.params x s.ways b.stood.holds)
     in
     play_cut x own far said.line trace o old s inputs b new c.play_next.ensures.rest.left none
@@ -183,8 +148,8 @@ returns-in_ok-play_next-in-Play g c =
     })
     (c.of_steps.ensures.writes old new done.rest)
     (λ trace o s inputs b.
-    let none : refusal_of (sides s.params) (one_left s.params x s.ways) x Play s.ways ≡ None =
-    asked (Ok c.in_default.field-0) said.event says.Play (λ e. refusal_of (sides s.params) (one_left s.params x s.ways) x e s.ways) c.in-Play.is
+    let none : refusal_at x s Play ≡ None =
+    asked (Ok c.in_default.field-0) said.event says.Play (refusal_at x s) c.in-Play.is
     (c.in_default.ensures.refusal s.params x s.ways b.stood.holds)
     in
     let may = may_happen c.of_refusals.ensures s.params x s.ways Play none in
