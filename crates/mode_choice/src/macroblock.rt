@@ -4,6 +4,7 @@ ghost use Rattle.std.specs.Option.{option_map};
 ghost use Rattle.h263_types.specs.Blocks.{HasQuant, IsMb, IsOfKind, IsQuant};
 ghost use Rattle.h263_types.specs.References.{ReachesInside};
 ghost use Rattle.h263_types.specs.Sizes.{mbs_of};
+ghost use Rattle.h263_types.specs.declared.blocks.Mb.TheVariants.{Skip};
 ghost use Rattle.h263_types.specs.declared.vector.Vector.{Vector};
 ghost use Rattle.h263_planes.specs.Lent.{picture};
 ghost use Rattle.h263_planes.specs.Picture.{Picture};
@@ -159,8 +160,8 @@ fn is_intra(deviation: u32, cost: i32) -> bool
     (deviation as i32) < cost - 500
 }
 
-// The macroblock predicted by a vector, whose samples are given: it isn't coded where the vector is
-// zero and no level is left.
+// The macroblock predicted by a vector, whose samples are given. Its levels are written where they
+// stay.
 fn inter_macroblock(
     frame: PictureRef<'_>,
     mb: u32,
@@ -176,17 +177,36 @@ fn inter_macroblock(
         → out.new ≡ choice.inter_of (picture frame.entry) reference
         quantisation.quant quantisation.keep r mb vector }
 {
-    let mut blocks = [Block { levels: [0; 64] }; 6];
-    inter_blocks(frame, mb, quantisation, predicted, &mut blocks);
-    if vector.x == 0 && vector.y == 0 && are_empty(&blocks) {
-        *out = Mb::Skip;
-        return;
-    }
     *out = Mb::Inter {
         quant: quantisation.quant,
         vector,
-        blocks,
+        blocks: [Block { levels: [0; 64] }; 6],
     };
+    match out {
+        Mb::Inter { blocks, .. } => {
+            inter_blocks(frame, mb, quantisation, predicted, blocks);
+            if is_skipped(vector, blocks) {
+                put_skip(out);
+            }
+        }
+        _ => {}
+    }
+}
+
+// Writes a macroblock that isn't coded. It stays a call, since it clears all bytes of a macroblock:
+// inline, that many would be cleared in a place apart first, for every macroblock.
+#[inline(never)]
+fn put_skip(out: &mut Mb)
+    ensures { out.new ≡ Skip }
+{
+    *out = Mb::Skip;
+}
+
+// Whether the vector is zero and no level is left.
+fn is_skipped(vector: Vector, blocks: &[Block; 6]) -> bool
+    ensures { result ≡ choice.is_skipped vector blocks.now }
+{
+    vector.x == 0 && vector.y == 0 && are_empty(blocks)
 }
 
 // Puts the levels of what a prediction leaves of a macroblock's six blocks into zeros.
