@@ -98,11 +98,13 @@ is_empty b = list_all (λ l. int_eq l (pos 0)) b.levels
 abbrev pub are_empty : List Block → Bool
 are_empty blocks = list_all is_empty blocks
 
--- a macroblock with this vector and these blocks of residuals: it isn't coded where the vector is
--- zero and no level is left
+-- a macroblock isn't coded where its vector is zero and no level of its residuals is left
+abbrev pub is_skipped : Vector → List Block → Bool
+is_skipped v blocks = (int_eq v.x (pos 0) && int_eq v.y (pos 0)) && are_empty blocks
+
+-- a macroblock with this vector and these blocks of residuals
 abbrev pub predicted_by : ℕ → Vector → List Block → Mb
-predicted_by quant v blocks = if (int_eq v.x (pos 0) && int_eq v.y (pos 0))
-    && are_empty blocks then Skip else Inter quant v blocks
+predicted_by quant v blocks = if is_skipped v blocks then Skip else Inter quant v blocks
 
 -- macroblock mb predicted by a vector
 abbrev pub inter_of : Picture → Picture → ℕ → ℕ → ℕ → ℕ → Vector → Mb

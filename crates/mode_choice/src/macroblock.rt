@@ -4,6 +4,7 @@ ghost use Rattle.std.specs.Option.{option_map};
 ghost use Rattle.h263_types.specs.Blocks.{HasQuant, IsMb, IsOfKind, IsQuant};
 ghost use Rattle.h263_types.specs.References.{ReachesInside};
 ghost use Rattle.h263_types.specs.Sizes.{mbs_of};
+ghost use Rattle.h263_types.specs.declared.blocks.Mb.TheVariants.{Skip};
 ghost use Rattle.h263_types.specs.declared.vector.Vector.{Vector};
 ghost use Rattle.h263_planes.specs.Lent.{picture};
 ghost use Rattle.h263_planes.specs.Picture.{Picture};
@@ -12,6 +13,7 @@ ghost use Rattle.half_sample.specs.Macroblock.{IsPredicted, IsPredictionOf};
 ghost use Rattle.motion_search.specs.Cost.{samples_of, IsCost};
 ghost use Rattle.quantiser.specs.Factors.{IsFactor};
 ghost use Rattle.mode_choice.specs.Choice as choice;
+ghost use Rattle.mode_choice.specs.Guess.{vector_in};
 ghost use Rattle.mode_choice.specs.Walk.{zero_block};
 
 use crate::chosen::{Chosen, predict_into};
@@ -54,28 +56,19 @@ pub fn choose(
     ensures plain { HasQuant header.now.quant result }
 {
     let mut chosen = Chosen::new();
-    choose_into(
-        frame,
-        reference,
-        mb,
-        header,
-        params,
-        Vector::ZERO,
-        &mut chosen,
-    );
+    choose_into(frame, reference, mb, header, params, &mut chosen);
     chosen.mb
 }
 
 /// The same, into its place, with what the vector of an inter macroblock predicts. The choice is
-/// that of `choose` whatever the guess is; it comes sooner where the guess, as the vector of a
-/// neighbour, is near to the best vector.
+/// that of `choose` whatever the place held before. Where that is an inter macroblock the search
+/// begins at its vector, so the choice comes sooner if it is a neighbour's.
 pub fn choose_into(
     frame: PictureRef<'_>,
     reference: Option<PictureRef<'_>>,
     mb: u32,
     header: &Header,
     params: &Params,
-    guess: Vector,
     out: &mut Chosen,
 )
     requires reference { HasReferenceOnlyInP header.now.kind
@@ -96,7 +89,7 @@ pub fn choose_into(
     laws::chosen_is_in_range();
     match reference {
         None => intra_macroblock(frame, mb, header.quant, params.keep, &mut out.mb),
-        Some(reference) => macroblock_in_p(frame, reference, mb, header, params, guess, out),
+        Some(reference) => macroblock_in_p(frame, reference, mb, header, params, out),
     }
 }
 
@@ -108,7 +101,6 @@ fn macroblock_in_p(
     mb: u32,
     header: &Header,
     params: &Params,
-    guess: Vector,
     out: &mut Chosen,
 )
     requires format { (picture frame).format ≡ (picture reference).format }
@@ -121,6 +113,7 @@ fn macroblock_in_p(
     ensures predicted { IsPredictionOf header.now.rounding (Some (picture reference.entry))
         mb out.new.mb out.new.predicted }
 {
+    let guess = vector_of(&out.mb);
     let (vector, cost) = search_from(frame, reference, mb, params.radius, header.rounding, guess);
     if is_nearer_to_mean(frame, mb, cost) {
         intra_macroblock(frame, mb, header.quant, params.keep, &mut out.mb);
@@ -134,6 +127,16 @@ fn macroblock_in_p(
     };
     let predicted = &out.predicted;
     inter_macroblock(frame, mb, vector, quantisation, predicted, &mut out.mb);
+}
+
+// The vector of a macroblock; where it has none, the zero vector.
+fn vector_of(mb: &Mb) -> Vector
+    ensures { result ≡ vector_in mb.now }
+{
+    match mb {
+        Mb::Inter { vector, .. } => *vector,
+        _ => Vector::ZERO,
+    }
 }
 
 // Whether a macroblock is coded by itself, where the best vector costs this much: at 500 or less it
@@ -159,8 +162,8 @@ fn is_intra(deviation: u32, cost: i32) -> bool
     (deviation as i32) < cost - 500
 }
 
-// The macroblock predicted by a vector, whose samples are given: it isn't coded where the vector is
-// zero and no level is left.
+// The macroblock predicted by a vector, whose samples are given. Its levels are written where they
+// stay.
 fn inter_macroblock(
     frame: PictureRef<'_>,
     mb: u32,
@@ -176,17 +179,36 @@ fn inter_macroblock(
         → out.new ≡ choice.inter_of (picture frame.entry) reference
         quantisation.quant quantisation.keep r mb vector }
 {
-    let mut blocks = [Block { levels: [0; 64] }; 6];
-    inter_blocks(frame, mb, quantisation, predicted, &mut blocks);
-    if vector.x == 0 && vector.y == 0 && are_empty(&blocks) {
-        *out = Mb::Skip;
-        return;
-    }
     *out = Mb::Inter {
         quant: quantisation.quant,
         vector,
-        blocks,
+        blocks: [Block { levels: [0; 64] }; 6],
     };
+    match out {
+        Mb::Inter { blocks, .. } => {
+            inter_blocks(frame, mb, quantisation, predicted, blocks);
+            if is_skipped(vector, blocks) {
+                put_skip(out);
+            }
+        }
+        _ => {}
+    }
+}
+
+// Writes a macroblock that isn't coded. It stays a call, since it clears all bytes of a macroblock:
+// inline, that many would be cleared in a place apart first, for every macroblock.
+#[inline(never)]
+fn put_skip(out: &mut Mb)
+    ensures { out.new ≡ Skip }
+{
+    *out = Mb::Skip;
+}
+
+// Whether the vector is zero and no level is left.
+fn is_skipped(vector: Vector, blocks: &[Block; 6]) -> bool
+    ensures { result ≡ choice.is_skipped vector blocks.now }
+{
+    vector.x == 0 && vector.y == 0 && are_empty(blocks)
 }
 
 // Puts the levels of what a prediction leaves of a macroblock's six blocks into zeros.
