@@ -19,8 +19,8 @@ pub(crate) struct Columns {
 }
 
 // How far the sums of sixteen areas and of the areas eight columns to the right of them are from
-// those of two quarters, taken together. The borrow checker takes an array of such structs, but none
-// of vectors.
+// those of two quarters, taken together. The borrow checker takes an array of such structs, but
+// none of vectors.
 #[derive(Clone, Copy)]
 pub(crate) struct Halves {
     pub(crate) away: u16x16,
@@ -125,7 +125,8 @@ fn away(sums: u16x16, sum: u16) -> u16x16
     (sums - other).simd_min(other - sums)
 }
 
-// How far the areas of a row are from the upper quarters of a block, and how far from the lower ones.
+// How far the areas of a row are from the upper quarters of a block, and how far from the lower
+// ones.
 #[inline(always)]
 pub(crate) fn halves_of(quarters: Quarters, columns: Columns) -> (Halves, Halves)
     requires top_left { quarters.top_left ≤ 16320 }
@@ -147,8 +148,8 @@ pub(crate) fn halves_of(quarters: Quarters, columns: Columns) -> (Halves, Halves
     (upper, lower)
 }
 
-// Of sixteen blocks beside each other, whose halves are given, those that may differ from a block by
-// `most` or less: bit i for the one in column i. The others differ by more.
+// Of sixteen blocks beside each other, whose halves are given, those that may differ from a block
+// by `most` or less: bit i for the one in column i. The others differ by more.
 #[inline(always)]
 pub(crate) fn marks_of(upper: Halves, lower: Halves, most: u16) -> u64
     ensures { (f : ℕ → ℕ → ℕ) (y : ℕ) (block : List ℕ) (q : Quarters)
