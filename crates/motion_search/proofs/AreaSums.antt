@@ -64,10 +64,6 @@ sums_apart f g d (suc n) h = omega (arith, sums_apart f g d n h, h n)
 
 -- ---- columns and areas
 
-pub no_column : (f : ℕ → ℕ → ℕ) (x y : ℕ) → column_sum f x y 0 ≡ 0
-unfolding column_sum total
-no_column f x y = refl
-
 column_more : (f : ℕ → ℕ → ℕ) (x y n : ℕ) → column_sum f x y (n + 1) ≡ column_sum f x y n + f x (y + n)
 unfolding column_sum total
 column_more f x y n = let e : n + 1 ≡ suc n = omega arith in ap (total (λ j. f x (y + j))) e

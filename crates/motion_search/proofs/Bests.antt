@@ -171,6 +171,9 @@ module _ (block : List ℕ) (reference : Picture) (mb rounding : ℕ) where
   pub taken : (v : Vector) (now : Candidate) → InReach reference.format mb v.x v.y → first_of now (candidate_of block reference mb rounding v) ≡ step_of v now
   taken v now h = sym (ap (λ (b : Bool). cond b (first_of now (candidate_of block reference mb rounding v)) now) ((reach_is reference.format mb v).1 h))
 
+  pub whole_step : (u v : Vector) (now next : Candidate) → InReach reference.format mb v.x v.y → u ≡ v → next ≡ first_of now (candidate_of block reference mb rounding u) → next ≡ step_of v now
+  whole_step u v now next h same e = e ∙ ap (λ (w : Vector). first_of now (candidate_of block reference mb rounding w)) same ∙ taken v now h
+
   pub passed_over : (v : Vector) (now : Candidate) → (InReach reference.format mb v.x v.y → ⊥) → now ≡ step_of v now
   passed_over v now h = by (in_reach reference.format mb v) (reach_is reference.format mb v).0
     where

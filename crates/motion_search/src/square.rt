@@ -14,7 +14,7 @@ use h263_types::{Reach, Vector};
 
 // The vector in column `column` of row `row` of the square around zero.
 #[inline(always)]
-fn whole_vector(radius: u8, column: u32, row: u32) -> Vector
+pub(crate) fn whole_vector(radius: u8, column: u32, row: u32) -> Vector
     requires radius { radius ≤ 15 }
     requires column { column ≤ 2 * radius }
     requires row { row ≤ 2 * radius }

@@ -16,8 +16,9 @@ use crate::areas::{
     Columns, Halves, Quarters, halves_of, marks_of, no_rows, with_row, without_row,
 };
 use crate::candidate::Candidate;
+use crate::lent::better_whole;
 use crate::marks::{lowest, without};
-use crate::square::{better_at, end_row, first_row, place};
+use crate::square::{end_column, end_row, first_row, place, whole_vector};
 use crate::window::Window;
 use h263_planes::{PictureRef, Plane};
 use std::simd::prelude::*;
@@ -120,18 +121,26 @@ fn begun(
 }
 
 // The first of the best one and the vector in a column and a row, where that is in the square and
-// in reach.
+// in reach. The row is known to be in reach, and the column to be far enough to the right, so one
+// test is left.
 #[inline(always)]
-fn better_in_square(window: Window<'_>, column: u32, row: u32, best: Candidate) -> Candidate
+fn better_in_row(window: Window<'_>, column: u32, row: u32, best: Candidate) -> Candidate
     requires row { row ≤ 2 * window.radius }
+    requires down { (window.reach.up ≤ℤ whole_component window.radius row)
+        × (whole_component window.radius row ≤ℤ window.reach.down) }
+    requires left { window.reach.left ≤ℤ whole_component window.radius column }
     requires so_far { IsSoFar window best }
     ensures so_far { IsSoFar window.entry result }
     ensures kept { IsKept best result }
     ensures none { column < 2 * window.entry.radius + 1
         → IsBehind window.entry column row result }
 {
-    if column <= 2 * u32::from(window.radius) {
-        better_at(window, column, row, best)
+    let end = end_column(window.radius, window.reach);
+    if column < end {
+        let vector = whole_vector(window.radius, column, row);
+        let x = place(window.left, column, window.radius);
+        let y = place(window.top, row, window.radius) as u16;
+        better_whole(window, x, y, vector, best)
     } else {
         best
     }
@@ -149,6 +158,9 @@ fn best_of_marked(
 ) -> Candidate
     requires column { column ≤ 2 * window.radius }
     requires row { row ≤ 2 * window.radius }
+    requires down { (window.reach.up ≤ℤ whole_component window.radius row)
+        × (whole_component window.radius row ≤ℤ window.reach.down) }
+    requires left { window.reach.left ≤ℤ whole_component window.radius column }
     requires so_far { IsSoFar window best }
     requires others { (i : ℕ)
         → i < 16 → bit_at marks i ≡ 0 → IsBehind window (column + i) row best }
@@ -161,7 +173,7 @@ fn best_of_marked(
     let mut left = marks;
     while left != 0 {
         let i = lowest(left);
-        first = better_in_square(window, column + i, row, first);
+        first = better_in_row(window, column + i, row, first);
         left = without(left, i);
     }
     first
@@ -191,6 +203,7 @@ fn best_of_strip(
     requires x { pos x ≡ whole_place window.left (whole_component window.radius column) }
     requires room { x + 32 ≤ width_of (picture window.reference).format }
     requires column { column ≤ 2 * window.radius }
+    requires left { window.reach.left ≤ℤ whole_component window.radius column }
     requires quarters { AreQuarters window.block.now quarters }
     requires whole { IsPicture (picture window.reference) }
     requires so_far { IsSoFar window best }
@@ -221,15 +234,17 @@ fn best_of_strip(
 #[inline(always)]
 fn best_of_column(window: Window<'_>, column: u32, best: Candidate) -> Candidate
     requires column { column ≤ 2 * window.radius }
+    requires left { window.reach.left ≤ℤ whole_component window.radius column }
     requires so_far { IsSoFar window best }
     ensures so_far { IsSoFar window.entry result }
     ensures kept { IsKept best result }
     ensures none { (m : ℕ)
         → m < 2 * window.entry.radius + 1 → IsBehind window.entry column m result }
 {
+    let first_row = first_row(window.radius, window.reach);
     let mut first = best;
-    for row in 0..2 * u32::from(window.radius) + 1 {
-        first = better_in_square(window, column, row, first);
+    for row in first_row..end_row(window.radius, window.reach) {
+        first = better_in_row(window, column, row, first);
     }
     first
 }

@@ -1,13 +1,11 @@
-use Rattle.std.proofs.Common.{ap, subst, ◌∙◌, sym, true≢false}
+use Rattle.std.proofs.Common.{subst, ◌∙◌, sym, true≢false}
 use Rattle.h263_types.specs.declared.vector.Vector.{Vector}
 use Rattle.h263_types.specs.Vectors.{IsWithin}
 use Rattle.h263_planes.specs.Lent.{picture}
-use Rattle.motion_search.specs.Order.{first_of}
-use Rattle.motion_search.specs.Cost.{candidate_of}
 use Rattle.motion_search.specs.Vectors.{whole_at, whole_component, IsEven}
 use Rattle.motion_search.proofs.Squares.{at_is_even}
 use Rattle.motion_search.proofs.Reaches.{row_inside, column_inside}
-use Rattle.motion_search.proofs.Bests.{taken, passed_over}
+use Rattle.motion_search.proofs.Bests.{passed_over, whole_step}
 use Rattle.motion_search.proofs.square.better_at.Goals as goal
 
 pub place-x-requires-clause-inside : goal.place-x-requires-clause-inside
@@ -33,9 +31,7 @@ returns-then-is_within-clause-first c =
     let p = picture c.args.window.reference in
     let v = whole_at c.args.window.radius c.args.column c.args.row in
     let is = subst (λ (v : Vector). IsWithin c.args.window.reach v.x v.y) c.whole_vector-vector.ensures (c.is_within.ensures.0 c.if-is_within.true) in
-    c.better_whole.ensures.first
-    ∙ ap (λ (w : Vector). first_of c.args.best (candidate_of block p c.args.window.mb 0 w)) c.whole_vector-vector.ensures
-    ∙ taken block p c.args.window.mb 0 v c.args.best ((c.args.window.reaches v.x v.y).1 is)
+    whole_step block p c.args.window.mb 0 c.whole_vector-vector.result v c.args.best c.better_whole.result ((c.args.window.reaches v.x v.y).1 is) c.whole_vector-vector.ensures c.better_whole.ensures.first
 
 pub returns-else-is_within-clause-first : goal.returns-else-is_within-clause-first
 returns-else-is_within-clause-first c =

@@ -1,6 +1,7 @@
 use Rattle.std.proofs.Common.{◌≡◌, sym, ap, ◌∙◌, arith, ℕ, ◌<◌, ◌+◌, ◌*◌}
 use Rattle.std.specs.Int.{bit_at}
 use Rattle.std.proofs.lemmas.Nat.Bits.{bit_at-zero}
+use Rattle.std.proofs.lemmas.Int.{ints}
 use Rattle.h263_planes.specs.Lent.{picture}
 use Rattle.motion_search.specs.Cost.{candidate_of}
 use Rattle.motion_search.specs.Vectors.{whole_at}
@@ -11,10 +12,13 @@ use Rattle.motion_search.proofs.strip.best_of_marked.Goals as goal
 pub loop-left-init : goal.loop-left-init
 loop-left-init c = record { so_far = c.requires.so_far; kept = λ d h. h; none = λ i hi unmarked hc. c.requires.others i hi unmarked }
 
+pub better_in_row-first-requires-clause-left : goal.better_in_row-first-requires-clause-left
+better_in_row-first-requires-clause-left c = omega (arith, ints, c.requires.left)
+
 pub loop-left-preserved : goal.loop-left-preserved
 loop-left-preserved c =
     let w = c.args.window in
-    let next = c.better_in_square-first in
+    let next = c.better_in_row-first in
     let seen = c.lowest-i.result in
     let of = λ (i : ℕ). i < 16 → c.args.column + i < 2 * w.radius + 1 → IsBehind w (c.args.column + i) c.args.row next.result in
     record {

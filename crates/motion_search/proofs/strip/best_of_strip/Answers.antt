@@ -72,6 +72,11 @@ next_halves-requires-clause-columns c = c.loop-row.invariant.sums c.place-y.resu
 pub best_of_marked-first-requires-clause-row : goal.best_of_marked-first-requires-clause-row
 best_of_marked-first-requires-clause-row c = omega (arith, ((c.end_row-row-end.ensures c.loop-row.row).0 c.loop-row-test.true).0)
 
+pub best_of_marked-first-requires-clause-down : goal.best_of_marked-first-requires-clause-down
+best_of_marked-first-requires-clause-down c =
+    let w = c.args.window in
+    between_rows (picture w.reference).format w.mb w.radius w.reach w.reaches c.loop-row.row c.first_row-first_row.result c.end_row-row-end.result c.first_row-first_row.ensures c.end_row-row-end.ensures c.loop-row.auto.row c.loop-row-test.true
+
 pub best_of_marked-first-requires-clause-others : goal.best_of_marked-first-requires-clause-others
 best_of_marked-first-requires-clause-others c = λ i hi unmarked reached.
     let w = c.args.window in
