@@ -1,3 +1,4 @@
 pub mod Choice
+pub mod Guess
 pub mod Residuals
 pub mod Walk

@@ -13,6 +13,7 @@ ghost use Rattle.half_sample.specs.Macroblock.{IsPredicted, IsPredictionOf};
 ghost use Rattle.motion_search.specs.Cost.{samples_of, IsCost};
 ghost use Rattle.quantiser.specs.Factors.{IsFactor};
 ghost use Rattle.mode_choice.specs.Choice as choice;
+ghost use Rattle.mode_choice.specs.Guess.{vector_in};
 ghost use Rattle.mode_choice.specs.Walk.{zero_block};
 
 use crate::chosen::{Chosen, predict_into};
@@ -55,28 +56,19 @@ pub fn choose(
     ensures plain { HasQuant header.now.quant result }
 {
     let mut chosen = Chosen::new();
-    choose_into(
-        frame,
-        reference,
-        mb,
-        header,
-        params,
-        Vector::ZERO,
-        &mut chosen,
-    );
+    choose_into(frame, reference, mb, header, params, &mut chosen);
     chosen.mb
 }
 
 /// The same, into its place, with what the vector of an inter macroblock predicts. The choice is
-/// that of `choose` whatever the guess is; it comes sooner where the guess, as the vector of a
-/// neighbour, is near to the best vector.
+/// that of `choose` whatever the place held before. Where that is an inter macroblock the search
+/// begins at its vector, so the choice comes sooner if it is a neighbour's.
 pub fn choose_into(
     frame: PictureRef<'_>,
     reference: Option<PictureRef<'_>>,
     mb: u32,
     header: &Header,
     params: &Params,
-    guess: Vector,
     out: &mut Chosen,
 )
     requires reference { HasReferenceOnlyInP header.now.kind
@@ -97,7 +89,7 @@ pub fn choose_into(
     laws::chosen_is_in_range();
     match reference {
         None => intra_macroblock(frame, mb, header.quant, params.keep, &mut out.mb),
-        Some(reference) => macroblock_in_p(frame, reference, mb, header, params, guess, out),
+        Some(reference) => macroblock_in_p(frame, reference, mb, header, params, out),
     }
 }
 
@@ -109,7 +101,6 @@ fn macroblock_in_p(
     mb: u32,
     header: &Header,
     params: &Params,
-    guess: Vector,
     out: &mut Chosen,
 )
     requires format { (picture frame).format ≡ (picture reference).format }
@@ -122,6 +113,7 @@ fn macroblock_in_p(
     ensures predicted { IsPredictionOf header.now.rounding (Some (picture reference.entry))
         mb out.new.mb out.new.predicted }
 {
+    let guess = vector_of(&out.mb);
     let (vector, cost) = search_from(frame, reference, mb, params.radius, header.rounding, guess);
     if is_nearer_to_mean(frame, mb, cost) {
         intra_macroblock(frame, mb, header.quant, params.keep, &mut out.mb);
@@ -135,6 +127,16 @@ fn macroblock_in_p(
     };
     let predicted = &out.predicted;
     inter_macroblock(frame, mb, vector, quantisation, predicted, &mut out.mb);
+}
+
+// The vector of a macroblock; where it has none, the zero vector.
+fn vector_of(mb: &Mb) -> Vector
+    ensures { result ≡ vector_in mb.now }
+{
+    match mb {
+        Mb::Inter { vector, .. } => *vector,
+        _ => Vector::ZERO,
+    }
 }
 
 // Whether a macroblock is coded by itself, where the best vector costs this much: at 500 or less it

@@ -8,7 +8,7 @@ ghost use Rattle.idct8.specs.Ranges.{IsSample};
 ghost use Rattle.mode_choice.specs.Choice.{sample_in_block};
 ghost use Rattle.mode_choice.specs.Residuals.{luma_at, predicted_at};
 
-use h263_planes::{PictureRef, Plane, block_corner};
+use h263_planes::{Corner, PictureRef, Plane, block_corner};
 use half_sample::Predicted;
 use std::simd::prelude::*;
 
@@ -73,7 +73,12 @@ fn luma_differences(
     ensures range { All IsSample residuals.new }
 {
     let from = 128 * (block as usize / 2) + 8 * (block as usize % 2);
-    differences(frame, Plane::Y, x, y, predicted, from, 16, residuals)
+    let corner = Corner {
+        plane: Plane::Y,
+        x,
+        y,
+    };
+    differences(frame, corner, predicted, from, 16, residuals)
 }
 
 // The same of a block of colour, which is predicted alone.
@@ -93,34 +98,33 @@ fn colour_differences(
         -ℤ pos (slice_index predicted.now k)) }
     ensures range { All IsSample residuals.new }
 {
-    differences(frame, plane, x, y, predicted, 0, 8, residuals)
+    differences(frame, Corner { plane, x, y }, predicted, 0, 8, residuals)
 }
 
-// The 8 x 8 samples of a plane from column `x` of row `y` on less those predicted, by rows; the
-// predicted rows begin at place `from` and are `stride` apart.
+// The 8 x 8 samples from a corner on less those predicted, by rows; the predicted rows begin at
+// place `from` and are `stride` apart.
 #[inline(always)]
 fn differences(
     frame: PictureRef<'_>,
-    plane: Plane,
-    x: u32,
-    y: u32,
+    corner: Corner,
     predicted: &[u8],
     from: usize,
     stride: usize,
     residuals: &mut [i16; 64],
 )
-    requires inside { Inside (picture frame).format plane x (y + 7) 8 }
+    requires inside { Inside (picture frame).format corner.plane corner.x (corner.y + 7) 8 }
     requires from { from ≤ 136 }
     requires stride { stride ≤ 16 }
     requires predicted { from + 7 * stride + 8 ≤ length predicted.now }
     ensures long { length residuals.new ≡ 64 }
     ensures differences { (k : ℕ) → k < 64 → slice_index_or residuals.new k (pos 0)
-        ≡ (pos (sample_at (picture frame.entry) plane (x + k % 8) (y + k / 8))
+        ≡ (pos (sample_at (picture frame.entry)
+        corner.plane (corner.x + k % 8) (corner.y + k / 8))
         -ℤ pos (slice_index predicted.now (from + stride * (k / 8) + k % 8))) }
     ensures range { All IsSample residuals.new }
 {
     for j in 0..8u32 {
-        let row = frame.row(plane, x, y + j, 8);
+        let row = frame.row(corner.plane, corner.x, corner.y + j, 8);
         let at = from + stride * j as usize;
         put_difference(residuals, j as usize, row, &predicted[at..at + 8]);
     }

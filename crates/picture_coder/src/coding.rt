@@ -15,7 +15,7 @@ ghost use Rattle.packet_cutter.specs.Cutting.{Holds, added_of, format_of, limit_
 ghost use Rattle.packet_cutter.specs.Packets.{ArePacketsOf};
 
 use h263_planes::{PictureMut, PictureRef};
-use h263_types::{Mb, Params, Vector};
+use h263_types::Params;
 use mode_choice::{Chosen, choose_into, laws as mode_choice_laws};
 use packet_cutter::Cutter;
 use picture_header::Header;
@@ -72,20 +72,10 @@ pub fn code_picture(
     work.is_picture();
     cutter.begin(number, header);
     let mut chosen = Chosen::new();
-    let mut guess = Vector::ZERO;
     for at in 0..params.format.mbs() {
-        choose_into(frame, reference, at, header, params, guess, &mut chosen);
+        choose_into(frame, reference, at, header, params, &mut chosen);
         cutter.add(&chosen.mb);
         recon_predicted(&chosen.mb, &chosen.predicted, at, header, reference, work);
-        guess = vector_of(&chosen.mb);
     }
     cutter.finish();
-}
-
-// The vector of a macroblock, from which the search for the next one begins.
-fn vector_of(mb: &Mb) -> Vector {
-    match mb {
-        Mb::Inter { vector, .. } => *vector,
-        _ => Vector::ZERO,
-    }
 }

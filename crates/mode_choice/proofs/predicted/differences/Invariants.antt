@@ -8,5 +8,5 @@ abbrev pub invariant-loop-j : goal.invariant-loop-j
 invariant-loop-j l =
     (length l.residuals ≡ 64)
     × ((k : ℕ) → k < 64 → k / 8 < l.j →
-    get_or l.residuals k (pos 0) ≡ (pos (sample_at (picture l.frame) l.plane (l.x + k % 8) (l.y + k / 8)) -ℤ pos (get_or l.predicted (l.from + l.stride * (k / 8) + k % 8) 0)))
-    × ((k : ℕ) → k < 64 → k / 8 < l.j → sample_at (picture l.frame) l.plane (l.x + k % 8) (l.y + k / 8) < 256)
+    get_or l.residuals k (pos 0) ≡ (pos (sample_at (picture l.frame) l.corner.plane (l.corner.x + k % 8) (l.corner.y + k / 8)) -ℤ pos (get_or l.predicted (l.from + l.stride * (k / 8) + k % 8) 0)))
+    × ((k : ℕ) → k < 64 → k / 8 < l.j → sample_at (picture l.frame) l.corner.plane (l.corner.x + k % 8) (l.corner.y + k / 8) < 256)
