@@ -18,3 +18,4 @@ pub mod Low
 pub mod Columns
 pub mod First
 pub mod Halves
+pub mod Masks

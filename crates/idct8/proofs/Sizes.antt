@@ -1,8 +1,7 @@
 -- 32 bits suffice for the inverse transform of a block where the sum of the sizes of its values is at most 263. No number
 -- of the basis is further from 0 than 2841, so each sum of a row is at most 2841 times the sizes in this row, and a sum
 -- over the rows at most 2841 times those: 2841 * 2841 * 263, 2,122,746,903, to which rounding adds 2^24.
-use Rattle.std.proofs.Common.{◌≡◌, ℕ, zero, suc, ◌+◌, ◌-◌, ◌*◌, ◌<◌, ◌≤◌, min, ℤ, pos, negsuc, ◌*ℤ◌, List, slice_index_or, unsigned_abs, arith, refl, ap, ◌∙◌, sym, subst, lit<, below_more, zero-add, Bool, true, false, nat_le}
-use Rattle.std.proofs.lemmas.Bool.{leb-true, leb-false}
+use Rattle.std.proofs.Common.{◌≡◌, ℕ, zero, suc, ◌+◌, ◌-◌, ◌*◌, ◌<◌, ◌≤◌, min, ℤ, pos, ◌*ℤ◌, List, slice_index_or, unsigned_abs, arith, refl, ap, ◌∙◌, sym, subst, lit<}
 use Rattle.std.proofs.lemmas.Int.{ints, unsigned_abs-mul}
 use Rattle.std.proofs.Math.Nat.{mul-le-mul}
 use Rattle.idct8.specs.declared.passes.Direction.TheVariants.{Inverse}
@@ -14,7 +13,7 @@ use Rattle.idct8.specs.Sums.{sum_below, total}
 use Rattle.idct8.specs.Transform.{entry}
 use Rattle.idct8.specs.Vectors.{lane, column_at, sum_at}
 use Rattle.idct8.proofs.Factors.{factor_small, pass_of}
-use Rattle.idct8.proofs.Parity.{same_total, total_scaled, two_sizes}
+use Rattle.idct8.proofs.Parity.{total_scaled, two_sizes}
 use Rattle.idct8.proofs.Wraps.{abs_from_within, within_from_abs}
 
 -- ---- the size of a sum
@@ -105,54 +104,31 @@ cut_none (suc n) g h =
     let before : total n g ≡ total n (λ k. min (g k) 1023) = cut_none n g (omega (arith, h)) in
     omega arith
 
--- the sizes in the first two rows, the next two and the last four
-pub cut_sizes : (c : List ℤ) {a b d : ℕ} → a ≡ total 16 (λ k. cut_size c (0 + k)) → b ≡ total 16 (λ k. cut_size c (16 + k)) → d ≡ total 32 (λ k. cut_size c (32 + k)) →
-    a + b + d ≤ 263 → sizes_of c ≤ 263
-cut_sizes c {a} {b} {d} ea eb ed h =
-    let halves : total 64 (cut_size c) ≡ total 32 (cut_size c) + total 32 (λ k. cut_size c (32 + k)) = total_in_parts 32 32 (cut_size c) in
-    let quarters : total 32 (cut_size c) ≡ total 16 (cut_size c) + total 16 (λ k. cut_size c (16 + k)) = total_in_parts 16 16 (cut_size c) in
-    let first : a ≡ total 16 (cut_size c) = ea ∙ same_total 16 (λ k. cut_size c (0 + k)) (cut_size c) (λ k. ap (cut_size c) (zero-add k)) in
-    let small : total 64 (cut_size c) ≤ 263 = omega (arith, halves, quarters, first, eb, ed, h) in
+none_together : (n : ℕ) (g : ℕ → ℕ) → ((k : ℕ) → k < n → g k ≡ 0) → total n g ≡ 0
+unfolding total
+none_together zero g h = refl
+none_together (suc n) g h =
+    let before : total n g ≡ 0 = none_together n g (λ k lt. h k (omega (arith, lt))) in
+    let last : g n ≡ 0 = h n (omega arith) in
+    omega arith
+
+-- the sizes in the first rows, where there are zeros after them
+pub cut_sizes : (c : List ℤ) (rows : ℕ) {a : ℕ} → rows ≤ 8 → a ≡ total (8 * rows) (λ k. cut_size c k) → ((k : ℕ) → 8 * rows ≤ k → k < 64 → slice_index_or c k (pos 0) ≡ pos 0) →
+    a ≤ 263 → sizes_of c ≤ 263
+cut_sizes c rows {a} few e zeros h =
+    let n = 8 * rows in
+    let m = 64 - 8 * rows in
+    let all : n + m ≡ 64 = omega (arith, few) in
+    let none : total m (λ k. cut_size c (n + k)) ≡ 0 = none_together m (λ k. cut_size c (n + k)) (λ k lt. ap (λ (z : ℤ). min (unsigned_abs z) 1023) (zeros (n + k) (omega arith) (omega (arith, lt, all)))) in
+    let whole : total 64 (cut_size c) ≡ total n (cut_size c) + total m (λ k. cut_size c (n + k)) = ap (λ (k : ℕ). total k (cut_size c)) (sym all) ∙ total_in_parts n m (cut_size c) in
+    let small : total 64 (cut_size c) ≤ 263 = omega (arith, whole, none, e, h) in
     let same = cut_none 64 (λ k. unsigned_abs (slice_index_or c k (pos 0))) small in
     omega (arith, same, small)
 
--- where sizes come to 0, each is
-all_zero : (n : ℕ) (g : ℕ → ℕ) → total n g ≡ 0 → (k : ℕ) → k < n → g k ≡ 0
-unfolding total
-all_zero zero g h k lt = absurd (omega (arith, lt))
-all_zero (suc n) g h k lt =
-    let before : total n g ≡ 0 = omega (arith, h) in
-    let last : g n ≡ 0 = omega (arith, h) in
-    below_more (λ (j : ℕ). g j ≡ 0) n (all_zero n g before) last k (omega (arith, lt))
-
-no_size : (z : ℤ) → min (unsigned_abs z) 1023 ≡ 0 → z ≡ pos 0
-no_size (pos n) h = omega (arith, ints, h)
-no_size (negsuc n) h = omega (arith, ints, h)
-
-pub no_values : (c : List ℤ) (from n at : ℕ) {a : ℕ} → a ≡ total n (λ k. cut_size c (from + k)) → a ≡ 0 → from ≤ at → at < from + n → slice_index_or c at (pos 0) ≡ pos 0
-no_values c from n at {a} e none low high =
-    let place : from + (at - from) ≡ at = omega (arith, low) in
-    no_size (slice_index_or c at (pos 0)) (ap (cut_size c) (sym place) ∙ all_zero n (λ k. cut_size c (from + k)) (sym e ∙ none) (at - from) (omega (arith, low, high)))
-
--- no values from the third row on
-pub no_values_after : (c : List ℤ) {b d : ℕ} → b ≡ total 16 (λ k. cut_size c (16 + k)) → d ≡ total 32 (λ k. cut_size c (32 + k)) → b ≡ 0 → d ≡ 0 →
-    (at : ℕ) → 16 ≤ at → at < 64 → slice_index_or c at (pos 0) ≡ pos 0
-no_values_after c eb ed hb hd at low high = by_part (nat_le 32 at) refl
-  where
-    by_part : (t : Bool) → nat_le 32 at ≡ t → slice_index_or c at (pos 0) ≡ pos 0
-    by_part true e = no_values c 32 32 at ed hd (leb-true 32 at e) high
-    by_part false e = no_values c 16 16 at eb hb low (leb-false 32 at e)
-
 -- one more size
-pub one_more_size : (g : ℕ → ℕ) (from at s d : ℕ) → from ≤ at → s ≡ total (at - from) (λ k. g (from + k)) → d ≡ g at → s + d ≡ total (at + 1 - from) (λ k. g (from + k))
+pub one_more_size : (g : ℕ → ℕ) (at s d : ℕ) → s ≡ total at g → d ≡ g at → s + d ≡ total (at + 1) g
 unfolding total
-one_more_size g from at s d h e f =
-    let place : at ≡ from + (at - from) = omega (arith, h) in
-    let last : d ≡ g (from + (at - from)) = f ∙ ap g place in
-    let same : at + 1 - from ≡ suc (at - from) = omega (arith, h) in
-    let more : s + d ≡ total (at - from) (λ k. g (from + k)) + g (from + (at - from)) = omega (arith, e, last) in
-    more ∙ ap (λ (k : ℕ). total k (λ k. g (from + k))) (sym same)
-
-pub no_sizes : (g : ℕ → ℕ) (from : ℕ) → 0 ≡ total (from - from) (λ k. g (from + k))
-unfolding total
-no_sizes g from = let none : from - from ≡ 0 = omega arith in ap (λ (k : ℕ). total k (λ k. g (from + k))) (sym none)
+one_more_size g at s d e f =
+    let same : at + 1 ≡ suc at = omega arith in
+    let more : s + d ≡ total at g + g at = omega (arith, e, f) in
+    more ∙ ap (λ (k : ℕ). total k g) (sym same)

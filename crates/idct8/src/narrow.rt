@@ -1,7 +1,7 @@
 //! The inverse transform in 16 bits. What a coded block holds is mostly zeros and small values, and
 //! then both passes fit 32 bits: no number of the basis is further from 0 than 2841, so no double
 //! sum is further than 2841 * 2841 times the sum of the sizes of the values.
-ghost use Rattle.std.specs.Prelude.{◌≡◌, ℕ, ◌+◌, ◌*◌, ◌-◌, ◌^◌, ◌<◌, ◌≤◌, pos, ◌+ℤ◌, ◌-ℤ◌, ◌*ℤ◌, All, slice_index_or};
+ghost use Rattle.std.specs.Prelude.{◌≡◌, ℕ, true, ◌+◌, ◌*◌, ◌-◌, ◌^◌, ◌<◌, ◌≤◌, pos, ◌+ℤ◌, ◌-ℤ◌, ◌*ℤ◌, All, slice_index_or};
 ghost use Rattle.std.specs.Int.{int_shr};
 ghost use Rattle.std.specs.Simd.Lanes.{put_chunk};
 ghost use Rattle.h263_types.specs.Blocks.{IsValue};
@@ -47,34 +47,71 @@ pub fn narrow_inverse(block: &mut [i16; 64])
         → y < 8 → x < 8 → entry block.new y x ≡ inverse_at block.old y x }
     ensures range { (y x : ℕ) → y < 8 → x < 8 → Within 32000 (entry block.new y x) }
 {
-    let first = sizes(block, 0, 16);
-    let second = sizes(block, 16, 32);
-    let last = sizes(block, 32, 64);
-    if first + second + last > MOST {
-        *block = narrowed(&inverse(block));
-        return;
-    }
-    if last > 0 {
-        inverse_of_rows(block, 8);
-    } else if second > 0 {
-        inverse_of_rows(block, 4);
+    if are_last_zeros(block) {
+        if are_next_zeros(block) {
+            inverse_by_rows(block, 2);
+        } else {
+            inverse_by_rows(block, 4);
+        }
     } else {
-        inverse_of_rows(block, 2);
+        inverse_by_rows(block, 8);
     }
 }
 
-// The sum of the sizes of a block's values from one place to another, of which none counts further
-// than `LARGE`.
+// Whether the values of the last four rows are zeros.
 #[inline(always)]
-fn sizes(values: &[i16; 64], from: usize, to: usize) -> u16
+fn are_last_zeros(values: &[i16; 64]) -> bool
+    requires { All IsValue values.now }
+    ensures { result ≡ true → (k : ℕ)
+        → 32 ≤ k → k < 64 → slice_index_or values.now k (pos 0) ≡ pos 0 }
+{
+    i16x32::from_slice(&values[32..])
+        .simd_ne(i16x32::splat(0))
+        .to_bitmask()
+        == 0
+}
+
+// Whether those of the two rows before them are.
+#[inline(always)]
+fn are_next_zeros(values: &[i16; 64]) -> bool
+    requires { All IsValue values.now }
+    ensures { result ≡ true → (k : ℕ)
+        → 16 ≤ k → k < 32 → slice_index_or values.now k (pos 0) ≡ pos 0 }
+{
+    i16x16::from_slice(&values[16..])
+        .simd_ne(i16x16::splat(0))
+        .to_bitmask()
+        == 0
+}
+
+// The inverse transform of values, of which those from row `count` on are zeros.
+#[inline(always)]
+fn inverse_by_rows(block: &mut [i16; 64], count: usize)
+    requires values { All IsValue block.old }
+    requires count { count ≤ 8 }
+    requires zeros { (k : ℕ)
+        → 8 * count ≤ k → k < 64 → slice_index_or block.old k (pos 0) ≡ pos 0 }
+    ensures numbers { (y x : ℕ)
+        → y < 8 → x < 8 → entry block.new y x ≡ inverse_at block.old y x }
+    ensures range { (y x : ℕ) → y < 8 → x < 8 → Within 32000 (entry block.new y x) }
+{
+    if sizes(block, 8 * count) > MOST {
+        *block = narrowed(&inverse(block));
+        return;
+    }
+    inverse_of_rows(block, count);
+}
+
+// The sum of the sizes of a block's first values, up to a place. None counts further than `LARGE`.
+#[inline(always)]
+fn sizes(values: &[i16; 64], to: usize) -> u16
     requires values { All IsValue values.now }
-    requires order { from ≤ to }
     requires places { to ≤ 64 }
-    ensures value { result ≡ total (to - from) (λ k. cut_size values.now (from + k)) }
-    ensures most { result ≤ 1023 * (to - from) }
+    ensures value { result ≡ total to (λ k. cut_size values.now k) }
+    ensures most { result ≤ 1023 * to }
 {
     let mut sum: u16 = 0;
-    for at in from..to {
+    for at in 0..to {
         sum += values[at].unsigned_abs().min(LARGE);
     }
     sum

@@ -1,8 +1,8 @@
-use Rattle.std.proofs.Common.{◌≡◌, ◌+◌, ◌-◌, ◌*◌, ◌≤◌}
+use Rattle.std.proofs.Common.{◌≡◌, ◌*◌, ◌≤◌}
 use Rattle.idct8.specs.Sizes.{cut_size}
 use Rattle.idct8.specs.Sums.{total}
 use Rattle.idct8.proofs.narrow.sizes.Given as goal
 
 -- the sizes before are added up
 abbrev pub invariant-loop-at : goal.invariant-loop-at
-invariant-loop-at l = (l.fn.from ≤ l.at) × (l.sum ≡ total (l.at - l.fn.from) (λ k. cut_size l.values (l.fn.from + k))) × (l.sum ≤ 1023 * (l.at - l.fn.from))
+invariant-loop-at l = (l.sum ≡ total l.at (λ k. cut_size l.values k)) × (l.sum ≤ 1023 * l.at)
