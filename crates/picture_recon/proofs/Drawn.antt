@@ -14,6 +14,10 @@ use Rattle.half_sample.specs.declared.macroblock.Predicted.{Predicted}
 use Rattle.half_sample.specs.Macroblock.{IsPredicted, IsPredictionOf}
 use Rattle.picture_recon.specs.Shown.{SetsMb}
 
+-- what a macroblock sets, by another name for it
+pub same_drawn : (f : Format) (r at : ℕ) (mb other : Mb) (reference : Option Picture) (old new : Picture) → mb ≡ other → SetsMb f r reference at other old new → SetsMb f r reference at mb old new
+same_drawn f r at mb other reference old new same sets = subst (λ (m : Mb). SetsMb f r reference at m old new) (sym same) sets
+
 -- a picture with an inter macroblock has a reference, from which it is predicted
 by_reference : (kind : Kind) (f : Format) (r at quant : ℕ) (v : Vector) (blocks : List Block) (reference : Option Picture) (samples : Predicted) (old new : Picture) →
     HasReference kind f reference → IsOfKind kind (Inter quant v blocks) → IsPredictionOf r reference at (Inter quant v blocks) samples →
@@ -28,7 +32,7 @@ pub prediction_drawn : (kind : Kind) (f : Format) (r at quant : ℕ) (v : Vector
     ((p : Picture) (w : Vector) (b : ℕ) → p.format ≡ f → IsPredicted p at w b samples → SetsMb f b (Some p) at (Inter quant w blocks) old new) →
     SetsMb f r reference at mb old new
 prediction_drawn kind f r at quant v blocks mb reference samples old new inter has of_kind is sets =
-    subst (λ (m : Mb). SetsMb f r reference at m old new) (sym inter)
+    same_drawn f r at mb (Inter quant v blocks) reference old new inter
     (by_reference kind f r at quant v blocks reference samples old new has
     (subst (λ (m : Mb). IsOfKind kind m) inter of_kind) (subst (λ (m : Mb). IsPredictionOf r reference at m samples) inter is) sets)
 
@@ -36,7 +40,7 @@ prediction_drawn kind f r at quant v blocks mb reference samples old new inter h
 pub reference_drawn : (f : Format) (r at : ℕ) (mb other : Mb) (reference : Option Picture) (p old new : Picture) → mb ≡ other → reference ≡ Some p →
     SetsMb f r (Some p) at other old new → SetsMb f r reference at mb old new
 reference_drawn f r at mb other reference p old new inter seen sets =
-    subst (λ (m : Mb). SetsMb f r reference at m old new) (sym inter)
+    same_drawn f r at mb other reference old new inter
     (subst (λ (q : Option Picture). SetsMb f r q at other old new) (sym seen) sets)
 
 -- and that reference has the picture's format

@@ -1,5 +1,5 @@
 -- The steps of the loops that fill a block, a macroblock and a slice.
-use Rattle.std.proofs.Common.{◌≡◌, ◌≢◌, ℕ, zero, suc, ◌+◌, ◌*◌, ◌-◌, ◌%◌, ◌<◌, ◌≤◌, ℤ, pos, List, length, get_or, drop, slice_set, slice_range, map, Bool, true, false, cond, ◌&&◌, nat_eq, nat_le, nat_lt, refl, ap, sym, ◌∙◌, arith, lit<, length-set, get_or-set_same, get_or-set_other, get_or-take, get_or-drop}
+use Rattle.std.proofs.Common.{◌≡◌, ◌≢◌, ℕ, zero, suc, ◌+◌, ◌*◌, ◌%◌, ◌<◌, ◌≤◌, ℤ, pos, List, length, get_or, slice_set, map, Bool, true, false, cond, ◌&&◌, nat_eq, nat_le, nat_lt, refl, ap, sym, ◌∙◌, arith, lit<, length-set, get_or-set_same, get_or-set_other}
 use Rattle.std.specs.List.{range_with_len}
 use Rattle.std.proofs.lemmas.List.FromFn.{fill_by_all}
 use Rattle.std.proofs.lemmas.Bool.Decides.{nat_tests}
@@ -54,15 +54,6 @@ same_sample p Cb Y i j x y s ei ej = cc
 same_sample p Cb Cr i j x y s ei ej = cc
 same_sample p Cr Y i j x y s ei ej = cc
 same_sample p Cr Cb i j x y s ei ej = cc
-
--- a place in row k of the block whose corner is at multiples of 8
-pub in_row : (block : List ℕ) (x y k i j : ℕ) → x % 8 ≡ 0 → y % 8 ≡ 0 → k < 8 → j ≡ y + k → x ≤ i → i < x + 8 →
-    get_or (slice_range block (8 * k) (8 * k + 8)) (i - x) 0 ≡ get_or block (8 * (j % 8) + i % 8) 0
-in_row block x y k i j mx my hk hj hx hi =
-    let e : 8 * k + (i - x) ≡ 8 * (j % 8) + i % 8 = omega arith in
-    get_or-take (8 * k + 8 - 8 * k) (drop (8 * k) block) (i - x) 0 (omega arith)
-    ∙ get_or-drop (8 * k) block (i - x) 0
-    ∙ ap (λ m. get_or block m 0) e
 
 not_yet : (m at bl b before val old : ℕ) → before ≡ cond (nat_eq m at && nat_lt bl b) val old → bl ≡ b → before ≡ old
 not_yet m at bl b before val old h e = grind (arith, nat_tests)

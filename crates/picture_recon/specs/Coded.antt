@@ -13,9 +13,9 @@ use Rattle.picture_recon.specs.declared.coded.Coding.TheVariants.{Alone, Added}
 use Rattle.picture_recon.specs.Samples.{inter_values, intra_values, limited}
 
 -- the quantiser is one
-abbrev pub HasQuant : Coding → Type 0
-HasQuant (Alone quant) = IsQuant quant
-HasQuant (Added quant) = IsQuant quant
+abbrev pub HasQuantiser : Coding → Type 0
+HasQuantiser (Alone quant) = IsQuant quant
+HasQuantiser (Added quant) = IsQuant quant
 
 -- the levels are in their range
 abbrev pub IsCodedBlock : Coding → Block → Type 0

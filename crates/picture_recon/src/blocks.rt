@@ -8,8 +8,9 @@ ghost use Rattle.h263_planes.specs.Samples.{Inside, IsPicture, in_block, sample_
 ghost use Rattle.h263_planes.specs.Work.{loan_of, work};
 ghost use Rattle.picture_recon.specs.Coded.{SetsBlock};
 
-use h263_planes::{Corner, PictureMut, PictureRef, block_corner};
+use h263_planes::{Corner, PictureMut, PictureRef, Plane, block_corner};
 use h263_types::Format;
+use std::simd::prelude::*;
 
 // Writes the samples of block `block` of macroblock `at`.
 #[inline(always)]
@@ -59,8 +60,19 @@ pub(crate) fn samples_at(seen: PictureRef<'_>, corner: Corner) -> [u8; 64]
     let mut samples = [0; 64];
     for j in 0..8u32 {
         let at = 8 * j as usize;
-        let row = seen.row(corner.plane, corner.x, corner.y + j, 8);
-        samples[at..at + 8].copy_from_slice(row);
+        let row = row_at(seen, corner.plane, corner.x, corner.y + j);
+        samples[at..at + 8].copy_from_slice(&row);
     }
     samples
+}
+
+// Eight samples of row `y` from column `x` on, in one load. As an array they are known to lie apart
+// from where they are copied to.
+#[inline(always)]
+fn row_at(seen: PictureRef<'_>, plane: Plane, x: u32, y: u32) -> [u8; 8]
+    requires { Inside (picture seen).format plane x y 8 }
+    ensures { (i : ℕ)
+        → i < 8 → slice_index result i ≡ sample_at (picture seen.entry) plane (x + i) y }
+{
+    Simd::from_slice(seen.row(plane, x, y, 8)).to_array()
 }

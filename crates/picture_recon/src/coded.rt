@@ -4,7 +4,7 @@ ghost use Rattle.h263_types.specs.Blocks.{IsInterBlock, IsQuant};
 ghost use Rattle.h263_types.specs.Sizes.{mbs_of};
 ghost use Rattle.h263_planes.specs.Samples.{IsPicture};
 ghost use Rattle.h263_planes.specs.Work.{loan_of, work};
-ghost use Rattle.picture_recon.specs.Coded.{HasQuant, IsCodedBlock, SetsBlock, SetsBlocks, coded_sample};
+ghost use Rattle.picture_recon.specs.Coded.{HasQuantiser, IsCodedBlock, SetsBlock, SetsBlocks, coded_sample};
 ghost use Rattle.picture_recon.specs.Samples.{block_in};
 ghost use Rattle.picture_recon.specs.declared.coded.Coding.TheVariants.{Added};
 
@@ -35,7 +35,7 @@ pub(crate) fn draw_blocks(
 )
     requires format { (work out.old).format ≡ format }
     requires at { at < mbs_of format }
-    requires quant { HasQuant coding }
+    requires quant { HasQuantiser coding }
     requires blocks { All (IsCodedBlock coding) blocks.now }
     requires whole { IsPicture (work out.old) }
     ensures same_loan { loan_of out.new ≡ loan_of out.old }
@@ -64,7 +64,7 @@ fn draw_block(
     requires format { (work out.old).format ≡ format }
     requires at { at < mbs_of format }
     requires block { block < 6 }
-    requires quant { HasQuant coding }
+    requires quant { HasQuantiser coding }
     requires levels { IsCodedBlock coding levels.now }
     requires whole { IsPicture (work out.old) }
     ensures same_loan { loan_of out.new ≡ loan_of out.old }

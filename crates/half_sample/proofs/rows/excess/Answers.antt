@@ -6,7 +6,7 @@ use Rattle.half_sample.proofs.rows.excess.Goals as goal
 
 pub returns-then-rounding-eq0-clause-length : goal.returns-then-rounding-eq0-clause-length
 returns-then-rounding-eq0-clause-length g c =
-    excess_length bit_or bit_and g.row.N c.args.upper c.args.lower c.args.both c.requires.upper c.requires.lower c.requires.both
+    excess_length _ _ g.row.N c.args.upper c.args.lower c.args.both c.requires.upper c.requires.lower c.requires.both
 
 pub returns-then-rounding-eq0-clause-lanes : goal.returns-then-rounding-eq0-clause-lanes
 returns-then-rounding-eq0-clause-lanes g c = λ i hi.
@@ -17,7 +17,7 @@ returns-then-rounding-eq0-clause-lanes g c = λ i hi.
 
 pub returns-clause-length : goal.returns-clause-length
 returns-clause-length g c =
-    excess_length bit_and bit_or g.row.N c.args.upper c.args.lower c.args.both c.requires.upper c.requires.lower c.requires.both
+    excess_length _ _ g.row.N c.args.upper c.args.lower c.args.both c.requires.upper c.requires.lower c.requires.both
 
 pub returns-clause-lanes : goal.returns-clause-lanes
 returns-clause-lanes g c = λ i hi.
