@@ -151,12 +151,6 @@ trace_cause trace.Read old new rose = rose refl
 trace_cause (trace.Bad line) old new rose = tt
 trace_cause (trace.TooMany line) old new rose = tt
 
-pub write_stops : (status : Status) → status ≡ WriteFault → IsStop status
-write_stops status is = subst IsStop (sym is) tt
-
-pub write_cause : (status : Status) (old new : Faults) → status ≡ WriteFault → Rose old.write new.write → HasCause status old new
-write_cause status old new is rose = subst (λ (y : Status). HasCause y old new) (sym is) rose
-
 -- ---- turns
 
 module _ (x y : World) (mid new : Outside) (Begins : Outside → CallState → (Role → List ℕ) → Type 0)

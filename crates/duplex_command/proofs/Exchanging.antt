@@ -22,10 +22,6 @@ twice Report = refl
 twice Video2 = refl
 twice Pictures2 = refl
 
--- what is said role by role, exchanged twice
-pub same_again : {A : Type 0} (f : Role → A) → for_second (for_second f) ≡ f
-same_again f = λ i r. f (twice r i)
-
 input_too : (r : Role) → IsInput r → IsInput (exchanged r)
 input_too Video is = is
 input_too Events is = is
