@@ -4,7 +4,9 @@ use Rattle.h263_types.specs.declared.params.Params.{Params}
 use Rattle.call_model.specs.Sending.{Feedback, feedback_answer}
 use Rattle.call_decoding.specs.Rules.{rules_of}
 use Rattle.call_encoding.specs.Messages.{read_message}
+use Rattle.rate_control.specs.declared.send_pace.SendPace.{SendPace}
 use Rattle.sender_end.specs.Stands.{Stands, reply_of, run_of}
+use Rattle.sender_end.specs.State.{SenderState}
 use Rattle.send_command.specs.declared.machine.Send.{Send}
 use Rattle.rate_control.specs.Pace.{first_of, pace_of, quant_after_sizes, target_of}
 use Rattle.send_command.proofs.Counting.{one_reply_more}
@@ -39,21 +41,25 @@ returns-clause-stands c s inputs short stood =
     heard.ensures.answer s.entries st
     ∙ (λ i. feedback_answer (rules_of p) (length (run_of p (quant_after_sizes t (c.requires.pace i)) s.entries).coded) (read_message p.clock (bytes_are i)))
     in
-    keeps_feedback m s len bytes stood new (reply_of heard.result) inputs long after answer heard.ensures.params heard.ensures.pace refl c.feedback.ensures refl
+    keeps_feedback m s len bytes stood new (reply_of heard.result) inputs long after answer (ap (λ (x : SenderState SendPace). x.params) heard.ensures.others)
+    (ap (λ (x : SenderState SendPace). x.pace) heard.ensures.others) refl c.feedback.ensures refl
 
 pub returns-clause-fit : goal.returns-clause-fit
 returns-clause-fit c attached fit =
     let m = c.args.self.now in
     let heard = c.feedback-answer in
+    let params = ap (λ (x : SenderState SendPace). x.params) heard.ensures.others in
+    let pace = ap (λ (x : SenderState SendPace). x.pace) heard.ensures.others in
+    let sent = ap (λ (x : SenderState SendPace). x.sent) heard.ensures.others in
     record {
       video = fit.video;
       events = fit.events;
       wire = fit.wire;
       report = fit.report;
-      format = ap (λ (q : Params). q.format) heard.ensures.params ∙ fit.format;
-      pace = ap first_of heard.ensures.pace ∙ fit.pace ∙ ap (λ (q : Params). q.quant) (sym heard.ensures.params);
+      format = ap (λ (q : Params). q.format) params ∙ fit.format;
+      pace = ap first_of pace ∙ fit.pace ∙ ap (λ (q : Params). q.quant) (sym params);
       frame = fit.frame;
       bytes = fit.bytes;
       side = fit.side;
-      count = ap (λ (k : ℕ). m.video.more + k) heard.ensures.sent ∙ fit.count;
+      count = ap (λ (k : ℕ). m.video.more + k) sent ∙ fit.count;
     }
