@@ -182,7 +182,8 @@ class RecvInProcess(InProcess):
         self._say(heard.message)
 
     def _play(self) -> None:
-        played = self._end.play()
+        # Lent until the next call of the receiver: the bytes that are written are the only copy.
+        played = self._end.play_lent()
         number = self._counts["played"]
         self._counts.update(("played", played.mark))
         if not self._is_headed:

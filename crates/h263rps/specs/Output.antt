@@ -16,7 +16,7 @@ use Rattle.command_words.specs.Asked.{Asked, asked, roles}
 use Rattle.desk_program.specs.Run.{Run, run_from, refusal}
 use Rattle.recv_command.specs.Recv.{recv_begin, recv_step}
 use Rattle.recv_command.specs.Join.{join_begin, join_step}
-use Rattle.send_command.specs.declared.pace.Sending.{Sending}
+use Rattle.send_command.specs.declared.sending.Sending.{Sending}
 use Rattle.send_command.specs.Send.{send_begin, send_step}
 use Rattle.rate_command.specs.declared.rate.Bucket.{Bucket}
 use Rattle.rate_command.specs.Rate.{rate_begin, rate_step}

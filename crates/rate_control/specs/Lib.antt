@@ -1,4 +1,5 @@
 pub mod Level
+pub mod Pace
 pub mod Pictures
 pub mod Metering
 pub mod Text

@@ -12,8 +12,10 @@ pub mod laws;
 mod level;
 mod meter;
 mod pace;
+mod send_pace;
 mod text;
 
 pub use meter::{Meter, Metered, Totals};
 pub use pace::BucketPace;
+pub use send_pace::SendPace;
 pub use text::{Text, picture_text, totals_text};

@@ -28,9 +28,9 @@ use Rattle.desk_program.specs.Ends.{Tells, Went}
 use Rattle.desk_program.specs.Texts.{no_texts, of}
 use Rattle.desk_program.specs.Laws.{TurnLaws}
 use Rattle.send_command.specs.declared.machine.Send.{Send}
-use Rattle.send_command.specs.declared.pace.SendPace.{SendPace}
+use Rattle.rate_control.specs.declared.send_pace.SendPace.{SendPace}
 use Rattle.send_command.specs.Tally.{with_picture, with_reply}
-use Rattle.send_command.specs.Pace.{pace_of, target_of}
+use Rattle.rate_control.specs.Pace.{pace_of, target_of}
 use Rattle.send_command.specs.Send.{SendState, picture_texts, capture_texts, after_capture, after_feedback, entry_step, send_step}
 use Rattle.send_command.specs.Stands.{HasTaken, IsCaptured, IsFit, SendStands, StoodBefore}
 use Rattle.send_command.proofs.Entering.{CutBehind, IsReadAt, found_is, found_told}

@@ -12,7 +12,7 @@ use Rattle.event_logs.specs.declared.entry.Entry.TheVariants as log_entry
 use Rattle.event_logs.specs.Entry.{entry_in}
 use Rattle.call_report.specs.declared.status.Status.TheVariants.{Video2Refused}
 use Rattle.desk_program.specs.Run.{Run, behind, follow, run_of, run_from, silence}
-use Rattle.send_command.specs.declared.pace.Sending.{Sending}
+use Rattle.send_command.specs.declared.sending.Sending.{Sending}
 use Rattle.send_command.specs.Send.{SendState, send_begin, send_step, log_step, entry_step, capture_step, frame_step, head_step, most_entries}
 
 module _ (fault : Y4mFault) where

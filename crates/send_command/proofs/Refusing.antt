@@ -15,7 +15,7 @@ use Rattle.event_logs.specs.Entry.{entry_in}
 use Rattle.call_report.specs.declared.status.Status.TheVariants.{VideoRefused}
 use Rattle.desk_program.specs.Run.{Run, behind, follow, run_of, run_from, silence}
 use Rattle.desk_program.specs.Texts.{of, and_of}
-use Rattle.send_command.specs.declared.pace.Sending.{Sending}
+use Rattle.send_command.specs.declared.sending.Sending.{Sending}
 use Rattle.send_command.specs.Send.{SendState, captured, send_begin, send_step, log_step, entry_step, capture_step, frame_step, head_step, after_capture, first_state, most_entries}
 
 refused_is : (a b : Y4mFault) → VideoRefused a ≡ VideoRefused b → a ≡ b

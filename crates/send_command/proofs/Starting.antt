@@ -16,7 +16,7 @@ use Rattle.desk_program.specs.Run.{behind, refusal}
 use Rattle.desk_program.specs.Ends.{Tells, IsPart, Went, GivesUp, step_turns}
 use Rattle.desk_program.specs.Texts.{no_texts, of}
 use Rattle.desk_program.specs.Laws.{TurnLaws}
-use Rattle.send_command.specs.declared.pace.Sending.{Sending}
+use Rattle.send_command.specs.declared.sending.Sending.{Sending}
 use Rattle.send_command.specs.Send.{SendState, first_state, head_step, send_begin}
 use Rattle.send_command.proofs.Held.{no_frame_held, not_an_err}
 

@@ -1,4 +1,3 @@
 pub mod Tally
-pub mod Pace
 pub mod Send
 pub mod Stands

@@ -26,9 +26,9 @@ use Rattle.sender_end.specs.Stands.{run_of, next_after, last_packets}
 use Rattle.desk_program.specs.Run.{End, Step, refusal}
 use Rattle.desk_program.specs.Run.Step.{Goes, Ends}
 use Rattle.desk_program.specs.Texts.{no_texts, on, then_also, of, and_of}
-use Rattle.send_command.specs.declared.pace.Sending.{Sending}
+use Rattle.send_command.specs.declared.sending.Sending.{Sending}
 use Rattle.send_command.specs.declared.tally.Tally.{Tally}
-use Rattle.send_command.specs.Pace.{pace_of}
+use Rattle.rate_control.specs.Pace.{pace_of}
 use Rattle.send_command.specs.Tally.{no_counts, with_picture, with_reply, count_text}
 
 -- the parameters, and the target that the pace follows, if there is one; the entries so far, the

@@ -17,9 +17,9 @@ use Rattle.desk_program.specs.Run.{behind}
 use Rattle.desk_program.specs.Ends.{Tells}
 use Rattle.desk_program.specs.Texts.{of}
 use Rattle.send_command.specs.declared.machine.Send.{Send}
-use Rattle.send_command.specs.declared.pace.SendPace.{SendPace}
-use Rattle.send_command.specs.declared.pace.Sending.{Sending}
-use Rattle.send_command.specs.Pace.{first_of, pace_of, target_of}
+use Rattle.rate_control.specs.declared.send_pace.SendPace.{SendPace}
+use Rattle.send_command.specs.declared.sending.Sending.{Sending}
+use Rattle.rate_control.specs.Pace.{first_of, pace_of, target_of}
 use Rattle.send_command.specs.Tally.{IsOf}
 use Rattle.send_command.specs.Send.{SendState}
 

@@ -9,15 +9,15 @@ ghost use Rattle.call_encoding.specs.Frames.{Frame};
 ghost use Rattle.sender_end.specs.Stands.{Stands};
 ghost use Rattle.desk_program.specs.Ends.{Gains, GainsFronts};
 ghost use Rattle.desk_program.specs.Texts.{on};
-ghost use Rattle.send_command.specs.Pace.{first_of, pace_of, target_of};
+ghost use Rattle.rate_control.specs.Pace.{first_of, pace_of, target_of};
 ghost use Rattle.send_command.specs.Send.{packets_text, picture_texts};
 ghost use Rattle.send_command.specs.Stands.{IsCaptured};
 
-use crate::SendPace;
 use call_report::{Status, picture_line};
 use desk_program::{laws as desk_program_laws, put_entry, put_line};
 use h263_outside::{Desk, laws as outside_laws};
 use h263_planes::PictureRef;
+use rate_control::SendPace;
 use sender_end::{Coded, Sender};
 
 /// Captures a frame without messages.

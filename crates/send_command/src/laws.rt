@@ -7,7 +7,7 @@ ghost use Rattle.y4m.specs.declared.fault.Y4mFault.{Y4mFault};
 ghost use Rattle.y4m.specs.Video.{video_fault};
 ghost use Rattle.call_report.specs.declared.status.Status.TheVariants.{VideoRefused, Video2Refused};
 ghost use Rattle.desk_program.specs.Run.{run_from};
-ghost use Rattle.send_command.specs.declared.pace.Sending.{Sending};
+ghost use Rattle.send_command.specs.declared.sending.Sending.{Sending};
 ghost use Rattle.send_command.specs.Send.{send_begin, send_step};
 
 use y4m::laws::frame_by_frame;

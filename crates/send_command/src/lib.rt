@@ -13,10 +13,9 @@
 mod capture;
 pub mod laws;
 mod machine;
-mod pace;
+mod sending;
 mod tally;
 
 pub use machine::Send;
-use pace::SendPace;
-pub use pace::Sending;
+pub use sending::Sending;
 use tally::Tally;

@@ -6,13 +6,14 @@ ghost use Rattle.h263_outside.specs.declared.desk.Role.{Role};
 ghost use Rattle.h263_outside.specs.declared.desk.Role.TheVariants.{Video};
 
 use crate::capture::{capture, put_picture};
-use crate::{SendPace, Sending, Tally};
+use crate::{Sending, Tally};
 use call_report::Status;
 use desk_program::{Begins, Turns, laws as desk_program_laws, put_line};
 use event_logs::{Entry, LogFault, LogReader, Side};
 use h263_outside::{Desk, laws as outside_laws};
 use h263_planes::PictureRef;
 use h263_types::Params;
+use rate_control::SendPace;
 use sender_end::Sender;
 use std::alloc::Global;
 use y4m::Y4mReader;
@@ -35,7 +36,7 @@ impl Send {
     ghost use Rattle.desk_program.specs.Ends.{GivesUp, HasCause, IsStop, KeepsRoles, Went};
     ghost use Rattle.desk_program.specs.Ends.{start_status};
     ghost use Rattle.call_report.specs.Status.{phase};
-    ghost use Rattle.send_command.specs.Pace.{first_of};
+    ghost use Rattle.rate_control.specs.Pace.{first_of};
     ghost use Rattle.send_command.specs.Send.{SendState, capture_step, after_feedback};
     ghost use Rattle.send_command.specs.Stands.{HasTaken, IsAtEntry, IsFit, SendReady, SendStands};
     ghost use Rattle.send_command.specs.Stands.{StoodBefore};

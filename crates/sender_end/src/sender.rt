@@ -176,13 +176,10 @@ impl<P: Pace> Sender<P> {
         self.sent
     }
 
-    /// Takes feedback: the bytes of a message of the other end. The packets of the last picture
-    /// stay. Where it is old or no message nothing changes.
+    /// Takes feedback: the bytes of a message of the other end. Only what is known of the last
+    /// pictures changes, and where the message is old or none not even that.
     pub fn feedback(&mut self, bytes: &[u8]) -> Feedback
-        ensures params { self.new.params ≡ self.old.params }
-        ensures sent { self.new.sent ≡ self.old.sent }
-        ensures pace { self.new.pace ≡ self.old.pace }
-        ensures packets { self.new.packets ≡ self.old.packets }
+        ensures others { self.new ≡ record self.old { selector = self.new.selector } }
         ensures same { is_noted (reply_of result) ≡ false → self.new ≡ self.old }
         ensures stands { (entries : List (SenderEntry Frame))
             → Stands (P.quant_of self.old.pace) self.old entries

@@ -4,9 +4,11 @@ use Rattle.h263_types.specs.declared.params.Params.{Params}
 use Rattle.call_model.specs.Sending.{Feedback, feedback_answer}
 use Rattle.call_decoding.specs.Rules.{rules_of}
 use Rattle.call_encoding.specs.Messages.{read_message}
+use Rattle.rate_control.specs.declared.send_pace.SendPace.{SendPace}
 use Rattle.sender_end.specs.Stands.{Stands, reply_of, run_of}
+use Rattle.sender_end.specs.State.{SenderState}
 use Rattle.send_command.specs.declared.machine.Send.{Send}
-use Rattle.send_command.specs.Pace.{first_of, pace_of, quant_behind, target_of}
+use Rattle.rate_control.specs.Pace.{first_of, pace_of, quant_after_sizes, target_of}
 use Rattle.send_command.proofs.Counting.{one_reply_more}
 use Rattle.send_command.proofs.Keeping.{keeps_feedback, stood_for}
 use Rattle.send_command.proofs.machine.Send.take_feedback.Goals as goal
@@ -28,32 +30,36 @@ returns-clause-stands c s inputs short stood =
     let count : c.min-len.result ≡ len = omega (arith, c.min-len.ensures, c.len.ensures, m.bytes.ok.0, c.requires.bytes, short) in
     let bytes_are : take c.min-len.result c.deref.result.now ≡ bytes = (λ i. take (count i) (c.deref.ensures.value i)) in
     let long : length bytes ≡ len = length-take-le len m.bytes.items (omega (arith, short, c.requires.bytes)) in
-    let st : Stands (quant_behind t (first_of m.sender.pace)) m.sender s.entries =
-    subst (λ (q : ℕ). Stands (quant_behind t q) m.sender s.entries) (sym c.requires.pace) (stood_for m s (3 + len) stood)
+    let st : Stands (quant_after_sizes t (first_of m.sender.pace)) m.sender s.entries =
+    subst (λ (q : ℕ). Stands (quant_after_sizes t q) m.sender s.entries) (sym c.requires.pace) (stood_for m s (3 + len) stood)
     in
     let after : Stands (pace_of t p) heard.new.self (Feedback bytes ∷ s.entries) =
     subst (λ (l : List ℕ). Stands (pace_of t p) heard.new.self (Feedback l ∷ s.entries)) bytes_are
-    (subst (λ (q : ℕ). Stands (quant_behind t q) heard.new.self (Feedback (take c.min-len.result c.deref.result.now) ∷ s.entries)) c.requires.pace (heard.ensures.stands s.entries st))
+    (subst (λ (q : ℕ). Stands (quant_after_sizes t q) heard.new.self (Feedback (take c.min-len.result c.deref.result.now) ∷ s.entries)) c.requires.pace (heard.ensures.stands s.entries st))
     in
     let answer : reply_of heard.result ≡ feedback_answer (rules_of p) (length (run_of p (pace_of t p) s.entries).coded) (read_message p.clock bytes) =
     heard.ensures.answer s.entries st
-    ∙ (λ i. feedback_answer (rules_of p) (length (run_of p (quant_behind t (c.requires.pace i)) s.entries).coded) (read_message p.clock (bytes_are i)))
+    ∙ (λ i. feedback_answer (rules_of p) (length (run_of p (quant_after_sizes t (c.requires.pace i)) s.entries).coded) (read_message p.clock (bytes_are i)))
     in
-    keeps_feedback m s len bytes stood new (reply_of heard.result) inputs long after answer heard.ensures.params heard.ensures.pace refl c.feedback.ensures refl
+    keeps_feedback m s len bytes stood new (reply_of heard.result) inputs long after answer (ap (λ (x : SenderState SendPace). x.params) heard.ensures.others)
+    (ap (λ (x : SenderState SendPace). x.pace) heard.ensures.others) refl c.feedback.ensures refl
 
 pub returns-clause-fit : goal.returns-clause-fit
 returns-clause-fit c attached fit =
     let m = c.args.self.now in
     let heard = c.feedback-answer in
+    let params = ap (λ (x : SenderState SendPace). x.params) heard.ensures.others in
+    let pace = ap (λ (x : SenderState SendPace). x.pace) heard.ensures.others in
+    let sent = ap (λ (x : SenderState SendPace). x.sent) heard.ensures.others in
     record {
       video = fit.video;
       events = fit.events;
       wire = fit.wire;
       report = fit.report;
-      format = ap (λ (q : Params). q.format) heard.ensures.params ∙ fit.format;
-      pace = ap first_of heard.ensures.pace ∙ fit.pace ∙ ap (λ (q : Params). q.quant) (sym heard.ensures.params);
+      format = ap (λ (q : Params). q.format) params ∙ fit.format;
+      pace = ap first_of pace ∙ fit.pace ∙ ap (λ (q : Params). q.quant) (sym params);
       frame = fit.frame;
       bytes = fit.bytes;
       side = fit.side;
-      count = ap (λ (k : ℕ). m.video.more + k) heard.ensures.sent ∙ fit.count;
+      count = ap (λ (k : ℕ). m.video.more + k) sent ∙ fit.count;
     }

@@ -11,7 +11,7 @@ use Rattle.desk_program.specs.Run.{behind}
 use Rattle.desk_program.specs.Ends.{GivesUp}
 use Rattle.desk_program.specs.Texts.{of, and_of}
 use Rattle.send_command.specs.declared.machine.Send.{Send}
-use Rattle.send_command.specs.Pace.{first_of}
+use Rattle.rate_control.specs.Pace.{first_of}
 use Rattle.send_command.specs.Send.{captured, capture_step, picture_texts}
 use Rattle.send_command.specs.Stands.{SendStands}
 use Rattle.send_command.proofs.Answering.{if_cut, if_err, on_ok, on_ok_so}

@@ -9,7 +9,7 @@ use Rattle.desk_program.specs.Run.{run_from}
 use Rattle.desk_program.specs.Ends.{HasEnded, silent}
 use Rattle.sender_end.specs.Stands.{Stands}
 use Rattle.send_command.specs.declared.machine.Send.{Send}
-use Rattle.send_command.specs.Pace.{first_of, quant_behind, target_of}
+use Rattle.rate_control.specs.Pace.{first_of, quant_after_sizes, target_of}
 use Rattle.send_command.specs.Send.{most_entries, send_begin, send_step}
 use Rattle.send_command.specs.Stands.{SendStands}
 use Rattle.send_command.specs.Tally.{IsOf, no_counts}
@@ -44,9 +44,9 @@ returns-clause-goes g c = λ inputs told.
     let pace = c.in_ok-sender.sender.pace in
     let target_is : target_of pace ≡ setup.target = ap target_of started.pace ∙ c.choose-pace.ensures.target in
     let first_is : first_of pace ≡ p.quant = ap first_of started.pace ∙ c.choose-pace.ensures.first in
-    let sender : Stands (quant_behind setup.target p.quant) state [] =
-    subst (λ (t : Option ℕ). Stands (quant_behind t p.quant) state []) target_is
-    (subst (λ (q : ℕ). Stands (quant_behind (target_of pace) q) state []) first_is started.stands)
+    let sender : Stands (quant_after_sizes setup.target p.quant) state [] =
+    subst (λ (t : Option ℕ). Stands (quant_after_sizes t p.quant) state []) target_is
+    (subst (λ (q : ℕ). Stands (quant_after_sizes (target_of pace) q) state []) first_is started.stands)
     in
     c.of_runs.ensures.begins new (send_begin setup inputs) send_step (λ _. true) most_entries inputs (outside c.args.desk.now) (outside c.head.new.desk) (ap (λ (n : ℕ). most_entries - n) c.new.ensures.entries)
     (head_goes c.of_turns.ensures setup inputs (outside c.args.desk.now) (outside c.head.new.desk) told c.head.ensures.others c.head.ensures.rest.written reader (SendStands new) e

@@ -1,19 +1,19 @@
--- The pace of a sender alone.
+-- The pace of a sender: with a target in bytes per picture, or with none.
 use Rattle.std.specs.Prelude.{ℕ, List, Option, Some, None}
 use Rattle.h263_types.specs.declared.params.Params.{Params}
 use Rattle.rate_control.specs.Level.{quant_after}
-use Rattle.send_command.specs.declared.pace.SendPace.{SendPace}
-use Rattle.send_command.specs.declared.pace.SendPace.TheVariants.{Fixed, Bucket}
+use Rattle.rate_control.specs.declared.send_pace.SendPace.{SendPace}
+use Rattle.rate_control.specs.declared.send_pace.SendPace.TheVariants.{Fixed, Bucket}
 
 -- the quantiser after pictures of these sizes: one for all, or, with a target, coarser the further
 -- the level of the bucket lies above it
-abbrev pub quant_behind : Option ℕ → ℕ → List ℕ → ℕ
-quant_behind None quant sizes = quant
-quant_behind (Some target) quant sizes = quant_after target quant sizes
+abbrev pub quant_after_sizes : Option ℕ → ℕ → List ℕ → ℕ
+quant_after_sizes None first sizes = first
+quant_after_sizes (Some target) first sizes = quant_after target first sizes
 
 -- with the parameters' quantiser as the first
 abbrev pub pace_of : Option ℕ → Params → List ℕ → ℕ
-pace_of target p = quant_behind target p.quant
+pace_of target p = quant_after_sizes target p.quant
 
 -- the target of a pace, if it has one, and its first quantiser
 abbrev pub target_of : SendPace → Option ℕ

@@ -1,20 +1,11 @@
-//! What a sender alone is asked for, and the pace that follows from it.
+//! The pace of a sender, with a rate controller or without one.
 ghost use Rattle.std.specs.Prelude.{◌≡◌, ◌≤◌, IfSome};
-ghost use Rattle.send_command.specs.Pace.{first_of, target_of};
+ghost use Rattle.rate_control.specs.Pace.{first_of, target_of};
 
-use h263_types::{FixedPace, Pace, Params};
-use rate_control::BucketPace;
+use crate::pace::BucketPace;
+use h263_types::{FixedPace, Pace};
 
-/// What a sender alone is asked for.
-#[derive(Clone, Copy, Debug, PartialEq, Eq)]
-pub struct Sending {
-    pub params: Params,
-    /// The bytes per picture that the quantiser is to follow, 1 to 999,999. With none it is that of
-    /// the parameters for each picture.
-    pub target: Option<u32>,
-}
-
-/// The pace of a sender alone: one quantiser for all pictures, or a target that is followed.
+/// The pace of a sender: one quantiser for all pictures, or a target that is followed.
 #[derive(Clone, Copy, Debug)]
 pub enum SendPace {
     Fixed(FixedPace),
@@ -40,9 +31,9 @@ impl SendPace {
 }
 
 impl Pace for SendPace {
-    ghost use Rattle.send_command.specs.Pace.{first_of, quant_behind, target_of};
+    ghost use Rattle.rate_control.specs.Pace.{first_of, quant_after_sizes, target_of};
 
-    ghost quant_of = { λ pace. quant_behind (target_of pace) (first_of pace) };
+    ghost quant_of = { λ pace. quant_after_sizes (target_of pace) (first_of pace) };
 
     fn quant(&self, sizes: &[u32]) -> u8 {
         match self {
