@@ -1,5 +1,5 @@
 -- The kinds of turns of a party, and how the answers of two steps add up.
-use Rattle.std.proofs.Common.{◌≡◌, ℕ, ◌≤◌, Bool, true, List, Option, Result, Ok, Err, IsErrAnd, IsErrOf, refl, sym, subst, ◌∙◌, arith}
+use Rattle.std.proofs.Common.{◌≡◌, ℕ, ◌≤◌, Bool, true, List, Option, Result, Ok, Err, IfErr, IsErrAnd, IsErrOf, refl, sym, subst, ◌∙◌, arith}
 use Rattle.h263_outside.specs.Desk.{Faults, NoneFalls, OnlyReads, OnlyWrites, Outside, Rose}
 use Rattle.h263_outside.specs.declared.desk.Role.{Role}
 use Rattle.h263_outside.specs.declared.desk.Role.TheVariants.{Events}
@@ -13,7 +13,7 @@ use Rattle.call_report.specs.declared.status.Status.TheVariants.{WriteFault}
 use Rattle.call_report.specs.Status.{Phase, phase, trace_stop, video_stop}
 use Rattle.call_report.specs.Status.Phase.{finished, refused, unread, unwritten, starved, unasked, unopened}
 use Rattle.desk_program.specs.Run.{Step}
-use Rattle.desk_program.specs.Ends.{CauseIn, GainsFronts, GivesUp, HasCause, IsStop, KeepsRoles, Went, step_texts}
+use Rattle.desk_program.specs.Ends.{CauseIn, ComesAtStop, GainsFronts, GivesUp, HasCause, IsStop, KeepsRoles, Went, step_texts, turn_status}
 use Rattle.duplex_call.specs.declared.line.Party.{Party}
 use Rattle.duplex_command.specs.declared.station.Station.{Station}
 use Rattle.duplex_command.specs.Duplex.{DuplexState, may_read}
@@ -22,18 +22,20 @@ use Rattle.duplex_command.specs.Turning.{IsPartyTurn}
 
 -- ---- how the answers of two steps add up
 
--- a count that rose after a read rose since before it
-pub cause_since : (status : Status) (old mid new : Faults) → NoneFalls old mid → ((a b c : ℕ) → a ≤ b → Rose b c → Rose a c) → HasCause status mid new → HasCause status old new
-cause_since status old mid new still rose cause = by_phase (phase status) cause
+-- where a turn gave up after a read, the count rose since before the read
+pub cause_since : (r : Result Bool Status) (old mid new : Faults) → NoneFalls old mid → ((a b c : ℕ) → a ≤ b → Rose b c → Rose a c) → IfErr r IsStop → HasCause (turn_status r) mid new
+    → HasCause (turn_status r) old new
+cause_since (Ok goes) old mid new still rose stop cause = tt
+cause_since (Err status) old mid new still rose stop cause = by_phase (phase status) stop cause
   where
-    by_phase : (ph : Phase) → CauseIn ph mid new → CauseIn ph old new
-    by_phase unread cause = rose old.read mid.read new.read still.read cause
-    by_phase unwritten cause = rose old.write mid.write new.write still.write cause
-    by_phase (unopened role) cause = rose old.attach mid.attach new.attach still.attach cause
-    by_phase finished cause = tt
-    by_phase refused cause = tt
-    by_phase starved cause = tt
-    by_phase unasked cause = tt
+    by_phase : (ph : Phase) → ComesAtStop ph → CauseIn ph mid new → CauseIn ph old new
+    by_phase unread s cause = rose old.read mid.read new.read still.read cause
+    by_phase unwritten s cause = rose old.write mid.write new.write still.write cause
+    by_phase refused s cause = tt
+    by_phase finished s cause = absurd s
+    by_phase starved s cause = absurd s
+    by_phase unasked s cause = absurd s
+    by_phase (unopened role) s cause = absurd s
 
 -- after reads, and after writes
 pub reads_keep : (old new : Outside) → OnlyReads old new → KeepsRoles old new

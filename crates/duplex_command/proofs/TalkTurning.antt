@@ -13,7 +13,7 @@ use Rattle.call_report.specs.declared.status.Status.TheVariants.{Ok as Fine, Tra
 use Rattle.call_report.specs.Status.{Phase, phase}
 use Rattle.call_report.specs.Status.Phase.{finished, refused, unread, unwritten, starved, unasked, unopened}
 use Rattle.desk_program.specs.Run.{Step}
-use Rattle.desk_program.specs.Ends.{Ended, Falls, GainsFronts, GivesUp, HasCause, IsStop, KeepsRoles, OnEnd, OnGoing, OnSettled, OnceSettled, Tells, TurnGives, Went, step_texts, turn_status}
+use Rattle.desk_program.specs.Ends.{Ended, Falls, GainsFronts, GivesUp, HasCause, IsStop, KeepsRoles, OnEnd, OnGoing, OnSettled, OnceSettled, Tells, TurnGives, Went, step_texts}
 use Rattle.desk_program.specs.Laws.{TurnLaws}
 use Rattle.duplex_call.specs.declared.line.Party.{Party}
 use Rattle.duplex_call.specs.declared.line.Party.TheVariants.{A}
@@ -188,6 +188,6 @@ module _ (turns : TurnLaws) (m : Talk) (after : TraceReader) (buf : List ℕ) (f
     ready = ready_so r (StationsReady y.a y.b room) (TalkReady y new.attached)
         (λ stations. record { opens = opens_still new ready t.rest; stations = subst (λ (n : ℕ). StationsReady y.a y.b n) (sym frame_is) stations }) t.ready;
     stop = t.stop;
-    cause = cause_since (turn_status r) old.faults mid.faults new.faults w.rest.faults rose t.cause;
+    cause = cause_since r old.faults mid.faults new.faults w.rest.faults rose t.stop t.cause;
     rest = keeps_then old mid new (reads_keep old mid w.rest) t.rest;
   }
