@@ -1,5 +1,5 @@
 -- The parts of a call against the state at which they stand, and the kinds of turns.
-use Rattle.std.proofs.Common.{◌≡◌, ℕ, ◌+◌, ◌≤◌, Bool, true, false, List, [], ◌++◌, Some, Result, Ok, Err, IsErrAnd, refl, sym, subst, ap, ◌∙◌, arith}
+use Rattle.std.proofs.Common.{◌≡◌, ℕ, ◌+◌, ◌≤◌, Bool, true, false, List, [], ◌++◌, Some, Result, Ok, Err, IfErr, IsErrAnd, refl, sym, subst, ap, ◌∙◌, arith}
 use Rattle.std.specs.Prelude.{if◌then◌else◌}
 use Rattle.std.proofs.lemmas.List.{append-nil}
 use Rattle.h263_outside.specs.Desk.{Faults, NoneFalls, OnlyReads, OnlyWrites, Outside, Rose}
@@ -14,7 +14,7 @@ use Rattle.call_report.specs.declared.status.Status.TheVariants.{Ok as Fine, Wri
 use Rattle.call_report.specs.Status.{Phase, phase, trace_stop, video_stop}
 use Rattle.call_report.specs.Status.Phase.{finished, refused, unread, unwritten, starved, unasked, unopened}
 use Rattle.desk_program.specs.Run.{Step}
-use Rattle.desk_program.specs.Ends.{CauseIn, Ended, GainsFronts, GivesUp, HasCause, IsStop, KeepsRoles, OnceSettled, Tells, Went, step_texts}
+use Rattle.desk_program.specs.Ends.{CauseIn, ComesAtStop, Ended, GainsFronts, GivesUp, HasCause, IsStop, KeepsRoles, OnceSettled, Tells, Went, step_texts, turn_status}
 use Rattle.call_encoding.specs.Frames.{Frame}
 use Rattle.one_way.specs.Counts.{call_text, counts_of, counts_text}
 use Rattle.one_way.specs.Laws.{WayLaws}
@@ -79,18 +79,20 @@ ends_stand x s inputs k = (done_now x s k.holds).way_holds.joined
 
 -- ---- how the answers of two steps add up
 
--- a count that rose after a read rose since before it
-pub cause_since : (status : Status) (old mid new : Faults) → NoneFalls old mid → ((a b c : ℕ) → a ≤ b → Rose b c → Rose a c) → HasCause status mid new → HasCause status old new
-cause_since status old mid new still rose cause = by_phase (phase status) cause
+-- where a turn gave up after a read, the count rose since before the read
+pub cause_since : (r : Result Bool Status) (old mid new : Faults) → NoneFalls old mid → ((a b c : ℕ) → a ≤ b → Rose b c → Rose a c) → IfErr r IsStop → HasCause (turn_status r) mid new
+    → HasCause (turn_status r) old new
+cause_since (Ok goes) old mid new still rose stop cause = tt
+cause_since (Err status) old mid new still rose stop cause = by_phase (phase status) stop cause
   where
-    by_phase : (ph : Phase) → CauseIn ph mid new → CauseIn ph old new
-    by_phase unread cause = rose old.read mid.read new.read still.read cause
-    by_phase unwritten cause = rose old.write mid.write new.write still.write cause
-    by_phase (unopened role) cause = rose old.attach mid.attach new.attach still.attach cause
-    by_phase finished cause = tt
-    by_phase refused cause = tt
-    by_phase starved cause = tt
-    by_phase unasked cause = tt
+    by_phase : (ph : Phase) → ComesAtStop ph → CauseIn ph mid new → CauseIn ph old new
+    by_phase unread s cause = rose old.read mid.read new.read still.read cause
+    by_phase unwritten s cause = rose old.write mid.write new.write still.write cause
+    by_phase refused s cause = tt
+    by_phase finished s cause = absurd s
+    by_phase starved s cause = absurd s
+    by_phase unasked s cause = absurd s
+    by_phase (unopened role) s cause = absurd s
 
 -- after reads, and after writes
 pub reads_keep : (old new : Outside) → OnlyReads old new → KeepsRoles old new

@@ -4,7 +4,7 @@ use Rattle.std.specs.Prelude.{◌&&◌, nat_le}
 use Rattle.std.specs.declared.vec.Vec.{Vec}
 use Rattle.std.specs.Vec.{with_items}
 use Rattle.std.proofs.lemmas.List.{with_items_is}
-use Rattle.h263_outside.specs.Desk.{Outside}
+use Rattle.h263_outside.specs.Desk.{Faults, Outside}
 use Rattle.h263_outside.specs.declared.desk.Role.{Role}
 use Rattle.h263_outside.specs.declared.desk.Role.TheVariants.{Video, Pictures, Report}
 use Rattle.h263_types.specs.declared.format.Format.{Format}
@@ -17,11 +17,11 @@ use Rattle.y4m.specs.Frame.{frame_of, next_frame, frame_size}
 use Rattle.y4m.specs.Reader.{HeadGives, FrameGives}
 use Rattle.y4m.specs.Text.{head_text}
 use Rattle.call_report.specs.declared.status.Status.{Status}
-use Rattle.call_report.specs.declared.status.Status.TheVariants.{Ok as Fine, WriteFault, VideoRefused}
+use Rattle.call_report.specs.declared.status.Status.TheVariants.{Ok as Fine, OutOfMemory, WriteFault, VideoRefused}
 use Rattle.call_report.specs.Status.{phase, video_stop}
 use Rattle.desk_program.specs.Run.{Step, behind, refusal}
 use Rattle.desk_program.specs.Run.Step.{Ends}
-use Rattle.desk_program.specs.Ends.{Tells, Gains, GainsFronts, IsPart, Went, Ended, GivesUp, TurnGives, StartGives, step_texts, step_turns}
+use Rattle.desk_program.specs.Ends.{Tells, Gains, GainsFronts, IsPart, Went, Ended, GivesUp, HasCause, TurnGives, StartGives, start_status, step_texts, step_turns}
 use Rattle.desk_program.specs.Texts.{no_bytes, on, of}
 use Rattle.desk_program.specs.Laws.{TurnLaws}
 use Rattle.call_command.specs.declared.terms.Terms.{Terms}
@@ -104,6 +104,11 @@ pub start_gives : {Machine : Type 0} (r : Result Machine Status) (status : Statu
     → IsErrAnd r (λ x. x ≡ status) → GivesUp (phase status) status step true inputs old new → StartGives r step after reads inputs old new
 start_gives (Ok m) status step after reads inputs old new is gives = absurd is
 start_gives (Err x) status step after reads inputs old new is gives = subst (λ (y : Status). GivesUp (phase y) y step true inputs old new) (sym is) gives
+
+-- a start for which there was no memory, where no call had failed
+pub starved_cause : {Machine : Type 0} (r : Result Machine Status) (old new : Faults) → IsErrAnd r (λ x. x ≡ OutOfMemory) → new ≡ old → HasCause (start_status r) old new
+starved_cause (Ok m) old new is quiet = absurd is
+starved_cause (Err x) old new is quiet = subst (λ (y : Status). HasCause y old new) (sym is) quiet
 
 -- a write that failed
 pub cut_gives : (status : Status) (step : Step CallState) (now : Bool) (inputs : Role → List ℕ) (old new : Outside)

@@ -101,6 +101,6 @@ module _ {m : World} {after : TraceReader} {line : ℕ} {event : Line} {old mid 
     ready = t.ready;
     answers = t.answers;
     stop = t.stop;
-    cause = cause_since _ old.faults mid.faults new.faults w.rest.faults w.rose t.cause;
+    cause = cause_since result old.faults mid.faults new.faults w.rest.faults w.rose t.stop t.cause;
     rest = keeps_then old mid new (reads_keep old mid w.rest) t.rest;
   }

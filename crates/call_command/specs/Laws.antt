@@ -1,5 +1,5 @@
 -- What holds of a call by both ends, of a video, and of the turns of lines.
-use Rattle.std.specs.Prelude.{◌≡◌, ℕ, ◌≤◌, true, false, List, [], ◌∷◌, take, drop, Some, Ok}
+use Rattle.std.specs.Prelude.{◌≡◌, ℕ, ◌≤◌, Bool, true, false, List, [], ◌∷◌, take, drop, Some, Result, Ok, IfErr}
 use Rattle.h263_outside.specs.Desk.{Faults, NoneFalls, OnlyReads, OnlyWrites, Outside, Rose}
 use Rattle.h263_outside.specs.declared.desk.Role.{Role}
 use Rattle.h263_outside.specs.declared.desk.Role.TheVariants.{Events, Video}
@@ -17,7 +17,7 @@ use Rattle.loss_trace.specs.declared.reader.TraceReader.{TraceReader}
 use Rattle.call_report.specs.Status.{trace_stop, video_stop}
 use Rattle.call_report.specs.declared.status.Status.{Status}
 use Rattle.call_report.specs.declared.status.Status.TheVariants.{Ok as Fine, TraceRefused}
-use Rattle.desk_program.specs.Ends.{EndsBy, Gains, HasCause, IsPart, IsStop, KeepsRoles, Tells, holds}
+use Rattle.desk_program.specs.Ends.{EndsBy, Gains, HasCause, IsPart, IsStop, KeepsRoles, Tells, holds, turn_status}
 use Rattle.desk_program.specs.Run.{Turn, behind, run_of}
 use Rattle.desk_program.specs.Texts.{and_of, no_texts, of}
 use Rattle.call_command.specs.declared.terms.Terms.{Terms}
@@ -92,9 +92,9 @@ pub record StepLaws : Type 0 where
   pub writes : (old new : Outside) → OnlyWrites old new → KeepsRoles old new
   pub both : (old mid new : Outside) → KeepsRoles old mid → KeepsRoles mid new → KeepsRoles old new
   pub none : (now : Outside) → KeepsRoles now now
-  -- a cause since a step is one since before it
-  pub since : (status : Status) (old mid new : Faults) → NoneFalls old mid
-      → HasCause status mid new → HasCause status old new
+  -- where a turn gives up, its cause since a step is one since before that step
+  pub since : (r : Result Bool Status) (old mid new : Faults) → NoneFalls old mid → IfErr r IsStop
+      → HasCause (turn_status r) mid new → HasCause (turn_status r) old new
   -- a stop by the reader of the video, or of the trace: its cause is a read that failed
   pub video_stops : (stop : VideoStop) → IsStop (video_stop stop)
   pub video_cause : (stop : VideoStop) (old new : Faults) → (stop ≡ video.Read → Rose old.read new.read)

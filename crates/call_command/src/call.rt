@@ -1,8 +1,8 @@
 //! A call, from its video's head on.
-ghost use Rattle.std.specs.Prelude.{◌≡◌, ℕ, List, [], IfErr, IfOk};
+ghost use Rattle.std.specs.Prelude.{◌≡◌, ℕ, List, [], IfErr, IfOk, OnOk};
 ghost use Rattle.h263_outside.specs.declared.desk.Role.{Role};
 ghost use Rattle.h263_types.specs.Params.{IsParams};
-ghost use Rattle.desk_program.specs.Ends.{HasCause, IsStop, KeepsRoles, StartGives, Tells};
+ghost use Rattle.desk_program.specs.Ends.{HasCause, IsUnstarted, KeepsRoles, StartGives, Tells};
 ghost use Rattle.desk_program.specs.Ends.{start_status};
 ghost use Rattle.sender_end.specs.Stands as sender_end;
 ghost use Rattle.receiver_end.specs.State as receiver_end;
@@ -79,9 +79,11 @@ fn begin<D: Desk>(alloc: Global, setup: &Terms, desk: &mut D) -> Result<Begun, S
         begun.video.at)
         may_read inputs (D.outside desk.old) (D.outside desk.new) }
     ensures ready { IfOk result (MayConverse setup.now.plain (D.outside desk.new).attached) }
-    ensures stop { IfErr result IsStop }
+    ensures stop { IfErr result IsUnstarted }
     ensures cause { HasCause (start_status result)
         (D.outside desk.old).faults (D.outside desk.new).faults }
+    ensures ok_faults { OnOk result
+        ((D.outside desk.new).faults ≡ (D.outside desk.old).faults) }
     ensures rest { KeepsRoles (D.outside desk.old) (D.outside desk.new) }
 {
     desk_program_laws::of_turns();

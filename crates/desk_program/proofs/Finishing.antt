@@ -5,7 +5,7 @@ use Rattle.h263_outside.specs.Gains.{gained, Front}
 use Rattle.h263_outside.specs.declared.desk.Role.{Role}
 use Rattle.h263_outside.specs.declared.desk.Role.TheVariants.{Video, Events, Pictures, Wire, Report, Video2, Pictures2}
 use Rattle.call_report.specs.declared.status.Status.{Status}
-use Rattle.call_report.specs.declared.status.Status.TheVariants.{WriteFault, OutOfMemory}
+use Rattle.call_report.specs.declared.status.Status.TheVariants.{WriteFault}
 use Rattle.call_report.specs.Status.{Phase, phase}
 use Rattle.call_report.specs.Status.Phase.{finished, refused, unread, unwritten, starved, unasked, unopened}
 use Rattle.call_report.specs.Text.{status_text}
@@ -198,11 +198,6 @@ finished_attached order status result mid new rest a (inl t) =
     subst (λ (s : Status). AttachedAt order s new) (sym t.same) (attached_still (phase status) order mid new rest.attached rest.name a)
 finished_attached order status result mid new rest a (inr t) =
     subst (λ (s : Status). AttachedAt order s new) (sym t.fault) (some_attached (phase status) order new (attached_still (phase status) order mid new rest.attached rest.name a))
-
--- the last line makes no other status want of memory, and where it is written no call has failed
-pub finished_starved : (status result : Status) (mid new : Outside) → Finishes status result mid new → result ≡ OutOfMemory → (status ≡ OutOfMemory) × (new.faults ≡ mid.faults)
-finished_starved status result mid new (inl t) is = (sym t.same ∙ is, t.faults)
-finished_starved status result mid new (inr t) is = absurd (cc (t.fault, is))
 
 still_read : (p : Phase) (source : Option Role) (mid new : Outside) → new.left ≡ mid.left → ReadOutIn p source mid → ReadOutIn p source new
 still_read finished source mid new same h = subst (λ (l : Role → Option (List ℕ)). IfSome source (λ role. l role ≡ Some [])) (sym same) h

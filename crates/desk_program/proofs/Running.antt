@@ -11,7 +11,7 @@ use Rattle.call_report.specs.Status.{Phase, phase}
 use Rattle.call_report.specs.Status.Phase.{finished, refused, unread, unwritten, starved, unasked, unopened}
 use Rattle.desk_program.specs.Run.{Turn, End, Step, Run, run_of, run_from, end_state, follow_state, follow, silence, behind, texts_of, text_of, taken_of, IsWholeTurn}
 use Rattle.desk_program.specs.Run.Step.{Goes, Ends}
-use Rattle.desk_program.specs.Ends.{Tells, Gains, GainsFronts, IsPart, KeepsRoles, Went, Ended, Lost, TurnGives, GivesUp, step_texts, step_turns, IsExactly, IsSoFar, IsWholeOnly, EndedIn, HasEnded, silent, Falls, OnGoing, OnEnd, OnceSettled, OnSettled, ComesAtStop, ComesLater, ReadOutIn}
+use Rattle.desk_program.specs.Ends.{Tells, Gains, GainsFronts, IsPart, KeepsRoles, Went, Ended, Lost, TurnGives, GivesUp, step_texts, step_turns, IsExactly, IsSoFar, IsWholeOnly, EndedIn, HasEnded, silent, Falls, OnGoing, OnEnd, OnceSettled, OnSettled, ComesAtStart, ComesAtStop, ComesLater, ReadOutIn}
 use Rattle.desk_program.specs.UnderWay.{IsUnderWay, EndsIn, LeftIn}
 use Rattle.desk_program.proofs.Gained.{gained-nil, gained-gained, front_behind}
 
@@ -242,8 +242,18 @@ on_end b P is h = subst (λ (x : Bool). OnEnd (Ok x) P) is h
 pub read_out_since : (source first : Option Role) (now : Outside) → source ≡ first → IfSome source (λ role. now.left role ≡ Some []) → IfSome first (λ role. now.left role ≡ Some [])
 read_out_since source first now same h = subst (λ (o : Option Role). IfSome o (λ role. now.left role ≡ Some [])) same h
 
--- a failed turn reads nothing out
-pub not_read_out : (phase : Phase) (source : Option Role) (now : Outside) → ComesAtStop phase → ReadOutIn phase source now
+-- a turn gives up with none but the statuses of a start
+pub stop_at_start : (phase : Phase) → ComesAtStop phase → ComesAtStart phase
+stop_at_start finished stop = absurd stop
+stop_at_start refused stop = tt
+stop_at_start unread stop = tt
+stop_at_start unwritten stop = tt
+stop_at_start starved stop = absurd stop
+stop_at_start unasked stop = absurd stop
+stop_at_start (unopened role) stop = absurd stop
+
+-- a start or a turn that fails reads nothing out
+pub not_read_out : (phase : Phase) (source : Option Role) (now : Outside) → ComesAtStart phase → ReadOutIn phase source now
 not_read_out finished source now stop = absurd stop
 not_read_out refused source now stop = tt
 not_read_out unread source now stop = tt
@@ -252,8 +262,8 @@ not_read_out starved source now stop = tt
 not_read_out unasked source now stop = tt
 not_read_out (unopened role) source now stop = tt
 
--- a status with which a machine stops comes once all is attached
-pub later_stop : (phase : Phase) → ComesAtStop phase → ComesLater phase
+-- a status with which a start gives up comes once all is attached
+pub later_stop : (phase : Phase) → ComesAtStart phase → ComesLater phase
 later_stop finished stop = absurd stop
 later_stop refused stop = tt
 later_stop unread stop = tt

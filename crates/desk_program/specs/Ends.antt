@@ -51,11 +51,12 @@ pub record KeepsRoles (old new : Outside) : Type 0 where
   pub faults : NoneFalls old.faults new.faults
   pub loans : new.loans ≡ old.loans
 
--- a fault comes only where its own count rose
+-- a fault comes only where its own count rose, and want of memory only where none did
 abbrev pub CauseIn : Phase → Faults → Faults → Type 0
 CauseIn unread old new = Rose old.read new.read
 CauseIn unwritten old new = Rose old.write new.write
 CauseIn (unopened role) old new = Rose old.attach new.attach
+CauseIn starved old new = new ≡ old
 CauseIn _ old new = Unit {0}
 
 abbrev pub HasCause : Status → Faults → Faults → Type 0
@@ -79,15 +80,34 @@ ComesAtOpening _ = ⊥
 abbrev pub IsOpening : Status → Type 0
 IsOpening status = ComesAtOpening (phase status)
 
--- a status with which a machine gives up
+-- a status with which a start gives up
+abbrev pub ComesAtStart : Phase → Type 0
+ComesAtStart finished = ⊥
+ComesAtStart unasked = ⊥
+ComesAtStart (unopened role) = ⊥
+ComesAtStart _ = Unit {0}
+
+abbrev pub IsUnstarted : Status → Type 0
+IsUnstarted status = ComesAtStart (phase status)
+
+-- a status with which a machine gives up that was started: it has its memory
 abbrev pub ComesAtStop : Phase → Type 0
 ComesAtStop finished = ⊥
+ComesAtStop starved = ⊥
 ComesAtStop unasked = ⊥
 ComesAtStop (unopened role) = ⊥
 ComesAtStop _ = Unit {0}
 
 abbrev pub IsStop : Status → Type 0
 IsStop status = ComesAtStop (phase status)
+
+-- a status other than want of memory
+abbrev pub FedIn : Phase → Type 0
+FedIn starved = ⊥
+FedIn _ = Unit {0}
+
+abbrev pub IsNotStarved : Status → Type 0
+IsNotStarved status = FedIn (phase status)
 
 -- ---- one turn
 

@@ -10,7 +10,6 @@ use Rattle.call_report.specs.Status.{Phase, phase}
 use Rattle.call_report.specs.Status.Phase.{finished, refused, unread, unwritten, starved, unasked, unopened}
 use Rattle.desk_program.specs.Run.{Turn, Run, texts_of, text_of, taken_of}
 use Rattle.desk_program.specs.Ends.{Gains, LeavesBehind, IsWholeOnly}
-use Rattle.desk_program.specs.Attached.{AreAttached}
 
 -- a status after which all that the run says was written
 abbrev pub SettlesIn : Phase → Type 0
@@ -50,11 +49,6 @@ IsNotUsage status = AskedIn (phase status)
 -- status: with no fault of the desk it is that of the run, or want of memory
 abbrev pub HasStatus : Run → Status → Faults → Faults → Type 0
 HasStatus run status old new = SomeRose old new ⊎ (status ≡ run.last.status) ⊎ (status ≡ OutOfMemory)
-
--- no_memory: at want of memory all the roles are attached, or no call of the desk has failed: it is
--- never the answer to a role that could not be attached
-abbrev pub LacksMemory : List (Role × List ℕ) → Status → Outside → Outside → Type 0
-LacksMemory order status old new = status ≡ OutOfMemory → AreAttached order new ⊎ (new.faults ≡ old.faults)
 
 -- texts: the status is that of the run, and each output has gained exactly its text; `after` is
 -- what an end writes besides

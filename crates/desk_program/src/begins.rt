@@ -2,7 +2,7 @@
 ghost use Rattle.std.specs.Prelude.{◌≡◌, ℕ, Bool, List, Option, IfOk, IfErr};
 ghost use Rattle.h263_outside.specs.declared.desk.Role.{Role};
 ghost use Rattle.desk_program.specs.Run.{Run};
-ghost use Rattle.desk_program.specs.Ends.{HasCause, HasEnded, IsStop, KeepsRoles, Tells, silent};
+ghost use Rattle.desk_program.specs.Ends.{HasCause, HasEnded, IsUnstarted, KeepsRoles, Tells, silent};
 ghost use Rattle.desk_program.specs.Ends.{start_status};
 ghost use Rattle.desk_program.specs.UnderWay.{IsUnderWay};
 
@@ -29,7 +29,8 @@ pub trait Begins {
     /// The input whose end is the end of the run, if there is one.
     ghost source: { Self.Setup → Option Role };
 
-    /// Does what comes before the first event. Its run is under way then, or has ended.
+    /// Takes all the memory that the machine needs, and does what comes before the first event.
+    /// Its run is under way then, or has ended.
     fn start<D: Desk>(
         alloc: Global,
         setup: &Self::Setup,
@@ -47,7 +48,7 @@ pub trait Begins {
             Self.Machine.ready machine (D.outside desk.new).attached) }
         ensures source { IfOk result (λ machine.
             Self.Machine.reading machine ≡ source setup.now) }
-        ensures stop { IfErr result IsStop }
+        ensures stop { IfErr result IsUnstarted }
         ensures cause { HasCause
             (start_status result) (D.outside desk.old).faults (D.outside desk.new).faults }
         ensures rest { KeepsRoles (D.outside desk.old) (D.outside desk.new) };

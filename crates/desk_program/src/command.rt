@@ -7,7 +7,6 @@ ghost use Rattle.desk_program.specs.Ends.{Tells, HasCause, IsReadOut, Gains};
 ghost use Rattle.desk_program.specs.Attached.{AreAttached, AttachedAt, are_free, names};
 ghost use Rattle.desk_program.specs.Lines.{end_text};
 ghost use Rattle.desk_program.specs.Promises.{IsSettled, IsStopped, IsUnopened, IsNotUsage};
-ghost use Rattle.desk_program.specs.Promises.{LacksMemory};
 ghost use Rattle.desk_program.specs.Promises.{HasStatus, HasTexts, HasPrefixes, TakesInput};
 
 use crate::{Acts, attach_all, finish};
@@ -51,14 +50,10 @@ pub fn perform<D: Desk, A: Acts>(
     ensures unopened { IsUnopened result → Gains (end_text result) (D.outside desk.old).written
         (D.outside desk.new).written }
 
-    // Each fault has its cause, and the first roles of the order are attached by their names,
-    // whatever the desk tells.
+    // Each fault has its cause, want of memory comes with no fault of the desk, and the first roles
+    // of the order are attached by their names, whatever the desk tells.
     ensures causes { HasCause result (D.outside desk.old).faults (D.outside desk.new).faults }
     ensures attached { AttachedAt ((Report, []) ∷ names order.now) result (D.outside desk.new) }
-
-    // `OutOfMemory` before all the roles are attached comes with no fault of the desk.
-    ensures no_memory { LacksMemory ((Report, []) ∷ names order.now) result (D.outside desk.old)
-        (D.outside desk.new) }
 
     // `Ok` says that the input was read to its end.
     ensures whole_input { (inputs : Role → List ℕ) → Tells (D.outside desk.old) inputs

@@ -2,7 +2,7 @@
 ghost use Rattle.std.specs.Prelude.{ℕ, List, Option};
 ghost use Rattle.h263_outside.specs.declared.desk.Role.{Role};
 ghost use Rattle.desk_program.specs.Run.{Run, run_of};
-ghost use Rattle.desk_program.specs.Ends.{HasEnded, silent, HasCause, IsLater, IsReadOut, AfterAll, KeepsRoles};
+ghost use Rattle.desk_program.specs.Ends.{HasEnded, silent, HasCause, IsLater, IsNotStarved, IsReadOut, AfterAll, KeepsRoles};
 ghost use Rattle.desk_program.specs.UnderWay.{IsUnderWay, EndsIn, LeftIn};
 
 use crate::Turns;
@@ -24,6 +24,7 @@ pub fn take_turns<D: Desk, M: Turns>(desk: &mut D, machine: &mut M) -> Status
     ensures stays { (first : M) → M.stays first machine.old → M.stays first machine.new }
     ensures answers { (first : M) → M.stays first machine.old → M.answers first result }
     ensures later { IsLater result }
+    ensures fed { IsNotStarved result }
     ensures cause { HasCause result (D.outside desk.old).faults (D.outside desk.new).faults }
     ensures rest { KeepsRoles (D.outside desk.old) (D.outside desk.new) }
 {

@@ -47,7 +47,7 @@ pub trait Turns {
     /// inputs are told to it says it by its `step`, and nothing here.
     ghost answers: { Self → Status → Type 0 } = { λ first status. Unit {0} };
 
-    /// Takes one event. False at the end.
+    /// Takes one event. False at the end. It takes no memory, and never answers `OutOfMemory`.
     fn turn<D: Desk>(&mut self, desk: &mut D) -> Result<bool, Status>
         requires { ready self.old (D.outside desk.old).attached }
         ensures gives { (s : Self.State) (inputs : Role → List ℕ) → stands self.old s inputs

@@ -45,6 +45,8 @@ pub fn put_head<D: Desk>(desk: &mut D, format: Format) -> Result<(), Status>
     ensures kind { IfErr result (λ status. status ≡ Status.WriteFault) }
     ensures cause { OnErr result
         (Rose (D.outside desk.old).faults.write (D.outside desk.new).faults.write) }
+    ensures ok_faults { OnOk result
+        ((D.outside desk.new).faults ≡ (D.outside desk.old).faults) }
     ensures rest { OnlyWrites (D.outside desk.old) (D.outside desk.new) }
 {
     match write_head(desk, format) {

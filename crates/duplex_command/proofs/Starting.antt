@@ -5,17 +5,17 @@ use Rattle.h263_types.specs.declared.format.Format.{Format}
 use Rattle.h263_types.specs.declared.params.Params.{Params}
 use Rattle.h263_types.specs.Params.{IsParams}
 use Rattle.h263_types.specs.Sizes.{size_of_picture}
-use Rattle.h263_outside.specs.Desk.{Outside}
+use Rattle.h263_outside.specs.Desk.{Faults, Outside}
 use Rattle.h263_outside.specs.declared.desk.Role.{Role}
 use Rattle.h263_outside.specs.declared.desk.Role.TheVariants.{Video, Events, Video2}
 use Rattle.y4m.specs.declared.reader.Y4mReader.{Y4mReader}
 use Rattle.y4m.specs.Head.{head_size}
 use Rattle.y4m.specs.Video.{most_frames}
 use Rattle.call_report.specs.declared.status.Status.{Status}
-use Rattle.call_report.specs.declared.status.Status.TheVariants.{WriteFault}
+use Rattle.call_report.specs.declared.status.Status.TheVariants.{OutOfMemory, WriteFault}
 use Rattle.call_report.specs.Status.{phase}
 use Rattle.desk_program.specs.Run.{Run, Step, behind}
-use Rattle.desk_program.specs.Ends.{Gains, GainsFronts, GivesUp, HasEnded, Went, silent, step_texts}
+use Rattle.desk_program.specs.Ends.{Gains, GainsFronts, GivesUp, HasCause, HasEnded, Went, silent, start_status, step_texts}
 use Rattle.duplex_call.specs.declared.line.Party.{Party}
 use Rattle.duplex_call.specs.declared.line.Party.TheVariants.{A, B}
 use Rattle.duplex_call.specs.Duplex.{no_runs}
@@ -128,3 +128,8 @@ pub ends_so : {Machine : Type 0} (r : Result Machine Status) (status : Status) (
     → IsErrAnd r (λ x. x ≡ status) → HasEnded run silent status inputs start now → IfErr r (λ x. HasEnded run silent x inputs start now)
 ends_so (Ok m) status run inputs start now is ended = absurd is
 ends_so (Err x) status run inputs start now is ended = subst (λ (y : Status). HasEnded run silent y inputs start now) (sym is) ended
+
+-- a start for which there was no memory, where no call had failed
+pub starved_cause : {Machine : Type 0} (r : Result Machine Status) (old new : Faults) → IsErrAnd r (λ x. x ≡ OutOfMemory) → new ≡ old → HasCause (start_status r) old new
+starved_cause (Ok m) old new is quiet = absurd is
+starved_cause (Err x) old new is quiet = subst (λ (y : Status). HasCause y old new) (sym is) quiet

@@ -193,6 +193,6 @@ module _ (lines : LineLaws) (steps : StepLaws) (m : Talk) (after : TraceReader) 
     ready = ready_so r (StationsReady y.a y.b room) (TalkReady y new.attached)
         (λ stations. record { opens = opens_still new ready t.rest; stations = subst (λ (n : ℕ). StationsReady y.a y.b n) (sym frame_is) stations }) t.ready;
     stop = t.stop;
-    cause = steps.since (turn_status r) old.faults mid.faults new.faults w.rest.faults t.cause;
+    cause = steps.since r old.faults mid.faults new.faults w.rest.faults t.stop t.cause;
     rest = steps.both old mid new (steps.reads old mid w.rest) t.rest;
   }

@@ -33,6 +33,8 @@ fn second_head<D: Desk>(desk: &mut D) -> Result<Y4mReader, VideoStop>
     ensures more { IfOk result (λ reader. reader.more ≡ most_frames) }
     ensures cause { IsErrOf result VideoStop.Read
         → Rose (D.outside desk.old).faults.read (D.outside desk.new).faults.read }
+    ensures ok_faults { OnOk result
+        ((D.outside desk.new).faults ≡ (D.outside desk.old).faults) }
     ensures others { (r : Role)
         → r ≢ Video2 → (D.outside desk.new).left r ≡ (D.outside desk.old).left r }
     ensures rest { OnlyReads (D.outside desk.old) (D.outside desk.new) }
@@ -55,6 +57,8 @@ pub fn read_heads<D: Desk>(desk: &mut D) -> Result<Heads, Status>
     ensures stop { IfErr result IsStop }
     ensures cause { HasCause (start_status result)
         (D.outside desk.old).faults (D.outside desk.new).faults }
+    ensures ok_faults { OnOk result
+        ((D.outside desk.new).faults ≡ (D.outside desk.old).faults) }
     ensures rest { OnlyReads (D.outside desk.old) (D.outside desk.new) }
 {
     desk_program_laws::of_turns();

@@ -16,7 +16,7 @@ use Rattle.command_words.specs.Asked.{Asked, HasNames, IsGiven, asked, name_in, 
 use Rattle.desk_program.specs.Ends.{Gains, HasCause, IsReadOut, Tells}
 use Rattle.desk_program.specs.Attached.{AreAttached, AttachedAt}
 use Rattle.desk_program.specs.Lines.{Finishes, end_text}
-use Rattle.desk_program.specs.Promises.{HasPrefixes, HasStatus, LacksMemory, HasTexts, IsNotUsage, IsSettled, IsStopped, IsUnopened, TakesInput}
+use Rattle.desk_program.specs.Promises.{HasPrefixes, HasStatus, HasTexts, IsNotUsage, IsSettled, IsStopped, IsUnopened, TakesInput}
 use Rattle.h263rps.specs.Output.{the_word, word_stop, command_of, roles_of, source_of, run_of, output_of, order_from, source_from}
 use Rattle.h263rps.specs.Promises.{IsRunOf, IsRun}
 use Rattle.h263rps.proofs.Promised.{performed, some_since, nothing_done, report_unopened, words_unread, usage_told, since_attached}
@@ -74,7 +74,6 @@ module _ (a : Asked) (c : Command) (is : a.command ≡ c) (rightly : IsRefusedRi
     (words : IsNotUsage result)
     (unopened : IsUnopened result → Gains (end_text result) old.written new.written)
     (causes : HasCause result old.faults new.faults)
-    (no_memory : LacksMemory ((Report, []) ∷ roles) result old new)
     (attached : AttachedAt ((Report, []) ∷ roles) result new)
     (whole_input : (inputs : Role → List ℕ) → Tells old inputs → IsReadOut result (source_of c) new)
     (taken_input : (inputs : Role → List ℕ) → Tells old inputs → TakesInput result (run_of c inputs) end_text inputs old.written new) where
@@ -82,7 +81,7 @@ module _ (a : Asked) (c : Command) (is : a.command ≡ c) (rightly : IsRefusedRi
   carried_out =
       as_run a c is rightly result old new
       (subst (λ (l : List (Role × Text)). IsRunOf (run_of c) ((Report, []) ∷ l) (source_of c) result old new) own
-      (performed (run_of c) roles (source_of c) old new result status texts prefixes words unopened causes no_memory attached whole_input taken_input))
+      (performed (run_of c) roles (source_of c) old new result status texts prefixes words unopened causes attached whole_input taken_input))
       words
 
 -- Usage was told, since there is no command
@@ -167,12 +166,12 @@ unopened_run o old new none same rose = record {
 
 -- the report could not be attached
 pub report_failed : (o : Option Asked) (old new : Outside) (status : Status) → NoneAttached new.attached → new.written ≡ old.written
-    → HasCause status old.faults new.faults → (status ≡ OutOfMemory → new.faults ≡ old.faults) → (status ≡ OpenFault Report) ⊎ (status ≡ OutOfMemory) → IsRun o status old new
-report_failed o old new status none same cause quiet (inl is) =
+    → HasCause status old.faults new.faults → (status ≡ OpenFault Report) ⊎ (status ≡ OutOfMemory) → IsRun o status old new
+report_failed o old new status none same cause (inl is) =
     subst (λ (s : Status). IsRun o s old new) (sym is)
     (unopened_run o old new none same (subst (λ (s : Status). HasCause s old.faults new.faults) is cause))
-report_failed o old new status none same cause quiet (inr is) =
-    subst (λ (s : Status). IsRun o s old new) (sym is) (starved_run o old new none same (quiet is))
+report_failed o old new status none same cause (inr is) =
+    subst (λ (s : Status). IsRun o s old new) (sym is) (starved_run o old new none same (subst (λ (s : Status). HasCause s old.faults new.faults) is cause))
 
 -- the report alone is attached
 pub report_alone : (old mid : Outside) → NoneAttached old.attached → mid.attached ≡ with_role old.attached Report true → IfSome (mid.name Report) (λ told. told ≡ []) → AreAttached ((Report, []) ∷ []) mid

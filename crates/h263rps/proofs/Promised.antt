@@ -1,5 +1,5 @@
 -- A run keeps its promises, whichever way it ends.
-use Rattle.std.proofs.Common.{◌≡◌, ◌⊎◌, inl, inr, ℕ, ◌≤◌, Bool, true, false, List, [], ◌∷◌, Option, Some, None, IfSome, if◌then◌else◌, refl, sym, ap, ◌∙◌, subst, arith, append-nil}
+use Rattle.std.proofs.Common.{◌≡◌, inl, inr, ℕ, ◌≤◌, Bool, true, false, List, [], ◌∷◌, Option, Some, None, IfSome, if◌then◌else◌, refl, sym, ap, ◌∙◌, subst, arith, append-nil}
 use Rattle.std.specs.List.{AllByRecursion}
 use Rattle.h263_outside.specs.Desk.{Outside, Faults, NoneFalls, SomeRose, Rose, NoneAttached, OnlyAttaches, OnlyWrites, is_role, appended}
 use Rattle.h263_outside.specs.Gains.{gained, Front}
@@ -11,10 +11,10 @@ use Rattle.call_report.specs.Status.{Phase, phase, before_reading}
 use Rattle.call_report.specs.Status.Phase.{finished, refused, unread, unwritten, starved, unasked, unopened}
 use Rattle.call_report.specs.Text.{status_text}
 use Rattle.desk_program.specs.Run.{Run, text_of}
-use Rattle.desk_program.specs.Ends.{Tells, Gains, HasCause, CauseIn, IsReadOut}
+use Rattle.desk_program.specs.Ends.{Tells, Gains, HasCause, IsReadOut}
 use Rattle.desk_program.specs.Attached.{AreAttached, AttachedAt, SomeAttached}
 use Rattle.desk_program.specs.Lines.{end_text, Finishes, IsUntold}
-use Rattle.desk_program.specs.Promises.{IsSettled, IsStopped, IsUnopened, UnopenedIn, AskedIn, IsNotUsage, HasStatus, LacksMemory, HasTexts, HasPrefixes, ReportIn, TakesInput}
+use Rattle.desk_program.specs.Promises.{IsSettled, IsStopped, IsUnopened, UnopenedIn, AskedIn, IsNotUsage, HasStatus, HasTexts, HasPrefixes, ReportIn, TakesInput}
 use Rattle.h263rps.specs.Promises.{IsRunOf}
 
 -- nothing was gained
@@ -35,15 +35,6 @@ pub some_since : (a b c : Faults) → NoneFalls a b → SomeRose b c → SomeRos
 some_since a b c falls (inl x) = inl (rose_since _ _ _ falls.attach x)
 some_since a b c falls (inr (inl x)) = inr (inl (rose_since _ _ _ falls.read x))
 some_since a b c falls (inr (inr x)) = inr (inr (rose_since _ _ _ falls.write x))
-
-cause_since : (p : Phase) (a b c : Faults) → NoneFalls a b → CauseIn p b c → CauseIn p a c
-cause_since finished a b c falls cause = tt
-cause_since refused a b c falls cause = tt
-cause_since unread a b c falls cause = rose_since _ _ _ falls.read cause
-cause_since unwritten a b c falls cause = rose_since _ _ _ falls.write cause
-cause_since starved a b c falls cause = tt
-cause_since unasked a b c falls cause = tt
-cause_since (unopened role) a b c falls cause = rose_since _ _ _ falls.attach cause
 
 -- ---- roles that are attached
 
@@ -111,8 +102,7 @@ module _ (output : (Role → List ℕ) → Run) (order : List (Role × List ℕ)
       report = λ is. absurd (cc (ap (λ (f : Role → Bool). f Report) none, is));
     };
     unread = λ is. absurd (cc is);
-    causes = tt;
-    no_memory = λ is. inr quiet;
+    causes = quiet;
     attached = record { first = []; rest = (Report, []) ∷ order; whole = refl; attached = none_attached new none };
     whole_input = λ inputs told. tt;
     taken_input = λ inputs told. tt;
@@ -127,7 +117,6 @@ module _ (output : (Role → List ℕ) → Run) (order : List (Role × List ℕ)
     prefixes = λ inputs told stopped. absurd stopped;
     unread = λ is. gains_nothing (end_text (OpenFault Report)) old.written new.written no_line same;
     causes = rose;
-    no_memory = λ is. absurd (cc is);
     attached = record { first = []; name = []; rest = order; whole = refl; attached = none_attached new none };
     whole_input = λ inputs told. tt;
     taken_input = λ inputs told. tt;
@@ -156,7 +145,6 @@ module _ (output : (Role → List ℕ) → Run) (order : List (Role × List ℕ)
       };
       unread = λ is. absurd (cc is);
       causes = told.cause;
-      no_memory = λ is. absurd (cc is);
       attached = report_alone order new (still_attached _ mid new rest are);
       whole_input = λ inputs tells. tt;
       taken_input = λ inputs tells. tt;
@@ -172,8 +160,7 @@ module _ (output : (Role → List ℕ) → Run) (order : List (Role × List ℕ)
         report = λ is. record { done = []; rest = (output inputs).turns; front = refl; gains = report_gains _ mid.written new.written written };
       };
       unread = λ is. absurd (cc is);
-      causes = tt;
-      no_memory = λ is. inr quiet;
+      causes = quiet;
       attached = report_alone order new (still_attached _ mid new rest are);
       whole_input = λ inputs tells. tt;
       taken_input = λ inputs tells. tt;
@@ -193,7 +180,6 @@ module _ (output : (Role → List ℕ) → Run) (order : List (Role × List ℕ)
       (words : IsNotUsage result)
       (unopened : IsUnopened result → Gains (end_text result) mid.written new.written)
       (causes : HasCause result mid.faults new.faults)
-      (no_memory : LacksMemory ((Report, []) ∷ order) result mid new)
       (attached : AttachedAt ((Report, []) ∷ order) result new)
       (whole_input : (inputs : Role → List ℕ) → Tells mid inputs → IsReadOut result source new)
       (taken_input : (inputs : Role → List ℕ) → Tells mid inputs → TakesInput result (output inputs) end_text inputs mid.written new) where
@@ -207,7 +193,6 @@ module _ (output : (Role → List ℕ) → Run) (order : List (Role × List ℕ)
       };
       unread = λ is. unopened (is_unopened (phase result) is words);
       causes = causes;
-      no_memory = no_memory;
       attached = attached;
       whole_input = whole_input;
       taken_input = taken_input;
@@ -223,7 +208,6 @@ module _ (output : (Role → List ℕ) → Run) (source : Option Role) (mid new 
     prefixes = λ inputs tells stopped. absurd stopped;
     unread = λ is. gains_line Usage mid.written new.written written;
     causes = tt;
-    no_memory = λ is. absurd (cc is);
     attached = still_attached _ mid new rest are;
     whole_input = λ inputs tells. tt;
     taken_input = λ inputs tells. tt;
@@ -244,10 +228,6 @@ module _ (output : (Role → List ℕ) → Run) (order : List (Role × List ℕ)
   status_since run (inl some) = inl (some_since old.faults mid.faults new.faults attaches.faults some)
   status_since run (inr rest) = inr rest
 
-  lacks_since : AreAttached order new ⊎ (new.faults ≡ mid.faults) → AreAttached order new ⊎ (new.faults ≡ old.faults)
-  lacks_since (inl all) = inl all
-  lacks_since (inr same) = inr (same ∙ quiet)
-
   pub since_attached : IsRunOf output order source result mid new → IsRunOf output order source result old new
   since_attached run = record {
     status = λ inputs told. status_since (output inputs) (run.status inputs (tells_since inputs told));
@@ -263,8 +243,7 @@ module _ (output : (Role → List ℕ) → Run) (order : List (Role × List ℕ)
           ((run.prefixes inputs (tells_since inputs told) stopped).report is);
     };
     unread = λ is. subst (λ (w : Role → Option (List ℕ)). Gains (end_text result) w new.written) attaches.written (run.unread is);
-    causes = cause_since (phase result) old.faults mid.faults new.faults attaches.faults run.causes;
-    no_memory = λ is. lacks_since (run.no_memory is);
+    causes = subst (λ (f : Faults). HasCause result f new.faults) quiet run.causes;
     attached = run.attached;
     whole_input = λ inputs told. run.whole_input inputs (tells_since inputs told);
     taken_input = λ inputs told.

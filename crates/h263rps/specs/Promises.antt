@@ -15,7 +15,7 @@ use Rattle.desk_program.specs.Ends.{Tells, Gains, HasCause, IsReadOut}
 use Rattle.desk_program.specs.Attached.{AttachedAt}
 use Rattle.desk_program.specs.Lines.{end_text}
 use Rattle.h263rps.specs.Output.{output_of, order_from, source_from}
-use Rattle.desk_program.specs.Promises.{IsSettled, IsStopped, HasStatus, LacksMemory, HasTexts, ReportIn, TakesInput}
+use Rattle.desk_program.specs.Promises.{IsSettled, IsStopped, HasStatus, HasTexts, ReportIn, TakesInput}
 
 -- a prefix of each text was written; where the report is attached, it has whole lines and that of the
 -- status, or was cut in a line
@@ -38,10 +38,8 @@ pub record IsRunOf (output : (Role → List ℕ) → Run) (order : List (Role ×
       → Tells old inputs → IsStopped result → IsCutOff (output inputs) result old new
   -- where the words are no command, or a role could not be attached, that line alone was written
   pub unread : before_reading (phase result) ≡ true → Gains (end_text result) old.written new.written
-  -- each fault has its cause, whatever the desk tells
+  -- each fault has its cause, and want of memory comes with no fault of the desk, whatever it tells
   pub causes : HasCause result old.faults new.faults
-  -- want of memory before all the roles are attached comes with no fault of the desk
-  pub no_memory : LacksMemory order result old new
   -- the first roles of the order are attached, each by its name
   pub attached : AttachedAt order result new
   -- Ok says that the input was read to its end

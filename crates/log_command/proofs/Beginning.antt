@@ -6,7 +6,7 @@ use Rattle.call_report.specs.Status.{Phase, phase}
 use Rattle.call_report.specs.Status.Phase.{finished, refused, unread, unwritten, starved, unasked, unopened}
 use Rattle.call_report.specs.declared.status.Status.{Status}
 use Rattle.desk_program.specs.Run.{behind}
-use Rattle.desk_program.specs.Ends.{ComesAtStop, Gains, GivesUp, IsStop, Tells, Went}
+use Rattle.desk_program.specs.Ends.{ComesAtStart, Gains, GivesUp, IsUnstarted, Tells, Went}
 use Rattle.desk_program.specs.Laws.{TurnLaws}
 use Rattle.desk_program.specs.Texts.{no_bytes}
 use Rattle.log_command.specs.Log.{LogState, StopsAtHead, log_begin}
@@ -35,22 +35,22 @@ gives_up starved status first head inputs old new stops = stops
 gives_up unasked status first head inputs old new stops = absurd stops
 gives_up (unopened role) status first head inputs old new stops = absurd stops
 
-comes_at_stop : (p : Phase) (head : Role → List ℕ) (old new : Outside) → StopsAtHead p head old.written new.written → ComesAtStop p
-comes_at_stop finished head old new stops = absurd stops
-comes_at_stop refused head old new stops = absurd stops
-comes_at_stop unread head old new stops = absurd stops
-comes_at_stop unwritten head old new stops = tt
-comes_at_stop starved head old new stops = tt
-comes_at_stop unasked head old new stops = absurd stops
-comes_at_stop (unopened role) head old new stops = absurd stops
+comes_at_start : (p : Phase) (head : Role → List ℕ) (old new : Outside) → StopsAtHead p head old.written new.written → ComesAtStart p
+comes_at_start finished head old new stops = absurd stops
+comes_at_start refused head old new stops = absurd stops
+comes_at_start unread head old new stops = absurd stops
+comes_at_start unwritten head old new stops = tt
+comes_at_start starved head old new stops = tt
+comes_at_start unasked head old new stops = absurd stops
+comes_at_start (unopened role) head old new stops = absurd stops
 
 -- a start that gives up
 module _ (status : Status) (head : Role → List ℕ) (old new : Outside) (stops : StopsAtHead (phase status) head old.written new.written) where
   pub first_stops : {State : Type 0} (first : State) (inputs : Role → List ℕ) → GivesUp (phase status) status (log_begin first head) true inputs old new
   first_stops first inputs = gives_up (phase status) status first head inputs old new stops
 
-  pub is_stop : IsStop status
-  is_stop = comes_at_stop (phase status) head old new stops
+  pub is_unstarted : IsUnstarted status
+  is_unstarted = comes_at_start (phase status) head old new stops
 
 -- what its status comes to, by the answer
 pub by_answer : {Machine : Type 0} (r : Result Machine Status) (status : Status) (P : Status → Type 0) → IsErrAnd r (λ x. x ≡ status) → P status → IfErr r P

@@ -1,13 +1,13 @@
 -- What is answered, by what a call has answered.
 use Rattle.std.proofs.Common.{◌≡◌, ℕ, Bool, List, Result, Ok, Err, OnOk, OnErr, IfErr, true, sym, subst}
 use Rattle.std.specs.Prelude.{IsErrAnd}
-use Rattle.h263_outside.specs.Desk.{Outside}
+use Rattle.h263_outside.specs.Desk.{Faults, Outside}
 use Rattle.h263_outside.specs.declared.desk.Role.{Role}
 use Rattle.call_report.specs.declared.status.Status.{Status}
-use Rattle.call_report.specs.declared.status.Status.TheVariants.{WriteFault}
+use Rattle.call_report.specs.declared.status.Status.TheVariants.{OutOfMemory, WriteFault}
 use Rattle.call_report.specs.Status.{phase}
 use Rattle.desk_program.specs.Run.{Step}
-use Rattle.desk_program.specs.Ends.{GainsFronts, TurnGives, GivesUp, step_texts}
+use Rattle.desk_program.specs.Ends.{GainsFronts, GivesUp, HasCause, TurnGives, start_status, step_texts}
 use Rattle.send_command.specs.Send.{SendState}
 
 -- what holds anyway holds after an error
@@ -48,3 +48,8 @@ pub turn_cut : (r : Result Bool Status) (s : Status) (step : Step SendState) (af
     → IsErrAnd r (λ x. x ≡ s) → s ≡ WriteFault → GainsFronts (step_texts step) old.written new.written → TurnGives r step after (λ _. true) true inputs old new
 turn_cut r s step after inputs old new gave is fronts =
     turn_err r s step after inputs old new gave (subst (λ (x : Status). GivesUp (phase x) x step true inputs old new) (sym is) fronts)
+
+-- a start for which there was no memory, where no call had failed
+pub starved_cause : {Machine : Type 0} (r : Result Machine Status) (old new : Faults) → IsErrAnd r (λ x. x ≡ OutOfMemory) → new ≡ old → HasCause (start_status r) old new
+starved_cause (Ok m) old new is quiet = absurd is
+starved_cause (Err x) old new is quiet = subst (λ (y : Status). HasCause y old new) (sym is) quiet

@@ -1,5 +1,5 @@
 //! Bytes and lines of the video, from a desk.
-ghost use Rattle.std.specs.Prelude.{◌≡◌, ◌≢◌, ◌<◌, ◌≤◌, ◌^◌, ◌∷◌, ℕ, List, [], length, true, take, drop, MatchOption, OnErr, IfOk, IfErr, IsErrOf, Some};
+ghost use Rattle.std.specs.Prelude.{◌≡◌, ◌≢◌, ◌<◌, ◌≤◌, ◌^◌, ◌∷◌, ℕ, List, [], length, true, take, drop, MatchOption, OnErr, OnOk, IfOk, IfErr, IsErrOf, Some};
 ghost use Rattle.h263_outside.specs.Desk.{FillsFront, Rose, OnlyReads};
 ghost use Rattle.h263_outside.specs.declared.desk.Role.{Role};
 ghost use Rattle.h263_outside.specs.declared.desk.Role.TheVariants.{Video};
@@ -20,6 +20,8 @@ pub fn read<D: Desk>(desk: &mut D, buf: &mut [u8]) -> Result<usize, VideoStop>
     ensures err { IfErr result (λ stop. stop ≡ VideoStop.Read) }
     ensures cause { OnErr result
         (Rose (D.outside desk.old).faults.read (D.outside desk.new).faults.read) }
+    ensures ok_faults { OnOk result
+        ((D.outside desk.new).faults ≡ (D.outside desk.old).faults) }
     ensures others { (r : Role)
         → r ≢ Video → (D.outside desk.new).left r ≡ (D.outside desk.old).left r }
     ensures rest { OnlyReads (D.outside desk.old) (D.outside desk.new) }
@@ -41,6 +43,8 @@ fn read_byte<D: Desk>(desk: &mut D) -> Result<Option<u8>, VideoStop>
     ensures err { IfErr result (λ stop. stop ≡ VideoStop.Read) }
     ensures cause { OnErr result
         (Rose (D.outside desk.old).faults.read (D.outside desk.new).faults.read) }
+    ensures ok_faults { OnOk result
+        ((D.outside desk.new).faults ≡ (D.outside desk.old).faults) }
     ensures others { (r : Role)
         → r ≢ Video → (D.outside desk.new).left r ≡ (D.outside desk.old).left r }
     ensures rest { OnlyReads (D.outside desk.old) (D.outside desk.new) }
@@ -65,6 +69,8 @@ pub fn read_line<D: Desk>(desk: &mut D, line: &mut [u8]) -> Result<usize, VideoS
     ensures err { IfErr result (λ stop. stop ≡ VideoStop.Read) }
     ensures cause { OnErr result
         (Rose (D.outside desk.old).faults.read (D.outside desk.new).faults.read) }
+    ensures ok_faults { OnOk result
+        ((D.outside desk.new).faults ≡ (D.outside desk.old).faults) }
     ensures others { (r : Role)
         → r ≢ Video → (D.outside desk.new).left r ≡ (D.outside desk.old).left r }
     ensures rest { OnlyReads (D.outside desk.old) (D.outside desk.new) }

@@ -39,6 +39,8 @@ impl Y4mReader {
         ensures more { IfOk result (λ reader. reader.more ≡ most_frames) }
         ensures cause { IsErrOf result VideoStop.Read
             → Rose (D.outside desk.old).faults.read (D.outside desk.new).faults.read }
+        ensures ok_faults { OnOk result
+            ((D.outside desk.new).faults ≡ (D.outside desk.old).faults) }
         ensures others { (r : Role)
             → r ≢ Video → (D.outside desk.new).left r ≡ (D.outside desk.old).left r }
         ensures rest { OnlyReads (D.outside desk.old) (D.outside desk.new) }

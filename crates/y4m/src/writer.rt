@@ -39,6 +39,8 @@ pub fn write_head<D: Desk>(desk: &mut D, format: Format) -> Result<(), Failed>
         (head_text format) (D.outside desk.old).written (D.outside desk.new).written) }
     ensures cause { OnErr result
         (Rose (D.outside desk.old).faults.write (D.outside desk.new).faults.write) }
+    ensures ok_faults { OnOk result
+        ((D.outside desk.new).faults ≡ (D.outside desk.old).faults) }
     ensures rest { OnlyWrites (D.outside desk.old) (D.outside desk.new) }
 {
     write_all(desk, Role::Pictures, head_line(format))

@@ -11,7 +11,7 @@ use Rattle.call_command.specs.declared.terms.Terms.{Terms}
 use Rattle.call_command.specs.Call.{CallState, call_begin, first_state, may_read, with_format}
 use Rattle.call_command.specs.Converse.{IsFirst}
 use Rattle.call_command.proofs.Starting.{in_format}
-use Rattle.call_command.proofs.FrameTurning.{cut_gives, head_cut, head_goes, head_stops, start_gives}
+use Rattle.call_command.proofs.FrameTurning.{cut_gives, head_cut, head_goes, head_stops, start_gives, starved_cause}
 use Rattle.call_command.proofs.call.begin.Goals as goal
 
 -- what was begun stands before the first event
@@ -76,3 +76,8 @@ returns-clause-ready g c =
       played = says.played;
       receives = says.receives;
     }
+
+pub returns-in_err-both-clause-cause : goal.returns-in_err-both-clause-cause
+returns-in_err-both-clause-cause g c =
+    let outside = g.D.Desk.outside in
+    starved_cause c.from_residual-in_err-both.result (outside c.args.desk.now).faults (outside c.head.new.desk).faults c.from_residual-in_err-both.ensures.1 c.in_ok-video.ensures.ok_faults

@@ -1,13 +1,12 @@
-use Rattle.std.proofs.Common.{ℕ, List, [], ◌∷◌, Option, Err, inl, inr, ap, ◌∙◌, subst}
+use Rattle.std.proofs.Common.{ℕ, List, [], ◌∷◌, Option, subst}
 use Rattle.h263_outside.specs.declared.desk.Role.{Role}
 use Rattle.h263_outside.specs.declared.desk.Role.TheVariants.{Report}
-use Rattle.call_report.specs.declared.status.Status.{Status}
 use Rattle.call_report.specs.Status.{phase}
 use Rattle.desk_program.specs.Ends.{HasEnded, silent}
 use Rattle.desk_program.specs.Attached.{names}
 use Rattle.desk_program.proofs.Running.{tells_still}
 use Rattle.desk_program.proofs.Attaching.{attached_later, still_attached}
-use Rattle.desk_program.proofs.Finishing.{finished_attached, finished_read, finished_starved, finished_with, has_prefixes, has_texts, opening_ends}
+use Rattle.desk_program.proofs.Finishing.{finished_attached, finished_read, finished_with, has_prefixes, has_texts, opening_ends}
 use Rattle.desk_program.proofs.command.perform.Goals as goal
 
 -- ---- where a role could not be attached
@@ -28,12 +27,6 @@ returns-in-Err-clause-attached g c =
     let outside = g.D.Desk.outside in
     finished_attached ((Report, []) ∷ names c.args.order.now) c.in-Err.status c.finish.result (outside c.attach_all.new.desk) (outside c.finish.new.desk) c.finish.ensures.rest
     (c.in-Err.ensures.attached ((Report, []) ∷ []) c.requires.report) c.finish.ensures.told
-
-pub returns-in-Err-clause-no_memory : goal.returns-in-Err-clause-no_memory
-returns-in-Err-clause-no_memory g c = λ is.
-    let outside = g.D.Desk.outside in
-    let starved = finished_starved c.in-Err.status c.finish.result (outside c.attach_all.new.desk) (outside c.finish.new.desk) c.finish.ensures.told is in
-    inr (starved.1 ∙ c.in-Err.ensures.no_memory (ap (λ (s : Status). Err s) starved.0))
 
 -- ---- where all are
 
@@ -78,17 +71,6 @@ returns-clause-attached g c =
     (c.in_default.ensures.attached ((Report, []) ∷ []) c.requires.report) in
     finished_attached order status c.finish-2.result done (outside c.finish-2.new.desk) c.finish-2.ensures.rest
     (attached_later (phase status) order done c.act-status.ensures.later still) c.finish-2.ensures.told
-
-pub returns-clause-no_memory : goal.returns-clause-no_memory
-returns-clause-no_memory g c = λ is.
-    let outside = g.D.Desk.outside in
-    let done = outside c.act-status.new.desk in
-    let order = (Report, []) ∷ names c.args.order.now in
-    let acted = c.act-status.ensures.rest in
-    let ended = c.finish-2.ensures.rest in
-    inl (still_attached order done (outside c.finish-2.new.desk) ended.attached ended.name
-    (still_attached order (outside c.attach_all.new.desk) done acted.attached acted.name
-    (c.in_default.ensures.attached ((Report, []) ∷ []) c.requires.report)))
 
 pub returns-clause-whole_input : goal.returns-clause-whole_input
 returns-clause-whole_input g c = λ inputs told.

@@ -1,5 +1,5 @@
 use Rattle.std.proofs.Common.{true, false, refl, ◌∙◌, arith}
-use Rattle.desk_program.proofs.Running.{state_on, left_last, left_err, on_settled, goes_on, comes_to_its_end, stops, gave, fell, on_going, on_end, read_out_since, not_read_out, later_stop, roles_on}
+use Rattle.desk_program.proofs.Running.{state_on, left_last, left_err, on_settled, goes_on, comes_to_its_end, stops, gave, fell, on_going, on_end, read_out_since, not_read_out, later_stop, roles_on, stop_at_start}
 use Rattle.call_report.specs.declared.status.Status.TheVariants.{Ok as Fine}
 use Rattle.call_report.specs.Status.{phase}
 use Rattle.desk_program.proofs.play.take_turns.Goals as goal
@@ -56,10 +56,10 @@ returns-in-Err-clause-gives g c = λ run inputs start before.
     stops m.step m.reads run inputs start _ _ _ _ p (phase c.in-Err.status) c.in-Err.status (c.in-Err.ensures.gives p.state p.rest p.kept p.told)
 
 pub returns-in-Err-clause-whole_input : goal.returns-in-Err-clause-whole_input
-returns-in-Err-clause-whole_input g c = λ run inputs start before. not_read_out (phase c.in-Err.status) (g.M.Turns.reading c.args.machine.now) (g.D.Desk.outside c.turn.new.desk) c.in-Err.ensures.stop
+returns-in-Err-clause-whole_input g c = λ run inputs start before. not_read_out (phase c.in-Err.status) (g.M.Turns.reading c.args.machine.now) (g.D.Desk.outside c.turn.new.desk) (stop_at_start (phase c.in-Err.status) c.in-Err.ensures.stop)
 
 pub returns-in-Err-clause-later : goal.returns-in-Err-clause-later
-returns-in-Err-clause-later g c = later_stop (phase c.in-Err.status) c.in-Err.ensures.stop
+returns-in-Err-clause-later g c = later_stop (phase c.in-Err.status) (stop_at_start (phase c.in-Err.status) c.in-Err.ensures.stop)
 
 pub returns-in-Ok-false-clause-leaves : goal.returns-in-Ok-false-clause-leaves
 returns-in-Ok-false-clause-leaves g c = λ final before.

@@ -37,7 +37,7 @@ returns-then-traced g c =
     let says = done.ensures in
     carried_out a asked is (one_video asked (c.refused_videos.ensures (terms_of c.args.params true)) (c.no_second_video.ensures (terms_of c.args.params true))) _
     (λ i. (Video, (c.word_of.ensures ∙ word_is a asked Video is) i) ∷ (Events, (c.word_of-then-traced.ensures ∙ word_is a asked Events is) i) ∷ (Pictures, (c.word_of-then-traced-2.ensures ∙ word_is a asked Pictures is) i) ∷ []) done.result (outside c.args.desk.now) (outside done.new.desk)
-    says.status says.texts says.prefixes says.words says.unopened says.causes says.no_memory says.attached says.whole_input says.taken_input
+    says.status says.texts says.prefixes says.words says.unopened says.causes says.attached says.whole_input says.taken_input
 
 pub word_of-requires-else-traced : goal.word_of-requires-else-traced
 word_of-requires-else-traced g c =
@@ -63,4 +63,4 @@ returns-else-traced g c =
     let says = done.ensures in
     carried_out a asked is (one_video asked (c.refused_videos.ensures (terms_of c.args.params false)) (c.no_second_video.ensures (terms_of c.args.params false))) _
     (λ i. (Video, (c.word_of-else-traced.ensures ∙ word_is a asked Video is) i) ∷ (Pictures, (c.word_of-else-traced-2.ensures ∙ word_is a asked Pictures is) i) ∷ []) done.result (outside c.args.desk.now) (outside done.new.desk)
-    says.status says.texts says.prefixes says.words says.unopened says.causes says.no_memory says.attached says.whole_input says.taken_input
+    says.status says.texts says.prefixes says.words says.unopened says.causes says.attached says.whole_input says.taken_input

@@ -14,4 +14,4 @@ returns g c =
     carried_out (asked_of c.args.words.now) asked c.requires.is
     (no_video asked (λ inputs fault ends. cc (c.ends_well.ensures terms inputs, ends)) (λ inputs fault ends. cc (c.ends_well.ensures terms inputs, ends)))
     [] refl done.result (outside c.args.desk.now) (outside done.new.desk)
-    says.status says.texts says.prefixes says.words says.unopened says.causes says.no_memory says.attached says.whole_input says.taken_input
+    says.status says.texts says.prefixes says.words says.unopened says.causes says.attached says.whole_input says.taken_input

@@ -16,4 +16,4 @@ returns g c =
     (λ i. (Video, (c.word_of.ensures ∙ word_is a asked Video c.requires.is) i) ∷ (Video2, (c.word_of-2.ensures ∙ word_is a asked Video2 c.requires.is) i)
     ∷ (Events, (c.word_of-3.ensures ∙ word_is a asked Events c.requires.is) i) ∷ (Pictures, (c.word_of-4.ensures ∙ word_is a asked Pictures c.requires.is) i)
     ∷ (Pictures2, (c.word_of-5.ensures ∙ word_is a asked Pictures2 c.requires.is) i) ∷ []) done.result (outside c.args.desk.now) (outside done.new.desk)
-    says.status says.texts says.prefixes says.words says.unopened says.causes says.no_memory says.attached says.whole_input says.taken_input
+    says.status says.texts says.prefixes says.words says.unopened says.causes says.attached says.whole_input says.taken_input

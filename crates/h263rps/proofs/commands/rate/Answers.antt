@@ -15,4 +15,4 @@ returns g c =
     let says = done.ensures in
     carried_out a asked c.requires.is (no_video asked (c.no_video_refused.ensures.first (bucket_of c.args.target c.args.bucket)) (c.no_video_refused.ensures.second (bucket_of c.args.target c.args.bucket))) _
     (λ i. (Events, (c.word_of.ensures ∙ word_is a asked Events c.requires.is) i) ∷ []) done.result (outside c.args.desk.now) (outside done.new.desk)
-    says.status says.texts says.prefixes says.words says.unopened says.causes says.no_memory says.attached says.whole_input says.taken_input
+    says.status says.texts says.prefixes says.words says.unopened says.causes says.attached says.whole_input says.taken_input

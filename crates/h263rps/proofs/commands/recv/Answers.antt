@@ -15,7 +15,7 @@ returns-then-join g c =
     let says = done.ensures in
     carried_out a asked is (no_video asked (c.no_joined_video_refused.ensures.first c.args.params) (c.no_joined_video_refused.ensures.second c.args.params)) _
     (λ i. (Events, (c.word_of.ensures ∙ word_is a asked Events is) i) ∷ (Pictures, (c.word_of-2.ensures ∙ word_is a asked Pictures is) i) ∷ (Wire, (c.word_of-3.ensures ∙ word_is a asked Wire is) i) ∷ []) done.result (outside c.args.desk.now) (outside done.new.desk)
-    says.status says.texts says.prefixes says.words says.unopened says.causes says.no_memory says.attached says.whole_input says.taken_input
+    says.status says.texts says.prefixes says.words says.unopened says.causes says.attached says.whole_input says.taken_input
 
 pub returns-else-join : goal.returns-else-join
 returns-else-join g c =
@@ -27,4 +27,4 @@ returns-else-join g c =
     let says = done.ensures in
     carried_out a asked is (no_video asked (c.no_video_refused.ensures.first c.args.params) (c.no_video_refused.ensures.second c.args.params)) _
     (λ i. (Events, (c.word_of.ensures ∙ word_is a asked Events is) i) ∷ (Pictures, (c.word_of-2.ensures ∙ word_is a asked Pictures is) i) ∷ (Wire, (c.word_of-3.ensures ∙ word_is a asked Wire is) i) ∷ []) done.result (outside c.args.desk.now) (outside done.new.desk)
-    says.status says.texts says.prefixes says.words says.unopened says.causes says.no_memory says.attached says.whole_input says.taken_input
+    says.status says.texts says.prefixes says.words says.unopened says.causes says.attached says.whole_input says.taken_input

@@ -15,4 +15,4 @@ returns g c =
     let says = done.ensures in
     carried_out a asked c.requires.is (one_video asked (c.refused_videos.ensures (sending_of c.args.params c.args.target)) (c.no_second_video.ensures (sending_of c.args.params c.args.target))) _
     (λ i. (Video, (c.word_of.ensures ∙ word_is a asked Video c.requires.is) i) ∷ (Events, (c.word_of-2.ensures ∙ word_is a asked Events c.requires.is) i) ∷ (Wire, (c.word_of-3.ensures ∙ word_is a asked Wire c.requires.is) i) ∷ []) done.result (outside c.args.desk.now) (outside done.new.desk)
-    says.status says.texts says.prefixes says.words says.unopened says.causes says.no_memory says.attached says.whole_input says.taken_input
+    says.status says.texts says.prefixes says.words says.unopened says.causes says.attached says.whole_input says.taken_input

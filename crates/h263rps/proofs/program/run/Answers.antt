@@ -1,4 +1,4 @@
-use Rattle.std.proofs.Common.{Err, ap, ◌∙◌, subst}
+use Rattle.std.proofs.Common.{◌∙◌, subst}
 use Rattle.call_report.specs.declared.status.Status.{Status}
 use Rattle.command_words.specs.Clap.{texts}
 use Rattle.command_words.specs.View.{asked_of}
@@ -12,7 +12,7 @@ returns-in-Err g c =
     let outside = g.D.Desk.outside in
     let failed = c.in-Err.ensures in
     report_failed (command_of (texts c.args.words.now)) (outside c.args.desk.now) (outside c.attach_role.new.desk) c.in-Err.status
-    (failed.err ∙ c.requires) failed.rest.written failed.cause (λ is. failed.no_memory (ap (λ (s : Status). Err s) is)) failed.kind
+    (failed.err ∙ c.requires) failed.rest.written failed.cause failed.kind
 
 pub returns-in-Err-read : goal.returns-in-Err-read
 returns-in-Err-read g c =

@@ -43,5 +43,6 @@ loop-i-preserved g c = record {
       let b = c.in_ok-byte.ensures.told (drop i left) h.1 in
       free_more left i c.in-Some.byte (c.loop-i.invariant.free left told) (byte_there c.in_ok-byte.field-0 c.in-Some.byte (drop i left) c.in-Some.is b.0) c.if-byte-eq10.false;
   others = λ r other. c.in_ok-byte.ensures.others r other ∙ c.loop-i.invariant.others r other;
+  faults = c.in_ok-byte.ensures.ok_faults ∙ c.loop-i.invariant.faults;
   rest = c.calls.ensures.reads _ _ _ c.loop-i.invariant.rest c.in_ok-byte.ensures.rest;
 }

@@ -1,8 +1,10 @@
-use Rattle.std.proofs.Common.{[]}
+use Rattle.std.proofs.Common.{[], subst}
+use Rattle.h263_outside.specs.Desk.{Faults}
+use Rattle.desk_program.specs.Ends.{HasCause}
 use Rattle.desk_program.specs.Run.{behind, run_from}
 use Rattle.call_command.specs.Call.{call_begin, call_step, first_state, may_read, most_turns}
 use Rattle.call_command.proofs.Acting.{later_stop, not_read_out}
-use Rattle.call_command.proofs.Counting.{cause_since, keeps_then}
+use Rattle.call_command.proofs.Counting.{keeps_then}
 use Rattle.call_command.proofs.call.CallActs.act.Goals as goal
 
 pub returns-in-Ok-clause-gives : goal.returns-in-Ok-clause-gives
@@ -44,4 +46,4 @@ returns-in-Ok-clause-rest g c =
 pub returns-in-Ok-clause-cause : goal.returns-in-Ok-clause-cause
 returns-in-Ok-clause-cause g c =
     let outside = g.D.Desk.outside in
-    cause_since c.converse-status.result (outside c.args.desk.now).faults (outside c.begin.new.desk).faults (outside c.converse-status.new.desk).faults c.begin.ensures.rest.faults c.calls.ensures.rose_since c.converse-status.ensures.cause
+    subst (λ (f : Faults). HasCause c.converse-status.result f (outside c.converse-status.new.desk).faults) c.in-Ok.ensures.ok_faults c.converse-status.ensures.cause

@@ -4,7 +4,7 @@ use Rattle.call_report.specs.declared.status.Status.TheVariants.{OutOfMemory}
 use Rattle.desk_program.specs.Ends.{Gains, GainsFronts}
 use Rattle.duplex_command.specs.Begin.{duplex_begin, duplex_run, heads_text, in_formats}
 use Rattle.duplex_command.specs.Duplex.{duplex_step, may_read, most_turns}
-use Rattle.duplex_command.proofs.Starting.{all_may_come, ends_so, heads_cut, heads_go, stations_ready}
+use Rattle.duplex_command.proofs.Starting.{all_may_come, ends_so, heads_cut, heads_go, starved_cause, stations_ready}
 use Rattle.duplex_command.proofs.begin.DuplexBegins.start.Goals as goal
 
 pub returns-in_err-heads-clause-ends : goal.returns-in_err-heads-clause-ends
@@ -66,3 +66,8 @@ returns-clause-ready g c =
       opens = search rules;
       stations = stations_ready p heads c.in_ok-talk.talk c.in_ok-talk.ensures (c.of_pairs.ensures (in_formats p heads.a.format heads.b.format)) c.requires.params says.more_a says.more_b;
     }
+
+pub returns-in_err-talk-clause-cause : goal.returns-in_err-talk-clause-cause
+returns-in_err-talk-clause-cause g c =
+    let outside = g.D.Desk.outside in
+    starved_cause c.from_residual-in_err-talk.result (outside c.args.desk.now).faults (outside c.read_heads.new.desk).faults c.from_residual-in_err-talk.ensures.1 c.in_ok-heads.ensures.ok_faults

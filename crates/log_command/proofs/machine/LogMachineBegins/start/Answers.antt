@@ -2,10 +2,10 @@ use Rattle.std.proofs.Common.{ℕ, ◌-◌, true, Bool, sym, ap, ◌∙◌, subs
 use Rattle.h263_outside.specs.declared.desk.Role.{Role}
 use Rattle.h263_outside.specs.declared.desk.Role.TheVariants.{Events}
 use Rattle.call_report.specs.declared.status.Status.{Status}
-use Rattle.desk_program.specs.Ends.{HasEnded, IsStop, silent}
+use Rattle.desk_program.specs.Ends.{HasEnded, IsUnstarted, silent}
 use Rattle.log_command.specs.declared.machine.LogMachine.{LogMachine}
 use Rattle.log_command.specs.Log.{LogStands, log_begin, log_run, log_step}
-use Rattle.log_command.proofs.Beginning.{begun, by_answer, first_stops, is_stop}
+use Rattle.log_command.proofs.Beginning.{begun, by_answer, first_stops, is_unstarted}
 use Rattle.log_command.proofs.machine.LogMachineBegins.start.Goals as goal
 
 pub returns-in_err-start-clause-ends : goal.returns-in_err-start-clause-ends
@@ -23,8 +23,8 @@ pub returns-in_err-start-clause-stop : goal.returns-in_err-start-clause-stop
 returns-in_err-start-clause-stop g c =
     let outside = g.D.Desk.outside in
     let status = c.in_err-start.field-0.0 in
-    by_answer c.from_residual-in_err-start.result status IsStop c.from_residual-in_err-start.ensures.1
-    (is_stop status (g.C.LogCommand.head c.args.setup.now) (outside c.args.desk.now) (outside c.start.new.desk) c.in_err-start.ensures.err)
+    by_answer c.from_residual-in_err-start.result status IsUnstarted c.from_residual-in_err-start.ensures.1
+    (is_unstarted status (g.C.LogCommand.head c.args.setup.now) (outside c.args.desk.now) (outside c.start.new.desk) c.in_err-start.ensures.err)
 
 pub returns-clause-goes : goal.returns-clause-goes
 returns-clause-goes g c = λ inputs told.

@@ -13,7 +13,7 @@ use Rattle.rate_control.specs.Pace.{first_of, quant_after_sizes, target_of}
 use Rattle.send_command.specs.Send.{most_entries, send_begin, send_step}
 use Rattle.send_command.specs.Stands.{SendStands}
 use Rattle.send_command.specs.Tally.{IsOf, no_counts}
-use Rattle.send_command.proofs.Answering.{if_err}
+use Rattle.send_command.proofs.Answering.{if_err, starved_cause}
 use Rattle.send_command.proofs.Starting.{head_stops, head_goes}
 use Rattle.send_command.proofs.machine.SendBegins.start.Goals as goal
 
@@ -86,3 +86,8 @@ returns-clause-ready g c =
       };
       tally = subst (IsOf c.new.result.entries) (sym c.new-2.ensures) (none_of c.new.result.entries);
     }
+
+pub returns-in_err-sender-clause-cause : goal.returns-in_err-sender-clause-cause
+returns-in_err-sender-clause-cause g c =
+    let outside = g.D.Desk.outside in
+    starved_cause c.from_residual-in_err-sender.result (outside c.args.desk.now).faults (outside c.head.new.desk).faults c.from_residual-in_err-sender.ensures.1 c.in_ok-video.ensures.ok_faults
