@@ -324,7 +324,8 @@ const NACK_1: [u8; 3] = [0x80, 0x0C, 0x00];
 
 const NACK_2: [u8; 3] = [0x80, 0x14, 0x00];
 
-const NARROW: Params = Params {
+// A window of two pictures.
+pub const NARROW: Params = Params {
     format: Format::SubQcif,
     quant: 8,
     keep: 64,
@@ -334,6 +335,18 @@ const NARROW: Params = Params {
     lead: 1,
     messages: 1,
     clock: Clock::Standard,
+};
+
+// One of three pictures, and the same with messages that have flags.
+const WIDE: Params = Params {
+    slots: 6,
+    lead: 2,
+    ..NARROW
+};
+
+pub const FLAGGED: Params = Params {
+    messages: 2,
+    ..WIDE
 };
 
 // A picture of CIF is two packets. They come in both orders, and each twice.
@@ -475,12 +488,6 @@ fn chain_ends(rt: HostRuntime) -> Result<(), Fail> {
 // Picture 1 arrives first, and its message is lost. The flag of the next message tells of it.
 #[test]
 fn flags_tell_of_next_picture(rt: HostRuntime) -> Result<(), Fail> {
-    let params = Params {
-        slots: 6,
-        lead: 2,
-        messages: 2,
-        ..NARROW
-    };
     let steps = [
         Step::Code(100, None),
         Step::Code(100, None),
@@ -495,18 +502,13 @@ fn flags_tell_of_next_picture(rt: HostRuntime) -> Result<(), Fail> {
         Step::Lacks(Mark::Held, &[0xA0, 0x14, 0x03, 0xC0, 0x80]),
         Step::Exact,
     ];
-    assert_steps(&rt, rt.alloc(), &params, &steps)?;
+    assert_steps(&rt, rt.alloc(), &FLAGGED, &steps)?;
     Ok(())
 }
 
 // The same without flags.
 #[test]
 fn without_flags_the_picture_is_unknown(rt: HostRuntime) -> Result<(), Fail> {
-    let params = Params {
-        slots: 6,
-        lead: 2,
-        ..NARROW
-    };
     let steps = [
         Step::Code(100, None),
         Step::Code(100, None),
@@ -518,7 +520,7 @@ fn without_flags_the_picture_is_unknown(rt: HostRuntime) -> Result<(), Fail> {
         Step::Exact,
         Step::Complete(3, &ACK_3),
     ];
-    assert_steps(&rt, rt.alloc(), &params, &steps)?;
+    assert_steps(&rt, rt.alloc(), &WIDE, &steps)?;
     Ok(())
 }
 

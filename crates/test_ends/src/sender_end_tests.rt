@@ -4,6 +4,7 @@ ghost use Rattle.h263_types.specs.Params.{IsParams};
 ghost use Rattle.h263_types.specs.declared.format.Format.TheVariants.{SubQcif};
 ghost use Rattle.h263_planes.specs.Lent.{picture};
 
+use crate::joined_ends::{FLAGGED, NARROW};
 use back_messages::{Message, MessageFault, write};
 use h263_outside::OutOfMemory;
 use h263_planes::{PictureRef, Plane};
@@ -89,12 +90,6 @@ fn assert_answers(
 // A window of two pictures; the first message is an ACK of picture 0.
 #[test]
 fn window_ends(rt: HostRuntime) -> Result<(), Fail> {
-    let params = Params {
-        slots: 4,
-        lead: 1,
-        radius: 1,
-        ..Params::of(Format::SubQcif)
-    };
     let steps = [
         Step::Code(None),
         Step::Hear(&[0xC0, 0x04, 0x00], Feedback::Noted),
@@ -102,7 +97,7 @@ fn window_ends(rt: HostRuntime) -> Result<(), Fail> {
         Step::Code(Some(0)),
         Step::Code(None),
     ];
-    assert_answers(&rt, rt.alloc(), &params, &steps)?;
+    assert_answers(&rt, rt.alloc(), &NARROW, &steps)?;
     Ok(())
 }
 
@@ -110,12 +105,6 @@ fn window_ends(rt: HostRuntime) -> Result<(), Fail> {
 // that wasn't sent), and lying (it offers one that wasn't sent), which make nothing known.
 #[test]
 fn offers_and_false_feedback(rt: HostRuntime) -> Result<(), Fail> {
-    let params = Params {
-        slots: 4,
-        lead: 1,
-        radius: 1,
-        ..Params::of(Format::SubQcif)
-    };
     let steps = [
         Step::Code(None),
         Step::Hear(&[0xC0, 0x04], Feedback::Refused(MessageFault::Length)),
@@ -126,7 +115,7 @@ fn offers_and_false_feedback(rt: HostRuntime) -> Result<(), Fail> {
         Step::Hear(&[0x80, 0x0C, 0x00], Feedback::Noted),
         Step::Code(Some(0)),
     ];
-    assert_answers(&rt, rt.alloc(), &params, &steps)?;
+    assert_answers(&rt, rt.alloc(), &NARROW, &steps)?;
     Ok(())
 }
 
@@ -134,13 +123,6 @@ fn offers_and_false_feedback(rt: HostRuntime) -> Result<(), Fail> {
 // that offers picture 3.
 #[test]
 fn flags_tell_of_next_picture(rt: HostRuntime) -> Result<(), Fail> {
-    let params = Params {
-        slots: 6,
-        lead: 2,
-        radius: 1,
-        messages: 2,
-        ..Params::of(Format::SubQcif)
-    };
     let steps = [
         Step::Code(None),
         Step::Code(None),
@@ -150,7 +132,7 @@ fn flags_tell_of_next_picture(rt: HostRuntime) -> Result<(), Fail> {
         Step::Hear(&[0xA0, 0x14, 0x03, 0xC0, 0x80], Feedback::Noted),
         Step::Code(Some(3)),
     ];
-    assert_answers(&rt, rt.alloc(), &params, &steps)?;
+    assert_answers(&rt, rt.alloc(), &FLAGGED, &steps)?;
     Ok(())
 }
 
