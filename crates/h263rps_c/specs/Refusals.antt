@@ -5,7 +5,7 @@ use Rattle.sender_end.specs.State.{SenderState}
 use Rattle.receiver_end.specs.declared.kept.Kept.{Kept}
 use Rattle.back_messages.specs.declared.message.Message.{Message}
 use Rattle.h263rps_c.specs.declared.answers.Said.{Said}
-use Rattle.h263rps_c.specs.declared.pace.LinePace.{LinePace}
+use Rattle.rate_control.specs.declared.send_pace.SendPace.{SendPace}
 use Rattle.h263rps_c.specs.declared.refusals.Refusal.{Refusal}
 use Rattle.h263rps_c.specs.declared.refusals.Refusal.TheVariants.{NotStarted, Started, OtherEnd, BadParams, NoMemory, Ended, WrongLength, BadMessages, NoPacket, ShortRoom}
 use Rattle.h263rps_c.specs.Messages.{messages_of}
@@ -49,7 +49,7 @@ unless_none None = Some BadMessages
 unless_none (Some messages) = None
 
 -- a picture of these bytes, with these messages
-abbrev pub code_refusal : List ℕ → List Said → SenderState LinePace → Option Refusal
+abbrev pub code_refusal : List ℕ → List Said → SenderState SendPace → Option Refusal
 code_refusal bytes back s =
     if nat_le 1048576 s.sent then Some Ended
     else if length bytes == size_of_picture s.params.format then
@@ -58,7 +58,7 @@ code_refusal bytes back s =
     else Some WrongLength
 
 -- packet i into room for `count` bytes
-abbrev pub packet_refusal : ℕ → ℕ → SenderState LinePace → Option Refusal
+abbrev pub packet_refusal : ℕ → ℕ → SenderState SendPace → Option Refusal
 packet_refusal i count s =
     if nat_le (length s.packets) i then Some NoPacket
     else if nat_lt count (length (slice_index_or s.packets i [])) then Some ShortRoom

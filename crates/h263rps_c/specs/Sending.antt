@@ -7,14 +7,15 @@ use Rattle.call_model.specs.Sending.{SenderEntry}
 use Rattle.call_encoding.specs.Frames.{Frame}
 use Rattle.sender_end.specs.Stands as senders
 use Rattle.sender_end.specs.State.{SenderState}
-use Rattle.h263rps_c.specs.declared.pace.LinePace.{LinePace}
-use Rattle.h263rps_c.specs.Pace.{first_of, pace_of, target_of}
+use Rattle.rate_control.specs.declared.send_pace.SendPace.{SendPace}
+use Rattle.rate_control.specs.Pace.{first_of, target_of}
+use Rattle.h263rps_c.specs.Pace.{pace_of, target_in}
 
 -- a sender with these parameters and this target, after these entries, the newest first
 pub record IsSender (p : Params) (target : ℕ) (entries : List (SenderEntry Frame))
-    (s : SenderState LinePace) : Type 0 where
+    (s : SenderState SendPace) : Type 0 where
   pub params : s.params ≡ p
-  pub follows : target_of s.pace ≡ target
+  pub follows : target_of s.pace ≡ target_in target
   pub first : first_of s.pace ≡ p.quant
   pub stands : senders.Stands (pace_of target p) s entries
 

@@ -5,7 +5,7 @@ use Rattle.sender_end.specs.State.{SenderState}
 use Rattle.receiver_end.specs.declared.kept.Kept.{Kept}
 use Rattle.h263rps_c.specs.declared.ends.End.{End}
 use Rattle.h263rps_c.specs.declared.ends.End.TheVariants.{Receiving, Sending}
-use Rattle.h263rps_c.specs.declared.pace.LinePace.{LinePace}
+use Rattle.rate_control.specs.declared.send_pace.SendPace.{SendPace}
 use Rattle.h263rps_c.specs.declared.refusals.Refusal.{Refusal}
 use Rattle.h263rps_c.specs.declared.refusals.Refusal.TheVariants.{NotStarted, Started, OtherEnd, BadParams}
 
@@ -16,7 +16,7 @@ for_receiver refuses (Some (Sending s)) = Some OtherEnd
 for_receiver refuses (Some (Receiving r)) = refuses r
 
 -- a call for a sender
-abbrev pub for_sender : (SenderState LinePace → Option Refusal) → Option End → Option Refusal
+abbrev pub for_sender : (SenderState SendPace → Option Refusal) → Option End → Option Refusal
 for_sender refuses None = Some NotStarted
 for_sender refuses (Some (Sending s)) = refuses s
 for_sender refuses (Some (Receiving r)) = Some OtherEnd

@@ -13,7 +13,6 @@ mod asked;
 mod ends;
 mod handles;
 mod messages;
-mod pace;
 mod receiver;
 mod refusals;
 mod sender;

@@ -13,24 +13,24 @@ ghost use Rattle.sender_end.specs.Stands as senders;
 ghost use Rattle.h263rps_c.specs.Sending.{IsSender, frame_of};
 ghost use Rattle.h263rps_c.specs.declared.refusals.Refusal.TheVariants as refusals;
 ghost use Rattle.h263rps_c.specs.Messages.{messages_of};
-ghost use Rattle.h263rps_c.specs.Pace.{pace_of};
+ghost use Rattle.h263rps_c.specs.Pace.{pace_of, target_in};
 ghost use Rattle.h263rps_c.specs.Refusals.{refusal_in, code_refusal, packet_refusal};
 
 use crate::MOST_PICTURES;
 use crate::answers::Said;
 use crate::messages::messages_from;
-use crate::pace::LinePace;
 use crate::refusals::Refusal;
 use h263_outside::OutOfMemory;
 use h263_planes::PictureRef;
 use h263_types::Params;
+use rate_control::SendPace;
 use sender_end::{Coded, Feedback, Sender};
 use std::alloc::Global;
 use std::marker::Model;
 
 /// A sender, its parameters, and how many packets its last picture has.
 pub struct Sending {
-    sender: Sender<LinePace>,
+    sender: Sender<SendPace>,
     params: Params,
     packets: u32,
 }
@@ -38,14 +38,21 @@ pub struct Sending {
 impl Model for Sending {
     ghost use Rattle.std.specs.Prelude.{◌≡◌, length};
     ghost use Rattle.sender_end.specs.State.{SenderState};
-    ghost use Rattle.h263rps_c.specs.declared.pace.LinePace.{LinePace};
+    ghost use Rattle.rate_control.specs.declared.send_pace.SendPace.{SendPace};
 
-    ghost Value = { SenderState LinePace };
+    ghost Value = { SenderState SendPace };
 
     ghost view = { λ s. s.sender };
 
     ghost invariant = { λ s. (s.sender.params ≡ s.params)
         × (s.packets ≡ length s.sender.packets) };
+}
+
+// The target that is followed, if there is one.
+fn followed(target: u32) -> Option<u32>
+    ensures { result ≡ target_in target }
+{
+    if target == 0 { None } else { Some(target) }
 }
 
 // Copies bytes to the start of a room.
@@ -63,7 +70,11 @@ impl Sending {
         requires target { target ≤ 999999 }
         ensures stands { IfOk result (IsSender params.now target []) }
     {
-        let sender = Sender::start(alloc, params, LinePace::choose(target, params.quant))?;
+        let sender = Sender::start(
+            alloc,
+            params,
+            SendPace::choose(followed(target), params.quant),
+        )?;
         Ok(Sending {
             sender,
             params: *params,
