@@ -4,9 +4,8 @@ ghost use Rattle.h263_types.specs.Sizes.{mbs_of};
 ghost use Rattle.packet_collector.specs.Filled.{IsPieceIn};
 
 use crate::times::Stop;
-use h263_outside::OutOfMemory;
 use h263_planes::{PictureMut, PictureRef};
-use h263_types::{Format, Mb};
+use h263_types::{Format, Mb, OutOfMemory};
 use packet_collector::{Piece, read_packet};
 use picture_recon::recon_slice;
 use std::alloc::Global;

@@ -1,8 +1,7 @@
 //! What is measured.
 ghost use Rattle.std.specs.Prelude.{◌<◌};
 
-use h263_outside::OutOfMemory;
-use h263_types::Format;
+use h263_types::{Format, OutOfMemory};
 use std::alloc::AllocError;
 use std::fmt::{self, Display, Formatter, Write};
 use std::io;

@@ -3,7 +3,7 @@ ghost use Rattle.std.specs.Prelude.{◌≡◌, IfOk};
 ghost use Rattle.call_command.specs.Standing.{pictures_kept};
 
 use crate::Terms;
-use h263_outside::OutOfMemory;
+use h263_types::OutOfMemory;
 use loss_trace::TraceReader;
 use one_way::Network;
 use std::alloc::Global;

@@ -3,7 +3,8 @@ ghost use Rattle.std.specs.Prelude.{◌≡◌};
 ghost use Rattle.call_report.specs.Status.{code_of};
 
 use event_logs::{LogFault, LogStop};
-use h263_outside::{OutOfMemory, Role};
+use h263_outside::Role;
+use h263_types::OutOfMemory;
 use loss_trace::{TraceFault, TraceStop};
 use std::alloc::AllocError;
 use y4m::{VideoStop, Y4mFault};

@@ -5,7 +5,7 @@ ghost use Rattle.back_messages.specs.declared.writing.MessageBytes.{MessageBytes
 
 use back_messages::MessageBytes;
 use circular_buffer::HeapCircularBuffer;
-use h263_outside::OutOfMemory;
+use h263_types::OutOfMemory;
 use std::alloc::Global;
 
 /// The last 1,024 messages, each with the number of the picture that it is about.

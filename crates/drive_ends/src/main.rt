@@ -8,9 +8,8 @@ ghost use Rattle.h263_types.specs.Params.{IsParams};
 ghost use Rattle.h263_planes.specs.Lent.{picture};
 
 use back_messages::MessageBytes;
-use h263_outside::OutOfMemory;
 use h263_planes::PictureRef;
-use h263_types::{FixedPace, Format, Mark, Params};
+use h263_types::{FixedPace, Format, Mark, OutOfMemory, Params};
 use receiver_end::{Heard, Receiver};
 use sender_end::{Coded, Sender};
 use std::alloc::{AllocError, Global};

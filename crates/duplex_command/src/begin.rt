@@ -9,8 +9,8 @@ use crate::{Station, Talk};
 use call_report::Status;
 use desk_program::{Begins, laws as desk_program_laws};
 use duplex_ends::{PartyEnds, laws as duplex_ends_laws};
-use h263_outside::{Desk, OutOfMemory};
-use h263_types::{Format, Params};
+use h263_outside::Desk;
+use h263_types::{Format, OutOfMemory, Params};
 use loss_trace::TraceReader;
 use std::alloc::Global;
 

@@ -5,7 +5,7 @@ ghost use Rattle.duplex_call.specs.declared.carrier.Carried.{Carried};
 ghost use Rattle.duplex_call.specs.Waiting.{placed};
 
 use duplex_call::Carried;
-use h263_outside::OutOfMemory;
+use h263_types::OutOfMemory;
 use std::alloc::Global;
 
 /// Of each of the last pictures the messages that its header carries, at most four.

@@ -2,7 +2,7 @@
 ghost use Rattle.std.specs.Prelude.{◌≡◌, ◌≢◌, ◌<◌, ◌≤◌, ◌==◌, ℕ, true, false, length, take, OnOk, OnErr, IfOk, IfSome, IsErrOf};
 ghost use Rattle.h263_outside.specs.Desk.{Outside, IsInput, IsOutput, with_role, appended, consumed, IsFront, Rose, OnlyAttaches, OnlyReads, OnlyWrites};
 
-use std::alloc::{AllocError, AllocFailed};
+use std::alloc::AllocError;
 
 /// What the program reads or writes at a place: a video and events are read, the rest is written.
 #[derive(Clone, Copy, Debug, PartialEq, Eq)]
@@ -26,22 +26,6 @@ pub enum Role {
 /// A read or a write has failed.
 #[derive(Clone, Copy, Debug, PartialEq, Eq)]
 pub struct Failed;
-
-/// Memory has run out.
-#[derive(Clone, Copy, Debug, PartialEq, Eq)]
-pub struct OutOfMemory;
-
-impl From<AllocError> for OutOfMemory {
-    fn from(_: AllocError) -> Self {
-        OutOfMemory
-    }
-}
-
-impl<T: Drop> From<AllocFailed<T>> for OutOfMemory {
-    fn from(_: AllocFailed<T>) -> Self {
-        OutOfMemory
-    }
-}
 
 /// Why a role was not attached.
 #[derive(Clone, Copy, Debug, PartialEq, Eq)]

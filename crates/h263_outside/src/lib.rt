@@ -21,7 +21,7 @@ mod memory;
 mod second;
 mod whole;
 
-pub use desk::{Desk, Failed, OutOfMemory, Role, Unattached};
+pub use desk::{Desk, Failed, Role, Unattached};
 pub use host::HostDesk;
 pub use memory::MemoryDesk;
 pub use second::Second;

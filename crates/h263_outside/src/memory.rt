@@ -2,7 +2,8 @@
 ghost use Rattle.std.specs.Prelude.{◌≡◌, false, ◌<◌, ◌≤◌, ◌+◌, ◌-◌, ◌++◌, ◌∷◌, [], length, take, drop, OnOk, OnErr, IfOk, IsTrue, IsErr, IfSome, IsErrOf, Contains, ◌↔◌, ◌⊎◌, ◌≢◌, ℕ, true, vec_len, vec_capacity, min};
 ghost use Rattle.h263_outside.specs.Desk.{Rose, NoneFalls, raised_count, IsFront};
 
-use crate::{Desk, Failed, OutOfMemory, Role, Unattached};
+use crate::{Desk, Failed, Role, Unattached};
+use h263_types::OutOfMemory;
 use std::alloc::{AllocError, Global};
 
 // The calls so far, those that are to fail, and how many failed.

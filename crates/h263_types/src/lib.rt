@@ -3,7 +3,7 @@
 //! [`Format`] and [`Kind`] say what a picture is, [`Mb`] and [`Block`] what is coded of a
 //! macroblock, [`Vector`] where it is predicted from and [`Reach`] how far that may be. [`Params`]
 //! are the parameters of a call, with [`Clock`] and [`Pace`]; [`Mark`] says how a picture was
-//! shown.
+//! shown. [`OutOfMemory`] is what a call answers that found none.
 //!
 //! ```rust
 //! assert_eq!(rt; (Format::Qcif.width(), Format::Qcif.height()), (176, 144));
@@ -17,6 +17,7 @@ mod clock;
 mod format;
 pub mod laws;
 mod limits;
+mod memory;
 mod pace;
 mod params;
 mod vector;
@@ -25,6 +26,7 @@ pub use blocks::{Block, Mb, SliceHead};
 pub use clock::Clock;
 pub use format::Format;
 pub use limits::reach;
+pub use memory::OutOfMemory;
 pub use pace::{FixedPace, Pace};
 pub use params::{ParamFault, Params};
 pub use vector::{Reach, Vector};

@@ -4,7 +4,8 @@ ghost use Rattle.std.specs.Prelude.{◌<◌};
 
 use super::*;
 use event_logs::LogFault;
-use h263_outside::{MemoryDesk, OutOfMemory, Role};
+use h263_outside::{MemoryDesk, Role};
+use h263_types::OutOfMemory;
 use loss_trace::TraceFault;
 use std::process::Abort;
 use std::test::Fail;

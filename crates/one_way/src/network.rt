@@ -24,8 +24,7 @@ ghost use Rattle.one_way.specs.Way.{CanSend, HoldsNetwork, IsNewNetwork, MayHapp
 use crate::{Way, bring_back, laws};
 use back_messages::MessageBytes;
 use call_rings::MessageRing;
-use h263_outside::OutOfMemory;
-use h263_types::{FixedPace, Mark, Params};
+use h263_types::{FixedPace, Mark, OutOfMemory, Params};
 use receiver_end::Receiver;
 use sender_end::Sender;
 use std::alloc::Global;

@@ -2,7 +2,7 @@
 ghost use Rattle.std.specs.Prelude.{◌≡◌, ◌+◌, ◌<◌, ◌≤◌, ℕ, List, [], ◌∷◌, ◌++◌, length};
 ghost use Rattle.std.specs.Prelude.{IfOk, Option, None, slice_index_or};
 
-use h263_outside::OutOfMemory;
+use h263_types::OutOfMemory;
 use std::alloc::Global;
 
 // At most this many pictures may be on their way.

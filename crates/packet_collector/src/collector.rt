@@ -4,8 +4,7 @@ ghost use Rattle.h263_types.specs.Sizes.{mbs_of};
 
 use crate::marks::{all, none, put};
 use crate::piece::{Piece, Place};
-use h263_outside::OutOfMemory;
-use h263_types::{Format, Params, SliceHead};
+use h263_types::{Format, OutOfMemory, Params, SliceHead};
 use picture_header::Header;
 use std::alloc::Global;
 

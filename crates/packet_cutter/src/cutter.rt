@@ -14,8 +14,7 @@ ghost use Rattle.packet_cutter.specs.Taken.{IsTaken};
 
 use crate::laws;
 use crate::packets::Packets;
-use h263_outside::OutOfMemory;
-use h263_types::{Mb, Params};
+use h263_types::{Mb, OutOfMemory, Params};
 use picture_header::Header;
 use std::alloc::Global;
 

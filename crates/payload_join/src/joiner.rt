@@ -16,8 +16,7 @@ use crate::parts::{Parts, read_parts};
 use crate::ring::PacketRing;
 use crate::took::Took;
 use crate::units::{Span, made_with, take_first};
-use h263_outside::OutOfMemory;
-use h263_types::Format;
+use h263_types::{Format, OutOfMemory};
 use std::alloc::Global;
 use std::marker::Model;
 

@@ -13,8 +13,8 @@ ghost use Rattle.payload_join.specs.Ring.{IsHeld, IsEmptyRing, IsSeen, extra_one
 
 use crate::parts::Parts;
 use crate::took::Took;
-use h263_outside::OutOfMemory;
 use h263_region::{Region, Slot};
+use h263_types::OutOfMemory;
 use std::alloc::Global;
 use std::marker::Model;
 

@@ -20,10 +20,9 @@ ghost use Rattle.h263_region.specs.Slots.{count_of, out_of};
 ghost use Rattle.picture_store.specs.Holding.{IsHeld};
 ghost use Rattle.std.specs.Borrow.{sem};
 
-use h263_outside::OutOfMemory;
 use h263_planes::PictureRef;
 use h263_region::{Region, Slot};
-use h263_types::Format;
+use h263_types::{Format, OutOfMemory};
 use std::alloc::Global;
 use std::marker::Model;
 

@@ -4,8 +4,7 @@ ghost use Rattle.h263_types.specs.Params.{IsParams};
 
 use crate::kept::Kept;
 use crate::verdict::{Broken, Rule, Verdict};
-use h263_outside::OutOfMemory;
-use h263_types::{Mb, Params};
+use h263_types::{Mb, OutOfMemory, Params};
 use packet_collector::read_packet;
 use std::alloc::Global;
 use std::marker::Model;

@@ -3,8 +3,7 @@ ghost use Rattle.std.specs.Prelude.{◌≡◌, ◌-◌, [], Some, IfOk};
 ghost use Rattle.h263_types.specs.Params.{IsParams};
 
 use crate::verdict::{Broken, Rule};
-use h263_outside::OutOfMemory;
-use h263_types::Params;
+use h263_types::{OutOfMemory, Params};
 use packet_collector::Collector;
 use reference_selector::Selector;
 use std::alloc::Global;

@@ -9,7 +9,7 @@ ghost use Rattle.std.specs.Prelude.{◌≤◌, length};
 use crate::compare::{compare_audit, compare_run};
 use crate::stop::Stop;
 use crate::told;
-use h263_outside::OutOfMemory;
+use h263_types::OutOfMemory;
 use std::alloc::Global;
 use std::{fs, io};
 

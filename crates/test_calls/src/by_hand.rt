@@ -10,9 +10,9 @@ use crate::video::{made_picture, made_video};
 use back_messages::{Message, read};
 use call_report::Status;
 use command_words::Words;
-use h263_outside::{MemoryDesk, OutOfMemory, Role};
+use h263_outside::{MemoryDesk, Role};
 use h263_planes::PictureRef;
-use h263_types::{FixedPace, Format, Params};
+use h263_types::{FixedPace, Format, OutOfMemory, Params};
 use sender_end::Sender;
 use std::alloc::Global;
 

@@ -1,6 +1,6 @@
 //! Why a run could not be compared.
 use command_words::WordStop;
-use h263_outside::OutOfMemory;
+use h263_types::OutOfMemory;
 use std::alloc::AllocError;
 use std::io;
 use thiserror::Error;

@@ -1,7 +1,6 @@
 //! Videos in Y4M, and the videos that are shown of them.
-use h263_outside::OutOfMemory;
 use h263_planes::PictureMut;
-use h263_types::Format;
+use h263_types::{Format, OutOfMemory};
 use make_input::frame;
 use std::alloc::Global;
 use test_desks::{FRAME, HEAD, SHOWN_HEAD};

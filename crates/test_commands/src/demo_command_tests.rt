@@ -4,8 +4,7 @@ ghost use Rattle.h263_types.specs.Params.{IsParams};
 
 use call_report::Status;
 use demo_command::{Demo, DemoTerms};
-use h263_outside::OutOfMemory;
-use h263_types::{Clock, Format, Params};
+use h263_types::{Clock, Format, OutOfMemory, Params};
 use std::alloc::Global;
 use std::process::Abort;
 use std::test::Fail;

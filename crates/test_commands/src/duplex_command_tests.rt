@@ -4,8 +4,8 @@ ghost use Rattle.h263_types.specs.Params.{IsParams};
 
 use call_report::Status;
 use duplex_command::Duplex;
-use h263_outside::{OutOfMemory, Role};
-use h263_types::{Clock, Format, Params};
+use h263_outside::Role;
+use h263_types::{Clock, Format, OutOfMemory, Params};
 use loss_trace::TraceFault;
 use std::alloc::Global;
 use std::process::Abort;

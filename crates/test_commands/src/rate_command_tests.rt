@@ -3,7 +3,8 @@ ghost use Rattle.std.specs.Prelude.{◌<◌};
 
 use call_report::Status;
 use event_logs::LogFault;
-use h263_outside::{OutOfMemory, Role};
+use h263_outside::Role;
+use h263_types::OutOfMemory;
 use rate_command::{Bucket, Rate};
 use std::alloc::Global;
 use std::process::Abort;

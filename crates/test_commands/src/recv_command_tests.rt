@@ -4,8 +4,8 @@ ghost use Rattle.h263_types.specs.Params.{IsParams};
 
 use call_report::Status;
 use event_logs::LogFault;
-use h263_outside::{OutOfMemory, Role};
-use h263_types::{Clock, Format, Params};
+use h263_outside::Role;
+use h263_types::{Clock, Format, OutOfMemory, Params};
 use recv_command::{Join, Recv};
 use std::alloc::Global;
 use std::process::Abort;

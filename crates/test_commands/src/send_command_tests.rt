@@ -3,8 +3,8 @@ ghost use Rattle.std.specs.Prelude.{◌<◌, ◌≤◌, IfSome};
 
 use call_report::Status;
 use event_logs::LogFault;
-use h263_outside::{OutOfMemory, Role};
-use h263_types::{Format, Params};
+use h263_outside::Role;
+use h263_types::{Format, OutOfMemory, Params};
 use send_command::{Send, Sending};
 use std::alloc::Global;
 use std::process::Abort;

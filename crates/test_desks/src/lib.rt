@@ -10,7 +10,8 @@ ghost use Rattle.desk_program.specs.Attached.{AreAttached, are_free, names};
 
 use call_report::Status;
 use desk_program::{Acts, attach_role, perform};
-use h263_outside::{Desk, MemoryDesk, OutOfMemory, Role};
+use h263_outside::{Desk, MemoryDesk, Role};
+use h263_types::OutOfMemory;
 use std::alloc::Global;
 
 /// The head of a video in sub-QCIF, and of one that is shown.

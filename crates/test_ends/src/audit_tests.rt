@@ -12,9 +12,8 @@ use self::Entry::{
 };
 use self::Is::{No, Yes};
 use back_messages::{Message, write};
-use h263_outside::OutOfMemory;
 use h263_planes::PictureRef;
-use h263_types::{Clock, FixedPace, Format, Params};
+use h263_types::{Clock, FixedPace, Format, OutOfMemory, Params};
 use sender_end::Sender;
 use std::alloc::Global;
 use std::process::Abort;

@@ -1,7 +1,7 @@
 //! Rings that wrap.
 use back_messages::MessageBytes;
 use call_rings::{MessageRing, PacketRing, laws};
-use h263_outside::OutOfMemory;
+use h263_types::OutOfMemory;
 use std::alloc::Global;
 use std::test::Fail;
 

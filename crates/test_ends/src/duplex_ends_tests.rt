@@ -12,9 +12,8 @@ use duplex_call::{Carried, Party};
 use duplex_ends::{
     PartyEnds, check_delivery, check_play, check_send, deliver, deliver_all, laws, play,
 };
-use h263_outside::OutOfMemory;
 use h263_planes::PictureRef;
-use h263_types::{FixedPace, Format, Mark, Params};
+use h263_types::{FixedPace, Format, Mark, OutOfMemory, Params};
 use one_way::Refusal;
 use sender_end::Sender;
 use std::alloc::Global;

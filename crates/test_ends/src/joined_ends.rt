@@ -3,9 +3,8 @@ ghost use Rattle.std.specs.Prelude.{◌≡◌, IfOk, length};
 ghost use Rattle.h263_types.specs.Params.{IsParams};
 
 use back_messages::MessageBytes;
-use h263_outside::OutOfMemory;
 use h263_planes::PictureRef;
-use h263_types::{Clock, FixedPace, Format, Mark, Params};
+use h263_types::{Clock, FixedPace, Format, Mark, OutOfMemory, Params};
 use receiver_end::{Heard, PacketFault, Played, Receiver};
 use sender_end::{Feedback, Sender};
 use std::alloc::Global;

@@ -6,9 +6,8 @@ ghost use Rattle.h263_planes.specs.Lent.{picture};
 
 use crate::joined_ends::{FLAGGED, NARROW};
 use back_messages::{Message, MessageFault, write};
-use h263_outside::OutOfMemory;
 use h263_planes::{PictureRef, Plane};
-use h263_types::{FixedPace, Format, Pace, Params};
+use h263_types::{FixedPace, Format, OutOfMemory, Pace, Params};
 use rate_control::BucketPace;
 use sender_end::{Feedback, Sender};
 use std::alloc::Global;

@@ -4,7 +4,8 @@ ghost use Rattle.std.specs.Prelude.{◌≡◌, ◌<◌, ◌≤◌, true, length,
 ghost use Rattle.h263_outside.specs.declared.desk.Role.TheVariants.{Events};
 
 use event_logs::{Entry, LogReader, LogStop, Side, write_entry};
-use h263_outside::{Desk, OutOfMemory, Role};
+use h263_outside::{Desk, Role};
+use h263_types::OutOfMemory;
 use std::alloc::Global;
 use std::process::Abort;
 use std::test::Fail;

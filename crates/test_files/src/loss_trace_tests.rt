@@ -3,7 +3,8 @@
 ghost use Rattle.std.specs.Prelude.{◌≡◌, ◌<◌, true};
 ghost use Rattle.h263_outside.specs.declared.desk.Role.TheVariants.{Events};
 
-use h263_outside::{Desk, OutOfMemory, Role};
+use h263_outside::{Desk, Role};
+use h263_types::OutOfMemory;
 use loss_trace::{BadLine, Event, TraceReader, TraceStop, line};
 use std::alloc::Global;
 use std::process::Abort;

@@ -5,9 +5,9 @@ ghost use Rattle.h263_types.specs.Sizes.{size_of_picture};
 ghost use Rattle.h263_outside.specs.Memory.{memory_outside};
 ghost use Rattle.h263_outside.specs.declared.desk.Role.TheVariants.{Video};
 
-use h263_outside::{Desk, MemoryDesk, OutOfMemory, Role};
+use h263_outside::{Desk, MemoryDesk, Role};
 use h263_planes::PictureRef;
-use h263_types::{Format, Mark};
+use h263_types::{Format, Mark, OutOfMemory};
 use std::alloc::Global;
 use std::process::Abort;
 use std::test::Fail;

@@ -5,9 +5,8 @@ ghost use Rattle.h263_outside.specs.Memory.{memory_outside};
 ghost use Rattle.h263_outside.specs.Desk.{NoneFalls, Rose};
 ghost use Rattle.h263_outside.specs.declared.desk.Role.TheVariants.{Video, Pictures, Pictures2};
 
-use h263_outside::{
-    Desk, Failed, MemoryDesk, OutOfMemory, Role, Second, Unattached, read_full, write_all,
-};
+use h263_outside::{Desk, Failed, MemoryDesk, Role, Second, Unattached, read_full, write_all};
+use h263_types::OutOfMemory;
 use std::alloc::Global;
 use std::process::Abort;
 use std::test::Fail;

@@ -1,6 +1,6 @@
 //! Slots are given out and come back.
-use h263_outside::OutOfMemory;
 use h263_region::Region;
+use h263_types::OutOfMemory;
 use std::alloc::Global;
 use std::process::Abort;
 use std::test::Fail;

@@ -9,9 +9,8 @@ ghost use Rattle.h263_planes.specs.References.{HasReferenceOnlyInP};
 ghost use Rattle.picture_header.specs.Ranges.{IsHeader};
 ghost use Rattle.packet_cutter.specs.Cutting.{format_of, limit_of};
 
-use h263_outside::OutOfMemory;
 use h263_planes::{PictureMut, PictureRef};
-use h263_types::{Format, Params};
+use h263_types::{Format, OutOfMemory, Params};
 use packet_cutter::Cutter;
 use picture_coder::code_picture;
 use picture_header::Header;

@@ -1,9 +1,8 @@
 //! What a slot keeps, and pictures that are lent side by side.
 ghost use Rattle.std.specs.Prelude.{◌≡◌, length};
 
-use h263_outside::OutOfMemory;
 use h263_planes::{PictureMut, PictureRef, Plane};
-use h263_types::Format;
+use h263_types::{Format, OutOfMemory};
 use picture_store::PictureStore;
 use std::alloc::Global;
 use std::process::Abort;

@@ -5,8 +5,7 @@ ghost use Rattle.packet_collector.specs.Collected.{IsInRow, IsRowFrom, first_of,
 ghost use Rattle.h263_types.specs.declared.format.Format.TheVariants.{Cif};
 
 use back_messages::Message;
-use h263_outside::OutOfMemory;
-use h263_types::{Clock, Kind, SliceHead};
+use h263_types::{Clock, Kind, OutOfMemory, SliceHead};
 use packet_collector::{Collector, Piece, Place};
 use picture_header::Header;
 use std::alloc::Global;
