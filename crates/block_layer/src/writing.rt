@@ -26,22 +26,6 @@ fn event_at(block: &Block, place: usize, run: u8, last: bool) -> Coefficient
     }
 }
 
-/// Whether a block of an intra macroblock is coded: a level other than INTRADC isn't 0.
-pub fn is_intra_coded(block: &Block) -> bool
-    ensures coded { result ≡ is_coded block.now.levels }
-    ensures whole { length block.now.levels ≡ 64 }
-{
-    is_coded_by(true, block.marks())
-}
-
-/// Whether a block of an inter macroblock is coded: a level isn't 0.
-pub fn is_inter_coded(block: &Block) -> bool
-    ensures coded { result ≡ not (none_left block.now.levels) }
-    ensures whole { length block.now.levels ≡ 64 }
-{
-    is_coded_by(false, block.marks())
-}
-
 /// Whether a block of an intra or of an inter macroblock is coded, by its marks: a level isn't 0,
 /// in an intra macroblock another one than INTRADC.
 #[inline(always)]
@@ -86,11 +70,13 @@ fn dc_bits(block: &Block) -> u32
     block.levels[0].unsigned_abs() as u32
 }
 
-/// Writes a block of an intra macroblock: INTRADC, and its events where another level isn't 0
-/// (H.263, 5.4). There is room for its text, at most 1,394 bits.
+/// Writes a block of an intra macroblock, whose marks are given: INTRADC, and its events where
+/// another level isn't 0 (H.263, 5.4). There is room for its text, at most 1,394 bits.
 #[tactic(auto, unfolding(crate::specs::Text::intra_text))]
-pub fn write_intra(writer: &mut BitWriter<'_>, block: &Block)
+pub fn write_intra(writer: &mut BitWriter<'_>, block: &Block, marks: u64)
     requires block { IsIntraBlock block.now }
+    requires marks { marks ≡ marks_of block.now.levels }
+    requires whole { length block.now.levels ≡ 64 }
     requires room { len_of writer.old + length (intra_text block.now.levels) ≤ room_of writer.old }
     ensures bits { Appends writer.old writer.new (intra_text block.now.levels) }
     // It is a text of the block, which is coded exactly where a level other than INTRADC isn't 0.
@@ -99,49 +85,24 @@ pub fn write_intra(writer: &mut BitWriter<'_>, block: &Block)
     ensures len { len_of writer.new ≡ len_of writer.old + length (intra_text block.now.levels) }
 {
     code_tables_laws::in_a_syntax();
-    write_intra_by(writer, block, block.marks());
-}
-
-/// Writes a block of an intra macroblock, whose marks are given, as [`write_intra`] does.
-#[tactic(auto, unfolding(crate::specs::Text::intra_text))]
-pub fn write_intra_by(writer: &mut BitWriter<'_>, block: &Block, marks: u64)
-    requires block { IsIntraBlock block.now }
-    requires marks { marks ≡ marks_of block.now.levels }
-    requires whole { length block.now.levels ≡ 64 }
-    requires room { len_of writer.old + length (intra_text block.now.levels) ≤ room_of writer.old }
-    ensures bits { Appends writer.old writer.new (intra_text block.now.levels) }
-    ensures len { len_of writer.new ≡ len_of writer.old + length (intra_text block.now.levels) }
-{
     writer.put(dc_bits(block), 8);
     write_levels(writer, block, marks, 1);
 }
 
-/// Writes a coded block of an inter macroblock: the events of its levels, of which one at least
-/// isn't 0 (H.263, 5.4.2). There is room for its text, at most 1,408 bits.
+/// Writes the events of a block of an inter macroblock, whose marks are given (H.263, 5.4.2). There
+/// are none where the block isn't coded. There is room for its text, at most 1,408 bits.
 #[tactic(auto, unfolding(crate::specs::Text::inter_text))]
-pub fn write_inter(writer: &mut BitWriter<'_>, block: &Block)
-    requires block { IsInterBlock block.now }
-    requires some { none_left block.now.levels ≡ false }
-    requires room { len_of writer.old + length (inter_text block.now.levels) ≤ room_of writer.old }
-    ensures bits { Appends writer.old writer.new (inter_text block.now.levels) }
-    // It is a text of the block.
-    ensures spells { IsInterText block.now.levels (inter_text block.now.levels) }
-    ensures len { len_of writer.new ≡ len_of writer.old + length (inter_text block.now.levels) }
-{
-    code_tables_laws::in_a_syntax();
-    write_inter_by(writer, block, block.marks());
-}
-
-/// Writes the events of a block of an inter macroblock, whose marks are given. There are none where
-/// the block isn't coded.
-#[tactic(auto, unfolding(crate::specs::Text::inter_text))]
-pub fn write_inter_by(writer: &mut BitWriter<'_>, block: &Block, marks: u64)
+pub fn write_inter(writer: &mut BitWriter<'_>, block: &Block, marks: u64)
     requires block { IsInterBlock block.now }
     requires marks { marks ≡ marks_of block.now.levels }
     requires whole { length block.now.levels ≡ 64 }
     requires room { len_of writer.old + length (inter_text block.now.levels) ≤ room_of writer.old }
     ensures bits { Appends writer.old writer.new (inter_text block.now.levels) }
+    // Where the block is coded it is a text of it.
+    ensures spells { none_left block.now.levels ≡ false
+        → IsInterText block.now.levels (inter_text block.now.levels) }
     ensures len { len_of writer.new ≡ len_of writer.old + length (inter_text block.now.levels) }
 {
+    code_tables_laws::in_a_syntax();
     write_levels(writer, block, marks, 0);
 }

@@ -49,11 +49,6 @@ with_plane p Y samples = record p { y = samples }
 with_plane p Cb samples = record p { cb = samples }
 with_plane p Cr samples = record p { cr = samples }
 
--- the picture with another sample in column x of row y
-abbrev pub with_sample : Picture → Plane → ℕ → ℕ → ℕ → Picture
-with_sample p plane x y v =
-    with_plane p plane (slice_set (plane_of p plane) (width_in p.format plane * y + x) v)
-
 -- the picture with a run of samples from column x of row y on
 abbrev pub with_samples : Picture → Plane → ℕ → ℕ → List ℕ → Picture
 with_samples p plane x y run = with_plane p plane (sets (plane_of p plane) (width_in p.format plane * y + x) run)

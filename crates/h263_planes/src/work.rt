@@ -1,5 +1,5 @@
 //! A picture that is lent for writing.
-ghost use Rattle.std.specs.Prelude.{◌≡◌, ◌+◌, ◌*◌, ◌-◌, ◌<◌, ◌≤◌, length, slice_set};
+ghost use Rattle.std.specs.Prelude.{◌≡◌, ◌+◌, ◌*◌, ◌-◌, ◌<◌, ◌≤◌, length};
 ghost use lib.Seq.{sets};
 ghost use Rattle.h263_types.specs.Sizes.{size_of_picture};
 ghost use Rattle.h263_planes.specs.Rows.{sets_rows};
@@ -24,7 +24,7 @@ impl<'a> PictureMut<'a> {
     ghost use Rattle.h263_planes.specs.declared.Plane.{Plane};
     ghost use Rattle.h263_types.specs.Sizes.{size_of_picture};
     ghost use Rattle.h263_planes.specs.Layout.{picture_of};
-    ghost use Rattle.h263_planes.specs.Samples.{Inside, IsPicture, sample_at, with_sample, with_samples, in_block, in_run};
+    ghost use Rattle.h263_planes.specs.Samples.{Inside, IsPicture, sample_at, with_samples, in_block, in_run};
     ghost use Rattle.h263_planes.specs.Lent.{picture};
     ghost use Rattle.h263_planes.specs.Work.{work, loan_of};
 
@@ -56,21 +56,6 @@ impl<'a> PictureMut<'a> {
         ensures { IsPicture (work self.now) }
     {
         laws::are_samples(self.bytes);
-    }
-
-    /// Writes the sample in column `x` of row `y`.
-    pub fn set(&mut self, plane: Plane, x: u32, y: u32, value: u8)
-        requires { Inside (work self.old).format plane x y 1 }
-        ensures same_loan { loan_of self.new ≡ loan_of self.old }
-        ensures picture { work self.new ≡ with_sample (work self.old) plane x y value }
-        ensures format { (work self.new).format ≡ (work self.old).format }
-        ensures whole { IsPicture (work self.new) }
-        ensures samples { (other : Plane) (i j : ℕ)
-            → Inside (work self.old).format other i j 1 → sample_at (work self.new) other i j ≡
-            (if in_run plane x y 1 other i j then value else sample_at (work self.old) other i j) }
-    {
-        let at = self.layout.place(plane, x, y);
-        put_sample(self.bytes, at, value);
     }
 
     /// Writes `samples` into row `y` from column `x` on.
@@ -115,16 +100,6 @@ impl<'a> PictureMut<'a> {
     {
         PictureRef::new(self.layout.format, &*self.bytes)
     }
-}
-
-// Writes one sample, and leaves samples.
-#[inline(always)]
-fn put_sample(bytes: &mut [u8], at: usize, sample: u8)
-    requires { at < length bytes.old }
-    ensures after { bytes.new ≡ slice_set bytes.old at sample }
-    ensures samples { AreSamples bytes.new }
-{
-    bytes[at] = sample;
 }
 
 // Writes samples one after the other, and leaves samples.

@@ -1,7 +1,7 @@
 -- The differences of samples from one number.
 use Rattle.std.proofs.Common.{◌≡◌, arith, ℕ, List, [], ◌∷◌, length, replicate, refl}
 use lib.Lanes.{sum_l}
-use Rattle.sad_kernel.specs.Differences.{differences}
+use Rattle.motion_search.specs.Differences.{differences}
 
 -- the differences from 0 are the samples
 pub from_zero : (xs : List ℕ) → differences xs (replicate (length xs) 0) ≡ sum_l xs

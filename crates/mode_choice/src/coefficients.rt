@@ -5,9 +5,7 @@ ghost use Rattle.quantiser.specs.Factors.{IsFactor, IsWord, limited_to_word};
 ghost use Rattle.mode_choice.specs.Walk.{least_of, level_by, level_in};
 
 use h263_types::{Block, laws as types_laws};
-use quantiser::{
-    Factor, laws as quantiser_laws, level_inter_by, level_intra_by, limited, zigzag_place,
-};
+use quantiser::{Factor, laws as quantiser_laws, level_inter, level_intra, limited, zigzag_place};
 
 // How a block is coded: by itself, or as what a prediction leaves.
 #[derive(Clone, Copy, Debug)]
@@ -133,7 +131,7 @@ fn level(coding: Coding, quantisation: Quantisation, coefficient: i16) -> i16
 {
     let Quantisation { quant, factor, .. } = quantisation;
     match coding {
-        Coding::Intra => level_intra_by(quant, factor, coefficient),
-        Coding::Inter => level_inter_by(quant, factor, coefficient),
+        Coding::Intra => level_intra(quant, factor, coefficient),
+        Coding::Inter => level_inter(quant, factor, coefficient),
     }
 }

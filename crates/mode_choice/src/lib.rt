@@ -1,15 +1,17 @@
 //! The choice of each macroblock: how it is coded, and with which levels. H.263 leaves this to the
 //! encoder.
 //!
-//! [`choose`] answers a macroblock as an [`Mb`](h263_types::Mb): not coded, predicted by a vector,
-//! or coded by itself. [`choose_into`] writes it into a place that is kept, a [`Chosen`].
+//! [`choose`] writes a macroblock into a place that is kept, a [`Chosen`]: an
+//! [`Mb`](h263_types::Mb) that is not coded, predicted by a vector, or coded by itself.
 //!
 //! ```rust
 //! // one sample that is lighter by 78 leaves no level
 //! let mut lighter = [100; SIZE];
 //! lighter[128 * 16 + 16] = 178;
 //! let frame = PictureRef::new(Format::SubQcif, &lighter);
-//! assert!(rt; choose(frame, Some(reference), 9, &header, &params) == Mb::Skip);
+//! let mut chosen = Chosen::new();
+//! choose(frame, Some(reference), 9, &header, &params, &mut chosen);
+//! assert!(rt; chosen.mb == Mb::Skip);
 //! ```
 #![tactic(auto)]
 
@@ -24,4 +26,4 @@ mod residual;
 mod samples;
 
 pub use chosen::Chosen;
-pub use macroblock::{choose, choose_into};
+pub use macroblock::choose;

@@ -10,3 +10,4 @@ pub mod Nears
 pub mod AreaSums
 pub mod Strips
 pub mod Uppers
+pub mod AbsoluteSums

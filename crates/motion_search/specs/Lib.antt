@@ -1,3 +1,4 @@
+pub mod Differences
 pub mod Order
 pub mod Cost
 pub mod Vectors

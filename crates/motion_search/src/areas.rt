@@ -2,7 +2,7 @@
 //! at least as much as the sums of their quarters do.
 ghost use Rattle.std.specs.Prelude.{◌≡◌, ℕ, ◌+◌, ◌%◌, ◌<◌, ◌≤◌, List, length, slice_index};
 ghost use Rattle.std.specs.Int.{abs_diff, bit_at};
-ghost use Rattle.sad_kernel.specs.Differences.{differences};
+ghost use Rattle.motion_search.specs.Differences.{differences};
 ghost use Rattle.motion_search.specs.Cost.{square};
 ghost use Rattle.motion_search.specs.declared.areas.Quarters.{Quarters};
 ghost use Rattle.motion_search.specs.Areas.{area_sum, AreBytes, AreColumns, AreHalves, AreQuarters, in_block, IsRow, sixteen};

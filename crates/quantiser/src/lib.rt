@@ -18,9 +18,7 @@ ghost use Rattle.std.specs.Prelude.{◌≡◌, ℕ, ◌≤◌, pos, unsigned_abs
 ghost use Rattle.h263_types.specs.Blocks.{IsLevel, IsQuant, IsValue};
 ghost use Rattle.quantiser.specs.Levels.{value_of, value_size};
 
-pub use coefficients::{
-    Factor, factor_of, level_inter, level_inter_by, level_intra, level_intra_by, limited,
-};
+pub use coefficients::{Factor, factor_of, level_inter, level_intra, limited};
 pub use scan::{block_place, zigzag_place};
 
 /// The value, -2048 to 2047, of a level from -127 to 127 that isn't an INTRADC value; `quant` is 1

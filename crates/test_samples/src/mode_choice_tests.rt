@@ -3,7 +3,7 @@ ghost use Rattle.std.specs.Prelude.{◌<◌, ◌≤◌};
 
 use h263_planes::{PictureMut, PictureRef, Plane};
 use h263_types::{Block, Format, Kind, Mb, Params};
-use mode_choice::choose;
+use mode_choice::{Chosen, choose};
 use picture_header::Header;
 use std::process::Abort;
 use test_fixtures::codec::{self, PARAMS, SIZE, texture};
@@ -56,14 +56,17 @@ fn levels_of_a_macroblock(rt: HostRuntime) {
             block(90, [0; 5]),
             block(200, [0; 5]),
         ];
-        let mb = choose(out.seen(), None, 9, &codec::INTRA, &params);
-        assert_eq!(rt; mb, Mb::Intra { quant: 8, blocks }, "keep {keep}");
+        let mut chosen = Chosen::new();
+        choose(out.seen(), None, 9, &codec::INTRA, &params, &mut chosen);
+        assert_eq!(rt; chosen.mb, Mb::Intra { quant: 8, blocks }, "keep {keep}");
     }
     let grey = Mb::Intra {
         quant: 8,
         blocks: [block(128, [0; 5]); 6],
     };
-    assert_eq!(rt; choose(out.seen(), None, 47, &codec::INTRA, &PARAMS), grey);
+    let mut last = Chosen::new();
+    choose(out.seen(), None, 47, &codec::INTRA, &PARAMS, &mut last);
+    assert_eq!(rt; last.mb, grey);
 }
 
 // The samples of Y of a sub-QCIF picture, and of one of its colours.
@@ -120,7 +123,9 @@ fn chosen(
     let params = Params { keep, ..PARAMS };
     let frame = PictureRef::new(Format::SubQcif, frame);
     let reference = PictureRef::new(Format::SubQcif, reference);
-    match choose(frame, Some(reference), mb, &header, &params) {
+    let mut chosen = Chosen::new();
+    choose(frame, Some(reference), mb, &header, &params, &mut chosen);
+    match chosen.mb {
         Mb::Skip => (SKIP, 0, 0, 0),
         Mb::Intra { blocks, .. } => (INTRA, 0, 0, digest(&blocks)),
         Mb::Inter { vector, blocks, .. } => (INTER, vector.x, vector.y, digest(&blocks)),

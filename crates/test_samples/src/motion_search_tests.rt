@@ -3,7 +3,7 @@ ghost use Rattle.std.specs.Prelude.{◌<◌};
 
 use h263_planes::PictureRef;
 use h263_types::{Format, Vector};
-use motion_search::{search, search_from};
+use motion_search::{sad, search};
 use std::process::Abort;
 use test_fixtures::codec::{SIZE, texture};
 
@@ -26,9 +26,9 @@ fn found(
     assert!(rt; rounding <= 1);
     let frame = PictureRef::new(Format::SubQcif, frame);
     let reference = PictureRef::new(Format::SubQcif, reference);
-    let (vector, cost) = search(frame, reference, mb, radius, rounding);
+    let (vector, cost) = search(frame, reference, mb, radius, rounding, Vector::ZERO);
     let guess = Vector { x: -27, y: 14 };
-    let (vector_again, cost_again) = search_from(frame, reference, mb, radius, rounding, guess);
+    let (vector_again, cost_again) = search(frame, reference, mb, radius, rounding, guess);
     assert!(rt; vector_again == vector);
     assert!(rt; cost_again == cost);
     (vector.x, vector.y, cost)
@@ -224,5 +224,37 @@ fn zero_vector_is_ahead_by_100(rt: HostRuntime) {
             want,
             "at {count}"
         );
+    }
+}
+
+#[test]
+fn differences_by_hand(rt: HostRuntime) {
+    // 1, 2, 3 and 4
+    assert_eq!(rt; sad(&[10, 20, 30, 40], &[11, 18, 33, 36]), 10);
+    assert_eq!(rt; sad(&[], &[]), 0);
+}
+
+#[test]
+fn lanes_and_the_rest(rt: HostRuntime) {
+    // the difference at place k is 255 - 5 * k
+    let mut a = [0; 48];
+    let mut b = [0; 48];
+    for k in 0..48u8 {
+        a[k as usize] = if k % 2 == 0 { 255 - 2 * k } else { 3 * k };
+        b[k as usize] = if k % 2 == 0 { 3 * k } else { 255 - 2 * k };
+    }
+    let table = [
+        (0, 0),
+        (1, 255),
+        (15, 3300),
+        (16, 3480),
+        (17, 3655),
+        (32, 5680),
+        (33, 5775),
+        (48, 6600),
+    ];
+    for (n, want) in table {
+        assert!(rt; n <= 48);
+        assert_eq!(rt; sad(&a[..n], &b[..n]), want, "of {n}");
     }
 }

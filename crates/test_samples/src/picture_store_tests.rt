@@ -48,7 +48,7 @@ fn set_first(bytes: &mut [u8], value: u8)
     requires { length bytes.old ≡ 18432 }
 {
     let mut picture = PictureMut::new(Format::SubQcif, bytes);
-    picture.set(Plane::Y, 0, 0, value);
+    picture.set_row(Plane::Y, 0, 0, &[value]);
 }
 
 fn carry_first(read: &[u8], write: &mut [u8])

@@ -1,5 +1,5 @@
 use Rattle.std.proofs.Common.{ℕ, ◌+◌, arith}
-use Rattle.sad_kernel.specs.Differences.{differences}
+use Rattle.motion_search.specs.Differences.{differences}
 use Rattle.motion_search.specs.Cost.{square}
 use Rattle.motion_search.specs.Areas.{half_away}
 use Rattle.motion_search.proofs.AreaSums.{block_area_small, both_lanes, half_small, mark_tells, more_than, ruled_out}

@@ -23,13 +23,13 @@ loop-at-preserved c =
     let old = lent.work c.loop-at.work in
     let new = lent.work c.recon_predicted.new.out in
     let inside : at < mbs_of frame.format = subst (λ (f : Format). at < mbs_of f) (sym c.requires.frame_format) (omega (arith, c.mbs-at-end.ensures, c.loop-at-test.true)) in
-    let chosen = c.choose_into.ensures.choice ∙ sym (c.one_for_each_place.ensures.each frame reference h params at inside) in
+    let chosen = c.choose.ensures.choice ∙ sym (c.one_for_each_place.ensures.each frame reference h params at inside) in
     record {
       added = record {
         begun = c.add.ensures.begun;
         holds =
             subst (λ (l : List Mb). Holds c.add.new.self c.args.number h l)
-            (ap (λ (m : Mb). take at mbs ++ m ∷ []) c.choose_into.ensures.choice ∙ sym (c.one_for_each_place.ensures.next frame reference h params at inside))
+            (ap (λ (m : Mb). take at mbs ++ m ∷ []) c.choose.ensures.choice ∙ sym (c.one_for_each_place.ensures.next frame reference h params at inside))
             (c.add.ensures.holds c.args.number h (take at mbs) c.loop-at.invariant.added.holds);
         added = c.add.ensures.added ∙ ap (λ (n : ℕ). n + 1) c.loop-at.invariant.added.added;
         kind = c.add.ensures.rest.kind ∙ c.loop-at.invariant.added.kind;

@@ -10,8 +10,8 @@ search-cost-requires-clause-format g c = ap (λ (p : Picture). p.format) c.new-f
 pub search-cost-requires-clause-mb : goal.search-cost-requires-clause-mb
 search-cost-requires-clause-mb g c = subst (λ (f : Format). c.args.mb < mbs_of f) (sym (ap (λ (p : Picture). p.format) c.new-reference.ensures.picture)) (omega arith)
 
-pub search_from-cost_again-requires-clause-format : goal.search_from-cost_again-requires-clause-format
-search_from-cost_again-requires-clause-format g c = ap (λ (p : Picture). p.format) c.new-frame.ensures.picture ∙ sym (ap (λ (p : Picture). p.format) c.new-reference.ensures.picture)
+pub search-cost_again-requires-clause-format : goal.search-cost_again-requires-clause-format
+search-cost_again-requires-clause-format g c = ap (λ (p : Picture). p.format) c.new-frame.ensures.picture ∙ sym (ap (λ (p : Picture). p.format) c.new-reference.ensures.picture)
 
-pub search_from-cost_again-requires-clause-mb : goal.search_from-cost_again-requires-clause-mb
-search_from-cost_again-requires-clause-mb g c = subst (λ (f : Format). c.args.mb < mbs_of f) (sym (ap (λ (p : Picture). p.format) c.new-reference.ensures.picture)) (omega arith)
+pub search-cost_again-requires-clause-mb : goal.search-cost_again-requires-clause-mb
+search-cost_again-requires-clause-mb g c = subst (λ (f : Format). c.args.mb < mbs_of f) (sym (ap (λ (p : Picture). p.format) c.new-reference.ensures.picture)) (omega arith)

@@ -1,0 +1,87 @@
+//! Sums of absolute differences of samples, sixteen at a time.
+ghost use Rattle.std.specs.Prelude.{◌≡◌, ◌+◌, ◌*◌, ◌≤◌, length};
+ghost use Rattle.std.specs.Int.{abs_diff};
+ghost use Rattle.std.specs.Simd.Lanes.{chunk, zip2, Each1};
+ghost use Rattle.motion_search.specs.Differences.{differences};
+
+use std::simd::prelude::*;
+
+const LANES: usize = 16;
+
+/// The sum of the absolute differences of two lists of samples: from 0 to 255 times their length.
+#[inline]
+pub fn sad(a: &[u8], b: &[u8]) -> u32
+    requires same_length { length a.now ≡ length b.now }
+    requires at_most { length a.now ≤ 65536 }
+    ensures value { result ≡ differences a.now b.now }
+    ensures most { result ≤ 255 * length a.now }
+{
+    let mut total = 0;
+    let mut at = 0;
+    while a.len() - at >= LANES {
+        total += of_sixteen(a, b, at);
+        at += LANES;
+    }
+    total + one_by_one(&a[at..], &b[at..])
+}
+
+/// The sum of the absolute differences of four pairs of rows, each of sixteen samples.
+#[inline(always)]
+pub fn sad_of_four(
+    first: (&[u8], &[u8]),
+    second: (&[u8], &[u8]),
+    third: (&[u8], &[u8]),
+    fourth: (&[u8], &[u8]),
+) -> u32
+    requires first { (length first.0.now ≡ 16) × (length first.1.now ≡ 16) }
+    requires second { (length second.0.now ≡ 16) × (length second.1.now ≡ 16) }
+    requires third { (length third.0.now ≡ 16) × (length third.1.now ≡ 16) }
+    requires fourth { (length fourth.0.now ≡ 16) × (length fourth.1.now ≡ 16) }
+    ensures most { result ≤ 16320 }
+    ensures value { result ≡ differences first.entry.0.now first.entry.1.now
+        + differences second.entry.0.now second.entry.1.now + differences
+        third.entry.0.now third.entry.1.now + differences fourth.entry.0.now fourth.entry.1.now }
+{
+    let upper = lanes(first.0, first.1, 0).strict_add(lanes(second.0, second.1, 0));
+    let lower = lanes(third.0, third.1, 0).strict_add(lanes(fourth.0, fourth.1, 0));
+    upper.strict_add(lower).strict_reduce_sum()
+}
+
+// The absolute differences of sixteen samples from `at` on. Of both differences, which wrap, it is
+// the smaller one: the compiler knows this form, and sums it up by one instruction.
+#[inline(always)]
+fn lanes(a: &[u8], b: &[u8], at: usize) -> u32x16
+    requires a { at + LANES ≤ length a.now }
+    requires b { at + LANES ≤ length b.now }
+    ensures value { result ≡ zip2 abs_diff (chunk at LANES a.now) (chunk at LANES b.now) }
+    ensures length { length result ≡ LANES }
+    ensures most { Each1 (λ d. d ≤ 255) result }
+{
+    let x: u32x16 = u8x16::from_slice(&a[at..]).cast();
+    let y: u32x16 = u8x16::from_slice(&b[at..]).cast();
+    (x - y).simd_min(y - x)
+}
+
+// The differences of sixteen samples from `at` on.
+#[inline(always)]
+fn of_sixteen(a: &[u8], b: &[u8], at: usize) -> u32
+    requires a { at + LANES ≤ length a.now }
+    requires b { at + LANES ≤ length b.now }
+    ensures { result ≡ differences (chunk at LANES a.now) (chunk at LANES b.now) }
+{
+    lanes(a, b, at).strict_reduce_sum()
+}
+
+// The differences of a list that is too short for lanes.
+#[inline(always)]
+fn one_by_one(a: &[u8], b: &[u8]) -> u32
+    requires same_length { length a.now ≡ length b.now }
+    requires at_most { length a.now ≤ 65536 }
+    ensures { result ≡ differences a.now b.now }
+{
+    let mut total = 0;
+    for i in 0..a.len() {
+        total += u32::from(a[i].abs_diff(b[i]));
+    }
+    total
+}
