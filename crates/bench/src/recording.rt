@@ -11,7 +11,7 @@ use crate::video::{Video, make};
 use back_messages::MessageBytes;
 use h263_planes::PictureRef;
 use h263_types::{FixedPace, OutOfMemory, Params};
-use receiver_end::{Heard, Receiver};
+use receiver_end::Receiver;
 use sender_end::Sender;
 use std::alloc::Global;
 
@@ -131,7 +131,7 @@ fn deliver(
     let mut said = None;
     'packets: for i in 0..count {
         let packet = Vec::from_slice(alloc, sender.packet(i))?;
-        if let Heard::Completed(message) = receiver.packet(&packet) {
+        if let Some(message) = receiver.packet(&packet).message() {
             said = Some(message);
         }
         packets.push(packet)?;

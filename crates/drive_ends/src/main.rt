@@ -10,7 +10,7 @@ ghost use Rattle.h263_planes.specs.Lent.{picture};
 use back_messages::MessageBytes;
 use h263_planes::PictureRef;
 use h263_types::{FixedPace, Format, Mark, OutOfMemory, Params};
-use receiver_end::{Heard, Receiver};
+use receiver_end::Receiver;
 use sender_end::{Coded, Sender};
 use std::alloc::{AllocError, Global};
 use std::io;
@@ -96,7 +96,7 @@ fn carry(sender: &Sender<FixedPace>, receiver: &mut Receiver, coded: Coded) -> O
     }
     let mut said = None;
     'packets: for i in 0..coded.packets {
-        if let Heard::Completed(message) = receiver.packet(sender.packet(i)) {
+        if let Some(message) = receiver.packet(sender.packet(i)).message() {
             said = Some(message);
         }
     }

@@ -70,7 +70,12 @@ fault_number faults.OtherClock = 1
 fault_number faults.HeaderDiffers = 2
 fault_number faults.MissingReference = 3
 fault_number faults.Overlap = 4
-fault_number (faults.Bytes kind) = kind_number kind
+fault_number (faults.Bytes fault) = kind_number fault.kind
+
+-- the bit at which the bytes have their fault; other faults have no place, and 0
+abbrev pub place_of : PacketFault → ℕ
+place_of (faults.Bytes fault) = fault.at
+place_of _ = 0
 
 -- ---- a receiver's answers
 
@@ -86,9 +91,9 @@ plain kind = record { kind = kind; fault = 0; at = 0; message = no_message }
 abbrev pub saying : ℕ → MessageBytes → Answer
 saying kind said = record { kind = kind; fault = 0; at = 0; message = said_of said }
 
-abbrev pub refusing : PacketFault → ℕ → Answer
-refusing fault at =
-    record { kind = 5; fault = fault_number fault; at = at; message = no_message }
+abbrev pub refusing : PacketFault → Answer
+refusing fault =
+    record { kind = 5; fault = fault_number fault; at = place_of fault; message = no_message }
 
 -- to a packet
 abbrev pub heard_answer : Heard → Answer
@@ -97,7 +102,7 @@ heard_answer (heards.Completed said) = saying 1 said
 heard_answer heards.Late = plain 2
 heard_answer heards.Early = plain 3
 heard_answer heards.Repeat = plain 4
-heard_answer (heards.Refused fault at) = refusing fault at
+heard_answer (heards.Refused fault) = refusing fault
 
 abbrev pub mark_number : Mark → ℕ
 mark_number marks.Exact = 0

@@ -79,7 +79,20 @@ fn fault_number(fault: PacketFault) -> u32
         PacketFault::HeaderDiffers => 2,
         PacketFault::MissingReference => 3,
         PacketFault::Overlap => 4,
-        PacketFault::Bytes(kind) => kind_number(kind),
+        PacketFault::Bytes(fault) => kind_number(fault.kind),
+    }
+}
+
+// The bit at which the bytes have their fault; other faults have no place, and 0.
+fn place_of(fault: PacketFault) -> u32
+    ensures { result ≡ numbers.place_of fault }
+{
+    match fault {
+        PacketFault::Bytes(fault) => fault.at,
+        PacketFault::OtherClock => 0,
+        PacketFault::HeaderDiffers => 0,
+        PacketFault::MissingReference => 0,
+        PacketFault::Overlap => 0,
     }
 }
 
@@ -138,10 +151,10 @@ impl Answer {
             Heard::Late => Answer::plain(2),
             Heard::Early => Answer::plain(3),
             Heard::Repeat => Answer::plain(4),
-            Heard::Refused { fault, at } => Answer {
+            Heard::Refused(fault) => Answer {
                 kind: 5,
                 fault: fault_number(*fault),
-                at: *at,
+                at: place_of(*fault),
                 message: Said::NOTHING,
             },
         }

@@ -10,14 +10,8 @@ use Rattle.call_model.specs.JoinedRun.{SaidMessage, said_to}
 use Rattle.call_model.specs.Receiving as runs
 use Rattle.call_encoding.specs.Messages.{write_message}
 use Rattle.coded_call.specs.Bytes.{AreBytes}
-use Rattle.receiver_end.specs.Answers.{IsHeard, IsMessage, IsSaid}
-use Rattle.receiver_end.specs.declared.answers.Heard.{Heard}
-use Rattle.one_way.specs.Network.{said_in, told_by}
-
--- the message of an answer of a run
-abbrev pub message_in : runs.Heard Fault → Option Message
-message_in (runs.Completed message) = Some message
-message_in _ = None
+use Rattle.receiver_end.specs.Answers.{IsMessage, IsSaid, said_by}
+use Rattle.one_way.specs.Network.{told_by}
 
 -- the bytes that are said of a message are those that are written of it
 abbrev pub SaysBytes : Type 0
@@ -31,19 +25,7 @@ told_of n message = option_map_or (λ (m : Message). let told : SaidMessage = re
 
 -- ---- answers
 
-pub heard_message : (clock : Clock) (h : Heard) (answer : runs.Heard Fault) → IsHeard clock h answer → IsMessage clock (said_in h) (message_in answer)
-heard_message clock h (runs.Refused fault) is = ap said_in is
-heard_message clock h runs.OtherClock is = ap said_in is
-heard_message clock h runs.Late is = ap said_in is
-heard_message clock h runs.Early is = ap said_in is
-heard_message clock h runs.HeaderDiffers is = ap said_in is
-heard_message clock h runs.MissingReference is = ap said_in is
-heard_message clock h runs.Repeat is = ap said_in is
-heard_message clock h runs.Overlap is = ap said_in is
-heard_message clock h (runs.Completed message) is = (is.0, ap said_in is.1, is.2)
-heard_message clock h runs.Taken is = ap said_in is
-
-pub heard_told : (n : ℕ) (answer : runs.Heard Fault) → said_to write_message n answer ≡ told_of n (message_in answer)
+pub heard_told : (n : ℕ) (answer : runs.Heard Fault) → said_to write_message n answer ≡ told_of n (said_by answer)
 heard_told n (runs.Refused fault) = refl
 heard_told n runs.OtherClock = refl
 heard_told n runs.Late = refl

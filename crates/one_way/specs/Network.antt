@@ -11,8 +11,6 @@ use Rattle.call_model.specs.Sending as call
 use Rattle.call_decoding.specs.Rules.{rules_of}
 use Rattle.call_decoding.specs.Styles.{Style}
 use Rattle.call_encoding.specs.Encoding.{encoding}
-use Rattle.receiver_end.specs.declared.answers.Heard.{Heard}
-use Rattle.receiver_end.specs.declared.answers.Heard.TheVariants as heards
 use Rattle.call_rings.specs.declared.packets.PacketRing.{PacketRing}
 use Rattle.call_rings.specs.declared.messages.MessageRing.{MessageRing}
 use Rattle.call_rings.specs.Keeping as ring
@@ -59,11 +57,6 @@ pub record HasMessages (messages : MessageRing) (said : List SaidMessage) : Type
   pub pairs : List (ℕ × MessageBytes)
   pub holds : HoldsMessages messages pairs
   pub same : map told_in pairs ≡ said
-
--- the message of an answer
-abbrev pub said_in : Heard → Option MessageBytes
-said_in (heards.Completed said) = Some said
-said_in _ = None
 
 -- what is told of picture n by this message, if one was said
 abbrev pub told_by : ℕ → Option MessageBytes → List SaidMessage

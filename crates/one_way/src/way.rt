@@ -22,7 +22,7 @@ ghost use Rattle.receiver_end.specs.Decoding.{decoding};
 ghost use Rattle.receiver_end.specs.State as receiver_end;
 ghost use Rattle.one_way.specs.Both.{IsSameSender, State, both_after, carrying, steady};
 ghost use Rattle.one_way.specs.Counts.{counts_with, total_of};
-ghost use Rattle.one_way.specs.Network.{AreRoomy, IsAmongLast, IsKeeping, said_in, told_by};
+ghost use Rattle.one_way.specs.Network.{AreRoomy, IsAmongLast, IsKeeping, told_by};
 ghost use Rattle.one_way.specs.Seen.{reference_in};
 ghost use Rattle.one_way.specs.Way.{CanSend, HoldsWay, IsNewWay, MayHappenNow};
 ghost use Rattle.one_way.specs.declared.way.Way.{Way};
@@ -33,7 +33,7 @@ use call_report::Line;
 use call_rings::{PacketRing, laws as call_rings_laws};
 use h263_planes::PictureRef;
 use h263_types::{FixedPace, OutOfMemory, Params};
-use receiver_end::{Heard, Played, Receiver};
+use receiver_end::{Played, Receiver, laws as receiver_end_laws};
 use sender_end::Sender;
 use std::alloc::Global;
 
@@ -63,16 +63,6 @@ fn keep_packets(packets: &mut PacketRing, sender: &Sender<FixedPace>, count: u32
     packets.begin();
     'packets: for place in 0..count {
         packets.push(sender.packet(place));
-    }
-}
-
-// The message of an answer.
-fn said_in(heard: &Heard) -> Option<MessageBytes>
-    ensures { result ≡ said_in heard.now }
-{
-    match heard {
-        Heard::Completed(said) => Some(*said),
-        _ => None,
     }
 }
 
@@ -176,11 +166,12 @@ impl Way {
     {
         laws::ends_run();
         laws::of_messages();
+        receiver_end_laws::answers_say();
         let Some(bytes) = self.packets.packet(number, place) else {
             return None;
         };
         let heard = receiver.packet(bytes);
-        as_said(said_in(&heard))
+        as_said(heard.message())
     }
 
     /// Plays the next picture, counts its mark, and answers it with what the receiver says.

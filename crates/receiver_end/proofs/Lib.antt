@@ -18,3 +18,4 @@ pub mod Greys
 pub mod News
 pub mod Told
 pub mod Runs
+pub mod Saying

@@ -29,9 +29,9 @@ module _ (r : Kept) (past : List runs.ReceiverEntry) (stands : Stands r past) wh
   refused fault = refl
 
   pub heard_err : (bytes : List ℕ) (fault : Fault) → packet_at r.params.format bytes ≡ Err fault
-      → IsHeard r.params.clock (heards.Refused (faults.Bytes fault.kind) fault.at) (runs.heard (decoding r.params.format) (rules_of r.params) (run_of r.params past) ((decoding r.params.format).read bytes))
+      → IsHeard r.params.clock (heards.Refused (faults.Bytes fault)) (runs.heard (decoding r.params.format) (rules_of r.params) (run_of r.params past) ((decoding r.params.format).read bytes))
   heard_err bytes fault read =
-      subst (IsHeard r.params.clock (heards.Refused (faults.Bytes fault.kind) fault.at))
+      subst (IsHeard r.params.clock (heards.Refused (faults.Bytes fault)))
       (sym (ap (λ (x : Result Slice Fault). runs.heard (decoding r.params.format) (rules_of r.params) (run_of r.params past) (with_piece x)) read ∙ refused fault)) refl
 
   untaken : (fault : Fault) → is_taking (heard_by_kept (decoding r.params.format) (rules_of r.params) (seen r) (Err fault)) ≡ false

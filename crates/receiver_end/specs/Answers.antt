@@ -25,17 +25,27 @@ pub record IsSaid (clock : Clock) (said : MessageBytes) (message : call.Message)
 
 -- the answer is the one that the run gives
 abbrev pub IsHeard : Clock → Heard → runs.Heard Fault → Type 0
-IsHeard clock h (runs.Refused fault) = h ≡ heards.Refused (faults.Bytes fault.kind) fault.at
-IsHeard clock h runs.OtherClock = h ≡ heards.Refused faults.OtherClock 0
+IsHeard clock h (runs.Refused fault) = h ≡ heards.Refused (faults.Bytes fault)
+IsHeard clock h runs.OtherClock = h ≡ heards.Refused faults.OtherClock
 IsHeard clock h runs.Late = h ≡ heards.Late
 IsHeard clock h runs.Early = h ≡ heards.Early
-IsHeard clock h runs.HeaderDiffers = h ≡ heards.Refused faults.HeaderDiffers 0
-IsHeard clock h runs.MissingReference = h ≡ heards.Refused faults.MissingReference 0
+IsHeard clock h runs.HeaderDiffers = h ≡ heards.Refused faults.HeaderDiffers
+IsHeard clock h runs.MissingReference = h ≡ heards.Refused faults.MissingReference
 IsHeard clock h runs.Repeat = h ≡ heards.Repeat
-IsHeard clock h runs.Overlap = h ≡ heards.Refused faults.Overlap 0
+IsHeard clock h runs.Overlap = h ≡ heards.Refused faults.Overlap
 IsHeard clock h (runs.Completed message) =
     (said : MessageBytes) × (h ≡ heards.Completed said) × IsSaid clock said message
 IsHeard clock h runs.Taken = h ≡ heards.Taken
+
+-- the message of an answer: a packet that completes its picture acknowledges it
+abbrev pub said_by : runs.Heard Fault → Option call.Message
+said_by (runs.Completed message) = Some message
+said_by _ = None
+
+-- the same, in bytes
+abbrev pub said_in : Heard → Option MessageBytes
+said_in (heards.Completed said) = Some said
+said_in _ = None
 
 -- the answer takes the packet: each other one leaves the receiver exactly as it was
 abbrev pub takes : Heard → Bool

@@ -1,13 +1,13 @@
 //! What a receiver answers.
 use back_messages::MessageBytes;
-use h263_bits::FaultKind;
+use h263_bits::Fault;
 use h263_types::Mark;
 
 /// Why a packet is refused.
 #[derive(Clone, Copy, Debug, PartialEq, Eq)]
 pub enum PacketFault {
-    /// The first fault of its bytes.
-    Bytes(FaultKind),
+    /// Its bytes have this first fault.
+    Bytes(Fault),
     /// It is of the other picture clock.
     OtherClock,
     /// A slice of its picture was taken with another header.
@@ -30,14 +30,29 @@ pub enum Heard {
     Early,
     /// All its macroblocks were taken.
     Repeat,
-    /// `at` is the bit of a fault of the bytes, else 0.
-    Refused { fault: PacketFault, at: u32 },
+    Refused(PacketFault),
 }
 
-/// What a play says: how its picture is shown, and where it isn't complete the message that asks
-/// for another reference.
+impl Heard {
+    ghost use Rattle.std.specs.Prelude.{◌≡◌};
+    ghost use Rattle.receiver_end.specs.Answers.{said_in};
+
+    /// The message that it says: the acknowledgement of a picture that is complete.
+    pub fn message(&self) -> Option<MessageBytes>
+        ensures { result ≡ said_in self.now }
+    {
+        match self {
+            Heard::Completed(said) => Some(*said),
+            _ => None,
+        }
+    }
+}
+
+/// What a play says: which picture it is, how that is shown, and where it isn't complete the message
+/// that asks for another reference.
 #[derive(Clone, Copy, Debug, PartialEq, Eq)]
 pub struct Played {
+    pub number: u32,
     pub mark: Mark,
     pub message: Option<MessageBytes>,
 }

@@ -33,9 +33,9 @@ fn is_same_clock(a: Clock, b: Clock) -> bool
 }
 
 fn refused(fault: PacketFault) -> Heard
-    ensures { result ≡ heards.Refused fault 0 }
+    ensures { result ≡ heards.Refused fault }
 {
-    Heard::Refused { fault, at: 0 }
+    Heard::Refused(fault)
 }
 
 impl Kept {

@@ -1,10 +1,15 @@
 //! What is known of a receiver's run by its definitions alone. Each law is the contract of a
 //! function that does nothing else.
+ghost use Rattle.h263_bits.specs.declared.fault.Fault.{Fault};
+ghost use Rattle.h263_types.specs.declared.clock.Clock.{Clock};
 ghost use Rattle.h263_types.specs.declared.params.Params.{Params};
 ghost use Rattle.h263_types.specs.Params.{IsParams};
 ghost use Rattle.call_model.specs.Lawful.{IsDecoding};
 ghost use Rattle.call_model.specs.Order.{AnyOrder};
+ghost use Rattle.call_model.specs.Receiving as runs;
 ghost use Rattle.call_decoding.specs.Rules.{rules_of};
+ghost use Rattle.receiver_end.specs.declared.answers.Heard.{Heard};
+ghost use Rattle.receiver_end.specs.Answers.{IsHeard, IsMessage, said_by, said_in};
 ghost use Rattle.receiver_end.specs.Decoding.{decoding};
 
 use call_decoding::laws::{are_pictures, are_rules};
@@ -30,3 +35,9 @@ pub fn order()
     are_rules();
     call_model::laws::order::<Styled, Mb, Pictured, Fault>();
 }
+
+/// The message of an answer is that of the run's answer.
+pub fn answers_say()
+    ensures { (clock : Clock) (h : Heard) (answer : runs.Heard Fault) → IsHeard clock h answer
+        → IsMessage clock (said_in h) (said_by answer) }
+{}

@@ -37,18 +37,21 @@ impl Kept {
     // What the next play says.
     fn told(&self) -> Played
         requires fits { Fits self.now }
-        ensures { IsPlayed self.now.params.clock result (mark_by_kept
+        ensures number { result.number ≡ self.now.played }
+        ensures told { IsPlayed self.now.params.clock result (mark_by_kept
             (decoding self.now.params.format) (rules_of self.now.params) (seen self.now))
             (message_by_kept (decoding self.now.params.format) (rules_of self.now.params)
             (seen self.now)) }
     {
         if self.holds(self.played) {
             return Played {
+                number: self.played,
                 mark: Mark::Exact,
                 message: None,
             };
         }
         Played {
+            number: self.played,
             mark: self.part(),
             message: Some(self.nack()),
         }
@@ -103,6 +106,7 @@ impl Kept {
         ensures fits { Fits self.new }
         ensures params { self.new.params ≡ self.old.params }
         ensures played { self.new.played ≡ self.old.played + 1 }
+        ensures number { result.number ≡ self.old.played }
         ensures told { IsPlayed self.old.params.clock result (mark_by_kept
             (decoding self.old.params.format) (rules_of self.old.params) (seen self.old))
             (message_by_kept (decoding self.old.params.format) (rules_of self.old.params)

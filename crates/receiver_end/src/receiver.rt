@@ -68,10 +68,7 @@ impl Receiver {
         call_decoding_laws::are_rules();
         call_model_laws::receiver_stands::<Styled, Mb, Pictured, Fault>();
         match read_packet(bytes, self.kept.params.format, &mut self.mbs) {
-            Err(fault) => Heard::Refused {
-                fault: PacketFault::Bytes(fault.kind),
-                at: fault.at,
-            },
+            Err(fault) => Heard::Refused(PacketFault::Bytes(fault)),
             Ok(piece) => self.kept.hear(&piece, &self.mbs),
         }
     }
@@ -81,6 +78,9 @@ impl Receiver {
         requires { self.old.played < 2 ^ 20 }
         ensures params { self.new.params ≡ self.old.params }
         ensures played { self.new.played ≡ self.old.played + 1 }
+        ensures number { result.number ≡ self.old.played }
+        ensures run { (past : List ReceiverEntry) → Stands self.old past → result.number
+            ≡ (run_of self.old.params past).played }
         ensures told { (past : List ReceiverEntry) → Stands self.old past
             → IsPlayed self.old.params.clock result (mark_after self.old.params past)
             (message_after self.old.params past) }

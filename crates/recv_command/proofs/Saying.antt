@@ -14,22 +14,10 @@ use Rattle.receiver_end.specs.Answers.{IsHeard, IsMessage, IsSaid}
 use Rattle.receiver_end.specs.declared.answers.Heard.{Heard}
 use Rattle.coded_call.specs.Bytes.{AreBytes}
 use Rattle.recv_command.specs.declared.tally.Tally.{Tally}
-use Rattle.recv_command.specs.Said.{back_text, message_in, said_in}
+use Rattle.recv_command.specs.Said.{back_text}
 use Rattle.recv_command.specs.Tally.{with_answer, with_heard}
 
 -- ---- answers
-
-pub heard_message : (clock : Clock) (h : Heard) (answer : runs.Heard Fault) → IsHeard clock h answer → IsMessage clock (said_in h) (message_in answer)
-heard_message clock h (runs.Refused fault) is = ap said_in is
-heard_message clock h runs.OtherClock is = ap said_in is
-heard_message clock h runs.Late is = ap said_in is
-heard_message clock h runs.Early is = ap said_in is
-heard_message clock h runs.HeaderDiffers is = ap said_in is
-heard_message clock h runs.MissingReference is = ap said_in is
-heard_message clock h runs.Repeat is = ap said_in is
-heard_message clock h runs.Overlap is = ap said_in is
-heard_message clock h (runs.Completed message) is = (is.0, ap said_in is.1, is.2)
-heard_message clock h runs.Taken is = ap said_in is
 
 pub heard_count : (clock : Clock) (h : Heard) (answer : runs.Heard Fault) (t : Tally) → IsHeard clock h answer → with_heard h t ≡ with_answer answer t
 heard_count clock h (runs.Refused fault) t is = ap (λ (x : Heard). with_heard x t) is

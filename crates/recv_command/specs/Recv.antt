@@ -10,11 +10,11 @@ use Rattle.desk_program.specs.Run.{Step}
 use Rattle.desk_program.specs.Texts.{on}
 use Rattle.log_command.specs.Log.{LogRules, LogState, log_begin, log_step}
 use Rattle.call_model.specs.Receiving.{ReceiverEntry, Packet, PlayNext}
-use Rattle.receiver_end.specs.Answers.{mark_of}
+use Rattle.receiver_end.specs.Answers.{mark_of, said_by}
 use Rattle.receiver_end.specs.State.{run_of, answer_after, mark_after, message_after, Stands}
 use Rattle.recv_command.specs.declared.recv.Receiving.{Receiving}
 use Rattle.recv_command.specs.declared.tally.Tally.{Tally}
-use Rattle.recv_command.specs.Said.{back_text, message_in, shown_text}
+use Rattle.recv_command.specs.Said.{back_text, shown_text}
 use Rattle.recv_command.specs.Tally.{no_counts, total_of, with_mark, with_answer, count_text}
 
 -- the parameters, the packets and plays so far, newest first, and what was counted of them
@@ -32,7 +32,7 @@ behind_entry s entry tally = record { params = s.params; past = entry ∷ s.past
 
 -- a packet is heard: what it completes is acknowledged
 abbrev pub heard_text : Params → List ReceiverEntry → List ℕ → Role → List ℕ
-heard_text p past bytes = back_text (message_in (answer_after p past bytes))
+heard_text p past bytes = back_text (said_by (answer_after p past bytes))
 
 -- the next picture is shown: with its mark, its line, and where it isn't complete the message that
 -- says so

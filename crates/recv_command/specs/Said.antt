@@ -1,20 +1,15 @@
 -- What a receiver shows and says, on its outputs.
 use Rattle.std.specs.Prelude.{ℕ, List, Option, Some, None}
-use Rattle.h263_bits.specs.declared.fault.Fault.{Fault}
 use Rattle.h263_outside.specs.declared.desk.Role.{Role}
 use Rattle.h263_outside.specs.declared.desk.Role.TheVariants.{Pictures, Wire, Report}
 use Rattle.h263_types.specs.declared.Mark.{Mark}
 use Rattle.h263_planes.specs.Picture.{Picture}
-use Rattle.back_messages.specs.declared.writing.MessageBytes.{MessageBytes}
 use Rattle.y4m.specs.Text.{frame_text}
 use Rattle.event_logs.specs.Text.{entry_text}
 use Rattle.call_report.specs.Text.{picture_text}
 use Rattle.desk_program.specs.Texts.{no_texts, on, then_also}
 use Rattle.call_model.specs.Coding.{Message}
-use Rattle.call_model.specs.Receiving as runs
 use Rattle.call_encoding.specs.Messages.{write_message}
-use Rattle.receiver_end.specs.declared.answers.Heard.{Heard}
-use Rattle.receiver_end.specs.declared.answers.Heard.TheVariants as heards
 
 -- a message is an entry B (66) of the wire
 abbrev pub back_text : Option Message → Role → List ℕ
@@ -26,13 +21,3 @@ abbrev pub shown_text : ℕ → Mark → Picture → Option Message → Role →
 shown_text number mark picture message =
     then_also (on Pictures (frame_text mark picture))
     (then_also (on Report (picture_text number (Some mark) None None)) (back_text message))
-
--- the message of an answer: a packet that completes its picture acknowledges it
-abbrev pub message_in : runs.Heard Fault → Option Message
-message_in (runs.Completed message) = Some message
-message_in _ = None
-
--- the same, in bytes
-abbrev pub said_in : Heard → Option MessageBytes
-said_in (heards.Completed said) = Some said
-said_in _ = None

@@ -40,7 +40,7 @@ with_heard (heards.Completed said) t = record t { taken = t.taken + 1 }
 with_heard heards.Late t = record t { late = t.late + 1 }
 with_heard heards.Early t = record t { early = t.early + 1 }
 with_heard heards.Repeat t = record t { repeat = t.repeat + 1 }
-with_heard (heards.Refused fault at) t = record t { refused = t.refused + 1 }
+with_heard (heards.Refused fault) t = record t { refused = t.refused + 1 }
 
 -- the same, by the answer of a run: one that is none of the others is a refusal
 abbrev pub with_answer : runs.Heard Fault → Tally → Tally

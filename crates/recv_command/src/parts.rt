@@ -8,7 +8,7 @@ ghost use Rattle.desk_program.specs.Ends.{Gains, GainsFronts};
 ghost use Rattle.call_model.specs.Coding.{Message};
 ghost use Rattle.receiver_end.specs.Answers.{IsMessage};
 ghost use Rattle.coded_call.specs.Bytes.{AreBytes};
-ghost use Rattle.recv_command.specs.Said.{back_text, said_in, shown_text};
+ghost use Rattle.recv_command.specs.Said.{back_text, shown_text};
 
 use back_messages::MessageBytes;
 use call_report::{Status, picture_line};
@@ -16,20 +16,10 @@ use coded_call::laws as coded_call_laws;
 use desk_program::{laws as desk_program_laws, put_entry, put_line, put_picture};
 use h263_outside::{Desk, laws as outside_laws};
 use h263_planes::PictureRef;
-use receiver_end::{Heard, Played};
+use receiver_end::Played;
 
 // The letter of a message's entry.
 const BACK: u8 = b'B';
-
-/// The message of an answer.
-pub fn said_in(heard: &Heard) -> Option<MessageBytes>
-    ensures { result ≡ said_in heard.now }
-{
-    match heard {
-        Heard::Completed(said) => Some(*said),
-        _ => None,
-    }
-}
 
 // What a slice holds are bytes: a law that speaks of numbers asks for it.
 fn are_bytes(bytes: &[u8])
@@ -63,21 +53,16 @@ pub fn say<D: Desk>(desk: &mut D, said: Option<MessageBytes>) -> Result<(), Stat
 }
 
 /// Writes a picture with its mark and its line, and what is said of it.
-pub fn show<D: Desk>(
-    desk: &mut D,
-    number: u32,
-    picture: PictureRef<'_>,
-    played: Played,
-) -> Result<(), Status>
+pub fn show<D: Desk>(desk: &mut D, picture: PictureRef<'_>, played: Played) -> Result<(), Status>
     requires pictures { (D.outside desk.old).attached Pictures ≡ true }
     requires report { (D.outside desk.old).attached Report ≡ true }
     requires wire { (D.outside desk.old).attached Wire ≡ true }
     ensures ok { (clock : Clock) (message : Option Message) → IsMessage clock played.message message
-        → OnOk result (Gains (shown_text number played.mark (lent picture.entry) message)
+        → OnOk result (Gains (shown_text played.number played.mark (lent picture.entry) message)
         (D.outside desk.old).written (D.outside desk.new).written) }
     ensures err { (clock : Clock) (message : Option Message)
         → IsMessage clock played.message message
-        → OnErr result (GainsFronts (shown_text number played.mark (lent picture.entry) message)
+        → OnErr result (GainsFronts (shown_text played.number played.mark (lent picture.entry) message)
         (D.outside desk.old).written (D.outside desk.new).written) }
     ensures kind { IfErr result (λ status. status ≡ Status.WriteFault) }
     ensures cause { OnErr result
@@ -87,6 +72,9 @@ pub fn show<D: Desk>(
     outside_laws::calls();
     desk_program_laws::of_turns();
     put_picture(desk, played.mark, picture)?;
-    put_line(desk, &picture_line(number, Some(played.mark), None, None))?;
+    put_line(
+        desk,
+        &picture_line(played.number, Some(played.mark), None, None),
+    )?;
     say(desk, played.message)
 }

@@ -3,14 +3,13 @@ ghost use Rattle.std.specs.Prelude.{◌≡◌, ◌+◌, ◌<◌, ◌^◌, ℕ, t
 ghost use Rattle.h263_outside.specs.Desk.{OnlyWrites, Rose};
 ghost use Rattle.h263_outside.specs.declared.desk.Role.TheVariants.{Pictures, Report, Wire};
 ghost use Rattle.desk_program.specs.Ends.{Gains, GainsFronts};
-ghost use Rattle.receiver_end.specs.Answers.{IsMessage};
+ghost use Rattle.receiver_end.specs.Answers.{IsMessage, said_by};
 ghost use Rattle.receiver_end.specs.State.{answer_after};
-ghost use Rattle.recv_command.specs.Said.{message_in};
 ghost use Rattle.recv_command.specs.Recv.{RecvStands, RecvState, recv_rules};
 ghost use Rattle.recv_command.specs.Tally.{total_of};
 
 use crate::Tally;
-use crate::parts::{said_in, say, show};
+use crate::parts::{say, show};
 use back_messages::MessageBytes;
 use call_report::Status;
 use desk_program::{put_head, put_line};
@@ -18,7 +17,7 @@ use event_logs::Side;
 use h263_outside::Desk;
 use h263_types::Params;
 use log_command::{LogCommand, LogMachine};
-use receiver_end::Receiver;
+use receiver_end::{Receiver, laws as receiver_end_laws};
 use std::alloc::Global;
 
 /// The machine of the command.
@@ -37,12 +36,13 @@ impl Receiving {
         ensures stands { (s : RecvState) → RecvStands self.old s
             → RecvStands self.new (recv_rules.packet s bytes.now) }
         ensures says { (s : RecvState) → RecvStands self.old s → IsMessage s.params.clock result
-            (message_in (answer_after s.params s.past bytes.now)) }
+            (said_by (answer_after s.params s.past bytes.now)) }
         ensures total { total_of self.new.tally ≡ total_of self.old.tally + 1 }
     {
+        receiver_end_laws::answers_say();
         let heard = self.receiver.packet(bytes);
         self.tally.hear(&heard);
-        said_in(&heard)
+        heard.message()
     }
 
     // A play: the next picture is shown; where it isn't complete a message says so.
@@ -66,10 +66,9 @@ impl Receiving {
             (Rose (D.outside desk.old).faults.write (D.outside desk.new).faults.write) }
         ensures rest { OnlyWrites (D.outside desk.old) (D.outside desk.new) }
     {
-        let number = self.receiver.played();
         let played = self.receiver.play();
         self.tally.play(played.mark);
-        show(desk, number, self.receiver.shown(), played)
+        show(desk, self.receiver.shown(), played)
     }
 
     // Writes the line of what was played and counted.

@@ -63,7 +63,7 @@ impl Tally {
             Heard::Late => self.late += 1,
             Heard::Early => self.early += 1,
             Heard::Repeat => self.repeat += 1,
-            Heard::Refused { .. } => self.refused += 1,
+            Heard::Refused(_) => self.refused += 1,
         }
     }
 

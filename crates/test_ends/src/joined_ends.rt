@@ -151,6 +151,7 @@ impl Ends {
         ensures format { self.new.format ≡ self.old.format }
     {
         let exact = Played {
+            number: self.receiver.played(),
             mark: Mark::Exact,
             message: None,
         };
@@ -531,10 +532,7 @@ fn late_by_the_custom_clock(rt: HostRuntime) -> Result<(), Fail> {
         radius: 0,
         ..NARROW
     };
-    let other = Heard::Refused {
-        fault: PacketFault::OtherClock,
-        at: 0,
-    };
+    let other = Heard::Refused(PacketFault::OtherClock);
     let steps = [
         Step::Hear(&SKIPPED_PACKET, other),
         Step::Lose(511),
@@ -548,10 +546,7 @@ fn late_by_the_custom_clock(rt: HostRuntime) -> Result<(), Fail> {
 // its picture has is refused.
 #[test]
 fn early_packet_and_other_header(rt: HostRuntime) -> Result<(), Fail> {
-    let differs = Heard::Refused {
-        fault: PacketFault::HeaderDiffers,
-        at: 0,
-    };
+    let differs = Heard::Refused(PacketFault::HeaderDiffers);
     let steps = [
         Step::Code(100, None),
         Step::Code(100, None),

@@ -18,16 +18,10 @@ const ACK_1: MessageBytes = MessageBytes {
     len: 3,
 };
 
-const MISSING: Heard = Heard::Refused {
-    fault: PacketFault::MissingReference,
-    at: 0,
-};
+const MISSING: Heard = Heard::Refused(PacketFault::MissingReference);
 
 fn bytes_refused(kind: FaultKind, at: u32) -> Heard {
-    Heard::Refused {
-        fault: PacketFault::Bytes(kind),
-        at,
-    }
+    Heard::Refused(PacketFault::Bytes(kind.at(at)))
 }
 
 #[test]
@@ -62,6 +56,7 @@ fn cut_packet_before_the_whole_one(rt: HostRuntime) -> Result<(), Fail> {
     assert_eq!(rt;
         played,
         Played {
+            number: 0,
             mark: Mark::Exact,
             message: None
         }
@@ -123,6 +118,7 @@ fn held_pictures(rt: HostRuntime) -> Result<(), Fail> {
     assert_eq!(rt;
         nothing,
         Played {
+            number: 0,
             mark: Mark::Held,
             message: Some(MessageBytes {
                 bytes: [0x80, 0x04, 0x00, 0, 0],

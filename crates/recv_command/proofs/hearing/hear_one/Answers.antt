@@ -1,6 +1,6 @@
+use Rattle.receiver_end.specs.Answers.{said_by}
 use Rattle.receiver_end.specs.State.{answer_after}
 use Rattle.recv_command.specs.Join.{hears_one}
-use Rattle.recv_command.specs.Said.{message_in}
 use Rattle.recv_command.proofs.hearing.hear_one.Goals as goal
 
 pub returns-clause-hearing : goal.returns-clause-hearing
@@ -10,5 +10,5 @@ returns-clause-hearing g c = λ left all old is.
       so_far = hears_one is.so_far c.args.bytes.now;
       rest = is.rest;
       stands = c.hear-message.ensures.stands s is.stands;
-      written = c.say_after.ensures.said old is.so_far.texts s.params.clock (message_in (answer_after s.params s.past c.args.bytes.now)) (c.hear-message.ensures.says s is.stands) is.written;
+      written = c.say_after.ensures.said old is.so_far.texts s.params.clock (said_by (answer_after s.params s.past c.args.bytes.now)) (c.hear-message.ensures.says s is.stands) is.written;
     }

@@ -11,13 +11,13 @@ use Rattle.call_model.specs.Sending as call
 use Rattle.call_decoding.specs.Rules.{rules_of}
 use Rattle.call_encoding.specs.Encoding.{encoding}
 use Rattle.coded_call.specs.Coding.{coding}
-use Rattle.receiver_end.specs.Answers.{IsMessage}
+use Rattle.receiver_end.specs.Answers.{IsMessage, said_by}
 use Rattle.receiver_end.specs.Decoding.{decoding}
 use Rattle.one_way.specs.Both.{both_after, steady}
 use Rattle.one_way.specs.Network.{told_by}
 use Rattle.one_way.proofs.OneMore.{after_none, after_packet, heard_in, packet_answer}
 use Rattle.one_way.proofs.Ring.{kept_is}
-use Rattle.one_way.proofs.Saying.{heard_message, heard_told, message_in, told_is, told_of}
+use Rattle.one_way.proofs.Saying.{heard_told, told_is, told_of}
 use Rattle.one_way.proofs.Holding.{holds_packet}
 use Rattle.one_way.proofs.way.Way.deliver.Goals as goal
 
@@ -69,14 +69,14 @@ returns-clause-says c = λ p sender before frames past h among.
     let heard_so = packet_answer p (c.ends_run.ensures p) (steady p) sender c.args.receiver.now frames before past h.joined c.packet-heard.result bytes
     (c.packet-heard.ensures.answer (heard_in p (steady p) frames before past) h.joined.receives)
     in
-    let says : IsMessage p.clock c.said_in.result (message_in answer) =
-    subst (λ (o : Option MessageBytes). IsMessage p.clock o (message_in answer)) (sym c.said_in.ensures) (heard_message p.clock c.packet-heard.result answer heard_so)
+    let says : IsMessage p.clock c.message.result (said_by answer) =
+    subst (λ (o : Option MessageBytes). IsMessage p.clock o (said_by answer)) (sym c.message.ensures) (c.answers_say.ensures p.clock c.packet-heard.result answer heard_so)
     in
-    let fit : IfSome c.said_in.result (λ said. AreBytes (text_of said)) =
+    let fit : IfSome c.message.result (λ said. AreBytes (text_of said)) =
     subst (λ (o : Option MessageBytes). IfSome o (λ said. AreBytes (text_of said))) c.as_said.ensures.same c.as_said.ensures.bytes
     in
-    let told : told_by n c.as_said.result ≡ told_of n (message_in answer) =
-    ap (told_by n) c.as_said.ensures.same ∙ told_is (c.of_messages.ensures p).said p.clock n c.said_in.result (message_in answer) says fit
+    let told : told_by n c.as_said.result ≡ told_of n (said_by answer) =
+    ap (told_by n) c.as_said.ensures.same ∙ told_is (c.of_messages.ensures p).said p.clock n c.message.result (said_by answer) says fit
     in
     ap (λ (o : Option (List ℕ)). (option_map_or (after_bytes (coding p) (rules_of p) w n) o w).said) there
     ∙ ap (λ (l : List SaidMessage). w.said ++ l) (heard_told n answer ∙ sym told)
