@@ -1,39 +1,33 @@
 //! The packets of the last pictures, in memory that is taken once.
-ghost use Rattle.std.specs.Prelude.{◌≡◌, ℕ, ◌+◌, ◌-◌, ◌*◌, ◌^◌, ◌<◌, ◌≤◌, List, [], ◌∷◌, ◌++◌};
-ghost use Rattle.std.specs.Prelude.{length, take, drop, replicate, slice_index, slice_get};
-ghost use Rattle.std.specs.Prelude.{IfOk};
-ghost use Rattle.std.specs.Option.{option_map};
-ghost use Rattle.std.specs.Vec.{vec_capacity};
+ghost use Rattle.std.specs.Prelude.{◌≡◌, ℕ, ◌+◌, ◌*◌, ◌^◌, ◌<◌, ◌≤◌, List, [], ◌∷◌, ◌++◌, All};
+ghost use Rattle.std.specs.Prelude.{length, slice_get, IfOk, IfSome};
+ghost use Rattle.std.specs.Option.{option_copied, option_map};
+ghost use Rattle.call_rings.specs.Kept.{TakesUpTo};
 
+use crate::kept::KeptPackets;
+use circular_buffer::HeapCircularBuffer;
 use h263_types::OutOfMemory;
 use std::alloc::Global;
 
-/// The packets of the last pictures. The next picture takes the part of memory of the oldest.
+/// The packets of the last pictures. The next picture takes the memory of the oldest.
 #[derive(Drop)]
-pub struct PacketRing {
-    period: usize,
+pub struct SentPackets {
     room: usize,
     most: usize,
     begun: u32,
-    // The parts, `room` bytes each. The block is taken whole at the start, but a part is not
-    // touched before its first picture is begun, and then filled with zeros: `vec!` would write
-    // all of them at once, and std takes no memory that is zero already.
-    bytes: Vec<u8>,
-    counts: Vec<u32>,
-    cuts: Vec<u32>,
-    ghost some: { 0 < period },
+    // always full: before its first picture is begun a place has no packet
+    pictures: HeapCircularBuffer<KeptPackets>,
+    ghost some: { 0 < pictures.capacity },
+    ghost full: { length pictures.items ≡ pictures.capacity },
+    ghost each: { All (TakesUpTo room most) pictures.items },
     ghost short: { room < 2 ^ 32 },
     ghost small: { most < 2 ^ 32 },
-    ghost block: { period * room ≤ vec_capacity bytes },
-    ghost grown: { (s : ℕ) → s < period → s < begun → (s + 1) * room ≤ length bytes.items },
-    ghost counted: { length counts.items ≡ period },
-    ghost few: { (s : ℕ) → slice_index counts.items s ≤ most },
-    ghost whole: { length cuts.items ≡ period * (most + 1) },
 }
 
-impl PacketRing {
+impl SentPackets {
     ghost use Rattle.call_rings.specs.Keeping.{Pictures, period_of, room_of, most_of, begun_of};
     ghost use Rattle.call_rings.specs.Keeping.{HoldsPackets, kept_of, is_among_last, HasRoom, HasSizes};
+    ghost use Rattle.call_rings.specs.Keeping.{HasMemory, picture_at};
 
     /// A ring for `pictures` pictures, none begun yet, with room for `most` packets of each, of
     /// `room` bytes together.
@@ -42,25 +36,26 @@ impl PacketRing {
         pictures: u32,
         room: u32,
         most: u32,
-    ) -> Result<PacketRing, OutOfMemory>
+    ) -> Result<SentPackets, OutOfMemory>
         requires some { 1 ≤ pictures }
         requires bytes { pictures * room < 2 ^ 63 }
         requires packets { pictures * (most + 1) < 2 ^ 60 }
         ensures none { IfOk result (λ ring. HoldsPackets ring []) }
         ensures sizes { IfOk result (λ ring. HasSizes ring pictures room most) }
         ensures begun { IfOk result (λ ring. begun_of ring ≡ 0) }
+        ensures memory { IfOk result HasMemory }
     {
-        let period = pictures as usize;
         let room = room as usize;
         let most = most as usize;
-        Ok(PacketRing {
-            period,
+        let mut kept = HeapCircularBuffer::with_capacity(alloc, pictures as usize)?;
+        'places: for _ in 0..pictures {
+            kept.push_back(KeptPackets::start(alloc, room, most)?);
+        }
+        Ok(SentPackets {
             room,
             most,
             begun: 0,
-            bytes: Vec::with_capacity(alloc, period * room)?,
-            counts: vec![in alloc; 0; period]?,
-            cuts: vec![in alloc; 0; period * (most + 1)]?,
+            pictures: kept,
         })
     }
 
@@ -72,12 +67,13 @@ impl PacketRing {
         ensures sizes { let ring = self.old in
             HasSizes self.new (period_of ring) (room_of ring) (most_of ring) }
         ensures begun { begun_of self.new ≡ begun_of self.old + 1 }
+        ensures memory { HasMemory self.new }
     {
-        let slot = self.begun as usize % self.period;
-        grow(&mut self.bytes, (slot + 1) * self.room);
-        self.counts[slot] = 0;
-        self.cuts[slot * (self.most + 1)] = 0;
         self.begun += 1;
+        if let Some(mut oldest) = self.pictures.pop_front() {
+            oldest.clear();
+            self.pictures.push_back(oldest);
+        }
     }
 
     /// One more packet of the newest picture.
@@ -89,14 +85,12 @@ impl PacketRing {
         ensures sizes { let ring = self.old in
             HasSizes self.new (period_of ring) (room_of ring) (most_of ring) }
         ensures begun { begun_of self.new ≡ begun_of self.old }
+        ensures memory { HasMemory self.new }
     {
-        let slot = (self.begun - 1) as usize % self.period;
-        let count = self.counts[slot];
-        let place = slot * (self.most + 1) + count as usize;
-        let used = self.cuts[place] as usize;
-        put(&mut self.bytes, slot * self.room + used, packet);
-        self.cuts[place + 1] = (used + packet.len()) as u32;
-        self.counts[slot] = count + 1;
+        if let Some(mut newest) = self.pictures.pop_back() {
+            newest.push(packet);
+            self.pictures.push_back(newest);
+        }
     }
 
     /// How many packets there are of picture `n`: none where it isn't among the last ones.
@@ -105,10 +99,9 @@ impl PacketRing {
             → result ≡ length (kept_of (period_of self.now) pictures n) }
         ensures few { result ≤ most_of self.now }
     {
-        if self.has(n) {
-            self.counts[n as usize % self.period]
-        } else {
-            0
+        match self.kept(n) {
+            Some(kept) => kept.count() as u32,
+            None => 0,
         }
     }
 
@@ -118,43 +111,25 @@ impl PacketRing {
             → option_map (λ packet. packet.now) result
             ≡ slice_get (kept_of (period_of self.now) pictures n) i }
     {
-        if i >= self.count(n) {
-            return None;
+        self.kept(n)?.packet(i)
+    }
+
+    // The packets of picture `n`, where it is among the last ones.
+    fn kept(&self, n: u32) -> Option<&KeptPackets>
+        ensures { option_copied result ≡ picture_at self.now n }
+    {
+        if self.has(n) {
+            let place = n as usize + self.pictures.capacity() - self.begun as usize;
+            self.pictures.get(place)
+        } else {
+            None
         }
-        let slot = n as usize % self.period;
-        let place = slot * (self.most + 1) + i as usize;
-        let part = slot * self.room;
-        let from = part + self.cuts[place] as usize;
-        let to = part + self.cuts[place + 1] as usize;
-        self.bytes.get(from..to)
     }
 
     // Picture `n` is among the last ones.
     fn has(&self, n: u32) -> bool
         ensures { result ≡ is_among_last (period_of self.now) (begun_of self.now) n }
     {
-        n < self.begun && (self.begun as usize) <= n as usize + self.period
+        n < self.begun && (self.begun as usize) <= n as usize + self.pictures.capacity()
     }
-}
-
-// At least this many bytes, the new ones zero.
-fn grow(bytes: &mut Vec<u8>, end: usize)
-    requires { end ≤ vec_capacity bytes.old }
-    ensures bytes { let before = bytes.old.items in
-        bytes.new.items ≡ before ++ replicate (end - length before) 0 }
-    ensures capacity { vec_capacity bytes.old ≤ vec_capacity bytes.new }
-{
-    if bytes.len() < end {
-        let _ = bytes.resize(end, 0);
-    }
-}
-
-// Writes a packet from byte `from` on.
-fn put(bytes: &mut Vec<u8>, from: usize, packet: &[u8])
-    requires { from + length packet.now ≤ length bytes.old.items }
-    ensures bytes { let before = bytes.old.items in bytes.new.items
-        ≡ take from before ++ (packet.now ++ drop (from + length packet.now) before) }
-    ensures capacity { vec_capacity bytes.new ≡ vec_capacity bytes.old }
-{
-    bytes[from..from + packet.len()].copy_from_slice(packet);
 }
