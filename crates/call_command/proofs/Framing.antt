@@ -10,7 +10,7 @@ use Rattle.h263_outside.specs.declared.desk.Role.{Role}
 use Rattle.h263_outside.specs.declared.desk.Role.TheVariants.{Events}
 use Rattle.y4m.specs.declared.reader.Y4mReader.{Y4mReader}
 use Rattle.loss_trace.specs.declared.reader.TraceReader.{TraceReader}
-use Rattle.call_rings.specs.declared.packets.PacketRing.{PacketRing}
+use Rattle.call_rings.specs.declared.sent_packets.SentPackets.{SentPackets}
 use Rattle.call_rings.specs.Keeping.{period_of}
 use Rattle.call_model.specs.CodedPictures.{Coded}
 use Rattle.call_model.specs.IdealCall.{Event, Send, Deliver, Play, slices_at}
@@ -71,7 +71,7 @@ module _ (x : Parts) (laws : WayLaws x.terms.params) (events : EventLaws x.terms
   pub may_deliver : (later : List Frame) (n : ℕ) → n ≡ x.sender.sent → MayHappenNow p s.before (all later) (Send ∷ s.past) (Deliver n 0)
   may_deliver later n is = (omega (arith, is, coded_now later), omega (arith, is, played_was later, level, half_some p.clock))
 
-  pub among_last : (later : List Frame) (ring : PacketRing) (n : ℕ) → n ≡ x.sender.sent → period_of ring ≡ 1
+  pub among_last : (later : List Frame) (ring : SentPackets) (n : ℕ) → n ≡ x.sender.sent → period_of ring ≡ 1
       → IsAmongLast ring (length (both later (Send ∷ s.past)).sender.coded) n
   among_last later ring n is one = (omega (arith, is, coded_now later), omega (arith, is, coded_now later, one))
 

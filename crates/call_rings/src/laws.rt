@@ -7,7 +7,7 @@ ghost use Rattle.h263_types.specs.Blocks.{HasWholeBlocks};
 ghost use Rattle.picture_header.specs.declared.header.Header.{Header};
 ghost use Rattle.picture_header.specs.Ranges.{IsHeader};
 ghost use Rattle.packet_cutter.specs.Packets.{ArePacketsOf};
-ghost use Rattle.call_rings.specs.declared.packets.PacketRing.{PacketRing};
+ghost use Rattle.call_rings.specs.declared.sent_packets.SentPackets.{SentPackets};
 ghost use Rattle.call_rings.specs.Parts.{size_of};
 ghost use Rattle.call_rings.specs.Keeping.{Pictures, room_of, most_of, HoldsPackets, HasRoom};
 
@@ -16,7 +16,7 @@ use packet_cutter::laws::packet_is_text;
 /// There is room for a packet where the newest picture has fewer than the most, and its bytes with
 /// the packet's are no more than a picture's room.
 pub fn has_room()
-    ensures { (ring : PacketRing) (before : Pictures) (packets : List (List ℕ))
+    ensures { (ring : SentPackets) (before : Pictures) (packets : List (List ℕ))
         (size : ℕ)
         → HoldsPackets ring (before ++ packets ∷ []) → length packets < most_of ring
         → size_of packets + size ≤ room_of ring → HasRoom ring size }

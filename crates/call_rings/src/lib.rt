@@ -1,10 +1,10 @@
-//! What the network of a recorded call keeps: the packets of the last pictures in a [`PacketRing`],
+//! What the network of a recorded call keeps: the packets of the last pictures in [`SentPackets`],
 //! and the last messages in a [`MessageRing`].
 //!
 //! All memory is taken at the start. Packets are bytes, and a message is the bytes that were said.
 //!
 //! ```rust
-//! let mut ring = PacketRing::start(alloc, 2, 5, 2)?;
+//! let mut ring = SentPackets::start(alloc, 2, 5, 2)?;
 //! ring.begin();
 //! ring.push(&[1, 2, 3]);
 //! assert_eq!(rt; ring.packet(0, 0), Some([1, 2, 3].as_slice()));
@@ -14,9 +14,10 @@
 //! ```
 #![tactic(auto)]
 
+mod kept;
 pub mod laws;
 mod messages;
-mod packets;
+mod sent_packets;
 
 pub use messages::MessageRing;
-pub use packets::PacketRing;
+pub use sent_packets::SentPackets;

@@ -19,7 +19,7 @@ use Rattle.call_decoding.specs.Styles.{Style}
 use Rattle.call_encoding.specs.Encoding.{encoding}
 use Rattle.call_encoding.specs.Frames.{Frame}
 use Rattle.call_encoding.specs.Messages.{write_message, written}
-use Rattle.call_rings.specs.declared.packets.PacketRing.{PacketRing}
+use Rattle.call_rings.specs.declared.sent_packets.SentPackets.{SentPackets}
 use Rattle.call_rings.specs.Keeping.{kept_of, period_of}
 use Rattle.coded_call.specs.Coding.{coding}
 use Rattle.receiver_end.specs.State as receiver_end
@@ -58,7 +58,7 @@ with_both p B own far ways w v in_range clock one two = record { in_range = in_r
 -- ---- packets
 
 -- the packets that the ring has of one of the last pictures
-kept_is : (p : Params) (packets : PacketRing) (coded : List (Coded Style Mb Picture)) (n : ℕ) (has : HasPackets p packets coded) → IsAmongLast packets (length coded) n
+kept_is : (p : Params) (packets : SentPackets) (coded : List (Coded Style Mb Picture)) (n : ℕ) (has : HasPackets p packets coded) → IsAmongLast packets (length coded) n
     → kept_of (period_of packets) has.pictures n ≡ call.packets_of (encoding p) (rules_of p) coded n
 kept_is p packets coded n has among =
     ap (λ (b : Bool). if b then slice_index_or has.pictures n [] else [])

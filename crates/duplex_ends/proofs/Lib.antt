@@ -9,3 +9,4 @@ mod Deliveries
 mod Captures
 mod Screen
 mod Refusals
+mod Lasting

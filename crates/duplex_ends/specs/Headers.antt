@@ -1,23 +1,18 @@
 -- Which messages are kept of the last pictures: those that their headers carry.
-use Rattle.std.specs.Prelude.{◌≡◌, ℕ, ◌+◌, ◌%◌, ◌<◌, ◌≤◌, ⊤, List, [], ◌∷◌, length, slice_get, slice_index_or, Option, Some, None}
+use Rattle.std.specs.Prelude.{◌≡◌, ℕ, ◌-◌, ◌≤◌, ⊤, List, [], ◌∷◌, length, map, slice_get, slice_index_or, Some}
+use Rattle.circular_buffer.specs.Buffer.{keep_last}
 use Rattle.duplex_call.specs.declared.carrier.Carried.{Carried}
 use Rattle.duplex_call.specs.Waiting.{placed}
 use Rattle.duplex_ends.specs.declared.headers.CarriedRing.{CarriedRing}
 
 -- how many pictures a ring keeps
 abbrev pub kept_by : CarriedRing → ℕ
-kept_by ring = length ring.kept.items
-
--- four places without a message
-abbrev pub no_places : List (Option Carried)
-no_places = None ∷ None ∷ None ∷ None ∷ []
+kept_by ring = ring.kept.capacity
 
 -- these are the messages of all headers so far, and those of the last ones are kept, in places
-abbrev pub HoldsHeaders : CarriedRing → List (List Carried) → Type 0
-HoldsHeaders ring headers =
-    (n : ℕ) → n < length headers → length headers ≤ n + kept_by ring
-    → slice_index_or ring.kept.items (n % kept_by ring) no_places
-    ≡ placed (slice_index_or headers n [])
+pub record HoldsHeaders (ring : CarriedRing) (headers : List (List Carried)) : Type 0 where
+  pub newest : ring.newest ≡ length headers - 1
+  pub last : ring.kept.items ≡ keep_last (kept_by ring) (map placed headers)
 
 -- the messages of one header have these numbers among those that were said
 abbrev pub AreNumbered : List Carried → List ℕ → List Carried → Type 0

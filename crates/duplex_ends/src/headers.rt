@@ -4,6 +4,7 @@ ghost use Rattle.std.specs.Prelude.{IfOk, slice_index_or};
 ghost use Rattle.duplex_call.specs.declared.carrier.Carried.{Carried};
 ghost use Rattle.duplex_call.specs.Waiting.{placed};
 
+use circular_buffer::HeapCircularBuffer;
 use duplex_call::Carried;
 use h263_types::OutOfMemory;
 use std::alloc::Global;
@@ -11,8 +12,9 @@ use std::alloc::Global;
 /// Of each of the last pictures the messages that its header carries, at most four.
 #[derive(Drop)]
 pub struct CarriedRing {
-    kept: Vec<[Option<Carried>; 4]>,
-    ghost some: { 0 < length kept.items },
+    kept: HeapCircularBuffer<[Option<Carried>; 4]>,
+    // the number of the picture that was noted last
+    newest: u32,
 }
 
 impl CarriedRing {
@@ -25,7 +27,8 @@ impl CarriedRing {
         ensures kept { IfOk result (λ ring. kept_by ring ≡ pictures) }
     {
         Ok(CarriedRing {
-            kept: vec![in alloc; [None; 4]; pictures as usize]?,
+            kept: HeapCircularBuffer::with_capacity(alloc, pictures as usize)?,
+            newest: 0,
         })
     }
 
@@ -37,8 +40,8 @@ impl CarriedRing {
             → carried ≡ placed messages
             → HoldsHeaders self.new (headers ++ messages ∷ []) }
     {
-        let place = number as usize % self.kept.len();
-        self.kept[place] = carried;
+        let _oldest = self.kept.push_back(carried);
+        self.newest = number;
     }
 
     /// The messages of a picture that is among the last.
@@ -47,6 +50,10 @@ impl CarriedRing {
             → number < length headers → length headers ≤ number + kept_by self.now
             → result ≡ placed (slice_index_or headers number []) }
     {
-        self.kept[number as usize % self.kept.len()]
+        let since = self.newest.saturating_sub(number);
+        match self.kept.nth_back(since as usize) {
+            Some(carried) => *carried,
+            None => [None; 4],
+        }
     }
 }

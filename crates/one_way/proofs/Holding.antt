@@ -6,7 +6,7 @@ use Rattle.h263_types.specs.declared.params.Params.{Params}
 use Rattle.h263_types.specs.declared.Mark.{Mark}
 use Rattle.h263_planes.specs.Picture.{Picture}
 use Rattle.packet_cutter.specs.Cutting.{packets_of}
-use Rattle.call_rings.specs.declared.packets.PacketRing.{PacketRing}
+use Rattle.call_rings.specs.declared.sent_packets.SentPackets.{SentPackets}
 use Rattle.call_rings.specs.Keeping as ring
 use Rattle.call_model.specs.Coding.{Shown}
 use Rattle.call_model.specs.CodedPictures.{Coded}
@@ -93,7 +93,7 @@ module _ (p : Params) (way : Way) (sender : State) (receiver : Kept) (before : L
       }
 
   -- the next picture is sent
-  pub holds_send : EachEndRuns (coding p) (rules_of p) → (new : State) (f : Frame) (packets : PacketRing) (references : References)
+  pub holds_send : EachEndRuns (coding p) (rules_of p) → (new : State) (f : Frame) (packets : SentPackets) (references : References)
       → MayHappenNow p before frames past Send → slice_get frames (length (both past).sender.coded) ≡ Some f
       → AreJoined p (steady p) new receiver frames before (Send ∷ past)
       → ((pictures : ring.Pictures) → ring.HoldsPackets way.packets pictures → ring.HoldsPackets packets (pictures ++ new.packets ∷ []))

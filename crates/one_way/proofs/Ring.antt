@@ -15,12 +15,12 @@ use Rattle.call_model.specs.Sending as call
 use Rattle.call_decoding.specs.Rules.{rules_of}
 use Rattle.call_decoding.specs.Styles.{Style}
 use Rattle.call_encoding.specs.Encoding.{encoding}
-use Rattle.call_rings.specs.declared.packets.PacketRing.{PacketRing}
+use Rattle.call_rings.specs.declared.sent_packets.SentPackets.{SentPackets}
 use Rattle.call_rings.specs.Keeping.{kept_of, period_of}
 use Rattle.one_way.specs.Network.{HasPackets, IsAmongLast, about_of, told_in}
 
 -- the packets that the ring has of one of the last pictures
-pub kept_is : (p : Params) (packets : PacketRing) (coded : List (Coded Style Mb Picture)) (n : ℕ) (has : HasPackets p packets coded) → IsAmongLast packets (length coded) n
+pub kept_is : (p : Params) (packets : SentPackets) (coded : List (Coded Style Mb Picture)) (n : ℕ) (has : HasPackets p packets coded) → IsAmongLast packets (length coded) n
     → kept_of (period_of packets) has.pictures n ≡ call.packets_of (encoding p) (rules_of p) coded n
 kept_is p packets coded n has among =
     ap (λ (b : Bool). if b then slice_index_or has.pictures n [] else [])

@@ -3,7 +3,7 @@ use Rattle.std.proofs.Common.{◌≡◌, ℕ, ◌-◌, ◌*◌, ◌≤◌, List,
 use Rattle.h263_types.specs.Params.{IsParams}
 use Rattle.h263_types.specs.declared.pace.FixedPace.{FixedPace}
 use Rattle.h263_types.specs.declared.params.Params.{Params}
-use Rattle.call_rings.specs.declared.packets.PacketRing.{PacketRing}
+use Rattle.call_rings.specs.declared.sent_packets.SentPackets.{SentPackets}
 use Rattle.call_rings.specs.Keeping.{begun_of, most_of, room_of}
 use Rattle.call_rings.specs.Parts.{size_of}
 use Rattle.h263_types.specs.Sizes.{mbs_of}
@@ -55,7 +55,7 @@ standing_so sender new same stood e params stands =
     subst (λ (p : Params). IsStanding (steady p) new) (sym params) next
 
 -- there is room for the packets of its last picture
-pub roomy : (sender : State) → PacketLaws sender.params → IsPace (steady sender.params) → IsStanding (steady sender.params) sender → (packets : PacketRing)
+pub roomy : (sender : State) → PacketLaws sender.params → IsPace (steady sender.params) → IsStanding (steady sender.params) sender → (packets : SentPackets)
     → room_of packets ≡ 1200 * mbs_of sender.params.format → most_of packets ≡ mbs_of sender.params.format → AreRoomy packets (sender.packets)
 roomy sender laws pace standing packets room_is most_is =
     let p = sender.params in

@@ -11,7 +11,7 @@ use Rattle.call_model.specs.Sending as call
 use Rattle.call_decoding.specs.Rules.{rules_of}
 use Rattle.call_decoding.specs.Styles.{Style}
 use Rattle.call_encoding.specs.Encoding.{encoding}
-use Rattle.call_rings.specs.declared.packets.PacketRing.{PacketRing}
+use Rattle.call_rings.specs.declared.sent_packets.SentPackets.{SentPackets}
 use Rattle.call_rings.specs.Keeping.{HoldsPackets, Pictures}
 use Rattle.one_way.specs.Network.{HasPackets}
 use Rattle.one_way.specs.Seen.{reference_in}
@@ -77,7 +77,7 @@ module _ (p : Params) where
   none_sent n = or_past [] [] n (omega arith) ∙ sym (packets_past [] n (omega arith))
 
   -- with those of one picture more
-  pub has_one_more : (ring new : PacketRing) (coded : List (Coded Style Mb Picture)) (x : Coded Style Mb Picture) (packets : List (List ℕ))
+  pub has_one_more : (ring new : SentPackets) (coded : List (Coded Style Mb Picture)) (x : Coded Style Mb Picture) (packets : List (List ℕ))
       → HasPackets p ring coded → ((pictures : Pictures) → HoldsPackets ring pictures → HoldsPackets new (pictures ++ packets ∷ []))
       → packets ≡ packets_of (coded ++ x ∷ []) (length coded) → HasPackets p new (coded ++ x ∷ [])
   has_one_more ring new coded x packets has kept is = record {

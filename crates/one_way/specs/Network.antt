@@ -11,7 +11,7 @@ use Rattle.call_model.specs.Sending as call
 use Rattle.call_decoding.specs.Rules.{rules_of}
 use Rattle.call_decoding.specs.Styles.{Style}
 use Rattle.call_encoding.specs.Encoding.{encoding}
-use Rattle.call_rings.specs.declared.packets.PacketRing.{PacketRing}
+use Rattle.call_rings.specs.declared.sent_packets.SentPackets.{SentPackets}
 use Rattle.call_rings.specs.declared.messages.MessageRing.{MessageRing}
 use Rattle.call_rings.specs.Keeping as ring
 use Rattle.call_rings.specs.Keeping.{HoldsPackets, room_of, most_of}
@@ -23,24 +23,24 @@ use Rattle.one_way.specs.References.{AreNoted}
 -- ---- packets
 
 -- the ring keeps some pictures
-pub record IsKeeping (packets : PacketRing) : Type 0 where
+pub record IsKeeping (packets : SentPackets) : Type 0 where
   pub pictures : ring.Pictures
   pub keeps : HoldsPackets packets pictures
 
 -- there is room for these packets of one picture
-pub record AreRoomy (packets : PacketRing) (list : List (List ℕ)) : Type 0 where
+pub record AreRoomy (packets : SentPackets) (list : List (List ℕ)) : Type 0 where
   pub bytes : size_of list ≤ room_of packets
   pub count : length list ≤ most_of packets
 
 -- the ring keeps the packets of these pictures, which were sent
-pub record HasPackets (p : Params) (packets : PacketRing) (coded : List (Coded Style Mb Picture)) : Type 0 where
+pub record HasPackets (p : Params) (packets : SentPackets) (coded : List (Coded Style Mb Picture)) : Type 0 where
   pub pictures : ring.Pictures
   pub keeps : HoldsPackets packets pictures
   pub count : length pictures ≡ length coded
   pub each : (n : ℕ) → slice_index_or pictures n [] ≡ call.packets_of (encoding p) (rules_of p) coded n
 
 -- of this many pictures this one is among the last that the ring keeps
-abbrev pub IsAmongLast : PacketRing → ℕ → ℕ → Type 0
+abbrev pub IsAmongLast : SentPackets → ℕ → ℕ → Type 0
 IsAmongLast packets count n = (n < count) × (count ≤ n + ring.period_of packets)
 
 -- ---- messages

@@ -2,6 +2,7 @@
 ghost use Rattle.std.specs.Prelude.{◌≡◌, ◌+◌, ◌<◌, ◌≤◌, ℕ, List, [], ◌∷◌, ◌++◌, length};
 ghost use Rattle.std.specs.Prelude.{IfOk, Option, None, slice_index_or};
 
+use circular_buffer::HeapCircularBuffer;
 use h263_types::OutOfMemory;
 use std::alloc::Global;
 
@@ -11,8 +12,9 @@ const KEPT: usize = 512;
 /// The references of the last 512 pictures.
 #[derive(Drop)]
 pub struct References {
-    kept: Vec<Option<u32>>,
-    ghost whole: { length kept.items ≡ 512 },
+    kept: HeapCircularBuffer<Option<u32>>,
+    // the number of the picture that was noted last
+    newest: u32,
 }
 
 impl References {
@@ -23,7 +25,8 @@ impl References {
         ensures { IfOk result (λ references. AreNoted references []) }
     {
         Ok(References {
-            kept: vec![in alloc; None; KEPT]?,
+            kept: HeapCircularBuffer::with_capacity(alloc, KEPT)?,
+            newest: 0,
         })
     }
 
@@ -32,7 +35,8 @@ impl References {
         ensures { (references : List (Option ℕ)) → AreNoted self.old references
             → number ≡ length references → AreNoted self.new (references ++ reference ∷ []) }
     {
-        self.kept[number as usize % KEPT] = reference;
+        let _oldest = self.kept.push_back(reference);
+        self.newest = number;
     }
 
     /// The reference of a picture that is among the last 512.
@@ -41,6 +45,10 @@ impl References {
             → number < length references → length references ≤ number + 512
             → result ≡ slice_index_or references number None }
     {
-        self.kept[number as usize % KEPT]
+        let since = self.newest.saturating_sub(number);
+        match self.kept.nth_back(since as usize) {
+            Some(reference) => *reference,
+            None => None,
+        }
     }
 }

@@ -30,7 +30,7 @@ ghost use Rattle.one_way.specs.declared.way.Way.{Way};
 use crate::{References, Tally, laws};
 use back_messages::{Message, MessageBytes};
 use call_report::Line;
-use call_rings::{PacketRing, laws as call_rings_laws};
+use call_rings::{SentPackets, laws as call_rings_laws};
 use h263_planes::PictureRef;
 use h263_types::{FixedPace, OutOfMemory, Params};
 use receiver_end::{Played, Receiver, laws as receiver_end_laws};
@@ -41,13 +41,13 @@ use std::alloc::Global;
 /// many pictures were shown with each mark.
 #[derive(Drop)]
 pub struct Way {
-    packets: PacketRing,
+    packets: SentPackets,
     references: References,
     tally: Tally,
 }
 
 // Keeps all packets of the picture that was sent last.
-fn keep_packets(packets: &mut PacketRing, sender: &Sender<FixedPace>, count: u32)
+fn keep_packets(packets: &mut SentPackets, sender: &Sender<FixedPace>, count: u32)
     requires count { count ≡ length sender.now.packets }
     requires keeping { IsKeeping packets.old }
     requires room { AreRoomy packets.old sender.now.packets }
@@ -91,7 +91,7 @@ impl Way {
     {
         let mbs = params.format.mbs();
         Ok(Way {
-            packets: PacketRing::start(alloc, kept, 1200 * mbs, mbs)?,
+            packets: SentPackets::start(alloc, kept, 1200 * mbs, mbs)?,
             references: References::start(alloc)?,
             tally: Tally::new(),
         })

@@ -37,7 +37,7 @@ pub struct PictureStore {
 
 impl Model for PictureStore {
     ghost use Rattle.picture_store.specs.Pictures.{Pictures};
-    ghost use Rattle.picture_store.specs.Holding.{IsStore, pictures_of};
+    ghost use Rattle.picture_store.specs.Holding.{IsStore, pictures_of, room_of};
 
     ghost Value = { Pictures };
 
@@ -45,6 +45,7 @@ impl Model for PictureStore {
       format = s.format;
       numbers = s.numbers.items;
       pictures = pictures_of s.format s.region s.slots.items;
+      room = room_of s.region;
     } };
 
     ghost invariant = { λ s. IsStore s.format s.numbers.items s.region s.slots.items };

@@ -22,6 +22,7 @@ same_but s w bytes long = subst (λ (t : Pictures). IsSameBut s t w) (sym (writt
   format = refl;
   numbers = refl;
   many = length-set s.pictures (slots_of s + w) (picture_of s.format bytes);
+  room = refl;
   others = λ k other. get_or-set_other s.pictures (slots_of s + w) k (picture_of s.format bytes) (picture_of s.format []) other;
 })
 

@@ -98,6 +98,7 @@ pub record IsSameBut (old new : Pictures) (w : ℕ) : Type 0 where
   pub format : new.format ≡ old.format
   pub numbers : new.numbers ≡ old.numbers
   pub many : length new.pictures ≡ length old.pictures
+  pub room : new.room ≡ old.room
   pub others : (k : ℕ) → (k ≡ slots_of old + w → ⊥) → picture_in new k ≡ picture_in old k
 
 abbrev pub picture_of_reference : Pictures → Option ℕ → Option Picture

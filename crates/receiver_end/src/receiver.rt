@@ -1,6 +1,7 @@
 //! The receiver.
 ghost use Rattle.std.specs.Prelude.{◌≡◌, ◌+◌, ◌^◌, ◌<◌, List, [], ◌∷◌, IfOk, false};
 ghost use Rattle.h263_types.specs.Params.{IsParams};
+ghost use Rattle.picture_store.specs.Pictures.{room_for};
 
 use crate::answers::{Heard, PacketFault, Played};
 use crate::kept::Kept;
@@ -47,6 +48,8 @@ impl Receiver {
         requires { IsParams params.now }
         ensures params { IfOk result (λ r. r.params ≡ params.now) }
         ensures played { IfOk result (λ r. r.played ≡ 0) }
+        ensures room { IfOk result (λ r. r.store.room
+            ≡ room_for params.now.format (params.now.slots + (params.now.lead + 2))) }
         ensures stands { IfOk result (λ r. Stands r []) }
     {
         let mbs = vec![in alloc; Mb::Skip; params.format.mbs() as usize]?;

@@ -1,10 +1,10 @@
 //! A receiver before its first packet.
-ghost use Rattle.std.specs.Prelude.{◌≡◌, ◌<◌, [], length, IfOk};
+ghost use Rattle.std.specs.Prelude.{◌≡◌, ◌+◌, ◌<◌, [], length, IfOk};
 ghost use Rattle.h263_types.specs.Params.{IsParams};
 ghost use Rattle.h263_types.specs.Sizes.{size_of_picture};
 ghost use Rattle.h263_planes.specs.Layout.{picture_of};
 ghost use Rattle.h263_planes.specs.Spots.{picture_by};
-ghost use Rattle.picture_store.specs.Pictures.{work_in, works_of};
+ghost use Rattle.picture_store.specs.Pictures.{room_for, work_in, works_of};
 ghost use Rattle.receiver_end.specs.Steps.{IsSameBut};
 
 use crate::kept::Kept;
@@ -49,6 +49,8 @@ impl Kept {
         ensures fits { IfOk result Fits }
         ensures params { IfOk result (λ r. r.params ≡ params.now) }
         ensures played { IfOk result (λ r. r.played ≡ 0) }
+        ensures room { IfOk result (λ r. r.store.room
+            ≡ room_for params.now.format (params.now.slots + (params.now.lead + 2))) }
         ensures stands { IfOk result (λ r. Stands r []) }
     {
         laws::is_decoding();

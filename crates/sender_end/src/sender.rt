@@ -2,6 +2,7 @@
 ghost use Rattle.std.specs.Prelude.{◌≡◌, ◌+◌, ◌-◌, ◌<◌, ◌≤◌, false, Some, List, [], ◌∷◌, length};
 ghost use Rattle.std.specs.Prelude.{slice_index_or, All, IfOk};
 ghost use Rattle.h263_types.specs.Params.{IsParams};
+ghost use Rattle.picture_store.specs.Pictures.{room_for};
 ghost use Rattle.h263_planes.specs.Lent.{picture};
 ghost use Rattle.h263_planes.specs.Samples.{IsPicture};
 ghost use Rattle.picture_header.specs.Ranges.{AreMessages};
@@ -66,6 +67,8 @@ impl<P: Pace> Sender<P> {
         ensures params { IfOk result (λ sender. sender.params ≡ params.now) }
         ensures sent { IfOk result (λ sender. sender.sent ≡ 0) }
         ensures pace { IfOk result (λ sender. sender.pace ≡ pace) }
+        ensures room { IfOk result (λ sender. sender.store.room
+            ≡ room_for params.now.format (params.now.slots + 1)) }
         ensures stands { IfOk result (λ sender. Stands (P.quant_of sender.pace) sender []) }
     {
         call_model_laws::sender_stands::<Framed, Styled, Mb, Pictured, MessageFault>();

@@ -1,6 +1,6 @@
 //! Rings that wrap.
 use back_messages::MessageBytes;
-use call_rings::{MessageRing, PacketRing, laws};
+use call_rings::{MessageRing, SentPackets, laws};
 use h263_types::OutOfMemory;
 use std::alloc::Global;
 use std::test::Fail;
@@ -19,7 +19,7 @@ fn oldest_picture_gives_way(rt: HostRuntime) -> Result<(), Fail> {
 fn three_pictures(alloc: Global) -> Result<[bool; 5], OutOfMemory> {
     laws::has_room();
     let bytes: [u8; 3] = [1, 2, 3];
-    let mut ring = PacketRing::start(alloc, 2, 5, 2)?;
+    let mut ring = SentPackets::start(alloc, 2, 5, 2)?;
     let unbegun = ring.packet(0, 0).is_none();
     ring.begin();
     ring.push(&bytes);
