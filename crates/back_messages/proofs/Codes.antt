@@ -19,22 +19,33 @@ use Rattle.back_messages.specs.Text.{AreMarks, IsMessage, urf_of, first_text, ma
 abbrev pub code_from : ℕ → ℕ → ℕ → ℕ → ℕ
 code_from type urf tr rtr = type * 2 ^ 22 + urf * 2 ^ 21 + tr * 2 ^ 11 + 2 ^ 10 + rtr
 
--- the fields of a type and two temporal references
-pub code_text : (type urf tr rtr : ℕ) → type < 4 → urf < 2 → tr < 2 ^ 10 → rtr < 2 ^ 10 → spelled 24 (code_from type urf tr rtr) ≡ fields ((2, type) ∷ (1, urf) ∷ (10, tr) ∷ (1, 1) ∷ (10, rtr) ∷ [])
-code_text type urf tr rtr k u t r =
-    let low : ℕ = tr * 2 ^ 11 + (1 * 2 ^ 10 + rtr) in
-    let whole : code_from type urf tr rtr ≡ type * 2 ^ 22 + (urf * 2 ^ 21 + low) = omega arith in
+-- the number of a message's first fields
+abbrev pub first_number : ℕ → ℕ → ℕ → ℕ → ℕ → ℕ
+first_number type urf tr marker rtr = type * 2 ^ 22 + urf * 2 ^ 21 + tr * 2 ^ 11 + marker * 2 ^ 10 + rtr
+
+-- and its bits
+pub first_number_text : (type urf tr marker rtr : ℕ) → type < 4 → urf < 2 → tr < 2 ^ 10 → marker < 2 → rtr < 2 ^ 10
+    → spelled 24 (first_number type urf tr marker rtr) ≡ fields ((2, type) ∷ (1, urf) ∷ (10, tr) ∷ (1, marker) ∷ (10, rtr) ∷ [])
+first_number_text type urf tr marker rtr k u t m r =
+    let low : ℕ = tr * 2 ^ 11 + (marker * 2 ^ 10 + rtr) in
+    let whole : first_number type urf tr marker rtr ≡ type * 2 ^ 22 + (urf * 2 ^ 21 + low) = omega arith in
     ap (spelled 24) whole ∙ spelled-append 2 22 type (urf * 2 ^ 21 + low) (omega arith)
     ∙ ap (λ (x : List Bool). spelled 2 type ++ x) (
     spelled-append 1 21 urf low (omega arith)
     ∙ ap (λ (x : List Bool). spelled 1 urf ++ x) (
-    spelled-append 10 11 tr (1 * 2 ^ 10 + rtr) (omega arith)
+    spelled-append 10 11 tr (marker * 2 ^ 10 + rtr) (omega arith)
     ∙ ap (λ (x : List Bool). spelled 10 tr ++ x) (
-    spelled-append 1 10 1 rtr (omega arith)
-    ∙ ap (λ (x : List Bool). spelled 1 1 ++ x) (sym (append-nil (spelled 10 rtr)))
+    spelled-append 1 10 marker rtr (omega arith)
+    ∙ ap (λ (x : List Bool). spelled 1 marker ++ x) (sym (append-nil (spelled 10 rtr)))
     )
     )
     )
+
+-- the fields of a type and two temporal references
+pub code_text : (type urf tr rtr : ℕ) → type < 4 → urf < 2 → tr < 2 ^ 10 → rtr < 2 ^ 10 → spelled 24 (code_from type urf tr rtr) ≡ fields ((2, type) ∷ (1, urf) ∷ (10, tr) ∷ (1, 1) ∷ (10, rtr) ∷ [])
+code_text type urf tr rtr k u t r =
+    let same : code_from type urf tr rtr ≡ first_number type urf tr 1 rtr = omega arith in
+    ap (spelled 24) same ∙ first_number_text type urf tr 1 rtr k u t (omega arith) r
 
 pub code_below : (type urf tr rtr : ℕ) → type < 4 → urf < 2 → tr < 2 ^ 10 → rtr < 2 ^ 10 → code_from type urf tr rtr < 2 ^ 24
 code_below type urf tr rtr k u t r = omega arith

@@ -1,3 +1,4 @@
 pub mod Codes
 pub mod Flags
 pub mod Texts
+pub mod FaultRows

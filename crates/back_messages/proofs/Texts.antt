@@ -114,10 +114,10 @@ same_message v m e = cc
 abbrev pub IsRead : Clock → Message → List Bool → Type 0
 IsRead clock m bits = IsMessage clock m × (bits ≡ message_text m)
 
-number_small : (n : ℕ) (bits : List Bool) → length bits ≡ n → number bits < 2 ^ n
+pub number_small : (n : ℕ) (bits : List Bool) → length bits ≡ n → number bits < 2 ^ n
 number_small n bits len = subst (λ (k : ℕ). number bits < 2 ^ k) len (number-lt bits)
 
-number_text : (n : ℕ) (bits : List Bool) → length bits ≡ n → bits ≡ spelled n (number bits)
+pub number_text : (n : ℕ) (bits : List Bool) → length bits ≡ n → bits ≡ spelled n (number bits)
 number_text n bits len = sym (spelled-number bits) ∙ ap (λ (k : ℕ). spelled k (number bits)) len
 
 pub short_is : (clock : Clock) (n : ℕ) (m : Message) → n < 2 ^ 24 → message_fault clock false n ≡ None → message_value n None ≡ m → IsRead clock m (spelled 24 n)

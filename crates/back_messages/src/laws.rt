@@ -1,11 +1,15 @@
 //! Laws over the definitions alone.
-ghost use Rattle.std.specs.Prelude.{◌≡◌, ℕ, ◌++◌, List, Bool, Ok};
+ghost use Rattle.std.specs.Prelude.{◌≡◌, ◌↔◌, ℕ, ◌+◌, ◌++◌, List, Bool, Ok, Err};
+ghost use Rattle.h263_bits.specs.declared.fault.Fault.{Fault};
 ghost use Rattle.h263_bits.specs.Bits.{bits_of};
-ghost use Rattle.h263_bits.specs.Syntax.{Spells};
+ghost use Rattle.h263_bits.specs.Reading.{Bits};
+ghost use Rattle.h263_bits.specs.Syntax.{Spells, reading};
 ghost use Rattle.h263_types.specs.declared.clock.Clock.{Clock};
 ghost use Rattle.back_messages.specs.Text.{IsMessage, message_text, message_in, message};
 ghost use Rattle.back_messages.specs.Laws.{MessageLaws};
+ghost use Rattle.back_messages.specs.Rows.{IsMessageFault, IsFieldFault};
 ghost use Rattle.back_messages.specs.declared.message.Message.{Message};
+ghost use Rattle.back_messages.specs.declared.message.MessageFault.{MessageFault};
 
 /// Bytes are read as a message exactly where they are its text.
 pub fn exact_text()
@@ -13,6 +17,16 @@ pub fn exact_text()
         → IsMessage clock m → bits_of bytes ≡ message_text m → message_in clock bytes ≡ Ok m }
     ensures read { (clock : Clock) (m : Message) (bytes : List ℕ) → message_in clock bytes ≡ Ok m
         → IsMessage clock m × (bits_of bytes ≡ message_text m) }
+{}
+
+/// Bytes are refused for a fault exactly where a row of the table of faults has it. So are the bits
+/// in a picture header that a message stands in, there with its place.
+pub fn first_faults()
+    ensures bytes { (clock : Clock) (bytes : List ℕ) (fault : MessageFault)
+        → (message_in clock bytes ≡ Err fault) ↔ IsMessageFault clock bytes fault }
+    ensures field { (clock : Clock) (b : Bits) (fault : Fault)
+        → (reading (message clock) b ≡ Err fault)
+        ↔ ((place : ℕ) × (fault.at ≡ b.at + place) × IsFieldFault clock b.bits fault.kind place) }
 {}
 
 /// In a header the text of a message is the same bits.

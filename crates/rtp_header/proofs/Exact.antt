@@ -49,14 +49,14 @@ accepted_ok h from to r e =
     record { type = eqb-true h.type 96 p.0; source = eqb-true h.source 1211250227 q.0; value = sym (ok_is (value_of h from to) r q.1) }
 
 -- the payload and its padding
-record Parts (padded : ℕ) (rest : List ℕ) (from to : ℕ) : Type 0 where
-  payload : List ℕ
-  padding : List ℕ
-  parts : rest ≡ payload ++ padding
-  text : IsPadding padded padding
-  end : to ≡ from + length payload
+pub record Parts (padded : ℕ) (rest : List ℕ) (from to : ℕ) : Type 0 where
+  pub payload : List ℕ
+  pub padding : List ℕ
+  pub parts : rest ≡ payload ++ padding
+  pub text : IsPadding padded padding
+  pub end : to ≡ from + length payload
 
-abbrev counted_end : List ℕ → ℕ → ℕ → Option ℕ
+abbrev pub counted_end : List ℕ → ℕ → ℕ → Option ℕ
 counted_end bytes from count = cond ((count == 0) || nat_lt (length bytes - from) count) None (Some (length bytes - count))
 
 some_is : (a b : ℕ) → Some a ≡ Some b → a ≡ b
@@ -95,16 +95,16 @@ counted p bytes from to count fits last e =
     sym (take-append-drop (count - 1) padding) ∙ ap (λ (t : List ℕ). others ++ t) (last_is padding (count - 1) len ∙ ap (λ (v : ℕ). v ∷ []) (byte ∙ sym len_others)) in
     record { payload = take size rest; padding = padding; parts = sym (take-append-drop size rest); text = (others, text); end = omega (arith, t.2, length-take size rest) }
 
-padding_ok : (padded : ℕ) (bytes : List ℕ) (from to : ℕ) → from ≤ length bytes → cond (padded == 0) (Some (length bytes)) (counted_end bytes from (get_or bytes (length bytes - 1) 0)) ≡ Some to → Parts padded (drop from bytes) from to
+pub padding_ok : (padded : ℕ) (bytes : List ℕ) (from to : ℕ) → from ≤ length bytes → cond (padded == 0) (Some (length bytes)) (counted_end bytes from (get_or bytes (length bytes - 1) 0)) ≡ Some to → Parts padded (drop from bytes) from to
 padding_ok zero bytes from to fits e = record { payload = drop from bytes; padding = []; parts = sym (append-nil (drop from bytes)); text = refl; end = omega (arith, some_is (length bytes) to e, length-drop from bytes) }
 padding_ok (suc p) bytes from to fits e = counted p bytes from to (get_or bytes (length bytes - 1) 0) fits refl (rw (ne_eqb (suc p) 0 (λ same. omega (arith, same))) at e)
 
 -- the bytes in front of the payload spell the header
-record Front (h : Head) (bytes : List ℕ) (from : ℕ) : Type 0 where
-  fits : from ≤ length bytes
-  text : Spells header h (bits_of (take from bytes))
+pub record Front (h : Head) (bytes : List ℕ) (from : ℕ) : Type 0 where
+  pub fits : from ≤ length bytes
+  pub text : Spells header h (bits_of (take from bytes))
 
-front_is : (h : Head) (bytes : List ℕ) (b c : Bits) → reading head (from_byte 0 bytes) ≡ Ok (h, b) → reading (behind h) b ≡ Ok (tt, c) → Front h bytes (c.at / 8)
+pub front_is : (h : Head) (bytes : List ℕ) (b c : Bits) → reading head (from_byte 0 bytes) ≡ Ok (h, b) → reading (behind h) b ≡ Ok (tt, c) → Front h bytes (c.at / 8)
 unfolding header
 front_is h bytes b c e f =
     let one = sound head (from_byte 0 bytes) b h e in
@@ -151,7 +151,7 @@ read_text r bytes e =
 
 -- ---- what spells a packet is read
 
-behind_productive : (h : Head) → IsProductive (behind h)
+pub behind_productive : (h : Head) → IsProductive (behind h)
 unfolding behind extension IsProductive
 behind_productive h = λ v. either_productive (h.extension == 0) (done tt) extension nothing (λ a b w. tt)
   where
@@ -159,14 +159,14 @@ behind_productive h = λ v. either_productive (h.extension == 0) (done tt) exten
     nothing = tt
 
 -- the two parts of a header's text
-record Halves (h : Head) (bits : List Bool) : Type 0 where
-  fixed : List Bool
-  more : List Bool
-  parts : bits ≡ fixed ++ more
-  head : Spells head h fixed
-  behind : Spells (behind h) tt more
+pub record Halves (h : Head) (bits : List Bool) : Type 0 where
+  pub fixed : List Bool
+  pub more : List Bool
+  pub parts : bits ≡ fixed ++ more
+  pub head : Spells head h fixed
+  pub behind : Spells (behind h) tt more
 
-halves_of : (h : Head) (bits : List Bool) → Spells header h bits → Halves h bits
+pub halves_of : (h : Head) (bits : List Bool) → Spells header h bits → Halves h bits
 unfolding header Spells
 halves_of h bits s =
     let g = s.0 in
@@ -186,7 +186,7 @@ last_byte : (xs : List ℕ) (v : ℕ) → get_or (xs ++ v ∷ []) (length xs) 0 
 last_byte [] v = refl
 last_byte (x ∷ xs) v = last_byte xs v
 
-payload_is : (padded : ℕ) (bytes front payload padding : List ℕ) → bytes ≡ front ++ (payload ++ padding) → IsPadding padded padding
+pub payload_is : (padded : ℕ) (bytes front payload padding : List ℕ) → bytes ≡ front ++ (payload ++ padding) → IsPadding padded padding
     → cond (padded == 0) (Some (length bytes)) (counted_end bytes (length front) (get_or bytes (length bytes - 1) 0)) ≡ Some (length front + length payload)
 payload_is zero bytes front payload padding e none = ap (λ (n : ℕ). Some n) (omega (arith, ap length e, length-append front (payload ++ padding), length-append payload padding, ap length none))
 payload_is (suc p) bytes front payload padding e text =
@@ -201,23 +201,29 @@ payload_is (suc p) bytes front payload padding e text =
     let some : (count == 0) ≡ false = ne_eqb count 0 (λ same. omega (arith, same)) in
     rw (ne_eqb (suc p) 0 (λ same. omega (arith, same)), last, some, le-ltb (length bytes - length front) count (omega (arith, len, len_before))) (ap (λ (n : ℕ). Some n) (omega (arith, len, len_before)))
 
--- what is a header is read
-pub text_read : (r : Rtp) (bytes : List ℕ) → IsRtp r bytes → rtp_in bytes ≡ Ok r
+-- what is looked for after a whole header of version 2
+pub opened : (bytes front rest : List ℕ) (h : Head) → length bytes ≤ 65535 → bytes ≡ front ++ rest → Spells header h (bits_of front) → h.version ≡ 2
+    → rtp_in bytes ≡ with_payload bytes h (length front) (payload_end_of h bytes (length front))
 unfolding rtp_in
-text_read r bytes s =
-    let h = s.fields in
-    let halves = halves_of h (bits_of s.front) s.text in
-    let tail = bits_of (s.payload ++ s.padding) in
+opened bytes front rest h few parts text two =
+    let halves = halves_of h (bits_of front) text in
+    let tail = bits_of rest in
     let whole : bits_of bytes ≡ halves.fixed ++ (halves.more ++ tail) =
-    ap bits_of s.parts ∙ bits_of-append s.front (s.payload ++ s.padding) ∙ ap (λ (t : List Bool). t ++ tail) halves.parts ∙ append_assoc halves.fixed halves.more tail in
-    let size : 0 + length halves.fixed + length halves.more ≡ 8 * length s.front = omega (arith, length-bits_of s.front, ap length halves.parts, length-append halves.fixed halves.more) in
+    ap bits_of parts ∙ bits_of-append front rest ∙ ap (λ (t : List Bool). t ++ tail) halves.parts ∙ append_assoc halves.fixed halves.more tail in
+    let size : 0 + length halves.fixed + length halves.more ≡ 8 * length front = omega (arith, length-bits_of front, ap length halves.parts, length-append halves.fixed halves.more) in
     let one : reading head (from_byte 0 bytes) ≡ Ok (h, record { at = 0 + length halves.fixed; bits = halves.more ++ tail }) =
     ap (λ (t : List Bool). reading head (record { at = 0; bits = t })) whole ∙ complete head h halves.fixed (halves.more ++ tail) 0 head_productive halves.head in
-    let two : end_of (reading (behind h) (record { at = 0 + length halves.fixed; bits = halves.more ++ tail })) ≡ Some (length s.front) =
+    let end : end_of (reading (behind h) (record { at = 0 + length halves.fixed; bits = halves.more ++ tail })) ≡ Some (length front) =
     ap end_of (complete (behind h) tt halves.more tail (0 + length halves.fixed) (behind_productive h) halves.behind) ∙ ap (λ (n : ℕ). Some n) (ap (λ (n : ℕ). n / 8) size ∙ omega arith) in
-    let three : payload_end_of h bytes (length s.front) ≡ Some (length s.front + length s.payload) = payload_is h.padding bytes s.front s.payload s.padding s.parts s.padded in
+    rw (le-ltb 65535 (length bytes) few, one, eq-eqb h.version 2 two, end) refl
+
+-- what is a header is read
+pub text_read : (r : Rtp) (bytes : List ℕ) → IsRtp r bytes → rtp_in bytes ≡ Ok r
+text_read r bytes s =
+    let h = s.fields in
+    let end : payload_end_of h bytes (length s.front) ≡ Some (length s.front + length s.payload) = payload_is h.padding bytes s.front s.payload s.padding s.parts s.padded in
     let accepted : accepted_of h (length s.front) (length s.front + length s.payload) ≡ Ok r = rw (eq-eqb h.type 96 s.type, eq-eqb h.source 1211250227 s.source) (ap (λ (v : Rtp). Ok v) (sym s.value)) in
-    rw (le-ltb 65535 (length bytes) s.short, one, eq-eqb h.version 2 s.version, two) (ap (with_payload bytes h (length s.front)) three ∙ accepted)
+    opened bytes s.front (s.payload ++ s.padding) h s.short s.parts s.text s.version ∙ ap (with_payload bytes h (length s.front)) end ∙ accepted
 
 -- the payload lies in the packet
 pub text_within : (r : Rtp) (bytes : List ℕ) → IsRtp r bytes → IsWithin r bytes

@@ -1,46 +1,62 @@
 -- THE FAULTS OF AN RTP PACKET (RFC 3550, 5.1, 5.3.1), in the order in which they are looked for.
-use Rattle.std.specs.Prelude.{◌≡◌, ◌⊎◌, ℕ, ◌-◌, ◌*◌, ◌/◌, ◌<◌, ◌≤◌, List, length, slice_index, Ok, Err}
-use Rattle.h263_bits.specs.declared.fault.Fault.{Fault}
+-- A row says what the packet holds, in its fields and its bytes, and knows no reader.
+use Rattle.std.specs.Prelude.{◌≡◌, ◌⊎◌, ℕ, ◌-◌, ◌*◌, ◌<◌, ◌≤◌, ◌^◌, List, [], ◌∷◌, ◌++◌, length, slice_index, Bool}
 use Rattle.h263_bits.specs.declared.fault.FaultKind.{FaultKind}
 use Rattle.h263_bits.specs.declared.fault.FaultKind.TheVariants as faults
-use Rattle.h263_bits.specs.Reading.{Bits}
-use Rattle.h263_bits.specs.Syntax.{reading}
-use Rattle.rtp_header.specs.Text.{Head, head, behind, from_byte}
-use Rattle.rtp_header.specs.Faults.{rtp_in}
+use Rattle.h263_bits.specs.Bits.{bits_of, fields}
+use Rattle.h263_bits.specs.Syntax.{Spells}
+use Rattle.rtp_header.specs.Text.{Head, head, header, IsPadding}
 
--- bytes have this fault first
-abbrev pub IsRefusedAt : List ℕ → FaultKind → ℕ → Type 0
-IsRefusedAt bytes kind place = rtp_in bytes ≡ Err (record { kind = kind; at = place })
-
--- the fixed header of bytes that are not too many, and what is left after it
-pub record HasHead (bytes : List ℕ) (h : Head) (c : Bits) : Type 0 where
+-- the bytes are not too many, and begin with this fixed header; these bits come after it
+pub record Begins (bytes : List ℕ) (h : Head) (left : List Bool) : Type 0 where
   pub few : length bytes ≤ 65535
-  pub read : reading head (from_byte 0 bytes) ≡ Ok (h, c)
+  pub fixed : List Bool
+  pub text : Spells head h fixed
+  pub parts : bits_of bytes ≡ fixed ++ left
 
--- the sources and the extension after it end in the bytes, at a byte
-pub record HasFront (bytes : List ℕ) (h : Head) (from : ℕ) : Type 0 where
-  pub left : Bits
-  pub end : Bits
-  pub fixed : HasHead bytes h left
+-- an extension ends inside its first four bytes, or inside its words
+abbrev pub EndsInExtension : List Bool → Type 0
+EndsInExtension left =
+    (length left < 32)
+    ⊎ ((profile words : ℕ) × (contents : List Bool) × (profile < 2 ^ 16) × (words < 2 ^ 16)
+    × (left ≡ fields ((16, profile) ∷ (16, words) ∷ []) ++ contents) × (length contents < 32 * words))
+
+-- the bits after the fixed header end inside the sources, or with X set inside the extension
+abbrev pub EndsInside : Head → List Bool → Type 0
+EndsInside h left =
+    (length left < 32 * h.sources)
+    ⊎ ((h.extension ≡ 0 → ⊥) × (sources behind : List Bool)
+    × (length sources ≡ 32 * h.sources) × (left ≡ sources ++ behind) × EndsInExtension behind)
+
+-- the packet is of version 2, its sources and its extension are whole, and these bytes come after them
+pub record Carries (bytes : List ℕ) (h : Head) (rest : List ℕ) : Type 0 where
+  pub few : length bytes ≤ 65535
   pub version : h.version ≡ 2
-  pub sources : reading (behind h) left ≡ Ok (tt, end)
-  pub at : end.at / 8 ≡ from
+  pub front : List ℕ
+  pub text : Spells header h (bits_of front)
+  pub parts : bytes ≡ front ++ rest
 
-pub record RtpFaults : Type 0 where
-  pub long : (bytes : List ℕ) → 65535 < length bytes → IsRefusedAt bytes faults.Long 0
-  pub short : (bytes : List ℕ) → length bytes < 12 → IsRefusedAt bytes faults.Short (8 * length bytes)
-  pub version : (bytes : List ℕ) (h : Head) (c : Bits)
-      → HasHead bytes h c → (h.version ≡ 2 → ⊥) → IsRefusedAt bytes faults.Version 0
+-- these are a payload and the padding after it, which is there where P is set
+pub record IsWhole (bytes : List ℕ) (h : Head) : Type 0 where
+  pub payload : List ℕ
+  pub padding : List ℕ
+  pub carries : Carries bytes h (payload ++ padding)
+  pub padded : IsPadding h.padding padding
+
+-- The bytes have this fault first, at this bit.
+pub data IsRtpFault (bytes : List ℕ) : FaultKind → ℕ → Type 0 where
+  long : 65535 < length bytes → IsRtpFault bytes faults.Long 0
+  -- no fixed header
+  short : length bytes < 12 → IsRtpFault bytes faults.Short (8 * length bytes)
+  version : (h : Head) (left : List Bool)
+      → Begins bytes h left → (h.version ≡ 2 → ⊥) → IsRtpFault bytes faults.Version 0
   -- sources or extension pass the end
-  pub short_behind : (bytes : List ℕ) (h : Head) (c : Bits) (fault : Fault)
-      → HasHead bytes h c → h.version ≡ 2
-      → reading (behind h) c ≡ Err fault → IsRefusedAt bytes faults.Short (8 * length bytes)
-  -- the last byte counts more than there is after the header, or nothing
-  pub padding : (bytes : List ℕ) (h : Head) (from : ℕ) → HasFront bytes h from → (h.padding ≡ 0 → ⊥)
-      → (slice_index bytes (length bytes - 1) ≡ 0)
-      ⊎ (length bytes - from < slice_index bytes (length bytes - 1))
-      → IsRefusedAt bytes faults.Padding (8 * length bytes - 8)
-  pub type : (bytes : List ℕ) (h : Head) (from : ℕ) → HasFront bytes h from
-      → h.padding ≡ 0 → (h.type ≡ 96 → ⊥) → IsRefusedAt bytes faults.PayloadType 9
-  pub source : (bytes : List ℕ) (h : Head) (from : ℕ) → HasFront bytes h from → h.padding ≡ 0
-      → h.type ≡ 96 → (h.source ≡ 1211250227 → ⊥) → IsRefusedAt bytes faults.Source 64
+  short_behind : (h : Head) (left : List Bool) → Begins bytes h left → h.version ≡ 2 → EndsInside h left
+      → IsRtpFault bytes faults.Short (8 * length bytes)
+  -- P is set, and the last byte counts nothing, or more than there is after the header
+  padding : (h : Head) (rest : List ℕ) → Carries bytes h rest → (h.padding ≡ 0 → ⊥)
+      → (slice_index bytes (length bytes - 1) ≡ 0) ⊎ (length rest < slice_index bytes (length bytes - 1))
+      → IsRtpFault bytes faults.Padding (8 * length bytes - 8)
+  type : (h : Head) → IsWhole bytes h → (h.type ≡ 96 → ⊥) → IsRtpFault bytes faults.PayloadType 9
+  source : (h : Head) → IsWhole bytes h
+      → h.type ≡ 96 → (h.source ≡ 1211250227 → ⊥) → IsRtpFault bytes faults.Source 64

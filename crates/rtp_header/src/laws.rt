@@ -1,9 +1,10 @@
 //! Laws about an RTP packet, over the definitions alone.
-ghost use Rattle.std.specs.Prelude.{◌≡◌, ℕ, ◌<◌, ◌≤◌, ◌++◌, List, Bool, length, Ok};
+ghost use Rattle.std.specs.Prelude.{◌≡◌, ◌↔◌, ℕ, ◌<◌, ◌≤◌, ◌++◌, List, Bool, length, Ok, Err};
 ghost use Rattle.h263_bits.specs.Bits.{bits_of, fields};
+ghost use Rattle.h263_bits.specs.declared.fault.Fault.{Fault};
 ghost use Rattle.rtp_header.specs.Text.{IsRtp};
 ghost use Rattle.rtp_header.specs.Faults.{rtp_in};
-ghost use Rattle.rtp_header.specs.Rows.{RtpFaults};
+ghost use Rattle.rtp_header.specs.Rows.{IsRtpFault};
 ghost use Rattle.rtp_header.specs.Written.{rtp_fields, written_rtp, IsWithin};
 ghost use Rattle.rtp_header.specs.declared.rtp.Rtp.{Rtp};
 
@@ -14,9 +15,10 @@ pub fn exact_text()
     ensures written { (r : Rtp) (bytes : List ℕ) → IsRtp r bytes → rtp_in bytes ≡ Ok r }
 {}
 
-/// The first faults of a packet's RTP header, in the order in which they are looked for.
+/// A packet is refused for a fault exactly where a row of the table of faults has it there.
 pub fn first_faults()
-    ensures { RtpFaults }
+    ensures { (bytes : List ℕ) (fault : Fault)
+        → (rtp_in bytes ≡ Err fault) ↔ IsRtpFault bytes fault.kind fault.at }
 {}
 
 /// Bytes spell one packet.

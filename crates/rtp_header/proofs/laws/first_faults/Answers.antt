@@ -1,5 +1,5 @@
-use Rattle.rtp_header.proofs.FaultRows.{rtp_faults}
+use Rattle.rtp_header.proofs.FaultRows.{first_faults}
 use Rattle.rtp_header.proofs.laws.first_faults.Goals as goal
 
 pub returns : goal.returns
-returns c = rtp_faults
+returns c = first_faults
