@@ -1,4 +1,4 @@
-//! What is asked of the outside: a place for each role, with three calls.
+//! What is asked of the outside: a place for each role, with four calls.
 ghost use Rattle.std.specs.Prelude.{◌≡◌, ◌≢◌, ◌<◌, ◌≤◌, ◌==◌, ℕ, true, false, length, take, OnOk, OnErr, IfOk, IfSome, IsErrOf};
 ghost use Rattle.h263_outside.specs.Desk.{Outside, IsInput, IsOutput, with_role, appended, consumed, IsFront, Rose, OnlyAttaches, OnlyReads, OnlyWrites};
 
@@ -104,4 +104,16 @@ pub trait Desk {
             (Rose (outside self.old).faults.write (outside self.new).faults.write) }
         ensures ok_faults { OnOk result ((outside self.new).faults ≡ (outside self.old).faults) }
         ensures rest { OnlyWrites (outside self.old) (outside self.new) };
+
+    /// Sees that all that was written has come to its place. A desk that hands on each byte at once
+    /// has nothing to do.
+    fn flush(&mut self) -> Result<(), Failed>
+        ensures written { (outside self.new).written ≡ (outside self.old).written }
+        ensures cause { OnErr result
+            (Rose (outside self.old).faults.write (outside self.new).faults.write) }
+        ensures ok_faults { OnOk result ((outside self.new).faults ≡ (outside self.old).faults) }
+        ensures rest { OnlyWrites (outside self.old) (outside self.new) }
+    {
+        Ok(())
+    }
 }

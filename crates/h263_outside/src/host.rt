@@ -1,24 +1,29 @@
 //! The host's files and standard output: the trusted edge. What they hold is not told.
-ghost use Rattle.std.specs.Prelude.{◌≡◌, ◌≤◌, ◌<◌, length, IfOk, is_some};
+ghost use Rattle.std.specs.Prelude.{◌≡◌, ◌≤◌, ◌<◌, length, IfOk};
 ghost use Rattle.std.specs.Io.KnownBytes.{ReadConsumes, WriteAppends};
 ghost use Rattle.h263_outside.specs.Host.{told_of};
 ghost use Rattle.h263_outside.specs.Desk.{NoneAttached};
 
+use crate::files::{has_file, is_kept, is_one, read_file, write_file};
 use crate::memory::raised;
 use crate::{Desk, Failed, Role, Unattached};
 use std::fs;
 use std::fs::{Metadata, OpenFile, OpenOptions};
-use std::io::{Read, Write};
-use std::os::unix::fs::MetadataExt;
-use std::rt::Runtime;
+use std::io::ErrorKind;
+use std::rt::{Files, Runtime};
+
+// What the system has open as the standard output, whatever that is.
+const STANDARD_OUTPUT: &str = "/dev/stdout";
 
 /// A desk over a runtime: files by name, where those that are written are created or emptied, and
 /// standard output for the report. It tells neither names nor bytes.
 ///
-/// A regular file that is attached as an input is refused as an output, by whatever name.
+/// A file that is written belongs to one role alone, by whatever name; the standard output is the
+/// report's. A character device, as a terminal, serves any number of roles.
 #[derive(Drop)]
 pub struct HostDesk<R: Runtime> {
     rt: R,
+    streams: Streams<R::File>,
     video: Option<R::File>,
     events: Option<R::File>,
     pictures: Option<R::File>,
@@ -31,6 +36,26 @@ pub struct HostDesk<R: Runtime> {
     write_faults: u64,
 }
 
+// A file takes the lowest number that is free, and the numbers of the standard streams are free
+// where the program was started without them. Three files that stay open take those first, so that
+// no role's file becomes a standard stream. They can't be written: a report fails there.
+#[derive(Drop)]
+struct Streams<F> {
+    first: Option<F>,
+    second: Option<F>,
+    third: Option<F>,
+}
+
+const NOTHING: &str = "/dev/null";
+
+fn take_streams<R: Files>(rt: &R) -> Streams<R::File> {
+    Streams {
+        first: fs::open(rt, NOTHING).ok(),
+        second: fs::open(rt, NOTHING).ok(),
+        third: fs::open(rt, NOTHING).ok(),
+    }
+}
+
 impl<R: Runtime> HostDesk<R> {
     ghost use Rattle.std.specs.Prelude.{true, false, MatchOption};
     ghost use Rattle.h263_outside.specs.Host.{host_outside, no_faults};
@@ -41,8 +66,10 @@ impl<R: Runtime> HostDesk<R> {
         ensures detached { NoneAttached (⟦<HostDesk<R> as Desk>⟧.outside result).attached }
         ensures faults { (⟦<HostDesk<R> as Desk>⟧.outside result).faults ≡ no_faults }
     {
+        let streams = take_streams(&rt);
         HostDesk {
             rt,
+            streams,
             video: None,
             events: None,
             pictures: None,
@@ -56,7 +83,17 @@ impl<R: Runtime> HostDesk<R> {
         }
     }
 
-    // A file to be written: created, or emptied. One that is read is refused while it is whole.
+    // A file to be read. One that is written is refused.
+    fn open(&self, name: &str) -> Option<R::File> {
+        let file = fs::open(&self.rt, name).ok()?;
+        let about = file.metadata().ok()?;
+        if self.writes(&about) {
+            return None;
+        }
+        Some(file)
+    }
+
+    // A file to be written: created, or emptied. One that has a role is refused while it is whole.
     fn create(&self, name: &str) -> Option<R::File> {
         let file = OpenOptions::new()
             .write(true)
@@ -64,13 +101,22 @@ impl<R: Runtime> HostDesk<R> {
             .open(&self.rt, name)
             .ok()?;
         let about = file.metadata().ok()?;
+        if self.reads(&about) || self.writes(&about) {
+            return None;
+        }
         if about.is_file() {
-            if self.reads(&about) {
-                return None;
-            }
             file.set_len(0).ok()?;
         }
         Some(file)
+    }
+
+    // Whether the standard output has no role yet. A system without this name doesn't say, and it is
+    // taken to be free.
+    fn can_report(&self) -> bool {
+        match fs::metadata(&self.rt, STANDARD_OUTPUT) {
+            Ok(about) => !self.reads(&about) && !self.writes(&about),
+            Err(_) => true,
+        }
     }
 
     // Opens the file of a role that has none, or leaves all as it is. The report needs none.
@@ -83,12 +129,13 @@ impl<R: Runtime> HostDesk<R> {
         ensures faults { (host_outside self.new).faults ≡ (host_outside self.old).faults }
     {
         match role {
-            Role::Video => self.video = Some(fs::open(&self.rt, name).ok()?),
-            Role::Events => self.events = Some(fs::open(&self.rt, name).ok()?),
+            Role::Video => self.video = Some(self.open(name)?),
+            Role::Events => self.events = Some(self.open(name)?),
             Role::Pictures => self.pictures = Some(self.create(name)?),
             Role::Wire => self.wire = Some(self.create(name)?),
+            Role::Report if !self.can_report() => return None,
             Role::Report => self.reports = true,
-            Role::Video2 => self.video2 = Some(fs::open(&self.rt, name).ok()?),
+            Role::Video2 => self.video2 = Some(self.open(name)?),
             Role::Pictures2 => self.pictures2 = Some(self.create(name)?),
         }
         Some(())
@@ -96,65 +143,64 @@ impl<R: Runtime> HostDesk<R> {
 
     // Whether one of the inputs is this file.
     fn reads(&self, about: &Metadata) -> bool {
-        is_file(&self.video, about) || is_file(&self.events, about) || is_file(&self.video2, about)
+        has_file(&self.video, about)
+            || has_file(&self.events, about)
+            || has_file(&self.video2, about)
+    }
+
+    // Whether one of the outputs is this file.
+    fn writes(&self, about: &Metadata) -> bool {
+        has_file(&self.pictures, about)
+            || has_file(&self.wire, about)
+            || has_file(&self.pictures2, about)
+            || self.reports && self.prints_to(about)
+    }
+
+    // Whether the standard output is this file.
+    fn prints_to(&self, about: &Metadata) -> bool {
+        match fs::metadata(&self.rt, STANDARD_OUTPUT) {
+            Ok(output) => is_one(&output, about),
+            Err(_) => false,
+        }
+    }
+
+    // Whether each output has taken all that was written.
+    fn keeps_all(&self) -> bool {
+        is_kept(&self.pictures)
+            && is_kept(&self.wire)
+            && is_kept(&self.pictures2)
+            && is_kept(&self.printed())
+    }
+
+    // The standard output as a file of its own, where it is a file that may be opened.
+    fn printed(&self) -> Option<R::File> {
+        if !self.reports || !fs::metadata(&self.rt, STANDARD_OUTPUT).ok()?.is_file() {
+            return None;
+        }
+        OpenOptions::new()
+            .write(true)
+            .open(&self.rt, STANDARD_OUTPUT)
+            .ok()
     }
 }
 
-// Whether an input is this file: both have one number on one device, which all names and links of a
-// file share. An input that can't be asked is taken to be it. The system numbers each file; a
-// runtime that numbers none (0) tells none apart.
-fn is_file<F: OpenFile>(input: &Option<F>, about: &Metadata) -> bool {
-    let Some(file) = input else {
-        return false;
-    };
-    match file.metadata() {
-        Ok(read) => read.ino() != 0 && read.ino() == about.ino() && read.dev() == about.dev(),
-        Err(_) => true,
-    }
-}
-
-fn read_file<F: Read>(file: &mut Option<F>, buf: &mut [u8]) -> Result<usize, Failed>
-    ensures count { IfOk result (λ k. k ≤ length buf.old) }
-    // What is read is a prefix of what the file had, nothing only at its end; where the read fails
-    // nothing is lost.
-    ensures bytes { ReadConsumes
-        (told_of F.remaining file.old) (told_of F.remaining file.new) result buf.new }
-    ensures open { is_some file.new ≡ is_some file.old }
-{
-    let Some(file) = file else {
-        return Err(Failed);
-    };
-    match file.read(buf) {
-        Ok(count) => Ok(count),
-        Err(_) => Err(Failed),
-    }
-}
-
-fn write_file<F: Write>(file: &mut Option<F>, bytes: &[u8]) -> Result<usize, Failed>
-    ensures count { IfOk result (λ k. k ≤ length bytes.now) }
-    ensures advances { IfOk result (λ k. 0 < k) }
-    // The file gains as many bytes as the answer says, and none where the write fails.
-    ensures bytes { WriteAppends
-        (told_of F.contents file.old) (told_of F.contents file.new) result bytes.now }
-    ensures open { is_some file.new ≡ is_some file.old }
-{
-    let Some(file) = file else {
-        return Err(Failed);
-    };
-    match file.write(bytes) {
-        Ok(count) if count > 0 => Ok(count),
-        _ => Err(Failed),
-    }
-}
-
+// A write that a signal interrupts is made again.
 fn print_some<R: Runtime>(rt: &R, bytes: &[u8]) -> Result<usize, Failed>
     ensures count { IfOk result (λ k. k ≤ length bytes.now) }
     ensures advances { IfOk result (λ k. 0 < k) }
 {
-    match rt.write_some(bytes) {
-        Ok(count) if count > 0 => Ok(count),
-        _ => Err(Failed),
+    'tries: for _ in 0..u64::MAX {
+        match rt.write_some(bytes) {
+            Ok(0) => return Err(Failed),
+            Ok(count) => return Ok(count),
+            Err(fault) => {
+                if fault.kind() != ErrorKind::Interrupted {
+                    return Err(Failed);
+                }
+            }
+        }
     }
+    Err(Failed)
 }
 
 impl<R: Runtime> Desk for HostDesk<R> {
@@ -271,5 +317,25 @@ impl<R: Runtime> Desk for HostDesk<R> {
             self.write_faults = raised(self.write_faults);
         }
         outcome
+    }
+
+    fn flush(&mut self) -> Result<(), Failed>
+        ensures written { (host_outside self.new).written ≡ (host_outside self.old).written }
+        ensures cause { OnErr result
+            (Rose (host_outside self.old).faults.write (host_outside self.new).faults.write) }
+        ensures ok_faults { OnOk result
+            ((host_outside self.new).faults ≡ (host_outside self.old).faults) }
+        ensures rest { OnlyWrites (host_outside self.old) (host_outside self.new) }
+
+        // The count of writes rises by one where the call fails.
+        ensures failed { OnErr result ((host_outside self.new).faults
+            ≡ record ((host_outside self.old).faults)
+            { write = raised_count (host_outside self.old).faults.write }) }
+    {
+        if self.keeps_all() {
+            return Ok(());
+        }
+        self.write_faults = raised(self.write_faults);
+        Err(Failed)
     }
 }

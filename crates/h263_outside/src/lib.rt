@@ -15,6 +15,7 @@
 #![tactic(auto)]
 
 mod desk;
+mod files;
 mod host;
 pub mod laws;
 mod memory;

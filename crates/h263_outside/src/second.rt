@@ -50,4 +50,8 @@ impl<'a, D: Desk> Desk for Second<'a, D> {
     fn write(&mut self, role: Role, bytes: &[u8]) -> Result<usize, Failed> {
         self.desk.write(other(role), bytes)
     }
+
+    fn flush(&mut self) -> Result<(), Failed> {
+        self.desk.flush()
+    }
 }
