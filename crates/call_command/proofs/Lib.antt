@@ -22,3 +22,7 @@ mod Acting
 mod Conversing
 mod FaultOfVideo
 mod NoSecond
+mod FramesLeft
+mod Recorded
+mod Exactly
+mod Followed

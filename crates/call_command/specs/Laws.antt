@@ -1,5 +1,5 @@
 -- What holds of a call by both ends, of a video, and of the turns of lines.
-use Rattle.std.specs.Prelude.{◌≡◌, ℕ, ◌≤◌, Bool, true, false, List, [], ◌∷◌, take, drop, Some, Result, Ok, IfErr}
+use Rattle.std.specs.Prelude.{◌≡◌, ℕ, ◌+◌, ◌≤◌, Bool, true, false, List, [], ◌∷◌, take, drop, Some, None, Result, Ok, IfErr}
 use Rattle.h263_outside.specs.Desk.{Faults, NoneFalls, OnlyReads, OnlyWrites, Outside, Rose}
 use Rattle.h263_outside.specs.declared.desk.Role.{Role}
 use Rattle.h263_outside.specs.declared.desk.Role.TheVariants.{Events, Video}
@@ -17,6 +17,9 @@ use Rattle.loss_trace.specs.declared.reader.TraceReader.{TraceReader}
 use Rattle.call_report.specs.Status.{trace_stop, video_stop}
 use Rattle.call_report.specs.declared.status.Status.{Status}
 use Rattle.call_report.specs.declared.status.Status.TheVariants.{Ok as Fine, TraceRefused}
+use Rattle.call_model.specs.Coding.{Rules}
+use Rattle.call_model.specs.IdealCall.{Send, Deliver, Play}
+use Rattle.call_model.specs.Refusals.{NoFrame, Refusal, first_refusal}
 use Rattle.desk_program.specs.Ends.{EndsBy, Gains, HasCause, IsPart, IsStop, KeepsRoles, Tells, holds, turn_status}
 use Rattle.desk_program.specs.Run.{Turn, behind, run_of}
 use Rattle.desk_program.specs.Texts.{and_of, no_texts, of}
@@ -37,6 +40,20 @@ pub record VideoLaws : Type 0 where
       → (head_of (take k video) ≡ Ok f) × (head_size (take k video) ≡ head_size video)
   pub frame : (f : Format) (at k : ℕ) (rest planes : List ℕ) → frame_of f at rest ≡ Ok planes → frame_size f rest ≤ k
       → (frame_of f at (take k rest) ≡ Ok planes) × (frame_size f (take k rest) ≡ frame_size f rest)
+
+-- How many frames there are to be sent matters to a capture alone. One that is refused where a frame
+-- is left is refused so however many there are; another one has no frame where all were sent.
+pub record FramesLeft : Type 0 where
+  pub packet : (rules : Rules) (n j a b sent played : ℕ) (abouts : List ℕ)
+      → first_refusal rules a sent played abouts (Deliver n j) ≡ first_refusal rules b sent played abouts (Deliver n j)
+  pub play : (rules : Rules) (a b sent played : ℕ) (abouts : List ℕ)
+      → first_refusal rules a sent played abouts Play ≡ first_refusal rules b sent played abouts Play
+  pub far : (rules : Rules) (left sent played : ℕ) (abouts : List ℕ) (r : Refusal)
+      → first_refusal rules (sent + 1) sent played abouts Send ≡ Some r
+      → first_refusal rules left sent played abouts Send ≡ Some r
+  pub out : (rules : Rules) (left sent played : ℕ) (abouts : List ℕ) → left ≤ sent
+      → first_refusal rules (sent + 1) sent played abouts Send ≡ None
+      → first_refusal rules left sent played abouts Send ≡ Some NoFrame
 
 -- ---- the turns of lines, whatever a machine keeps in mind
 

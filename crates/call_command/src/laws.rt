@@ -1,6 +1,6 @@
 //! What a call comes to, and what its machine rests on. Each law is the contract of a function that
 //! does nothing else.
-ghost use Rattle.std.specs.Prelude.{◌≡◌, ℕ, List, true, Ok, Some};
+ghost use Rattle.std.specs.Prelude.{◌≡◌, ℕ, List, [], false, true, Ok, Err, Some};
 ghost use Rattle.h263_types.specs.declared.format.Format.{Format};
 ghost use Rattle.h263_types.specs.declared.params.Params.{Params};
 ghost use Rattle.h263_types.specs.Params.{IsParams};
@@ -10,15 +10,26 @@ ghost use Rattle.y4m.specs.declared.fault.Y4mFault.{Y4mFault};
 ghost use Rattle.y4m.specs.Head.{head_of};
 ghost use Rattle.y4m.specs.Video.{video_fault, video_frames};
 ghost use Rattle.call_report.specs.declared.status.Status.TheVariants.{VideoRefused, Video2Refused};
-ghost use Rattle.desk_program.specs.Run.{run_from};
+ghost use Rattle.call_decoding.specs.Rules.{rules_of};
+ghost use Rattle.call_encoding.specs.Frames.{Frame};
+ghost use Rattle.call_model.specs.IdealCall.{AllMayHappen, Event};
+ghost use Rattle.coded_call.specs.Coding.{coding};
+ghost use Rattle.one_way.specs.Both.{steady};
+ghost use Rattle.desk_program.specs.Run.{refusal, run_from};
 ghost use Rattle.call_command.specs.declared.terms.Terms.{Terms};
 ghost use Rattle.call_command.specs.Call.{call_begin, call_step, most_turns};
-ghost use Rattle.call_command.specs.Laws.{LineLaws, StepLaws, TalkIsTheCall, VideoLaws};
+ghost use Rattle.call_command.specs.Laws.{FramesLeft, LineLaws, StepLaws, TalkIsTheCall, VideoLaws};
 ghost use Rattle.call_command.specs.Plain.{ShowsEachFrame, status_for};
+ghost use Rattle.call_command.specs.Recorded.{FollowsItsTrace, ShowsWhatArrived};
 
-use call_model::laws::searches;
+use back_messages::MessageFault;
+use call_decoding::{Pictured, Styled};
+use call_encoding::Framed;
+use call_model::laws::{frames_by_events, later_frames, refusals, searches};
 use desk_program::laws::of_turns;
+use h263_bits::Fault;
 use h263_outside::laws::calls;
+use h263_types::Mb;
 use one_way::laws as one_way_laws;
 use y4m::laws::{cut_behind, frame_by_frame};
 
@@ -37,6 +48,42 @@ pub fn a_call_shows_each_frame()
 {
     one_way_laws::of_the_ends();
     searches();
+    frame_by_frame();
+}
+
+/// In a near call each picture that was played is marked exact where all its packets were delivered
+/// while it was open, and nowhere else, and was then shown as it is decoded.
+pub fn what_arrived_is_shown()
+    ensures { (p : Params) (frames : List Frame) (past : List Event)
+        → AllMayHappen (coding p) (rules_of p) (steady p) frames past
+        → ShowsWhatArrived p frames past }
+{
+    frames_by_events::<Framed, Styled, Mb, Pictured, Fault, MessageFault>();
+    searches();
+}
+
+/// Over a recorded trace, whatever bytes the trace and the video are made of, a call accepts the
+/// first lines of the trace, and is the ideal call of the video's frames over their events: these
+/// are in place and near; what it writes is the head and then what the plays showed, with a line
+/// for each; a picture is marked exact where all its packets were delivered while it was open, and
+/// nowhere else; and where it ends with `Ok` the counts are those of that call. It ends because of
+/// the line after them, or because there is none (`trace`). Of a video without a head it writes
+/// nothing (`no_head`).
+pub fn a_call_follows_its_trace()
+    ensures trace { (p : Params) (inputs : Role → List ℕ) (f : Format)
+        → head_of (inputs Video) ≡ Ok f
+        → FollowsItsTrace (record p { format = f }) inputs
+        (run_from (call_begin (record { params = p; plain = false }) inputs) call_step 16777216
+        inputs) }
+    ensures no_head { (p : Params) (inputs : Role → List ℕ) (fault : Y4mFault)
+        → head_of (inputs Video) ≡ Err fault
+        → run_from (call_begin (record { params = p; plain = false }) inputs) call_step 16777216
+        inputs ≡ record { turns = []; last = refusal (VideoRefused fault) } }
+{
+    refusals::<Framed, Styled, Mb, Pictured, Fault, MessageFault>();
+    later_frames::<Framed, Styled, Mb, Pictured, Fault, MessageFault>();
+    frames_by_events::<Framed, Styled, Mb, Pictured, Fault, MessageFault>();
+    what_arrived_is_shown();
     frame_by_frame();
 }
 
@@ -79,6 +126,11 @@ pub fn of_lines()
 {
     of_turns();
 }
+
+/// How many frames there are to be sent matters to a capture alone.
+pub fn of_frames_left()
+    ensures { FramesLeft }
+{}
 
 /// How two steps over a desk add up, and why a turn stops.
 pub fn of_steps()

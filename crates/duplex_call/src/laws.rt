@@ -1,5 +1,6 @@
 //! The laws of a call of two parties. Each is the contract of a function that does nothing.
 ghost use Rattle.std.specs.Prelude.{List};
+ghost use Rattle.call_model.specs.IdealCall.{AllMayHappen};
 ghost use Rattle.duplex_call.specs.declared.line.Party.{Party};
 ghost use Rattle.duplex_call.specs.Duplex.{AllMayHappenOf, Lettered, WayCoding, way, ways_after};
 ghost use Rattle.duplex_call.specs.FourStores.{Follows, IsWayCoding, LastFourAre};
@@ -26,6 +27,17 @@ pub fn two_way_refusals<Shot, Frame, Style, Mb, Picture, Fault, MessageFault>()
         → NoneWhereItMayHappenOf side }
 {
     call_model_laws::refusals::<Frame, Style, Mb, Picture, Fault, MessageFault>();
+}
+
+/// In a near call of two parties the events of each party's pictures, with the messages that are
+/// brought to it, are near by its own ideal call.
+pub fn each_way_is_near<Shot, Frame, Style, Mb, Picture, Fault, MessageFault>()
+    ensures { (side : Party → WayCoding Shot Frame Style Mb Picture Fault MessageFault)
+        (shots : Party → List Shot) (past : List Lettered) → AllMayHappenOf side shots past
+        → (x : Party) → AllMayHappen (side x).coding (side x).rules (side x).pace
+        (way x (ways_after side shots past)).frames (way x (ways_after side shots past)).past }
+{
+    call_model_laws::later_frames::<Frame, Style, Mb, Picture, Fault, MessageFault>();
 }
 
 /// A header carries the last four messages, at most, that were said since the capture before.

@@ -1,7 +1,8 @@
 -- What a line of the second party says is done as it is for the first, with both exchanged.
 use Rattle.std.proofs.Common.{◌≡◌, ℕ, List, [], ◌∷◌, Option, Some, None, Result, Ok, Err, refl, ap}
 use mathlib.Core.Path.{fun_ext}
-use Rattle.h263_outside.specs.Desk.{exchanged}
+use Rattle.std.specs.Prelude.{if◌then◌else◌}
+use Rattle.h263_outside.specs.Desk.{exchanged, is_role}
 use Rattle.h263_outside.specs.declared.desk.Role.{Role}
 use Rattle.h263_outside.specs.declared.desk.Role.TheVariants.{Video, Events, Pictures, Wire, Report, Video2, Pictures2}
 use Rattle.y4m.specs.declared.fault.Y4mFault.{Y4mFault}
@@ -79,6 +80,22 @@ line_refused trace fault =
     ends_so (TraceRefused fault) (λ r. Some (of Events (line_size trace) (exchanged r))) (λ r. Some (of Events (line_size trace) r))
     (ap (λ (taken : Role → ℕ). λ r. Some (taken r)) (line_taken (line_size trace)))
 
+-- what is taken where a video is refused
+abbrev refused_taken : List ℕ → Role → Role → Option ℕ
+refused_taken trace video r = if is_role video r then None else Some (of Events (line_size trace) r)
+
+video_refused : (trace : List ℕ) → (λ r. refused_taken trace Video (exchanged r)) ≡ refused_taken trace Video2
+video_refused trace = fun_ext by_role
+  where
+    by_role : (r : Role) → refused_taken trace Video (exchanged r) ≡ refused_taken trace Video2 r
+    by_role Video = refl
+    by_role Events = refl
+    by_role Pictures = refl
+    by_role Wire = refl
+    by_role Report = refl
+    by_role Video2 = refl
+    by_role Pictures2 = refl
+
 line_goes : (trace : List ℕ) (next : DuplexState) (first second : Role → List ℕ) → for_second first ≡ second
     → second_step (Goes next (line_turn trace first)) ≡ Goes next (line_turn trace second)
 line_goes trace next first second texts =
@@ -94,7 +111,8 @@ module _ (x : Party) (s : DuplexState) (trace : List ℕ) where
   frame_captured size (Ok planes) =
       ap (λ (taken : Role → ℕ). Goes (after_line (with_frame x s size planes) trace) (record { taken = taken; whole = is_closed trace; texts = no_texts }))
       (frame_taken (line_size trace) size)
-  frame_captured size (Err fault) = refl
+  frame_captured size (Err fault) =
+      ends_so (Video2Refused fault) (λ r. refused_taken trace Video (exchanged r)) (refused_taken trace Video2) (video_refused trace)
 
   frame_asked : (video : List ℕ) → second_step (capture_step Video Pictures VideoRefused x s trace video) ≡ capture_step Video2 Pictures2 Video2Refused x s trace video
   frame_asked [] = line_refused trace _

@@ -17,13 +17,14 @@ use Rattle.y4m.specs.Text.{head_text}
 use Rattle.call_report.specs.declared.status.Status.{Status}
 use Rattle.call_report.specs.declared.status.Status.TheVariants.{VideoRefused, Video2Refused}
 use Rattle.call_report.specs.Status.{phase, video_stop}
-use Rattle.desk_program.specs.Run.{Step, behind, refusal}
+use Rattle.desk_program.specs.Run.{Step, behind}
 use Rattle.desk_program.specs.Ends.{Ended, Gains, GainsFronts, GivesUp, IsPart, Lost, Tells, step_turns}
 use Rattle.desk_program.specs.Laws.{TurnLaws}
-use Rattle.desk_program.specs.Texts.{and_of, of, on}
+use Rattle.desk_program.specs.Texts.{and_of, no_bytes, of, on}
 use Rattle.duplex_command.specs.Begin.{HaveHeads, duplex_begin, heads_step, heads_taken, heads_text}
 use Rattle.duplex_command.specs.declared.heads.Heads.{Heads}
-use Rattle.duplex_command.specs.Duplex.{DuplexState}
+use Rattle.duplex_command.specs.Duplex.{DuplexState, video_refusal}
+use Rattle.duplex_command.proofs.Refusing.{not_first, not_second, refused_by}
 
 -- ---- what was taken holds no whole turn
 
@@ -98,9 +99,9 @@ module _ (turns : TurnLaws) (law : HeadLaw) (inputs : Role → List ℕ) (old mi
     written = same;
   }
   first_stops p (Refused fault) e = record {
-    last = refusal (VideoRefused fault);
+    last = video_refusal Video no_bytes (VideoRefused fault);
     is = ap (λ (a : Result Format Y4mFault). heads_step p inputs a (head_of (inputs Video2))) e;
-    by = turns.refuses (VideoRefused fault) inputs old mid same;
+    by = refused_by turns Video no_bytes (VideoRefused fault) inputs old mid (λ r input other. others r (not_first r other) ∙ told r input) same;
   }
 
   -- the second video is as it was
@@ -128,9 +129,10 @@ module _ (turns : TurnLaws) (law : HeadLaw) (inputs : Role → List ℕ) (old mi
 
     refused_so : (p : Params) (fault : Y4mFault) → head_of (inputs Video2) ≡ Err fault → Ended (duplex_begin p inputs) (Video2Refused fault) inputs old new
     refused_so p fault e = record {
-      last = refusal (Video2Refused fault);
+      last = video_refusal Video2 (of Video (head_size (inputs Video))) (Video2Refused fault);
       is = (λ i. heads_step p inputs (first.0 i) (e i));
-      by = turns.refuses (Video2Refused fault) inputs old new (same2 ∙ same);
+      by = refused_by turns Video2 (of Video (head_size (inputs Video))) (Video2Refused fault) inputs old new
+          (λ r input other. others2 r (not_second r other) ∙ turns.one_read Video (head_size (inputs Video)) old mid inputs told first.2 others r input) (same2 ∙ same);
     }
 
     pub second_refused : (p : Params) (stop : VideoStop) (fault : Y4mFault) → stop ≡ Refused fault → HeadGives (Err stop) (inputs Video2) (new.left Video2)

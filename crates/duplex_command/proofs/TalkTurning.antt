@@ -13,7 +13,7 @@ use Rattle.call_report.specs.declared.status.Status.TheVariants.{Ok as Fine, Tra
 use Rattle.call_report.specs.Status.{Phase, phase}
 use Rattle.call_report.specs.Status.Phase.{finished, refused, unread, unwritten, starved, unasked, unopened}
 use Rattle.desk_program.specs.Run.{Step}
-use Rattle.desk_program.specs.Ends.{Ended, Falls, Gains, GainsFronts, GivesUp, HasCause, IsStop, KeepsRoles, OnEnd, OnGoing, OnSettled, OnceSettled, Tells, TurnGives, Went, step_texts, turn_status}
+use Rattle.desk_program.specs.Ends.{Ended, Falls, Gains, GainsFronts, GivesUp, HasCause, IsStop, KeepsRoles, OnEnd, OnGoing, OnSettled, OnceSettled, Tells, TurnGives, Went, step_texts}
 use Rattle.desk_program.specs.Texts.{no_texts}
 use Rattle.duplex_call.specs.declared.line.Party.{Party}
 use Rattle.duplex_call.specs.declared.line.Party.TheVariants.{A}

@@ -11,16 +11,16 @@ use Rattle.y4m.specs.declared.fault.Y4mFault.{Y4mFault}
 use Rattle.y4m.specs.Head.{head_of, head_size}
 use Rattle.y4m.specs.Text.{head_text}
 use Rattle.call_report.specs.declared.status.Status.TheVariants.{VideoRefused, Video2Refused}
-use Rattle.desk_program.specs.Run.{Run, Step, behind, refusal, run_from}
+use Rattle.desk_program.specs.Run.{Run, Step, behind, run_from}
 use Rattle.desk_program.specs.Run.Step.{Goes, Ends}
 use Rattle.desk_program.specs.Ends.{Tells}
-use Rattle.desk_program.specs.Texts.{and_of, of, on, then_also}
+use Rattle.desk_program.specs.Texts.{and_of, no_bytes, of, on, then_also}
 use Rattle.duplex_call.specs.declared.line.Party.{Party}
 use Rattle.duplex_call.specs.declared.line.Party.TheVariants.{A, B}
 use Rattle.duplex_ends.specs.Pair.{IsNewParty}
 use Rattle.duplex_command.specs.declared.heads.Heads.{Heads}
 use Rattle.duplex_command.specs.declared.talk.Talk.{Talk}
-use Rattle.duplex_command.specs.Duplex.{DuplexState, duplex_step, first_state, most_turns}
+use Rattle.duplex_command.specs.Duplex.{DuplexState, duplex_step, first_state, most_turns, video_refusal}
 use Rattle.duplex_command.specs.Standing.{DuplexOpens}
 
 -- the parameters of each party, with the format of its video
@@ -38,11 +38,12 @@ heads_taken inputs =
     and_of (of Video (head_size (inputs Video))) (of Video2 (head_size (inputs Video2)))
 
 -- Both heads are one turn, so no picture's head is written unless both videos have one. The first
--- video's fault is told before the second's.
+-- video's fault is told before the second's, of which nothing is read then.
 abbrev pub heads_step : Params → (Role → List ℕ) → Result Format Y4mFault → Result Format Y4mFault
     → Step DuplexState
-heads_step p inputs (Err fault) second = Ends (refusal (VideoRefused fault))
-heads_step p inputs (Ok f) (Err fault) = Ends (refusal (Video2Refused fault))
+heads_step p inputs (Err fault) second = Ends (video_refusal Video no_bytes (VideoRefused fault))
+heads_step p inputs (Ok f) (Err fault) =
+    Ends (video_refusal Video2 (of Video (head_size (inputs Video))) (Video2Refused fault))
 heads_step p inputs (Ok f) (Ok g) =
     Goes (first_state (in_formats p f g) (head_size (inputs Video)) (head_size (inputs Video2)))
     (record { taken = heads_taken inputs; whole = true; texts = heads_text f g })

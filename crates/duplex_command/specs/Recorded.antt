@@ -1,0 +1,192 @@
+-- What a call of two parties over a recorded trace comes to, as a whole: the two ideal calls of both
+-- videos over the events of the lines that it accepts.
+use Rattle.std.specs.Prelude.{◌≡◌, ◌⊎◌, ℕ, zero, suc, ◌+◌, List, [], ◌∷◌, ◌++◌, length, map, Option, Some, None}
+use Rattle.h263_types.specs.declared.blocks.Mb.{Mb}
+use Rattle.h263_types.specs.declared.params.Params.{Params}
+use Rattle.h263_planes.specs.Layout.{picture_of}
+use Rattle.h263_planes.specs.Picture.{Picture}
+use Rattle.h263_outside.specs.declared.desk.Role.{Role}
+use Rattle.h263_outside.specs.declared.desk.Role.TheVariants.{Events, Report}
+use Rattle.y4m.specs.declared.fault.Y4mFault.{Y4mFault}
+use Rattle.y4m.specs.Text.{head_text}
+use Rattle.y4m.specs.Video.{video_frames}
+use Rattle.loss_trace.specs.declared.event.Event.{Event as Line}
+use Rattle.loss_trace.specs.declared.event.Event.TheVariants as says
+use Rattle.loss_trace.specs.declared.fault.TraceFault.{TraceFault}
+use Rattle.loss_trace.specs.declared.fault.TraceFault.TheVariants.{BadLine, TooMany}
+use Rattle.loss_trace.specs.Lines.{behind_line, first_line}
+use Rattle.call_report.specs.declared.status.Status.{Status}
+use Rattle.call_report.specs.declared.status.Status.TheVariants.{TraceRefused}
+use Rattle.call_report.specs.Text.{Text, picture_text}
+use Rattle.call_model.specs.Coding.{Shown}
+use Rattle.call_model.specs.CodedPictures.{Coded}
+use Rattle.call_model.specs.IdealCall.{Call, Event, Send, Deliver, Play, Back, slices_at}
+use Rattle.call_model.specs.Refusals.{NoFrame, Refusal}
+use Rattle.call_decoding.specs.Styles.{Style}
+use Rattle.call_encoding.specs.Frames.{Frame}
+use Rattle.receiver_end.specs.Answers.{mark_of}
+use Rattle.desk_program.specs.Run.{Run, text_of}
+use Rattle.one_way.specs.Seen.{reference_in}
+use Rattle.call_command.specs.Recorded.{ShowsWhatArrived, read_out, shown_text, told}
+use Rattle.call_command.specs.Refused.{fault_of}
+use Rattle.duplex_call.specs.declared.line.Party.{Party}
+use Rattle.duplex_call.specs.Duplex.{AllMayHappenOf, Lettered, WayRuns, other, way, ways_after}
+use Rattle.duplex_call.specs.Lines.{party_event}
+use Rattle.duplex_call.specs.Refused.{refusal_of}
+use Rattle.duplex_ends.specs.Ways.{call_in, sides}
+use Rattle.duplex_command.specs.Duplex.{both_counts, letter_of, pictures_of, refused_video, video_of}
+
+-- the pictures of each party's video, as they are captured
+abbrev pub film : (Party → Params) → (Role → List ℕ) → Party → List Picture
+film p inputs x = map (λ planes. picture_of (p x).format planes) (video_frames (inputs (video_of x)))
+
+-- ---- a trace
+
+-- what a line says that isn't bad: an event of a party, or nothing
+abbrev pub Said : Type 0
+Said = Option (Party × Line)
+
+-- what a line says, and those after it
+abbrev pub said_from : Option Said → List Said → List Said
+said_from None more = []
+said_from (Some said) more = said ∷ more
+
+abbrev pub bad_from : Option Said → ℕ → Option TraceFault → Option TraceFault
+bad_from None line more = Some (BadLine line)
+bad_from (Some said) line more = more
+
+-- what the lines of a text say, of which this many may still come, up to the first that is bad
+unfoldable pub said_of : ℕ → List ℕ → List Said
+said_of zero text = []
+said_of (suc n) [] = []
+said_of (suc n) (b ∷ text) = said_from (party_event (first_line (b ∷ text))) (said_of n (behind_line (b ∷ text)))
+
+-- the first fault, where the lines are numbered from this one on
+unfoldable pub fault_in : ℕ → ℕ → List ℕ → Option TraceFault
+fault_in n line [] = None
+fault_in zero line (b ∷ text) = Some (TooMany line)
+fault_in (suc n) line (b ∷ text) =
+    bad_from (party_event (first_line (b ∷ text))) line (fault_in n (line + 1) (behind_line (b ∷ text)))
+
+-- ---- texts
+
+-- the line of the newest of these plays
+abbrev pub newest_line : Party → List (Coded Style Mb Picture) → List (Shown Picture) → Text
+newest_line x coded [] = []
+newest_line x coded (shown ∷ plays) =
+    picture_text (length plays) (Some (mark_of shown.mark))
+    (Some (reference_in coded (length plays))) (Some (letter_of x))
+
+module _ (p : Party → Params) (shots : Party → List Picture) where
+  -- both ways after these events, and the ideal call of a party's pictures
+  abbrev pub ways_of : List Lettered → WayRuns Frame
+  ways_of past = ways_after (sides p) shots past
+
+  abbrev pub call_after : Party → List Lettered → Call Style Mb Picture
+  call_after x past = call_in p x (ways_of past)
+
+  -- ---- events
+
+  abbrev pub with_event : Party → Event → List Lettered → List Lettered
+  with_event x e past = record { party = x; event = e } ∷ past
+
+  -- the packets of the party's picture n at the places below this one are delivered, in their order
+  abbrev pub with_packets : Party → ℕ → ℕ → List Lettered → List Lettered
+  with_packets x n zero past = past
+  with_packets x n (suc j) past = with_event x (Deliver n j) (with_packets x n j past)
+
+  -- the events after those of a party's line, the newest first. Its messages travel in the packets of
+  -- the other party, so none comes back by itself.
+  abbrev pub with_party : List Lettered → Party → Line → List Lettered
+  with_party past x says.Nothing = past
+  with_party past x says.Send = with_event x Send past
+  with_party past x (says.Packet n j) = with_event x (Deliver n j) past
+  with_party past x (says.All n) = with_packets x n (length (slices_at (call_after x past).coded n)) past
+  with_party past x (says.Back k) = past
+  with_party past x says.Play = with_event x Play past
+
+  -- after those of a line
+  abbrev pub with_line : List Lettered → Said → List Lettered
+  with_line past None = past
+  with_line past (Some said) = with_party past said.0 said.1
+
+  -- after those of these lines
+  abbrev pub with_lines : List Lettered → List Said → List Lettered
+  with_lines past [] = past
+  with_lines past (line ∷ lines) = with_lines (with_line past line) lines
+
+  -- ---- a run
+
+  -- the line that tells of an event: of a play, its picture's
+  abbrev pub told_line : Party → Event → List Lettered → Text
+  told_line x Send past = []
+  told_line x (Deliver n j) past = []
+  told_line x (Back k) past = []
+  told_line x Play past =
+      newest_line x (call_after x (with_event x Play past)).coded (call_after x (with_event x Play past)).plays
+
+  -- the lines of all plays of both parties, in the order in which they were played
+  abbrev pub told_lines : List Lettered → Text
+  told_lines [] = []
+  told_lines (e ∷ past) = told_lines past ++ told_line e.party e.event past
+
+  -- The run is the two ideal calls over these events: each of them is in place and near; the pictures
+  -- of each party are the head and then what its plays showed, and the report has their lines, with
+  -- both counts where it ends with `Ok`. Of each party a picture is marked exact where all its packets
+  -- were delivered while it was open, and nowhere else.
+  pub record AreCallsOver (past : List Lettered) (run : Run) : Type 0 where
+    pub near : AllMayHappenOf (sides p) shots past
+    pub pictures : (x : Party)
+        → text_of run (pictures_of x) ≡ head_text (p x).format ++ shown_text (call_after x past).plays
+    pub report : text_of run Report ≡ told_lines past ++ told run.last.status (both_counts p (ways_of past) Report)
+    pub arrived : (x : Party)
+        → ShowsWhatArrived (p x) (way x (ways_of past)).frames (way x (ways_of past)).past
+
+  -- ---- its end
+
+  -- the party's event has this refusal, and is told with it and its line's number; or no frame is left
+  -- for it, since the next one of the party's video is refused
+  abbrev pub IsRefusal : ℕ → List Lettered → Party → Event → Status → Type 0
+  IsRefusal number past x e status =
+      (r : Refusal) × (refusal_of (sides p) (length (shots x)) x e (ways_of past) ≡ Some r)
+      × ((status ≡ TraceRefused (fault_of number e r))
+      ⊎ ((r ≡ NoFrame) × ((fault : Y4mFault) × (status ≡ refused_video x fault))))
+
+  -- a party's line is refused for its event; one that delivers all packets of a picture for the first
+  abbrev pub IsRefusedLine : ℕ → List Lettered → Party → Line → Status → Type 0
+  IsRefusedLine number past x says.Nothing status = ⊥
+  IsRefusedLine number past x says.Send status = IsRefusal number past x Send status
+  IsRefusedLine number past x (says.Packet n j) status = IsRefusal number past x (Deliver n j) status
+  IsRefusedLine number past x (says.All n) status = IsRefusal number past x (Deliver n 0) status
+  IsRefusedLine number past x (says.Back k) status = IsRefusal number past x (Back k) status
+  IsRefusedLine number past x says.Play status = IsRefusal number past x Play status
+
+  -- where the next line, which has this number, says an event of a party, that is refused; where there
+  -- is none, the trace is read out, up to its first fault
+  abbrev pub IsEnd : Option TraceFault → ℕ → List Lettered → List Said → Status → Type 0
+  IsEnd fault number past [] status = status ≡ read_out fault
+  IsEnd fault number past (None ∷ lines) status = ⊥
+  IsEnd fault number past (Some said ∷ lines) status = IsRefusedLine number past said.0 said.1 status
+
+-- The lines that it accepts are the first ones of the trace, one in each turn but the first, which
+-- reads both heads. Over their events the run is the two ideal calls of the pictures of both videos,
+-- and it ends because of the line after them. Where it refuses a video, that turn takes nothing of the
+-- other one.
+pub record FollowsItsTrace (p : Party → Params) (inputs : Role → List ℕ) (run : Run) : Type 0 where
+  pub lines : List Said
+  pub refused : List Said
+  pub read : said_of 16777216 (inputs Events) ≡ lines ++ refused
+  pub taken : length run.turns ≡ length lines + 1
+  pub are_calls : AreCallsOver p (film p inputs) (with_lines p (film p inputs) [] lines) run
+  pub end : IsEnd p (film p inputs) (fault_in 16777216 1 (inputs Events)) (length lines + 1)
+      (with_lines p (film p inputs) [] lines) refused run.last.status
+  pub others : (x : Party) (fault : Y4mFault)
+      → run.last.status ≡ refused_video x fault → run.last.taken (video_of (other x)) ≡ Some 0
+
+-- a run that ends before its first turn, with this status: nothing is written, and so much is taken of
+-- the video that isn't refused
+pub record IsRefusedAtOnce (status : Status) (video : Role) (size : ℕ) (run : Run) : Type 0 where
+  pub turns : run.turns ≡ []
+  pub because : run.last.status ≡ status
+  pub silent : (role : Role) → text_of run role ≡ []
+  pub left : run.last.taken video ≡ Some size
