@@ -1,3 +1,4 @@
 pub mod Coding
 pub mod Bytes
 pub mod Sent
+pub mod OfOnePicture

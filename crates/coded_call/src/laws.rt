@@ -29,6 +29,7 @@ ghost use Rattle.call_encoding.specs.Frames.{Frame};
 ghost use Rattle.call_encoding.specs.Messages.{marked, write_message};
 ghost use Rattle.coded_call.specs.Bytes.{AreBytes};
 ghost use Rattle.coded_call.specs.Coding.{coding};
+ghost use Rattle.coded_call.specs.OfOnePicture.{SentAreOfOne, SentInAnyOrder};
 ghost use Rattle.coded_call.specs.Sent.{AreSent};
 ghost use Rattle.receiver_end.specs.Answers.{IsSaid};
 ghost use Rattle.reference_selector.specs.Messages.{message_of};
@@ -44,7 +45,7 @@ use h263_planes::laws::samples_are_picture;
 use h263_types::Mb;
 use mode_choice::laws::{chosen_is_in_range, one_for_each_place};
 use packet_cutter::laws::packet_of_each;
-use receiver_end::laws::is_decoding;
+use receiver_end::laws::{is_decoding, order};
 
 /// A packet is read as its header and its slice, where the slice's macroblocks may be written one
 /// after the other and RTP has room for it.
@@ -106,6 +107,33 @@ pub fn two_stores()
 {
     is_coding();
     are_rules();
+    call_model::laws::two_stores::<Framed, Styled, Mb, Pictured, Fault, MessageFault>();
+}
+
+/// In a near call the packets of a picture that was sent are of one, as `order` of `receiver_end`
+/// asks, in whatever order and number they come while it is open and its reference complete.
+pub fn packets_are_of_one()
+    ensures { (p : Params) → IsParams p → SentAreOfOne (coding p) (rules_of p) }
+{
+    is_coding();
+    are_rules();
+    call_model::laws::nearest();
+    call_model::laws::encoder_is_sound::<Framed, Styled, Mb, Pictured, Fault, MessageFault>();
+    call_model::laws::two_stores::<Framed, Styled, Mb, Pictured, Fault, MessageFault>();
+}
+
+/// The packets of an open picture may come in any order, and more than once: two lists of what
+/// arrives until its play, which differ in nothing else and have the same packets of it, show the
+/// same pictures with the same marks.
+pub fn any_order()
+    ensures { (p : Params) → IsParams p → SentInAnyOrder (coding p) (rules_of p) }
+{
+    is_coding();
+    are_rules();
+    packets_are_of_one();
+    order();
+    call_model::laws::each_end_runs::<Framed, Styled, Mb, Pictured, Fault, MessageFault>();
+    call_model::laws::receiver_stands::<Styled, Mb, Pictured, Fault>();
     call_model::laws::two_stores::<Framed, Styled, Mb, Pictured, Fault, MessageFault>();
 }
 
