@@ -12,7 +12,7 @@ from .trace import LINE
 from .wire import packets_of_pictures
 
 # The options that each of the two commands takes; the receiver's format is that of the video.
-SEND_OPTIONS = ("quant", "keep", "radius", "limit", "slots", "lead", "clock")
+SEND_OPTIONS = ("quant", "keep", "radius", "limit", "slots", "lead", "clock", "target")
 RECV_OPTIONS = ("format", "slots", "lead", "messages", "clock")
 
 
@@ -31,7 +31,10 @@ class Call:
     def run(self, command: str, words: list[Path], names: tuple[str, ...]) -> list[str]:
         """A command's report."""
         options = [f"--{name}={value}" for name, value in self.options.items() if name in names]
-        asked = [str(self.program), command, *map(str, words), *options]
+        return self.printed(command, [str(self.program), command, *map(str, words), *options])
+
+    def printed(self, command: str, asked: list[str]) -> list[str]:
+        """What a run of the program prints."""
         done = subprocess.run(asked, capture_output=True, text=True)
         if done.returncode:
             raise BadInput(" ".join(asked), f"status {done.returncode}", done.stdout + done.stderr)

@@ -3,7 +3,7 @@
 import subprocess
 from dataclasses import dataclass
 from pathlib import Path
-from typing import Iterator
+from typing import Iterator, Optional, Sequence
 
 from .errors import BadInput
 from .rtp import HEADER_BYTES
@@ -11,8 +11,12 @@ from .y4m import Size
 
 # A picture start code (H.263, 5.1.1): 16 zeros, a one, five zeros, and the first two bits of TR; bytes are aligned.
 _FRONT, _LAST = b"\0\0", 0x80
+# The 17 bits that begin a slice or a group of blocks are 16 zeros and a one; bytes are aligned.
+_RESYNC = 0x80
 # What a packet may hold beside its RTP header; its two bytes of payload header stand for the start code's two zeros.
 _MOST_IN_PACKET = 1_438
+# H.263 as of 1996, whose pictures aren't cut.
+_WHOLE = ("-c:v", "h263")
 
 
 def ffmpeg(*words: object) -> None:
@@ -48,10 +52,17 @@ class PlainStream:
         return sum(len(picture) + HEADER_BYTES * -(-len(picture) // _MOST_IN_PACKET) for picture in self.pictures)
 
 
-def coded(video: Path, size: Size, quant: int, every: int, room: Path) -> PlainStream:
+def sliced(limit: int) -> tuple[object, ...]:
+    """The words that make ffmpeg begin a slice before a packet of this many bytes is full (Annex K)."""
+    return ("-c:v", "h263p", "-structured_slices", 1, "-ps", limit - HEADER_BYTES)
+
+
+def coded(
+    video: Path, size: Size, quant: int, every: int, room: Path, coder: Sequence[object] = _WHOLE
+) -> PlainStream:
     """Codes a video at one quantiser, one picture in `every` by itself, and decodes it with nothing lost."""
     path = room / "plain.h263"
-    ffmpeg("-i", video, "-c:v", "h263", "-qmin", 1, "-qscale:v", quant, "-g", every, "-sc_threshold", 10**9, "-f", "h263", path)
+    ffmpeg("-i", video, *coder, "-qmin", 1, "-qscale:v", quant, "-g", every, "-sc_threshold", 10**9, "-f", "h263", path)
     pictures = pictures_of(path.read_bytes())
     shown = decoded(pictures, size, room)
     if len(shown) != len(pictures):
@@ -59,9 +70,35 @@ def coded(video: Path, size: Size, quant: int, every: int, room: Path) -> PlainS
     return PlainStream(pictures, [is_intra(picture) for picture in pictures], shown)
 
 
+def packets_of(picture: bytes, limit: int) -> list[bytes]:
+    """A picture cut where a slice begins, into packets within the limit as far as the slices allow."""
+    starts = [0]
+    at = picture.find(_FRONT, 1)
+    while at >= 0:
+        if at + 2 < len(picture) and picture[at + 2] & _RESYNC:
+            starts.append(at)
+        at = picture.find(_FRONT, at + 1)
+    slices = [picture[a:b] for a, b in zip(starts, starts[1:] + [len(picture)])]
+    packets = slices[:1]
+    for piece in slices[1:]:
+        if len(packets[-1]) + len(piece) + HEADER_BYTES <= limit:
+            packets[-1] += piece
+        else:
+            packets.append(piece)
+    return packets
+
+
 def is_intra(picture: bytes) -> bool:
-    """Whether a picture of H.263 without PLUSPTYPE is coded by itself (5.1.3, bit 9 of PTYPE)."""
-    return not int.from_bytes(picture[:6], "big") >> 48 - 39 & 1
+    """Whether a picture is coded by itself: bit 9 of PTYPE (H.263, 5.1.3), or the first three bits of MPPTYPE where a
+    PLUSPTYPE follows (5.1.4), which stand after OPPTYPE's 18 if UFEP is 1."""
+    bits = int.from_bytes(picture[:8].ljust(8, b"\0"), "big")
+
+    def field(first: int, count: int) -> int:
+        return bits >> 64 - first - count & (1 << count) - 1
+
+    if field(35, 3) != 0b111:
+        return not field(38, 1)
+    return not field(59 if field(38, 3) == 1 else 41, 3)
 
 
 def decoded(pictures: list[bytes], size: Size, room: Path) -> list[bytes]:
@@ -75,12 +112,22 @@ def decoded(pictures: list[bytes], size: Size, room: Path) -> list[bytes]:
 
 def shown_of(stream: PlainStream, arrived: list[bool], size: Size, room: Path) -> Iterator[bytes]:
     """What is shown at the time of each picture: the last one that came, and grey before a first one that can be decoded."""
-    first = next((n for n, came in enumerate(arrived) if came and stream.intra[n]), len(arrived))
-    kept = [came and number >= first for number, came in enumerate(arrived)]
-    pictures = [picture for picture, here in zip(stream.pictures, kept) if here]
-    came = iter(decoded(pictures, size, room) if pictures else [])
-    last = bytes([128]) * size.bytes
-    for here in kept:
-        if here:
-            last = next(came)
+    came = [picture if here else None for picture, here in zip(stream.pictures, arrived)]
+    return shown_of_parts(stream, came, size, room)
+
+
+def shown_of_parts(
+    stream: PlainStream, came: list[Optional[bytes]], size: Size, room: Path
+) -> Iterator[bytes]:
+    """The same of pictures of which perhaps a part came; what is missing inside one is concealed by ffmpeg."""
+    first = next((n for n, part in enumerate(came) if part and stream.intra[n]), len(came))
+    kept = [part if number >= first else None for number, part in enumerate(came)]
+    pictures = [part for part in kept if part]
+    shown = decoded(pictures, size, room) if pictures else []
+    if len(shown) != len(pictures):
+        raise BadInput("ffmpeg", "the decoder", f"{len(pictures)} pictures came, {len(shown)} were shown")
+    frames, last = iter(shown), bytes([128]) * size.bytes
+    for part in kept:
+        if part:
+            last = next(frames)
         yield last

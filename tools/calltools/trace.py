@@ -4,9 +4,9 @@ no `B`, and a party's letter first: `a S`."""
 import random
 import re
 from dataclasses import dataclass
-from typing import Iterator, Sequence
+from typing import Iterator, Optional, Protocol, Sequence
 
-from .loss import GilbertElliott
+from .loss import GilbertElliott, Losses
 
 LINE = re.compile(r"|S|P|B \d{1,7}|D \d{1,7}\.(?:\d{1,7}|\*)")
 PARTY_LINE = re.compile(r"|[ab] (?:S|P|D \d{1,7}\.(?:\d{1,7}|\*))")
@@ -28,6 +28,26 @@ class Network:
     back: int
 
 
+class Fates(Protocol):
+    """What becomes of each packet, asked once of one after another."""
+
+    def lateness(self, picture: int, place: int) -> Optional[int]:
+        """How many pictures after its capture the packet at this place arrives; None where it is lost."""
+
+
+class Drawn:
+    """Packets that are lost by a model, and come up to `jitter` pictures later than `delay`, evenly drawn."""
+
+    def __init__(self, losses: Losses, delay: int, jitter: int, draws: random.Random) -> None:
+        self._losses, self._delay, self._jitter, self._draws = losses, delay, jitter, draws
+
+    def lateness(self, picture: int, place: int) -> Optional[int]:
+        """As drawn; the place doesn't matter."""
+        if self._losses.is_lost():
+            return None
+        return self._delay + self._draws.randint(0, self._jitter)
+
+
 @dataclass(frozen=True)
 class Loss:
     """Shares of packets and of messages that are lost, and the mean length of a loss."""
@@ -46,12 +66,17 @@ def trace(pictures: int, network: Network, loss: Loss, seed: int) -> Iterator[st
     forth = GilbertElliott(loss.packets, loss.burst, random.Random(f"packets {seed}"))
     back = GilbertElliott(loss.messages, loss.burst, random.Random(f"messages {seed}"))
     late = random.Random(f"delays {seed}")
+    return trace_of_fates(pictures, network, Drawn(forth, network.delay, network.jitter, late), back)
+
+
+def trace_of_fates(pictures: int, network: Network, fates: Fates, back: Losses) -> Iterator[str]:
+    """The lines of a call whose packets have these fates, and whose messages are lost like this."""
     arrivals: dict[int, list[str]] = {}
     wait = network.delay + network.hold
     for tick in range(pictures + wait):
         if tick < pictures:
             yield "S"
-            for delay, line in _deliveries(tick, network, forth, late):
+            for delay, line in _deliveries(tick, network.packets, fates):
                 arrivals.setdefault(tick + delay, []).append(line)
         yield from arrivals.pop(tick, [])
         if tick >= wait:
@@ -84,20 +109,20 @@ class _Way:
     # One way of a duplex call: what arrives of a party's pictures, by its time.
 
     def __init__(self, letter: str, network: Network, loss: Loss, seed: int) -> None:
-        self.letter, self._network = letter, network
+        self.letter, self._packets = letter, network.packets
         self.arrivals: dict[int, list[str]] = {}
-        self._forth = GilbertElliott(loss.packets, loss.burst, random.Random(f"packets {letter} {seed}"))
-        self._late = random.Random(f"delays {letter} {seed}")
+        forth = GilbertElliott(loss.packets, loss.burst, random.Random(f"packets {letter} {seed}"))
+        self._fates = Drawn(forth, network.delay, network.jitter, random.Random(f"delays {letter} {seed}"))
 
     def capture(self, picture: int) -> None:
-        for delay, line in _deliveries(picture, self._network, self._forth, self._late):
+        for delay, line in _deliveries(picture, self._packets, self._fates):
             self.arrivals.setdefault(picture + delay, []).append(line)
 
 
-def _deliveries(picture: int, network: Network, forth: GilbertElliott, late: random.Random) -> list[tuple[int, str]]:
+def _deliveries(picture: int, packets: int, fates: Fates) -> list[tuple[int, str]]:
     # The packets of a picture that arrive, each with how many pictures after the capture.
-    kept = [place for place in range(network.packets) if not forth.is_lost()]
-    delays = [network.delay + late.randint(0, network.jitter) for _ in kept]
-    if len(kept) == network.packets and len(set(delays)) == 1:
-        return [(delays[0], f"D {picture}.*")]
-    return [(delay, f"D {picture}.{place}") for delay, place in zip(delays, kept)]
+    told = [(place, fates.lateness(picture, place)) for place in range(packets)]
+    kept = [(place, delay) for place, delay in told if delay is not None]
+    if len(kept) == packets and len({delay for _, delay in kept}) == 1:
+        return [(kept[0][1], f"D {picture}.*")]
+    return [(delay, f"D {picture}.{place}") for place, delay in kept]
