@@ -12,3 +12,4 @@ pub mod Beginning
 pub mod Adding
 pub mod Judged
 pub mod Standing
+pub mod Flags

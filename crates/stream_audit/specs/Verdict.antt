@@ -1,5 +1,5 @@
 -- The rules of a stream, and the verdict on a log: the first rule that is broken decides.
-use Rattle.std.specs.Prelude.{ℕ, ◌+◌, ◌-◌, ◌%◌, Bool, true, false, ◌&&◌, not, nat_le, ◌==◌, List, [], ◌∷◌, Option, Some, None, Result, Ok, Err, if◌then◌else◌}
+use Rattle.std.specs.Prelude.{◌≡◌, ℕ, ◌+◌, ◌-◌, ◌%◌, Bool, true, false, ◌&&◌, not, nat_le, ◌==◌, List, [], ◌∷◌, Option, Some, None, Result, Ok, Err, if◌then◌else◌}
 use Rattle.std.specs.Option.{option_map, option_map_or}
 use Rattle.std.specs.List.{list_any}
 use Rattle.call_model.specs.Numbers.{all_below}
@@ -102,3 +102,10 @@ module _ {Style Mb P Fault MessageFault : Type 0} (decoding : Decoding Style Mb 
   -- the verdict on a log, the newest first
   abbrev pub verdict_of : List LogEntry → Verdict
   verdict_of past = verdict_by (first_broken past) (stream_of decoding past)
+
+-- No rule asks how many flags the receiver's messages have: with any number of them the verdict is
+-- the same.
+abbrev pub FlagsAreNotJudged : {Style Mb P Fault MessageFault : Type 0} → Decoding Style Mb P Fault
+    → (List ℕ → Result Message MessageFault) → Rules → Type 0
+FlagsAreNotJudged decoding read rules = (flags : ℕ) (past : List LogEntry) →
+    verdict_of decoding read (record rules { flags = flags }) past ≡ verdict_of decoding read rules past

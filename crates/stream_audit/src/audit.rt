@@ -1,5 +1,5 @@
 //! The audit of a log.
-ghost use Rattle.std.specs.Prelude.{◌≡◌, ◌+◌, ◌≤◌, ◌<◌, ◌^◌, List, [], ◌∷◌, None, IfOk};
+ghost use Rattle.std.specs.Prelude.{◌≡◌, ◌+◌, ◌≤◌, ◌<◌, ◌^◌, List, [], ◌∷◌, None, IfOk, IsSome};
 ghost use Rattle.h263_types.specs.Params.{IsParams};
 
 use crate::kept::Kept;
@@ -56,6 +56,10 @@ impl Audit {
         ensures pictures { self.new.pictures ≤ self.old.pictures + 1 }
         ensures stands { (past : List LogEntry) → Stands self.old past
             → Stands self.new (Sent bytes.now ∷ past) }
+        // A packet that breaks a rule begins no picture,
+        ensures broken { IsSome self.new.broken → self.new.pictures ≡ self.old.pictures }
+        // and one after that changes nothing at all.
+        ensures later { IsSome self.old.broken → self.new ≡ self.old }
     {
         if let Some(_) = self.kept.broken {
             return;
@@ -75,6 +79,7 @@ impl Audit {
         ensures pictures { self.new.pictures ≡ self.old.pictures }
         ensures stands { (past : List LogEntry) → Stands self.old past
             → Stands self.new (Fed bytes.now ∷ past) }
+        ensures later { IsSome self.old.broken → self.new ≡ self.old }
     {
         match self.kept.broken {
             Some(_) => {}

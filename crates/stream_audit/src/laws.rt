@@ -4,9 +4,10 @@ ghost use Rattle.h263_types.specs.declared.params.Params.{Params};
 ghost use Rattle.h263_types.specs.Params.{IsParams};
 ghost use Rattle.call_model.specs.Coding.{Decoding, Message, Rules};
 ghost use Rattle.call_model.specs.Lawful.{IsDecoding, IsRules};
-ghost use Rattle.stream_audit.specs.Logs.{StreamsAreAudited};
+ghost use Rattle.stream_audit.specs.Logs.{StreamsAreAudited, VerdictOfEachVersion};
 ghost use Rattle.stream_audit.specs.Replay.{Audited, ReadsInPeriod};
 ghost use Rattle.stream_audit.specs.Sound.{YesIsSound};
+ghost use Rattle.stream_audit.specs.Verdict.{FlagsAreNotJudged};
 
 use back_messages::MessageFault;
 use call_decoding::laws::are_rules;
@@ -43,12 +44,23 @@ pub fn audited<Style, Mb, P, Fault, MessageFault>()
     searches();
 }
 
-/// The same of the program's receivers, and of its packets and messages.
+/// The verdict on a log doesn't depend on the flags of the receiver's messages.
+pub fn flags_are_not_judged<Style, Mb, P, Fault, MessageFault>()
+    ensures { (decoding : Decoding Style Mb P Fault)
+        (read : List ℕ → Result Message MessageFault) (rules : Rules)
+        → FlagsAreNotJudged decoding read rules }
+{}
+
+/// For the program's packets and messages the verdict is one for both versions of messages
+/// (`verdict`). So after a yes the same holds of its receivers, with messages of either version
+/// (`audited`).
 pub fn audited_streams()
-    ensures { (p : Params) → IsParams p → StreamsAreAudited p }
+    ensures verdict { (p : Params) → VerdictOfEachVersion p }
+    ensures audited { (p : Params) → IsParams p → StreamsAreAudited p }
 {
     is_decoding();
     are_rules();
     exact_text();
+    flags_are_not_judged::<Styled, Mb, Pictured, Fault, MessageFault>();
     audited::<Styled, Mb, Pictured, Fault, MessageFault>();
 }

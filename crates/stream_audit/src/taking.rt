@@ -1,5 +1,5 @@
 //! What an audit takes.
-ghost use Rattle.std.specs.Prelude.{false, ◌≡◌, ◌+◌, ◌-◌, ◌<◌, ◌≤◌, ◌^◌, List, ◌∷◌, Some, None};
+ghost use Rattle.std.specs.Prelude.{false, ◌≡◌, ◌+◌, ◌-◌, ◌<◌, ◌≤◌, ◌^◌, List, ◌∷◌, Some, None, IsSome};
 ghost use Rattle.h263_types.specs.Blocks.{IsHeadOf};
 ghost use Rattle.h263_types.specs.declared.blocks.Mb.{Mb};
 ghost use Rattle.call_decoding.specs.Styles.{Style};
@@ -104,6 +104,7 @@ impl Kept {
         ensures fits { Fits self.new }
         ensures params { self.new.params ≡ self.old.params }
         ensures pictures { self.new.pictures ≤ self.old.pictures + 1 }
+        ensures broken { IsSome self.new.broken → self.new.pictures ≡ self.old.pictures }
         ensures judged { (items : Stream) (part : Part Style Mb) → Keeps self.old items
             → Spells piece.now part.piece → IsJudged self.old.params items part self.new }
     {
