@@ -23,3 +23,7 @@ pub mod Slots
 pub mod InSlots
 pub mod Windows
 pub mod Few
+pub mod Payloads
+pub mod Copied
+pub mod SlicesOut
+pub mod Nearest

@@ -15,7 +15,8 @@ use Rattle.slice_layer.specs.Text.{AreTexts, is_padding, IsSliceText}
 use Rattle.h263_bits.proofs.SyntaxLaws.{and_both}
 use Rattle.std.proofs.lemmas.Bool.{ltb-true}
 use Rattle.std.specs.List.{list_all}
-use Rattle.payload_join.specs.Laws.{HasZeros, NoStart, IsPart}
+use Rattle.payload_join.specs.Laws.{HasZeros, NoStart}
+use Rattle.payload_join.specs.Slices.{IsPart}
 use Rattle.payload_join.proofs.Zeros.{after_bit, zeros, zeros_then, zeros_add, seen, all_below, is_fine}
 use Rattle.payload_join.proofs.Kept.{Keeps, keeps_done, keeps_any, keeps_tried, keeps_part, keeps_less}
 use Rattle.payload_join.proofs.Macroblocks.{mb_keeps}
@@ -144,5 +145,8 @@ no_starts = record {
 
 -- what is coded of a slice, with the picture header before it or without
 pub part_quiet : (bytes : List ℕ) → IsPart bytes → zeros 15 (bits_of bytes) ≤ 13
-part_quiet bytes (inl p) = rw p.parts (begun_quiet p.format p.header p.first p.mbs p.text p.slice p.spelt p.is)
-part_quiet bytes (inr p) = later_quiet p.header p.first p.mbs (bits_of bytes) p.is
+part_quiet bytes (inl x) =
+    let s = x.1 in
+    let p = x.2 in
+    rw p.parts (begun_quiet x.0 s.header s.first s.mbs p.text p.slice p.spelt p.is)
+part_quiet bytes (inr x) = let s = x.0 in later_quiet s.header s.first s.mbs (bits_of bytes) x.1

@@ -3,6 +3,7 @@ pub mod Split
 pub mod Unit
 pub mod Outgoing
 pub mod Run
+pub mod Slices
 pub mod Laws
 pub mod Parts
 pub mod Places
@@ -14,3 +15,7 @@ pub mod Left
 pub mod Joining
 pub mod Keeping
 pub mod Ends
+pub mod WorkedPackets
+pub mod WorkedLogs
+pub mod Worked
+pub mod Computing

@@ -10,7 +10,7 @@ ghost use Rattle.payload_join.specs.Fronts.{front_bytes};
 ghost use Rattle.payload_join.specs.Giving.{IsGiving, left_in, left_of_unit};
 
 use crate::front::{EMPTY, Front, find_end, front_with, padded_front};
-use crate::ring::PacketRing;
+use crate::ring::HeldPackets;
 use crate::split::first_cut;
 use crate::units::Span;
 use h263_types::Format;
@@ -52,7 +52,7 @@ fn part_end(room: &[u8], giving: &Giving) -> Option<usize>
 }
 
 // The next outgoing packet is built, and lies in the room between these places.
-pub(crate) fn build(ring: &mut PacketRing, giving: &mut Giving) -> (usize, usize)
+pub(crate) fn build(ring: &mut HeldPackets, giving: &mut Giving) -> (usize, usize)
     requires left { giving.old.is_left ≡ true }
     requires is { IsGiving giving.old }
     ensures packet { left_in giving.old ring.old.room
@@ -81,7 +81,7 @@ pub(crate) fn build(ring: &mut PacketRing, giving: &mut Giving) -> (usize, usize
 }
 
 // The coded bytes of so many packets are copied into the room, up to the place that is answered.
-fn gather(ring: &mut PacketRing, number: u32, count: u32) -> usize
+fn gather(ring: &mut HeldPackets, number: u32, count: u32) -> usize
     requires count { count ≤ 64 }
     requires fits { number + count < 2 ^ 32 }
     requires short { length (coded_from (place_at ring.old.packets) number count) ≤ 65400 }
@@ -138,7 +138,7 @@ impl Giving {
 }
 
 // The coded bytes of a whole unit are laid into the room: all that goes out of it is left.
-pub(crate) fn lay(ring: &mut PacketRing, unit: Span, format: Format) -> Giving
+pub(crate) fn lay(ring: &mut HeldPackets, unit: Span, format: Format) -> Giving
     requires { IsWhole ring.old.packets unit }
     ensures left { left_in result ring.new.room
         ≡ outgoing_of format (place_at ring.old.packets) unit.number unit.follow }
@@ -163,7 +163,7 @@ fn begins_picture(coded: &[u8]) -> bool
 
 // The fronts of a unit whose coded bytes lie in the room up to a place, and whose first packet has
 // a number.
-fn fronts(ring: &PacketRing, number: u32, to: usize, format: Format) -> Giving
+fn fronts(ring: &HeldPackets, number: u32, to: usize, format: Format) -> Giving
     requires order { 77 ≤ to }
     requires short { to ≤ 65477 }
     requires there { is_some (place_at ring.now.packets number) ≡ true }

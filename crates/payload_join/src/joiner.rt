@@ -13,7 +13,7 @@ ghost use Rattle.payload_join.specs.Run.{is_held, took_next, given_next};
 
 use crate::giving::{Giving, build, lay};
 use crate::parts::{Parts, read_parts};
-use crate::ring::PacketRing;
+use crate::ring::HeldPackets;
 use crate::took::Took;
 use crate::units::{Span, made_with, take_first};
 use h263_types::{Format, OutOfMemory};
@@ -23,7 +23,7 @@ use std::marker::Model;
 /// Holds packets of RFC 4629 that follow on one another, or that carry several slices, and gives
 /// packets of one slice. It has no `Drop`: it must be finished.
 pub struct Joiner {
-    ring: PacketRing,
+    ring: HeldPackets,
     // that of the last packet
     format: Format,
     // whole units that are still to be laid into the room
@@ -56,7 +56,7 @@ impl Joiner {
         ensures stands { IfOk result (λ joiner. Stands joiner []) }
         ensures none { IfOk result (λ joiner. joiner.left ≡ []) }
     {
-        let ring = PacketRing::start(alloc)?;
+        let ring = HeldPackets::start(alloc)?;
         Ok(Joiner {
             ring,
             format: Format::SubQcif,
@@ -184,7 +184,7 @@ impl Joiner {
 
 // A unit is in the room of which something is left, if there is one.
 fn ready(
-    ring: &mut PacketRing,
+    ring: &mut HeldPackets,
     giving: &mut Giving,
     first: &mut Option<Span>,
     second: &mut Option<Span>,

@@ -25,6 +25,7 @@ mod ring;
 mod split;
 mod took;
 mod units;
+pub mod worked;
 
 pub use joiner::Joiner;
 pub use took::Took;

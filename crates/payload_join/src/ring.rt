@@ -22,7 +22,7 @@ use std::marker::Model;
 const SIZE: u32 = 65_535;
 
 // It has no `Drop`: it must be finished.
-pub(crate) struct PacketRing {
+pub(crate) struct HeldPackets {
     top: Option<u16>,
     parts: Vec<Option<Parts>>,
     region: Region,
@@ -30,7 +30,7 @@ pub(crate) struct PacketRing {
     slots: Vec<Slot>,
 }
 
-impl Model for PacketRing {
+impl Model for HeldPackets {
     ghost use Rattle.payload_join.specs.Places.{Packets};
     ghost use Rattle.payload_join.specs.Ring.{IsRing, packets_of, room_of};
 
@@ -45,9 +45,9 @@ impl Model for PacketRing {
     ghost invariant = { λ r. IsRing r.region r.slots.items r.parts.items };
 }
 
-impl PacketRing {
+impl HeldPackets {
     // A ring that holds nothing.
-    pub(crate) fn start(alloc: Global) -> Result<PacketRing, OutOfMemory>
+    pub(crate) fn start(alloc: Global) -> Result<HeldPackets, OutOfMemory>
         ensures { IfOk result IsEmptyRing }
     {
         let parts = Vec::from_array(alloc, [None; 64])?;
@@ -55,7 +55,7 @@ impl PacketRing {
         match Region::make(alloc, 65, SIZE) {
             Ok(mut region) => {
                 claim_all(&mut region, &mut slots);
-                Ok(PacketRing {
+                Ok(HeldPackets {
                     top: None,
                     parts,
                     region,
@@ -214,7 +214,7 @@ impl PacketRing {
 
     // Gives all slots and the memory back.
     pub(crate) fn finish(self) {
-        let PacketRing {
+        let HeldPackets {
             top: _,
             parts: _,
             mut region,

@@ -7,7 +7,7 @@ ghost use Rattle.payload_join.specs.Outgoing.{coded_from};
 ghost use Rattle.payload_join.specs.Places.{place_at, window};
 ghost use Rattle.payload_join.specs.Units.{IsBefore, IsFirst, IsSecond, IsWholeIf, number_by, out_made, unit_left};
 
-use crate::ring::PacketRing;
+use crate::ring::HeldPackets;
 
 // More coded bytes than these are not given.
 const MOST: u32 = 65_400;
@@ -21,7 +21,7 @@ pub(crate) struct Span {
 
 // The unit that the packets before a number are in: its first packet, where all after that follow
 // on. `low` is the least number that may be held.
-pub(crate) fn start_before(ring: &PacketRing, low: u32, number: u32) -> Option<u32>
+pub(crate) fn start_before(ring: &HeldPackets, low: u32, number: u32) -> Option<u32>
     requires { low ≤ number }
     ensures some { IfSome result (IsBefore ring.now.packets low number) }
     ensures none { IsNone result → (x : ℕ) → IsBefore ring.now.packets low number x → ⊥ }
@@ -40,7 +40,7 @@ pub(crate) fn start_before(ring: &PacketRing, low: u32, number: u32) -> Option<u
 
 // How many packets follow in the whole unit that a packet begins, if there is one. `last` is the
 // greatest number.
-pub(crate) fn unit_from(ring: &PacketRing, first: u32, last: u32) -> Option<u32>
+pub(crate) fn unit_from(ring: &HeldPackets, first: u32, last: u32) -> Option<u32>
     requires order { first ≤ last }
     requires few { last < first + 64 }
     requires fits { last < 2 ^ 31 }
@@ -68,7 +68,7 @@ pub(crate) fn unit_from(ring: &PacketRing, first: u32, last: u32) -> Option<u32>
 }
 
 // How many coded bytes so many packets have.
-fn coded_len(ring: &PacketRing, number: u32, count: u32) -> u32
+fn coded_len(ring: &HeldPackets, number: u32, count: u32) -> u32
     requires few { count ≤ 64 }
     requires fits { number + count < 2 ^ 32 }
     ensures { result ≡ length (coded_from (place_at ring.now.packets) number count) }
@@ -82,7 +82,7 @@ fn coded_len(ring: &PacketRing, number: u32, count: u32) -> u32
 
 // Whether the packet of a number makes a unit whole whose last packet is that of `end`: it is in
 // it, or begins the next one where there is no marker.
-fn makes(ring: &PacketRing, number: u32, end: u32) -> bool
+fn makes(ring: &HeldPackets, number: u32, end: u32) -> bool
     requires { end < 2 ^ 31 }
     ensures { result ≡ (nat_le number end
         || (nat_eq number (end + 1) && not (is_marked (place_at ring.now.packets end)))) }
@@ -98,7 +98,7 @@ fn makes(ring: &PacketRing, number: u32, end: u32) -> bool
 
 // The unit that a packet begins, where it is whole, the packet of a number made it so, and it is
 // short enough to be given.
-pub(crate) fn made_by(ring: &PacketRing, number: u32, first: u32, last: u32) -> Option<Span>
+pub(crate) fn made_by(ring: &HeldPackets, number: u32, first: u32, last: u32) -> Option<Span>
     requires order { first ≤ number }
     requires upto { number ≤ last }
     requires few { last < first + 64 }
@@ -123,7 +123,7 @@ pub(crate) fn made_by(ring: &PacketRing, number: u32, first: u32, last: u32) -> 
 }
 
 // The unit that the packets before a number are in, if its packet made it whole.
-fn first_made(ring: &PacketRing, number: u32, last: u32) -> Option<Span>
+fn first_made(ring: &HeldPackets, number: u32, last: u32) -> Option<Span>
     requires upto { number ≤ last }
     requires few { last < number + 64 }
     requires low { 65536 ≤ last }
@@ -146,7 +146,7 @@ pub(crate) struct Made {
 }
 
 // What the packet of a sequence number made whole. `top` is the greatest number's.
-pub(crate) fn made_with(ring: &PacketRing, top: u16, sequence: u16) -> Made
+pub(crate) fn made_with(ring: &HeldPackets, top: u16, sequence: u16) -> Made
     requires { (top + 65536 - sequence) % 65536 < 64 }
     ensures first { (format : Format) → IsFirst format ring.now.packets (top + 65536)
         (number_by (top + 65536) sequence) result.first }

@@ -24,6 +24,8 @@ mod packet_cutter_tests;
 #[cfg(test)]
 mod payload_join_tests;
 #[cfg(test)]
+mod payload_join_units_tests;
+#[cfg(test)]
 mod picture_header_tests;
 #[cfg(test)]
 mod rtp_header_tests;

@@ -21,7 +21,7 @@ const BEGINNING: [u8; 14] = [
 
 // What a joiner still gives, one packet after the other, as far as there is room; and how many
 // bytes there are in all.
-fn drained(joiner: &mut Joiner, out: &mut [u8]) -> usize
+pub(crate) fn drained(joiner: &mut Joiner, out: &mut [u8]) -> usize
     ensures { joiner.new.left ≡ [] }
 {
     let mut used: usize = 0;
