@@ -263,8 +263,8 @@ impl MemoryDesk {
         Ok(())
     }
 
-    /// Names a call that is to fail, by its number: the calls of [`Desk`] are counted from 0, all
-    /// three together.
+    /// Names a call that is to fail, by its number: attaches, reads and writes are counted from 0,
+    /// all together. A flush never fails.
     pub fn fail(&mut self, call: u64) -> Result<(), OutOfMemory>
         ensures outside { memory_outside self.new ≡ memory_outside self.old }
         ensures setup { OnOk result (setup_of self.new
