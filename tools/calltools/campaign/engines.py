@@ -4,6 +4,7 @@ import concurrent.futures
 import io
 import multiprocessing
 import signal
+import warnings
 import zipfile
 from concurrent.futures.process import BrokenProcessPool
 from functools import cache
@@ -134,7 +135,7 @@ class Cluster:
 
     def _some(self, jobs: Sequence[Job], store: Store) -> Iterator[Row]:
         running = {self._submitted(job, store): job for job in jobs}
-        for future in self._dask.as_completed(list(running)):
+        for future in self._dask.as_completed(list(running), loop=self._client.loop):
             job = running.pop(future)
             row = future.result() if future.status == "finished" else self._failed(job, future)
             future.release()
@@ -156,7 +157,9 @@ class Cluster:
         # The scheduler has the bytes, so that no death of a worker takes them away.
         if name not in self._parts:
             data = store.path(name).read_bytes()
-            self._parts[name] = self._client.submit(_same, data, key=f"file-{name}")
+            with warnings.catch_warnings():  # that the bytes are many, which is meant
+                warnings.simplefilter("ignore", UserWarning)
+                self._parts[name] = self._client.submit(_same, data, key=f"file-{name}")
         return self._parts[name]
 
     def close(self) -> None:
