@@ -5,19 +5,20 @@ use Rattle.std.specs.Option.{option_map, option_map_or}
 use Rattle.std.proofs.Math.Nat.{mod-lt}
 use Rattle.std.proofs.lemmas.Bool.{both_ways, and_parts, eq-eqb, eqb-true}
 use Rattle.std.proofs.lemmas.Bool.Decides.{nat_tests}
-use Rattle.std.proofs.lemmas.List.{append-nil}
+use Rattle.std.proofs.lemmas.List.{append-nil, length-append}
+use Rattle.std.proofs.lemmas.Option.{slice_get_cases}
 use Rattle.call_model.specs.Coding.{Rules, window, period, Slice, has_mb, Piece, Decoding, Coding}
 use Rattle.call_model.specs.CodedPictures.{Coded}
 use Rattle.call_model.specs.IdealCall.{Event, Send, Deliver, Play, Back, Call, Source, AllMayHappen, call_from, encoded, ideal}
 use Rattle.call_model.specs.JoinedRun.{joined, new_receiver, EachEndRuns, Joined}
 use Rattle.call_model.specs.Lawful.{Covers, IsRules, IsPace}
-use Rattle.call_model.specs.Order.{IsIn, others, is_own, played_after, SameOrApart, InPlace, AreOfOne, IsNamed, AnyOrder}
-use Rattle.call_model.specs.Receiving.{ReceiverEntry, ReceiverRun, Packet, PlayNext, is_complete, receiver_run}
+use Rattle.call_model.specs.Order.{IsIn, others, is_own, number_at, played_after, SameOrApart, InPlace, AreOfOne, IsNamed, AnyOrder}
+use Rattle.call_model.specs.Receiving.{ReceiverEntry, ReceiverRun, Packet, PlayNext, is_complete, piece_number, receiver_run}
 use Rattle.call_model.specs.ReceiverStanding.{CompleteStays}
-use Rattle.call_model.specs.Sending.{header_of, packets_of, nearest_below, NearestIsInPeriod}
+use Rattle.call_model.specs.Sending.{header_of, packets_of, nearest, nearest_below, NearestIsInPeriod}
 use Rattle.call_model.specs.Sound.{Packets, IsPacket, AllSound, EncoderIsSound}
 use Rattle.call_model.specs.TwoStores.{EndsFollow}
-use Rattle.coded_call.specs.OfOnePicture.{AreAmong, ComeInTime, come_in, SentAreOfOne, SentInAnyOrder}
+use Rattle.coded_call.specs.OfOnePicture.{AreAmong, ComeInTime, NoneIsEarly, come_in, SentAreOfOne, SentInAnyOrder}
 
 -- ---- lists
 
@@ -28,11 +29,11 @@ place_in x (y ∷ xs) (inl here) = (0, ap (λ (z : List ℕ). let o : Option (Li
 place_in x (y ∷ xs) (inr there) = let r = place_in x xs there in (suc r.0, r.1)
 
 -- an element of a list with one more at the end is the last one, or stood there before
-pushed : {X : Type 0} (xs : List X) (y : X) (n : ℕ) (x : X) → slice_get (xs ++ y ∷ []) n ≡ Some x → (slice_get xs n ≡ Some x) ⊎ (x ≡ y)
-pushed [] y zero x e = inr cc
+pushed : {X : Type 0} (xs : List X) (y : X) (n : ℕ) (x : X) → slice_get (xs ++ y ∷ []) n ≡ Some x → (slice_get xs n ≡ Some x) ⊎ ((n ≡ length xs) × (x ≡ y))
+pushed [] y zero x e = inr (refl, cc)
 pushed [] y (suc n) x e = inl e
 pushed (z ∷ xs) y zero x e = inl e
-pushed (z ∷ xs) y (suc n) x e = pushed xs y n x e
+pushed (z ∷ xs) y (suc n) x e = elim (pushed xs y n x e) [ inl h ↦ inl h | inr h ↦ inr (omega (arith, h.0), h.1) ]
 
 -- ---- slices that cover a picture
 
@@ -74,7 +75,7 @@ module _ {Style Mb Picture Fault : Type 0} (decoding : Decoding Style Mb Picture
       go before (Some y) is e =
           elim (pushed (call_from decoding.pictures rules source past).coded y n x e) [
             | inl old ↦ before old
-            | inr new ↦ subst (λ (z : Coded Style Mb Picture). Covers rules.mbs z.slices) (sym new) (all.0 y is).covers
+            | inr new ↦ subst (λ (z : Coded Style Mb Picture). Covers rules.mbs z.slices) (sym new.1) (all.0 y is).covers
           ]
   covered source packets (Deliver m j ∷ past) all n x e = covered source packets past all.1 n x e
   covered source packets (Play ∷ past) all n x e = covered source packets past all.1 n x e
@@ -88,15 +89,18 @@ module _ {Style Mb Picture Fault : Type 0} (decoding : Decoding Style Mb Picture
     pub read : decoding.read bytes ≡ Ok (record { header = header_of rules n x; slice = slice })
 
   -- so is each of its packets
-  slice_of : (packets : List (List ℕ)) (n : ℕ) (x : Coded Style Mb Picture) → ((j : ℕ) → IsPacket decoding rules packets n j x) → (bytes : List ℕ) → IsIn bytes packets → IsSliceOf n x bytes
-  slice_of packets n x each bytes is_in = let p = place_in bytes packets is_in in go p.0 p.1 (slice_get x.slices p.0) refl
+  slice_at : (packets : List (List ℕ)) (n : ℕ) (x : Coded Style Mb Picture) (j : ℕ) → IsPacket decoding rules packets n j x → (bytes : List ℕ) → slice_get packets j ≡ Some bytes → IsSliceOf n x bytes
+  slice_at packets n x j one bytes at = go (slice_get x.slices j) refl
     where
-      go : (j : ℕ) → slice_get packets j ≡ Some bytes → (o : Option (Slice Mb)) → slice_get x.slices j ≡ o → IsSliceOf n x bytes
-      go j at None none = let no = (each j).no_other none in cc
-      go j at (Some slice) some =
-          let got = (each j).read_as slice some in
+      go : (o : Option (Slice Mb)) → slice_get x.slices j ≡ o → IsSliceOf n x bytes
+      go None none = let no = one.no_other none in cc
+      go (Some slice) some =
+          let got = one.read_as slice some in
           let same : got.0 ≡ bytes = cc in
           record { place = j; slice = slice; at_place = some; read = ap decoding.read (sym same) ∙ got.2 }
+
+  slice_of : (packets : List (List ℕ)) (n : ℕ) (x : Coded Style Mb Picture) → ((j : ℕ) → IsPacket decoding rules packets n j x) → (bytes : List ℕ) → IsIn bytes packets → IsSliceOf n x bytes
+  slice_of packets n x each bytes is_in = let p = place_in bytes packets is_in in slice_at packets n x p.0 (each p.0) bytes p.1
 
   -- ---- its packets in a list of entries
 
@@ -151,6 +155,22 @@ module _ {Style Mb Picture Fault : Type 0} (decoding : Decoding Style Mb Picture
           let h = near m refl in
           let close : n ≤ m + period rules = omega (arith, h.1, ruled.lead_small, ruled.slots_small) in
           (sym ((nearest rules n (m % period rules) m (mod-lt m positive)).1 (h.0, close, refl)), refl)
+
+  played_is : (entries : List ReceiverEntry) → (receiver_run decoding rules entries).played ≡ played_after entries
+  played_is [] = refl
+  played_is (Packet bytes ∷ past) = played_is past
+  played_is (PlayNext ∷ past) = ap (λ k. k + 1) (played_is past)
+
+  -- near the play its packets are of its own number alone
+  own_number : NearestIsInPeriod → IsRules rules → (m n played : ℕ) (x : Coded Style Mb Picture) (bytes : List ℕ) → IsSliceOf m x bytes → m < played + rules.half → played < m + rules.half
+      → is_own decoding rules n played bytes ≡ true → m ≡ n
+  unfolding is_own number_at piece_number nearest header_of
+  own_number near ruled m n played x bytes is ahead behind own =
+      let positive : 0 < period rules = omega (arith, ruled.lead_small, ruled.slots_small) in
+      let number : nearest_below rules (played + rules.half) (m % period rules) ≡ Some m =
+      (near rules (played + rules.half) (m % period rules) m (mod-lt m positive)).1 (ahead, omega (arith, behind), refl)
+      in
+      eqb-true m n (sym (rw (is.read, eq-eqb rules.half rules.half refl, number) refl) ∙ own)
 
   -- ---- what comes later
 
@@ -208,14 +228,103 @@ module _ {Frame Style Mb Picture Fault MessageFault : Type 0} (coding : Coding F
       P coded = slice_get coded n ≡ Some x → AreAmong coding.decoding rules n (packets_of coding.encoding rules coded n) entries → ComeInTime coding.decoding rules n x.reference entries
           → IsNamed coding.decoding rules n (header_of rules n x) x.reference × AreOfOne coding.decoding rules n (header_of rules n x) x.reference entries
 
+  module _ (laws : CallLaws) (pace : List ℕ → ℕ) (frames : List Frame) (paced : IsPace pace) (each_end : EachEndRuns coding rules) where
+    abbrev ideal_of : List Event → Call Style Mb Picture
+    ideal_of past = ideal coding rules pace frames past
+
+    abbrev both_of : List Event → Joined Style Mb Picture
+    both_of past = joined coding rules (new_receiver coding rules) pace frames past
+
+    abbrev come : List Event → List ReceiverEntry
+    come past = come_in coding rules pace frames past
+
+    receiver_is : (past : List Event) → (both_of past).receiver ≡ receiver_run coding.decoding rules (come past)
+    receiver_is past = (each_end [] pace frames past).1 ∙ ap (receiver_run coding.decoding rules) (append-nil (come past))
+
+    played_there : (past : List Event) → AllMayHappen coding rules pace frames past → played_after (come past) ≡ (ideal_of past).played
+    played_there past near =
+        sym (played_is coding.decoding rules (come past))
+        ∙ ap (λ (r : ReceiverRun Style Mb Picture). r.played) (sym (receiver_is past))
+        ∙ (laws.follow pace frames past paced near).agree.played
+
+    -- the reference of a picture that was sent is complete
+    done : (past : List Event) → AllMayHappen coding rules pace frames past → (n : ℕ) (x : Coded Style Mb Picture) → slice_get (ideal_of past).coded n ≡ Some x → (m : ℕ) → x.reference ≡ Some m
+        → is_complete rules.mbs (receiver_run coding.decoding rules (come past)).taken m ≡ true
+    done past near n x at m e =
+        let ends = laws.follow pace frames past paced near in
+        ap (λ (r : ReceiverRun Style Mb Picture). is_complete rules.mbs r.taken m) (sym (receiver_is past)) ∙ ends.complete m ∙ (ends.references n m x at e).2
+
+    -- a packet that is delivered is of its own picture, which was sent
+    own_was_sent : (past : List Event) → AllMayHappen coding rules pace frames past → (m j : ℕ) → m < length (ideal_of past).coded → (ideal_of past).played < m + rules.half
+        → (bytes : List ℕ) → slice_get (packets_of coding.encoding rules (both_of past).sender.coded m) j ≡ Some bytes
+        → (n : ℕ) → is_own coding.decoding rules n (played_after (come past)) bytes ≡ true → m ≡ n
+    own_was_sent past near m j sent behind bytes at n own =
+        elim (slice_get_cases (ideal_of past).coded m).1 [
+          | inl there ↦
+              own_number coding.decoding rules laws.nearest laws.rules_fit m n (played_after (come past)) there.0 bytes
+              (slice_at coding.decoding rules (packets_of coding.encoding rules (ideal_of past).coded m) m there.0 j
+              ((laws.sound pace frames (Deliver m j ∷ past) paced).0 there.0 there.2) bytes
+              (ap (λ (coded : List (Coded Style Mb Picture)). slice_get (packets_of coding.encoding rules coded m) j) (sym ends.agree.pictures) ∙ at))
+              (omega (arith, sent, ends.counts.1, played_there past near)) (omega (arith, behind, played_there past near)) own
+          | inr none ↦ absurd (omega (arith, none.0, sent))
+        ]
+      where
+        ends : EndsFollow coding rules (ideal coding rules pace frames past) (joined coding rules (new_receiver coding rules) pace frames past)
+        ends = laws.follow pace frames past paced near
+
+    -- of a picture that wasn't sent nothing has come
+    none_yet : (n : ℕ) (reference : Option ℕ) (past : List Event) → AllMayHappen coding rules pace frames past → length (ideal_of past).coded ≤ n → ComeInTime coding.decoding rules n reference (come past)
+    none_yet n reference [] near unsent = tt
+    none_yet n reference (Send ∷ past) near unsent =
+        let more : List (Coded Style Mb Picture) = option_map_or (λ (y : Coded Style Mb Picture). y ∷ []) (encoded coding rules pace frames (ideal_of past)) [] in
+        let long : length ((ideal_of past).coded ++ more) ≡ length (ideal_of past).coded + length more = length-append (ideal_of past).coded more in
+        none_yet n reference past near.1 (omega (arith, long, unsent))
+    none_yet n reference (Play ∷ past) near unsent = none_yet n reference past near.1 unsent
+    none_yet n reference (Back k ∷ past) near unsent = none_yet n reference past near.1 unsent
+    none_yet n reference (Deliver m j ∷ past) near unsent = go (none_yet n reference past near.1 unsent) (slice_get (packets_of coding.encoding rules (both_of past).sender.coded m) j) refl
+      where
+        go : ComeInTime coding.decoding rules n reference (come past) → (o : Option (List ℕ)) → slice_get (packets_of coding.encoding rules (both_of past).sender.coded m) j ≡ o
+            → ComeInTime coding.decoding rules n reference (option_map_or (λ (bytes : List ℕ). Packet bytes ∷ []) o [] ++ come past)
+        go before None at = before
+        go before (Some bytes) at = (
+          λ own. absurd (omega (arith, own_was_sent past near.1 m j near.0.0 near.0.1 bytes at n own, near.0.0, unsent)),
+          before,
+        )
+
+    -- what has come of a picture that was sent came in time, unless it came early
+    came_in_time : (n : ℕ) (x : Coded Style Mb Picture) (past : List Event) → AllMayHappen coding rules pace frames past → slice_get (ideal_of past).coded n ≡ Some x → played_after (come past) ≤ n
+        → NoneIsEarly coding.decoding rules n (come past) → ComeInTime coding.decoding rules n x.reference (come past)
+    came_in_time n x [] near at until early = tt
+    came_in_time n x (Send ∷ past) near at until early = go (λ there. came_in_time n x past near.1 there until early) (encoded coding rules pace frames (ideal_of past)) at
+      where
+        go : (slice_get (ideal_of past).coded n ≡ Some x → ComeInTime coding.decoding rules n x.reference (come past)) → (o : Option (Coded Style Mb Picture))
+            → slice_get ((ideal_of past).coded ++ option_map_or (λ (y : Coded Style Mb Picture). y ∷ []) o []) n ≡ Some x → ComeInTime coding.decoding rules n x.reference (come past)
+        go before None at = before (ap (λ (l : List (Coded Style Mb Picture)). slice_get l n) (sym (append-nil (ideal_of past).coded)) ∙ at)
+        go before (Some y) at =
+            elim (pushed (ideal_of past).coded y n x at) [
+              | inl old ↦ before old
+              | inr new ↦ none_yet n x.reference past near.1 (omega (arith, new.0))
+            ]
+    came_in_time n x (Play ∷ past) near at until early = came_in_time n x past near.1 at (omega (arith, until)) early
+    came_in_time n x (Back k ∷ past) near at until early = came_in_time n x past near.1 at until early
+    came_in_time n x (Deliver m j ∷ past) near at until early = go (came_in_time n x past near.1 at) (slice_get (packets_of coding.encoding rules (both_of past).sender.coded m) j) until early
+      where
+        go : (played_after (come past) ≤ n → NoneIsEarly coding.decoding rules n (come past) → ComeInTime coding.decoding rules n x.reference (come past)) → (o : Option (List ℕ))
+            → played_after (option_map_or (λ (bytes : List ℕ). Packet bytes ∷ []) o [] ++ come past) ≤ n → NoneIsEarly coding.decoding rules n (option_map_or (λ (bytes : List ℕ). Packet bytes ∷ []) o [] ++ come past)
+            → ComeInTime coding.decoding rules n x.reference (option_map_or (λ (bytes : List ℕ). Packet bytes ∷ []) o [] ++ come past)
+        go before None until early = before until early
+        go before (Some bytes) until early = (
+          λ own. (until, early.0 own, done past near.1 n x at),
+          before until early.1,
+        )
+
   -- what the laws say of the receiver in this call
   pub record ReceiverLaws : Type 0 where
     pub of_one : SentAreOfOne coding rules
     pub any_order : AnyOrder coding.decoding rules
     pub stays : CompleteStays coding.decoding rules
     pub each_end : EachEndRuns coding rules
-    pub follow : (pace : List ℕ → ℕ) (frames : List Frame) (past : List Event) → IsPace pace → AllMayHappen coding rules pace frames past
-        → EndsFollow coding rules (ideal coding rules pace frames past) (joined coding rules (new_receiver coding rules) pace frames past)
+    pub call : CallLaws
 
   played_of_others : (n : ℕ) (entries : List ReceiverEntry) → played_after (others coding.decoding rules n entries) ≡ played_after entries
   played_of_others n [] = refl
@@ -228,29 +337,23 @@ module _ {Frame Style Mb Picture Fault MessageFault : Type 0} (coding : Coding F
       go ih false = ih
 
   pub sent_in_any_order : ReceiverLaws → SentInAnyOrder coding rules
-  sent_in_any_order laws pace frames past n x a b paced near at early in_time among differ at_n =
+  sent_in_any_order laws pace frames past n x a b paced near at early none_early among differ at_n =
       laws.any_order n (header_of rules n x) x.reference (a ++ before) (b ++ before) first.0 differ first.1 second.1 at_n
     where
       before : List ReceiverEntry
       before = come_in coding rules pace frames past
 
-      run : Joined Style Mb Picture
-      run = joined coding rules (new_receiver coding rules) pace frames past
+      played : played_after before ≤ n
+      played = omega (arith, at_n, played_later coding.decoding rules before a)
 
-      ends : EndsFollow coding rules (ideal coding rules pace frames past) (joined coding rules (new_receiver coding rules) pace frames past)
-      ends = laws.follow pace frames past paced near
+      sent : slice_get (ideal coding rules pace frames past).coded n ≡ Some x
+      sent = ap (λ (l : List (Coded Style Mb Picture)). slice_get l n) (sym (laws.call.follow pace frames past paced near).agree.pictures) ∙ at
 
-      receiver_is : run.receiver ≡ receiver_run coding.decoding rules before
-      receiver_is = (laws.each_end [] pace frames past).1 ∙ ap (receiver_run coding.decoding rules) (append-nil before)
-
-      -- the reference is complete by now
-      done : (m : ℕ) → x.reference ≡ Some m → is_complete rules.mbs (receiver_run coding.decoding rules before).taken m ≡ true
-      done m e =
-          let sent : slice_get (ideal coding rules pace frames past).coded n ≡ Some x = ap (λ (l : List (Coded Style Mb Picture)). slice_get l n) (sym ends.agree.pictures) ∙ at in
-          ap (λ (r : ReceiverRun Style Mb Picture). is_complete rules.mbs r.taken m) (sym receiver_is) ∙ ends.complete m ∙ (ends.references n m x sent e).2
+      so_far : ComeInTime coding.decoding rules n x.reference before
+      so_far = came_in_time laws.call pace frames paced laws.each_end n x past near sent played none_early
 
       comes : (entries : List ReceiverEntry) → played_after (entries ++ before) ≤ n → ComeInTime coding.decoding rules n x.reference (entries ++ before)
-      comes entries until = in_time_later coding.decoding rules laws.stays n x.reference before in_time early done entries until
+      comes entries until = in_time_later coding.decoding rules laws.stays n x.reference before so_far early (done laws.call pace frames paced laws.each_end past near n x sent) entries until
 
       first : IsNamed coding.decoding rules n (header_of rules n x) x.reference × AreOfOne coding.decoding rules n (header_of rules n x) x.reference (a ++ before)
       first = laws.of_one pace frames past n x (a ++ before) paced near at among (comes a (omega (arith, at_n)))

@@ -25,6 +25,14 @@ module _ {Style Mb Picture Fault : Type 0} (decoding : Decoding Style Mb Picture
       × ComeInTime n reference past
   ComeInTime n reference (PlayNext ∷ past) = ComeInTime n reference past
 
+  -- no packet of n stands before n is open
+  abbrev pub NoneIsEarly : ℕ → List ReceiverEntry → Type 0
+  NoneIsEarly n [] = ⊤
+  NoneIsEarly n (Packet bytes ∷ past) =
+      (is_own decoding rules n (played_after past) bytes ≡ true → n ≤ played_after past + rules.lead)
+      × NoneIsEarly n past
+  NoneIsEarly n (PlayNext ∷ past) = NoneIsEarly n past
+
   -- each play up to the play of n, which is the next one, shows the same, with the same mark
   abbrev pub ShowTheSame : ℕ → List ReceiverEntry → List ReceiverEntry → Type 0
   ShowTheSame n a b =
@@ -59,9 +67,10 @@ module _ {Frame Style Mb Picture Fault MessageFault : Type 0}
       → IsNamed coding.decoding rules n (header_of rules n x) x.reference
       × AreOfOne coding.decoding rules n (header_of rules n x) x.reference entries
 
-  -- Let picture n have been sent in a near call, and be open. Let two lists of what arrives from
-  -- then on until its play have the same packets of n, of which each is one of the sender's, and
-  -- be the same apart from them. Then each play up to the play of n shows the same.
+  -- Let picture n have been sent in a near call, and be open, and let no packet of it have come
+  -- before it was open. Let two lists of what comes from then on until its play have the same
+  -- packets of n, of which each is one of the sender's, and be the same apart from them. Then each
+  -- play up to the play of n shows the same.
   abbrev pub SentInAnyOrder : Type 0
   SentInAnyOrder =
       (pace : List ℕ → ℕ) (frames : List Frame) (past : List Event) (n : ℕ)
@@ -70,7 +79,7 @@ module _ {Frame Style Mb Picture Fault MessageFault : Type 0}
       → slice_get (coded_in pace frames past) n ≡ Some x
       → let before = come_in pace frames past in
       n ≤ played_after before + rules.lead
-      → ComeInTime coding.decoding rules n x.reference before
+      → NoneIsEarly coding.decoding rules n before
       → AreAmong coding.decoding rules n (sent_packets pace frames past n) (a ++ before)
       → DifferInPacketsOf coding.decoding rules n (a ++ before) (b ++ before)
       → played_after (a ++ before) ≡ n

@@ -132,6 +132,8 @@ pub fn any_order()
     are_rules();
     packets_are_of_one();
     order();
+    call_model::laws::nearest();
+    call_model::laws::encoder_is_sound::<Framed, Styled, Mb, Pictured, Fault, MessageFault>();
     call_model::laws::each_end_runs::<Framed, Styled, Mb, Pictured, Fault, MessageFault>();
     call_model::laws::receiver_stands::<Styled, Mb, Pictured, Fault>();
     call_model::laws::two_stores::<Framed, Styled, Mb, Pictured, Fault, MessageFault>();

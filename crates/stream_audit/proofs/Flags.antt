@@ -1,5 +1,5 @@
 -- No rule of a stream asks for flags.
-use Rattle.std.proofs.Common.{refl}
+use Rattle.std.proofs.Common.{ℕ, refl}
 use Rattle.std.specs.Prelude.{List, Result}
 use Rattle.call_model.specs.Coding.{Rules, Message, Decoding}
 use Rattle.call_model.specs.Sending.{nearest, nearest_below, made_known, called_complete}

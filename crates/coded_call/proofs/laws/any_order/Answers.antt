@@ -13,5 +13,10 @@ returns c p in_range =
       any_order = c.order.ensures p in_range;
       stays = c.receiver_stands.ensures.complete (decoding p.format) (rules_of p) lawful.decodes ruled;
       each_end = c.each_end_runs.ensures (coding p) (rules_of p);
-      follow = λ pace frames past. c.two_stores.ensures (coding p) (rules_of p) pace frames past lawful ruled;
+      call = record {
+        rules_fit = ruled;
+        nearest = c.nearest.ensures.in_period;
+        sound = c.encoder_is_sound.ensures (coding p) (rules_of p) lawful ruled;
+        follow = λ pace frames past. c.two_stores.ensures (coding p) (rules_of p) pace frames past lawful ruled;
+      };
     })
