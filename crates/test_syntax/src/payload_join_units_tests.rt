@@ -29,7 +29,7 @@ fn packet(sequence: u8, marked: u8, begins: u8, coded: [u8; 2]) -> [u8; 16] {
 // Without a marker a unit ends where the next one begins.
 #[test]
 fn closed_by_the_next_beginning(rt: HostRuntime) -> Result<(), Fail> {
-    let want = [
+    let want: [u8; 18] = [
         0x80, 0x60, 0x00, 0x0A, 0x00, 0x00, 0x00, 0x00, 0x48, 0x32, 0x36, 0x33, 0x04, 0x00, 0xC1,
         0x02, 0x43, 0x04,
     ];
@@ -43,7 +43,7 @@ fn closed_by_the_next_beginning(rt: HostRuntime) -> Result<(), Fail> {
     let three = drained(&mut joiner, &mut out);
     joiner.finish();
     assert_eq!(rt; (one, two, three), (0, 0, 18));
-    assert_eq!(rt; &out[..18], &want);
+    assert_eq!(rt; &out[..18], &want[..]);
     Ok(())
 }
 
@@ -53,6 +53,7 @@ fn closed_by_the_next_beginning(rt: HostRuntime) -> Result<(), Fail> {
 fn two_units_of_one_packet(rt: HostRuntime) -> Result<(), Fail> {
     let first = packet(10, PLAIN, BEGINS, [0xC1, 0x02]);
     let second = packet(11, MARKED, BEGINS, [0xC5, 0x06]);
+    let unmarked = packet(11, PLAIN, BEGINS, [0xC5, 0x06]);
     let mut out = [0; 40];
     let mut joiner = Joiner::start(rt.alloc())?;
     joiner.take(&first, Format::Qcif);
@@ -61,8 +62,8 @@ fn two_units_of_one_packet(rt: HostRuntime) -> Result<(), Fail> {
     let both = drained(&mut joiner, &mut out);
     joiner.finish();
     assert_eq!(rt; (one, both), (0, 32));
-    assert_eq!(rt; &out[..16], &first);
-    assert_eq!(rt; &out[16..32], &packet(11, PLAIN, BEGINS, [0xC5, 0x06]));
+    assert_eq!(rt; &out[..16], &first[..]);
+    assert_eq!(rt; &out[16..32], &unmarked[..]);
     Ok(())
 }
 
@@ -74,7 +75,7 @@ fn extra_header_of_each_slice(rt: HostRuntime) -> Result<(), Fail> {
         0x80, 0xE0, 0x12, 0x34, 0x00, 0x00, 0x0B, 0xBB, 0x48, 0x32, 0x36, 0x33, 0x06, 0x13, 0x7F,
         0xAA, 0xB8, 0xC1, 0x02, 0x00, 0x00, 0xC3, 0x04, 0x05,
     ];
-    let want = [
+    let want: [u8; 37] = [
         0x80, 0x60, 0x12, 0x34, 0x00, 0x00, 0x0B, 0xBB, 0x48, 0x32, 0x36, 0x33, 0x04, 0x13, 0xAA,
         0xB8, 0xC1, 0x02, // the first slice, and the second
         0x80, 0x60, 0x12, 0x34, 0x00, 0x00, 0x0B, 0xBB, 0x48, 0x32, 0x36, 0x33, 0x04, 0x13, 0xAA,
@@ -86,13 +87,14 @@ fn extra_header_of_each_slice(rt: HostRuntime) -> Result<(), Fail> {
     let all = drained(&mut joiner, &mut out);
     joiner.finish();
     assert_eq!(rt; all, 37);
-    assert_eq!(rt; &out[..37], &want);
+    assert_eq!(rt; &out[..37], &want[..]);
     Ok(())
 }
 
 // Without an extra header PEBIT counts nothing, and 0 goes out.
 #[test]
 fn pebit_without_an_extra_header(rt: HostRuntime) -> Result<(), Fail> {
+    let unmarked = packet(7, PLAIN, BEGINS, [0xC1, 0x02]);
     let mut bytes = packet(7, MARKED, BEGINS, [0xC1, 0x02]);
     bytes[13] = 0x05;
     let mut out = [0; 40];
@@ -101,7 +103,7 @@ fn pebit_without_an_extra_header(rt: HostRuntime) -> Result<(), Fail> {
     let all = drained(&mut joiner, &mut out);
     joiner.finish();
     assert_eq!(rt; all, 16);
-    assert_eq!(rt; &out[..16], &packet(7, PLAIN, BEGINS, [0xC1, 0x02]));
+    assert_eq!(rt; &out[..16], &unmarked[..]);
     Ok(())
 }
 
@@ -112,7 +114,7 @@ fn pebit_of_a_copied_header(rt: HostRuntime) -> Result<(), Fail> {
     let mut both = [0; 360];
     both[..342].copy_from_slice(&FLAT_PACKET);
     both[344..346].copy_from_slice(&[0xC3, 0x04]);
-    let want = [
+    let want: [u8; 25] = [
         0x80, 0x60, 0x00, 0x00, 0x00, 0x00, 0x00, 0x00, 0x48, 0x32, 0x36, 0x33, 0x04, 0x4D, 0x80,
         0x02, 0x1C, 0x90, 0x31, 0x00, 0x11, 0xCA, 0x00, 0xC3, 0x04,
     ];
@@ -124,7 +126,7 @@ fn pebit_of_a_copied_header(rt: HostRuntime) -> Result<(), Fail> {
     assert_eq!(rt; all, 342 + 25);
     assert_eq!(rt; out[1], PLAIN);
     assert_eq!(rt; &out[2..342], &FLAT_PACKET[2..]);
-    assert_eq!(rt; &out[342..367], &want);
+    assert_eq!(rt; &out[342..367], &want[..]);
     Ok(())
 }
 
@@ -149,18 +151,22 @@ fn put_header(bytes: &mut [u8], psupp: u32) -> u32
 // PEBIT 5. With 49 it has 508 bits and takes 64: the unit is not split.
 #[test]
 fn headers_of_63_and_64_bytes(rt: HostRuntime) -> Result<(), Fail> {
+    let marked = packet(7, MARKED, BEGINS, [0, 0]);
     let mut short = [0; 81];
-    short[..14].copy_from_slice(&packet(7, MARKED, BEGINS, [0, 0])[..14]);
+    short[..14].copy_from_slice(&marked[..14]);
     let end = put_header(&mut short, 48);
     put_text(&mut short, end, "11111");
     short[79..].copy_from_slice(&[0xC3, 0x04]);
     let mut copied = [0; 79];
-    copied[..14].copy_from_slice(&packet(7, PLAIN, BEGINS + 1, [0, 0])[..14]);
+    copied[..14].copy_from_slice(&marked[..14]);
+    copied[1] = PLAIN;
+    copied[12] = 0x05;
     copied[13] = 0xFD;
     put_header(&mut copied, 48);
     copied[77..].copy_from_slice(&[0xC3, 0x04]);
     let mut long = [0; 82];
-    long[..14].copy_from_slice(&packet(8, MARKED, BEGINS, [0, 0])[..14]);
+    long[..14].copy_from_slice(&marked[..14]);
+    long[3] = 8;
     let long_end = put_header(&mut long, 49);
     put_text(&mut long, long_end, "1111");
     long[80..].copy_from_slice(&[0xC3, 0x04]);
@@ -176,31 +182,30 @@ fn headers_of_63_and_64_bytes(rt: HostRuntime) -> Result<(), Fail> {
     assert_eq!(rt; (two, one), (77 + 79, 82));
     assert_eq!(rt; (split[1], whole[1]), (PLAIN, PLAIN));
     assert_eq!(rt; &split[2..77], &short[2..77]);
-    assert_eq!(rt; &split[77..156], &copied);
+    assert_eq!(rt; &split[77..156], &copied[..]);
     assert_eq!(rt; &whole[2..82], &long[2..]);
     Ok(())
 }
 
-// A packet of so many coded bytes, each C1, which is a unit.
-fn large(alloc: Global, sequence: u8, coded: usize) -> Result<Vec<u8>, AllocError> {
+// A packet of so many coded bytes, each C1, that begins a unit.
+fn large(alloc: Global, sequence: u8, marked: u8, coded: usize) -> Result<Vec<u8>, AllocError> {
+    let head = packet(sequence, marked, BEGINS, [0, 0]);
     let mut bytes = Vec::new(alloc);
-    bytes.extend_from_slice(&packet(sequence, MARKED, BEGINS, [0, 0])[..14])?;
+    bytes.extend_from_slice(&head[..14])?;
     'coded: for _ in 0..coded {
         bytes.push(0xC1)?;
     }
     Ok(bytes)
 }
 
-// A unit of 65,400 coded bytes goes out, one of 65,401 doesn't, nor does one of two packets that
+// A unit of 65,400 coded bytes goes out. One of 65,401 doesn't, nor does one of two packets that
 // have as many together.
 #[test]
 fn units_of_65_400_bytes(rt: HostRuntime) -> Result<(), Fail> {
-    let most = large(rt.alloc(), 1, 65_400)?;
-    let more = large(rt.alloc(), 2, 65_401)?;
-    let mut first = large(rt.alloc(), 3, 65_399)?;
-    if let Some(marked) = first.get_mut(1) {
-        *marked = PLAIN;
-    }
+    let most = large(rt.alloc(), 1, MARKED, 65_400)?;
+    let more = large(rt.alloc(), 2, MARKED, 65_401)?;
+    let first = large(rt.alloc(), 3, PLAIN, 65_399)?;
+    let last = packet(4, MARKED, FOLLOWS, [0xC1, 0x02]);
     let mut joiner = Joiner::start(rt.alloc())?;
     let one = joiner.take(&most, Format::Qcif);
     let most_len = drained(&mut joiner, &mut []);
@@ -208,7 +213,7 @@ fn units_of_65_400_bytes(rt: HostRuntime) -> Result<(), Fail> {
     let more_len = drained(&mut joiner, &mut []);
     let three = joiner.take(&first, Format::Qcif);
     let first_len = drained(&mut joiner, &mut []);
-    let four = joiner.take(&packet(4, MARKED, FOLLOWS, [0xC1, 0x02]), Format::Qcif);
+    let four = joiner.take(&last, Format::Qcif);
     let both_len = drained(&mut joiner, &mut []);
     joiner.finish();
     assert_eq!(rt; (one, two), (Took::Held, Took::Held));
@@ -223,7 +228,7 @@ fn units_of_65_400_bytes(rt: HostRuntime) -> Result<(), Fail> {
 // A marker ends the unit, also where packets that follow on come before it: these belong to none.
 #[test]
 fn marker_in_the_middle(rt: HostRuntime) -> Result<(), Fail> {
-    let want = [
+    let want: [u8; 18] = [
         0x80, 0x60, 0x00, 0x0A, 0x00, 0x00, 0x00, 0x00, 0x48, 0x32, 0x36, 0x33, 0x04, 0x00, 0xC1,
         0x02, 0x43, 0x04,
     ];
@@ -239,6 +244,6 @@ fn marker_in_the_middle(rt: HostRuntime) -> Result<(), Fail> {
     let next = drained(&mut joiner, &mut out);
     joiner.finish();
     assert_eq!(rt; (last, first, middle, next), (0, 0, 18, 0));
-    assert_eq!(rt; &out[..18], &want);
+    assert_eq!(rt; &out[..18], &want[..]);
     Ok(())
 }
