@@ -4,8 +4,8 @@ use Rattle.receiver_end.specs.Answers.{IsMessage, mark_of}
 use Rattle.receiver_end.proofs.Told.{mark_is, message_is, part_is}
 use Rattle.receiver_end.proofs.kept.Kept.told.Goals as goal
 
-pub returns-then-holds : goal.returns-then-holds
-returns-then-holds c =
+pub returns-then-holds-clause-told : goal.returns-then-holds-clause-told
+returns-then-holds-clause-told c =
     let r = c.args.self.now in
     let held = sym c.holds.ensures.value ∙ c.if-holds.true in
     record {
@@ -13,8 +13,8 @@ returns-then-holds c =
       message_is = subst (IsMessage r.params.clock None) (sym (message_is r true held)) refl;
     }
 
-pub returns : goal.returns
-returns c =
+pub returns-clause-told : goal.returns-clause-told
+returns-clause-told c =
     let r = c.args.self.now in
     let held = sym c.holds.ensures.value ∙ c.if-holds.false in
     record {
