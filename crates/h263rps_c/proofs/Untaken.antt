@@ -15,7 +15,7 @@ untaken (Completed said) two = absurd (omega (arith, two))
 untaken Late two = refl
 untaken Early two = refl
 untaken Repeat two = refl
-untaken (Refused fault at) two = refl
+untaken (Refused fault) two = refl
 
 pub unnoted : (answer : Feedback) → 1 ≤ (reply_of answer).kind → is_noted (senders.reply_of answer) ≡ false
 unnoted feedbacks.Noted one = absurd (omega (arith, one))
