@@ -15,12 +15,13 @@ import sys
 import tempfile
 import time
 import unittest
+import unittest.mock
 import xml.etree.ElementTree
 from collections import Counter
 from pathlib import Path
 from typing import Any, Optional
 
-from calltools import captured, errors, loss, pcap, rtp
+from calltools import captured, errors, loss, pcap, quality, rtp
 from calltools.campaign import advice, calling, content, engines, intervals, jitter, jobs, measures, places, plan, progress, table
 from stub_program import STUB
 from tool_modules import TOOLS, tool
@@ -263,6 +264,17 @@ class CampaignTest(Room):
         for row in lossy:
             self.assertGreater(row["spoilt"], 0)
             self.assertAlmostEqual(row["exact"] + row["patched"] + row["held"], 1)
+
+    def test_psnr_is_the_same_with_numpy(self) -> None:
+        python = python_with("numpy")
+        if python is None:
+            self.skipTest("numpy isn't there")
+        video = VIDEO.read_bytes()
+        other = self.file("other.y4m", video[:3_000] + bytes(255 - it for it in video[3_000:9_000]) + video[9_000:])
+        asked = [python, TOOLS / "psnr", VIDEO, other]
+        run = subprocess.run([str(word) for word in asked], capture_output=True, text=True)
+        with unittest.mock.patch.object(quality, "numpy", None):
+            self.assertEqual(run.stdout, self.run_tool("psnr", VIDEO, other))
 
     def test_measures_of_marks(self) -> None:
         marks = ["held", "exact", "patched", "held", "exact", "exact", "held"]
