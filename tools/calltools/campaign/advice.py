@@ -73,7 +73,8 @@ class Found:
         psnr = "" if self.psnr is None else f", {self.psnr:.1f} dB"
         exact = f"{100 * self.exact.mean:.1f}{half} % exact"
         longest = f"at most {self.longest} in a row not"
-        return f"{chosen}: delay {self.delay} pictures, {exact}, {longest}, {self.bytes:,.0f} bytes a picture{psnr}"
+        pictures = "picture" if self.delay == 1 else "pictures"
+        return f"{chosen}: delay {self.delay} {pictures}, {exact}, {longest}, {self.bytes:,.0f} bytes a picture{psnr}"
 
 
 @dataclass(frozen=True)

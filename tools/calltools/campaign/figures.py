@@ -33,7 +33,7 @@ def _pyplot() -> Any:
     import matplotlib
 
     matplotlib.use("Agg")
-    matplotlib.rcParams.update({"svg.hashsalt": "campaign", "font.size": 9, "axes.spines.top": False,
+    matplotlib.rcParams.update({"svg.hashsalt": "campaign", "svg.fonttype": "none", "font.size": 9, "axes.spines.top": False,
                                 "axes.spines.right": False, "legend.frameon": False})  # fmt: skip
     from matplotlib import pyplot
 
@@ -152,6 +152,6 @@ def _scatter(axis: Any, advice: Advice, place: Any) -> None:
     rest = [it for it in advice.found if it not in picked]
     dots([it for it in rest if it.misses(advice.asked)], "#c8c8c8", "misses what is asked", 4)
     dots([it for it in rest if not it.misses(advice.asked)], "#5b7fa6", "meets it", 4)
-    dots(picked[1:], "#e6a23c", "runner-up", 7)
-    dots(picked[:1], "#2b8a5a", "advised", 9)
+    dots(picked[:1], "#2b8a5a", "advised", 10)
+    dots(picked[1:], "#e6a23c", "runner-up", 5)
 
