@@ -21,8 +21,8 @@ from collections import Counter
 from pathlib import Path
 from typing import Any, Optional
 
-from calltools import captured, errors, loss, pcap, quality, rtp
-from calltools.campaign import advice, calling, content, engines, intervals, jitter, jobs, measures, places, plan, progress, table
+from calltools import captured, errors, logs, loss, pcap, quality, rtp
+from calltools.campaign import advice, calling, content, curves, engines, intervals, jitter, jobs, measures, places, plan, progress, table
 from stub_program import STUB
 from tool_modules import TOOLS, tool
 
@@ -426,6 +426,22 @@ class AdviceTest(Room):
         self.assertEqual(told[2], "runner-up  none: nothing else meets it")
         self.assert_bad(f"{self.room}/none.csv: no table: there is no such file", self.run_tool, "campaign", "--advise", self.room / "none.csv")
 
+    def test_means_by_a_column(self) -> None:
+        """A plain sender is a line of its own; one value has no interval, and a failed call none."""
+        rows = [self.row(exact, 1, 900, rate=0.1) for exact in (0.8, 0.9, 1.0)] + [self.row(1.0, 0, 900, rate=0)]
+        rows += [self.row(0.5, 1, 900, rate=0.1, sender="plain", every=10), {**self.row(0, 0, 0, rate=0), "status": "failed"}]
+        wanted = curves.Curves("exact", "rate", ("sender", "every"))
+        self.assertEqual(
+            curves.table_of(curves.points_of(rows, wanted), wanted)[2:],
+            ["|  | acknowledged references | 100.0 % | 90.0 ± 24.8 % |", "|  | ffmpeg, an intra picture in 10 |  | 50.0 % |"],
+        )
+        kept = curves.chosen(rows, {"sender": "plain,intra"})
+        self.assertEqual([row["sender"] for row in kept], ["plain"])
+        known = ", ".join(jobs.LABELS)
+        self.assert_bad(f"--where: ratio: none of {known}", curves.chosen, rows, {"ratio": "1"})
+        with self.assertRaisesRegex(errors.BadInput, "^the figure: ratio: none of "):
+            curves.points_of(rows, curves.Curves("exact", "ratio", ()))
+
     def test_intervals(self) -> None:
         found = intervals.interval_of([1, 2, 3])
         self.assertAlmostEqual(found.half, 4.303 / 3**0.5, places=3)
@@ -523,6 +539,19 @@ class TraceOfPcapTest(Room):
         path = self.capture(self.pictures({}, {2, 3}, 12))
         told = self.run_tool("trace_of_pcap", path).splitlines()
         self.assertEqual([n for n in range(12) if f"B {n}" not in told], [8, 9])
+
+    def test_a_recorded_call_is_captured_at_its_times(self) -> None:
+        log, times, capture = EXAMPLES / "recv.log", self.room / "recv.times", self.room / "recv.pcap"
+        with open(log, "rb") as file:
+            entries = list(logs.read_log(file, str(log)))
+        times.write_text("".join(f"{0.01 * number:.6f}\n" for number in range(len(entries))))
+        self.run_tool("pcap_of_log", log, capture, "--times", times)
+        with open(capture, "rb") as file:
+            found = [it.time // 10**6 for it in pcap.read_capture(file, "recv.pcap") if it]
+        self.assertEqual(found, [10 * number for number, it in enumerate(entries) if it.letter == logs.PACKET])
+        times.write_text("0.5\n")
+        told = f"{times}: its end: 1 times of {len(entries)} entries"
+        self.assert_bad(told, self.run_tool, "pcap_of_log", log, capture, "--times", times)
 
     def test_hostile_captures_are_bounded(self) -> None:
         """What a trace has follows from the capture's own time, whatever numbers and timestamps say."""
