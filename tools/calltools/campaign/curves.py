@@ -1,4 +1,5 @@
-"""What a figure of a campaign shows, by numbers: means of a measure by a column, in lines and panels."""
+"""What a figure of a campaign shows, by numbers: means of a measure by a column, in lines and
+panels."""
 
 import math
 from collections import defaultdict
@@ -18,7 +19,8 @@ Lines = dict[str, dict[Any, Interval]]
 
 @dataclass(frozen=True)
 class Curves:
-    """What a figure shows: a measure by a column, a line for each value of others, a panel for each of another."""
+    """What a figure shows: a measure by a column, a line for each value of others, a panel for each
+    of another."""
 
     measure: str
     by: str
@@ -40,7 +42,9 @@ def sender_words(row: Row) -> str:
     """A sender in words."""
     if row["sender"] == "plain":
         return f"ffmpeg, an intra picture in {row['every']}"
-    return {"acknowledged": "acknowledged references", "intra": "intra pictures alone"}[row["sender"]]
+    return {"acknowledged": "acknowledged references", "intra": "intra pictures alone"}[
+        row["sender"]
+    ]
 
 
 def _told(row: Row, name: str) -> str:
@@ -58,21 +62,29 @@ def _number(value: Any) -> str:
 
 
 def chosen(rows: Sequence[Row], where: dict[str, str]) -> list[Row]:
-    """The rows whose columns have one of these values, or none: a sender that hears nothing has no round trip."""
+    """The rows whose columns have one of these values, or none: a sender that hears nothing has no
+    round trip."""
     for name in where:
         if name not in LABELS:
             raise BadInput("--where", name, f"none of {', '.join(LABELS)}")
     wanted = {name: value.split(",") for name, value in where.items()}
     return [
-        row for row in rows
+        row
+        for row in rows
         if all(row[name] is None or _number(row[name]) in values for name, values in wanted.items())
-    ]  # fmt: skip
+    ]
 
 
 def points_of(rows: Sequence[Row], curves: Curves) -> dict[str, Lines]:
     """The panels by their names, each with its lines; the lines are in the order of their values."""
     curves.faults()
-    used = [row for row in rows if row["status"] == "done" and row[curves.by] is not None and _is_number(row[curves.measure])]
+    used = [
+        row
+        for row in rows
+        if row["status"] == "done"
+        and row[curves.by] is not None
+        and _is_number(row[curves.measure])
+    ]
     if not used:
         raise BadInput("the figure", "its rows", "no call of the table is in it")
     names = list(dict.fromkeys(_panel(row, curves) for row in used))
@@ -80,7 +92,9 @@ def points_of(rows: Sequence[Row], curves: Curves) -> dict[str, Lines]:
     found: dict[str, dict[str, dict[Any, list[float]]]] = {name: {} for name in names}
     for row in used:
         told = [_told(row, it) for it in curves.lines if it != "every" and row[it] is not None]
-        line = found[_panel(row, curves)].setdefault(", ".join(told) or "all calls", defaultdict(list))
+        line = found[_panel(row, curves)].setdefault(
+            ", ".join(told) or "all calls", defaultdict(list)
+        )
         line[row[curves.by]].append(row[curves.measure])
     return {
         panel: {
@@ -101,9 +115,14 @@ def _panel(row: Row, curves: Curves) -> str:
 
 def table_of(panels: dict[str, Lines], curves: Curves) -> list[str]:
     """The same as a table in Markdown: means, and half of their intervals."""
-    places = sorted({place for lines in panels.values() for points in lines.values() for place in points})
+    places = sorted(
+        {place for lines in panels.values() for points in lines.values() for place in points}
+    )
     told = [f"{100 * it:g} %" if curves.by in SHARES else _number(it) for it in places]
-    rows = ["| " + " | ".join([curves.panels or "", curves.measure, *told]) + " |", "|---" * (len(places) + 2) + "|"]
+    rows = [
+        "| " + " | ".join([curves.panels or "", curves.measure, *told]) + " |",
+        "|---" * (len(places) + 2) + "|",
+    ]
     for panel, lines in panels.items():
         for name, points in lines.items():
             cells = [_cell(points.get(place), curves.measure in SHARES) for place in places]

@@ -33,8 +33,16 @@ def _pyplot() -> Any:
     import matplotlib
 
     matplotlib.use("Agg")
-    matplotlib.rcParams.update({"svg.hashsalt": "campaign", "svg.fonttype": "none", "font.size": 9, "axes.spines.top": False,
-                                "axes.spines.right": False, "legend.frameon": False})  # fmt: skip
+    matplotlib.rcParams.update(
+        {
+            "svg.hashsalt": "campaign",
+            "svg.fonttype": "none",
+            "font.size": 9,
+            "axes.spines.top": False,
+            "axes.spines.right": False,
+            "legend.frameon": False,
+        }
+    )
     from matplotlib import pyplot
 
     return pyplot
@@ -79,7 +87,11 @@ def _draw_lines(axis: Any, lines: Lines, curves: Curves, styles: dict[str, int])
         style, found = styles[name], list(points.values())
         look = {"color": COLOURS[style % len(COLOURS)], "marker": _MARKERS[style % len(_MARKERS)]}
         # Side by side, so that none hides another.
-        across = [it + (style - len(styles) / 2) * _APART * span for it in points] if span else list(points)
+        across = (
+            [it + (style - len(styles) / 2) * _APART * span for it in points]
+            if span
+            else list(points)
+        )
         halves = _halves(found, curves.measure in SHARES)
         means = [it.mean for it in found]
         axis.errorbar(across, means, halves, label=name, markersize=4, capsize=3, lw=1.5, **look)
@@ -93,12 +105,15 @@ def _draw_lines(axis: Any, lines: Lines, curves: Curves, styles: dict[str, int])
 
 def _wants_powers(panels: dict[str, Lines], measure: str) -> bool:
     """Whether means lie so far apart that a scale of powers shows them."""
-    means = [it.mean for lines in panels.values() for points in lines.values() for it in points.values()]
+    means = [
+        it.mean for lines in panels.values() for points in lines.values() for it in points.values()
+    ]
     return measure not in SHARES and min(means) > 0 and max(means) > 30 * min(means)
 
 
 def _halves(found: Sequence[Interval], is_share: bool) -> tuple[list[float], list[float]]:
-    """How far each interval reaches down and up: none of one value, and none of a share beyond 0 and 1."""
+    """How far each interval reaches down and up: none of one value, and none of a share beyond 0
+    and 1."""
     halves = [it.half if it.count > 1 else 0.0 for it in found]
     if not is_share:
         return halves, halves
@@ -118,10 +133,14 @@ def _legend(figure: Any, axes: Sequence[Any], styles: dict[str, int]) -> None:
 
 
 def draw_advice(advice: Advice, path: Path) -> None:
-    """Each choice by its share of exact pictures against delay and bytes, with what is asked and what is advised."""
+    """Each choice by its share of exact pictures against delay and bytes, with what is asked and
+    what is advised."""
     figure, (left, right) = _pyplot().subplots(1, 2, figsize=(9, 4), sharey=True)
     asked = advice.asked
-    for axis, name, place in ((left, "delay", lambda one: one.delay), (right, "bytes", lambda one: one.bytes)):
+    for axis, name, place in (
+        (left, "delay", lambda one: one.delay),
+        (right, "bytes", lambda one: one.bytes),
+    ):
         _scatter(axis, advice, place)
         if asked.exact is not None:
             axis.axhline(asked.exact, color="#888888", lw=1, ls="--")
@@ -154,4 +173,3 @@ def _scatter(axis: Any, advice: Advice, place: Any) -> None:
     dots([it for it in rest if not it.misses(advice.asked)], "#5b7fa6", "meets it", 4)
     dots(picked[:1], "#2b8a5a", "advised", 10)
     dots(picked[1:], "#e6a23c", "runner-up", 5)
-
