@@ -86,6 +86,8 @@ def _draw_lines(axis: Any, lines: Lines, curves: Curves, styles: dict[str, int])
     for name, points in lines.items():
         style, found = styles[name], list(points.values())
         look = {"color": COLOURS[style % len(COLOURS)], "marker": _MARKERS[style % len(_MARKERS)]}
+        # The first is seen below one that lies on it.
+        look |= {"lw": 1.5, "markersize": 4} if style else {"lw": 4, "markersize": 8}
         # Side by side, so that none hides another.
         across = (
             [it + (style - len(styles) / 2) * _APART * span for it in points]
@@ -94,7 +96,7 @@ def _draw_lines(axis: Any, lines: Lines, curves: Curves, styles: dict[str, int])
         )
         halves = _halves(found, curves.measure in SHARES)
         means = [it.mean for it in found]
-        axis.errorbar(across, means, halves, label=name, markersize=4, capsize=3, lw=1.5, **look)
+        axis.errorbar(across, means, halves, label=name, capsize=3, elinewidth=1.5, **look)
     if are_numbers:
         axis.set_xticks(places, [f"{100 * it if curves.by in SHARES else it:g}" for it in places])
     if curves.measure in SHARES:
