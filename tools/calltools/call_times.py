@@ -22,7 +22,7 @@ class Timed:
     time: float
 
 
-def _times(path: Path) -> list[float]:
+def times_in(path: Path) -> list[float]:
     try:
         return [float(line) for line in path.read_text().split()]
     except ValueError:
@@ -33,7 +33,7 @@ def _entries(folder: Path, name: str) -> list[Timed]:
     path = folder / name
     with path.open("rb") as file:
         entries = list(logs.read_log(file, str(path)))
-    return [Timed(*both) for both in zip(entries, _times(path.with_suffix(".times")))]
+    return [Timed(*both) for both in zip(entries, times_in(path.with_suffix(".times")))]
 
 
 def _report(folder: Path, name: str) -> Report:
@@ -131,7 +131,7 @@ def _call(
             number = nearest(newest, start.reference, period)
             newest = max(newest, number)
             arrived.append((came.time, number))
-    shown = _times(folder / Path(recv["video"]).with_suffix(".times"))
+    shown = times_in(folder / Path(recv["video"]).with_suffix(".times"))
     marks = [picture.mark or "" for picture in _report(folder, recv["report"]).pictures]
     told = _report(folder, send["report"]).pictures
     references = [picture.reference for picture in told]

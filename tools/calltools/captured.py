@@ -1,4 +1,5 @@
-"""What became of the packets of a captured RTP stream: which were lost, and how late the others came."""
+"""What became of the packets of a captured RTP stream: which were lost, and how late the others
+came."""
 
 import bisect
 import random

@@ -1,1 +1,2 @@
-"""Campaigns: many calls by one plan, on the processes of a machine or on a Dask cluster, and what their table tells."""
+"""Campaigns: many calls by one plan, on the processes of a machine or on a Dask cluster, and what
+their table tells."""

@@ -10,8 +10,23 @@ from .intervals import Interval, interval_of
 CHOSEN = ("lead", "slots", "limit", "target")
 # What else makes a choice another one.
 _ALSO = ("quant", "keep", "radius", "messages", "clock")
-_PLACE = ("network", "video", "pictures", "rate", "burst", "to_bad", "to_good", "lost_in_good", "lost_in_bad",
-          "packets", "delay", "jitter", "delay_ms", "deviation_ms", "back")  # fmt: skip
+_PLACE = (
+    "network",
+    "video",
+    "pictures",
+    "rate",
+    "burst",
+    "to_bad",
+    "to_good",
+    "lost_in_good",
+    "lost_in_bad",
+    "packets",
+    "delay",
+    "jitter",
+    "delay_ms",
+    "deviation_ms",
+    "back",
+)
 
 
 @dataclass(frozen=True)
@@ -44,7 +59,8 @@ class Found:
     failed: int = 0
 
     def misses(self, asked: Asked) -> list[str]:
-        """What of the asked it doesn't meet, in words. Shares count by the lower end of their interval."""
+        """What of the asked it doesn't meet, in words. Shares count by the lower end of their
+        interval."""
         told = []
         if self.failed:
             told.append(f"{self.failed} of its calls failed")
@@ -68,12 +84,15 @@ class Found:
 
     def line(self) -> str:
         """The choice and what it came to."""
-        chosen = " ".join(f"--{name} {value}" for name, value in self.options.items() if value is not None)
+        chosen = " ".join(
+            f"--{name} {value}" for name, value in self.options.items() if value is not None
+        )
         half = f" ± {100 * self.exact.half:.1f}" if self.exact.count > 1 else ""
         psnr = "" if self.psnr is None else f", {self.psnr:.1f} dB"
         exact = f"{100 * self.exact.mean:.1f}{half} % exact"
         longest = f"at most {self.longest} in a row not"
-        return f"{chosen}: delay {self.delay} pictures, {exact}, {longest}, {self.bytes:,.0f} bytes a picture{psnr}"
+        pictures = "picture" if self.delay == 1 else "pictures"
+        return f"{chosen}: delay {self.delay} {pictures}, {exact}, {longest}, {self.bytes:,.0f} bytes a picture{psnr}"
 
 
 @dataclass(frozen=True)
@@ -91,7 +110,9 @@ def found_in(rows: Iterable[Row]) -> list[Found]:
     choices: dict[tuple, list[Row]] = defaultdict(list)
     for row in rows:
         if row["sender"] == "acknowledged":
-            choices[(*(row[name] for name in CHOSEN + _ALSO), row["hold"], row["delay"])].append(row)
+            choices[(*(row[name] for name in CHOSEN + _ALSO), row["hold"], row["delay"])].append(
+                row
+            )
     found = [_found(many) for many in choices.values() if any(_counts(row) for row in many)]
     return found
 
@@ -129,7 +150,8 @@ def _is_told(name: str, row: Row) -> bool:
 
 
 def advised(found: Sequence[Found], asked: Asked, by_bytes: bool = False) -> Advice:
-    """The cheapest: the least delay and then bytes, or the other way round, and then the fewest slots."""
+    """The cheapest: the least delay and then bytes, or the other way round, and then the fewest
+    slots."""
 
     def cost(one: Found) -> tuple:
         delay, size = one.delay, round(one.bytes)
@@ -147,14 +169,18 @@ def words_of(advice: Advice) -> list[str]:
     calls = sum(one.calls for one in advice.found)
     lines = [f"asked: {advice.asked.words()}; {len(advice.found)} choices, {calls} calls"]
     if any(one.places < most for one in advice.found):
-        lines.append("not every choice was tried on each network and video: the campaign isn't at its end")
+        lines.append(
+            "not every choice was tried on each network and video: the campaign isn't at its end"
+        )
     if not advice.found:
         return lines + ["nothing to advise: no call with acknowledgements is done"]
     if advice.best:
         lines.append(f"take       {advice.best.line()}")
         second = advice.second.line() if advice.second else "none: nothing else meets it"
         return lines + [f"runner-up  {second}"]
-    nearest = min(advice.found, key=lambda one: (len(one.misses(advice.asked)), -one.exact.low, one.bytes))
+    nearest = min(
+        advice.found, key=lambda one: (len(one.misses(advice.asked)), -one.exact.low, one.bytes)
+    )
     lines.append("nothing meets it")
     lines.append(f"nearest    {nearest.line()}")
     return lines + [f"misses     {'; '.join(nearest.misses(advice.asked))}"]

@@ -1,4 +1,5 @@
-"""Files by the hash of what they hold, so that two machines can't mean different ones by one name."""
+"""Files by the hash of what they hold, so that two machines can't mean different ones by one name.
+"""
 
 import hashlib
 import os

@@ -6,14 +6,45 @@ from dataclasses import dataclass
 from typing import Sequence
 
 # The 97.5 % point by degrees of freedom, and beyond them that of the normal distribution.
-_T = (12.706, 4.303, 3.182, 2.776, 2.571, 2.447, 2.365, 2.306, 2.262, 2.228, 2.201, 2.179, 2.160, 2.145, 2.131,
-      2.120, 2.110, 2.101, 2.093, 2.086, 2.080, 2.074, 2.069, 2.064, 2.060, 2.056, 2.052, 2.048, 2.045, 2.042)  # fmt: skip
+_T = (
+    12.706,
+    4.303,
+    3.182,
+    2.776,
+    2.571,
+    2.447,
+    2.365,
+    2.306,
+    2.262,
+    2.228,
+    2.201,
+    2.179,
+    2.160,
+    2.145,
+    2.131,
+    2.120,
+    2.110,
+    2.101,
+    2.093,
+    2.086,
+    2.080,
+    2.074,
+    2.069,
+    2.064,
+    2.060,
+    2.056,
+    2.052,
+    2.048,
+    2.045,
+    2.042,
+)
 _NORMAL = 1.96
 
 
 @dataclass(frozen=True)
 class Interval:
-    """A mean of so many values; the interval reaches `half` to either side, infinitely far for one value."""
+    """A mean of so many values; the interval reaches `half` to either side, infinitely far for one
+    value."""
 
     mean: float
     half: float

@@ -18,9 +18,30 @@ from .jitter import BoundedJitter
 
 # Counts up when a measure changes its meaning, so that rows of both don't mix.
 EDITION = 1
-LABELS = ("video", "network", "sender", "every", "draw", "pictures", "loss", "rate", "burst", "to_bad", "to_good",
-          "lost_in_good", "lost_in_bad", "packets", "delay", "jitter", "delay_ms", "deviation_ms", "hold", "back",
-          "round_trip", *plans.OPTIONS)  # fmt: skip
+LABELS = (
+    "video",
+    "network",
+    "sender",
+    "every",
+    "draw",
+    "pictures",
+    "loss",
+    "rate",
+    "burst",
+    "to_bad",
+    "to_good",
+    "lost_in_good",
+    "lost_in_bad",
+    "packets",
+    "delay",
+    "jitter",
+    "delay_ms",
+    "deviation_ms",
+    "hold",
+    "back",
+    "round_trip",
+    *plans.OPTIONS,
+)
 
 
 @dataclass(frozen=True)
@@ -69,7 +90,11 @@ class Jobs:
         count = sum(1 for _ in reader)
         wanted = self._plan.pictures or count
         if count < max(wanted, 2):
-            raise BadInput(self._plan.path, f"video {video.name}", f"{wanted} pictures are asked for, and it has {count}")
+            raise BadInput(
+                self._plan.path,
+                f"video {video.name}",
+                f"{wanted} pictures are asked for, and it has {count}",
+            )
         return self._store.put(data), wanted, form
 
     def _video_bytes(self, video: plans.Video) -> bytes:
@@ -79,24 +104,41 @@ class Jobs:
         out = io.BytesIO()
         y4m.write_head(out, size)
         count = self._plan.pictures or 60
-        for frame in made.frames(size, count, video.made["noise"], video.made["seed"], video.made["step"]):
+        for frame in made.frames(
+            size, count, video.made["noise"], video.made["seed"], video.made["step"]
+        ):
             y4m.write_frame(out, frame)
         return out.getvalue()
 
-    def _of_video(self, draw: int, label: str, video: str, pictures: int, form: str) -> Iterator[Job]:
+    def _of_video(
+        self, draw: int, label: str, video: str, pictures: int, form: str
+    ) -> Iterator[Job]:
         for network in self._plan.networks:
             if draw > 1 and not network.is_drawn():
                 continue
             for sender in self._plan.senders:
                 for options in self._plan.options:
                     lines, told = self._trace(network, sender, options, draw, pictures)
-                    labels = {**dict.fromkeys(LABELS), "video": label, "draw": draw, **told, **options}
+                    labels = {
+                        **dict.fromkeys(LABELS),
+                        "video": label,
+                        "draw": draw,
+                        **told,
+                        **options,
+                    }
                     labels |= {"sender": sender.kind, "every": sender.every, "loss": network.kind}
                     given = {"format": form, **{key: str(value) for key, value in options.items()}}
-                    yield Job(self._name, labels, given, self._plan.measures, self._program, video, lines)
+                    yield Job(
+                        self._name, labels, given, self._plan.measures, self._program, video, lines
+                    )
 
     def _trace(
-        self, network: plans.Network, sender: plans.Sender, options: dict[str, Any], draw: int, pictures: int
+        self,
+        network: plans.Network,
+        sender: plans.Sender,
+        options: dict[str, Any],
+        draw: int,
+        pictures: int,
     ) -> tuple[str, dict[str, Any]]:
         """The trace's hash, and the labels that tell of the network."""
         hears = sender.kind == "acknowledged"
@@ -110,7 +152,10 @@ class Jobs:
             labels |= {key: value for key, value in network.values.items() if key in LABELS}
             labels |= {"packets": timing.packets, "delay": timing.delay, "hold": timing.hold}
             if hears:
-                labels |= {"back": timing.back, "round_trip": timing.delay + timing.hold + timing.back + 1}
+                labels |= {
+                    "back": timing.back,
+                    "round_trip": timing.delay + timing.hold + timing.back + 1,
+                }
         if not hears:
             labels["back"] = None
             lines = [line for line in lines if not line.startswith("B")]
@@ -121,16 +166,22 @@ class Jobs:
         lines = joined.read_trace(path)
         sent = lines.count("S")
         if not 0 < sent <= pictures:
-            raise BadInput(str(path), "its end", f"it sends {sent} pictures, and the video has {pictures}")
+            raise BadInput(
+                str(path), "its end", f"it sends {sent} pictures, and the video has {pictures}"
+            )
         if sent != lines.count("P"):
             raise BadInput(str(path), "its end", "it doesn't show each picture that it sends")
         return lines
 
     @cache
-    def _drawn_lines(self, network: plans.Network, timing: Timing, draw: int, pictures: int) -> list[str]:
+    def _drawn_lines(
+        self, network: plans.Network, timing: Timing, draw: int, pictures: int
+    ) -> list[str]:
         return list(self._drawn(network, timing, draw, pictures))
 
-    def _drawn(self, network: plans.Network, timing: Timing, draw: int, pictures: int) -> Iterator[str]:
+    def _drawn(
+        self, network: plans.Network, timing: Timing, draw: int, pictures: int
+    ) -> Iterator[str]:
         if network.kind == "capture":
             heard = self._heard(network)
             skip = captured.seeded_skip(heard, draw)
@@ -140,7 +191,9 @@ class Jobs:
         late = random.Random(f"delays {draw}")
         if "delay_ms" in network.values or "deviation_ms" in network.values:
             delay = float(network.values.get("delay_ms", 0)) / 1_000 / PERIOD
-            fates = BoundedJitter(forth, delay, float(network.values.get("deviation_ms", 0)) / 1_000 / PERIOD, late)
+            fates = BoundedJitter(
+                forth, delay, float(network.values.get("deviation_ms", 0)) / 1_000 / PERIOD, late
+            )
         else:
             fates = Drawn(forth, timing.delay, timing.jitter, late)
         return trace_of_fates(pictures, timing, fates, back)
@@ -152,13 +205,17 @@ class Jobs:
         packets = values.get("packets", 1)
         if network.kind == "capture" and "packets" not in values:
             packets = captured.packets_a_picture(self._heard(network))
-        return Timing(packets, delay, values.get("jitter", 0), values.get("hold", lead), values.get("back", 0))
+        return Timing(
+            packets, delay, values.get("jitter", 0), values.get("hold", lead), values.get("back", 0)
+        )
 
     @cache
     def _heard(self, network: plans.Network) -> list[captured.Heard]:
         assert network.file
         chosen = {key: network.values.get(key) for key in ("port", "ssrc", "clock")}
-        return captured.heard_in(network.file, chosen["port"] or 5004, chosen["ssrc"], chosen["clock"])
+        return captured.heard_in(
+            network.file, chosen["port"] or 5004, chosen["ssrc"], chosen["clock"]
+        )
 
     def _losses(self, network: plans.Network, seed: str) -> loss.Losses:
         draws, values = random.Random(seed), network.values

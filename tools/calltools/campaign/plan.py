@@ -1,4 +1,5 @@
-"""A plan: which calls a campaign has. It is TOML, read strictly: what isn't known or is out of its range is refused."""
+"""A plan: which calls a campaign has. It is TOML, read strictly: what isn't known or is out of its
+range is refused."""
 
 import itertools
 import re
@@ -136,7 +137,8 @@ class Network:
 
 @dataclass(frozen=True)
 class Sender:
-    """Who sends: ours with its messages or without, or ffmpeg's coder with an intra picture so often."""
+    """Who sends: ours with its messages or without, or ffmpeg's coder with an intra picture so
+    often."""
 
     kind: str
     every: Optional[int] = None
@@ -243,7 +245,11 @@ class _Reader:
         """The name of a table, which no other one has."""
         name = self.one((*at, "name"), Words(), table.get("name", ""))
         if not _NAME.fullmatch(name):
-            told = "has no name" if not name else f"{name!r} is no name: letters, digits, spaces and ._+-"
+            told = (
+                "has no name"
+                if not name
+                else f"{name!r} is no name: letters, digits, spaces and ._+-"
+            )
             raise self.fault((*at, "name"), told)
         if name in used:
             raise self.fault((*at, "name"), f"the name {name} is there twice")
@@ -305,7 +311,9 @@ def _plan(reader: _Reader, document: dict[str, Any], text: str) -> Plan:
     return plan
 
 
-def _tables(reader: _Reader, document: dict[str, Any], name: str) -> Iterator[tuple[places.Path, Any]]:
+def _tables(
+    reader: _Reader, document: dict[str, Any], name: str
+) -> Iterator[tuple[places.Path, Any]]:
     tables = document.get(name, [])
     if not isinstance(tables, list):
         raise reader.fault((name,), f"{name} is a table of an array: [[{name}]]")
@@ -348,7 +356,9 @@ def _networks(reader: _Reader, at: places.Path, table: Any, used: set[str]) -> l
         own = {**_COMMON, **_HOLD, **_CAPTURE}
         reader.known(at, table, {"name", "capture", *own})
         file = reader.file((*at, "capture"), table["capture"])
-        return [Network(name, line, kind, values, file) for values in reader.product(at, table, own)]
+        return [
+            Network(name, line, kind, values, file) for values in reader.product(at, table, own)
+        ]
     return _models(reader, at, table, name)
 
 
@@ -405,7 +415,9 @@ def _options(reader: _Reader, document: dict[str, Any]) -> list[dict[str, Value]
 
 
 def _check(reader: _Reader, plan: Plan) -> None:
-    calls = len(plan.videos) * len(plan.networks) * len(plan.senders) * len(plan.options) * plan.draws
+    calls = (
+        len(plan.videos) * len(plan.networks) * len(plan.senders) * len(plan.options) * plan.draws
+    )
     if calls > MOST_CALLS:
         raise reader.fault((), f"it has {calls:,} calls, more than {MOST_CALLS:,}")
     for network in plan.networks:

@@ -1,4 +1,5 @@
-"""The table of a campaign: a row a call, in SQLite or CSV by the file's name. A row is there whole or not at all."""
+"""The table of a campaign: a row a call, in SQLite or CSV by the file's name. A row is there whole
+or not at all."""
 
 import csv
 import io
@@ -12,8 +13,36 @@ from .calling import COLUMNS, Row
 from .plan import OPTIONS
 
 _SQLITE = (".sqlite", ".sqlite3", ".db")
-_TEXT = {"key", "plan", "status", "words", "video", "network", "sender", "loss", "clock", "worker", "program", "video_hash", "trace_hash"}  # fmt: skip
-_WHOLE = {"draw", "every", "pictures", "packets", "delay", "jitter", "hold", "back", "round_trip", *OPTIONS, "longest", "losses", "farthest"} - _TEXT  # fmt: skip
+_TEXT = {
+    "key",
+    "plan",
+    "status",
+    "words",
+    "video",
+    "network",
+    "sender",
+    "loss",
+    "clock",
+    "worker",
+    "program",
+    "video_hash",
+    "trace_hash",
+}
+_WHOLE = {
+    "draw",
+    "every",
+    "pictures",
+    "packets",
+    "delay",
+    "jitter",
+    "hold",
+    "back",
+    "round_trip",
+    *OPTIONS,
+    "longest",
+    "losses",
+    "farthest",
+} - _TEXT
 
 
 class Table(Protocol):
@@ -37,7 +66,8 @@ def is_sqlite(path: Path) -> bool:
 
 
 def opened(path: Path, is_new_allowed: bool = True) -> Table:
-    """The table of this file, which is made where there is none. A file that is no such table is refused."""
+    """The table of this file, which is made where there is none. A file that is no such table is
+    refused."""
     if not is_sqlite(path) and path.suffix != ".csv":
         raise BadInput(str(path), "its name", f"a table ends in .csv or {', '.join(_SQLITE)}")
     if path.exists() and not path.is_file():
@@ -63,7 +93,9 @@ class _SqliteTable:
         except sqlite3.DatabaseError as fault:
             raise BadInput(str(path), "no table", str(fault)) from None
         if found != list(COLUMNS):
-            raise BadInput(str(path), "its columns", "they aren't those of a campaign of this edition")
+            raise BadInput(
+                str(path), "its columns", "they aren't those of a campaign of this edition"
+            )
 
     def rows(self) -> Iterator[Row]:
         try:
@@ -75,7 +107,9 @@ class _SqliteTable:
     def add(self, row: Row) -> None:
         marks = ", ".join("?" * len(COLUMNS))
         with self._base:
-            self._base.execute(f"INSERT OR IGNORE INTO calls VALUES ({marks})", [row[it] for it in COLUMNS])
+            self._base.execute(
+                f"INSERT OR IGNORE INTO calls VALUES ({marks})", [row[it] for it in COLUMNS]
+            )
 
     def drop(self, keys: list[str]) -> None:
         with self._base:
@@ -101,7 +135,11 @@ class _CsvTable:
         head = _line(list(COLUMNS)).encode()
         with open(self._path, "r+b") as file:
             if file.read(len(head)) != head:
-                raise BadInput(str(self._path), "line 1", "the columns aren't those of a campaign of this edition")
+                raise BadInput(
+                    str(self._path),
+                    "line 1",
+                    "the columns aren't those of a campaign of this edition",
+                )
             data = head + file.read()
             file.truncate(data.rindex(b"\n") + 1)
 
@@ -111,7 +149,11 @@ class _CsvTable:
             next(reader, None)
             for number, row in enumerate(reader, 2):
                 if len(row) != len(COLUMNS):
-                    raise BadInput(str(self._path), f"line {number}", f"{len(row)} values, and not {len(COLUMNS)}")
+                    raise BadInput(
+                        str(self._path),
+                        f"line {number}",
+                        f"{len(row)} values, and not {len(COLUMNS)}",
+                    )
                 yield {name: self._value(name, text, number) for name, text in zip(COLUMNS, row)}
 
     def _value(self, name: str, text: str, number: int) -> object:
@@ -121,7 +163,9 @@ class _CsvTable:
         try:
             return int(text) if kind == "INTEGER" else float(text)
         except ValueError:
-            raise BadInput(str(self._path), f"line {number}", f"{name}: {text!r} is no number") from None
+            raise BadInput(
+                str(self._path), f"line {number}", f"{name}: {text!r} is no number"
+            ) from None
 
     def add(self, row: Row) -> None:
         if row["key"] in self._keys:
@@ -149,14 +193,18 @@ def _kind(name: str) -> str:
 
 def _line(values: list[object]) -> str:
     # A row is one line, whatever its words are.
-    flat = [value.replace("\n", " ").replace("\r", " ") if isinstance(value, str) else value for value in values]
+    flat = [
+        value.replace("\n", " ").replace("\r", " ") if isinstance(value, str) else value
+        for value in values
+    ]
     out = io.StringIO()
     csv.writer(out, lineterminator="\n").writerow(flat)
     return out.getvalue()
 
 
 def checked(table: Table, path: Path, plan: str, is_added: bool) -> dict[str, Optional[str]]:
-    """The keys that are there, with their statuses. Rows of another plan are refused, unless more may be added."""
+    """The keys that are there, with their statuses. Rows of another plan are refused, unless more
+    may be added."""
     found: dict[str, Optional[str]] = {}
     for row in table.rows():
         if row["plan"] != plan and not is_added:
