@@ -6,7 +6,7 @@
 //! `NAME.send.log`.
 ghost use Rattle.std.specs.Prelude.{◌≤◌, length};
 
-use crate::compare::{compare_audit, compare_run};
+use crate::compare::{Piece, compare_audit, compare_run};
 use crate::stop::Stop;
 use crate::told;
 use h263_types::OutOfMemory;
@@ -173,6 +173,7 @@ fn changed(
 // An audit of a call of which one entry is changed.
 fn changed_call(
     rt: &HostRuntime,
+    piece: Piece,
     name: &str,
     options: &str,
     log: &[u8],
@@ -183,12 +184,13 @@ fn changed_call(
     let label = format!(in alloc; "{name}, entry {number} {change:?}")?;
     let words = format!(in alloc; "audit log {options}")?;
     let log = changed(alloc, log, number, change)?;
-    compare_audit(rt, &label, &words, &log, line)
+    compare_audit(rt, piece, &label, &words, &log, line)
 }
 
 // The audits of a call.
 fn audited_call(
     rt: &HostRuntime,
+    piece: Piece,
     name: &str,
     options: &str,
     audits: &[Audit],
@@ -196,7 +198,7 @@ fn audited_call(
     let log = fs::read(rt, &format!(in rt.alloc(); "{name}.audit.log")?)?;
     let mut same = true;
     'audits: for audit in audits {
-        if !changed_call(rt, name, options, &log, *audit)? {
+        if !changed_call(rt, piece, name, options, &log, *audit)? {
             same = false;
         }
     }
@@ -204,23 +206,23 @@ fn audited_call(
 }
 
 // The audit of a log in which a rule is broken.
-fn broken_rule(rt: &HostRuntime, name: &str, options: &str) -> Result<bool, Stop> {
+fn broken_rule(rt: &HostRuntime, piece: Piece, name: &str, options: &str) -> Result<bool, Stop> {
     let alloc = rt.alloc();
     let report = format!(in alloc; "{name}.txt")?;
     let words = format!(in alloc; "audit {name}.log --format sub-qcif {options}")?;
-    compare_run(rt, &report, &words)
+    compare_run(rt, piece, &report, &words)
 }
 
 /// Compares each audit.
-pub fn audited_calls(rt: &HostRuntime) -> io::Result<bool> {
+pub fn audited_calls(rt: &HostRuntime, piece: Piece) -> io::Result<bool> {
     let mut same = true;
     'rules: for (name, options) in RULES {
-        if !told(rt, name, broken_rule(rt, name, options))? {
+        if !told(rt, name, broken_rule(rt, piece, name, options))? {
             same = false;
         }
     }
     'calls: for (name, options, audits) in CALLS {
-        if !told(rt, name, audited_call(rt, name, options, audits))? {
+        if !told(rt, name, audited_call(rt, piece, name, options, audits))? {
             same = false;
         }
     }

@@ -3,16 +3,15 @@ ghost use Rattle.std.specs.Prelude.{◌≡◌, ◌≤◌, ◌+◌, IfSome, lengt
 ghost use Rattle.h263_types.specs.declared.format.Format.TheVariants.{Qcif};
 ghost use Rattle.back_messages.specs.Text.{IsMessage};
 
-use crate::command::run;
-use crate::compare::{PIECE, ROOM};
+use crate::compare::{Piece, bare_desk};
 use crate::stop::Stop;
 use crate::video::{made_picture, made_video};
 use back_messages::{Message, read};
 use call_report::Status;
-use command_words::Words;
-use h263_outside::{MemoryDesk, Role};
+use h263_outside::Role;
 use h263_planes::PictureRef;
 use h263_types::{FixedPace, Format, OutOfMemory, Params};
+use h263rps_run::run;
 use sender_end::Sender;
 use std::alloc::Global;
 
@@ -136,29 +135,37 @@ fn log_of(alloc: Global, is_first: bool) -> Result<Vec<u8>, OutOfMemory> {
 }
 
 // Whether a receiver over this log shows these pictures, and says first that picture 0 is complete.
-fn received(alloc: Global, log: &[u8], pictures: &[u8]) -> Result<bool, Stop> {
-    let words = Words::read(alloc, &["recv", "log", "out", "wire"])?;
-    let mut desk = MemoryDesk::new(alloc, PIECE, ROOM)?;
+fn received(alloc: Global, piece: Piece, log: &[u8], pictures: &[u8]) -> Result<bool, Stop> {
+    let mut desk = bare_desk(alloc, piece)?;
     desk.put(Role::Events, log)?;
-    let status = run(alloc, &words, &mut desk);
+    let status = run(alloc, &["recv", "log", "out", "wire"], &mut desk);
     let said = desk.text(Role::Wire).starts_with(ACK_0_ENTRY);
     Ok(said && status == Status::Ok && desk.text(Role::Pictures) == pictures)
 }
 
 /// Compares what a call of two parties shows with what two receivers show of the packets of two
 /// senders.
-pub fn joined_by_hand(rt: &HostRuntime) -> Result<bool, Stop> {
+pub fn joined_by_hand(rt: &HostRuntime, piece: Piece) -> Result<bool, Stop> {
     let alloc = rt.alloc();
     let list = ["duplex", "in1", "in2", "out1", "out2", "--trace", "t"];
-    let words = Words::read(alloc, &list)?;
-    let mut desk = MemoryDesk::new(alloc, PIECE, ROOM)?;
+    let mut desk = bare_desk(alloc, piece)?;
     desk.put(Role::Video, &made_video(alloc, SEED_A, 2)?)?;
     desk.put(Role::Video2, &made_video(alloc, SEED_B, 1)?)?;
     desk.put(Role::Events, TRACE)?;
-    let status = run(alloc, &words, &mut desk);
+    let status = run(alloc, &list, &mut desk);
     let told = status == Status::Ok && desk.text(Role::Report) == REPORT;
-    let first = received(alloc, &log_of(alloc, true)?, desk.text(Role::Pictures))?;
-    let second = received(alloc, &log_of(alloc, false)?, desk.text(Role::Pictures2))?;
+    let first = received(
+        alloc,
+        piece,
+        &log_of(alloc, true)?,
+        desk.text(Role::Pictures),
+    )?;
+    let second = received(
+        alloc,
+        piece,
+        &log_of(alloc, false)?,
+        desk.text(Role::Pictures2),
+    )?;
     println!(rt; "by hand: {told} {first} {second}")?;
     Ok(told && first && second)
 }

@@ -1,21 +1,41 @@
 //! A run over a desk in memory, by its words, and its outputs compared with those that are wanted.
-ghost use Rattle.std.specs.Prelude.{◌≡◌, IfOk};
+ghost use Rattle.std.specs.Prelude.{◌≡◌, ◌<◌, IfOk};
 ghost use Rattle.h263_outside.specs.Desk.{IsInput, IsOutput, NoneAttached};
 ghost use Rattle.h263_outside.specs.Memory.{memory_outside};
 
-use crate::command::run;
 use crate::stop::Stop;
 use call_report::Status;
 use command_words::Words;
 use h263_outside::{MemoryDesk, Role};
+use h263rps_run::run;
 use std::alloc::Global;
 use std::fs;
 
-/// The most bytes that one call of the desk moves.
-pub const PIECE: usize = 4096;
+/// The most that one call of the desk moves: a byte, or a block of 4,096.
+#[derive(Clone, Copy)]
+pub enum Piece {
+    Byte,
+    Block,
+}
 
-/// More bytes than an output has.
-pub const ROOM: usize = 10_000_000;
+impl Piece {
+    /// How many bytes it has.
+    pub fn size(self) -> usize
+        ensures { 0 < result }
+    {
+        match self {
+            Piece::Byte => 1,
+            Piece::Block => 4096,
+        }
+    }
+}
+
+/// A desk on which nothing was put, with room for more bytes than an output has.
+pub fn bare_desk(alloc: Global, piece: Piece) -> Result<MemoryDesk, Stop>
+    ensures { IfOk result (λ desk. NoneAttached (memory_outside desk).attached) }
+{
+    Ok(MemoryDesk::new(alloc, piece.size(), 10_000_000)?)
+}
 
 // Puts the file on the desk by whose name the words attach the role, if they do.
 fn put_input(
@@ -89,25 +109,30 @@ fn report_of(alloc: Global, desk: &MemoryDesk, status: Status) -> Result<Vec<u8>
     Ok(report)
 }
 
-// A desk with the files that the words name.
-fn desk_of(rt: &HostRuntime, words: &Words<'_>) -> Result<MemoryDesk, Stop>
+// A desk with the trace or the log that the words name.
+fn desk_of(rt: &HostRuntime, piece: Piece, words: &Words<'_>) -> Result<MemoryDesk, Stop>
     ensures { IfOk result (λ desk. NoneAttached (memory_outside desk).attached) }
 {
-    let mut desk = MemoryDesk::new(rt.alloc(), PIECE, ROOM)?;
+    let mut desk = bare_desk(rt.alloc(), piece)?;
     put_input(rt, words, Role::Events, &mut desk)?;
     Ok(desk)
 }
 
 /// Runs the command of these words, and compares each output with the file that they name, and the
 /// report with this one.
-pub fn compare_run(rt: &HostRuntime, report: &str, words: &str) -> Result<bool, Stop> {
+pub fn compare_run(
+    rt: &HostRuntime,
+    piece: Piece,
+    report: &str,
+    words: &str,
+) -> Result<bool, Stop> {
     let alloc = rt.alloc();
     let list: Vec<&str> = words.split_whitespace().collect(alloc)?;
     let words = Words::read(alloc, &list)?;
-    let mut desk = desk_of(rt, &words)?;
+    let mut desk = desk_of(rt, piece, &words)?;
     put_input(rt, &words, Role::Video, &mut desk)?;
     put_input(rt, &words, Role::Video2, &mut desk)?;
-    let status = run(alloc, &words, &mut desk);
+    let status = run(alloc, &list, &mut desk);
     let pictures = compare_output(rt, &words, Role::Pictures, &desk)?;
     let pictures2 = compare_output(rt, &words, Role::Pictures2, &desk)?;
     let wire = compare_output(rt, &words, Role::Wire, &desk)?;
@@ -118,6 +143,7 @@ pub fn compare_run(rt: &HostRuntime, report: &str, words: &str) -> Result<bool, 
 /// Runs the audit of these words over a log, and compares the report with this one.
 pub fn compare_audit(
     rt: &HostRuntime,
+    piece: Piece,
     label: &str,
     words: &str,
     log: &[u8],
@@ -125,10 +151,9 @@ pub fn compare_audit(
 ) -> Result<bool, Stop> {
     let alloc = rt.alloc();
     let list: Vec<&str> = words.split_whitespace().collect(alloc)?;
-    let words = Words::read(alloc, &list)?;
-    let mut desk = MemoryDesk::new(alloc, PIECE, ROOM)?;
+    let mut desk = bare_desk(alloc, piece)?;
     desk.put(Role::Events, log)?;
-    let status = run(alloc, &words, &mut desk);
+    let status = run(alloc, &list, &mut desk);
     let same = compare(rt, label, desk.text(Role::Report), report.as_bytes())?;
     Ok(same && status == Status::Ok)
 }
@@ -137,6 +162,7 @@ pub fn compare_audit(
 /// `NAME.txt`, and its pictures, if they are given.
 pub fn compare_call(
     rt: &HostRuntime,
+    piece: Piece,
     name: &str,
     options: &str,
     video: &[u8],
@@ -146,9 +172,9 @@ pub fn compare_call(
     let text = format!(in alloc; "call in {name}.out.y4m --trace {name}.trace {options}")?;
     let list: Vec<&str> = text.split_whitespace().collect(alloc)?;
     let words = Words::read(alloc, &list)?;
-    let mut desk = desk_of(rt, &words)?;
+    let mut desk = desk_of(rt, piece, &words)?;
     desk.put(Role::Video, video)?;
-    let status = run(alloc, &words, &mut desk);
+    let status = run(alloc, &list, &mut desk);
     let report = report_of(alloc, &desk, status)?;
     let told = compare_file(rt, &format!(in alloc; "{name}.txt")?, &report)?;
     match pictures {
@@ -164,23 +190,29 @@ pub fn compare_call(
 /// The same, with the pictures of the file `NAME.out.y4m`.
 pub fn compare_shown(
     rt: &HostRuntime,
+    piece: Piece,
     name: &str,
     options: &str,
     video: &[u8],
 ) -> Result<bool, Stop> {
     let pictures = fs::read(rt, &format!(in rt.alloc(); "{name}.out.y4m")?)?;
-    compare_call(rt, name, options, video, Some(&pictures))
+    compare_call(rt, piece, name, options, video, Some(&pictures))
 }
 
 /// Runs a receiver over the log `NAME.log`, of what is delivered and played in the call of this
 /// name, and compares what it shows with the pictures of the call.
-pub fn compare_log(rt: &HostRuntime, name: &str, options: &str) -> Result<bool, Stop> {
+pub fn compare_log(
+    rt: &HostRuntime,
+    piece: Piece,
+    name: &str,
+    options: &str,
+) -> Result<bool, Stop> {
     let alloc = rt.alloc();
     let text = format!(in alloc; "recv {name}.log {name}.out.y4m wire {options}")?;
     let list: Vec<&str> = text.split_whitespace().collect(alloc)?;
     let words = Words::read(alloc, &list)?;
-    let mut desk = desk_of(rt, &words)?;
-    let status = run(alloc, &words, &mut desk);
+    let mut desk = desk_of(rt, piece, &words)?;
+    let status = run(alloc, &list, &mut desk);
     let same = compare_output(rt, &words, Role::Pictures, &desk)?;
     Ok(same && status == Status::Ok)
 }

@@ -5,15 +5,14 @@
 //! video `NAME.a.y4m`, which is shown as `NAME.a.out.y4m`, and party b `NAME.b.y4m`. The report is
 //! in `NAME.txt`.
 use crate::by_hand::joined_by_hand;
-use crate::command::run;
-use crate::compare::{PIECE, ROOM, compare_run};
+use crate::compare::{Piece, bare_desk, compare_run};
 use crate::stop::Stop;
 use crate::told;
 use crate::video::flat_video;
 use call_report::Status;
-use command_words::Words;
-use h263_outside::{MemoryDesk, Role};
+use h263_outside::Role;
 use h263_types::{Format, OutOfMemory};
+use h263rps_run::run;
 use loss_trace::TraceFault;
 use std::alloc::Global;
 use std::io;
@@ -21,14 +20,14 @@ use test_desks::repeated;
 
 const CALLS: [&str; 3] = ["duplex_mix", "duplex_reorder", "duplex_slow"];
 
-fn called(rt: &HostRuntime, name: &str) -> Result<bool, Stop> {
+fn called(rt: &HostRuntime, piece: Piece, name: &str) -> Result<bool, Stop> {
     let alloc = rt.alloc();
     let report = format!(in alloc; "{name}.txt")?;
     let words = format!(in alloc;
         "duplex {name}.a.y4m {name}.b.y4m {name}.a.out.y4m \
         {name}.b.out.y4m --trace {name}.trace --limit 1200 --messages 2"
     )?;
-    compare_run(rt, &report, &words)
+    compare_run(rt, piece, &report, &words)
 }
 
 // ---- what may be late
@@ -118,16 +117,21 @@ fn exchanged(alloc: Global, trace: &[u8]) -> Result<Vec<u8>, OutOfMemory> {
 }
 
 // Whether a call over this trace ends so, and says so in its last line.
-fn ends_so(alloc: Global, video: &[u8], trace: &[u8], far: Far) -> Result<bool, Stop> {
+fn ends_so(
+    alloc: Global,
+    piece: Piece,
+    video: &[u8],
+    trace: &[u8],
+    far: Far,
+) -> Result<bool, Stop> {
     let list = [
         "duplex", "in1", "in2", "out1", "out2", "--trace", "t", "--radius", "0",
     ];
-    let words = Words::read(alloc, &list)?;
-    let mut desk = MemoryDesk::new(alloc, PIECE, ROOM)?;
+    let mut desk = bare_desk(alloc, piece)?;
     desk.put(Role::Video, video)?;
     desk.put(Role::Video2, video)?;
     desk.put(Role::Events, trace)?;
-    let status = run(alloc, &words, &mut desk);
+    let status = run(alloc, &list, &mut desk);
     let Some((line, given, other)) = far else {
         return Ok(status == Status::Ok);
     };
@@ -137,29 +141,29 @@ fn ends_so(alloc: Global, video: &[u8], trace: &[u8], far: Far) -> Result<bool, 
     Ok(told && status == Status::TraceRefused { fault })
 }
 
-fn late(rt: &HostRuntime, name: &str, lines: Lines, far: Far) -> Result<bool, Stop> {
+fn late(rt: &HostRuntime, piece: Piece, name: &str, lines: Lines, far: Far) -> Result<bool, Stop> {
     let alloc = rt.alloc();
     let video = flat_video(alloc, Format::SubQcif, &[(129, 100)])?;
     let trace = repeated(alloc, lines)?;
-    let first = ends_so(alloc, &video, &trace, far)?;
-    let second = ends_so(alloc, &video, &exchanged(alloc, &trace)?, far)?;
+    let first = ends_so(alloc, piece, &video, &trace, far)?;
+    let second = ends_so(alloc, piece, &video, &exchanged(alloc, &trace)?, far)?;
     println!(rt; "{name}: {first} {second}")?;
     Ok(first && second)
 }
 
 /// Compares each call.
-pub fn duplex_calls(rt: &HostRuntime) -> io::Result<bool> {
+pub fn duplex_calls(rt: &HostRuntime, piece: Piece) -> io::Result<bool> {
     let mut same = true;
     'calls: for name in CALLS {
-        if !told(rt, name, called(rt, name))? {
+        if !told(rt, name, called(rt, piece, name))? {
             same = false;
         }
     }
     'late: for (name, lines, far) in LATE {
-        if !told(rt, name, late(rt, name, lines, far))? {
+        if !told(rt, name, late(rt, piece, name, lines, far))? {
             same = false;
         }
     }
-    let by_hand = joined_by_hand(rt);
+    let by_hand = joined_by_hand(rt, piece);
     Ok(told(rt, "by hand", by_hand)? && same)
 }

@@ -5,7 +5,7 @@
 //! here: flat pictures, or pictures of triangle waves that move. The pictures that are shown are
 //! compared where they are flat, or stored as `NAME.out.y4m`. The packets and plays of a call in
 //! CIF are stored as the log `NAME.log`, and a receiver over it is to show the same pictures.
-use crate::compare::{compare_call, compare_log, compare_shown};
+use crate::compare::{Piece, compare_call, compare_log, compare_shown};
 use crate::stop::Stop;
 use crate::told;
 use crate::video::{flat_video, made_video, shown_video};
@@ -49,18 +49,8 @@ const FLAT: [(&str, &str, &[(u32, u8)], &[(u32, &str, u8)]); 11] = [
         &[(133, "EXACT", 100)],
     ),
     // A packet half a period late is refused, and one picture less is late.
-    (
-        "far_packet",
-        "--radius 0",
-        &[(128, 100)],
-        &[(128, "HELD", 128)],
-    ),
-    (
-        "late_packet",
-        "--radius 0",
-        &[(127, 100)],
-        &[(127, "HELD", 128)],
-    ),
+    ("far_packet", "", &[(128, 100)], &[(128, "HELD", 128)]),
+    ("late_packet", "", &[(127, 100)], &[(127, "HELD", 128)]),
     // So by the custom clock.
     (
         "far_packet_custom",
@@ -96,6 +86,7 @@ const CIF: [&str; 2] = ["one_late", "doubled"];
 
 fn flat_call(
     rt: &HostRuntime,
+    piece: Piece,
     name: &str,
     options: &str,
     video: &[(u32, u8)],
@@ -104,38 +95,38 @@ fn flat_call(
     let alloc = rt.alloc();
     let frames = flat_video(alloc, Format::SubQcif, video)?;
     let wanted = shown_video(alloc, Format::SubQcif, shown)?;
-    compare_call(rt, name, options, &frames, Some(&wanted))
+    compare_call(rt, piece, name, options, &frames, Some(&wanted))
 }
 
-fn cif_call(rt: &HostRuntime, name: &str) -> Result<bool, Stop> {
+fn cif_call(rt: &HostRuntime, piece: Piece, name: &str) -> Result<bool, Stop> {
     let video = flat_video(rt.alloc(), Format::Cif, &[(1, 100)])?;
-    let called = compare_shown(rt, name, "", &video)?;
-    let received = compare_log(rt, name, "--format cif")?;
+    let called = compare_shown(rt, piece, name, "", &video)?;
+    let received = compare_log(rt, piece, name, "--format cif")?;
     Ok(called && received)
 }
 
 // A call of a user: thirty pictures of a camera, of which two are lost. What is shown of them is
 // not compared.
-fn users_call(rt: &HostRuntime) -> Result<bool, Stop> {
+fn users_call(rt: &HostRuntime, piece: Piece) -> Result<bool, Stop> {
     let video = made_video(rt.alloc(), 1, 30)?;
-    compare_call(rt, "users_call", "", &video, None)
+    compare_call(rt, piece, "users_call", "", &video, None)
 }
 
 /// Compares each call.
-pub fn recorded_calls(rt: &HostRuntime) -> io::Result<bool> {
+pub fn recorded_calls(rt: &HostRuntime, piece: Piece) -> io::Result<bool> {
     let mut same = true;
     for (name, options, video, shown) in FLAT {
-        let compared = flat_call(rt, name, options, video, shown);
+        let compared = flat_call(rt, piece, name, options, video, shown);
         if !told(rt, name, compared)? {
             same = false;
         }
     }
     for name in CIF {
-        let compared = cif_call(rt, name);
+        let compared = cif_call(rt, piece, name);
         if !told(rt, name, compared)? {
             same = false;
         }
     }
-    let compared = users_call(rt);
+    let compared = users_call(rt, piece);
     Ok(told(rt, "users_call", compared)? && same)
 }

@@ -5,7 +5,7 @@
 //! is to make the pictures `NAME.out.y4m` and the messages `NAME.feedback.wire`; and the trace
 //! `NAME.trace`, over which `call` is to show the same pictures of that video. The reports are in
 //! `NAME.send.txt`, `NAME.recv.txt` and `NAME.call.txt`.
-use crate::compare::compare_run;
+use crate::compare::{Piece, compare_run};
 use crate::told;
 use std::io;
 
@@ -66,6 +66,7 @@ const CALLS: [(&str, &str, &str, &str); 7] = [
 // The three commands of a call.
 fn sent_call(
     rt: &HostRuntime,
+    piece: Piece,
     name: &str,
     sends: &str,
     receives: &str,
@@ -80,35 +81,36 @@ fn sent_call(
     let sent = told(
         rt,
         name,
-        compare_run(rt, &format!(in alloc; "{name}.send.txt")?, &send),
+        compare_run(rt, piece, &format!(in alloc; "{name}.send.txt")?, &send),
     )?;
     let received = told(
         rt,
         name,
-        compare_run(rt, &format!(in alloc; "{name}.recv.txt")?, &recv),
+        compare_run(rt, piece, &format!(in alloc; "{name}.recv.txt")?, &recv),
     )?;
     let called = told(
         rt,
         name,
-        compare_run(rt, &format!(in alloc; "{name}.call.txt")?, &call),
+        compare_run(rt, piece, &format!(in alloc; "{name}.call.txt")?, &call),
     )?;
     Ok(sent && received && called)
 }
 
 // The packets of a call, where one byte of the file that they are compared with was turned: the
 // comparison must find it.
-fn turned_call(rt: &HostRuntime) -> io::Result<bool> {
+fn turned_call(rt: &HostRuntime, piece: Piece) -> io::Result<bool> {
     let words = "send grain.y4m grain.send.log turned.wire --quant 31 --keep 10";
-    Ok(!told(rt, "turned", compare_run(rt, "grain.send.txt", words))?)
+    let compared = compare_run(rt, piece, "grain.send.txt", words);
+    Ok(!told(rt, "turned", compared)?)
 }
 
 /// Compares each call.
-pub fn sent_calls(rt: &HostRuntime) -> io::Result<bool> {
+pub fn sent_calls(rt: &HostRuntime, piece: Piece) -> io::Result<bool> {
     let mut same = true;
     for (name, sends, receives, calls) in CALLS {
-        if !sent_call(rt, name, sends, receives, calls)? {
+        if !sent_call(rt, piece, name, sends, receives, calls)? {
             same = false;
         }
     }
-    Ok(turned_call(rt)? && same)
+    Ok(turned_call(rt, piece)? && same)
 }

@@ -3,7 +3,7 @@ use h263_planes::PictureMut;
 use h263_types::{Format, OutOfMemory};
 use make_input::frame;
 use std::alloc::Global;
-use test_desks::{FRAME, HEAD, SHOWN_HEAD};
+use test_desks::{FRAME, HEAD, QCIF_HEAD, SHOWN_HEAD, SHOWN_QCIF_HEAD};
 
 // The head of a camera's video in QCIF, with tags that tell more than is asked for.
 const CAMERA_HEAD: &[u8] =
@@ -13,7 +13,7 @@ const CAMERA_HEAD: &[u8] =
 fn head_of(format: Format) -> &'static [u8] {
     match format {
         Format::SubQcif => HEAD,
-        Format::Qcif => b"YUV4MPEG2 W176 H144\n",
+        Format::Qcif => QCIF_HEAD,
         Format::Cif => b"YUV4MPEG2 W352 H288\n",
     }
 }
@@ -22,7 +22,7 @@ fn head_of(format: Format) -> &'static [u8] {
 fn shown_head_of(format: Format) -> &'static [u8] {
     match format {
         Format::SubQcif => SHOWN_HEAD,
-        Format::Qcif => b"YUV4MPEG2 W176 H144 F30000:1001 Ip C420jpeg\n",
+        Format::Qcif => SHOWN_QCIF_HEAD,
         Format::Cif => b"YUV4MPEG2 W352 H288 F30000:1001 Ip C420jpeg\n",
     }
 }

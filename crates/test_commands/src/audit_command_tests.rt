@@ -1,16 +1,13 @@
 //! Runs of the audit over a desk in memory.
-ghost use Rattle.std.specs.Prelude.{◌<◌};
-ghost use Rattle.h263_types.specs.Params.{IsParams};
-
-use audit_command::Audit;
+use crate::by_words::check;
 use call_report::Status;
 use event_logs::LogFault;
 use h263_outside::Role;
-use h263_types::{Clock, Format, OutOfMemory, Params};
+use h263_types::OutOfMemory;
 use std::alloc::Global;
 use std::process::Abort;
 use std::test::Fail;
-use test_desks::{Case, NEVER, NOTHING, Parts, run};
+use test_desks::{Case, NEVER, NOTHING, Parts};
 use test_fixtures::codec::{FLAT_PACKET, LATER_PACKET, SKIPPED_PACKET};
 
 // Picture 0 of sub-QCIF, the last macroblocks of another picture 0, and picture 1, which refers to
@@ -37,18 +34,14 @@ const SOUND: Parts<'static> = &[OF_342, FLAT, ACK, OF_31, SKIPPED];
 // The log, the call that fails, how the run ends, and what it writes on the report.
 type Row<'a> = (Parts<'a>, u64, Status, &'a [u8]);
 
-// Runs of `audit log`.
+const AUDIT: &[&str] = &["audit", "log", "--format", "sub-qcif"];
+
 fn check_audits(
     rt: &impl Abort,
     alloc: Global,
-    params: &Params,
-    piece: usize,
+    words: &[&str],
     table: &[Row],
-) -> Result<(), OutOfMemory>
-    requires piece { 0 < piece }
-    requires params { IsParams params.now }
-{
-    let order = &[(Role::Events, "log")];
+) -> Result<(), OutOfMemory> {
     for (log, failing, ends, report) in table {
         let case = Case {
             video: NOTHING,
@@ -61,8 +54,7 @@ fn check_audits(
             pictures2: NOTHING,
             wire: NOTHING,
         };
-        let found = run::<Audit>(alloc, params, order, piece, &case)?;
-        assert_eq!(rt; found, None, "where call {failing} fails");
+        check(rt, alloc, words, &case)?;
     }
     Ok(())
 }
@@ -126,23 +118,18 @@ const VERDICTS: &[Row<'static>] = &[
 
 #[test]
 fn verdicts_on_two_flat_pictures(rt: HostRuntime) -> Result<(), Fail> {
-    let params = Params::of(Format::SubQcif);
-    check_audits(&rt, rt.alloc(), &params, 1, VERDICTS)?;
-    check_audits(&rt, rt.alloc(), &params, 4096, VERDICTS)?;
+    check_audits(&rt, rt.alloc(), AUDIT, VERDICTS)?;
     Ok(())
 }
+
+const CUSTOM_AUDIT: &[&str] = &["audit", "log", "--format", "sub-qcif", "--clock", "custom"];
 
 // Of another format, and by the other clock.
 #[test]
 fn other_parameters(rt: HostRuntime) -> Result<(), Fail> {
     let table: &[Row] = &[(SOUND, NEVER, Status::Ok, b"no 0 packet\n")];
-    let params = Params::of(Format::Qcif);
-    check_audits(&rt, rt.alloc(), &params, 4096, table)?;
-    let params = Params {
-        clock: Clock::Custom,
-        ..Params::of(Format::SubQcif)
-    };
-    check_audits(&rt, rt.alloc(), &params, 4096, table)?;
+    check_audits(&rt, rt.alloc(), &["audit", "log"], table)?;
+    check_audits(&rt, rt.alloc(), CUSTOM_AUDIT, table)?;
     Ok(())
 }
 
@@ -181,9 +168,7 @@ fn refused_logs(rt: HostRuntime) -> Result<(), Fail> {
             b"log refused: bad record at byte 345\n",
         ),
     ];
-    let params = Params::of(Format::SubQcif);
-    check_audits(&rt, rt.alloc(), &params, 1, table)?;
-    check_audits(&rt, rt.alloc(), &params, 4096, table)?;
+    check_audits(&rt, rt.alloc(), AUDIT, table)?;
     Ok(())
 }
 
@@ -209,7 +194,6 @@ const FAILING: &[Row<'static>] = &[
 
 #[test]
 fn each_failing_call(rt: HostRuntime) -> Result<(), Fail> {
-    let params = Params::of(Format::SubQcif);
-    check_audits(&rt, rt.alloc(), &params, 4096, FAILING)?;
+    check_audits(&rt, rt.alloc(), AUDIT, FAILING)?;
     Ok(())
 }

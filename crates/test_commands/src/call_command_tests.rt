@@ -1,16 +1,17 @@
 //! Calls over a desk in memory.
-ghost use Rattle.std.specs.Prelude.{◌≡◌, ◌<◌, true, OnOk};
+ghost use Rattle.std.specs.Prelude.{◌≡◌, true, OnOk};
 ghost use Rattle.h263_types.specs.Params.{IsParams};
 ghost use Rattle.h263_outside.specs.Desk.{NoneAttached};
 ghost use Rattle.h263_outside.specs.declared.desk.Role.TheVariants.{Video, Events, Pictures};
 ghost use Rattle.h263_outside.specs.declared.desk.Role.TheVariants.{Report};
 
-use call_command::{Both, Call, Terms, converse};
+use crate::by_words::check;
+use call_command::{Both, Terms, converse};
 use call_report::Status;
 use desk_program::attach_all;
 use h263_outside::{Desk, MemoryDesk, Role};
 use h263_planes::PictureRef;
-use h263_types::{Clock, FixedPace, Format, OutOfMemory, Params};
+use h263_types::{FixedPace, OutOfMemory, Params};
 use loss_trace::TraceFault;
 use receiver_end::Receiver;
 use sender_end::Sender;
@@ -18,47 +19,21 @@ use std::alloc::Global;
 use std::process::Abort;
 use std::test::Fail;
 use test_desks::{
-    Case, Differs, EXACT, FRAME, HEAD, HELD, NEVER, NOTHING, Parts, SHOWN_HEAD, joined, repeated,
-    run,
+    Case, EXACT, FRAME, HEAD, HELD, NEVER, NOTHING, Parts, QCIF_HEAD, SHOWN_HEAD, SHOWN_QCIF_HEAD,
+    joined, repeated,
 };
 use y4m::{Y4mFault, Y4mReader};
 
-// Bytes of a plane of luma, and of a picture, flat 64.
-const LUMA: &[u8] = &[64; 12_288];
+const CALL: &[&str] = &["call", "in", "out"];
 
-const PICTURE: &[u8] = &[64; 18_432];
+// Bytes of a plane of luma, and of a picture, flat 100.
+const LUMA: &[u8] = &[0x64; 12_288];
+
+const PICTURE: &[u8] = &[0x64; 18_432];
 
 const ONE: Parts<'static> = &[HEAD, FRAME, PICTURE];
 
 const SHOWN: Parts<'static> = &[SHOWN_HEAD, EXACT, PICTURE];
-
-// What a call over the plain trace, or over a recorded one, differs in from what is wanted.
-fn differs(
-    alloc: Global,
-    params: &Params,
-    plain: bool,
-    piece: usize,
-    case: &Case,
-) -> Result<Option<Differs>, OutOfMemory>
-    requires piece { 0 < piece }
-    requires params { IsParams params.now }
-{
-    let terms = Terms {
-        params: *params,
-        plain,
-    };
-    if plain {
-        let order = &[(Role::Video, "in"), (Role::Pictures, "out")];
-        run::<Call>(alloc, &terms, order, piece, case)
-    } else {
-        let order = &[
-            (Role::Video, "in"),
-            (Role::Events, "trace"),
-            (Role::Pictures, "out"),
-        ];
-        run::<Call>(alloc, &terms, order, piece, case)
-    }
-}
 
 // The video, how the run ends, and what it writes on both outputs.
 type Plain<'a> = (Parts<'a>, Status, Parts<'a>, &'a [u8]);
@@ -66,13 +41,9 @@ type Plain<'a> = (Parts<'a>, Status, Parts<'a>, &'a [u8]);
 fn check_plain(
     rt: &impl Abort,
     alloc: Global,
-    params: &Params,
-    piece: usize,
+    words: &[&str],
     table: &[Plain],
-) -> Result<(), OutOfMemory>
-    requires piece { 0 < piece }
-    requires params { IsParams params.now }
-{
+) -> Result<(), OutOfMemory> {
     for (video, ends, pictures, report) in table {
         let case = Case {
             video,
@@ -85,8 +56,7 @@ fn check_plain(
             video2: NOTHING,
             pictures2: NOTHING,
         };
-        let found = differs(alloc, params, true, piece, &case)?;
-        assert_eq!(rt; found, None, "where {ends:?}");
+        check(rt, alloc, words, &case)?;
     }
     Ok(())
 }
@@ -96,28 +66,22 @@ const NO_COUNTS: &[u8] = b"played 0 sent 0 exact 0 patched 0 held 0\n";
 const ONE_EXACT: &[u8] = b"0 exact intra\nplayed 1 sent 1 exact 1 patched 0 held 0\n";
 
 #[test]
-fn the_head_alone_and_one_flat_picture(rt: HostRuntime) -> Result<(), Fail> {
-    let params = Params::of(Format::Cif);
-    let head: Plain = (&[HEAD], Status::Ok, &[SHOWN_HEAD], NO_COUNTS);
-    check_plain(&rt, rt.alloc(), &params, 1, &[head])?;
-    let flat: Plain = (ONE, Status::Ok, SHOWN, ONE_EXACT);
-    check_plain(&rt, rt.alloc(), &params, 4096, &[head, flat])?;
+fn a_head_alone_and_one_flat_picture(rt: HostRuntime) -> Result<(), Fail> {
+    let table: &[Plain] = &[
+        (&[HEAD], Status::Ok, &[SHOWN_HEAD], NO_COUNTS),
+        (&[QCIF_HEAD], Status::Ok, &[SHOWN_QCIF_HEAD], NO_COUNTS),
+        (ONE, Status::Ok, SHOWN, ONE_EXACT),
+    ];
+    check_plain(&rt, rt.alloc(), CALL, table)?;
     Ok(())
 }
 
-fn custom() -> Params
-    ensures { IsParams result }
-{
-    Params {
-        clock: Clock::Custom,
-        ..Params::of(Format::SubQcif)
-    }
-}
+const CUSTOM_CALL: &[&str] = &["call", "in", "out", "--clock", "custom"];
 
 #[test]
 fn one_flat_picture_by_the_custom_clock(rt: HostRuntime) -> Result<(), Fail> {
     let flat: Plain = (ONE, Status::Ok, SHOWN, ONE_EXACT);
-    check_plain(&rt, rt.alloc(), &custom(), 4096, &[flat])?;
+    check_plain(&rt, rt.alloc(), CUSTOM_CALL, &[flat])?;
     Ok(())
 }
 
@@ -141,9 +105,8 @@ played 3 sent 3 exact 3 patched 0 held 0\n";
 // INTRADC is from 1 to 254.
 #[test]
 fn three_flat_pictures(rt: HostRuntime) -> Result<(), Fail> {
-    let params = Params::of(Format::SubQcif);
     let three: Plain = (THREE, Status::Ok, THREE_SHOWN, THREE_EXACT);
-    check_plain(&rt, rt.alloc(), &params, 4096, &[three])?;
+    check_plain(&rt, rt.alloc(), CALL, &[three])?;
     Ok(())
 }
 
@@ -156,7 +119,6 @@ const NOT_Y4M: &[u8] = b"video refused: not y4m at byte 0\n";
 
 #[test]
 fn refused_videos(rt: HostRuntime) -> Result<(), Fail> {
-    let params = Params::of(Format::SubQcif);
     let short = Status::VideoRefused {
         fault: Y4mFault::ShortFrame { at: 30_751 },
     };
@@ -167,17 +129,18 @@ fn refused_videos(rt: HostRuntime) -> Result<(), Fail> {
         (CUT_FRAME, short, SHOWN, CUT_REPORT),
         (&[b"RIFF"], other, NOTHING, NOT_Y4M),
     ];
-    check_plain(&rt, rt.alloc(), &params, 4096, table)?;
+    check_plain(&rt, rt.alloc(), CALL, table)?;
     Ok(())
 }
 
 // ---- over a recorded trace
 
+const TRACED_CALL: &[&str] = &["call", "in", "out", "--trace", "lines"];
+
 // The video, the trace, how the run ends, and what it writes on both outputs.
 type Traced<'a> = (Parts<'a>, &'a [u8], Status, Parts<'a>, &'a [u8]);
 
 fn check_traced(rt: &impl Abort, alloc: Global, table: &[Traced]) -> Result<(), OutOfMemory> {
-    let params = Params::of(Format::SubQcif);
     for (video, trace, ends, pictures, report) in table {
         let case = Case {
             video,
@@ -190,10 +153,7 @@ fn check_traced(rt: &impl Abort, alloc: Global, table: &[Traced]) -> Result<(), 
             video2: NOTHING,
             pictures2: NOTHING,
         };
-        for piece in [1, 4096] {
-            let found = differs(alloc, &params, false, piece, &case)?;
-            assert_eq!(rt; found, None, "where {ends:?}");
-        }
+        check(rt, alloc, TRACED_CALL, &case)?;
     }
     Ok(())
 }
@@ -314,10 +274,9 @@ type Stretch<'a> = (u64, u64, Status, Parts<'a>, Parts<'a>);
 fn check_failing(
     rt: &impl Abort,
     alloc: Global,
-    plain: bool,
+    words: &[&str],
     table: &[Stretch],
 ) -> Result<(), OutOfMemory> {
-    let params = Params::of(Format::SubQcif);
     for (first, after, ends, pictures, report) in table {
         for failing in *first..*after {
             let case = Case {
@@ -331,8 +290,7 @@ fn check_failing(
                 video2: NOTHING,
                 pictures2: NOTHING,
             };
-            let found = differs(alloc, &params, plain, 4096, &case)?;
-            assert_eq!(rt; found, None, "where call {failing} fails");
+            check(rt, alloc, words, &case)?;
         }
     }
     Ok(())
@@ -362,7 +320,7 @@ const NO_EVENTS_LINE: Parts<'static> = &[b"cannot open events\n"];
 const NO_PICTURES_LINE: Parts<'static> = &[b"cannot open pictures\n"];
 
 // One of the pieces in which a picture is written.
-const PIECE: &[u8] = &[64; 4096];
+const PIECE: &[u8] = &[0x64; 4096];
 
 const LINE_ALONE: Parts<'static> = &[SHOWN_HEAD, EXACT];
 
@@ -421,25 +379,25 @@ const TRACED: &[Stretch] = &[
 // For each call up to the first that isn't made.
 #[test]
 fn each_call_of_a_plain_call(rt: HostRuntime) -> Result<(), Fail> {
-    check_failing(&rt, rt.alloc(), true, PLAIN)?;
+    check_failing(&rt, rt.alloc(), CALL, PLAIN)?;
     Ok(())
 }
 
 #[test]
 fn each_call_of_a_traced_call(rt: HostRuntime) -> Result<(), Fail> {
-    check_failing(&rt, rt.alloc(), false, TRACED)?;
+    check_failing(&rt, rt.alloc(), TRACED_CALL, TRACED)?;
     Ok(())
 }
 
 // ---- with ends that are lent
 
-// The receiver hears the packets of another sender, which codes a picture flat 64.
+// The receiver hears the packets of another sender, which codes a picture flat 100.
 fn hear_another(alloc: Global, params: &Params, receiver: &mut Receiver) -> Result<(), OutOfMemory>
     requires { IsParams params.now }
     ensures params { receiver.new.params ≡ receiver.old.params }
     ensures played { receiver.new.played ≡ receiver.old.played }
 {
-    let frame = vec![in alloc; 64; params.format.size() as usize]?;
+    let frame = vec![in alloc; 0x64; params.format.size() as usize]?;
     let pace = FixedPace {
         quant: params.quant,
     };

@@ -1,17 +1,15 @@
 //! Calls of two parties over a desk in memory.
-ghost use Rattle.std.specs.Prelude.{◌<◌};
-ghost use Rattle.h263_types.specs.Params.{IsParams};
-
+use crate::by_words::check;
 use call_report::Status;
-use duplex_command::Duplex;
 use h263_outside::Role;
-use h263_types::{Clock, Format, OutOfMemory, Params};
+use h263_types::OutOfMemory;
 use loss_trace::TraceFault;
 use std::alloc::Global;
 use std::process::Abort;
 use std::test::Fail;
 use test_desks::{
-    BLANK, Case, EXACT, FRAME, HEAD, HELD, NEVER, NOTHING, Parts, SHOWN_HEAD, joined, run,
+    BLANK, Case, EXACT, FRAME, HEAD, HELD, NEVER, NOTHING, Parts, QCIF_HEAD, SHOWN_HEAD,
+    SHOWN_QCIF_HEAD, joined,
 };
 use y4m::Y4mFault;
 
@@ -32,29 +30,21 @@ const SHOWN: Parts<'static> = &[SHOWN_HEAD, EXACT, PICTURE];
 
 const HELD_SHOWN: Parts<'static> = &[SHOWN_HEAD, HELD, GREY];
 
-// Runs a call of two parties, and compares how it ends and all that it writes.
-fn check(
-    rt: &impl Abort,
-    alloc: Global,
-    params: &Params,
-    piece: usize,
-    case: &Case,
-) -> Result<(), OutOfMemory>
-    requires piece { 0 < piece }
-    requires params { IsParams params.now }
-{
-    let order = &[
-        (Role::Video, "in1"),
-        (Role::Video2, "in2"),
-        (Role::Events, "trace"),
-        (Role::Pictures, "out1"),
-        (Role::Pictures2, "out2"),
-    ];
-    let found = run::<Duplex>(alloc, params, order, piece, case)?;
-    let (ends, failing) = (case.ends, case.failing);
-    assert_eq!(rt; found, None, "where call {failing} fails, {ends:?}");
-    Ok(())
-}
+const DUPLEX: &[&str] = &["duplex", "in1", "in2", "out1", "out2", "--trace", "lines"];
+
+const CUSTOM: &[&str] = &[
+    "duplex",
+    "in1",
+    "in2",
+    "out1",
+    "out2",
+    "--trace",
+    "lines",
+    "--clock",
+    "custom",
+    "--messages",
+    "2",
+];
 
 const TWO_FLAT: Parts<'static> = &[HEAD, FRAME, FLAT, FRAME, FLAT];
 
@@ -73,19 +63,15 @@ const WORKED: Case<'static> = Case {
     ..BLANK
 };
 
-// The head of a video in QCIF, that of the video that is shown, and a picture.
-const HEAD_QCIF: &[u8] = b"YUV4MPEG2 W176 H144\n";
-
-const SHOWN_QCIF: &[u8] = b"YUV4MPEG2 W176 H144 F30000:1001 Ip C420jpeg\n";
-
+// A picture in QCIF.
 const FLAT_QCIF: &[u8] = &[100; 38_016];
 
 // The parties send in different formats; either may be the greater one.
 const FORMATS: Case<'static> = Case {
-    video: &[HEAD_QCIF, FRAME, FLAT_QCIF],
+    video: &[QCIF_HEAD, FRAME, FLAT_QCIF],
     video2: ONE,
     events: &[b"a S\nb S\n\na D 0.*\nb D 0.*\nb P\na P"],
-    pictures: &[SHOWN_QCIF, EXACT, FLAT_QCIF],
+    pictures: &[SHOWN_QCIF_HEAD, EXACT, FLAT_QCIF],
     pictures2: SHOWN,
     report: &[
         b"b 0 exact intra\na 0 exact intra\n",
@@ -97,25 +83,17 @@ const FORMATS: Case<'static> = Case {
 
 const OTHER_FORMATS: Case<'static> = Case {
     video: ONE,
-    video2: &[HEAD_QCIF, FRAME, FLAT_QCIF],
+    video2: &[QCIF_HEAD, FRAME, FLAT_QCIF],
     pictures: SHOWN,
-    pictures2: &[SHOWN_QCIF, EXACT, FLAT_QCIF],
+    pictures2: &[SHOWN_QCIF_HEAD, EXACT, FLAT_QCIF],
     ..FORMATS
 };
 
 #[test]
 fn two_flat_videos(rt: HostRuntime) -> Result<(), Fail> {
-    let params = Params::of(Format::Qcif);
-    let custom = Params {
-        clock: Clock::Custom,
-        messages: 2,
-        ..params
-    };
     for case in [WORKED, FORMATS, OTHER_FORMATS] {
-        for piece in [1, 4096] {
-            check(&rt, rt.alloc(), &params, piece, &case)?;
-        }
-        check(&rt, rt.alloc(), &custom, 4096, &case)?;
+        check(&rt, rt.alloc(), DUPLEX, &case)?;
+        check(&rt, rt.alloc(), CUSTOM, &case)?;
     }
     Ok(())
 }
@@ -145,7 +123,6 @@ const NO_LINES: [&[u8]; 17] = [
 
 #[test]
 fn lines_that_are_none(rt: HostRuntime) -> Result<(), Fail> {
-    let params = Params::of(Format::Qcif);
     for line in &NO_LINES {
         let fault = TraceFault::BadLine { line: 1 };
         let case = Case {
@@ -158,7 +135,7 @@ fn lines_that_are_none(rt: HostRuntime) -> Result<(), Fail> {
             report: &[b"trace refused: bad line at line 1\n"],
             ..BLANK
         };
-        check(&rt, rt.alloc(), &params, 4096, &case)?;
+        check(&rt, rt.alloc(), DUPLEX, &case)?;
     }
     Ok(())
 }
@@ -195,7 +172,6 @@ const REFUSED: [(&[u8], Status, &[u8]); 8] = [
 
 #[test]
 fn refused_lines_of_each_party(rt: HostRuntime) -> Result<(), Fail> {
-    let params = Params::of(Format::Qcif);
     for (trace, ends, report) in &REFUSED {
         let case = Case {
             video: ONE,
@@ -207,7 +183,7 @@ fn refused_lines_of_each_party(rt: HostRuntime) -> Result<(), Fail> {
             report: &[*report],
             ..BLANK
         };
-        check(&rt, rt.alloc(), &params, 4096, &case)?;
+        check(&rt, rt.alloc(), DUPLEX, &case)?;
     }
     Ok(())
 }
@@ -274,9 +250,8 @@ const REFUSED_VIDEOS: [Case<'static>; 5] = [
 
 #[test]
 fn refused_videos(rt: HostRuntime) -> Result<(), Fail> {
-    let params = Params::of(Format::Qcif);
     for case in &REFUSED_VIDEOS {
-        check(&rt, rt.alloc(), &params, 4096, case)?;
+        check(&rt, rt.alloc(), DUPLEX, case)?;
     }
     Ok(())
 }
@@ -356,7 +331,6 @@ fn check_cut(
     cut: &[u8],
     before: &Before,
 ) -> Result<(), OutOfMemory> {
-    let params = Params::of(Format::Qcif);
     let mut trace = before.trace.clone()?;
     trace.extend_from_slice(cut)?;
     let mut report = before.report.clone()?;
@@ -380,7 +354,7 @@ fn check_cut(
         wire: NOTHING,
         report: &[&report],
     };
-    check(rt, alloc, &params, 4096, &case)
+    check(rt, alloc, DUPLEX, &case)
 }
 
 // Cuts each line before each of its bytes but the last, which is its newline.
@@ -576,7 +550,6 @@ const FAILING: &[Failing] = &[
 // The first and the last of each row of reads, up to the first call that isn't made.
 #[test]
 fn each_call_of_a_duplex_call(rt: HostRuntime) -> Result<(), Fail> {
-    let params = Params::of(Format::Qcif);
     for (calls, ends, pictures, pictures2, report) in FAILING {
         for failing in *calls {
             let case = Case {
@@ -590,7 +563,7 @@ fn each_call_of_a_duplex_call(rt: HostRuntime) -> Result<(), Fail> {
                 report,
                 ..BLANK
             };
-            check(&rt, rt.alloc(), &params, 4096, &case)?;
+            check(&rt, rt.alloc(), DUPLEX, &case)?;
         }
     }
     Ok(())

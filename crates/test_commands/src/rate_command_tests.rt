@@ -1,15 +1,13 @@
 //! Runs of the meter over a desk in memory.
-ghost use Rattle.std.specs.Prelude.{◌<◌};
-
+use crate::by_words::check;
 use call_report::Status;
 use event_logs::LogFault;
 use h263_outside::Role;
 use h263_types::OutOfMemory;
-use rate_command::{Bucket, Rate};
 use std::alloc::Global;
 use std::process::Abort;
 use std::test::Fail;
-use test_desks::{Case, NEVER, NOTHING, Parts, run};
+use test_desks::{Case, NEVER, NOTHING, Parts};
 
 // The heads of the entries of 342 and of 31 bytes, and of a play.
 const OF_342: &[u8] = b"K\x01\x56";
@@ -40,20 +38,9 @@ const FIRST_LINE: &[u8] = b"0 342 242\n";
 // The log, the call that fails, how the run ends, and what it writes on the report.
 type Row<'a> = (Parts<'a>, u64, Status, &'a [u8]);
 
-// Runs of `rate log`.
-fn check_rates(
-    rt: &impl Abort,
-    alloc: Global,
-    piece: usize,
-    table: &[Row],
-) -> Result<(), OutOfMemory>
-    requires { 0 < piece }
-{
-    let bucket = Bucket {
-        target: 100,
-        bucket: 200,
-    };
-    let order = &[(Role::Events, "log")];
+const RATE: &[&str] = &["rate", "log", "--target", "100", "--bucket=200"];
+
+fn check_rates(rt: &impl Abort, alloc: Global, table: &[Row]) -> Result<(), OutOfMemory> {
     for (log, failing, ends, report) in table {
         let case = Case {
             video: NOTHING,
@@ -66,8 +53,7 @@ fn check_rates(
             pictures2: NOTHING,
             wire: NOTHING,
         };
-        let found = run::<Rate>(alloc, &bucket, order, piece, &case)?;
-        assert_eq!(rt; found, None, "where call {failing} fails");
+        check(rt, alloc, RATE, &case)?;
     }
     Ok(())
 }
@@ -124,8 +110,7 @@ fn two_flat_pictures_and_other_logs(rt: HostRuntime) -> Result<(), Fail> {
             b"log refused: bad record at byte 0\n",
         ),
     ];
-    check_rates(&rt, rt.alloc(), 1, table)?;
-    check_rates(&rt, rt.alloc(), 4096, table)?;
+    check_rates(&rt, rt.alloc(), table)?;
     Ok(())
 }
 
@@ -151,6 +136,6 @@ const FAILING: &[Row<'static>] = &[
 
 #[test]
 fn each_failing_call(rt: HostRuntime) -> Result<(), Fail> {
-    check_rates(&rt, rt.alloc(), 4096, FAILING)?;
+    check_rates(&rt, rt.alloc(), FAILING)?;
     Ok(())
 }

@@ -1,16 +1,13 @@
 //! Runs of the receiver over a desk in memory, with a joiner and without one.
-ghost use Rattle.std.specs.Prelude.{◌<◌};
-ghost use Rattle.h263_types.specs.Params.{IsParams};
-
+use crate::by_words::check;
 use call_report::Status;
 use event_logs::LogFault;
 use h263_outside::Role;
-use h263_types::{Clock, Format, OutOfMemory, Params};
-use recv_command::{Join, Recv};
+use h263_types::OutOfMemory;
 use std::alloc::Global;
 use std::process::Abort;
 use std::test::Fail;
-use test_desks::{Case, EXACT, HELD, NEVER, NOTHING, Parts, SHOWN_HEAD, run};
+use test_desks::{Case, EXACT, HELD, NEVER, NOTHING, Parts, SHOWN_HEAD};
 use test_fixtures::codec::FLAT_PACKET;
 
 // The packet of picture 0, flat 100, of sub-QCIF.
@@ -39,23 +36,22 @@ const COUNTED: &[u8] =
 // the report.
 type Row<'a> = (Parts<'a>, u64, Status, Parts<'a>, &'a [u8], &'a [u8]);
 
-// Runs of `recv log out wire`, with `--join` or without it.
+const RECV: &[&str] = &["recv", "log", "out", "wire", "--format", "sub-qcif"];
+
+const CUSTOM: &[&str] = &[
+    "recv", "--clock", "custom", "log", "out", "wire", "--format", "sub-qcif",
+];
+
+const JOINING: &[&str] = &[
+    "recv", "log", "--join", "out", "wire", "--format", "sub-qcif",
+];
+
 fn check_receivers(
     rt: &impl Abort,
     alloc: Global,
-    params: &Params,
-    join: bool,
-    piece: usize,
+    words: &[&str],
     table: &[Row],
-) -> Result<(), OutOfMemory>
-    requires piece { 0 < piece }
-    requires params { IsParams params.now }
-{
-    let order = &[
-        (Role::Events, "log"),
-        (Role::Pictures, "out"),
-        (Role::Wire, "wire"),
-    ];
+) -> Result<(), OutOfMemory> {
     for (log, failing, ends, pictures, wire, report) in table {
         let case = Case {
             events: log,
@@ -68,19 +64,13 @@ fn check_receivers(
             video2: NOTHING,
             pictures2: NOTHING,
         };
-        let found = if join {
-            run::<Join>(alloc, params, order, piece, &case)?
-        } else {
-            run::<Recv>(alloc, params, order, piece, &case)?
-        };
-        assert_eq!(rt; found, None, "where call {failing} fails");
+        check(rt, alloc, words, &case)?;
     }
     Ok(())
 }
 
 #[test]
 fn a_flat_picture_and_a_cut_log(rt: HostRuntime) -> Result<(), Fail> {
-    let params = Params::of(Format::SubQcif);
     let cut = Status::LogRefused {
         fault: LogFault::BadRecord { at: 0 },
     };
@@ -102,17 +92,12 @@ fn a_flat_picture_and_a_cut_log(rt: HostRuntime) -> Result<(), Fail> {
             COUNTED,
         ),
     ];
-    check_receivers(&rt, rt.alloc(), &params, false, 1, table)?;
-    check_receivers(&rt, rt.alloc(), &params, false, 4096, table)?;
+    check_receivers(&rt, rt.alloc(), RECV, table)?;
     Ok(())
 }
 
 #[test]
 fn a_packet_of_the_other_clock(rt: HostRuntime) -> Result<(), Fail> {
-    let params = Params {
-        clock: Clock::Custom,
-        ..Params::of(Format::SubQcif)
-    };
     let table: &[Row] = &[(
         ONE,
         NEVER,
@@ -121,7 +106,7 @@ fn a_packet_of_the_other_clock(rt: HostRuntime) -> Result<(), Fail> {
         NACK,
         b"0 held\nplayed 1 exact 0 patched 0 held 1 taken 0 late 0 early 0 repeat 0 refused 1\n",
     )];
-    check_receivers(&rt, rt.alloc(), &params, false, 4096, table)?;
+    check_receivers(&rt, rt.alloc(), CUSTOM, table)?;
     Ok(())
 }
 
@@ -208,8 +193,7 @@ const FAILING: &[Row<'static>] = &[
 
 #[test]
 fn each_failing_call(rt: HostRuntime) -> Result<(), Fail> {
-    let params = Params::of(Format::SubQcif);
-    check_receivers(&rt, rt.alloc(), &params, false, 4096, FAILING)?;
+    check_receivers(&rt, rt.alloc(), RECV, FAILING)?;
     Ok(())
 }
 
@@ -231,7 +215,6 @@ const JOINED: &[u8] = b"0 exact\nheld 2 old 0 again 0 refused 0 joined 1\n\
 // The packet's coded bytes in two packets, of which the second comes first.
 #[test]
 fn two_packets_of_a_picture(rt: HostRuntime) -> Result<(), Fail> {
-    let params = Params::of(Format::SubQcif);
     let log: Parts = &[
         OF_256,
         FOLLOWING,
@@ -243,8 +226,7 @@ fn two_packets_of_a_picture(rt: HostRuntime) -> Result<(), Fail> {
         PLAY,
     ];
     let joined: &[Row] = &[(log, NEVER, Status::Ok, SHOWN, ACK, JOINED)];
-    check_receivers(&rt, rt.alloc(), &params, true, 1, joined)?;
-    check_receivers(&rt, rt.alloc(), &params, true, 4096, joined)?;
+    check_receivers(&rt, rt.alloc(), JOINING, joined)?;
     // Without a joiner each of them is refused.
     let refused: &[Row] = &[(
         log,
@@ -254,7 +236,7 @@ fn two_packets_of_a_picture(rt: HostRuntime) -> Result<(), Fail> {
         NACK,
         b"0 held\nplayed 1 exact 0 patched 0 held 1 taken 0 late 0 early 0 repeat 0 refused 2\n",
     )];
-    check_receivers(&rt, rt.alloc(), &params, false, 4096, refused)?;
+    check_receivers(&rt, rt.alloc(), RECV, refused)?;
     Ok(())
 }
 
@@ -262,7 +244,6 @@ fn two_packets_of_a_picture(rt: HostRuntime) -> Result<(), Fail> {
 // log that is cut, of which no count is told.
 #[test]
 fn packets_that_are_not_joined(rt: HostRuntime) -> Result<(), Fail> {
-    let params = Params::of(Format::SubQcif);
     let table: &[Row] = &[
         (
             &[
@@ -294,8 +275,7 @@ fn packets_that_are_not_joined(rt: HostRuntime) -> Result<(), Fail> {
             b"log refused: bad record at byte 0\n",
         ),
     ];
-    check_receivers(&rt, rt.alloc(), &params, true, 1, table)?;
-    check_receivers(&rt, rt.alloc(), &params, true, 4096, table)?;
+    check_receivers(&rt, rt.alloc(), JOINING, table)?;
     Ok(())
 }
 
@@ -360,7 +340,6 @@ const FAILING_JOINED: &[Row<'static>] = &[
 
 #[test]
 fn each_failing_call_with_a_joiner(rt: HostRuntime) -> Result<(), Fail> {
-    let params = Params::of(Format::SubQcif);
-    check_receivers(&rt, rt.alloc(), &params, true, 4096, FAILING_JOINED)?;
+    check_receivers(&rt, rt.alloc(), JOINING, FAILING_JOINED)?;
     Ok(())
 }

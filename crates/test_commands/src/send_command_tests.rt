@@ -1,15 +1,13 @@
 //! Runs of the sender over a desk in memory.
-ghost use Rattle.std.specs.Prelude.{◌<◌, ◌≤◌, IfSome};
-
+use crate::by_words::check;
 use call_report::Status;
 use event_logs::LogFault;
 use h263_outside::Role;
-use h263_types::{Format, OutOfMemory, Params};
-use send_command::{Send, Sending};
+use h263_types::OutOfMemory;
 use std::alloc::Global;
 use std::process::Abort;
 use std::test::Fail;
-use test_desks::{BLANK, Case, Differs, FRAME, HEAD, NEVER, NOTHING, Parts, run};
+use test_desks::{BLANK, Case, FRAME, HEAD, NEVER, NOTHING, Parts};
 use test_fixtures::codec::{FLAT_PACKET, SKIPPED_PACKET};
 use y4m::Y4mFault;
 
@@ -51,40 +49,14 @@ const CUT: &[u8] = b"B\x00\x02\xC0\x04";
 // The video and the log, the call that fails, how the run ends, and what it writes on both outputs.
 type Row<'a> = (Parts<'a>, Parts<'a>, u64, Status, Parts<'a>, &'a [u8]);
 
-// What a run of `send in log wire` differs in from what is wanted.
-fn differs(
-    alloc: Global,
-    piece: usize,
-    target: Option<u32>,
-    case: &Case,
-) -> Result<Option<Differs>, OutOfMemory>
-    requires piece { 0 < piece }
-    requires some { IfSome target (λ n. 1 ≤ n) }
-    requires few { IfSome target (λ n. n ≤ 999999) }
-{
-    let sending = Sending {
-        params: Params::of(Format::Qcif),
-        target,
-    };
-    let order = &[
-        (Role::Video, "in"),
-        (Role::Events, "log"),
-        (Role::Wire, "wire"),
-    ];
-    run::<Send>(alloc, &sending, order, piece, case)
-}
+const SEND: &[&str] = &["send", "in", "log", "wire"];
 
 fn check_senders(
     rt: &impl Abort,
     alloc: Global,
-    piece: usize,
-    target: Option<u32>,
+    words: &[&str],
     table: &[Row],
-) -> Result<(), OutOfMemory>
-    requires piece { 0 < piece }
-    requires some { IfSome target (λ n. 1 ≤ n) }
-    requires few { IfSome target (λ n. n ≤ 999999) }
-{
+) -> Result<(), OutOfMemory> {
     for (video, log, failing, ends, wire, report) in table {
         let case = Case {
             video,
@@ -97,8 +69,7 @@ fn check_senders(
             pictures: NOTHING,
             pictures2: NOTHING,
         };
-        let found = differs(alloc, piece, target, &case)?;
-        assert_eq!(rt; found, None, "where {ends:?}");
+        check(rt, alloc, words, &case)?;
     }
     Ok(())
 }
@@ -112,8 +83,7 @@ const FLAT: &[Row] = &[(TWO, ACKNOWLEDGED, NEVER, Status::Ok, BOTH, BOTH_LINES)]
 
 #[test]
 fn second_of_two_flat_pictures(rt: HostRuntime) -> Result<(), Fail> {
-    check_senders(&rt, rt.alloc(), 1, None, FLAT)?;
-    check_senders(&rt, rt.alloc(), 4096, None, FLAT)?;
+    check_senders(&rt, rt.alloc(), SEND, FLAT)?;
     Ok(())
 }
 
@@ -133,11 +103,15 @@ const FOLLOWED: &[Row] = &[(
     BOTH_LINES,
 )];
 
+const TARGET_100: &[&str] = &["send", "in", "log", "wire", "--target", "100"];
+
+const TARGET_342: &[&str] = &["send", "in", "log", "wire", "--target", "342"];
+
 // A target that is kept leaves the quantiser as it is.
 #[test]
 fn a_target_is_followed(rt: HostRuntime) -> Result<(), Fail> {
-    check_senders(&rt, rt.alloc(), 4096, Some(100), FOLLOWED)?;
-    check_senders(&rt, rt.alloc(), 4096, Some(342), FLAT)?;
+    check_senders(&rt, rt.alloc(), TARGET_100, FOLLOWED)?;
+    check_senders(&rt, rt.alloc(), TARGET_342, FLAT)?;
     Ok(())
 }
 
@@ -220,7 +194,7 @@ const OTHER_LOGS: &[Row] = &[
 
 #[test]
 fn other_logs(rt: HostRuntime) -> Result<(), Fail> {
-    check_senders(&rt, rt.alloc(), 4096, None, OTHER_LOGS)?;
+    check_senders(&rt, rt.alloc(), SEND, OTHER_LOGS)?;
     Ok(())
 }
 
@@ -274,8 +248,7 @@ fn each_failing_call(rt: HostRuntime) -> Result<(), Fail> {
                 report: &[*report],
                 ..BLANK
             };
-            let found = differs(rt.alloc(), 4096, None, &case)?;
-            assert_eq!(rt; found, None, "where call {failing} fails");
+            check(&rt, rt.alloc(), SEND, &case)?;
         }
     }
     Ok(())
@@ -319,6 +292,6 @@ const UNATTACHED: &[Row] = &[
 
 #[test]
 fn failing_attaches(rt: HostRuntime) -> Result<(), Fail> {
-    check_senders(&rt, rt.alloc(), 4096, None, UNATTACHED)?;
+    check_senders(&rt, rt.alloc(), SEND, UNATTACHED)?;
     Ok(())
 }

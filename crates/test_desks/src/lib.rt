@@ -1,15 +1,12 @@
-//! Texts that are joined, and desks in memory: with a role attached, and with a command run over
-//! them. Nothing of it is shipped.
+//! Texts that are joined, and desks in memory: with a role attached, and with the inputs of a run.
+//! Nothing of it is shipped.
 #![tactic(auto)]
 
-ghost use Rattle.std.specs.Prelude.{◌≡◌, ◌∷◌, [], ◌<◌, false, true, IsTrue, IfOk};
-ghost use Rattle.h263_outside.specs.Desk.{Outside, IsInput, NoneAttached, with_role};
+ghost use Rattle.std.specs.Prelude.{◌≡◌, ◌<◌, true, IfOk};
+ghost use Rattle.h263_outside.specs.Desk.{IsInput, NoneAttached};
 ghost use Rattle.h263_outside.specs.Memory.{memory_outside};
-ghost use Rattle.h263_outside.specs.declared.desk.Role.TheVariants.{Report};
-ghost use Rattle.desk_program.specs.Attached.{AreAttached, are_free, names};
 
 use call_report::Status;
-use desk_program::{Acts, attach_role, perform};
 use h263_outside::{Desk, MemoryDesk, Role};
 use h263_types::OutOfMemory;
 use std::alloc::Global;
@@ -18,6 +15,11 @@ use std::alloc::Global;
 pub const HEAD: &[u8] = b"YUV4MPEG2 W128 H96\n";
 
 pub const SHOWN_HEAD: &[u8] = b"YUV4MPEG2 W128 H96 F30000:1001 Ip C420jpeg\n";
+
+/// The same in QCIF.
+pub const QCIF_HEAD: &[u8] = b"YUV4MPEG2 W176 H144\n";
+
+pub const SHOWN_QCIF_HEAD: &[u8] = b"YUV4MPEG2 W176 H144 F30000:1001 Ip C420jpeg\n";
 
 /// The line of a frame, and of a picture that is shown exact or held.
 pub const FRAME: &[u8] = b"FRAME\n";
@@ -140,7 +142,7 @@ pub fn desk_of(alloc: Global, piece: usize, case: &Case) -> Result<MemoryDesk, O
     requires { 0 < piece }
     ensures { IfOk result (λ desk. NoneAttached (memory_outside desk).attached) }
 {
-    let mut desk = MemoryDesk::new(alloc, piece, 200_000)?;
+    let mut desk = MemoryDesk::new(alloc, piece, 65_536)?;
     desk.put(Role::Video, &joined(alloc, case.video)?)?;
     desk.put(Role::Video2, &joined(alloc, case.video2)?)?;
     desk.put(Role::Events, &joined(alloc, case.events)?)?;
@@ -174,59 +176,4 @@ pub fn difference(
         return Ok(Some(Differs::Report));
     }
     Ok(None)
-}
-
-// How a command ends over a desk on which nothing is attached: its report is attached first.
-fn performed<D: Desk, A: Acts>(
-    alloc: Global,
-    setup: &A::Setup,
-    order: &[(Role, &str)],
-    desk: &mut D,
-) -> Status
-    requires none { NoneAttached (D.outside desk.old).attached }
-    requires free { IsTrue (are_free (with_role (λ _. false) Report true) (names order.now)) }
-    requires opens { (now : Outside) → AreAttached ((Report, []) ∷ names order.now) now
-        → A.opens setup.now now.attached }
-{
-    if let Err(status) = attach_role(desk, Role::Report, "") {
-        return status;
-    }
-    perform::<D, A>(alloc, setup, order, desk)
-}
-
-// What a run of the command differs in from what was wanted.
-fn run_once<A: Acts>(
-    alloc: Global,
-    setup: &A::Setup,
-    order: &[(Role, &str)],
-    piece: usize,
-    case: &Case,
-) -> Result<Option<Differs>, OutOfMemory>
-    requires piece { 0 < piece }
-    requires free { IsTrue (are_free (with_role (λ _. false) Report true) (names order.now)) }
-    requires opens { (now : Outside) → AreAttached ((Report, []) ∷ names order.now) now
-        → A.opens setup.now now.attached }
-{
-    let mut desk = desk_of(alloc, piece, case)?;
-    let ends = performed::<MemoryDesk, A>(alloc, setup, order, &mut desk);
-    difference(alloc, &desk, ends, case)
-}
-
-/// The same. A run in which memory ran out is taken again, and is then to reach its end.
-pub fn run<A: Acts>(
-    alloc: Global,
-    setup: &A::Setup,
-    order: &[(Role, &str)],
-    piece: usize,
-    case: &Case,
-) -> Result<Option<Differs>, OutOfMemory>
-    requires piece { 0 < piece }
-    requires free { IsTrue (are_free (with_role (λ _. false) Report true) (names order.now)) }
-    requires opens { (now : Outside) → AreAttached ((Report, []) ∷ names order.now) now
-        → A.opens setup.now now.attached }
-{
-    match run_once::<A>(alloc, setup, order, piece, case) {
-        Ok(found) => Ok(found),
-        Err(OutOfMemory) => run_once::<A>(alloc, setup, order, piece, case),
-    }
 }

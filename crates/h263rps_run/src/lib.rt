@@ -1,0 +1,17 @@
+//! The whole program over any desk.
+//!
+//! [`run`] reads the words, and runs the command that they ask for. [`code_for`] does it for a
+//! process: its words are all arguments but the first, and what it answers is how the process is to
+//! end. The program `h263rps` is a `main` that hands its arguments and the host's desk to it.
+//!
+//! `specs/Output` says what the words ask for and what a command makes of its inputs, and
+//! `specs/Promises` what is promised of a run.
+#![tactic(auto)]
+
+mod commands;
+mod process;
+mod program;
+
+pub use call_report::Status;
+pub use process::code_for;
+pub use program::run;
