@@ -1,4 +1,4 @@
-use Rattle.std.proofs.Common.{Bool, List, [], ap, ◌∙◌, arith}
+use Rattle.std.proofs.Common.{Bool, [], ap, ◌∙◌, arith}
 use Rattle.h263_outside.specs.declared.desk.Role.{Role}
 use Rattle.h263_outside.specs.declared.desk.Role.TheVariants.{Pictures, Report, Wire}
 use Rattle.recv_command.proofs.join.JoiningLogCommand.other.Goals as goal

@@ -4,7 +4,7 @@ use Rattle.h263_outside.specs.declared.desk.Role.TheVariants.{Pictures, Report, 
 use Rattle.h263_types.specs.declared.format.Format.{Format}
 use Rattle.h263_types.specs.declared.params.Params.{Params}
 use Rattle.desk_program.specs.Texts.{no_texts}
-use Rattle.payload_join.specs.Run.{given_next, took_next}
+use Rattle.payload_join.specs.Run.{given_next}
 use Rattle.recv_command.specs.declared.join_tally.JoinTally.{JoinTally}
 use Rattle.recv_command.specs.Join.{given_to, hears}
 use Rattle.recv_command.specs.JoinTally.{packets_of, with_joined, with_took}
