@@ -9,6 +9,7 @@ ghost use Rattle.h263_planes.specs.References.{HasReferenceOnlyInP};
 ghost use Rattle.picture_header.specs.Ranges.{IsHeader};
 ghost use Rattle.packet_cutter.specs.Cutting.{format_of, limit_of};
 
+use h263_bits::BitReader;
 use h263_planes::{PictureMut, PictureRef};
 use h263_types::{Format, OutOfMemory, Params};
 use packet_cutter::Cutter;
@@ -17,7 +18,7 @@ use picture_header::Header;
 use std::alloc::Global;
 use std::process::Abort;
 use std::test::Fail;
-use test_fixtures::codec::{INTER, INTRA, PARAMS, SIZE, SKIPPED_PACKET};
+use test_fixtures::codec::{FLAT_PACKET, INTER, INTRA, PARAMS, SIZE, SKIPPED_PACKET};
 
 // Picture 2, which refers to picture 1.
 const THIRD: Header = Header {
@@ -26,6 +27,30 @@ const THIRD: Header = Header {
     trp: Some(1),
     ..INTER
 };
+
+// Codes a picture whose samples are all the same.
+fn code_flat(
+    sample: u8,
+    header: &Header,
+    before: Option<PictureRef<'_>>,
+    cutter: &mut Cutter,
+    out: &mut [u8; SIZE],
+)
+    requires number { header.now.tr < 3 }
+    requires header { IsHeader header.now }
+    requires header_format { header.now.format ≡ SubQcif }
+    requires before { HasReferenceOnlyInP header.now.kind SubQcif (option_map picture before) }
+    requires cutter_format { format_of cutter.old ≡ SubQcif }
+    requires limit { limit_of cutter.old ≡ 1400 }
+    ensures cutter_format { format_of cutter.new ≡ SubQcif }
+    ensures limit { limit_of cutter.new ≡ 1400 }
+{
+    let frame = [sample; SIZE];
+    let frame = PictureRef::new(Format::SubQcif, &frame);
+    let mut work = PictureMut::new(Format::SubQcif, out);
+    let number = u32::from(header.tr);
+    code_picture(frame, before, number, header, &PARAMS, cutter, &mut work);
+}
 
 // For every vector the difference is 0, and the zero vector is chosen by its cost of -100.
 #[test]
@@ -37,7 +62,7 @@ fn second_of_two_flat_pictures(rt: HostRuntime) -> Result<(), Fail> {
     let mut work = PictureMut::new(Format::SubQcif, &mut first);
     code_picture(frame, None, 0, &INTRA, &PARAMS, &mut cutter, &mut work);
     assert!(rt; cutter.count() == 1);
-    assert_eq!(rt; cutter.packet(0).len(), 342);
+    assert_eq!(rt; cutter.packet(0), FLAT_PACKET.as_slice());
     let reference = PictureRef::new(Format::SubQcif, &first);
     let mut second = [0; SIZE];
     let mut work = PictureMut::new(Format::SubQcif, &mut second);
@@ -53,6 +78,42 @@ fn second_of_two_flat_pictures(rt: HostRuntime) -> Result<(), Fail> {
     assert!(rt; cutter.count() == 1);
     assert_eq!(rt; cutter.packet(0), SKIPPED_PACKET.as_slice());
     assert_eq!(rt; second.as_slice(), first.as_slice());
+    Ok(())
+}
+
+// Six INTRADC, of which the first begins at this bit.
+fn first_intradc(rt: &impl Abort, packet: &[u8], at: u32) -> [u32; 6]
+    requires { at ≤ 300 }
+{
+    assert!(rt; packet.len() >= 100 && packet.len() <= 1400);
+    let mut reader = BitReader::new(packet, at, at + 48);
+    let mut found = [0; 6];
+    for dc in &mut found {
+        *dc = reader.bits(8).unwrap_or(0);
+    }
+    found
+}
+
+// A flat block of 0 has INTRADC 1, one of 255 has 254, and 128 is spelled FF. In an I picture the
+// first macroblock's INTRADC begin at bit 192, and in a P picture, where COD comes first, at 207.
+#[test]
+fn three_flat_pictures(rt: HostRuntime) -> Result<(), Fail> {
+    let mut cutter = Cutter::start(rt.alloc(), &PARAMS)?;
+    let [mut first, mut second, mut third] = [[0; SIZE]; 3];
+    code_flat(0, &INTRA, None, &mut cutter, &mut first);
+    assert!(rt; cutter.count() == 1);
+    assert_eq!(rt; first_intradc(&rt, cutter.packet(0), 192), [0x01; 6]);
+    assert_eq!(rt; first, [1; SIZE]);
+    let before = Some(PictureRef::new(PARAMS.format, &first));
+    code_flat(128, &INTER, before, &mut cutter, &mut second);
+    assert!(rt; cutter.count() == 1);
+    assert_eq!(rt; first_intradc(&rt, cutter.packet(0), 207), [0xFF; 6]);
+    assert_eq!(rt; second, [128; SIZE]);
+    let before = Some(PictureRef::new(PARAMS.format, &second));
+    code_flat(255, &THIRD, before, &mut cutter, &mut third);
+    assert!(rt; cutter.count() == 1);
+    assert_eq!(rt; first_intradc(&rt, cutter.packet(0), 207), [0xFE; 6]);
+    assert_eq!(rt; third, [254; SIZE]);
     Ok(())
 }
 

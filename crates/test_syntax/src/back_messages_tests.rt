@@ -14,6 +14,8 @@ const NACK_1: Message = Message::Nack {
     marks: None,
 };
 
+const ACK_3: Message = Message::Ack { tr: 3, marks: None };
+
 const ACK_300: Message = Message::Ack {
     tr: 300,
     marks: None,
@@ -40,9 +42,10 @@ const ACK_5_TENTH: Message = Message::Ack {
     marks: Some(0x0200),
 };
 
-const MESSAGES: [(Message, [u8; 5], u8); 7] = [
+const MESSAGES: [(Message, [u8; 5], u8); 8] = [
     (ACK_0, [0xc0, 0x04, 0x00, 0, 0], 3),
     (NACK_1, [0x80, 0x0c, 0x00, 0, 0], 3),
+    (ACK_3, [0xc0, 0x1c, 0x03, 0, 0], 3),
     (ACK_300, [0xc9, 0x65, 0x2c, 0, 0], 3),
     (ACK_1_ALONE, [0xe0, 0x0c, 0x01, 0x80, 0x80], 5),
     (ACK_0_AND_1, [0xe0, 0x04, 0x00, 0xc0, 0x80], 5),
