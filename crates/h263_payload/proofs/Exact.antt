@@ -88,7 +88,7 @@ record IsFilled (found : Result (Header × Bits) Fault) (extra : Option Header) 
   none : rest.bits ≡ []
   value : extra ≡ Some header
 
-empty : {A : Type 0} (xs : List A) → length xs ≡ 0 → xs ≡ []
+pub empty : {A : Type 0} (xs : List A) → length xs ≡ 0 → xs ≡ []
 empty [] e = refl
 empty (x ∷ xs) e = absurd (omega arith)
 

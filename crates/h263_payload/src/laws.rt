@@ -1,12 +1,16 @@
 //! Laws about the payload header, over the definitions alone.
-ghost use Rattle.std.specs.Prelude.{◌≡◌, ℕ, ◌+◌, ◌∷◌, ◌++◌, Bool, true, false, List, length, Option, Some, None, Ok};
+ghost use Rattle.std.specs.Prelude.{◌≡◌, ◌↔◌, ℕ, ◌+◌, ◌<◌, [], ◌∷◌, ◌++◌, Bool, true, false, List, length, Option, Some, None, Ok, Err};
+ghost use Rattle.h263_bits.specs.declared.fault.Fault.{Fault};
+ghost use Rattle.h263_bits.specs.declared.fault.FaultKind.TheVariants as faults;
+ghost use Rattle.h263_bits.specs.Bits.{fields};
+ghost use Rattle.h263_bits.specs.Elements.{HasFault};
 ghost use Rattle.h263_bits.specs.Reading.{Bits};
 ghost use Rattle.h263_types.specs.declared.format.Format.{Format};
 ghost use Rattle.picture_header.specs.declared.header.Header.{Header};
 ghost use Rattle.picture_header.specs.Ranges.{IsHeader};
-ghost use Rattle.h263_payload.specs.Text.{IsPayload};
+ghost use Rattle.h263_payload.specs.Text.{leading, IsPayload};
 ghost use Rattle.h263_payload.specs.Faults.{payload_at};
-ghost use Rattle.h263_payload.specs.Rows.{PayloadFaults};
+ghost use Rattle.h263_payload.specs.Rows.{IsPayloadFault};
 ghost use Rattle.h263_payload.specs.Written.{written_payload, payload_bits};
 ghost use Rattle.h263_payload.specs.declared.payload.Payload.{Payload};
 
@@ -23,9 +27,13 @@ pub fn exact_text()
     in_a_syntax();
 }
 
-/// The first faults of a payload header, in the order in which its parts are read.
+/// A payload is refused for a fault exactly where a row of the table of faults has it there. Of the
+/// first fields P alone is refused, where it is 0.
 pub fn first_faults()
-    ensures { (format : Format) → PayloadFaults format }
+    ensures whole { (format : Format) (b : Bits) (fault : Fault)
+        → (payload_at format b ≡ Err fault) ↔ IsPayloadFault format b fault.kind fault.at }
+    ensures follow_on { (rr : ℕ) → rr < 32
+        → HasFault leading (fields ((5, rr) ∷ (1, 0) ∷ [])) faults.FollowOn 5 }
 {
     in_a_syntax();
 }

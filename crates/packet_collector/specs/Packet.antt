@@ -1,13 +1,13 @@
 -- A packet of a picture: RTP's header, the payload's header, and a slice, which stands after the
 -- picture header or has it as the extra one (RFC 4629, 5.1).
-use Rattle.std.specs.Prelude.{◌≡◌, ℕ, ◌*◌, List, [], ◌++◌, Bool, Option, Some, None, Result, Ok, Err}
+use Rattle.std.specs.Prelude.{◌≡◌, ℕ, ◌*◌, List, ◌++◌, Bool, Option, Some, None, Result, Ok, Err}
 use Rattle.h263_bits.specs.declared.fault.Fault.{Fault}
 use Rattle.h263_bits.specs.Reading.{Bits, bits_between, first_fault, ◌>>=◌}
 use Rattle.h263_bits.specs.Syntax.{reading}
 use Rattle.h263_types.specs.declared.format.Format.{Format}
 use Rattle.h263_types.specs.declared.blocks.Mb.{Mb}
 use Rattle.picture_header.specs.declared.header.Header.{Header}
-use Rattle.picture_header.specs.Text.{header, IsHeaderText}
+use Rattle.picture_header.specs.Text.{header}
 use Rattle.rtp_header.specs.declared.rtp.Rtp.{Rtp}
 use Rattle.rtp_header.specs.Text.{IsRtp}
 use Rattle.rtp_header.specs.Faults.{rtp_in}

@@ -1,5 +1,5 @@
 //! Laws about packets, over the definitions alone.
-ghost use Rattle.std.specs.Prelude.{◌≡◌, ◌↔◌, ℕ, ◌+◌, ◌<◌, ◌≤◌, List, length, Ok, None};
+ghost use Rattle.std.specs.Prelude.{◌≡◌, ◌↔◌, ℕ, ◌+◌, ◌<◌, ◌≤◌, List, length, Ok, Err, None};
 ghost use Rattle.h263_bits.specs.declared.fault.Fault.{Fault};
 ghost use Rattle.h263_types.specs.declared.format.Format.{Format};
 ghost use Rattle.h263_types.specs.Sizes.{mbs_of};
@@ -7,9 +7,9 @@ ghost use Rattle.packet_collector.specs.declared.collector.Collector.{Collector}
 ghost use Rattle.packet_collector.specs.declared.piece.Piece.{Piece};
 ghost use Rattle.packet_collector.specs.declared.piece.Place.{Place};
 ghost use Rattle.packet_collector.specs.Collected.{Collects, from_number};
-ghost use Rattle.packet_collector.specs.Laws.{PartLaws};
+ghost use Rattle.packet_collector.specs.Laws.{PartLaws, FaultLaws};
 ghost use Rattle.packet_collector.specs.Packet.{Slice, IsPacket, packet_at, packet_fault};
-ghost use Rattle.packet_collector.specs.Rows.{PacketFaults};
+ghost use Rattle.packet_collector.specs.Rows.{IsPacketFault};
 ghost use Rattle.packet_collector.specs.Taken.{Taken, IsPlace, TakenLaws};
 
 use picture_header::laws::in_a_syntax;
@@ -35,10 +35,25 @@ pub fn exact_text()
     of_the_parts();
 }
 
-/// The first faults of a packet are those of its parts, each after the parts before it.
+// The faults of a packet's parts, each by its own table.
+pub(crate) fn faults_of_the_parts()
+    ensures { FaultLaws }
+{
+    rtp_header::laws::first_faults();
+    h263_payload::laws::first_faults();
+    picture_header::laws::first_faults();
+    slice_layer::laws::first_faults();
+}
+
+/// A packet is refused for a fault exactly where a row of the table of faults has it there: the
+/// faults of its parts, each after the parts before it.
 pub fn first_faults()
-    ensures { (format : Format) (bytes : List ℕ) (fault : Fault) → PacketFaults format bytes fault }
-{}
+    ensures { (format : Format) (bytes : List ℕ) (fault : Fault)
+        → (packet_at format bytes ≡ Err fault) ↔ IsPacketFault format bytes fault.kind fault.at }
+{
+    of_the_parts();
+    faults_of_the_parts();
+}
 
 /// A whole packet spells one slice, its header, its first macroblock and its macroblocks; and there
 /// is no first fault exactly where bytes are a packet of some slice.

@@ -1,5 +1,5 @@
-use Rattle.packet_collector.proofs.FaultRows.{packet_faults}
+use Rattle.packet_collector.proofs.FaultRows.{first_faults}
 use Rattle.packet_collector.proofs.laws.first_faults.Goals as goal
 
 pub returns : goal.returns
-returns c = packet_faults
+returns c = first_faults c.of_the_parts.ensures c.faults_of_the_parts.ensures
