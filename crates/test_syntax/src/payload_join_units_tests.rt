@@ -1,6 +1,4 @@
 //! Which packets are a unit, and what goes out of it. Each outgoing packet is written down by hand.
-ghost use Rattle.std.specs.Prelude.{◌≡◌, ◌≤◌, length};
-
 use crate::payload_join_tests::drained;
 use h263_types::Format;
 use payload_join::{Joiner, Took};
@@ -18,6 +16,38 @@ const FOLLOWS: u8 = 0x00;
 
 const BEGINS: u8 = 0x04;
 
+// What goes out of packets 10 and 11.
+const TEN_AND_ELEVEN: [u8; 18] = [
+    0x80, 0x60, 0x00, 0x0A, 0x00, 0x00, 0x00, 0x00, 0x48, 0x32, 0x36, 0x33, 0x04, 0x00, 0xC1, 0x02,
+    0x43, 0x04,
+];
+
+// What goes out of packets 10 and 11, where each is a unit.
+const BOTH_UNITS: [u8; 32] = [
+    0x80, 0x60, 0x00, 0x0A, 0x00, 0x00, 0x00, 0x00, 0x48, 0x32, 0x36, 0x33, 0x04, 0x00, 0xC1, 0x02,
+    0x80, 0x60, 0x00, 0x0B, 0x00, 0x00, 0x00, 0x00, 0x48, 0x32, 0x36, 0x33, 0x04, 0x00, 0xC5, 0x06,
+];
+
+// A packet of two slices, with the marker: an extra header of two bytes and PEBIT 3, after V's byte.
+const TWO_SLICES: [u8; 24] = [
+    0x80, 0xE0, 0x12, 0x34, 0x00, 0x00, 0x0B, 0xBB, 0x48, 0x32, 0x36, 0x33, 0x06, 0x13, 0x7F, 0xAA,
+    0xB8, 0xC1, 0x02, 0x00, 0x00, 0xC3, 0x04, 0x05,
+];
+
+// What goes out of it.
+const EACH_SLICE: [u8; 37] = [
+    0x80, 0x60, 0x12, 0x34, 0x00, 0x00, 0x0B, 0xBB, 0x48, 0x32, 0x36, 0x33, 0x04, 0x13, 0xAA, 0xB8,
+    0xC1, 0x02, // the first slice, and the second
+    0x80, 0x60, 0x12, 0x34, 0x00, 0x00, 0x0B, 0xBB, 0x48, 0x32, 0x36, 0x33, 0x04, 0x13, 0xAA, 0xB8,
+    0xC3, 0x04, 0x05,
+];
+
+// A later slice with a copy of the header of `FLAT_PACKET`.
+const WITH_COPY: [u8; 25] = [
+    0x80, 0x60, 0x00, 0x00, 0x00, 0x00, 0x00, 0x00, 0x48, 0x32, 0x36, 0x33, 0x04, 0x4D, 0x80, 0x02,
+    0x1C, 0x90, 0x31, 0x00, 0x11, 0xCA, 0x00, 0xC3, 0x04,
+];
+
 // A packet of two coded bytes.
 fn packet(sequence: u8, marked: u8, begins: u8, coded: [u8; 2]) -> [u8; 16] {
     [
@@ -29,11 +59,7 @@ fn packet(sequence: u8, marked: u8, begins: u8, coded: [u8; 2]) -> [u8; 16] {
 // Without a marker a unit ends where the next one begins.
 #[test]
 fn closed_by_the_next_beginning(rt: HostRuntime) -> Result<(), Fail> {
-    let want: [u8; 18] = [
-        0x80, 0x60, 0x00, 0x0A, 0x00, 0x00, 0x00, 0x00, 0x48, 0x32, 0x36, 0x33, 0x04, 0x00, 0xC1,
-        0x02, 0x43, 0x04,
-    ];
-    let mut out = [0; 40];
+    let mut out = [0; 18];
     let mut joiner = Joiner::start(rt.alloc())?;
     joiner.take(&packet(10, PLAIN, BEGINS, [0xC1, 0x02]), Format::Qcif);
     let one = drained(&mut joiner, &mut out);
@@ -43,7 +69,7 @@ fn closed_by_the_next_beginning(rt: HostRuntime) -> Result<(), Fail> {
     let three = drained(&mut joiner, &mut out);
     joiner.finish();
     assert_eq!(rt; (one, two, three), (0, 0, 18));
-    assert_eq!(rt; &out[..18], &want[..]);
+    assert_eq!(rt; &out[..], &TEN_AND_ELEVEN[..]);
     Ok(())
 }
 
@@ -53,8 +79,7 @@ fn closed_by_the_next_beginning(rt: HostRuntime) -> Result<(), Fail> {
 fn two_units_of_one_packet(rt: HostRuntime) -> Result<(), Fail> {
     let first = packet(10, PLAIN, BEGINS, [0xC1, 0x02]);
     let second = packet(11, MARKED, BEGINS, [0xC5, 0x06]);
-    let unmarked = packet(11, PLAIN, BEGINS, [0xC5, 0x06]);
-    let mut out = [0; 40];
+    let mut out = [0; 32];
     let mut joiner = Joiner::start(rt.alloc())?;
     joiner.take(&first, Format::Qcif);
     let one = drained(&mut joiner, &mut out);
@@ -62,32 +87,20 @@ fn two_units_of_one_packet(rt: HostRuntime) -> Result<(), Fail> {
     let both = drained(&mut joiner, &mut out);
     joiner.finish();
     assert_eq!(rt; (one, both), (0, 32));
-    assert_eq!(rt; &out[..16], &first[..]);
-    assert_eq!(rt; &out[16..32], &unmarked[..]);
+    assert_eq!(rt; &out[..], &BOTH_UNITS[..]);
     Ok(())
 }
 
-// An extra header of two bytes and PEBIT 3, after V's byte. Each of two slices goes out with it,
-// without V and without the marker.
+// Each slice goes out with the extra header and its PEBIT, without V and without the marker.
 #[test]
 fn extra_header_of_each_slice(rt: HostRuntime) -> Result<(), Fail> {
-    let both = [
-        0x80, 0xE0, 0x12, 0x34, 0x00, 0x00, 0x0B, 0xBB, 0x48, 0x32, 0x36, 0x33, 0x06, 0x13, 0x7F,
-        0xAA, 0xB8, 0xC1, 0x02, 0x00, 0x00, 0xC3, 0x04, 0x05,
-    ];
-    let want: [u8; 37] = [
-        0x80, 0x60, 0x12, 0x34, 0x00, 0x00, 0x0B, 0xBB, 0x48, 0x32, 0x36, 0x33, 0x04, 0x13, 0xAA,
-        0xB8, 0xC1, 0x02, // the first slice, and the second
-        0x80, 0x60, 0x12, 0x34, 0x00, 0x00, 0x0B, 0xBB, 0x48, 0x32, 0x36, 0x33, 0x04, 0x13, 0xAA,
-        0xB8, 0xC3, 0x04, 0x05,
-    ];
-    let mut out = [0; 40];
+    let mut out = [0; 37];
     let mut joiner = Joiner::start(rt.alloc())?;
-    joiner.take(&both, Format::Qcif);
+    joiner.take(&TWO_SLICES, Format::Qcif);
     let all = drained(&mut joiner, &mut out);
     joiner.finish();
     assert_eq!(rt; all, 37);
-    assert_eq!(rt; &out[..37], &want[..]);
+    assert_eq!(rt; &out[..], &EACH_SLICE[..]);
     Ok(())
 }
 
@@ -97,13 +110,13 @@ fn pebit_without_an_extra_header(rt: HostRuntime) -> Result<(), Fail> {
     let unmarked = packet(7, PLAIN, BEGINS, [0xC1, 0x02]);
     let mut bytes = packet(7, MARKED, BEGINS, [0xC1, 0x02]);
     bytes[13] = 0x05;
-    let mut out = [0; 40];
+    let mut out = [0; 16];
     let mut joiner = Joiner::start(rt.alloc())?;
     joiner.take(&bytes, Format::Qcif);
     let all = drained(&mut joiner, &mut out);
     joiner.finish();
     assert_eq!(rt; all, 16);
-    assert_eq!(rt; &out[..16], &unmarked[..]);
+    assert_eq!(rt; &out[..], &unmarked[..]);
     Ok(())
 }
 
@@ -111,22 +124,18 @@ fn pebit_without_an_extra_header(rt: HostRuntime) -> Result<(), Fail> {
 // PLEN 9 and PEBIT 5.
 #[test]
 fn pebit_of_a_copied_header(rt: HostRuntime) -> Result<(), Fail> {
-    let mut both = [0; 360];
-    both[..342].copy_from_slice(&FLAT_PACKET);
-    both[344..346].copy_from_slice(&[0xC3, 0x04]);
-    let want: [u8; 25] = [
-        0x80, 0x60, 0x00, 0x00, 0x00, 0x00, 0x00, 0x00, 0x48, 0x32, 0x36, 0x33, 0x04, 0x4D, 0x80,
-        0x02, 0x1C, 0x90, 0x31, 0x00, 0x11, 0xCA, 0x00, 0xC3, 0x04,
-    ];
+    let mut both = Vec::new(rt.alloc());
+    both.extend_from_slice(&FLAT_PACKET)?;
+    both.extend_from_slice(&[0x00, 0x00, 0xC3, 0x04])?;
     let mut out = [0; 400];
     let mut joiner = Joiner::start(rt.alloc())?;
-    joiner.take(&both[..346], Format::SubQcif);
+    joiner.take(&both, Format::SubQcif);
     let all = drained(&mut joiner, &mut out);
     joiner.finish();
     assert_eq!(rt; all, 342 + 25);
     assert_eq!(rt; out[1], PLAIN);
     assert_eq!(rt; &out[2..342], &FLAT_PACKET[2..]);
-    assert_eq!(rt; &out[342..367], &want[..]);
+    assert_eq!(rt; &out[342..367], &WITH_COPY[..]);
     Ok(())
 }
 
@@ -134,56 +143,66 @@ fn pebit_of_a_copied_header(rt: HostRuntime) -> Result<(), Fail> {
 const HEADER: &str = "100000 00000000 10 000 111 001 001 0 0000011000 1000 000 00 0 001 0 00 111 \
      0 01 01000";
 
-// Puts a picture header with so many bytes of PSUPP after the first 14 bytes. Answers where it
-// ends.
-fn put_header(bytes: &mut [u8], psupp: u32) -> u32
-    requires { length bytes.old ≤ 65535 }
-    ensures { length bytes.new ≡ length bytes.old }
-{
-    let mut end = put_text(bytes, 112, HEADER);
+// A packet with the first 14 bytes of another, a picture header with so many bytes of PSUPP, and a
+// text after it, up to its last whole byte.
+fn with_header(
+    alloc: Global,
+    head: [u8; 16],
+    psupp: u32,
+    rest: &str,
+) -> Result<Vec<u8>, AllocError> {
+    let mut coded = [0; 100];
+    let mut end = put_text(&mut coded, 0, HEADER);
     'psupp: for _ in 0..psupp {
-        end = put_text(bytes, end, "1 00000001");
+        end = put_text(&mut coded, end, "1 00000001");
     }
-    put_text(bytes, end, "0")
+    end = put_text(&mut coded, end, "0");
+    end = put_text(&mut coded, end, rest);
+    let len = ((end / 8) as usize).min(100);
+    let mut bytes = Vec::new(alloc);
+    bytes.extend_from_slice(&head[..14])?;
+    bytes.extend_from_slice(&coded[..len])?;
+    Ok(bytes)
 }
 
 // With 48 bytes of PSUPP a header has 499 bits, which take 63 bytes: it is copied, with PLEN 63 and
-// PEBIT 5. With 49 it has 508 bits and takes 64: the unit is not split.
+// PEBIT 5.
 #[test]
-fn headers_of_63_and_64_bytes(rt: HostRuntime) -> Result<(), Fail> {
+fn header_of_63_bytes(rt: HostRuntime) -> Result<(), Fail> {
     let marked = packet(7, MARKED, BEGINS, [0, 0]);
-    let mut short = [0; 81];
-    short[..14].copy_from_slice(&marked[..14]);
-    let end = put_header(&mut short, 48);
-    put_text(&mut short, end, "11111");
-    short[79..].copy_from_slice(&[0xC3, 0x04]);
-    let mut copied = [0; 79];
-    copied[..14].copy_from_slice(&marked[..14]);
-    copied[1] = PLAIN;
-    copied[12] = 0x05;
+    let plain = packet(7, PLAIN, BEGINS, [0, 0]);
+    let mut copied = packet(7, PLAIN, 0x05, [0, 0]);
     copied[13] = 0xFD;
-    put_header(&mut copied, 48);
-    copied[77..].copy_from_slice(&[0xC3, 0x04]);
-    let mut long = [0; 82];
-    long[..14].copy_from_slice(&marked[..14]);
-    long[3] = 8;
-    let long_end = put_header(&mut long, 49);
-    put_text(&mut long, long_end, "1111");
-    long[80..].copy_from_slice(&[0xC3, 0x04]);
-    let mut split = [0; 200];
-    let mut whole = [0; 200];
+    let two = "11111 00000000 00000000 11000011 00000100";
+    let both = with_header(rt.alloc(), marked, 48, two)?;
+    let mut want = with_header(rt.alloc(), plain, 48, "11111")?;
+    let later = with_header(rt.alloc(), copied, 48, "00000 11000011 00000100")?;
+    want.extend_from_slice(&later)?;
+    let mut out = [0; 156];
     let mut joiner = Joiner::start(rt.alloc())?;
-    joiner.take(&short, Format::SubQcif);
-    let two = drained(&mut joiner, &mut split);
-    joiner.take(&long, Format::SubQcif);
-    let one = drained(&mut joiner, &mut whole);
+    joiner.take(&both, Format::SubQcif);
+    let all = drained(&mut joiner, &mut out);
     joiner.finish();
-    assert_eq!(rt; (end, long_end), (112 + 499, 112 + 508));
-    assert_eq!(rt; (two, one), (77 + 79, 82));
-    assert_eq!(rt; (split[1], whole[1]), (PLAIN, PLAIN));
-    assert_eq!(rt; &split[2..77], &short[2..77]);
-    assert_eq!(rt; &split[77..156], &copied[..]);
-    assert_eq!(rt; &whole[2..82], &long[2..]);
+    assert_eq!(rt; (both.len(), want.len(), all), (81, 77 + 79, 77 + 79));
+    assert_eq!(rt; &out[..], want.as_slice());
+    Ok(())
+}
+
+// With 49 it has 508 bits and takes 64 bytes: the unit is not split.
+#[test]
+fn header_of_64_bytes(rt: HostRuntime) -> Result<(), Fail> {
+    let marked = packet(8, MARKED, BEGINS, [0, 0]);
+    let plain = packet(8, PLAIN, BEGINS, [0, 0]);
+    let two = "1111 00000000 00000000 11000011 00000100";
+    let both = with_header(rt.alloc(), marked, 49, two)?;
+    let want = with_header(rt.alloc(), plain, 49, two)?;
+    let mut out = [0; 82];
+    let mut joiner = Joiner::start(rt.alloc())?;
+    joiner.take(&both, Format::SubQcif);
+    let all = drained(&mut joiner, &mut out);
+    joiner.finish();
+    assert_eq!(rt; (both.len(), want.len(), all), (82, 82, 82));
+    assert_eq!(rt; &out[..], want.as_slice());
     Ok(())
 }
 
@@ -228,11 +247,7 @@ fn units_of_65_400_bytes(rt: HostRuntime) -> Result<(), Fail> {
 // A marker ends the unit, also where packets that follow on come before it: these belong to none.
 #[test]
 fn marker_in_the_middle(rt: HostRuntime) -> Result<(), Fail> {
-    let want: [u8; 18] = [
-        0x80, 0x60, 0x00, 0x0A, 0x00, 0x00, 0x00, 0x00, 0x48, 0x32, 0x36, 0x33, 0x04, 0x00, 0xC1,
-        0x02, 0x43, 0x04,
-    ];
-    let mut out = [0; 40];
+    let mut out = [0; 18];
     let mut joiner = Joiner::start(rt.alloc())?;
     joiner.take(&packet(12, MARKED, FOLLOWS, [0x45, 0x06]), Format::Qcif);
     let last = drained(&mut joiner, &mut out);
@@ -244,6 +259,6 @@ fn marker_in_the_middle(rt: HostRuntime) -> Result<(), Fail> {
     let next = drained(&mut joiner, &mut out);
     joiner.finish();
     assert_eq!(rt; (last, first, middle, next), (0, 0, 18, 0));
-    assert_eq!(rt; &out[..18], &want[..]);
+    assert_eq!(rt; &out[..], &TEN_AND_ELEVEN[..]);
     Ok(())
 }
