@@ -40,7 +40,7 @@ word_stop stops.OutOfMemory = OutOfMemory
 word_stop stops.Usage = Usage
 
 -- the words are all arguments but the first, which is the program's name
-abbrev pub words_in : List String → List Text
+abbrev pub words_in : {A : Type 0} → List (String A) → List Text
 words_in args = map string_bytes (drop 1 args)
 
 -- how a run ends whose arguments the host didn't give: there was no memory for them, or one is no text
