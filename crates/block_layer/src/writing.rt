@@ -36,6 +36,7 @@ pub fn is_coded_by(intra: bool, marks: u64) -> bool
 }
 
 // Writes the events of the levels from a place on: one for each that isn't 0.
+#[inline(never)]
 fn write_levels(writer: &mut BitWriter<'_>, block: &Block, marks: u64, from: usize)
     requires from { from < 64 }
     requires levels { AreWritten from block.now.levels }
@@ -104,5 +105,7 @@ pub fn write_inter(writer: &mut BitWriter<'_>, block: &Block, marks: u64)
     ensures len { len_of writer.new ≡ len_of writer.old + length (inter_text block.now.levels) }
 {
     code_tables_laws::in_a_syntax();
-    write_levels(writer, block, marks, 0);
+    if marks != 0 {
+        write_levels(writer, block, marks, 0);
+    }
 }

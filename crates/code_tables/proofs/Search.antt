@@ -24,7 +24,7 @@ same_answer true false p q = sym (p refl)
 same_answer false true p q = q refl
 same_answer false false p q = refl
 
-both_and : (a b : Bool) → a ≡ true → b ≡ true → (a && b) ≡ true
+pub both_and : (a b : Bool) → a ≡ true → b ≡ true → (a && b) ≡ true
 both_and true true p q = refl
 both_and true false p q = q
 both_and false b p q = p

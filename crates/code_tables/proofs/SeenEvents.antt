@@ -1,13 +1,13 @@
 -- Events by their first bits: which words these begin with, and what follows them.
-use Rattle.std.proofs.Common.{◌≡◌, ◌+◌, ◌-◌, ◌/◌, ◌%◌, ◌^◌, ◌<◌, ◌≤◌, ℕ, zero, suc, Bool, true, false, cond, eqb, leb, ltb, List, [], ◌∷◌, length, take, drop, Option, Some, None, Ok, Err, refl, ap, sym, ◌∙◌, arith, inl, inr}
+use Rattle.std.proofs.Common.{◌≡◌, ◌+◌, ◌-◌, ◌/◌, ◌%◌, ◌^◌, ◌<◌, ◌≤◌, ℕ, zero, suc, Bool, true, false, cond, eqb, leb, ltb, List, [], ◌∷◌, length, take, drop, Option, Some, None, Ok, Err, eq-eqb, refl, ap, sym, ◌∙◌, arith, inl, inr}
 use mir.Val.{SFits}
 use Rattle.std.specs.Prelude.{map, slice_get, IfSome, ℤ, pos, neg_ℤ}
 use Rattle.std.specs.Int.{w8}
 use Rattle.std.proofs.lemmas.Int.{ints}
 use Rattle.std.specs.List.{list_all}
 use Rattle.std.proofs.lemmas.Bool.{ltb-true, leb-true, le-ltb, ne_eqb, cases_lt, lt-ltb}
+use Rattle.std.proofs.lemmas.Nat.{shr-shr}
 use Rattle.std.proofs.lemmas.List.{length-take, length-drop, drop-drop, drop-take}
-use Rattle.std.proofs.lemmas.Option.{slice_get-get_or}
 use Rattle.h263_bits.specs.declared.fault.Fault.{Fault}
 use Rattle.h263_bits.specs.Bits.{number, spelled}
 use Rattle.h263_bits.specs.Reading.{Bits, skip, number_at, ◌>>=◌}
@@ -18,11 +18,11 @@ use Rattle.code_tables.specs.declared.code.Level.{Level}
 use Rattle.code_tables.specs.declared.event_tables.TheConstants.{EVENTS, LEVELS}
 use Rattle.code_tables.specs.Words.{listed, is_code, starts, code_at}
 use Rattle.code_tables.specs.Tables.{Event, Coefficient, tcoef_words, last_0_texts, last_1_texts, event, event_parts, event_table, signed, level_of}
-use Rattle.code_tables.specs.Events.{event_of_code, event_of_level}
+use Rattle.code_tables.specs.Events.{event_of_code}
 use Rattle.code_tables.specs.Seen.{IsWordIn}
 use Rattle.code_tables.proofs.Search.{word_at-map, front_number, named_stands, word_found}
 
-abbrev event_at : ℕ → Option Event
+abbrev pub event_at : ℕ → Option Event
 event_at i = event_of_code (slice_get LEVELS i)
 
 -- the words as the code has them are those of the standard
@@ -52,7 +52,7 @@ pub all_small : list_all is_small LEVELS ≡ true
 unfolding is_small
 all_small = refl
 
--- ---- by the first 22 bits
+-- ---- by the first bits
 
 -- n bits from place o on, from the number of the first m
 pub field_in : (bits : List Bool) (o n s m : ℕ) → o + n + s ≡ m → m ≤ length bits → number (take n (drop o bits)) ≡ number (take m bits) / 2 ^ s % 2 ^ n
@@ -68,13 +68,13 @@ skip-skip j k b =
     let at : b.at + j + k ≡ b.at + (j + k) = omega arith in
     rw (at, drop-drop k j b.bits) refl
 
--- a field of n bits after the first o, where s more of the 22 follow
-pub field_there : (b : Bits) (o n s seen : ℕ) → o + n + s ≡ 22 → 22 ≤ length b.bits → number (take 22 b.bits) ≡ seen → number_at n (skip o b) ≡ Ok (seen / 2 ^ s % 2 ^ n, skip (o + n) b)
+-- a field of k bits after the first o, where s more of the n follow
+pub field_there : (b : Bits) (n o k s seen : ℕ) → o + k + s ≡ n → n ≤ length b.bits → number (take n b.bits) ≡ seen → number_at k (skip o b) ≡ Ok (seen / 2 ^ s % 2 ^ k, skip (o + k) b)
 unfolding number_at
-field_there b o n s seen e le is =
-    let enough = le-ltb (length (drop o b.bits)) n (omega (arith, length-drop o b.bits)) in
-    let value : number (take n (drop o b.bits)) ≡ seen / 2 ^ s % 2 ^ n = field_in b.bits o n s 22 e le ∙ ap (λ (v : ℕ). v / 2 ^ s % 2 ^ n) is in
-    rw (enough, value) (ap (λ (c : Bits). Ok (seen / 2 ^ s % 2 ^ n, c)) (skip-skip o n b))
+field_there b n o k s seen e le is =
+    let enough = le-ltb (length (drop o b.bits)) k (omega (arith, length-drop o b.bits)) in
+    let value : number (take k (drop o b.bits)) ≡ seen / 2 ^ s % 2 ^ k = field_in b.bits o k s n e le ∙ ap (λ (v : ℕ). v / 2 ^ s % 2 ^ k) is in
+    rw (enough, value) (ap (λ (c : Bits). Ok (seen / 2 ^ s % 2 ^ k, c)) (skip-skip o k b))
 
 all_codes : list_all is_code EVENTS ≡ true
 all_codes = refl
@@ -86,30 +86,21 @@ apart = refl
 abbrev none : Code
 none = record { bits = 0; len = 0 }
 
--- what the tables name for the first twelve of 22 bits is the word that they begin with
-pub named_word : (seen place : ℕ) → place < 103 → starts (seen / 2 ^ 10) 12 (code_at EVENTS place) ≡ true → IsWordIn seen (event_at place) (code_at EVENTS place).len
-named_word seen place lt there b enough is =
-    let twelve : seen / 2 ^ 10 ≡ number (take 12 b.bits) = sym (front_number b.bits 12 22 (omega arith) enough ∙ ap (λ (v : ℕ). v / 2 ^ 10) is) in
-    let stands = named_stands EVENTS b.bits 12 (seen / 2 ^ 10) place all_codes apart (omega arith) twelve lt there in
+-- the code that the first twelve of n bits begin with is the word that they begin with
+pub named_word : (n seen place : ℕ) → 12 ≤ n → place < 103 → starts (seen / 2 ^ (n - 12)) 12 (code_at EVENTS place) ≡ true → IsWordIn n seen (event_at place) (code_at EVENTS place).len
+named_word n seen place le lt there b enough is =
+    let twelve : seen / 2 ^ (n - 12) ≡ number (take 12 b.bits) = sym (front_number b.bits 12 n le enough ∙ ap (λ (v : ℕ). v / 2 ^ (n - 12)) is) in
+    let stands = named_stands EVENTS b.bits 12 (seen / 2 ^ (n - 12)) place all_codes apart (omega arith) twelve lt there in
     found b (skip (code_at EVENTS place).len b) place (event_at place) (word_found EVENTS place b none stands) refl
 
 pub word_short : (seen : ℕ) (c : Code) → starts seen 12 c ≡ true → c.len ≤ 12
 word_short seen c there = leb-true c.len 12 (and_both (leb c.len 12) (eqb (seen / 2 ^ (12 - c.len)) c.bits) there).0
 
--- the only word that stands for no event is the escape
-pub escape_place : (place : ℕ) → place < 103 → slice_get LEVELS place ≡ None → place ≡ 102
-escape_place place lt e =
-    elim (cases_lt place 102) [
-      | inl less ↦ absurd (not_both _ (sym (slice_get-get_or LEVELS place (record { last = true; run = 0; size = 0 }) less) ∙ e))
-      | inr more ↦ omega arith
-    ]
-  where
-    not_both : (l : Level) → (let o : Option Level = Some l in o) ≡ None → ⊥
-    not_both l e = cc
-
--- the same, as the code looks a place up
-pub word_in : (seen place : ℕ) (o : Option Level) (len : ℕ) → place < 103 → starts (seen / 2 ^ 10) 12 (code_at EVENTS place) ≡ true → o ≡ slice_get LEVELS place → len ≡ (code_at EVENTS place).len → IsWordIn seen (event_of_code o) len
-word_in seen place o len lt there meaning many b enough is = rw (meaning, many) (named_word seen place lt there b enough is)
+-- the escape is the word whose seven bits are 3
+pub escape_word : (seen : ℕ) → seen / 2 ^ 15 ≡ 3 → IsWordIn 22 seen None 7
+escape_word seen e =
+    let same : seen / 2 ^ 10 / 2 ^ 5 ≡ 3 = shr-shr seen 10 5 ∙ e in
+    named_word 22 seen 102 (omega arith) (omega arith) (eq-eqb (seen / 2 ^ 10 / 2 ^ 5) 3 same)
 
 neg_fits : (k : ℕ) → k < 128 → SFits w8 (neg_ℤ (pos k))
 neg_fits zero lt = omega (arith, ints)
@@ -130,22 +121,22 @@ level_of_fits n lt ne =
     ]
 
 -- a word and its sign
-pub word_read : (b : Bits) (level : Level) (len seen : ℕ) (z : ℤ) → len ≤ 12 → IsWordIn seen (Some (event_of_level level)) len → 22 ≤ length b.bits → number (take 22 b.bits) ≡ seen → z ≡ signed (seen / 2 ^ (21 - len) % 2) level.size
-    → reading event_parts b ≡ Ok (record { last = level.last; run = level.run; level = z }, skip (len + 1) b)
+pub word_read : (b : Bits) (e : Event) (len seen : ℕ) (z : ℤ) → len ≤ 12 → IsWordIn 13 seen (Some e) len → 13 ≤ length b.bits → number (take 13 b.bits) ≡ seen → z ≡ signed (seen / 2 ^ (12 - len) % 2) e.size
+    → reading event_parts b ≡ Ok (record { last = e.last; run = e.run; level = z }, skip (len + 1) b)
 unfolding reading event_parts event_table
-word_read b level len seen z short word enough is value =
-    let sign : number_at 1 (skip len b) ≡ Ok (seen / 2 ^ (21 - len) % 2, skip (len + 1) b) = field_there b len 1 (21 - len) seen (omega arith) enough is in
+word_read b e len seen z short word enough is value =
+    let sign : number_at 1 (skip len b) ≡ Ok (seen / 2 ^ (12 - len) % 2, skip (len + 1) b) = field_there b 13 len 1 (12 - len) seen (omega arith) enough is in
     rw (word b enough is, sign, value) refl
 
 -- the escape and its fields
-pub escape_read : (b : Bits) (seen : ℕ) (z : ℤ) → IsWordIn seen None 7 → (seen % 256 ≡ 0 → ⊥) → (seen % 256 ≡ 128 → ⊥) → 22 ≤ length b.bits → number (take 22 b.bits) ≡ seen → z ≡ level_of (seen % 256)
+pub escape_read : (b : Bits) (seen : ℕ) (z : ℤ) → IsWordIn 22 seen None 7 → (seen % 256 ≡ 0 → ⊥) → (seen % 256 ≡ 128 → ⊥) → 22 ≤ length b.bits → number (take 22 b.bits) ≡ seen → z ≡ level_of (seen % 256)
     → reading event_parts b ≡ Ok (record { last = eqb (seen / 2 ^ 14 % 2) 1; run = seen / 2 ^ 8 % 64; level = z }, skip 22 b)
 unfolding reading event_parts event_table
 escape_read b seen z word some great enough is value =
-    let last : number_at 1 (skip 7 b) ≡ Ok (seen / 2 ^ 14 % 2, skip 8 b) = field_there b 7 1 14 seen refl enough is in
-    let run : number_at 6 (skip 8 b) ≡ Ok (seen / 2 ^ 8 % 64, skip 14 b) = field_there b 8 6 8 seen refl enough is in
+    let last : number_at 1 (skip 7 b) ≡ Ok (seen / 2 ^ 14 % 2, skip 8 b) = field_there b 22 7 1 14 seen refl enough is in
+    let run : number_at 6 (skip 8 b) ≡ Ok (seen / 2 ^ 8 % 64, skip 14 b) = field_there b 22 8 6 8 seen refl enough is in
     let whole : seen / 2 ^ 0 ≡ seen = omega arith in
-    let level : number_at 8 (skip 14 b) ≡ Ok (seen % 256, skip 22 b) = field_there b 14 8 0 seen refl enough is ∙ ap (λ (v : ℕ). Ok (v % 256, skip 22 b)) whole in
+    let level : number_at 8 (skip 14 b) ≡ Ok (seen % 256, skip 22 b) = field_there b 22 14 8 0 seen refl enough is ∙ ap (λ (v : ℕ). Ok (v % 256, skip 22 b)) whole in
     rw (word b enough is, last, run, level, ne_eqb (seen % 256) 0 some, ne_eqb (seen % 256) 128 great, value) refl
 
 -- an event is read where its parts are

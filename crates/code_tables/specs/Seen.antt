@@ -1,5 +1,5 @@
--- Events and differences by their first bits, as one number: an event has 22 bits at most, as an
--- escape, and a difference 13.
+-- Events and differences by their first bits, as one number: an event has 13 bits at most as a word
+-- and its sign, and 22 as an escape, and a difference has 13.
 use Rattle.std.specs.Prelude.{◌≡◌, ℕ, ◌≤◌, length, take, Option, Ok}
 use Rattle.h263_bits.specs.Bits.{number}
 use Rattle.h263_bits.specs.Reading.{Bits, skip}
@@ -9,18 +9,18 @@ use Rattle.code_tables.specs.declared.event_bits.SeenEvent.{SeenEvent}
 use Rattle.code_tables.specs.Events.{coefficient_of}
 use Rattle.code_tables.specs.Tables.{Event, magnitude_words, mvd, tcoef_words, event_parts}
 
--- All bits of which the first 22 are this number begin with the word of an event, or of an escape.
-abbrev pub IsWordIn : ℕ → Option Event → ℕ → Type 0
-IsWordIn seen meaning len = (b : Bits) → 22 ≤ length b.bits → number (take 22 b.bits) ≡ seen
+-- All bits of which the first n are this number begin with the word of an event, or of an escape.
+abbrev pub IsWordIn : ℕ → ℕ → Option Event → ℕ → Type 0
+IsWordIn n seen meaning len = (b : Bits) → n ≤ length b.bits → number (take n b.bits) ≡ seen
     → word_at tcoef_words b ≡ Ok (meaning, skip len b)
 
--- All bits of which the first 22 are this number begin with this event.
-pub record IsFirst (b : Bits) (found : SeenEvent) : Type 0 where
-  pub few : found.len ≤ 22
+-- All bits of which the first n are this number begin with this event, which has no more bits.
+pub record IsFirst (n : ℕ) (b : Bits) (found : SeenEvent) : Type 0 where
+  pub few : found.len ≤ n
   pub read : reading event_parts b ≡ Ok (coefficient_of found.event, skip found.len b)
 
-abbrev pub IsEventIn : ℕ → SeenEvent → Type 0
-IsEventIn seen found = (b : Bits) → 22 ≤ length b.bits → number (take 22 b.bits) ≡ seen → IsFirst b found
+abbrev pub IsEventIn : ℕ → ℕ → SeenEvent → Type 0
+IsEventIn n seen found = (b : Bits) → n ≤ length b.bits → number (take n b.bits) ≡ seen → IsFirst n b found
 
 -- All bits of which the first 13 are this number begin with the word of this magnitude.
 abbrev pub IsMagnitudeIn : ℕ → ℕ → ℕ → Type 0

@@ -1,12 +1,12 @@
 //! Events as numbers: a sign, LEVEL of an escape, and a whole event by one look at its bits.
-ghost use Rattle.std.specs.Prelude.{◌≡◌, ◌≢◌, ◌+◌, ◌<◌, ◌≤◌, ◌^◌, length, slice_get, IfSome, Some, None};
+ghost use Rattle.std.specs.Prelude.{◌≡◌, ◌≢◌, ◌+◌, ◌<◌, ◌≤◌, ◌/◌, ◌%◌, ◌^◌, length, slice_get, IfSome, IsTrue, None};
 ghost use Rattle.code_tables.specs.Words.{code_at};
 ghost use Rattle.code_tables.specs.Tables.{signed, level_of};
-ghost use Rattle.code_tables.specs.Events.{event_of_level};
+ghost use Rattle.code_tables.specs.Packed.{is_packed};
 ghost use Rattle.code_tables.specs.Seen.{IsWordIn, IsEventIn};
 
-use crate::code::{Code, Coefficient, Level, named_place};
-use crate::event_tables::{EVENTS, EVENTS_FAST, EVENTS_LONG, LEVELS};
+use crate::code::{Code, Coefficient, Level};
+use crate::event_tables::{LONG_EVENTS, SHORT_EVENTS};
 
 /// A size with its sign, 1 for minus.
 pub fn with_sign(sign: u32, size: u8) -> i8
@@ -51,28 +51,63 @@ pub fn len_at(codes: &[Code], place: usize) -> u32
     codes[place].len as u32
 }
 
-// An event by the word that 22 bits begin with, and the sign after it.
-fn seen_word(seen: u32, level: Level, len: u32) -> SeenEvent
-    requires len { len ≤ 12 }
-    requires size { level.size < 128 }
-    requires word { IsWordIn seen (Some (event_of_level level)) len }
-    ensures { IsEventIn seen result }
+// The event whose word twelve bits begin with, as one number, by look-up; 0 where there is none.
+#[inline(always)]
+fn packed_event(seen: u32) -> u32
+    requires { seen < 2 ^ 12 }
+    ensures event { result ≢ 0 → IsTrue (is_packed 12 seen result) }
+    ensures small { result < 2 ^ 16 }
 {
-    let sign = (seen >> (21 - len)) % 2;
+    let short = SHORT_EVENTS[(seen >> 4) as usize];
+    if short != 0 {
+        return short as u32;
+    }
+    let seen = seen as usize;
+    if seen < LONG_EVENTS.len() {
+        return LONG_EVENTS[seen] as u32;
+    }
+    0
+}
+
+// An event of the tables, with the sign that stands after its word in 13 bits.
+#[inline(always)]
+fn unpacked(seen: u32, packed: u32) -> SeenEvent
+    requires len { packed % 16 ≤ 12 }
+    requires small { packed < 2 ^ 16 }
+    requires event { IsTrue (is_packed 12 (seen / 2) packed) }
+    ensures { IsEventIn 13 seen result }
+{
+    let len = packed % 16;
+    let sign = (seen >> (12 - len)) % 2;
+    let event = Coefficient {
+        last: packed / 16 % 2 == 1,
+        run: (packed / 32 % 64) as u8,
+        level: with_sign(sign, (packed / 2048) as u8),
+    };
     SeenEvent {
-        event: Coefficient {
-            last: level.last,
-            run: level.run,
-            level: with_sign(sign, level.size),
-        },
+        event,
         len: len + 1,
     }
 }
 
+/// The event that 13 bits begin with, which are as many as a word and its sign have. None where
+/// they begin with no word of an event: with the escape, or with none.
+#[inline(always)]
+pub fn seen_event(seen: u32) -> Option<SeenEvent>
+    requires { seen < 2 ^ 13 }
+    ensures { IfSome result (λ found. IsEventIn 13 seen found) }
+{
+    let packed = packed_event(seen >> 1);
+    if packed == 0 {
+        return None;
+    }
+    Some(unpacked(seen, packed))
+}
+
 // An event by the escape that 22 bits are. None where LEVEL is 0 or -128.
-fn seen_escape(seen: u32) -> Option<SeenEvent>
-    requires { IsWordIn seen None 7 }
-    ensures { IfSome result (λ found. IsEventIn seen found) }
+fn escaped(seen: u32) -> Option<SeenEvent>
+    requires { IsWordIn 22 seen None 7 }
+    ensures { IfSome result (λ found. IsEventIn 22 seen found) }
 {
     let level = seen % 256;
     if level == 0 || level == 128 {
@@ -86,15 +121,14 @@ fn seen_escape(seen: u32) -> Option<SeenEvent>
     Some(SeenEvent { event, len: 22 })
 }
 
-/// The event that 22 bits begin with, which are as many as the longest has. None leaves them to be
-/// read part by part: they may begin with none, or with an escape of a level that is refused.
-pub fn seen_event(seen: u32) -> Option<SeenEvent>
+/// The event whose escape 22 bits are, which are as many as an escape has. None where they begin
+/// with no escape, or its LEVEL is refused.
+pub fn seen_escape(seen: u32) -> Option<SeenEvent>
     requires { seen < 2 ^ 22 }
-    ensures { IfSome result (λ found. IsEventIn seen found) }
+    ensures { IfSome result (λ found. IsEventIn 22 seen found) }
 {
-    let place = named_place(&EVENTS, &EVENTS_FAST, &EVENTS_LONG, seen >> 10)?;
-    match level_at(&LEVELS, place) {
-        Some(level) => Some(seen_word(seen, level, len_at(&EVENTS, place))),
-        None => seen_escape(seen),
+    if seen >> 15 == 3 {
+        return escaped(seen);
     }
+    None
 }

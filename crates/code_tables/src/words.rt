@@ -4,6 +4,7 @@ ghost use Rattle.h263_bits.specs.Written.{Appends, len_of, room_of};
 ghost use Rattle.h263_bits.specs.Bits.{fields};
 ghost use Rattle.code_tables.specs.Words.{text_at, code_at, word_of, place_in};
 ghost use Rattle.code_tables.specs.Starts.{starts_of};
+ghost use Rattle.code_tables.specs.Rows.{row_at, place_in_row};
 ghost use Rattle.h263_bits.specs.Reading.{Gives, Takes};
 ghost use Rattle.h263_bits.specs.Syntax.{reading, word_at, Spells};
 ghost use Rattle.h263_bits.specs.Elements.{IsWordOf, IsWordFault};
@@ -11,10 +12,10 @@ ghost use Rattle.code_tables.specs.EventWords.{IsEventFault};
 ghost use Rattle.code_tables.specs.Tables.{cbpy, cbpy_texts, cbpy_text, magnitude_texts, size_of, sign_text, mvd_text, cbpy_words, magnitude_table, event_table, mvd, mvd_words, Coefficient as Event, signed, level_of, mvd_parts, event, event_parts, byte_of, escape_fields, event_text, IsEvent};
 ghost use Rattle.code_tables.specs.Events.{event_of_code, coefficient_of};
 
-use crate::code::{Coefficient, Level, read_code, write_code, write_signed_code};
+use crate::code::{Coefficient, Level, read_code, search_code, write_code, write_signed_code};
 use crate::difference_bits::seen_difference;
-use crate::event_bits::{escape_level, level_at, seen_event, with_sign};
-use crate::event_tables::{EVENTS, EVENTS_FAST, EVENTS_LONG, LAST_0_STARTS, LAST_1_STARTS, LEVELS};
+use crate::event_bits::{escape_level, level_at, seen_escape, seen_event, with_sign};
+use crate::event_tables::{EVENTS, LAST_0_ROWS, LAST_1_ROWS, LEVELS, Row};
 use crate::tables::{CBPY, CBPY_FAST, MAGNITUDES, MAGNITUDES_FAST, MAGNITUDES_LONG};
 use h263_bits::{BitReader, BitWriter, Fault, FaultKind};
 
@@ -105,7 +106,7 @@ fn read_event_word(reader: &mut BitReader<'_>) -> Result<Option<Level>, Fault>
     ensures reads { Gives event_of_code result reader.new (word_at event_table.list reader.old) }
     ensures small { IfOk result (λ o. IfSome o (λ level. level.size < 128)) }
 {
-    let place = read_code(reader, &EVENTS, &EVENTS_FAST, &EVENTS_LONG)?;
+    let place = search_code(reader, &EVENTS)?;
     Ok(level_at(&LEVELS, place))
 }
 
@@ -135,8 +136,29 @@ fn read_event_parts(reader: &mut BitReader<'_>) -> Result<Coefficient, Fault>
     })
 }
 
-/// An event of TCOEF: LAST, RUN and LEVEL, as a word with its sign or as an escape (H.263 5.4.2).
+// An event that isn't seen at one look: an escape, an event at the end of the bits, or none. Few are
+// read here, out of the way of those that are looked up.
+#[inline(never)]
 #[tactic(auto, unfolding(crate::specs::Tables::event, h263_bits::specs::Syntax::reading))]
+fn read_rare_event(reader: &mut BitReader<'_>) -> Result<Coefficient, Fault>
+    ensures { Gives coefficient_of result reader.new (reading event reader.old) }
+{
+    if reader.rest() >= 22 {
+        let seen = reader.peek(22);
+        if let Some(found) = seen_escape(seen) {
+            reader.skip(found.len);
+            return Ok(found.event);
+        }
+    }
+    let at = reader.at();
+    match read_event_parts(reader) {
+        Ok(event) => Ok(event),
+        Err(fault) => Err(fault.kind.at(at)),
+    }
+}
+
+/// An event of TCOEF: LAST, RUN and LEVEL, as a word with its sign or as an escape (H.263 5.4.2).
+#[inline(always)]
 pub fn read_event(reader: &mut BitReader<'_>) -> Result<Coefficient, Fault>
     // What is read is spelled by the bits that were taken.
     ensures found { IfOk result (λ e.
@@ -151,18 +173,14 @@ pub fn read_event(reader: &mut BitReader<'_>) -> Result<Coefficient, Fault>
         (d.at ≡ reader.old.at) × IsEventFault reader.old.bits d.kind) }
     ensures exact { Gives coefficient_of result reader.new (reading event reader.old) }
 {
-    if reader.rest() >= 22 {
-        let seen = reader.peek(22);
+    if reader.rest() >= 13 {
+        let seen = reader.peek(13);
         if let Some(found) = seen_event(seen) {
             reader.skip(found.len);
             return Ok(found.event);
         }
     }
-    let at = reader.at();
-    match read_event_parts(reader) {
-        Ok(event) => Ok(event),
-        Err(fault) => Err(fault.kind.at(at)),
-    }
+    read_rare_event(reader)
 }
 
 fn write_pattern(writer: &mut BitWriter<'_>, pattern: usize)
@@ -216,23 +234,23 @@ pub fn write_mvd(writer: &mut BitWriter<'_>, value: i8)
     }
 }
 
-// The place of a size from 1 on in a row of a table.
-fn row_place(starts: &[u8], run: usize, size: usize) -> Option<usize>
+// The place of a size from 1 on among the words of a RUN, if they have one.
+#[inline(always)]
+fn row_place(rows: &[Row], run: usize, size: usize) -> Option<usize>
     requires size { 0 < size }
     requires small { size < 256 }
-    requires run { run < 64 }
-    ensures { result ≡ place_in starts.now run size }
+    requires run { run < length rows.now }
+    ensures { result ≡ place_in_row (row_at rows.now run) size }
 {
-    if run + 1 < starts.len() {
-        let place = starts[run] as usize + size - 1;
-        if place < starts[run + 1] as usize {
-            return Some(place);
-        }
+    let row = rows[run];
+    if size <= row.count as usize {
+        return Some(row.first as usize + size - 1);
     }
     None
 }
 
 // The place of the word of LAST, RUN and a size, if they have one.
+#[inline(always)]
 fn triple_place(last: bool, run: usize, size: usize) -> Option<usize>
     requires size { 0 < size }
     requires small { size < 256 }
@@ -240,9 +258,9 @@ fn triple_place(last: bool, run: usize, size: usize) -> Option<usize>
     ensures { result ≡ place_in (starts_of last) run size }
 {
     if last {
-        row_place(&LAST_1_STARTS, run, size)
+        row_place(&LAST_1_ROWS, run, size)
     } else {
-        row_place(&LAST_0_STARTS, run, size)
+        row_place(&LAST_0_ROWS, run, size)
     }
 }
 
@@ -258,7 +276,8 @@ fn level_byte(level: i8) -> u32
     }
 }
 
-// Writes an escape: its four fields as one number.
+// Writes an escape: its four fields as one number. Few are written, out of the way of the words.
+#[inline(never)]
 fn write_escape(writer: &mut BitWriter<'_>, event: &Coefficient)
     requires event { IsEvent (coefficient_of event.now) }
     requires room { len_of writer.old + 22 ≤ room_of writer.old }
@@ -273,6 +292,7 @@ fn write_escape(writer: &mut BitWriter<'_>, event: &Coefficient)
 
 /// Writes an event: the word of its LAST, RUN and size with the sign, where they have one, and else
 /// an escape.
+#[inline(always)]
 pub fn write_event(writer: &mut BitWriter<'_>, event: &Coefficient)
     requires event { IsEvent (coefficient_of event.now) }
     requires room { len_of writer.old + length (event_text (coefficient_of event.now))

@@ -1,4 +1,4 @@
-use Rattle.std.proofs.Common.{◌≡◌, ◌++◌, Bool, List, Result, Ok, Err, rules, ap, sym, ◌∙◌, arith}
+use Rattle.std.proofs.Common.{◌≡◌, ◌++◌, Bool, List, Result, Ok, ap, sym, ◌∙◌, arith}
 use Rattle.std.specs.Prelude.{IfOk, IfErr, IsOkAnd}
 use Rattle.h263_bits.specs.declared.fault.Fault.{Fault}
 use Rattle.h263_bits.specs.Reading.{Bits, Gives, Takes, skip}
@@ -30,13 +30,8 @@ every r old new e = record {
 pub returns-in-Some : goal.returns-in-Some
 returns-in-Some c =
     let old = c.args.reader.now in
-    let first = c.in-Some.ensures old (omega (arith, c.rest.ensures, c.if-rest-ge22.true)) (sym c.peek-seen.ensures.value) in
+    let first = c.in-Some.ensures old (omega (arith, c.rest.ensures, c.if-rest-ge13.true)) (sym c.peek-seen.ensures.value) in
     every (Ok _) old c.skip.new.self (event_read old (skip c.in-Some.found.len old) _ first.read ∙ ap (λ (b : Bits). Ok (coefficient_of c.in-Some.found.event, b)) (sym c.skip.ensures))
 
-pub returns-in-Ok : goal.returns-in-Ok
-unfolding event reading
-returns-in-Ok c = every (Ok _) c.args.reader.now c.read_event_parts.new.reader (search rules)
-
-pub returns-in-Err : goal.returns-in-Err
-unfolding event reading
-returns-in-Err c = every (Err _) c.args.reader.now c.read_event_parts.new.reader (search rules)
+pub returns : goal.returns
+returns c = every c.read_rare_event.result c.args.reader.now c.read_rare_event.new.reader c.read_rare_event.ensures

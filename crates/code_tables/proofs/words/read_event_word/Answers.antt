@@ -1,19 +1,12 @@
-use Rattle.std.proofs.Common.{◌<◌, Option, refl, ap, sym, subst}
+use Rattle.std.proofs.Common.{◌<◌, Option, ap, sym, subst}
 use Rattle.std.specs.Prelude.{IfSome}
 use Rattle.code_tables.specs.declared.code.Level.{Level}
 use Rattle.std.proofs.lemmas.Result.{err_from_is_err_and}
-use Rattle.h263_bits.specs.Bits.{spelled}
-use Rattle.h263_bits.specs.Syntax.{begins, is_prefix_free}
 use Rattle.code_tables.specs.declared.event_tables.TheConstants.{LEVELS}
-use Rattle.code_tables.specs.Words.{listed}
 use Rattle.code_tables.specs.Tables.{event_table}
 use Rattle.code_tables.specs.Events.{event_of_code}
 use Rattle.code_tables.proofs.SeenEvents.{found, fault, small, all_small}
 use Rattle.code_tables.proofs.words.read_event_word.Goals as goal
-
-pub read_code-requires-clause-apart : goal.read_code-requires-clause-apart
-unfolding begins is_prefix_free listed spelled
-read_code-requires-clause-apart c = refl
 
 pub returns-in_err-place-clause-reads : goal.returns-in_err-place-clause-reads
 unfolding event_table
