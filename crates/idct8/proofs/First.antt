@@ -19,7 +19,7 @@ first_differs (suc n) f g e first others =
     let step : sum_below (suc n) f +ℤ f (suc n) ≡ e +ℤ (sum_below (suc n) g +ℤ g (suc n)) = omega (arith, ints, before, last) in
     step
 
-first_row : (x : ℕ) → x < 8 → basis 0 x ≡ pos 2048
+pub first_row : (x : ℕ) → x < 8 → basis 0 x ≡ pos 2048
 unfolding basis
 first_row = below_eight (λ x. basis 0 x ≡ pos 2048) refl refl refl refl refl refl refl refl
 

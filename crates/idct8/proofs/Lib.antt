@@ -18,4 +18,7 @@ pub mod Low
 pub mod Columns
 pub mod First
 pub mod Halves
-pub mod Masks
+pub mod Near
+pub mod Limits
+pub mod Roundings
+pub mod Alone

@@ -135,6 +135,5 @@ quotient_words v h = down_words 25 64 (lit≤ tt) quotient_small (own_words w32 
 -- the two parts of a vector of sums
 pub record AreParts (sums high low : List ℤ) : Type 0 where
   pub whole : (i : ℕ) → i < 8 → lane sums i ≡ pos 8192 *ℤ lane high i +ℤ lane low i
-  pub zeros : (i : ℕ) → i < 8 → lane sums i ≡ pos 0 → (lane high i ≡ pos 0) × (lane low i ≡ pos 0)
   pub high_size : EightWithin 8191 high
   pub low_size : EightWithin 8191 low

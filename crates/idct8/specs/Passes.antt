@@ -1,5 +1,5 @@
 -- The transforms in two passes, both in one form.
-use Rattle.std.specs.Prelude.{◌≡◌, Bool, true, false, ℕ, ◌-◌, ◌^◌, ◌<◌, ℤ, pos, ◌+ℤ◌, ◌*ℤ◌, List, slice_index_or}
+use Rattle.std.specs.Prelude.{◌≡◌, ℕ, ◌-◌, ◌^◌, ◌<◌, ℤ, pos, ◌+ℤ◌, ◌*ℤ◌, List, slice_index_or}
 use Rattle.idct8.specs.declared.passes.Direction.{Direction}
 use Rattle.idct8.specs.declared.passes.Sum.{Sum}
 use Rattle.idct8.specs.declared.passes.Direction.TheVariants.{Inverse, Forward}
@@ -7,11 +7,6 @@ use Rattle.idct8.specs.Sums.{sum_below}
 use Rattle.idct8.specs.Basis.{basis}
 use Rattle.idct8.specs.Transform.{entry, rounded}
 use Rattle.idct8.specs.Vectors.{lane, EightWithin, column_at}
-
--- whether it is the forward one
-abbrev pub direction_of : Bool → Direction
-direction_of false = Inverse
-direction_of true = Forward
 
 -- the factor of term i in sum k of a pass
 abbrev pub factor : Direction → ℕ → ℕ → ℤ

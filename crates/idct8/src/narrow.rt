@@ -15,7 +15,7 @@ ghost use Rattle.idct8.specs.declared.passes.Direction.TheVariants.{Inverse};
 
 use crate::parts::{HALF, ROUNDED_BITS};
 use crate::passes::{Sum, Sums};
-use crate::two_passes::{inverse, row};
+use crate::two_passes::{inverse, inverse_of_four_rows, inverse_of_two_rows, row};
 use std::simd::prelude::*;
 
 // How large the sum of the sizes may be: 263 * 2841 * 2841 and half of the divisor 2^25 are less
@@ -39,54 +39,20 @@ const LAST_PAIRS: [i32; 16] = [
 ];
 
 /// The inverse transform of a block of values, as [`inverse`] gives it, in 16 bits and in their
-/// place. It is quick where the sum of the sizes of the values is at most 263, and quickest where
-/// only the first two rows have values, as in most blocks that are coded.
+/// place. It is quick where the sum of the sizes of the values is at most 263.
 pub fn narrow_inverse(block: &mut [i16; 64])
     requires { All IsValue block.old }
     ensures numbers { (y x : ℕ)
         → y < 8 → x < 8 → entry block.new y x ≡ inverse_at block.old y x }
     ensures range { (y x : ℕ) → y < 8 → x < 8 → Within 32000 (entry block.new y x) }
 {
-    if are_last_zeros(block) {
-        if are_next_zeros(block) {
-            inverse_by_rows(block, 2);
-        } else {
-            inverse_by_rows(block, 4);
-        }
-    } else {
-        inverse_by_rows(block, 8);
-    }
+    inverse_by_rows(block, 8);
 }
 
-// Whether the values of the last four rows are zeros.
+/// The same of values of which only those of the first `count` rows may be other than 0: the fewer
+/// the rows, the quicker.
 #[inline(always)]
-fn are_last_zeros(values: &[i16; 64]) -> bool
-    requires { All IsValue values.now }
-    ensures { result ≡ true → (k : ℕ)
-        → 32 ≤ k → k < 64 → slice_index_or values.now k (pos 0) ≡ pos 0 }
-{
-    i16x32::from_slice(&values[32..])
-        .simd_ne(i16x32::splat(0))
-        .to_bitmask()
-        == 0
-}
-
-// Whether those of the two rows before them are.
-#[inline(always)]
-fn are_next_zeros(values: &[i16; 64]) -> bool
-    requires { All IsValue values.now }
-    ensures { result ≡ true → (k : ℕ)
-        → 16 ≤ k → k < 32 → slice_index_or values.now k (pos 0) ≡ pos 0 }
-{
-    i16x16::from_slice(&values[16..])
-        .simd_ne(i16x16::splat(0))
-        .to_bitmask()
-        == 0
-}
-
-// The inverse transform of values, of which those from row `count` on are zeros.
-#[inline(always)]
-fn inverse_by_rows(block: &mut [i16; 64], count: usize)
+pub fn inverse_by_rows(block: &mut [i16; 64], count: usize)
     requires values { All IsValue block.old }
     requires count { count ≤ 8 }
     requires zeros { (k : ℕ)
@@ -96,10 +62,27 @@ fn inverse_by_rows(block: &mut [i16; 64], count: usize)
     ensures range { (y x : ℕ) → y < 8 → x < 8 → Within 32000 (entry block.new y x) }
 {
     if sizes(block, 8 * count) > MOST {
-        *block = narrowed(&inverse(block));
+        *block = narrowed(&wide_inverse(block, count));
         return;
     }
     inverse_of_rows(block, count);
+}
+
+// The same in 32 bits, whatever the sizes.
+#[inline(always)]
+fn wide_inverse(values: &[i16; 64], count: usize) -> [i32; 64]
+    requires values { All IsValue values.now }
+    requires count { count ≤ 8 }
+    requires zeros { (j i : ℕ) → count ≤ j → j < 8 → i < 8 → entry values.now j i ≡ pos 0 }
+    ensures { (y x : ℕ) → y < 8 → x < 8 → entry result y x ≡ inverse_at values.now y x }
+{
+    if count <= 2 {
+        inverse_of_two_rows(values)
+    } else if count <= 4 {
+        inverse_of_four_rows(values)
+    } else {
+        inverse(values)
+    }
 }
 
 // The sum of the sizes of a block's first values, up to a place. None counts further than `LARGE`.
@@ -148,7 +131,7 @@ fn inverse_of_rows(block: &mut [i16; 64], count: usize)
 
 // The first pass: the eight sums of each row.
 #[inline(always)]
-fn sums_of_rows(values: &[i16; 64], count: usize) -> Sums
+pub(crate) fn sums_of_rows(values: &[i16; 64], count: usize) -> Sums
     requires values { All (Within (2 ^ 11)) values.now }
     requires count { count ≤ 8 }
     requires zeros { (j i : ℕ)
@@ -171,7 +154,7 @@ fn sums_of_rows(values: &[i16; 64], count: usize) -> Sums
 // The eight sums of a row at once. The even rows of the basis are symmetric and the odd ones
 // antisymmetric, so places x and 7 - x share their two halves. The row needs no transposition.
 #[inline(always)]
-fn row_of_sums(r: i16x8) -> i32x8
+pub(crate) fn row_of_sums(r: i16x8) -> i32x8
     requires { EightWithin 8191 r }
     ensures sums { (k : ℕ) → k < 8 → lane result k ≡ pass_at Inverse r k }
     ensures size { EightWithin (2 ^ 28) result }
@@ -293,8 +276,8 @@ fn quotients(v: i32x8) -> i16x8
 }
 
 #[inline(always)]
-fn store(v: i16x8, r: usize, out: &mut [i16; 64])
-    requires v { EightWithin 64 v }
+pub(crate) fn store(v: i16x8, r: usize, out: &mut [i16; 64])
+    requires v { EightWithin 32000 v }
     requires r { r < 8 }
     ensures { out.new ≡ put_chunk (8 * r) out.old v }
 {

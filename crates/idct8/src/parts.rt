@@ -21,8 +21,6 @@ pub(crate) const HALF: i32 = 0x100_0000;
 fn parts(v: i32x8) -> (i16x8, i16x8)
     requires { EightWithin 46546944 v }
     ensures whole { (i : ℕ) → i < 8 → lane v i ≡ pos 8192 *ℤ lane result.0 i +ℤ lane result.1 i }
-    ensures zeros { (i : ℕ)
-        → i < 8 → lane v i ≡ pos 0 → (lane result.0 i ≡ pos 0) × (lane result.1 i ≡ pos 0) }
     ensures high_size { EightWithin 8191 result.0 }
     ensures low_size { EightWithin 8191 result.1 }
 {
@@ -51,8 +49,6 @@ pub(crate) fn split(s: Sums) -> (Rows, Rows)
     requires { SumsWithin 46546944 s }
     ensures whole { (k i : ℕ) → k < 8 → i < 8 →
         lane (sum_at s k) i ≡ pos 8192 *ℤ lane (row_at result.0 k) i +ℤ lane (row_at result.1 k) i }
-    ensures zeros { (k i : ℕ) → k < 8 → i < 8 → lane (sum_at s k) i ≡ pos 0
-        → (lane (row_at result.0 k) i ≡ pos 0) × (lane (row_at result.1 k) i ≡ pos 0) }
     ensures high_size { RowsWithin 8191 result.0 }
     ensures low_size { RowsWithin 8191 result.1 }
 {

@@ -1,14 +1,15 @@
 //! The transforms in two passes: the rows of the block, then the columns of what they give. Between
 //! the passes stand exact numbers; only the end is rounded.
-ghost use Rattle.std.specs.Prelude.{◌≡◌, ℕ, ◌*◌, ◌^◌, ◌<◌, ◌≤◌, IsTrue, pos, ◌+ℤ◌, ◌*ℤ◌, slice_index_or, All};
+ghost use Rattle.std.specs.Prelude.{◌≡◌, ℕ, ◌*◌, ◌^◌, ◌<◌, ◌≤◌, pos, ◌+ℤ◌, ◌*ℤ◌, slice_index_or, All};
 ghost use Rattle.h263_types.specs.Blocks.{IsCoefficient, IsValue};
 ghost use Rattle.idct8.specs.Ranges.{IsSample, Within};
 ghost use Rattle.idct8.specs.Transform.{entry, forward_at, inverse_at, rounded};
-ghost use Rattle.idct8.specs.Passes.{direction_of, pass_at, row_sums, transform_at};
+ghost use Rattle.idct8.specs.Passes.{pass_at, row_sums, transform_at};
 ghost use Rattle.std.specs.Simd.Lanes.{put_chunk};
 ghost use Rattle.idct8.specs.Vectors.{lane, EightWithin, RowsWithin, SumsWithin, row_at, sum_at};
 ghost use Rattle.idct8.specs.declared.passes.Direction.TheVariants.{Inverse, Forward};
 
+use crate::narrow::sums_of_rows;
 use crate::parts::{nearest, split};
 use crate::passes::{Direction, Row, Rows, Sums, pass};
 use crate::turns::transposed;
@@ -23,7 +24,7 @@ pub fn inverse(values: &[i16; 64]) -> [i32; 64]
     ensures range { (y x : ℕ) → y < 8 → x < 8 → Within (2 ^ 15) (entry result y x) }
 {
     let mut samples = [0; 64];
-    either_inverse(values, &mut samples);
+    inverse_of_first(values, 8, &mut samples);
     samples
 }
 
@@ -37,96 +38,56 @@ pub fn forward(samples: &[i16; 64]) -> [i32; 64]
     ensures range { (v u : ℕ) → v < 8 → u < 8 → IsCoefficient (entry result v u) }
 {
     let mut coefficients = [0; 64];
-    transform::<true>(samples, &mut coefficients);
+    forward_of(samples, &mut coefficients);
     coefficients
 }
 
-// Each of the two transforms has a copy of its own, in which the direction is known.
 #[inline(always)]
-fn transform<const FORWARD: bool>(block: &[i16; 64], out: &mut [i32; 64])
+fn forward_of(block: &[i16; 64], out: &mut [i32; 64])
     requires { All (Within (2 ^ 11)) block.now }
-    ensures { (r k : ℕ)
-        → r < 8 → k < 8 → entry out.new r k ≡ transform_at (direction_of FORWARD) block.now r k }
+    ensures { (r k : ℕ) → r < 8 → k < 8 → entry out.new r k ≡ transform_at Forward block.now r k }
 {
-    let direction = direction::<FORWARD>();
-    let (high, low) = split(row_pass(block, direction));
-    let high = turned_pass(direction, high);
-    let low = turned_pass(direction, low);
+    let (high, low) = split(row_pass(block, Direction::Forward));
+    let high = turned_pass(Direction::Forward, high);
+    let low = turned_pass(Direction::Forward, low);
     round(high, low, out);
 }
 
+// The inverse transform of values of which those of the first `count` rows alone may be other than
+// 0. The sums of a row stand in a row, so neither pass turns the block.
 #[inline(always)]
-fn either_inverse(block: &[i16; 64], out: &mut [i32; 64])
-    requires { All (Within (2 ^ 11)) block.now }
-    ensures { (r k : ℕ) → r < 8 → k < 8 → entry out.new r k ≡ transform_at Inverse block.now r k }
-{
-    if is_upper(block) {
-        upper_inverse(block, out);
-    } else {
-        transform::<false>(block, out);
-    }
-}
-
-// Whether the last four rows are zeros, as in most blocks that are coded. It counts, since a loop
-// with an early end isn't done in lanes.
-#[inline(always)]
-fn is_upper(block: &[i16; 64]) -> bool
-    ensures { IsTrue result → (j i : ℕ) → 4 ≤ j → j < 8 → i < 8 → entry block.now j i ≡ pos 0 }
-{
-    let mut count: u16 = 0;
-    for at in 32..64 {
-        count += u16::from(block[at] != 0);
-    }
-    count == 0
-}
-
-// The inverse transform of a block whose last four rows are zeros.
-fn upper_inverse(block: &[i16; 64], out: &mut [i32; 64])
+fn inverse_of_first(block: &[i16; 64], count: usize, out: &mut [i32; 64])
     requires block { All (Within (2 ^ 11)) block.now }
-    requires zeros { (j i : ℕ) → 4 ≤ j → j < 8 → i < 8 → entry block.now j i ≡ pos 0 }
+    requires count { count ≤ 8 }
+    requires zeros { (j i : ℕ) → count ≤ j → j < 8 → i < 8 → entry block.now j i ≡ pos 0 }
     ensures { (r k : ℕ) → r < 8 → k < 8 → entry out.new r k ≡ transform_at Inverse block.now r k }
 {
-    let (high, low) = split(row_pass(block, Direction::Inverse));
-    let high = upper_pass(high);
-    let low = upper_pass(low);
+    let (high, low) = split(sums_of_rows(block, count));
+    let high = pass(Direction::Inverse, high);
+    let low = pass(Direction::Inverse, low);
     round(high, low, out);
 }
 
-// A pass over each of eight rows, of which only the first four numbers may be other than zero.
-#[inline(always)]
-fn upper_pass(r: Rows) -> Sums
-    requires size { RowsWithin 8191 r }
-    requires zeros { (k j : ℕ) → k < 8 → 4 ≤ j → j < 8 → lane (row_at r k) j ≡ pos 0 }
-    ensures sums { (k j : ℕ)
-        → k < 8 → j < 8 → lane (sum_at result k) j ≡ pass_at Inverse (row_at r j) k }
-    ensures size { SumsWithin (2 ^ 30) result }
+// The inverse transform of values of which those of the first two rows alone may be other than 0.
+pub(crate) fn inverse_of_two_rows(values: &[i16; 64]) -> [i32; 64]
+    requires values { All IsValue values.now }
+    requires zeros { (j i : ℕ) → 2 ≤ j → j < 8 → i < 8 → entry values.now j i ≡ pos 0 }
+    ensures { (y x : ℕ) → y < 8 → x < 8 → entry result y x ≡ inverse_at values.now y x }
 {
-    pass(Direction::Inverse, upper(transposed(r)))
+    let mut samples = [0; 64];
+    inverse_of_first(values, 2, &mut samples);
+    samples
 }
 
-// The same rows, of which the compiler sees that the last four are zeros.
-#[inline(always)]
-fn upper(r: Rows) -> Rows
-    requires size { RowsWithin 8191 r }
-    requires zeros { (j i : ℕ) → 4 ≤ j → j < 8 → i < 8 → lane (row_at r j) i ≡ pos 0 }
-    ensures numbers { (j i : ℕ) → j < 8 → i < 8 → lane (row_at result j) i ≡ lane (row_at r j) i }
-    ensures size { RowsWithin 8191 result }
+// The same of the first four.
+pub(crate) fn inverse_of_four_rows(values: &[i16; 64]) -> [i32; 64]
+    requires values { All IsValue values.now }
+    requires zeros { (j i : ℕ) → 4 ≤ j → j < 8 → i < 8 → entry values.now j i ≡ pos 0 }
+    ensures { (y x : ℕ) → y < 8 → x < 8 → entry result y x ≡ inverse_at values.now y x }
 {
-    let zero = Row {
-        lanes: i16x8::splat(0),
-    };
-    [r[0], r[1], r[2], r[3], zero, zero, zero, zero]
-}
-
-#[inline(always)]
-fn direction<const FORWARD: bool>() -> Direction
-    ensures { result ≡ direction_of FORWARD }
-{
-    if FORWARD {
-        Direction::Forward
-    } else {
-        Direction::Inverse
-    }
+    let mut samples = [0; 64];
+    inverse_of_first(values, 4, &mut samples);
+    samples
 }
 
 // The first pass, over each row of the block: lane j of sum k is sum k of row j.
@@ -152,7 +113,7 @@ fn turned_pass(direction: Direction, r: Rows) -> Sums
 }
 
 #[inline(always)]
-fn rows(block: &[i16; 64]) -> Rows
+pub(crate) fn rows(block: &[i16; 64]) -> Rows
     requires { All (Within (2 ^ 11)) block.now }
     ensures numbers { (j i : ℕ) → j < 8 → i < 8 → lane (row_at result j) i ≡ entry block.now j i }
     ensures size { RowsWithin 8191 result }

@@ -116,7 +116,7 @@ pub no_level : (quant : ℕ) (f : ℤ) → IsQuant quant → unsigned_abs f < 2 
 no_level quant (pos n) h small = ap (λ (size : ℕ). pos (min size 127)) (div-eq_of_lt (let less : n - quant / 2 < 2 * quant = omega (arith, h.low) in less))
 no_level quant (negsuc n) h small = ap (λ (size : ℕ). neg_ℤ (pos (min size 127))) (div-eq_of_lt (let less : suc n - quant / 2 < 2 * quant = omega (arith, h.low) in less))
 
-kept_nothing : (b : Bool) (z : ℤ) → z ≡ pos 0 → pos 0 ≡ cond b z (pos 0)
+pub kept_nothing : (b : Bool) (z : ℤ) → z ≡ pos 0 → pos 0 ≡ cond b z (pos 0)
 kept_nothing true z h = sym h
 kept_nothing false z h = refl
 

@@ -6,6 +6,7 @@ pub mod Differences
 pub mod Choices
 pub mod Walk
 pub mod Zeros
+pub mod Sixteenths
 pub mod Whole
 pub mod Empties
 pub mod Searched

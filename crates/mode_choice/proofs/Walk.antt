@@ -14,9 +14,11 @@ use Rattle.quantiser.specs.Factors.{HasSameLevels, IsWord, limited_to_word}
 use Rattle.quantiser.specs.Zigzag.{IsOneOrder, order, block_place_of, zigzag_place_of}
 use Rattle.idct8.specs.Transform.{entry, forward_at}
 use Rattle.mode_choice.specs.Choice.{coefficient_at}
-use Rattle.mode_choice.specs.Walk.{AreSet, level_by, level_in}
+use Rattle.mode_choice.specs.Walk.{AreSet, kept_level, level_by, order_of, place_in, turned_place}
 use Rattle.mode_choice.specs.declared.coefficients.Coding.{Coding}
 use Rattle.mode_choice.specs.declared.coefficients.Coding.TheVariants.{Intra, Inter}
+use Rattle.mode_choice.specs.declared.order.Standing.{Standing}
+use Rattle.mode_choice.specs.declared.order.Standing.TheVariants.{ByRows, ByColumns}
 use Rattle.mode_choice.proofs.Levels.{is_forward}
 
 -- ---- places
@@ -33,6 +35,27 @@ places_below (n ∷ ns) h (suc k) = places_below ns (and_parts (is_place n) (lis
 pub block_place_below : (k : ℕ) → block_place_of k < 64
 unfolding block_place_of is_place
 block_place_below k = places_below order refl k
+
+-- places by rows and by columns
+
+turned_below : (at : ℕ) → at < 64 → turned_place at < 64
+turned_below at h = omega (arith, h)
+
+turned_twice : (at : ℕ) → at < 64 → turned_place (turned_place at) ≡ at
+turned_twice at h = omega (arith, h)
+
+pub place_below : (s : Standing) (k : ℕ) → place_in s k < 64
+place_below ByRows k = block_place_below k
+place_below ByColumns k = turned_below (block_place_of k) (block_place_below k)
+
+-- each place where a level stands has one in the order, and each of the order has one
+order_back : IsOneOrder → (s : Standing) (at : ℕ) → at < 64 → place_in s (order_of s at) ≡ at
+order_back one ByRows at h = one.from_block at h
+order_back one ByColumns at h = ap turned_place (one.from_block (turned_place at) (turned_below at h)) ∙ turned_twice at h
+
+order_there : IsOneOrder → (s : Standing) (k : ℕ) → k < 64 → order_of s (place_in s k) ≡ k
+order_there one ByRows k h = one.from_order k h
+order_there one ByColumns k h = ap zigzag_place_of (turned_twice (block_place_of k) (block_place_below k)) ∙ one.from_order k h
 
 -- ---- levels
 
@@ -60,21 +83,19 @@ zero_either true false v e = refl
 zero_either false b v e = refl
 
 -- a level without a mark is 0
-none_unmarked : (z v : ℤ) (t b : Bool) (bit : ℕ) → is_zero z ≡ t → bit ≡ cond t 0 1 → z ≡ v → pos 0 ≡ cond (nat_eq bit 0) (cond b v (pos 0)) (pos 0)
-none_unmarked z v true b bit e mark same = zero_either (nat_eq bit 0) b v (sym same ∙ (Decides-int_eq z (pos 0)).0 e)
-none_unmarked z v false b bit e mark same = ap (λ (n : ℕ). cond (nat_eq n 0) (cond b v (pos 0)) (pos 0)) (sym mark)
+none_unmarked : (z : ℤ) (t b : Bool) (bit : ℕ) → is_zero z ≡ t → bit ≡ cond t 0 1 → pos 0 ≡ cond (nat_eq bit 0) (cond b z (pos 0)) (pos 0)
+none_unmarked z true b bit e mark = zero_either (nat_eq bit 0) b z ((Decides-int_eq z (pos 0)).0 e)
+none_unmarked z false b bit e mark = ap (λ (n : ℕ). cond (nat_eq n 0) (cond b z (pos 0)) (pos 0)) (sym mark)
 
 -- with all marks there are zeros
-pub starts : EachIsMarked → (coding : Coding) (quant keep : ℕ) (coefficients rows : List ℤ) (rest : ℕ) → rest ≡ marks_of rows →
-    ((at : ℕ) → at < 64 → get_or rows at (pos 0) ≡ level_by coding quant (get_or coefficients at (pos 0))) →
-    AreSet coding quant keep coefficients rest (replicate 64 (pos 0))
-starts marked coding quant keep coefficients rows rest marks levels = record {
+pub starts : EachIsMarked → (s : Standing) (keep : ℕ) (block : List ℤ) (rest : ℕ) → rest ≡ marks_of block → AreSet s keep block rest (replicate 64 (pos 0))
+starts marked s keep block rest marks = record {
   long = refl;
   stand = λ k less.
-      let at = block_place_of k in
+      let at = place_in s k in
       get_or-replicate 64 k (pos 0) (pos 0) less
-      ∙ none_unmarked (get_or rows at (pos 0)) (level_by coding quant (get_or coefficients at (pos 0))) (is_zero (get_or rows at (pos 0))) (nat_lt k keep) (bit_at rest at) refl
-      (ap (λ (n : ℕ). bit_at n at) marks ∙ marked rows at) (levels at (block_place_below k));
+      ∙ none_unmarked (get_or block at (pos 0)) (is_zero (get_or block at (pos 0))) (nat_lt k keep) (bit_at rest at) refl
+      (ap (λ (n : ℕ). bit_at n at) marks ∙ marked block at);
   range = All-replicate IsLevel 64 (pos 0) zero_level;
 }
 
@@ -84,25 +105,25 @@ one_less : (j k bit left : ℕ) (now before v : ℤ) → before ≡ cond (nat_eq
 one_less j k bit left now before v h same other = grind (arith, nat_tests)
 
 -- a level is set, and its mark is taken away
-pub set_one : IsOneOrder → (coding : Coding) (quant keep : ℕ) (coefficients : List ℤ) (at k rest : ℕ) (levels : List ℤ) (v : ℤ) → IsMark rest at → k ≡ zigzag_place_of at → k < 64 →
-    v ≡ cond (nat_lt k keep) (level_by coding quant (get_or coefficients at (pos 0))) (pos 0) → IsLevel v →
-    AreSet coding quant keep coefficients rest levels → AreSet coding quant keep coefficients (without rest at) (slice_set levels k v)
-set_one one coding quant keep coefficients at k rest levels v mark place room level range before =
+pub set_one : IsOneOrder → (s : Standing) (keep : ℕ) (block : List ℤ) (at k rest : ℕ) (levels : List ℤ) (v : ℤ) → IsMark rest at → k ≡ order_of s at → k < 64 →
+    v ≡ kept_level keep k (get_or block at (pos 0)) → IsLevel v →
+    AreSet s keep block rest levels → AreSet s keep block (without rest at) (slice_set levels k v)
+set_one one s keep block at k rest levels v mark place room level range before =
     let left = without rest at in
-    let back : block_place_of k ≡ at = ap block_place_of place ∙ one.from_block at mark.below in
+    let back : place_in s k ≡ at = ap (place_in s) place ∙ order_back one s at mark.below in
     record {
       long = length-set levels k v ∙ before.long;
       stand = λ j less.
-          one_less j k (bit_at rest (block_place_of j)) (bit_at left (block_place_of j)) _ _ _ (before.stand j less)
-          (λ same. let here : block_place_of j ≡ at = ap block_place_of same ∙ back in (
+          one_less j k (bit_at rest (place_in s j)) (bit_at left (place_in s j)) _ _ _ (before.stand j less)
+          (λ same. let here : place_in s j ≡ at = ap (place_in s) same ∙ back in (
             ap (λ (n : ℕ). get_or (slice_set levels k v) n (pos 0)) same
                 ∙ get_or-set_same levels k v (pos 0) (omega (arith, before.long)) ∙ level
-                ∙ ap (λ (n : ℕ). cond (nat_lt k keep) (level_by coding quant (get_or coefficients n (pos 0))) (pos 0)) (sym back)
-                ∙ ap (level_in coding quant keep coefficients) (sym same),
+                ∙ ap (λ (n : ℕ). kept_level keep k (get_or block n (pos 0))) (sym back)
+                ∙ ap (λ (n : ℕ). kept_level keep n (get_or block (place_in s n) (pos 0))) (sym same),
             ap (bit_at left) here ∙ mark.gone,
           ))
-          (λ differs. let other : block_place_of j ≢ at = λ here. differs (sym (one.from_order j less) ∙ ap zigzag_place_of here ∙ sym place) in
-          (get_or-set_other levels k j v (pos 0) differs, mark.others (block_place_of j) (block_place_below j) other));
+          (λ differs. let other : place_in s j ≢ at = λ here. differs (sym (order_there one s j less) ∙ ap (order_of s) here ∙ sym place) in
+          (get_or-set_other levels k j v (pos 0) differs, mark.others (place_in s j) (place_below s j) other));
       range = All-set IsLevel levels k v range before.range;
     }
 
@@ -110,10 +131,10 @@ all_gone : (bit : ℕ) (now v : ℤ) → bit ≡ 0 → now ≡ cond (nat_eq bit 
 all_gone bit now v none h = grind (arith, nat_tests)
 
 -- with no mark all levels stand
-pub ends : (coding : Coding) (quant keep : ℕ) (coefficients : List ℤ) (rest : ℕ) (levels : List ℤ) → rest ≡ 0 → AreSet coding quant keep coefficients rest levels →
-    (k : ℕ) → k < 64 → get_or levels k (pos 0) ≡ level_in coding quant keep coefficients k
-ends coding quant keep coefficients rest levels none before k less =
-    all_gone (bit_at rest (block_place_of k)) _ _ (ap (λ (n : ℕ). bit_at n (block_place_of k)) none ∙ bit_at-zero (block_place_of k)) (before.stand k less)
+pub ends : (s : Standing) (keep : ℕ) (block : List ℤ) (rest : ℕ) (levels : List ℤ) → rest ≡ 0 → AreSet s keep block rest levels →
+    (k : ℕ) → k < 64 → get_or levels k (pos 0) ≡ kept_level keep k (get_or block (place_in s k) (pos 0))
+ends s keep block rest levels none before k less =
+    all_gone (bit_at rest (place_in s k)) _ _ (ap (λ (n : ℕ). bit_at n (place_in s k)) none ∙ bit_at-zero (place_in s k)) (before.stand k less)
 
 -- what a transform gives at a place of the zigzag order
 pub is_forward_at : (coefficients block : List ℤ) (k : ℕ) → ((v u : ℕ) → v < 8 → u < 8 → entry coefficients v u ≡ forward_at block v u) →

@@ -1,11 +1,13 @@
-//! The levels of a block's coefficients, by rows and then in the zigzag order.
-ghost use Rattle.std.specs.Prelude.{◌≡◌, ℕ, ◌≤◌, ◌<◌, pos, All, length, nat_lt, replicate, slice_index_or, if◌then◌else◌};
+//! The levels of a block's coefficients.
+ghost use Rattle.std.specs.Prelude.{◌≡◌, ℕ, ◌≤◌, ◌<◌, pos, All, length, replicate, slice_index_or};
 ghost use Rattle.h263_types.specs.Blocks.{IsCoefficient, IsLevel, IsQuant};
 ghost use Rattle.quantiser.specs.Factors.{IsFactor, IsWord, limited_to_word};
+ghost use Rattle.quantiser.specs.Zigzag.{block_place_of};
 ghost use Rattle.mode_choice.specs.Walk.{least_of, level_by, level_in};
 
-use h263_types::{Block, laws as types_laws};
-use quantiser::{Factor, laws as quantiser_laws, level_inter, level_intra, limited, zigzag_place};
+use crate::order::{Standing, put_in_order};
+use h263_types::laws as types_laws;
+use quantiser::{Factor, laws as quantiser_laws, level_inter, level_intra, limited};
 
 // How a block is coded: by itself, or as what a prediction leaves.
 #[derive(Clone, Copy, Debug)]
@@ -38,8 +40,7 @@ pub(crate) fn least_size(coding: Coding, quant: u8) -> u32
 }
 
 // Puts the levels of coefficients that stand by rows into zeros, in the zigzag order: 0 from place
-// `keep` on. The first one is a level as the others are. Goes from mark to mark, since most levels
-// are 0.
+// `keep` on. The first one is a level as the others are.
 #[inline(always)]
 pub(crate) fn levels_in(
     coding: Coding,
@@ -54,30 +55,11 @@ pub(crate) fn levels_in(
     requires zeros { out.old ≡ replicate 64 (pos 0) }
     ensures long { length out.new ≡ 64 }
     ensures levels { (k : ℕ) → k < 64 → slice_index_or out.new k (pos 0)
-        ≡ level_in coding quantisation.quant quantisation.keep coefficients.now k }
-    ensures range { All IsLevel out.new }
+        ≡ level_in coding quantisation.quant quantisation.keep
+        (slice_index_or coefficients.now (block_place_of k) (pos 0)) k }
 {
-    types_laws::lowest();
-    types_laws::marks();
-    quantiser_laws::one_order();
     let by_rows = levels_by_rows(coding, quantisation, coefficients);
-    let mut rest = Block { levels: by_rows }.marks();
-    'marks: while rest != 0 {
-        let at = rest.trailing_zeros() as usize;
-        let k = zigzag_place(at);
-        out[k] = kept(by_rows[at], k, quantisation.keep);
-        rest &= !(1 << at);
-    }
-}
-
-// The level at place `k`, which is 0 from place `keep` on.
-#[inline(always)]
-fn kept(level: i16, k: usize, keep: u8) -> i16
-    requires { IsLevel level }
-    ensures level { result ≡ (if nat_lt k keep then level else pos 0) }
-    ensures range { IsLevel result }
-{
-    if k < usize::from(keep) { level } else { 0 }
+    put_in_order(Standing::ByRows, &by_rows, quantisation.keep, out);
 }
 
 // The levels of all coefficients, by rows. There is no branch on any of them, so that they are

@@ -7,9 +7,9 @@ ghost use Rattle.quantiser.specs.Factors.{IsFactor};
 ghost use Rattle.mode_choice.specs.Choice.{levels_of, limited_dc};
 ghost use Rattle.mode_choice.specs.Walk.{zero_block};
 
-use crate::coefficients::{Coding, Quantisation, levels_in};
+use crate::coefficients::{Coding, Quantisation};
+use crate::transformed::transformed;
 use h263_types::Block;
-use idct8::forward;
 
 // Puts the levels of a block of samples into a block of zeros.
 pub(crate) fn intra_block(quantisation: Quantisation, samples: &[i16; 64], out: &mut Block)
@@ -20,9 +20,8 @@ pub(crate) fn intra_block(quantisation: Quantisation, samples: &[i16; 64], out: 
     ensures levels { out.new ≡ levels_of quantisation.quant quantisation.keep samples.now }
     ensures range { IsIntraBlock out.new }
 {
-    let coefficients = forward(samples);
-    levels_in(Coding::Intra, quantisation, &coefficients, &mut out.levels);
-    out.levels[0] = intra_dc(coefficients[0]);
+    let first = transformed(Coding::Intra, quantisation, samples, &mut out.levels);
+    out.levels[0] = intra_dc(first);
 }
 
 // The INTRADC value of a block's first coefficient.

@@ -21,9 +21,12 @@ mod deviation;
 mod intra;
 pub mod laws;
 mod macroblock;
+mod order;
 mod predicted;
 mod residual;
 mod samples;
+mod sure;
+mod transformed;
 
 pub use chosen::Chosen;
 pub use macroblock::choose;

@@ -9,9 +9,10 @@ ghost use Rattle.quantiser.specs.Levels.{inter_level};
 ghost use Rattle.mode_choice.specs.Choice as choice;
 ghost use Rattle.mode_choice.specs.Walk.{zero_block};
 
-use crate::coefficients::{Coding, Quantisation, least_size, levels_in};
+use crate::coefficients::{Coding, Quantisation, least_size};
+use crate::transformed::transformed;
 use h263_types::Block;
-use idct8::{are_below, forward, laws as idct8_laws};
+use idct8::{are_below, laws as idct8_laws};
 
 // Puts the levels of a block of residuals into a block of zeros.
 pub(crate) fn residual_block(quantisation: Quantisation, residuals: &[i16; 64], out: &mut Block)
@@ -25,8 +26,7 @@ pub(crate) fn residual_block(quantisation: Quantisation, residuals: &[i16; 64], 
     if are_small(quantisation.quant, residuals) {
         return;
     }
-    let coefficients = forward(residuals);
-    levels_in(Coding::Inter, quantisation, &coefficients, &mut out.levels);
+    transformed(Coding::Inter, quantisation, residuals, &mut out.levels);
 }
 
 // Whether residuals are so small that they leave no level, which needs no transform. Most blocks of

@@ -12,7 +12,7 @@ pub quotients-requires : goal.quotients-requires
 quotients-requires c = passed_within (2 ^ 31 - 1) (2 ^ 31 - 1) (lit≤ tt) (lit≤ tt) (c.requires c.loop-r.r c.loop-r-test.true)
 
 pub store-requires-clause-v : goal.store-requires-clause-v
-store-requires-clause-v c = passed_within16 64 64 (lit≤ tt) (lit≤ tt) c.quotients.ensures.size
+store-requires-clause-v c = passed_within16 64 32000 (lit≤ tt) (lit≤ tt) c.quotients.ensures.size
 
 pub loop-r-preserved : goal.loop-r-preserved
 loop-r-preserved c =

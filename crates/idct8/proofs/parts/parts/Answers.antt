@@ -1,5 +1,4 @@
-use Rattle.std.proofs.Common.{lit≤, ◌∙◌, ap, pos, ◌-ℤ◌, ◌*ℤ◌}
-use Rattle.std.specs.Int.{int_shr}
+use Rattle.std.proofs.Common.{lit≤}
 use Rattle.idct8.specs.Vectors.{lane}
 use Rattle.idct8.proofs.Vectors.{numbers16, numbers_small16}
 use Rattle.idct8.proofs.Shifts.{high_words, low_words, narrow_words, narrowing_fits, whole_is}
@@ -21,9 +20,3 @@ returns-clause-high_size c = numbers_small16 8191 (lit≤ tt) (lit≤ tt) (narro
 
 pub returns-clause-low_size : goal.returns-clause-low_size
 returns-clause-low_size c = numbers_small16 8191 (lit≤ tt) (lit≤ tt) (narrow_words (lit≤ tt) (low_words c.args.v c.requires))
-
-pub returns-clause-zeros : goal.returns-clause-zeros
-returns-clause-zeros c i hi e = (
-  numbers16 (lit≤ tt) (narrow_words (lit≤ tt) (high_words c.args.v c.requires)) i hi ∙ ap (λ z. int_shr z 13) e,
-  numbers16 (lit≤ tt) (narrow_words (lit≤ tt) (low_words c.args.v c.requires)) i hi ∙ ap (λ z. z -ℤ pos 8192 *ℤ int_shr z 13) e,
-)

@@ -17,7 +17,7 @@ loop-k-preserved c =
     let high : List ℤ = map (to_z w16) (map (of_z w16) c.parts.result.0) in
     let low : List ℤ = map (to_z w16) (map (of_z w16) c.parts.result.1) in
     let given : AreParts (map (to_z w32) (map (of_z w32) (sum_at c.args.s k))) c.parts.result.0 c.parts.result.1 =
-    record { whole = c.parts.ensures.whole; zeros = c.parts.ensures.zeros; high_size = c.parts.ensures.high_size; low_size = c.parts.ensures.low_size } in
+    record { whole = c.parts.ensures.whole; high_size = c.parts.ensures.high_size; low_size = c.parts.ensures.low_size } in
     let own : AreParts (sum_at c.args.s k) high low =
     subst (λ (v : List ℤ). AreParts v high low) (passed 46546944 (lit≤ tt) (c.requires k below))
     (subst (λ (v : List ℤ). AreParts (map (to_z w32) (map (of_z w32) (sum_at c.args.s k))) v low) (sym (passed16 8191 (lit≤ tt) c.parts.ensures.high_size))
@@ -29,9 +29,6 @@ loop-k-preserved c =
 
 pub returns-clause-whole : goal.returns-clause-whole
 returns-clause-whole c k i hk hi = (c.loop-k.invariant.2 k (omega (arith, hk, c.loop-k-test.false))).whole i hi
-
-pub returns-clause-zeros : goal.returns-clause-zeros
-returns-clause-zeros c k i hk hi = (c.loop-k.invariant.2 k (omega (arith, hk, c.loop-k-test.false))).zeros i hi
 
 pub returns-clause-high_size : goal.returns-clause-high_size
 returns-clause-high_size c k hk = (c.loop-k.invariant.2 k (omega (arith, hk, c.loop-k-test.false))).high_size

@@ -1,4 +1,4 @@
-use Rattle.std.proofs.Common.{◌≡◌, ◌∙◌, ℕ, zero, suc, ℤ, pos, List, ap, sym, subst, arith, lit<, length, length-set, slice_set, ◌<◌, ◌≤◌, ◌+ℤ◌, nat_eq, nat_lt, get_or, get_or-set_same, get_or-set_other, cond, to_z, of_z, w16}
+use Rattle.std.proofs.Common.{◌≡◌, ◌∙◌, ℕ, zero, suc, ℤ, pos, List, ap, sym, subst, arith, length, length-set, slice_set, ◌<◌, ◌≤◌, ◌+ℤ◌, nat_eq, get_or, get_or-set_same, get_or-set_other, cond, to_z, of_z, w16}
 use Rattle.std.specs.Int.{int_shr}
 use Rattle.std.proofs.lemmas.Int.{ints}
 use Rattle.std.proofs.lemmas.Bool.Decides.{nat_tests}
@@ -7,21 +7,14 @@ use Rattle.h263_types.specs.declared.blocks.Block.{Block}
 use Rattle.h263_types.specs.Blocks.{IsCoefficient, IsDc}
 use Rattle.mode_choice.specs.Choice.{coefficient_at, level_of, levels_of, limited_dc}
 use Rattle.quantiser.specs.Zigzag.{block_place_of}
-use Rattle.mode_choice.proofs.Levels.{coefficient_kept, is_coefficient}
-use Rattle.quantiser.specs.Levels.{intra_level}
-use Rattle.mode_choice.proofs.Walk.{is_forward_at}
+use Rattle.mode_choice.proofs.Levels.{coefficient_kept}
 use Rattle.mode_choice.proofs.intra.intra_block.Goals as goal
 
-pub levels_in-requires-clause-coefficients : goal.levels_in-requires-clause-coefficients
-levels_in-requires-clause-coefficients c at h = is_coefficient c.forward-coefficients.result at h c.forward-coefficients.ensures.range
-
-pub levels_in-requires-clause-zeros : goal.levels_in-requires-clause-zeros
-levels_in-requires-clause-zeros c = ap (λ (b : Block). b.levels) c.requires.zeros
+pub transformed-first-requires-clause-zeros : goal.transformed-first-requires-clause-zeros
+transformed-first-requires-clause-zeros c = ap (λ (b : Block). b.levels) c.requires.zeros
 
 pub intra_dc-requires : goal.intra_dc-requires
-intra_dc-requires c =
-    let ok = is_coefficient c.forward-coefficients.result 0 (lit< tt) c.forward-coefficients.ensures.range in
-    subst IsCoefficient (sym (coefficient_kept (get_or c.forward-coefficients.result 0 (pos 0)) ok)) ok
+intra_dc-requires c = subst IsCoefficient (sym (coefficient_kept c.transformed-first.result c.transformed-first.ensures.first_range)) c.transformed-first.ensures.first_range
 
 dc_kept : (z : ℤ) → IsDc z → to_z w16 (of_z w16 z) ≡ z
 dc_kept z h = omega (arith, ints)
@@ -43,15 +36,13 @@ returns-clause-levels c =
     let quant : ℕ = c.args.quantisation.quant in
     let keep : ℕ = c.args.quantisation.keep in
     let samples : List ℤ = c.args.samples.now in
-    let coefficients : List ℤ = c.forward-coefficients.result in
+    let levels : List ℤ = c.transformed-first.new.out in
     let dc : ℤ = to_z w16 (of_z w16 c.intra_dc.result) in
-    let ok : IsCoefficient (get_or coefficients 0 (pos 0)) = is_coefficient coefficients 0 (lit< tt) c.forward-coefficients.ensures.range in
     let first : dc ≡ limited_dc (int_shr (coefficient_at samples 0 +ℤ pos 4) 3) =
     dc_kept c.intra_dc.result c.intra_dc.ensures.range
     ∙ c.intra_dc.ensures.value
-    ∙ ap (λ (f : ℤ). limited_dc (int_shr (f +ℤ pos 4) 3)) (coefficient_kept (get_or coefficients 0 (pos 0)) ok ∙ is_forward_at coefficients samples 0 c.forward-coefficients.ensures.coefficients) in
+    ∙ ap (λ (f : ℤ). limited_dc (int_shr (f +ℤ pos 4) 3)) (coefficient_kept c.transformed-first.result c.transformed-first.ensures.first_range ∙ c.transformed-first.ensures.first) in
     let block : List ℤ → Block = λ ls. record { levels = ls } in
-    ap block (fill_by_all (λ (k : ℕ). level_of quant keep k (coefficient_at samples k)) (slice_set c.levels_in.new.out 0 dc) 64 (pos 0) (length-set c.levels_in.new.out 0 dc ∙ c.levels_in.ensures.long)
-    (with_first quant keep samples c.levels_in.new.out dc c.levels_in.ensures.long first
-    (λ k some below. c.levels_in.ensures.levels k below
-    ∙ ap (λ (f : ℤ). cond (nat_lt k keep) (intra_level quant f) (pos 0)) (is_forward_at coefficients samples k c.forward-coefficients.ensures.coefficients) ∙ behind k _ _ some)))
+    ap block (fill_by_all (λ (k : ℕ). level_of quant keep k (coefficient_at samples k)) (slice_set levels 0 dc) 64 (pos 0) (length-set levels 0 dc ∙ c.transformed-first.ensures.long)
+    (with_first quant keep samples levels dc c.transformed-first.ensures.long first
+    (λ k some below. c.transformed-first.ensures.levels k below ∙ behind k _ _ some)))

@@ -1,0 +1,71 @@
+-- Levels that sixteenths of coefficients tell.
+use Rattle.std.proofs.Common.{◌≡◌, ◌∙◌, ◌-◌, ap, arith, sym, ℕ, ◌+◌, ◌*◌, ◌/◌, ◌%◌, ◌<◌, ◌≤◌, ℤ, pos, subst, get_or, refl, List, unsigned_abs, Bool, true, false, not, IsTrue}
+use mir.Val.{bool_byte}
+use Rattle.h263_types.specs.Blocks.{IsQuant}
+use Rattle.idct8.specs.Near.{IsBracketed, near_at}
+use Rattle.idct8.specs.Transform.{entry, forward_at}
+use Rattle.quantiser.specs.Levels.{inter_level, signed_of}
+use Rattle.quantiser.specs.Settled.{AreSettled, IsBetween, steps_of}
+use Rattle.quantiser.specs.Zigzag.{block_place_of}
+use Rattle.mode_choice.specs.Choice.{coefficient_at}
+use Rattle.mode_choice.specs.Walk.{half_of, level_by, place_in}
+use Rattle.mode_choice.specs.declared.coefficients.Coding.{Coding}
+use Rattle.mode_choice.specs.declared.coefficients.Coding.TheVariants.{Intra, Inter}
+use Rattle.mode_choice.specs.declared.order.Standing.TheVariants.{ByColumns}
+use Rattle.mode_choice.proofs.Levels.{no_level}
+use Rattle.mode_choice.proofs.Walk.{block_place_below}
+
+less_none : (q n : ℕ) → steps_of q (n - 0) ≡ steps_of q n
+less_none q n = let same : n - 0 ≡ n = omega arith in ap (λ (k : ℕ). steps_of q k) same
+
+between : (t f : ℤ) → IsBracketed t f → IsBetween ((unsigned_abs t + 6) / 16) ((unsigned_abs t + 9) / 16) t f
+between t f h = record { low = h.least; high = h.most; up = h.up; down = h.down }
+
+settled_level : AreSettled → (coding : Coding) (quant : ℕ) (t level f : ℤ) → IsQuant quant → IsBracketed t f →
+    level ≡ signed_of t (pos (steps_of quant ((unsigned_abs t + 6) / 16 - half_of coding quant))) →
+    steps_of quant ((unsigned_abs t + 6) / 16 - half_of coding quant) ≡ steps_of quant ((unsigned_abs t + 9) / 16 - half_of coding quant) →
+    level ≡ level_by coding quant f
+settled_level settled Intra quant t level f h near is same =
+    let least : ℕ = (unsigned_abs t + 6) / 16 in
+    let most : ℕ = (unsigned_abs t + 9) / 16 in
+    is
+    ∙ ap (λ (k : ℕ). signed_of t (pos k)) (less_none quant least)
+    ∙ sym (settled.intra quant least most t f h (between t f near) (sym (less_none quant least) ∙ same ∙ less_none quant most))
+settled_level settled Inter quant t level f h near is same =
+    is ∙ sym (settled.inter quant ((unsigned_abs t + 6) / 16) ((unsigned_abs t + 9) / 16) t f h (between t f near) same)
+
+-- where the least and the most that a coefficient can be have as many steps, the level of the one is the coefficient's
+pub sure_level : AreSettled → (coding : Coding) (quant half : ℕ) (t level f : ℤ) → half ≡ half_of coding quant → IsQuant quant → IsBracketed t f →
+    level ≡ signed_of t (pos (steps_of quant ((unsigned_abs t + 6) / 16 - half))) →
+    steps_of quant ((unsigned_abs t + 6) / 16 - half) ≡ steps_of quant ((unsigned_abs t + 9) / 16 - half) →
+    level ≡ level_by coding quant f
+sure_level settled coding quant half t level f e h near is same =
+    let least : ℕ = (unsigned_abs t + 6) / 16 in
+    let most : ℕ = (unsigned_abs t + 9) / 16 in
+    settled_level settled coding quant t level f h near
+    (is ∙ ap (λ (k : ℕ). signed_of t (pos (steps_of quant (least - k)))) e)
+    (ap (λ (k : ℕ). steps_of quant (least - k)) (sym e) ∙ same ∙ ap (λ (k : ℕ). steps_of quant (most - k)) e)
+
+-- where the most that a coefficient can be is below the least size that has a level, it has none
+pub none_below : (quant least : ℕ) (t f : ℤ) → least ≡ 2 * quant + quant / 2 → IsQuant quant → IsBracketed t f → unsigned_abs t + 9 < 16 * least → inter_level quant f ≡ pos 0
+none_below quant least t f e h near small = no_level quant f h (omega (arith, e, near.most, small))
+
+-- the count of unsure levels
+
+pub unsure_small : (b : Bool) (n : ℕ) → n ≡ bool_byte (not b) → n ≤ 1
+unsure_small true n e = omega (arith, e)
+unsure_small false n e = omega (arith, e)
+
+pub sure_where : (b : Bool) (n : ℕ) → n ≡ bool_byte (not b) → n ≡ 0 → IsTrue b
+sure_where true n e none = refl
+sure_where false n e none = absurd (omega (arith, e, none))
+
+-- the sixteenths at the place by columns of place k of the zigzag order bracket its coefficient
+pub brackets : (samples sixteenths : List ℤ) → ((s : List ℤ) (v u : ℕ) → v < 8 → u < 8 → IsBracketed (near_at s v u) (forward_at s v u)) →
+    ((u v : ℕ) → u < 8 → v < 8 → entry sixteenths u v ≡ near_at samples v u) →
+    (k : ℕ) → IsBracketed (get_or sixteenths (place_in ByColumns k) (pos 0)) (coefficient_at samples k)
+brackets samples sixteenths near each k =
+    let at : ℕ = block_place_of k in
+    let below : at < 64 = block_place_below k in
+    subst (λ (t : ℤ). IsBracketed t (coefficient_at samples k)) (sym (each (at % 8) (at / 8) (omega arith) (omega (arith, below))))
+    (near samples (at / 8) (at % 8) (omega (arith, below)) (omega arith))
