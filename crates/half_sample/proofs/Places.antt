@@ -12,7 +12,7 @@ use Rattle.h263_planes.specs.Picture.{Picture}
 use Rattle.h263_planes.specs.declared.Plane.{Plane}
 use Rattle.h263_planes.specs.declared.Plane.TheVariants.{Y, Cb, Cr}
 use Rattle.h263_planes.specs.Samples.{Inside}
-use Rattle.half_sample.specs.Prediction.{columns_in, interpolated, predicted_sample, moved, whole_part, is_half, one_below, IsColour}
+use Rattle.half_sample.specs.Prediction.{columns_in, interpolated, predicted_sample, moved, whole_part, is_half, IsColour}
 use Rattle.half_sample.specs.Places.{BlockInside, IsHalfOf, LeadsTo}
 use Rattle.half_sample.specs.declared.place.Half.{Half}
 use Rattle.half_sample.specs.declared.place.Place.{Place}
@@ -51,7 +51,7 @@ colour_inside Cb f x y n k inside = inside
 colour_inside Cr f x y n k inside = record { in_row = inside.in_row; in_plane = inside.in_plane }
 
 -- what a luma component in reach reads ends inside
-luma_ends : (at size x : ℕ) (half : Bool) (v : ℤ) → InSide at size v → pos x ≡ whole_place at v → half ≡ is_half Y v → x + (16 + cond half 1 0) ≤ size
+pub luma_ends : (at size x : ℕ) (half : Bool) (v : ℤ) → InSide at size v → pos x ≡ whole_place at v → half ≡ is_half Y v → x + (16 + cond half 1 0) ≤ size
 luma_ends at size x half v h e eh =
     let k : cond (is_half Y v) 1 0 ≡ unsigned_abs v % 2 = grind (arith, nat_tests) in
     let k' : cond half 1 0 ≡ unsigned_abs v % 2 = ap (λ (b : Bool). cond b 1 0) eh ∙ k in
@@ -64,7 +64,7 @@ luma_inside f mb v to half r leads is =
     record { in_row = across; in_plane = omega arith }
 
 -- a component that leads one whole sample further
-further : (v : ℤ) → (int_shr (v +ℤ pos 2) 1 ≡ int_shr v 1 +ℤ pos 1) × (unsigned_abs (v +ℤ pos 2) % 2 ≡ unsigned_abs v % 2)
+pub further : (v : ℤ) → (int_shr (v +ℤ pos 2) 1 ≡ int_shr v 1 +ℤ pos 1) × (unsigned_abs (v +ℤ pos 2) % 2 ≡ unsigned_abs v % 2)
 further (pos n) = let e : pos n +ℤ pos 2 ≡ pos (n + 2) = omega (arith, ints) in subst (λ (w : ℤ). (int_shr w 1 ≡ int_shr (pos n) 1 +ℤ pos 1) × (unsigned_abs w % 2 ≡ n % 2)) (sym e) (omega (arith, ints), omega arith)
 further (negsuc zero) = (refl, refl)
 further (negsuc (suc zero)) = (refl, refl)
@@ -72,32 +72,8 @@ further (negsuc (suc (suc n))) =
     let e : negsuc (suc (suc n)) +ℤ pos 2 ≡ negsuc n = omega (arith, ints) in
     subst (λ (w : ℤ). (int_shr w 1 ≡ int_shr (negsuc (suc (suc n))) 1 +ℤ pos 1) × (unsigned_abs w % 2 ≡ suc (suc (suc n)) % 2)) (sym e) (omega (arith, ints), omega arith)
 
-one_further : (at y : ℕ) (v : ℤ) → pos y ≡ whole_place at v → pos (y + 1) ≡ whole_place at (v +ℤ pos 2)
+pub one_further : (at y : ℕ) (v : ℤ) → pos y ≡ whole_place at v → pos (y + 1) ≡ whole_place at (v +ℤ pos 2)
 one_further at y v h = omega (arith, ints, h, (further v).0)
-
--- the place one row further down
-abbrev pub next_row : Place → Place
-next_row to = record { x = to.x; y = to.y + 1 }
-
-next_leads : (f : Format) (mb : ℕ) (v : Vector) (to : Place) → LeadsTo 16 f Y mb v to → LeadsTo 16 f Y mb (one_below v) (next_row to)
-next_leads f mb v to leads = record { x = leads.x; y = one_further (16 * (mb / columns_of f)) to.y v.y leads.y }
-
-next_half : (v : Vector) (half : Half) → IsHalfOf Y v half → IsHalfOf Y (one_below v) half
-next_half v half is = record { x = is.x; y = is.y ∙ ap (λ (n : ℕ). nat_eq n 1) (sym (further v.y).1) }
-
--- a row further down, they are those of the vector one whole sample further down
-pub sample_below : (p : Picture) (r mb i j : ℕ) (v : Vector) (to : Place) (half : Half) → LeadsTo 16 p.format Y mb v to → IsHalfOf Y v half →
-    interpolated p Y half.x half.y r (to.x + i) (to.y + (j + 1)) ≡ predicted_sample p Y (16 * (mb % columns_of p.format) + i) (16 * (mb / columns_of p.format) + j) (one_below v) r
-sample_below p r mb i j v to half leads is =
-    let next : to.y + (j + 1) ≡ to.y + 1 + j = omega arith in
-    ap (λ (k : ℕ). interpolated p Y half.x half.y r (to.x + i) k) next
-    ∙ block_sample 16 p Y r mb i j (one_below v) (next_row to) half (next_leads p.format mb v to leads) (next_half v half is)
-
--- what sixteen rows and one more read ends inside where the vector one whole sample further down is in reach too
-pub taller_inside : (f : Format) (mb : ℕ) (v : Vector) (to : Place) (half : Half) → InReach f mb v.x (v.y +ℤ pos 2) → LeadsTo 16 f Y mb v to → IsHalfOf Y v half → BlockInside 16 17 f Y to half
-taller_inside f mb v to half below leads is =
-    let inside = luma_inside f mb (one_below v) (next_row to) half below (next_leads f mb v to leads) (next_half v half is) in
-    record { in_row = inside.in_row; in_plane = omega (arith, inside.in_plane) }
 
 -- what a component of a colour in reach reads ends inside
 colour_ends_at : (k half x : ℕ) (v : ℤ) → InSide (16 * k) (2 * half) v → pos x ≡ pos (8 * k) +ℤ int_shr v 2 → x + (8 + cond (is_half Cb v) 1 0) ≤ half

@@ -15,9 +15,11 @@
 //! ```
 #![tactic(auto)]
 
+mod around;
 mod block;
 mod macroblock;
 mod place;
 mod rows;
 
-pub use macroblock::{Predicted, chroma, luma, luma_and_below, predict};
+pub use around::{Around, luma_around};
+pub use macroblock::{Predicted, chroma, luma, predict};

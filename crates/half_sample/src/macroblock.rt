@@ -1,11 +1,11 @@
 //! The predicted samples of a macroblock.
-ghost use Rattle.std.specs.Prelude.{◌≤◌, ◌<◌, pos, ◌+ℤ◌, drop};
+ghost use Rattle.std.specs.Prelude.{◌≤◌, ◌<◌};
 ghost use Rattle.h263_types.specs.Sizes.{mbs_of};
 ghost use Rattle.h263_types.specs.Vectors.{InReach};
 ghost use Rattle.h263_planes.specs.Lent.{picture};
 ghost use Rattle.h263_planes.specs.declared.Plane.TheVariants.{Y};
 ghost use Rattle.half_sample.specs.Macroblock.{IsPredicted};
-ghost use Rattle.half_sample.specs.Prediction.{one_below, ArePredicted, IsColour};
+ghost use Rattle.half_sample.specs.Prediction.{ArePredicted, IsColour};
 
 use crate::block::block;
 use crate::place::{half_of, place_of};
@@ -52,29 +52,6 @@ pub fn luma(reference: PictureRef<'_>, mb: u32, vector: Vector, rounding: u8, ou
     let place = place_of(reference, Plane::Y, mb, vector);
     let half = half_of(Plane::Y, vector);
     block::<16, 16>(reference, Plane::Y, place, half, rounding, out);
-}
-
-/// The luma samples that a vector predicts for macroblock `mb`, by rows from the top, and one row
-/// more below them: the last sixteen rows are those that the vector one whole sample further down
-/// predicts.
-pub fn luma_and_below(
-    reference: PictureRef<'_>,
-    mb: u32,
-    vector: Vector,
-    rounding: u8,
-    out: &mut [u8; 272],
-)
-    requires mb { mb < mbs_of (picture reference).format }
-    requires reach { InReach (picture reference).format mb vector.x vector.y }
-    requires below { InReach (picture reference).format mb vector.x (vector.y +ℤ pos 2) }
-    requires rounding { rounding ≤ 1 }
-    ensures upper { ArePredicted 16 (picture reference.entry) Y mb vector rounding out.new }
-    ensures lower { ArePredicted 16
-        (picture reference.entry) Y mb (one_below vector) rounding (drop 16 out.new) }
-{
-    let place = place_of(reference, Plane::Y, mb, vector);
-    let half = half_of(Plane::Y, vector);
-    block::<16, 17>(reference, Plane::Y, place, half, rounding, out);
 }
 
 /// The 8 x 8 samples of a colour, Cb or Cr, that the macroblock's luma vector predicts, by rows

@@ -1,5 +1,5 @@
 -- The differences of two vectors, as the lanes compute them.
-use Rattle.std.proofs.Common.{◌≡◌, ℕ, suc, take, length-drop, ◌+◌, ◌-◌, ◌*◌, ◌%◌, ◌<◌, ◌≤◌, List, [], ◌∷◌, ◌++◌, length, map, drop, refl, ◌∙◌, sym, subst, arith, Bool, true, false, cond, ltb, ltb-true, ltb-false, ◌^◌, w8, Fits, get_or, drop-cons, add-one}
+use Rattle.std.proofs.Common.{◌≡◌, ℕ, suc, take, length-drop, ◌+◌, ◌-◌, ◌*◌, ◌%◌, ◌<◌, ◌≤◌, List, [], ◌∷◌, ◌++◌, length, map, drop, slice_range, refl, ap, ◌∙◌, sym, subst, arith, Bool, true, false, cond, ltb, ltb-true, ltb-false, ◌^◌, w8, Fits, get_or, drop-cons, add-one}
 use Rattle.std.specs.Int.{abs_diff}
 use Rattle.std.proofs.Math.Seq.{take-length}
 use lib.Lanes.{zip2, sel_l, top, Each1, chunk, sum_l}
@@ -79,6 +79,37 @@ take_rest xs i = subst (λ (n : ℕ). take n (drop i xs) ≡ drop i xs) (length-
 pub differences-rest : (xs ys : List ℕ) (i : ℕ) →
     differences (take (length xs - i) (drop i xs)) (take (length ys - i) (drop i ys)) ≡ differences (drop i xs) (drop i ys)
 differences-rest xs ys i = cc (take_rest xs i, take_rest ys i)
+
+-- ---- sixty-four samples, sixteen at a time
+
+abbrev rest_of : List ℕ → List ℕ → ℕ → ℕ
+rest_of xs ys k = differences (drop k xs) (drop k ys)
+
+abbrev part_of : List ℕ → List ℕ → ℕ → ℕ
+part_of xs ys k = differences (slice_range xs k (k + 16)) (slice_range ys k (k + 16))
+
+part_and_rest : (xs ys : List ℕ) (k : ℕ) → k + 16 ≤ length xs → k + 16 ≤ length ys → rest_of xs ys k ≡ part_of xs ys k + rest_of xs ys (k + 16)
+part_and_rest xs ys k hx hy =
+    let n : k + 16 - k ≡ 16 = omega arith in
+    let same : part_of xs ys k ≡ differences (chunk k 16 xs) (chunk k 16 ys) = cc (ap (λ (m : ℕ). take m (drop k xs)) n, ap (λ (m : ℕ). take m (drop k ys)) n) in
+    differences-drop xs ys k 16 hx hy ∙ ap (λ (d : ℕ). d + rest_of xs ys (k + 16)) (sym same)
+
+sums_of : (d e f g h p q r s all : ℕ) → d ≡ p + e → e ≡ q + f → f ≡ r + g → g ≡ s + h → d ≡ all + h → p + q + r + s ≡ all
+sums_of d e f g h p q r s all ed ee ef eg ea = omega (arith, ed, ee, ef, eg, ea)
+
+pub four_parts : (xs ys : List ℕ) (at : ℕ) → at + 64 ≤ length xs → at + 64 ≤ length ys →
+    part_of xs ys at + part_of xs ys (at + 16) + part_of xs ys (at + 32) + part_of xs ys (at + 48) ≡ differences (chunk at 64 xs) (chunk at 64 ys)
+four_parts xs ys at hx hy =
+    let second : rest_of xs ys (at + 16 + 16) ≡ rest_of xs ys (at + 32) = (let e : at + 16 + 16 ≡ at + 32 = omega arith in ap (rest_of xs ys) e) in
+    let third : rest_of xs ys (at + 32 + 16) ≡ rest_of xs ys (at + 48) = (let e : at + 32 + 16 ≡ at + 48 = omega arith in ap (rest_of xs ys) e) in
+    let fourth : rest_of xs ys (at + 48 + 16) ≡ rest_of xs ys (at + 64) = (let e : at + 48 + 16 ≡ at + 64 = omega arith in ap (rest_of xs ys) e) in
+    sums_of (rest_of xs ys at) (rest_of xs ys (at + 16)) (rest_of xs ys (at + 32)) (rest_of xs ys (at + 48)) (rest_of xs ys (at + 64))
+    (part_of xs ys at) (part_of xs ys (at + 16)) (part_of xs ys (at + 32)) (part_of xs ys (at + 48)) (differences (chunk at 64 xs) (chunk at 64 ys))
+    (part_and_rest xs ys at (omega (arith, hx)) (omega (arith, hy)))
+    (part_and_rest xs ys (at + 16) (omega (arith, hx)) (omega (arith, hy)) ∙ ap (λ (r : ℕ). part_of xs ys (at + 16) + r) second)
+    (part_and_rest xs ys (at + 32) (omega (arith, hx)) (omega (arith, hy)) ∙ ap (λ (r : ℕ). part_of xs ys (at + 32) + r) third)
+    (part_and_rest xs ys (at + 48) (omega (arith, hx)) (omega (arith, hy)) ∙ ap (λ (r : ℕ). part_of xs ys (at + 48) + r) fourth)
+    (differences-drop xs ys at 64 hx hy)
 
 -- ---- four rows of sixteen
 

@@ -1,15 +1,16 @@
--- What two vectors predict of which one leads a whole sample further down.
-use Rattle.std.proofs.Common.{◌≡◌, refl, ap, ◌∙◌, arith, ℕ, ◌+◌, ◌-◌, ◌*◌, ◌<◌, ◌≤◌, List, ◌++◌, length, get_or, drop, take, slice_range, pos, ◌+ℤ◌}
+-- What the eight neighbours of a vector predict.
+use Rattle.std.proofs.Common.{◌≡◌, refl, ap, ◌∙◌, arith, ℕ, ◌+◌, ◌-◌, ◌*◌, ◌%◌, ◌<◌, ◌≤◌, List, ◌++◌, length, get_or, drop, take, slice_range, true, nat_eq, ℤ, pos, ◌+ℤ◌, ◌-ℤ◌, unsigned_abs}
 use lib.Lanes.{chunk}
 use Rattle.std.proofs.lemmas.Int.{ints}
 use Rattle.std.proofs.lemmas.Simd.{length-chunk, get_or-chunk}
 use Rattle.motion_search.specs.Differences.{differences}
 use Rattle.h263_types.specs.declared.vector.Vector.{Vector}
 use Rattle.h263_planes.specs.Picture.{Picture}
+use Rattle.half_sample.specs.Around.{down_by, right_by, IsBetween}
 use Rattle.half_sample.specs.Prediction.{one_below}
 use Rattle.motion_search.specs.Cost.{square, difference_of, predicted_of}
 use Rattle.motion_search.specs.Rows.{rows_from}
-use Rattle.motion_search.specs.Vectors.{around}
+use Rattle.motion_search.specs.Vectors.{around, IsEven}
 use Rattle.motion_search.proofs.Blocks.{is_square, row_cut}
 use Rattle.motion_search.proofs.Squares.{same_vectors}
 
@@ -44,8 +45,37 @@ pub predicted_differ : (block samples : List ℕ) (p : Picture) (mb r : ℕ) (v 
 unfolding difference_of
 predicted_differ block samples p mb r v e = ap (differences block) e
 
--- below each of the three neighbours above a vector stands one of the three below it
-pub three_below : (v w : Vector) (k : ℕ) → k < 3 → w ≡ around v k → one_below w ≡ around v (k + 6)
-three_below v w k h e =
-    ap one_below e
-    ∙ same_vectors ((around v k).x) ((around v (k + 6)).x) ((around v k).y +ℤ pos 2) ((around v (k + 6)).y) (omega (arith, ints, h)) (omega (arith, ints, h))
+-- ---- the neighbours of a vector, from the one above on the left
+
+module _ (v w : Vector) (e : w ≡ around v 0) where
+  from_up_left : (to : Vector → Vector) (k : ℕ) → (to (around v 0)).x ≡ (around v k).x → (to (around v 0)).y ≡ (around v k).y → to w ≡ around v k
+  from_up_left to k ex ey = ap to e ∙ same_vectors (to (around v 0)).x (around v k).x (to (around v 0)).y (around v k).y ex ey
+
+  pub above : right_by 1 w ≡ around v 1
+  above = from_up_left (right_by 1) 1 (omega (arith, ints)) (omega (arith, ints))
+
+  pub above_right : right_by 2 w ≡ around v 2
+  above_right = from_up_left (right_by 2) 2 (omega (arith, ints)) (omega (arith, ints))
+
+  pub at_left : down_by 1 w ≡ around v 3
+  at_left = from_up_left (down_by 1) 3 (omega (arith, ints)) (omega (arith, ints))
+
+  pub at_right : down_by 1 (right_by 2 w) ≡ around v 5
+  at_right = from_up_left (λ u. down_by 1 (right_by 2 u)) 5 (omega (arith, ints)) (omega (arith, ints))
+
+  pub below_left : one_below w ≡ around v 6
+  below_left = from_up_left one_below 6 (omega (arith, ints)) (omega (arith, ints))
+
+  pub below : one_below (right_by 1 w) ≡ around v 7
+  below = from_up_left (λ u. one_below (right_by 1 u)) 7 (omega (arith, ints)) (omega (arith, ints))
+
+  pub below_right : one_below (right_by 2 w) ≡ around v 8
+  below_right = from_up_left (λ u. one_below (right_by 2 u)) 8 (omega (arith, ints)) (omega (arith, ints))
+
+-- half a sample before a whole one
+half_before : (z : ℤ) → unsigned_abs z % 2 ≡ 0 → nat_eq (unsigned_abs (z +ℤ (pos 0 -ℤ pos 1)) % 2) 1 ≡ true
+half_before z h = let e : unsigned_abs (z +ℤ (pos 0 -ℤ pos 1)) % 2 ≡ 1 = omega (arith, ints, h) in ap (λ (n : ℕ). nat_eq n 1) e
+
+-- of a vector of whole samples the one above on the left leads half a sample across and down
+pub up_left_between : (v : Vector) → IsEven v → IsBetween (around v 0)
+up_left_between v h = record { x = half_before v.x h.x; y = half_before v.y h.y }

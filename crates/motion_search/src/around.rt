@@ -1,20 +1,23 @@
 //! The differences that the eight vectors half a sample away leave.
-ghost use Rattle.std.specs.Prelude.{◌≡◌, ℕ, ◌+◌, ◌*◌, ◌/◌, ◌<◌, ◌≤◌, pos, ◌+ℤ◌, length, slice_index, slice_range};
+ghost use Rattle.std.specs.Prelude.{◌≡◌, ℕ, ◌+◌, ◌*◌, ◌/◌, ◌<◌, ◌≤◌, drop, length, slice_index, slice_range};
 ghost use Rattle.h263_types.specs.Sizes.{mbs_of};
 ghost use Rattle.h263_types.specs.Vectors.{InReach};
 ghost use Rattle.h263_types.specs.Blocks.{IsVector};
+ghost use Rattle.h263_types.specs.declared.vector.Vector.{Vector};
 ghost use Rattle.h263_planes.specs.Lent.{picture};
+ghost use Rattle.h263_planes.specs.Picture.{Picture};
+ghost use Rattle.h263_planes.specs.declared.Plane.TheVariants.{Y};
 ghost use Rattle.motion_search.specs.Differences.{differences};
 ghost use Rattle.motion_search.specs.Cost.{difference_of};
 ghost use Rattle.motion_search.specs.Rows.{rows_from};
-ghost use Rattle.half_sample.specs.Prediction.{one_below};
-ghost use Rattle.motion_search.specs.Vectors.{around};
+ghost use Rattle.half_sample.specs.Prediction.{ArePredicted};
+ghost use Rattle.motion_search.specs.Vectors.{around, IsEven};
 
 use crate::laws;
 use crate::lent::differences_of_four;
 use h263_planes::PictureRef;
 use h263_types::Vector;
-use half_sample::{luma, luma_and_below};
+use half_sample::{Around, luma, luma_around};
 
 // The neighbour in place `n` of the eight around a vector, by rows from the top: of the nine places
 // the middle one is the vector's own.
@@ -105,34 +108,20 @@ pub(crate) fn differences_of_one(
     differences_of_all(block, &samples)
 }
 
-// The differences of a block from what a vector predicts, and from what the vector one whole sample
-// further down does: both predict fifteen rows in common, and each is computed once.
-fn differences_of_two(
-    block: &[u8; 256],
-    reference: PictureRef<'_>,
-    mb: u32,
-    rounding: u8,
-    vector: Vector,
-) -> (u32, u32)
-    requires mb { mb < mbs_of (picture reference).format }
-    requires reach { InReach (picture reference).format mb vector.x vector.y }
-    requires below { InReach (picture reference).format mb vector.x (vector.y +ℤ pos 2) }
-    requires rounding { rounding ≤ 1 }
-    ensures upper { result.0
-        ≡ difference_of block.now (picture reference.entry) mb rounding vector }
-    ensures lower { result.1
-        ≡ difference_of block.now (picture reference.entry) mb rounding (one_below vector) }
-    ensures most { (result.0 ≤ 65280) × (result.1 ≤ 65280) }
+// The differences of a block from sixteen of seventeen rows, from a sample on.
+#[inline(always)]
+fn differences_of_rows(block: &[u8; 256], rows: &[u8; 272], at: usize) -> u32
+    requires { at ≤ 16 }
+    ensures value { (p : Picture) (mb r : ℕ) (v : Vector)
+        → ArePredicted 16 p Y mb v r (drop at rows.now) → result ≡ difference_of block.now p mb r v }
+    ensures most { result ≤ 65280 }
 {
-    let mut rows = [0; 272];
-    luma_and_below(reference, mb, vector, rounding, &mut rows);
-    let upper = differences_of_all(block, sixteen_rows(&rows, 0));
-    let lower = differences_of_all(block, sixteen_rows(&rows, 16));
-    (upper, lower)
+    differences_of_all(block, sixteen_rows(rows, at))
 }
 
-// The differences of a block from what the eight neighbours of a vector predict, where all of them
-// are in reach. Each one above and the one below it are taken together.
+// The differences of a block from what the eight neighbours of a vector of whole samples predict,
+// where all of them are in reach. The one above the vector and the one below it, as those on its
+// left and on its right, lie one whole sample apart: they have fifteen rows in common.
 pub(crate) fn differences_around(
     block: &[u8; 256],
     reference: PictureRef<'_>,
@@ -142,6 +131,7 @@ pub(crate) fn differences_around(
 ) -> [u32; 8]
     requires mb { mb < mbs_of (picture reference).format }
     requires vector { IsVector vector }
+    requires whole { IsEven vector }
     requires inside { (k : ℕ) → k < 9
         → InReach (picture reference).format mb (around vector k).x (around vector k).y }
     requires rounding { rounding ≤ 1 }
@@ -149,13 +139,22 @@ pub(crate) fn differences_around(
         block.now (picture reference.entry) mb rounding (around vector (n + n / 4)) }
     ensures most { (n : ℕ) → n < 8 → slice_index result n ≤ 65280 }
 {
-    let r = rounding;
-    let (up_left, down_left) = differences_of_two(block, reference, mb, r, neighbour(vector, 0));
-    let (up, down) = differences_of_two(block, reference, mb, r, neighbour(vector, 1));
-    let (up_right, down_right) = differences_of_two(block, reference, mb, r, neighbour(vector, 2));
-    let left = differences_of_one(block, reference, mb, r, neighbour(vector, 3));
-    let right = differences_of_one(block, reference, mb, r, neighbour(vector, 4));
+    let mut rows = Around {
+        left: [0; 272],
+        right: [0; 272],
+        up: [0; 272],
+        up_left: [0; 272],
+        up_right: [0; 272],
+    };
+    luma_around(reference, mb, neighbour(vector, 0), rounding, &mut rows);
     [
-        up_left, up, up_right, left, right, down_left, down, down_right,
+        differences_of_rows(block, &rows.up_left, 0),
+        differences_of_rows(block, &rows.up, 0),
+        differences_of_rows(block, &rows.up_right, 0),
+        differences_of_rows(block, &rows.left, 16),
+        differences_of_rows(block, &rows.right, 16),
+        differences_of_rows(block, &rows.up_left, 16),
+        differences_of_rows(block, &rows.up, 16),
+        differences_of_rows(block, &rows.up_right, 16),
     ]
 }

@@ -5,7 +5,7 @@ ghost use Rattle.h263_types.specs.Vectors.{InReach, IsWithin};
 ghost use Rattle.h263_planes.specs.Lent.{picture};
 ghost use Rattle.motion_search.specs.Order.{first_of};
 ghost use Rattle.motion_search.specs.Cost.{candidate_of, IsCost};
-ghost use Rattle.motion_search.specs.Vectors.{around, in_reach};
+ghost use Rattle.motion_search.specs.Vectors.{around, in_reach, IsEven};
 ghost use Rattle.motion_search.specs.Best.{best_near, IsCandidate};
 
 use crate::around::{differences_around, neighbour};
@@ -56,6 +56,7 @@ fn best_inside(
         → InReach (picture reference).format mb (around best.vector k).x (around best.vector k).y }
     requires rounding { rounding ≤ 1 }
     requires candidate { IsCandidate block.now (picture reference) mb rounding best }
+    requires whole { IsEven best.vector }
     requires cost { IsCost best.cost }
     ensures best { result ≡ best_near block.now (picture reference.entry) mb rounding best }
     ensures cost { IsCost result.cost }
@@ -69,7 +70,7 @@ fn best_inside(
     so_far
 }
 
-// The first of a candidate and its neighbours.
+// The first of a candidate of whole samples and its neighbours.
 pub(crate) fn best_of_neighbours(
     block: &[u8; 256],
     reference: PictureRef<'_>,
@@ -80,6 +81,7 @@ pub(crate) fn best_of_neighbours(
     requires mb { mb < mbs_of (picture reference).format }
     requires rounding { rounding ≤ 1 }
     requires candidate { IsCandidate block.now (picture reference) mb rounding best }
+    requires whole { IsEven best.vector }
     requires cost { IsCost best.cost }
     ensures best { result ≡ best_near block.now (picture reference.entry) mb rounding best }
     ensures cost { IsCost result.cost }

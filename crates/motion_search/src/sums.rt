@@ -1,5 +1,5 @@
 //! Sums of absolute differences of samples, sixteen at a time.
-ghost use Rattle.std.specs.Prelude.{◌≡◌, ◌+◌, ◌*◌, ◌≤◌, length};
+ghost use Rattle.std.specs.Prelude.{◌≡◌, ◌+◌, ◌*◌, ◌≤◌, length, slice_range};
 ghost use Rattle.std.specs.Int.{abs_diff};
 ghost use Rattle.std.specs.Simd.Lanes.{chunk, zip2, Each1};
 ghost use Rattle.motion_search.specs.Differences.{differences};
@@ -8,6 +8,8 @@ use std::simd::prelude::*;
 
 const LANES: usize = 16;
 
+const GROUP: usize = 64;
+
 /// The sum of the absolute differences of two lists of samples: from 0 to 255 times their length.
 #[inline]
 pub fn sad(a: &[u8], b: &[u8]) -> u32
@@ -15,6 +17,22 @@ pub fn sad(a: &[u8], b: &[u8]) -> u32
     requires at_most { length a.now ≤ 65536 }
     ensures value { result ≡ differences a.now b.now }
     ensures most { result ≤ 255 * length a.now }
+{
+    let mut total = 0;
+    let mut at = 0;
+    while a.len() - at >= GROUP {
+        total += of_sixty_four(a, b, at);
+        at += GROUP;
+    }
+    total + by_sixteen(&a[at..], &b[at..])
+}
+
+// The same by sixteen samples. Their lanes are added sixteen by sixteen, which is slower.
+#[inline]
+fn by_sixteen(a: &[u8], b: &[u8]) -> u32
+    requires same_length { length a.now ≡ length b.now }
+    requires at_most { length a.now ≤ 65536 }
+    ensures { result ≡ differences a.now b.now }
 {
     let mut total = 0;
     let mut at = 0;
@@ -60,6 +78,31 @@ fn lanes(a: &[u8], b: &[u8], at: usize) -> u32x16
     let x: u32x16 = u8x16::from_slice(&a[at..]).cast();
     let y: u32x16 = u8x16::from_slice(&b[at..]).cast();
     (x - y).simd_min(y - x)
+}
+
+// Sixteen samples from `at` on.
+#[inline(always)]
+fn sixteen(samples: &[u8], at: usize) -> &[u8]
+    requires { at + LANES ≤ length samples.now }
+    ensures value { result.now ≡ slice_range samples.now at (at + LANES) }
+    ensures length { length result.now ≡ LANES }
+{
+    &samples[at..at + LANES]
+}
+
+// The differences of sixty-four samples from `at` on.
+#[inline(always)]
+fn of_sixty_four(a: &[u8], b: &[u8], at: usize) -> u32
+    requires a { at + GROUP ≤ length a.now }
+    requires b { at + GROUP ≤ length b.now }
+    ensures { result ≡ differences (chunk at GROUP a.now) (chunk at GROUP b.now) }
+{
+    sad_of_four(
+        (sixteen(a, at), sixteen(b, at)),
+        (sixteen(a, at + 16), sixteen(b, at + 16)),
+        (sixteen(a, at + 32), sixteen(b, at + 32)),
+        (sixteen(a, at + 48), sixteen(b, at + 48)),
+    )
 }
 
 // The differences of sixteen samples from `at` on.

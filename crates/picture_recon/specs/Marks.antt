@@ -10,6 +10,11 @@ use Rattle.picture_recon.specs.Samples.{inter_value}
 abbrev pub AreMarked : List ℤ → ℕ → Type 0
 AreMarked levels marks = (k : ℕ) → k < 64 → bit_at marks k ≡ 0 → slice_index_or levels k (pos 0) ≡ pos 0
 
+-- a value whose level's bit isn't set is 0; the first one is left out, since an intra block puts down 0 for it, marked or not
+abbrev pub HasMarkedValues : ℕ → List ℤ → Type 0
+HasMarkedValues marks values =
+    (at : ℕ) → 1 ≤ at → at < 64 → bit_at marks (zigzag_place_of at) ≡ 0 → slice_index_or values at (pos 0) ≡ pos 0
+
 -- the values of the levels whose bits aren't in the rest stand at their places in the block, but for the first, and
 -- zeros at the first place and at those of the others
 pub record ArePut (quant : ℕ) (b : Block) (rest : ℕ) (values : List ℤ) : Type 0 where

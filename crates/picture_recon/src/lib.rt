@@ -14,6 +14,7 @@
 #![tactic(auto)]
 
 mod blocks;
+mod classes;
 mod coded;
 pub mod laws;
 mod macroblocks;

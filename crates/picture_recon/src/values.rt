@@ -4,10 +4,11 @@ ghost use Rattle.h263_types.specs.Blocks.{IsDc, IsInterBlock, IsIntraBlock, IsLe
 ghost use Rattle.idct8.specs.Ranges.{Within};
 ghost use Rattle.idct8.specs.Transform.{inverse_at, rounded};
 ghost use Rattle.picture_recon.specs.Samples.{inter_value, inter_values, intra_values, limited};
-ghost use Rattle.picture_recon.specs.Marks.{AreMarked};
+ghost use Rattle.picture_recon.specs.Marks.{AreMarked, HasMarkedValues};
 
+use crate::classes::inverse_by_marks;
 use h263_types::{Block, laws as types_laws};
-use idct8::{laws as idct8_laws, narrow_inverse};
+use idct8::laws as idct8_laws;
 use quantiser::{block_place, laws as quantiser_laws, value};
 
 // The samples of a block of an intra macroblock, by rows: INTRADC itself where the block has no
@@ -29,7 +30,7 @@ pub(crate) fn intra_samples(quant: u8, block: &Block) -> [u8; 64]
     idct8_laws::first_value_apart();
     let mut numbers = [0; 64];
     put_values_but_first(quant, block, marks, &mut numbers);
-    narrow_inverse(&mut numbers);
+    inverse_by_marks(marks, &mut numbers);
     limited_sums(&samples, &numbers)
 }
 
@@ -60,7 +61,7 @@ pub(crate) fn inter_samples(quant: u8, block: &Block, marks: u64, predicted: &[u
     }
     let mut numbers = [0; 64];
     put_values(quant, block, marks, &mut numbers);
-    narrow_inverse(&mut numbers);
+    inverse_by_marks(marks, &mut numbers);
     limited_sums(predicted, &numbers)
 }
 
@@ -93,6 +94,7 @@ fn put_values(quant: u8, block: &Block, marks: u64, values: &mut [i16; 64])
     requires block { IsInterBlock block.now }
     requires marked { AreMarked block.now.levels marks }
     ensures values { values.new ≡ inter_values quant block.now }
+    ensures marked { HasMarkedValues marks values.new }
     ensures range { All IsValue values.new }
 {
     put_values_but_first(quant, block, marks, values);
@@ -110,6 +112,7 @@ fn put_values_but_first(quant: u8, block: &Block, marks: u64, values: &mut [i16;
     ensures first { slice_index_or values.new 0 (pos 0) ≡ pos 0 }
     ensures values { (at : ℕ) → 1 ≤ at → at < 64
         → slice_index_or values.new at (pos 0) ≡ inter_value quant block.now at }
+    ensures marked { HasMarkedValues marks values.new }
     ensures range { All IsValue values.new }
 {
     types_laws::lowest();

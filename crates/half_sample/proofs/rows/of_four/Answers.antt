@@ -1,20 +1,17 @@
-use Rattle.std.proofs.Common.{◌∙◌, rules}
+use Rattle.std.proofs.Common.{◌∙◌, refl, rules}
 use Rattle.std.specs.Int.RustNames.{bit_xor}
-use Rattle.half_sample.proofs.Lanes.{four_at, lanes}
+use Rattle.half_sample.proofs.Lanes.{lanes, samples_are}
 use Rattle.half_sample.proofs.rows.of_four.Goals as goal
 
-pub excess-requires : goal.excess-requires
-excess-requires g c =
-    let upper = lanes bit_xor c.load-a.result c.load-b.result c.load-a.ensures.samples.0 c.load-b.ensures.samples.0 in
-    let lower = lanes bit_xor c.load-c.result c.load-d.result c.load-c.ensures.samples.0 c.load-d.ensures.samples.0 in
-    let both = lanes bit_xor c.mean-upper.result c.mean-lower.result c.mean-upper.ensures.samples.0 c.mean-lower.ensures.samples.0 in
-    (search rules, (upper, (lower, (both, c.requires.rounding))))
+pub of_means-requires : goal.of_means-requires
+of_means-requires g c =
+    let above = lanes bit_xor c.load-a.result c.load-b.result c.load-a.ensures.samples.0 c.load-b.ensures.samples.0 in
+    let below = lanes bit_xor c.load-c.result c.load-d.result c.load-c.ensures.samples.0 c.load-d.ensures.samples.0 in
+    (search rules, (c.requires.rounding, (samples_are c.mean.ensures.samples, (above, (samples_are c.mean-2.ensures.samples, below)))))
 
 pub returns : goal.returns
 returns g c i hi =
-    cc (c.mean.ensures.value, c.mean-upper.ensures.value, c.mean-lower.ensures.value)
-    ∙ four_at g.row.N c.args.rounding c.load-a.result c.load-b.result c.load-c.result c.load-d.result c.excess.result i c.requires.rounding
-    c.load-a.ensures.samples.0 c.load-b.ensures.samples.0 c.load-c.ensures.samples.0 c.load-d.ensures.samples.0 c.excess.ensures.length
-    c.load-a.ensures.samples.1 c.load-b.ensures.samples.1 c.load-c.ensures.samples.1 c.load-d.ensures.samples.1 hi
-    (c.excess.ensures.lanes i hi ∙ cc (c.mean-upper.ensures.value, c.mean-lower.ensures.value))
+    c.of_means.ensures.lanes c.load-a.result c.load-b.result c.load-c.result c.load-d.result
+    (samples_are c.load-a.ensures.samples) (samples_are c.load-b.ensures.samples) (samples_are c.load-c.ensures.samples) (samples_are c.load-d.ensures.samples)
+    (record { mean = c.mean.ensures.value; odd = refl }) (record { mean = c.mean-2.ensures.value; odd = refl }) i hi
     ∙ cc (c.load-a.ensures.value, c.load-b.ensures.value, c.load-c.ensures.value, c.load-d.ensures.value)

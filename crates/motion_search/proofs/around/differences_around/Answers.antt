@@ -1,56 +1,49 @@
-use Rattle.std.proofs.Common.{◌∙◌, ap, sym, subst, arith, lit<, zero, suc}
+use Rattle.std.proofs.Common.{sym, subst, arith, lit<, zero, suc, drop}
 use Rattle.h263_types.specs.declared.vector.Vector.{Vector}
 use Rattle.h263_types.specs.Vectors.{InReach}
 use Rattle.h263_planes.specs.Lent.{picture}
-use Rattle.motion_search.specs.Cost.{difference_of}
-use Rattle.motion_search.proofs.Pairs.{three_below}
+use Rattle.h263_planes.specs.declared.Plane.TheVariants.{Y}
+use Rattle.half_sample.specs.Around.{IsBetween}
+use Rattle.half_sample.specs.Prediction.{ArePredicted}
+use Rattle.motion_search.proofs.Pairs.{above, above_right, at_left, at_right, below_left, below, below_right, up_left_between}
 use Rattle.motion_search.proofs.around.differences_around.Goals as goal
 
-pub differences_of_two-up_left-requires-clause-reach : goal.differences_of_two-up_left-requires-clause-reach
-differences_of_two-up_left-requires-clause-reach c = subst (λ (w : Vector). InReach (picture c.args.reference).format c.args.mb w.x w.y) (sym c.neighbour.ensures) (c.requires.inside 0 (lit< tt))
+pub luma_around-requires-clause-reach : goal.luma_around-requires-clause-reach
+luma_around-requires-clause-reach c = subst (λ (w : Vector). InReach (picture c.args.reference).format c.args.mb w.x w.y) (sym c.neighbour.ensures) (c.requires.inside 0 (lit< tt))
 
-pub differences_of_two-up_left-requires-clause-below : goal.differences_of_two-up_left-requires-clause-below
-differences_of_two-up_left-requires-clause-below c =
-    subst (λ (w : Vector). InReach (picture c.args.reference).format c.args.mb w.x w.y) (sym (three_below c.args.vector c.neighbour.result 0 (lit< tt) c.neighbour.ensures)) (c.requires.inside 6 (lit< tt))
+pub luma_around-requires-clause-beyond : goal.luma_around-requires-clause-beyond
+luma_around-requires-clause-beyond c =
+    subst (λ (w : Vector). InReach (picture c.args.reference).format c.args.mb w.x w.y) (sym (below_right c.args.vector c.neighbour.result c.neighbour.ensures)) (c.requires.inside 8 (lit< tt))
 
-pub differences_of_two-up-requires-clause-reach : goal.differences_of_two-up-requires-clause-reach
-differences_of_two-up-requires-clause-reach c = subst (λ (w : Vector). InReach (picture c.args.reference).format c.args.mb w.x w.y) (sym c.neighbour-2.ensures) (c.requires.inside 1 (lit< tt))
-
-pub differences_of_two-up-requires-clause-below : goal.differences_of_two-up-requires-clause-below
-differences_of_two-up-requires-clause-below c =
-    subst (λ (w : Vector). InReach (picture c.args.reference).format c.args.mb w.x w.y) (sym (three_below c.args.vector c.neighbour-2.result 1 (lit< tt) c.neighbour-2.ensures)) (c.requires.inside 7 (lit< tt))
-
-pub differences_of_two-up_right-requires-clause-reach : goal.differences_of_two-up_right-requires-clause-reach
-differences_of_two-up_right-requires-clause-reach c = subst (λ (w : Vector). InReach (picture c.args.reference).format c.args.mb w.x w.y) (sym c.neighbour-3.ensures) (c.requires.inside 2 (lit< tt))
-
-pub differences_of_two-up_right-requires-clause-below : goal.differences_of_two-up_right-requires-clause-below
-differences_of_two-up_right-requires-clause-below c =
-    subst (λ (w : Vector). InReach (picture c.args.reference).format c.args.mb w.x w.y) (sym (three_below c.args.vector c.neighbour-3.result 2 (lit< tt) c.neighbour-3.ensures)) (c.requires.inside 8 (lit< tt))
-
-pub differences_of_one-left-requires-clause-reach : goal.differences_of_one-left-requires-clause-reach
-differences_of_one-left-requires-clause-reach c = subst (λ (w : Vector). InReach (picture c.args.reference).format c.args.mb w.x w.y) (sym c.neighbour-4.ensures) (c.requires.inside 3 (lit< tt))
-
-pub differences_of_one-right-requires-clause-reach : goal.differences_of_one-right-requires-clause-reach
-differences_of_one-right-requires-clause-reach c = subst (λ (w : Vector). InReach (picture c.args.reference).format c.args.mb w.x w.y) (sym c.neighbour-5.ensures) (c.requires.inside 5 (lit< tt))
+pub luma_around-requires-clause-between : goal.luma_around-requires-clause-between
+luma_around-requires-clause-between c = subst IsBetween (sym c.neighbour.ensures) (up_left_between c.args.vector c.requires.whole)
 
 pub returns-clause-value : goal.returns-clause-value
-returns-clause-value c zero hn = c.differences_of_two-up_left.ensures.upper ∙ ap (difference_of c.args.block.now (picture c.args.reference) c.args.mb c.args.rounding) c.neighbour.ensures
-returns-clause-value c (suc zero) hn = c.differences_of_two-up.ensures.upper ∙ ap (difference_of c.args.block.now (picture c.args.reference) c.args.mb c.args.rounding) c.neighbour-2.ensures
-returns-clause-value c (suc (suc zero)) hn = c.differences_of_two-up_right.ensures.upper ∙ ap (difference_of c.args.block.now (picture c.args.reference) c.args.mb c.args.rounding) c.neighbour-3.ensures
-returns-clause-value c (suc (suc (suc zero))) hn = c.differences_of_one-left.ensures.value ∙ ap (difference_of c.args.block.now (picture c.args.reference) c.args.mb c.args.rounding) c.neighbour-4.ensures
-returns-clause-value c (suc (suc (suc (suc zero)))) hn = c.differences_of_one-right.ensures.value ∙ ap (difference_of c.args.block.now (picture c.args.reference) c.args.mb c.args.rounding) c.neighbour-5.ensures
-returns-clause-value c (suc (suc (suc (suc (suc zero))))) hn = c.differences_of_two-up_left.ensures.lower ∙ ap (difference_of c.args.block.now (picture c.args.reference) c.args.mb c.args.rounding) (three_below c.args.vector c.neighbour.result 0 (lit< tt) c.neighbour.ensures)
-returns-clause-value c (suc (suc (suc (suc (suc (suc zero)))))) hn = c.differences_of_two-up.ensures.lower ∙ ap (difference_of c.args.block.now (picture c.args.reference) c.args.mb c.args.rounding) (three_below c.args.vector c.neighbour-2.result 1 (lit< tt) c.neighbour-2.ensures)
-returns-clause-value c (suc (suc (suc (suc (suc (suc (suc zero))))))) hn = c.differences_of_two-up_right.ensures.lower ∙ ap (difference_of c.args.block.now (picture c.args.reference) c.args.mb c.args.rounding) (three_below c.args.vector c.neighbour-3.result 2 (lit< tt) c.neighbour-3.ensures)
+returns-clause-value c zero hn =
+    c.differences_of_rows.ensures.value _ _ _ _ (subst (λ (w : Vector). ArePredicted 16 (picture c.args.reference) Y c.args.mb w c.args.rounding c.luma_around.new.out.up_left) c.neighbour.ensures c.luma_around.ensures.up_left)
+returns-clause-value c (suc zero) hn =
+    c.differences_of_rows-2.ensures.value _ _ _ _ (subst (λ (w : Vector). ArePredicted 16 (picture c.args.reference) Y c.args.mb w c.args.rounding c.luma_around.new.out.up) (above c.args.vector c.neighbour.result c.neighbour.ensures) c.luma_around.ensures.up)
+returns-clause-value c (suc (suc zero)) hn =
+    c.differences_of_rows-3.ensures.value _ _ _ _ (subst (λ (w : Vector). ArePredicted 16 (picture c.args.reference) Y c.args.mb w c.args.rounding c.luma_around.new.out.up_right) (above_right c.args.vector c.neighbour.result c.neighbour.ensures) c.luma_around.ensures.up_right)
+returns-clause-value c (suc (suc (suc zero))) hn =
+    c.differences_of_rows-4.ensures.value _ _ _ _ (subst (λ (w : Vector). ArePredicted 16 (picture c.args.reference) Y c.args.mb w c.args.rounding (drop 16 c.luma_around.new.out.left)) (at_left c.args.vector c.neighbour.result c.neighbour.ensures) c.luma_around.ensures.left)
+returns-clause-value c (suc (suc (suc (suc zero)))) hn =
+    c.differences_of_rows-5.ensures.value _ _ _ _ (subst (λ (w : Vector). ArePredicted 16 (picture c.args.reference) Y c.args.mb w c.args.rounding (drop 16 c.luma_around.new.out.right)) (at_right c.args.vector c.neighbour.result c.neighbour.ensures) c.luma_around.ensures.right)
+returns-clause-value c (suc (suc (suc (suc (suc zero))))) hn =
+    c.differences_of_rows-6.ensures.value _ _ _ _ (subst (λ (w : Vector). ArePredicted 16 (picture c.args.reference) Y c.args.mb w c.args.rounding (drop 16 c.luma_around.new.out.up_left)) (below_left c.args.vector c.neighbour.result c.neighbour.ensures) c.luma_around.ensures.down_left)
+returns-clause-value c (suc (suc (suc (suc (suc (suc zero)))))) hn =
+    c.differences_of_rows-7.ensures.value _ _ _ _ (subst (λ (w : Vector). ArePredicted 16 (picture c.args.reference) Y c.args.mb w c.args.rounding (drop 16 c.luma_around.new.out.up)) (below c.args.vector c.neighbour.result c.neighbour.ensures) c.luma_around.ensures.down)
+returns-clause-value c (suc (suc (suc (suc (suc (suc (suc zero))))))) hn =
+    c.differences_of_rows-8.ensures.value _ _ _ _ (subst (λ (w : Vector). ArePredicted 16 (picture c.args.reference) Y c.args.mb w c.args.rounding (drop 16 c.luma_around.new.out.up_right)) (below_right c.args.vector c.neighbour.result c.neighbour.ensures) c.luma_around.ensures.down_right)
 returns-clause-value c (suc (suc (suc (suc (suc (suc (suc (suc n)))))))) hn = absurd (omega (arith, hn))
 
 pub returns-clause-most : goal.returns-clause-most
-returns-clause-most c zero hn = c.differences_of_two-up_left.ensures.most.0
-returns-clause-most c (suc zero) hn = c.differences_of_two-up.ensures.most.0
-returns-clause-most c (suc (suc zero)) hn = c.differences_of_two-up_right.ensures.most.0
-returns-clause-most c (suc (suc (suc zero))) hn = c.differences_of_one-left.ensures.most
-returns-clause-most c (suc (suc (suc (suc zero)))) hn = c.differences_of_one-right.ensures.most
-returns-clause-most c (suc (suc (suc (suc (suc zero))))) hn = c.differences_of_two-up_left.ensures.most.1
-returns-clause-most c (suc (suc (suc (suc (suc (suc zero)))))) hn = c.differences_of_two-up.ensures.most.1
-returns-clause-most c (suc (suc (suc (suc (suc (suc (suc zero))))))) hn = c.differences_of_two-up_right.ensures.most.1
+returns-clause-most c zero hn = c.differences_of_rows.ensures.most
+returns-clause-most c (suc zero) hn = c.differences_of_rows-2.ensures.most
+returns-clause-most c (suc (suc zero)) hn = c.differences_of_rows-3.ensures.most
+returns-clause-most c (suc (suc (suc zero))) hn = c.differences_of_rows-4.ensures.most
+returns-clause-most c (suc (suc (suc (suc zero)))) hn = c.differences_of_rows-5.ensures.most
+returns-clause-most c (suc (suc (suc (suc (suc zero))))) hn = c.differences_of_rows-6.ensures.most
+returns-clause-most c (suc (suc (suc (suc (suc (suc zero)))))) hn = c.differences_of_rows-7.ensures.most
+returns-clause-most c (suc (suc (suc (suc (suc (suc (suc zero))))))) hn = c.differences_of_rows-8.ensures.most
 returns-clause-most c (suc (suc (suc (suc (suc (suc (suc (suc n)))))))) hn = absurd (omega (arith, hn))

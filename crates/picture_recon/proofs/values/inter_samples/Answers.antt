@@ -23,5 +23,5 @@ pub limited_sums-requires : goal.limited_sums-requires
 limited_sums-requires c = record {
   numbers = λ at h.
       let place : 8 * (at / 8) + at % 8 ≡ at = omega arith in
-      subst (λ (k : ℕ). Within 32000 (get_or c.narrow_inverse.new.block k (pos 0))) place (c.narrow_inverse.ensures.range (at / 8) (at % 8) (omega arith) (omega arith));
+      subst (λ (k : ℕ). Within 32000 (get_or c.inverse_by_marks.new.values k (pos 0))) place (c.inverse_by_marks.ensures.range (at / 8) (at % 8) (omega arith) (omega arith));
 }

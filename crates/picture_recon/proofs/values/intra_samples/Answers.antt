@@ -18,7 +18,7 @@ pub limited_sums-requires : goal.limited_sums-requires
 limited_sums-requires c = record {
   numbers = λ at h.
       let place : 8 * (at / 8) + at % 8 ≡ at = omega arith in
-      subst (λ (k : ℕ). Within 32000 (get_or c.narrow_inverse.new.block k (pos 0))) place (c.narrow_inverse.ensures.range (at / 8) (at % 8) (omega arith) (omega arith));
+      subst (λ (k : ℕ). Within 32000 (get_or c.inverse_by_marks.new.values k (pos 0))) place (c.inverse_by_marks.ensures.range (at / 8) (at % 8) (omega arith) (omega arith));
 }
 
 pub returns : goal.returns
@@ -30,6 +30,6 @@ returns c = λ y x hy hx.
     let apart = c.first_value_apart.ensures values others dc (first_value c.args.quant block) c.put_values_but_first.ensures.first
     (λ at some less. other_values c.args.quant block at some less ∙ sym (c.put_values_but_first.ensures.values at some less)) y x hy hx in
     c.limited_sums.ensures (8 * y + x) (omega arith)
-    ∙ ap (λ (z : ℤ). limited (z +ℤ get_or c.narrow_inverse.new.block (8 * y + x) (pos 0))) (c.flat-samples.ensures (8 * y + x) (omega arith) ∙ same_dc dc c.requires.block.dc)
-    ∙ ap (λ (z : ℤ). limited (dc +ℤ z)) (c.narrow_inverse.ensures.numbers y x hy hx)
+    ∙ ap (λ (z : ℤ). limited (z +ℤ get_or c.inverse_by_marks.new.values (8 * y + x) (pos 0))) (c.flat-samples.ensures (8 * y + x) (omega arith) ∙ same_dc dc c.requires.block.dc)
+    ∙ ap (λ (z : ℤ). limited (dc +ℤ z)) (c.inverse_by_marks.ensures.numbers y x hy hx)
     ∙ ap limited (sym apart)

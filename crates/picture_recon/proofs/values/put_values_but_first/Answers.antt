@@ -6,6 +6,7 @@ use Rattle.h263_types.specs.Marks.{without}
 use Rattle.quantiser.specs.Levels.{value_of}
 use Rattle.picture_recon.specs.Marks.{ArePut}
 use Rattle.picture_recon.proofs.Kept.{kept, kept_level}
+use Rattle.picture_recon.proofs.Clear.{unmarked_value}
 use Rattle.picture_recon.proofs.Walk.{starts, put, ends, not_first}
 use Rattle.picture_recon.proofs.values.put_values_but_first.Goals as goal
 
@@ -55,3 +56,7 @@ returns-clause-values c =
 
 pub returns-clause-first : goal.returns-clause-first
 returns-clause-first c = c.marks.invariant.0.first
+
+pub returns-clause-marked : goal.returns-clause-marked
+returns-clause-marked c = λ at some less none.
+    returns-clause-values c at some less ∙ unmarked_value c.one_order.ensures c.args.quant c.args.block.now c.args.marks c.requires.marked at some less none
