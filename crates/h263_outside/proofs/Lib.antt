@@ -1,3 +1,4 @@
+pub mod Left
 pub mod Gains
 pub mod Roles
 pub mod Inputs

@@ -1,8 +1,11 @@
 -- What a desk over the host tells: which roles are attached, and its counts.
-use Rattle.std.specs.Prelude.{ℕ, Bool, List, [], Option, Some, None, is_some}
+use Rattle.std.specs.Prelude.{ℕ, Bool, List, [], Option, Some, None, is_some, slice_range}
+use Rattle.std.specs.Io.KnownBytes.{prepend_known}
 use Rattle.h263_outside.specs.Desk.{Outside, Faults}
 use Rattle.h263_outside.specs.Memory.{by_role, by_input, by_output}
 use Rattle.h263_outside.specs.declared.host.HostDesk.{HostDesk}
+use Rattle.h263_outside.specs.declared.ahead.Ahead.{Ahead}
+use Rattle.h263_outside.specs.declared.input.InputFile.{InputFile}
 use Rattle.h263_outside.specs.declared.desk.Role.{Role}
 
 -- a desk that tells no names and no bytes
@@ -30,8 +33,16 @@ host_outside d = silent_outside (by_role (is_some d.video) (is_some d.events)
     (is_some d.pictures) (is_some d.wire) d.reports (is_some d.video2) (is_some d.pictures2))
     d.attach_faults d.read_faults d.write_faults
 
+-- what was read of a file ahead, and is still to be given out
+abbrev pub ahead_bytes : Ahead → List ℕ
+ahead_bytes a = slice_range a.bytes a.at a.end
+
+-- what is left of a file that is read: what was read of it ahead, and then what the file has
+abbrev pub input_left : {F : Type 0} → (F → Option (List ℕ)) → InputFile F → Option (List ℕ)
+input_left known input = prepend_known (ahead_bytes input.ahead) (known input.file)
+
 -- the file that a role reads
-abbrev pub input_of : {R F D I A : Type 0} → Role → HostDesk R F D I A → Option F
+abbrev pub input_of : {R F D I A : Type 0} → Role → HostDesk R F D I A → Option (InputFile F)
 input_of role d = by_input d.video d.events d.video2 None role
 
 -- the file that a role writes; the report is standard output

@@ -20,9 +20,14 @@ pub(crate) fn is_one(this: &Metadata, that: &Metadata) -> bool {
 
 // Whether the file of a role is this one. One that can't be asked is taken to be it.
 pub(crate) fn has_file<F: OpenFile>(file: &Option<F>, about: &Metadata) -> bool {
-    let Some(file) = file else {
-        return false;
-    };
+    match file {
+        Some(file) => is_file(file, about),
+        None => false,
+    }
+}
+
+// The same of a file.
+pub(crate) fn is_file<F: OpenFile>(file: &F, about: &Metadata) -> bool {
     match file.metadata() {
         Ok(own) => is_one(&own, about),
         Err(_) => true,
@@ -42,20 +47,6 @@ pub(crate) fn is_kept<F: OpenFile>(file: &Option<F>) -> bool {
     }
 }
 
-pub(crate) fn read_file<F: Read>(file: &mut Option<F>, buf: &mut [u8]) -> Result<usize, Failed>
-    ensures count { IfOk result (λ k. k ≤ length buf.old) }
-    // What is read is a prefix of what the file had, nothing only at its end; where the read fails
-    // nothing is lost.
-    ensures bytes { ReadConsumes
-        (told_of F.remaining file.old) (told_of F.remaining file.new) result buf.new }
-    ensures open { is_some file.new ≡ is_some file.old }
-{
-    match file {
-        Some(file) => read_some(file, buf),
-        None => Err(Failed),
-    }
-}
-
 pub(crate) fn write_file<F: Write>(file: &mut Option<F>, bytes: &[u8]) -> Result<usize, Failed>
     ensures count { IfOk result (λ k. k ≤ length bytes.now) }
     ensures advances { IfOk result (λ k. 0 < k) }
@@ -70,8 +61,9 @@ pub(crate) fn write_file<F: Write>(file: &mut Option<F>, bytes: &[u8]) -> Result
     }
 }
 
-// A read that a signal interrupts is made again.
-fn read_some<F: Read>(file: &mut F, buf: &mut [u8]) -> Result<usize, Failed>
+// What is read is a prefix of what the file had, nothing only at its end; where the read fails
+// nothing is lost. A read that a signal interrupts is made again.
+pub(crate) fn read_some<F: Read>(file: &mut F, buf: &mut [u8]) -> Result<usize, Failed>
     ensures count { IfOk result (λ k. k ≤ length buf.old) }
     ensures bytes { ReadConsumes
         (F.remaining file.old) (F.remaining file.new) result buf.new }

@@ -4,7 +4,8 @@ ghost use Rattle.std.specs.Io.KnownBytes.{ReadConsumes, WriteAppends};
 ghost use Rattle.h263_outside.specs.Host.{told_of};
 ghost use Rattle.h263_outside.specs.Desk.{NoneAttached};
 
-use crate::files::{has_file, is_kept, is_one, read_file, write_file};
+use crate::files::{has_file, is_kept, is_one, write_file};
+use crate::input::{InputFile, read_input, reads_file};
 use crate::memory::raised;
 use crate::{Desk, Failed, Role, Unattached};
 use std::fs;
@@ -24,12 +25,12 @@ const STANDARD_OUTPUT: &str = "/dev/stdout";
 pub struct HostDesk<R: Runtime> {
     rt: R,
     streams: Streams<R::File>,
-    video: Option<R::File>,
-    events: Option<R::File>,
+    video: Option<InputFile<R::File>>,
+    events: Option<InputFile<R::File>>,
     pictures: Option<R::File>,
     wire: Option<R::File>,
     reports: bool,
-    video2: Option<R::File>,
+    video2: Option<InputFile<R::File>>,
     pictures2: Option<R::File>,
     attach_faults: u64,
     read_faults: u64,
@@ -84,13 +85,13 @@ impl<R: Runtime> HostDesk<R> {
     }
 
     // A file to be read. One that is written is refused.
-    fn open(&self, name: &str) -> Option<R::File> {
+    fn open(&self, name: &str) -> Option<InputFile<R::File>> {
         let file = fs::open(&self.rt, name).ok()?;
         let about = file.metadata().ok()?;
         if self.writes(&about) {
             return None;
         }
-        Some(file)
+        Some(InputFile::new(file))
     }
 
     // A file to be written: created, or emptied. One that has a role is refused while it is whole.
@@ -143,9 +144,9 @@ impl<R: Runtime> HostDesk<R> {
 
     // Whether one of the inputs is this file.
     fn reads(&self, about: &Metadata) -> bool {
-        has_file(&self.video, about)
-            || has_file(&self.events, about)
-            || has_file(&self.video2, about)
+        reads_file(&self.video, about)
+            || reads_file(&self.events, about)
+            || reads_file(&self.video2, about)
     }
 
     // Whether one of the outputs is this file.
@@ -205,7 +206,7 @@ fn print_some<R: Runtime>(rt: &R, bytes: &[u8]) -> Result<usize, Failed>
 
 impl<R: Runtime> Desk for HostDesk<R> {
     ghost use Rattle.std.specs.Prelude.{◌≢◌, true, false, take, IfSome, OnOk, OnErr, IsErrOf};
-    ghost use Rattle.h263_outside.specs.Host.{host_outside, input_of, output_of};
+    ghost use Rattle.h263_outside.specs.Host.{host_outside, input_left, input_of, output_of};
     ghost use Rattle.h263_outside.specs.Desk.{IsInput, IsOutput, IsFront, OnlyAttaches, OnlyReads, OnlyWrites, Rose, with_role, appended, consumed, raised_count};
 
     ghost outside = { host_outside };
@@ -260,9 +261,9 @@ impl<R: Runtime> Desk for HostDesk<R> {
             ((host_outside self.new).faults ≡ (host_outside self.old).faults) }
         ensures rest { OnlyReads (host_outside self.old) (host_outside self.new) }
 
-        // The role's file is read, as `read_file` says.
-        ensures of_file { ReadConsumes (told_of R.File.remaining (input_of role self.old))
-            (told_of R.File.remaining (input_of role self.new)) result buf.new }
+        // The role's input is read, as `read_input` says.
+        ensures of_file { ReadConsumes (told_of (input_left R.File.remaining) (input_of role self.old))
+            (told_of (input_left R.File.remaining) (input_of role self.new)) result buf.new }
 
         // The count rises by one where the call fails.
         ensures failed { OnErr result ((host_outside self.new).faults
@@ -270,9 +271,9 @@ impl<R: Runtime> Desk for HostDesk<R> {
             { read = raised_count (host_outside self.old).faults.read }) }
     {
         let outcome = match role {
-            Role::Video => read_file(&mut self.video, buf),
-            Role::Events => read_file(&mut self.events, buf),
-            Role::Video2 => read_file(&mut self.video2, buf),
+            Role::Video => read_input(&mut self.video, buf),
+            Role::Events => read_input(&mut self.events, buf),
+            Role::Video2 => read_input(&mut self.video2, buf),
             _ => unreachable!(),
         };
         if outcome.is_err() {

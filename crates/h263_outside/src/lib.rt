@@ -14,9 +14,11 @@
 //! ```
 #![tactic(auto)]
 
+mod ahead;
 mod desk;
 mod files;
 mod host;
+mod input;
 pub mod laws;
 mod memory;
 mod second;

@@ -426,10 +426,10 @@ const PIECE: &[u8] = &[64; 4096];
 
 const GREY_PIECE: &[u8] = &[128; 4096];
 
-// Six roles are attached; both heads are read byte by byte, and written. Each line of the trace is
-// read byte by byte; a frame's line is too, and its planes are in five pieces. A picture's line,
-// its planes in five pieces and its line of the report are written. The end of the trace is met,
-// and the counts of both parties are written.
+// Six roles are attached; both heads are read, ten bytes at once and nine byte by byte, and
+// written. Each line of the trace is read byte by byte, a frame's line at once, and its planes in
+// five pieces. A picture's line, its planes in five pieces and its line of the report are written.
+// The end of the trace is met, and the counts of both parties are written.
 const FAILING: &[Failing] = &[
     (&[0], NO_REPORT, NOTHING, NOTHING, NOTHING),
     (&[1], NO_VIDEO, NOTHING, NOTHING, &[b"cannot open video\n"]),
@@ -461,85 +461,85 @@ const FAILING: &[Failing] = &[
         NOTHING,
         &[b"cannot open pictures 2\n"],
     ),
-    (&[6, 43], Status::ReadFault, NOTHING, NOTHING, &[READ]),
-    (&[44], Status::WriteFault, NOTHING, NOTHING, NOTHING),
-    (&[45], Status::WriteFault, HEAD_ALONE, NOTHING, NOTHING),
+    (&[6, 25], Status::ReadFault, NOTHING, NOTHING, &[READ]),
+    (&[26], Status::WriteFault, NOTHING, NOTHING, NOTHING),
+    (&[27], Status::WriteFault, HEAD_ALONE, NOTHING, NOTHING),
     (
-        &[46, 72],
+        &[28, 49],
         Status::ReadFault,
         HEAD_ALONE,
         HEAD_ALONE,
         &[READ],
     ),
-    (&[73], Status::WriteFault, HEAD_ALONE, HEAD_ALONE, NOTHING),
+    (&[50], Status::WriteFault, HEAD_ALONE, HEAD_ALONE, NOTHING),
     (
-        &[74],
+        &[51],
         Status::WriteFault,
         &[SHOWN_HEAD, EXACT],
         HEAD_ALONE,
         NOTHING,
     ),
     (
-        &[75],
+        &[52],
         Status::WriteFault,
         &[SHOWN_HEAD, EXACT, PIECE],
         HEAD_ALONE,
         NOTHING,
     ),
     (
-        &[76],
+        &[53],
         Status::WriteFault,
         &[SHOWN_HEAD, EXACT, PIECE, PIECE],
         HEAD_ALONE,
         NOTHING,
     ),
-    (&[79], Status::WriteFault, SHOWN, HEAD_ALONE, NOTHING),
+    (&[56], Status::WriteFault, SHOWN, HEAD_ALONE, NOTHING),
     (
-        &[80, 98],
+        &[57, 70],
         Status::ReadFault,
         SHOWN,
         HEAD_ALONE,
         &[A_LINE, READ],
     ),
-    (&[99], Status::WriteFault, SHOWN, HEAD_ALONE, &[A_LINE]),
+    (&[71], Status::WriteFault, SHOWN, HEAD_ALONE, &[A_LINE]),
     (
-        &[100],
+        &[72],
         Status::WriteFault,
         SHOWN,
         &[SHOWN_HEAD, HELD],
         &[A_LINE],
     ),
     (
-        &[101],
+        &[73],
         Status::WriteFault,
         SHOWN,
         &[SHOWN_HEAD, HELD, GREY_PIECE],
         &[A_LINE],
     ),
-    (&[105], Status::WriteFault, SHOWN, HELD_SHOWN, &[A_LINE]),
+    (&[77], Status::WriteFault, SHOWN, HELD_SHOWN, &[A_LINE]),
     (
-        &[106],
+        &[78],
         Status::ReadFault,
         SHOWN,
         HELD_SHOWN,
         &[A_LINE, B_LINE, READ],
     ),
     (
-        &[107],
+        &[79],
         Status::WriteFault,
         SHOWN,
         HELD_SHOWN,
         &[A_LINE, B_LINE],
     ),
     (
-        &[108],
+        &[80],
         Status::WriteFault,
         SHOWN,
         HELD_SHOWN,
         &[A_LINE, B_LINE, A_COUNTS],
     ),
     (
-        &[109],
+        &[81],
         Status::Ok,
         SHOWN,
         HELD_SHOWN,

@@ -216,22 +216,22 @@ const LINES: &[u8] = b"0 intra\n1 from 0\n";
 
 const LINES_READ: &[u8] = b"0 intra\n1 from 0\nread fault\n";
 
-// Four roles are attached, and the head is read byte by byte. Of each capture the entry is read at
-// once, the frame's line byte by byte, and its planes in five pieces; the packet's entry is written
-// in two parts, and then the picture's line. The message between is read in two parts. Last the
-// log's end is met, and the counts are written.
+// Four roles are attached, and the head is read, its first ten bytes at once and nine byte by byte.
+// Of each capture the entry and the frame's line are read at once each, and its planes in five
+// pieces; the packet's entry is written in two parts, and then the picture's line. The message
+// between is read in two parts. Last the log's end is met, and the counts are written.
 const FAILING: &[Stretch] = &[
-    (4, 35, Status::ReadFault, NOTHING, READ),
-    (35, 36, Status::WriteFault, NOTHING, b""),
-    (36, 37, Status::WriteFault, HEAD_ALONE, b""),
-    (37, 38, Status::WriteFault, FLAT_ALONE, b""),
-    (38, 52, Status::ReadFault, FLAT_ALONE, FIRST_READ),
-    (52, 53, Status::WriteFault, FLAT_ALONE, FIRST),
-    (53, 54, Status::WriteFault, THREE_PARTS, FIRST),
-    (54, 55, Status::WriteFault, BOTH, FIRST),
-    (55, 56, Status::ReadFault, BOTH, LINES_READ),
-    (56, 57, Status::WriteFault, BOTH, LINES),
-    (57, 58, Status::Ok, BOTH, BOTH_LINES),
+    (4, 21, Status::ReadFault, NOTHING, READ),
+    (21, 22, Status::WriteFault, NOTHING, b""),
+    (22, 23, Status::WriteFault, HEAD_ALONE, b""),
+    (23, 24, Status::WriteFault, FLAT_ALONE, b""),
+    (24, 33, Status::ReadFault, FLAT_ALONE, FIRST_READ),
+    (33, 34, Status::WriteFault, FLAT_ALONE, FIRST),
+    (34, 35, Status::WriteFault, THREE_PARTS, FIRST),
+    (35, 36, Status::WriteFault, BOTH, FIRST),
+    (36, 37, Status::ReadFault, BOTH, LINES_READ),
+    (37, 38, Status::WriteFault, BOTH, LINES),
+    (38, 39, Status::Ok, BOTH, BOTH_LINES),
 ];
 
 // For each call that reads or writes, up to the first that isn't made.

@@ -302,9 +302,9 @@ fn check_last_frame(rt: &impl Abort, alloc: Global) -> Result<(), OutOfMemory> {
     let many = Err(VideoStop::Refused(TooMany { at: 19_333_644_307 }));
     assert_eq!(rt; reader.frame(&mut desk, &mut out), many);
     assert!(rt; frame.ends_with(&out));
-    // A read that fails, in the head and in the frame: the head is read byte by byte.
+    // A read that fails: the head is read in ten pieces, a frame's line at once, its planes in five.
     let one = repeated(alloc, &[(HEAD, 1), (&frame, 1)])?;
-    for (failing, frames) in [(1, 0), (19, 0), (20, 0), (25, 0), (26, 0), (31, 1)] {
+    for (failing, frames) in [(1, 0), (10, 0), (11, 0), (12, 0), (16, 0), (17, 1)] {
         let (count, ends) = frames_of(alloc, 4096, &one, failing)?;
         assert_eq!(rt; count, frames);
         assert_eq!(rt; ends, Some(VideoStop::Read), "at {failing}");

@@ -1,5 +1,6 @@
 -- What was taken when a read failed has no whole head or frame.
-use Rattle.std.proofs.Common.{◌≡◌, ◌≢◌, ℕ, ◌+◌, ◌-◌, ◌<◌, ◌≤◌, List, [], ◌∷◌, ◌++◌, length, take, drop, codes, None, Result, Ok, Err, IsErr, refl, sym, ap, subst, ◌∙◌, arith, length-take, length-append}
+use Rattle.std.proofs.Common.{◌≡◌, ◌≢◌, ℕ, ◌+◌, ◌-◌, ◌<◌, ◌≤◌, List, [], ◌∷◌, ◌++◌, length, take, drop, codes, None, Result, Ok, Err, IsErr, inl, inr, refl, sym, ap, subst, ◌∙◌, arith, length-take, length-append}
+use Rattle.std.proofs.lemmas.Bool.{cases_lt}
 use Rattle.std.proofs.lemmas.List.Elements.{All-nil, All-cons, All-head, All-tail, All-append}
 use Rattle.std.proofs.Math.Seq.{take-append-add, take-add}
 use Rattle.h263_types.specs.declared.format.Format.{Format}
@@ -8,7 +9,7 @@ use Rattle.y4m.specs.Line.{NoNewline, line_within}
 use Rattle.y4m.specs.Head.{head_line, head_size, head_of}
 use Rattle.y4m.specs.Frame.{frame_line, frame_size, line_stop, frame_of}
 use Rattle.y4m.specs.Spelled.{IsLine, IsHead, Frame, IsFrame}
-use Rattle.y4m.proofs.Frames.{size_is}
+use Rattle.y4m.proofs.Frames.{size_is, line_fits}
 use Rattle.y4m.proofs.Spelling.{line_found, line_front, line_is}
 use Rattle.y4m.proofs.Videos.{free, head_is, head_found, frame_is, frame_parts, planes_parts, line_stops, frame_text, frame_found, line_there}
 
@@ -29,11 +30,32 @@ no_line n word xs none l =
     let rest = drop (length (line_within n xs)) xs in
     newline_in (word ++ l.tail) rest (subst NoNewline (line_front n xs ∙ ap (λ (x : List ℕ). x ++ rest) l.text) none)
 
-pub head_cut : (xs : List ℕ) → NoNewline xs → IsErr (head_of xs)
-head_cut xs none = err_unless (head_of xs) (λ f is. no_line 256 (codes "YUV4MPEG2") xs none (head_is xs f is).spelled)
+-- a whole line has its word and a newline
+pub line_least : (word line : List ℕ) → IsLine word line → length word < length line
+line_least word line l = omega (arith, ap (λ (x : List ℕ). length x) l.text, length-append (word ++ l.tail) (10 ∷ []), length-append word l.tail)
 
-pub frame_cut : (f : Format) (at : ℕ) (xs : List ℕ) → NoNewline xs → IsErr (frame_of f at xs)
-frame_cut f at xs none = err_unless (frame_of f at xs) (λ planes is. no_line 257 (codes "FRAME") xs none (frame_is f at xs planes is).spelled)
+-- bytes that are cut, n of a text with this word
+cut_line : (n least k : ℕ) (word text : List ℕ) → least ≤ length word + 1 → (least ≤ k → NoNewline (take k text)) → IsLine word (line_within n (take k text)) → ⊥
+cut_line n least k word text le free l =
+    elim (cases_lt k least) [
+      | inl lt ↦ absurd (omega (arith, line_least word (line_within n (take k text)) l, line_fits n (take k text), length-take k text))
+      | inr ge ↦ no_line n word (take k text) (free (omega arith)) l
+    ]
+
+pub head_cut : (k : ℕ) (text : List ℕ) → (10 ≤ k → NoNewline (take k text)) → IsErr (head_of (take k text))
+head_cut k text free = err_unless (head_of (take k text)) (λ f is. cut_line 256 10 k (codes "YUV4MPEG2") text (omega arith) free (head_is (take k text) f is).spelled)
+
+pub frame_cut : (f : Format) (at k : ℕ) (text : List ℕ) → (6 ≤ k → NoNewline (take k text)) → IsErr (frame_of f at (take k text))
+frame_cut f at k text free = err_unless (frame_of f at (take k text)) (λ planes is. cut_line 257 6 k (codes "FRAME") text (omega arith) free (frame_is f at (take k text) planes is).spelled)
+
+-- the lines of a head and of a frame have as many bytes as are read at once
+pub head_least : (video : List ℕ) (f : Format) → head_of video ≡ Ok f → 10 ≤ head_size video
+head_least video f is = omega (arith, line_least (codes "YUV4MPEG2") (head_line video) (head_is video f is).spelled)
+
+pub frame_least : (rest : List ℕ) → line_stop (frame_line rest) ≡ None → 6 ≤ length (frame_line rest)
+frame_least rest whole =
+    let line = line_stops (frame_line rest) whole in
+    omega (arith, line_least (codes "FRAME") (frame_line rest) (line_is 257 (codes "FRAME") rest line.0 line.1))
 
 -- the planes were cut
 module _ (f : Format) (at j : ℕ) (rest : List ℕ) (whole : line_stop (frame_line rest) ≡ None) (short : j < size_of_picture f) where

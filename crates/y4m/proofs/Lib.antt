@@ -3,6 +3,7 @@ pub mod Frames
 pub mod Heads
 pub mod Inputs
 pub mod Lines
+pub mod Newlines
 pub mod Places
 pub mod Readers
 pub mod Results

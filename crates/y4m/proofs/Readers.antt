@@ -15,14 +15,14 @@ use Rattle.y4m.proofs.Cuts.{head_cut, frame_cut, planes_cut}
 use Rattle.y4m.proofs.Results.{err_is}
 
 -- a read failed within a line
-pub head_stopped : (video : List ℕ) (left : Option (List ℕ)) (r : Result Y4mReader VideoStop) (stop : VideoStop) → IsErrAnd r (λ x. x ≡ stop) → stop ≡ Read → IsCut video left → HeadGives r video left
+pub head_stopped : (video : List ℕ) (left : Option (List ℕ)) (r : Result Y4mReader VideoStop) (stop : VideoStop) → IsErrAnd r (λ x. x ≡ stop) → stop ≡ Read → IsCut 10 video left → HeadGives r video left
 head_stopped video left r stop is read cut =
-    subst (λ (r : Result Y4mReader VideoStop). HeadGives r video left) (sym (err_is r stop is ∙ ap (λ (s : VideoStop). Err s) read)) (cut.taken, cut.gone, head_cut (take cut.taken video) cut.free)
+    subst (λ (r : Result Y4mReader VideoStop). HeadGives r video left) (sym (err_is r stop is ∙ ap (λ (s : VideoStop). Err s) read)) (cut.taken, cut.gone, head_cut cut.taken video cut.free)
 
-pub frame_stopped : (old new : Y4mReader) (rest out : List ℕ) (left : Option (List ℕ)) (r : Result Bool VideoStop) (stop : VideoStop) → IsErrAnd r (λ x. x ≡ stop) → stop ≡ Read → IsCut rest left → FrameGives r old rest out new left
+pub frame_stopped : (old new : Y4mReader) (rest out : List ℕ) (left : Option (List ℕ)) (r : Result Bool VideoStop) (stop : VideoStop) → IsErrAnd r (λ x. x ≡ stop) → stop ≡ Read → IsCut 6 rest left → FrameGives r old rest out new left
 frame_stopped old new rest out left r stop is read cut =
     subst (λ (r : Result Bool VideoStop). FrameGives r old rest out new left) (sym (err_is r stop is ∙ ap (λ (s : VideoStop). Err s) read))
-    (cut.taken, cut.gone, frame_cut old.format old.at (take cut.taken rest) cut.free)
+    (cut.taken, cut.gone, frame_cut old.format old.at cut.taken rest cut.free)
 
 -- the video has a fault
 pub head_refused : (video : List ℕ) (left : Option (List ℕ)) (r : Result Y4mReader VideoStop) (fault : Y4mFault) → IsErrAnd r (λ x. x ≡ Refused fault) → head_of video ≡ Err fault → HeadGives r video left

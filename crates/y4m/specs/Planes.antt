@@ -12,8 +12,9 @@ PlanesGive (Ok _) at rest out left = (length out ≤ length rest)
 PlanesGive (Err (Refused fault)) at rest out left = (length rest < length out) × (fault ≡ ShortFrame (at + length rest))
 PlanesGive (Err Read) at rest out left = (k : ℕ) × (k < length out) × (left ≡ Some (drop k rest))
 
--- a line was cut off by a read that failed: what was taken of the rest has no newline
-pub record IsCut (rest : List ℕ) (left : Option (List ℕ)) : Type 0 where
+-- a line was cut off by a read that failed: what was taken of the rest is shorter than a line may
+-- be, or has no newline
+pub record IsCut (least : ℕ) (rest : List ℕ) (left : Option (List ℕ)) : Type 0 where
   pub taken : ℕ
   pub gone : left ≡ Some (drop taken rest)
-  pub free : NoNewline (take taken rest)
+  pub free : least ≤ taken → NoNewline (take taken rest)

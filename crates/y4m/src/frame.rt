@@ -8,6 +8,9 @@ use crate::line::{LONGEST_LINE, agreed, is_whole};
 // The word that a frame begins with.
 const FRAME: &[u8] = b"FRAME";
 
+/// The fewest bytes of a frame's line: its word and a newline.
+pub const LEAST_LINE: usize = 6;
+
 // Where a frame's line can't go on, if it isn't whole.
 fn line_stop(line: &[u8]) -> Option<usize>
     ensures is { result ≡ line_stop line.now }

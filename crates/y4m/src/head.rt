@@ -11,6 +11,9 @@ use h263_types::Format;
 // The word that a video begins with.
 const SIGNATURE: &[u8] = b"YUV4MPEG2";
 
+/// The fewest bytes that a head's line may have: its word and what stands after it.
+pub const LEAST_HEAD: usize = 10;
+
 fn width_in(tag: &[u8]) -> Option<u32>
     ensures { result ≡ width_in tag.now }
 {

@@ -1,8 +1,8 @@
 //! The reader of a video.
 ghost use Rattle.std.specs.Prelude.{◌≤◌, ◌+◌, ◌*◌, ◌^◌};
 
-use crate::frame::check_line;
-use crate::head::read_format;
+use crate::frame::{LEAST_LINE, check_line};
+use crate::head::{LEAST_HEAD, read_format};
 use crate::input::{read_line, read_planes};
 use crate::{VideoStop, Y4mFault};
 use h263_outside::Desk;
@@ -46,7 +46,7 @@ impl Y4mReader {
         ensures rest { OnlyReads (D.outside desk.old) (D.outside desk.new) }
     {
         let mut line = [0; 256];
-        let len = read_line(desk, &mut line)?;
+        let len = read_line(desk, LEAST_HEAD, &mut line)?;
         let format = read_format(&line[..len])?;
         Ok(Y4mReader {
             format,
@@ -80,7 +80,7 @@ impl Y4mReader {
         // One byte more than a line may have, to tell a line that is too long from an end of the
         // input.
         let mut line = [0; 257];
-        let len = read_line(desk, &mut line)?;
+        let len = read_line(desk, LEAST_LINE, &mut line)?;
         if len == 0 {
             return Ok(false);
         }

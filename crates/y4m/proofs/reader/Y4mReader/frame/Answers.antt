@@ -1,8 +1,10 @@
-use Rattle.std.proofs.Common.{◌≡◌, ◌<◌, ◌+◌, ℕ, [], List, length, take, drop, Some, Ok, Err, refl, sym, ap, ◌∙◌, arith, length-take, None}
+use Rattle.std.proofs.Common.{◌≡◌, ◌<◌, ◌+◌, ℕ, max, [], List, length, take, drop, Some, Ok, Err, refl, sym, ap, ◌∙◌, arith, length-take, None}
+use Rattle.std.proofs.Math.Seq.{drop-nil}
 use Rattle.std.proofs.lemmas.List.{drop-drop}
 use Rattle.h263_types.specs.Sizes.{size_of_picture}
 use Rattle.y4m.specs.declared.fault.Y4mFault.{Y4mFault}
 use Rattle.y4m.specs.Frame.{frame_size, next_frame, frame_line, line_stop}
+use Rattle.y4m.proofs.Cuts.{frame_least}
 use Rattle.y4m.proofs.Frames.{no_line, line_refused, within, planes_short, planes_there, size_is, next_is, next_none}
 use Rattle.y4m.proofs.Readers.{stopped, frame_stopped, frame_refused}
 use Rattle.y4m.proofs.reader.Y4mReader.frame.Goals as goal
@@ -13,7 +15,7 @@ returns-then-len-eq0-clause-gives g c = λ rest told.
     let len = c.in_ok-len.len in
     let size : length (take len c.read_line.new.line) ≡ len = omega (arith, length-take len c.read_line.new.line, c.in_ok-len.ensures.within, c.read_line.auto.line) in
     let none : rest ≡ [] = no_line rest (sym (ap (λ (l : List ℕ). length l) h.0) ∙ size ∙ c.if-len-eq0.true) in
-    (none, h.1 ∙ ap (λ (l : List ℕ). Some l) (ap (λ (n : ℕ). drop n rest) c.if-len-eq0.true ∙ none))
+    (none, h.1 ∙ ap (λ (l : List ℕ). Some l) (ap (λ (l : List ℕ). drop (max len 6) l) none ∙ drop-nil (max len 6)))
 
 pub returns-then-self-eq0-clause-gives : goal.returns-then-self-eq0-clause-gives
 returns-then-self-eq0-clause-gives g c = λ rest told.
@@ -50,10 +52,11 @@ returns-in_err-read_planes-clause-gives g c = λ rest told.
     let some : 0 < length rest = omega (arith, within self.format self.at rest line len h.0 size, c.if-len-eq0.false) in
     let line_size : len ≡ length (frame_line rest) = sym size ∙ ap (λ (l : List ℕ). length l) h.0 in
     let whole : line_stop (frame_line rest) ≡ None = ap line_stop (sym h.0) ∙ c.in_ok-check_line.ensures in
+    let most : max len 6 ≡ len = omega (arith, frame_least rest whole, line_size) in
     stopped self self rest c.read_planes.new.out len (self.at + len) _ some out line_size whole
     (λ short. next_is self.more self.format self.at rest c.if-self-eq0.false ∙ planes_short self.format self.at rest line len h.0 size c.in_ok-check_line.ensures (omega (arith, short, out)))
     c.from_residual-in_err-read_planes.result c.in_err-read_planes.field-0.0 c.from_residual-in_err-read_planes.ensures.1
-    (c.in_err-read_planes.ensures.gives (drop len rest) h.1)
+    (c.in_err-read_planes.ensures.gives (drop len rest) (h.1 ∙ ap (λ (n : ℕ). Some (drop n rest)) most))
 
 pub returns-clause-gives : goal.returns-clause-gives
 returns-clause-gives g c = λ rest told.
@@ -63,7 +66,10 @@ returns-clause-gives g c = λ rest told.
     let line = take len c.read_line.new.line in
     let size : length line ≡ len = omega (arith, length-take len c.read_line.new.line, c.in_ok-len.ensures.within, c.read_line.auto.line) in
     let out : length c.read_planes.new.out ≡ size_of_picture self.format = c.read_planes.auto.out ∙ c.requires.size in
-    let planes = c.in_ok-read_planes.ensures.gives (drop len rest) h.1 in
+    let line_size : len ≡ length (frame_line rest) = sym size ∙ ap (λ (l : List ℕ). length l) h.0 in
+    let whole : line_stop (frame_line rest) ≡ None = ap line_stop (sym h.0) ∙ c.in_ok-check_line.ensures in
+    let most : max len 6 ≡ len = omega (arith, frame_least rest whole, line_size) in
+    let planes = c.in_ok-read_planes.ensures.gives (drop len rest) (h.1 ∙ ap (λ (n : ℕ). Some (drop n rest)) most) in
     let all : length c.read_planes.new.out + len ≡ frame_size self.format rest = omega (arith, size_is self.format self.at rest line len h.0 size, out) in
     let behind : len + length c.read_planes.new.out ≡ frame_size self.format rest = omega (arith, all) in
     let there : next_frame self.more self.format self.at rest ≡ Ok (take (size_of_picture self.format) (drop len rest)) =

@@ -1,5 +1,6 @@
-use Rattle.std.proofs.Common.{◌≡◌, ℕ, List, length, drop, Some, sym, ap, ◌∙◌, arith, length-take}
+use Rattle.std.proofs.Common.{◌≡◌, ℕ, max, List, length, drop, Some, sym, ap, ◌∙◌, arith, length-take}
 use Rattle.y4m.specs.Head.{format_of_line, head_size}
+use Rattle.y4m.proofs.Cuts.{head_least}
 use Rattle.y4m.proofs.Readers.{head_stopped, head_refused}
 use Rattle.y4m.proofs.reader.Y4mReader.head.Goals as goal
 
@@ -8,7 +9,9 @@ returns-clause-gives g c = λ video told.
     let h = c.in_ok-len.ensures.told video told in
     let len = c.in_ok-len.len in
     let size : len ≡ head_size video = omega (arith, ap (λ (l : List ℕ). length l) h.0, length-take len c.read_line.new.line, c.in_ok-len.ensures.within, c.read_line.auto.line) in
-    (ap format_of_line (sym h.0) ∙ sym c.in_ok-format.ensures, size, h.1 ∙ ap (λ (n : ℕ). Some (drop n video)) size)
+    let is = ap format_of_line (sym h.0) ∙ sym c.in_ok-format.ensures in
+    let most : max len 10 ≡ head_size video = omega (arith, size, head_least video _ is) in
+    (is, size, h.1 ∙ ap (λ (n : ℕ). Some (drop n video)) most)
 
 pub returns-in_err-format-clause-gives : goal.returns-in_err-format-clause-gives
 returns-in_err-format-clause-gives g c = λ video told.
