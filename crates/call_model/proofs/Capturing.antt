@@ -99,7 +99,7 @@ module _ {Frame Style Mb Picture MessageFault : Type 0} (pictures : Pictures Sty
     made = (_, refl);
   }
 
-  more_encoded : (coded : List (Coded Style Mb Picture)) (y : Coded Style Mb Picture) → AllEncoded pictures encoding coded → IsEncoded pictures encoding y → AllEncoded pictures encoding (coded ++ y ∷ [])
+  pub more_encoded : (coded : List (Coded Style Mb Picture)) (y : Coded Style Mb Picture) → AllEncoded pictures encoding coded → IsEncoded pictures encoding y → AllEncoded pictures encoding (coded ++ y ∷ [])
   more_encoded coded y all one n x e =
       elim (slice_get_push coded y n x e) [
         | inl old ↦ all n x old

@@ -4,3 +4,4 @@ mod MessagesRead
 mod BeforeFirst
 mod Untaken
 mod RefusalNumbers
+mod Steered

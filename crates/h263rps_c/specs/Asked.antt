@@ -74,6 +74,14 @@ params_in a (Some format) (Some clock) = checked_params a format clock
 abbrev pub params_of : Asked → Result Params ℕ
 params_of a = params_in a (format_in a.format) (clock_in a.clock)
 
+abbrev pub bad_number : ℕ
+bad_number = 11
+
+-- the same for an end that begins at a picture's number
+abbrev pub params_at : ℕ → Result Params ℕ → Result Params ℕ
+params_at number (Err fault) = Err fault
+params_at number (Ok p) = if nat_le number 1048576 then Ok p else Err bad_number
+
 -- in the standard clock, without a target
 abbrev pub asked_with : ℕ → Params → Asked
 asked_with number p =

@@ -12,6 +12,7 @@ use Rattle.back_messages.specs.declared.message.MessageFault.{MessageFault}
 use Rattle.sender_end.specs.declared.answers.Feedback.{Feedback}
 use Rattle.h263rps_c.specs.declared.answers.Reply.{Reply}
 use Rattle.h263rps_c.specs.Sending.{IsSender}
+use Rattle.h263rps_c.specs.Steering.{Steering, Steers}
 use Rattle.call_model.specs.CodedPictures.{Coded as CodedPicture}
 use Rattle.call_model.specs.Receiving as runs
 use Rattle.call_model.specs.Receiving.{ReceiverEntry}
@@ -63,6 +64,12 @@ abbrev pub HoldsSender : Params → ℕ → List (SenderEntry Frame) → Option 
 HoldsSender p target entries None = ⊥
 HoldsSender p target entries (Some (Sending s)) = IsSender p target entries s
 HoldsSender p target entries (Some (Receiving r)) = ⊥
+
+-- the same of a sender that may be steered
+abbrev pub HoldsSteered : Params → ℕ → List Steering → Option End → Type 0
+HoldsSteered p first past None = ⊥
+HoldsSteered p first past (Some (Sending s)) = Steers p first past s
+HoldsSteered p first past (Some (Receiving r)) = ⊥
 
 -- the picture with this number is told in numbers
 pub record TellsCoded (number : ℕ) (x : CodedPicture Style Mb Picture) (made : Made) : Type 0 where

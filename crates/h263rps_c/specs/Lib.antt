@@ -7,5 +7,6 @@ pub mod Numbers
 pub mod Messages
 pub mod Refusals
 pub mod Sending
+pub mod Steering
 pub mod Slots
 pub mod Ends

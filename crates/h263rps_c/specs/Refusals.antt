@@ -57,6 +57,10 @@ code_refusal bytes back s =
     else unless_none (messages_of s.params.clock back))
     else Some WrongLength
 
+-- a target in bytes per picture
+abbrev pub target_refusal : ℕ → SenderState SendPace → Option Refusal
+target_refusal target s = if nat_lt 999999 target then Some BadParams else None
+
 -- packet i into room for `count` bytes
 abbrev pub packet_refusal : ℕ → ℕ → SenderState SendPace → Option Refusal
 packet_refusal i count s =

@@ -3,6 +3,7 @@ ghost use Rattle.std.specs.Prelude.{◌≡◌, ◌≤◌, IfOk};
 ghost use Rattle.h263_types.specs.Params.{IsParams, default_params};
 ghost use Rattle.h263rps_c.specs.Asked as asking;
 
+use crate::MOST_PICTURES;
 use h263_types::{Clock, Format, ParamFault, Params};
 
 /// The parameters of a call, each as a number.
@@ -66,6 +67,8 @@ const BAD_CLOCK: u32 = 9;
 
 const BAD_TARGET: u32 = 10;
 
+const BAD_NUMBER: u32 = 11;
+
 impl Asked {
     // In a format and by a clock.
     fn with(&self, format: Format, clock: Clock) -> Params
@@ -113,6 +116,24 @@ impl Asked {
             return Err(BAD_CLOCK);
         };
         self.checked(format, clock)
+    }
+
+    /// The same for an end that begins at a picture's number, up to 1,048,576.
+    pub fn params_at(&self, number: u32) -> Result<Params, u32>
+        ensures value { result ≡ asking.params_at number (asking.params_of self.now) }
+        ensures in_range { IfOk result IsParams }
+        ensures few { IfOk result (λ p. number ≤ 1048576) }
+    {
+        match self.params() {
+            Err(fault) => Err(fault),
+            Ok(params) => {
+                if number <= MOST_PICTURES {
+                    Ok(params)
+                } else {
+                    Err(BAD_NUMBER)
+                }
+            }
+        }
     }
 
     /// The parameters of a call in this format where nothing else is asked for.

@@ -13,12 +13,15 @@ ghost use Rattle.call_encoding.specs.Frames.{Frame};
 ghost use Rattle.call_encoding.specs.Messages.{read_message};
 ghost use Rattle.receiver_end.specs.Answers.{IsHeard, IsPlayed, takes};
 ghost use Rattle.receiver_end.specs.State as receivers;
+ghost use Rattle.receiver_end.specs.State.{plays_alone};
 ghost use Rattle.sender_end.specs.Stands as senders;
-ghost use Rattle.h263rps_c.specs.Ends.{HoldsReceiver, HoldsSender, ShowsPicture, packets_in};
+ghost use Rattle.h263rps_c.specs.Ends.{HoldsReceiver, HoldsSender, HoldsSteered, ShowsPicture, packets_in};
 ghost use Rattle.h263rps_c.specs.Sending.{frame_of};
+ghost use Rattle.h263rps_c.specs.Steering.{Steering, next_after, run_after};
+ghost use Rattle.h263rps_c.specs.Steering as steering;
 ghost use Rattle.h263rps_c.specs.Messages.{messages_of};
-ghost use Rattle.h263rps_c.specs.Pace.{pace_of};
-ghost use Rattle.h263rps_c.specs.Refusals.{refusal_in, next_refusal, play_refusal, code_refusal, packet_refusal};
+ghost use Rattle.h263rps_c.specs.Pace.{pace_of, target_in};
+ghost use Rattle.h263rps_c.specs.Refusals.{refusal_in, next_refusal, play_refusal, code_refusal, packet_refusal, target_refusal};
 ghost use Rattle.h263rps_c.specs.Slots.{for_receiver, for_sender, never};
 ghost use Rattle.h263rps_c.specs.declared.refusals.Refusal.TheVariants as refusals;
 
@@ -106,7 +109,18 @@ impl End {
         ensures memory { IfErr result (λ why. why ≡ refusals.NoMemory) }
         ensures stands { IfOk result (λ end. HoldsReceiver params.now [] (Some end.value)) }
     {
-        let Ok(receiver) = Receiver::start(alloc, params) else {
+        End::receiver_at(alloc, params, 0)
+    }
+
+    /// A receiver that has heard nothing and played this many pictures, up to 1,048,576.
+    pub fn receiver_at(alloc: Global, params: &Params, number: u32) -> Result<Box<End>, Refusal>
+        requires params { IsParams params.now }
+        requires few { number ≤ 1048576 }
+        ensures memory { IfErr result (λ why. why ≡ refusals.NoMemory) }
+        ensures stands { IfOk result (λ end.
+            HoldsReceiver params.now (plays_alone number) (Some end.value)) }
+    {
+        let Ok(receiver) = Receiver::start_at(alloc, params, number) else {
             return Err(Refusal::NoMemory);
         };
         match Box::new(alloc, End::Receiving(receiver)) {
@@ -122,6 +136,7 @@ impl End {
         requires target { target ≤ 999999 }
         ensures memory { IfErr result (λ why. why ≡ refusals.NoMemory) }
         ensures stands { IfOk result (λ end. HoldsSender params.now target [] (Some end.value)) }
+        ensures steers { IfOk result (λ end. HoldsSteered params.now target [] (Some end.value)) }
     {
         let Ok(sending) = Sending::start(alloc, params, target) else {
             return Err(Refusal::NoMemory);
@@ -228,6 +243,16 @@ impl End {
             senders.Describes (length (senders.run_of p (pace_of target p) entries).coded)
             (senders.next_after p (pace_of target p) (frame_of p bytes.now messages) entries)
             coded) }
+        ensures steers { (p : Params) (first : ℕ) (past : List Steering)
+            (messages : List Message) → HoldsSteered p first past (Some self.old)
+            → messages_of p.clock back.now ≡ Some messages → IsOk result
+            → HoldsSteered p first (steering.Capture (frame_of p bytes.now messages) ∷ past)
+            (Some self.new) }
+        ensures makes { (p : Params) (first : ℕ) (past : List Steering)
+            (messages : List Message) → HoldsSteered p first past (Some self.old)
+            → messages_of p.clock back.now ≡ Some messages → IfOk result (λ coded.
+            senders.Describes (length (run_after p (target_in first) past).run.coded)
+            (next_after p (target_in first) (frame_of p bytes.now messages) past) coded) }
     {
         match self {
             End::Sending(sending) => sending.code(bytes, back),
@@ -252,6 +277,10 @@ impl End {
             → HoldsSender p target entries (Some self.now) → IsOk result
             → slice_index_or (packets_in (Some self.now)) i []
             ≡ slice_index_or (senders.last_packets p (pace_of target p) entries) i [] }
+        ensures steers { (p : Params) (first : ℕ) (past : List Steering)
+            → HoldsSteered p first past (Some self.now) → IsOk result
+            → slice_index_or (packets_in (Some self.now)) i []
+            ≡ slice_index_or (senders.packets_after p (run_after p (target_in first) past)) i [] }
     {
         match self {
             End::Sending(sending) => sending.packet(i, room),
@@ -274,10 +303,77 @@ impl End {
             senders.reply_of answer ≡ feedback_answer (rules_of p)
             (length (senders.run_of p (pace_of target p) entries).coded)
             (read_message p.clock bytes.now)) }
+        ensures steers { (p : Params) (first : ℕ) (past : List Steering)
+            → HoldsSteered p first past (Some self.old)
+            → HoldsSteered p first (steering.Feedback bytes.now ∷ past) (Some self.new) }
+        ensures replies { (p : Params) (first : ℕ) (past : List Steering)
+            → HoldsSteered p first past (Some self.old) → IfOk result (λ answer.
+            senders.reply_of answer ≡ feedback_answer (rules_of p)
+            (length (run_after p (target_in first) past).run.coded)
+            (read_message p.clock bytes.now)) }
     {
         match self {
             End::Sending(sending) => Ok(sending.feedback(bytes)),
             End::Receiving(_) => Err(Refusal::OtherEnd),
+        }
+    }
+
+    /// A sender follows this target from the next picture on, or none where it is 0.
+    pub fn follow(&mut self, target: u32) -> Result<(), Refusal>
+        ensures refusal { refusal_in result ≡ for_sender (target_refusal target) (Some self.old) }
+        ensures same { IfErr result (λ why. self.new ≡ self.old) }
+        ensures packets { packets_in (Some self.new) ≡ packets_in (Some self.old) }
+        ensures steers { (p : Params) (first : ℕ) (past : List Steering)
+            → HoldsSteered p first past (Some self.old) → IsOk result
+            → HoldsSteered p first (steering.Target (target_in target) ∷ past) (Some self.new) }
+    {
+        match self {
+            End::Sending(sending) => sending.follow(target),
+            End::Receiving(_) => Err(Refusal::OtherEnd),
+        }
+    }
+
+    /// A sender forgets the pictures that were coded.
+    pub fn forget(&mut self) -> Result<(), Refusal>
+        ensures refusal { refusal_in result ≡ for_sender never (Some self.old) }
+        ensures same { IfErr result (λ why. self.new ≡ self.old) }
+        ensures packets { packets_in (Some self.new) ≡ packets_in (Some self.old) }
+        ensures steers { (p : Params) (first : ℕ) (past : List Steering)
+            → HoldsSteered p first past (Some self.old) → IsOk result
+            → HoldsSteered p first (steering.Forget ∷ past) (Some self.new) }
+    {
+        match self {
+            End::Sending(sending) => {
+                sending.forget();
+                Ok(())
+            }
+            End::Receiving(_) => Err(Refusal::OtherEnd),
+        }
+    }
+
+    /// How many pictures a sender has coded.
+    pub fn sent(&self) -> Result<u32, Refusal>
+        ensures refusal { refusal_in result ≡ for_sender never (Some self.now) }
+        ensures steers { (p : Params) (first : ℕ) (past : List Steering)
+            → HoldsSteered p first past (Some self.now) → IfOk result (λ count.
+            count ≡ length (run_after p (target_in first) past).run.coded) }
+    {
+        match self {
+            End::Sending(sending) => Ok(sending.sent()),
+            End::Receiving(_) => Err(Refusal::OtherEnd),
+        }
+    }
+
+    /// How many pictures a receiver has played.
+    pub fn played(&self) -> Result<u32, Refusal>
+        ensures refusal { refusal_in result ≡ for_receiver never (Some self.now) }
+        ensures stands { (p : Params) (past : List ReceiverEntry)
+            → HoldsReceiver p past (Some self.now) → IfOk result (λ count.
+            count ≡ (receivers.run_of p past).played) }
+    {
+        match self {
+            End::Sending(_) => Err(Refusal::OtherEnd),
+            End::Receiving(receiver) => Ok(receiver.played()),
         }
     }
 }

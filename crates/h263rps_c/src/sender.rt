@@ -9,11 +9,13 @@ ghost use Rattle.call_encoding.specs.Frames.{Frame};
 ghost use Rattle.call_encoding.specs.Messages.{read_message};
 ghost use Rattle.sender_end.specs.Stands as senders;
 ghost use Rattle.h263rps_c.specs.Asked.{params_of};
-ghost use Rattle.h263rps_c.specs.Ends.{HoldsSender, TellsCoded, TellsReply, packets_in};
+ghost use Rattle.h263rps_c.specs.Ends.{HoldsSender, HoldsSteered, TellsCoded, TellsReply, packets_in};
 ghost use Rattle.h263rps_c.specs.Messages.{messages_of};
-ghost use Rattle.h263rps_c.specs.Pace.{pace_of};
+ghost use Rattle.h263rps_c.specs.Pace.{pace_of, target_in};
 ghost use Rattle.h263rps_c.specs.Refusals.{code_refusal, packet_refusal, status_of, refusal_number};
 ghost use Rattle.h263rps_c.specs.Sending.{frame_of};
+ghost use Rattle.h263rps_c.specs.Steering.{Steering, next_after, run_after};
+ghost use Rattle.h263rps_c.specs.Steering as steering;
 ghost use Rattle.h263rps_c.specs.Slots.{fault_after, for_sender, never, start_refusal};
 ghost use Rattle.h263rps_c.specs.declared.refusals.Refusal.TheVariants as refusals;
 
@@ -41,6 +43,8 @@ pub extern "C" fn h263rps_raw_sender_start(
         ≡ fault_after slot.old.handle.inside (params_of asked.now) fault.old }
     ensures stands { result ≡ 0 → IfOk (params_of asked.now)
         (λ p. HoldsSender p asked.now.target [] slot.new.handle.inside) }
+    ensures steers { result ≡ 0 → IfOk (params_of asked.now)
+        (λ p. HoldsSteered p asked.now.target [] slot.new.handle.inside) }
 {
     if slot.is_started() {
         return Refusal::Started.number();
@@ -83,6 +87,16 @@ pub extern "C" fn h263rps_raw_sender_code(
         → messages_of p.clock messages.now ≡ Some back → result ≡ 0
         → TellsCoded (length (senders.run_of p (pace_of target p) entries).coded)
         (senders.next_after p (pace_of target p) (frame_of p picture.now back) entries) made.new }
+    ensures steers { (p : Params) (first : ℕ) (past : List Steering) (back : List Message)
+        → HoldsSteered p first past slot.old.handle.inside
+        → messages_of p.clock messages.now ≡ Some back → result ≡ 0
+        → HoldsSteered p first (steering.Capture (frame_of p picture.now back) ∷ past)
+        slot.new.handle.inside }
+    ensures makes { (p : Params) (first : ℕ) (past : List Steering) (back : List Message)
+        → HoldsSteered p first past slot.old.handle.inside
+        → messages_of p.clock messages.now ≡ Some back → result ≡ 0
+        → TellsCoded (length (run_after p (target_in first) past).run.coded)
+        (next_after p (target_in first) (frame_of p picture.now back) past) made.new }
 {
     if !slot.is_started() {
         return Refusal::NotStarted.number();
@@ -121,6 +135,10 @@ pub extern "C" fn h263rps_raw_sender_packet(
         → HoldsSender p target entries slot.old.handle.inside → result ≡ 0
         → slice_index_or (packets_in slot.old.handle.inside) number []
         ≡ slice_index_or (senders.last_packets p (pace_of target p) entries) number [] }
+    ensures steers { (p : Params) (first : ℕ) (past : List Steering)
+        → HoldsSteered p first past slot.old.handle.inside → result ≡ 0
+        → slice_index_or (packets_in slot.old.handle.inside) number []
+        ≡ slice_index_or (senders.packets_after p (run_after p (target_in first) past)) number [] }
 {
     if !slot.is_started() {
         return Refusal::NotStarted.number();
@@ -155,6 +173,14 @@ pub extern "C" fn h263rps_raw_sender_feedback(
         → HoldsSender p target entries slot.old.handle.inside
         → TellsReply reply.new (feedback_answer (rules_of p)
         (length (senders.run_of p (pace_of target p) entries).coded)
+        (read_message p.clock message.now)) }
+    ensures steers { (p : Params) (first : ℕ) (past : List Steering)
+        → HoldsSteered p first past slot.old.handle.inside
+        → HoldsSteered p first (steering.Feedback message.now ∷ past) slot.new.handle.inside }
+    ensures replies { (p : Params) (first : ℕ) (past : List Steering)
+        → HoldsSteered p first past slot.old.handle.inside
+        → TellsReply reply.new (feedback_answer (rules_of p)
+        (length (run_after p (target_in first) past).run.coded)
         (read_message p.clock message.now)) }
 {
     if !slot.is_started() {

@@ -11,10 +11,12 @@ ghost use Rattle.call_encoding.specs.Frames.{Frame};
 ghost use Rattle.call_encoding.specs.Messages.{read_message};
 ghost use Rattle.sender_end.specs.Stands as senders;
 ghost use Rattle.h263rps_c.specs.Sending.{IsSender, frame_of};
+ghost use Rattle.h263rps_c.specs.Steering.{Steering, Steers, next_after, run_after};
+ghost use Rattle.h263rps_c.specs.Steering as steering;
 ghost use Rattle.h263rps_c.specs.declared.refusals.Refusal.TheVariants as refusals;
 ghost use Rattle.h263rps_c.specs.Messages.{messages_of};
 ghost use Rattle.h263rps_c.specs.Pace.{pace_of, target_in};
-ghost use Rattle.h263rps_c.specs.Refusals.{refusal_in, code_refusal, packet_refusal};
+ghost use Rattle.h263rps_c.specs.Refusals.{refusal_in, code_refusal, packet_refusal, target_refusal};
 
 use crate::MOST_PICTURES;
 use crate::answers::Said;
@@ -27,6 +29,9 @@ use sender_end::{Coded, Feedback, Sender};
 use std::alloc::Global;
 use std::marker::Model;
 
+// The greatest target, in bytes per picture.
+const MOST_BYTES: u32 = 999_999;
+
 /// A sender, its parameters, and how many packets its last picture has.
 pub struct Sending {
     sender: Sender<SendPace>,
@@ -36,6 +41,7 @@ pub struct Sending {
 
 impl Model for Sending {
     ghost use Rattle.std.specs.Prelude.{◌≡◌, length};
+    ghost use Rattle.h263_types.specs.Params.{IsParams};
     ghost use Rattle.sender_end.specs.State.{SenderState};
     ghost use Rattle.rate_control.specs.declared.send_pace.SendPace.{SendPace};
 
@@ -44,7 +50,7 @@ impl Model for Sending {
     ghost view = { λ s. s.sender };
 
     ghost invariant = { λ s. (s.sender.params ≡ s.params)
-        × (s.packets ≡ length s.sender.packets) };
+        × (s.packets ≡ length s.sender.packets) × IsParams s.params };
 }
 
 // The target that is followed, if there is one.
@@ -68,6 +74,7 @@ impl Sending {
         requires params { IsParams params.now }
         requires target { target ≤ 999999 }
         ensures stands { IfOk result (IsSender params.now target []) }
+        ensures steers { IfOk result (Steers params.now target []) }
     {
         let sender = Sender::start(
             alloc,
@@ -96,6 +103,15 @@ impl Sending {
             senders.Describes (length (senders.run_of p (pace_of target p) entries).coded)
             (senders.next_after p (pace_of target p) (frame_of p bytes.now messages) entries)
             coded) }
+        ensures steers { (p : Params) (first : ℕ) (past : List Steering)
+            (messages : List Message) → Steers p first past self.old
+            → messages_of p.clock back.now ≡ Some messages → IsOk result
+            → Steers p first (steering.Capture (frame_of p bytes.now messages) ∷ past) self.new }
+        ensures makes { (p : Params) (first : ℕ) (past : List Steering)
+            (messages : List Message) → Steers p first past self.old
+            → messages_of p.clock back.now ≡ Some messages → IfOk result (λ coded.
+            senders.Describes (length (run_after p (target_in first) past).run.coded)
+            (next_after p (target_in first) (frame_of p bytes.now messages) past) coded) }
     {
         if self.sender.sent() >= MOST_PICTURES {
             return Err(Refusal::Ended);
@@ -129,6 +145,10 @@ impl Sending {
             → IsSender p target entries self.now → IsOk result
             → slice_index_or self.now.packets i []
             ≡ slice_index_or (senders.last_packets p (pace_of target p) entries) i [] }
+        ensures steers { (p : Params) (first : ℕ) (past : List Steering)
+            → Steers p first past self.now → IsOk result
+            → slice_index_or self.now.packets i []
+            ≡ slice_index_or (senders.packets_after p (run_after p (target_in first) past)) i [] }
     {
         if i >= self.packets {
             return Err(Refusal::NoPacket);
@@ -153,8 +173,56 @@ impl Sending {
             → senders.reply_of result ≡ feedback_answer (rules_of p)
             (length (senders.run_of p (pace_of target p) entries).coded)
             (read_message p.clock bytes.now) }
+        ensures steers { (p : Params) (first : ℕ) (past : List Steering)
+            → Steers p first past self.old
+            → Steers p first (steering.Feedback bytes.now ∷ past) self.new }
+        ensures replies { (p : Params) (first : ℕ) (past : List Steering)
+            → Steers p first past self.old
+            → senders.reply_of result ≡ feedback_answer (rules_of p)
+            (length (run_after p (target_in first) past).run.coded)
+            (read_message p.clock bytes.now) }
     {
         self.sender.feedback(bytes)
+    }
+
+    /// Follows this target from the next picture on, or none where it is 0.
+    pub fn follow(&mut self, target: u32) -> Result<(), Refusal>
+        ensures refusal { refusal_in result ≡ target_refusal target self.old }
+        ensures same { IfErr result (λ why. self.new ≡ self.old) }
+        ensures packets { self.new.packets ≡ self.old.packets }
+        ensures steers { (p : Params) (first : ℕ) (past : List Steering)
+            → Steers p first past self.old → IsOk result
+            → Steers p first (steering.Target (target_in target) ∷ past) self.new }
+    {
+        if target > MOST_BYTES {
+            return Err(Refusal::BadParams);
+        }
+        self.sender
+            .set_pace(SendPace::choose(followed(target), self.params.quant));
+        Ok(())
+    }
+
+    /// Forgets the pictures that were coded, so that the next one is coded by itself.
+    pub fn forget(&mut self)
+        ensures packets { self.new.packets ≡ self.old.packets }
+        ensures steers { (p : Params) (first : ℕ) (past : List Steering)
+            → Steers p first past self.old
+            → Steers p first (steering.Forget ∷ past) self.new }
+    {
+        self.sender.forget();
+    }
+
+    /// How many pictures were coded.
+    pub fn sent(&self) -> u32
+        ensures value { result ≡ self.now.sent }
+        ensures stands { (p : Params) (target : ℕ) (entries : List (SenderEntry Frame))
+            → IsSender p target entries self.now
+            → result ≡ length (senders.run_of p (pace_of target p) entries).coded }
+        ensures steers { (p : Params) (first : ℕ) (past : List Steering)
+            → Steers p first past self.now
+            → result ≡ length (run_after p (target_in first) past).run.coded }
+    {
+        self.sender.sent()
     }
 
     /// Gives all memory back.

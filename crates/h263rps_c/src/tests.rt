@@ -2,7 +2,9 @@
 use crate::answers::{Answer, Made, Reply, Said};
 use crate::asked::Asked;
 use crate::handles::Slot;
+use crate::joining::*;
 use crate::receiver::*;
+use crate::running::*;
 use crate::sender::*;
 use crate::starting::*;
 use std::alloc::Global;
@@ -71,6 +73,48 @@ fn sender_calls(alloc: Global, slot: &mut Slot) -> [u32; 5] {
     let told = h263rps_raw_sender_feedback(slot, &ACK_0, &mut reply);
     let finished = h263rps_raw_sender_finish(alloc, slot);
     [coded, packet, told, finished, reply.kind]
+}
+
+// What the functions that steer a sender answer, a target that is too great first, and how many
+// pictures were coded; and what a receiver has played.
+fn steering_calls(slot: &mut Slot) -> [u32; 7] {
+    let mut sent = 77;
+    let mut played = 77;
+    let great = h263rps_raw_sender_target(slot, 1_000_000);
+    let target = h263rps_raw_sender_target(slot, 999_999);
+    let forget = h263rps_raw_sender_forget(slot);
+    let coded = h263rps_raw_sender_sent(slot, &mut sent);
+    let shown = h263rps_raw_receiver_played(slot, &mut played);
+    [great, target, forget, coded, sent, shown, played]
+}
+
+#[test]
+fn steering(rt: HostRuntime) {
+    let mut slot = Slot::vacant(rt.alloc());
+    let mut fault = 77;
+    assert_eq!(rt; steering_calls(&mut slot), [1, 1, 1, 1, 77, 1, 77]);
+    assert_eq!(rt;
+        h263rps_raw_sender_start(rt.alloc(), &mut slot, &ASKED, &mut fault),
+        0
+    );
+    assert_eq!(rt; steering_calls(&mut slot), [4, 0, 0, 0, 0, 3, 77]);
+    let _end = slot.into_box();
+}
+
+#[test]
+fn a_receiver_at_a_number(rt: HostRuntime) {
+    let mut slot = Slot::vacant(rt.alloc());
+    let mut fault = 77;
+    let late = h263rps_raw_receiver_start_at(rt.alloc(), &mut slot, &ASKED, 1_048_577, &mut fault);
+    assert_eq!(rt; (late, fault), (4, 11));
+    let last = h263rps_raw_receiver_start_at(rt.alloc(), &mut slot, &ASKED, 1_048_576, &mut fault);
+    assert_eq!(rt; (last, fault), (0, 11));
+    assert_eq!(rt; steering_calls(&mut slot), [3, 3, 3, 3, 77, 0, 1_048_576]);
+    let mut answer = UNTOUCHED;
+    assert_eq!(rt; h263rps_raw_receiver_next(&mut slot, &mut answer), 6);
+    let again = h263rps_raw_receiver_start_at(rt.alloc(), &mut slot, &ASKED, 5, &mut fault);
+    assert_eq!(rt; (again, fault), (2, 11));
+    let _end = slot.into_box();
 }
 
 #[test]
@@ -220,7 +264,18 @@ fn a_call(rt: HostRuntime) -> Result<(), Fail> {
     let second = sent(&mut sender, &mut receiver, &mut picture);
     assert_eq!(rt; second, [0, 1, 0, 0]);
     assert_eq!(rt; lent(&mut receiver), (0, 18432, 128));
-    // nothing came of the third
+    // on request the third is intra, and the fourth refers to it
+    assert_eq!(rt; h263rps_raw_sender_forget(&mut sender), 0);
+    assert_eq!(rt;
+        sent(&mut sender, &mut receiver, &mut picture),
+        [0, 1, 0, 1]
+    );
+    assert_eq!(rt;
+        sent(&mut sender, &mut receiver, &mut picture),
+        [0, 1, 0, 0]
+    );
+    assert_eq!(rt; lent(&mut receiver), (0, 18432, 128));
+    // nothing came of the fifth
     let mut answer = UNTOUCHED;
     assert_eq!(rt; h263rps_raw_receiver_next(&mut receiver, &mut answer), 0);
     assert_eq!(rt; (answer.kind, answer.message.length), (2, 3));

@@ -1,7 +1,7 @@
 -- The level, one picture after another, and against the suffixes of a list.
 use Rattle.std.proofs.Common.{◌≡◌, ℕ, zero, suc, ◌+◌, ◌-◌, ◌*◌, ◌/◌, ◌<◌, ◌≤◌, max, min, List, [], ◌∷◌, ◌++◌, length, sum, take, get_or, arith, refl, sym, ap, subst, ◌∙◌, ⊎_elim}
 use Rattle.std.proofs.lemmas.Bool.{cases_lt}
-use Rattle.std.proofs.lemmas.Nat.{le-div}
+use Rattle.std.proofs.lemmas.Nat.{le-div, mul-le}
 use Rattle.std.proofs.Math.Nat.{div-mul-le_self, div-zero}
 use Rattle.std.proofs.lemmas.List.{length_push, take_more}
 use Rattle.std.proofs.lemmas.List.Sums.{sum_by-cons, sum_by_push}
@@ -143,4 +143,26 @@ pub quant_no_less : (t first : ℕ) (xs ys : List ℕ) → NoneShrinks xs ys →
 quant_no_less t first xs ys h =
     let l = level_no_less t xs ys h in
     let q = quotient (4 * level_of t xs) (4 * level_of t ys) t (omega (arith, l)) in
+    omega (arith, q)
+
+-- ---- a greater target
+
+level_greater : (t more : ℕ) (sizes : List ℕ) → t ≤ more → level_of more sizes ≤ level_of t sizes
+level_greater t more sizes h =
+    let r = reached more sizes in
+    let s = r.same in
+    let b = bounds t sizes r.front r.back r.whole in
+    let m = mul-le (length r.back) t (length r.back) more (omega arith) h in
+    omega (arith, s, b, m)
+
+quotient_greater : (a b t more : ℕ) → a ≤ b → 1 ≤ t → t ≤ more → a / more ≤ b / t
+quotient_greater a b t more h some greater =
+    let below = div-mul-le_self a more in
+    let less = mul-le (a / more) t (a / more) more (omega arith) greater in
+    le-div (a / more) b t (omega (arith, some)) (omega (arith, below, less, h))
+
+pub quant_no_coarser : (t more first : ℕ) (sizes : List ℕ) → 1 ≤ t → t ≤ more → quant_after more first sizes ≤ quant_after t first sizes
+quant_no_coarser t more first sizes some greater =
+    let l = level_greater t more sizes greater in
+    let q = quotient_greater (4 * level_of more sizes) (4 * level_of t sizes) t more (omega (arith, l)) some greater in
     omega (arith, q)

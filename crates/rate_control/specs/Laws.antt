@@ -24,6 +24,12 @@ NeverFiner =
     (target first : ℕ) (before after : List ℕ) → NoneShrinks before after
     → quant_after target first before ≤ quant_after target first after
 
+-- a greater target never gives a coarser quantiser
+abbrev pub NeverCoarser : Type 0
+NeverCoarser =
+    (target greater first : ℕ) (sizes : List ℕ) → 1 ≤ target → target ≤ greater
+    → quant_after greater first sizes ≤ quant_after target first sizes
+
 -- no suffix has more bytes than its length times the target
 abbrev pub IsCalm : ℕ → List ℕ → Type 0
 IsCalm target sizes =

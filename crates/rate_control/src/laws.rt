@@ -1,5 +1,5 @@
 //! Laws of the level and of the pace, over the definitions alone.
-ghost use Rattle.rate_control.specs.Laws.{CalmExactly, LevelIsGreatest, NeverFiner};
+ghost use Rattle.rate_control.specs.Laws.{CalmExactly, LevelIsGreatest, NeverCoarser, NeverFiner};
 
 /// The level is what its definition says of whole numbers: no suffix lies further above its target,
 /// and where it isn't 0 some suffix lies just so far.
@@ -10,6 +10,11 @@ pub fn level()
 /// Where no size shrinks, neither does the quantiser.
 pub fn monotone()
     ensures { NeverFiner }
+{}
+
+/// A greater target never gives a coarser quantiser, whatever the sizes.
+pub fn generous()
+    ensures { NeverCoarser }
 {}
 
 /// The level is 0 exactly where no suffix has more bytes than its length times the target.

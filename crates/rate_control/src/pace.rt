@@ -31,6 +31,15 @@ impl BucketPace {
     {
         BucketPace { target, first }
     }
+
+    /// The quantiser at an empty bucket.
+    pub fn first(&self) -> u8
+        ensures value { result ≡ self.now.first }
+        ensures low { 1 ≤ result }
+        ensures high { result ≤ 31 }
+    {
+        self.first
+    }
 }
 
 impl Pace for BucketPace {

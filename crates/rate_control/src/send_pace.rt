@@ -28,6 +28,28 @@ impl SendPace {
             Some(target) => SendPace::Bucket(BucketPace::new(target, quant)),
         }
     }
+
+    // The quantiser of the first picture.
+    fn first(&self) -> u8
+        ensures value { result ≡ first_of self.now }
+        ensures low { 1 ≤ result }
+        ensures high { result ≤ 31 }
+    {
+        match self {
+            SendPace::Fixed(pace) => pace.quant,
+            SendPace::Bucket(pace) => pace.first(),
+        }
+    }
+
+    /// Follows this target from the next picture on, if there is one. The first quantiser stays.
+    pub fn set_target(&mut self, target: Option<u32>)
+        requires some { IfSome target (λ n. 1 ≤ n) }
+        requires few { IfSome target (λ n. n ≤ 999999) }
+        ensures target { target_of self.new ≡ target }
+        ensures first { first_of self.new ≡ first_of self.old }
+    {
+        *self = SendPace::choose(target, self.first());
+    }
 }
 
 impl Pace for SendPace {

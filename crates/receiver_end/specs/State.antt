@@ -1,5 +1,5 @@
 -- What a receiver keeps, and the run that it stands for.
-use Rattle.std.specs.Prelude.{◌≡◌, ℕ, ◌+◌, ◌-◌, ◌%◌, ◌^◌, ◌≤◌, Bool, true, false, ◌==◌, List, length, Option, if◌then◌else◌}
+use Rattle.std.specs.Prelude.{◌≡◌, ℕ, zero, suc, ◌+◌, ◌-◌, ◌%◌, ◌^◌, ◌≤◌, Bool, true, false, ◌==◌, List, [], ◌∷◌, length, Option, if◌then◌else◌}
 use Rattle.std.specs.Option.{option_map, option_map_or}
 use Rattle.h263_bits.specs.declared.fault.Fault.{Fault}
 use Rattle.h263_types.specs.declared.blocks.Mb.{Mb}
@@ -10,7 +10,7 @@ use Rattle.picture_store.specs.Pictures.{Pictures, slots_of, number_in, picture_
 use Rattle.packet_collector.specs.Collected.{Collects, row_of, format_of, header_in, has_in}
 use Rattle.packet_collector.specs.Taken.{Taken}
 use Rattle.call_model.specs.Coding.{Mark, Message}
-use Rattle.call_model.specs.Receiving.{ReceiverRun, ReceiverEntry, Heard, heard, played_mark, played_message, receiver_run}
+use Rattle.call_model.specs.Receiving.{ReceiverRun, ReceiverEntry, PlayNext, Heard, heard, played_mark, played_message, receiver_run}
 use Rattle.call_model.specs.Stands.{Receiver, ReceiverStands}
 use Rattle.call_decoding.specs.Rules.{rules_of}
 use Rattle.call_decoding.specs.Styles.{Style, header_of}
@@ -60,6 +60,11 @@ pub record Fits (r : Kept) : Type 0 where
   -- the collector stands for some list of slices
   pub taken : List Taken
   pub collects : Collects r.collector r.played taken
+
+-- this many plays, with nothing between them
+abbrev pub plays_alone : ℕ → List ReceiverEntry
+plays_alone zero = []
+plays_alone (suc n) = PlayNext ∷ plays_alone n
 
 -- as the laws of a call see it
 abbrev pub seen : Kept → Receiver Style Picture

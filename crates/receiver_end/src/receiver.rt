@@ -1,5 +1,5 @@
 //! The receiver.
-ghost use Rattle.std.specs.Prelude.{◌≡◌, ◌+◌, ◌^◌, ◌<◌, List, [], ◌∷◌, IfOk, false};
+ghost use Rattle.std.specs.Prelude.{◌≡◌, ◌+◌, ◌^◌, ◌<◌, ◌≤◌, List, [], ◌∷◌, IfOk, false};
 ghost use Rattle.h263_types.specs.Params.{IsParams};
 ghost use Rattle.picture_store.specs.Pictures.{room_for};
 
@@ -41,7 +41,7 @@ impl Receiver {
     ghost use Rattle.call_model.specs.Receiving.{ReceiverEntry, Packet, PlayNext};
     ghost use Rattle.receiver_end.specs.Answers.{IsHeard, IsPlayed, takes};
     ghost use Rattle.receiver_end.specs.State.{Stands, answer_after, mark_after, message_after};
-    ghost use Rattle.receiver_end.specs.State.{run_of};
+    ghost use Rattle.receiver_end.specs.State.{plays_alone, run_of};
 
     /// Nothing was heard or played. All memory of the receiver is taken here.
     pub fn start(alloc: Global, params: &Params) -> Result<Receiver, OutOfMemory>
@@ -52,8 +52,22 @@ impl Receiver {
             ≡ room_for params.now.format (params.now.slots + (params.now.lead + 2))) }
         ensures stands { IfOk result (λ r. Stands r []) }
     {
+        Receiver::start_at(alloc, params, 0)
+    }
+
+    /// Nothing was heard, and this many pictures were played, 1,048,576 at most: a receiver that
+    /// joins a call whose other end is there already. All memory of the receiver is taken here.
+    pub fn start_at(alloc: Global, params: &Params, number: u32) -> Result<Receiver, OutOfMemory>
+        requires in_range { IsParams params.now }
+        requires few { number ≤ 2 ^ 20 }
+        ensures params { IfOk result (λ r. r.params ≡ params.now) }
+        ensures played { IfOk result (λ r. r.played ≡ number) }
+        ensures room { IfOk result (λ r. r.store.room
+            ≡ room_for params.now.format (params.now.slots + (params.now.lead + 2))) }
+        ensures stands { IfOk result (λ r. Stands r (plays_alone number)) }
+    {
         let mbs = vec![in alloc; Mb::Skip; params.format.mbs() as usize]?;
-        let kept = Kept::start(alloc, params)?;
+        let kept = Kept::start(alloc, params, number)?;
         Ok(Receiver { kept, mbs })
     }
 

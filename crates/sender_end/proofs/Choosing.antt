@@ -5,6 +5,16 @@ use Rattle.std.proofs.lemmas.Bool.{and_parts, leb-true, ltb-true}
 use Rattle.call_model.specs.Numbers.{GreatestIs, greatest}
 use Rattle.call_model.specs.Coding.{Rules, window}
 use Rattle.call_model.specs.CodedPictures.{reference_for}
+use Rattle.call_model.specs.Steering.{from_floor}
+
+-- one that isn't below the floor
+pub above_is : (floor : ℕ) (o : Option ℕ) (m : ℕ) → Some m ≡ from_floor floor o → Some m ≡ o
+above_is floor None m e = cc
+above_is floor (Some k) m e = go (leb floor k) e
+  where
+    go : (b : Bool) → (let x : Option ℕ = Some m in x) ≡ (if b then Some k else None) → (let x : Option ℕ = Some m in x) ≡ Some k
+    go true e = e
+    go false e = cc
 
 -- it is in the window, and its chain may grow
 pub reference_parts : GreatestIs → (rules : Rules) (depth : ℕ → ℕ) (known : ℕ → Bool) (n m : ℕ) → Some m ≡ reference_for rules depth known n

@@ -18,6 +18,7 @@ state_of s =
       sequence = sequence_of s.cutter;
       packets = packets_of s.cutter;
       sizes = s.sizes.items;
+      since = s.since;
       selector = s.selector;
       store = s.store;
     }

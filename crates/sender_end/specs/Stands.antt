@@ -10,6 +10,7 @@ use Rattle.call_model.specs.CodedPictures.{Coded as CodedPicture}
 use Rattle.call_model.specs.Sending.{SenderEntry, SenderRun, Reply, RefusedMessage, Old, Noted, next_coded, sender_run}
 use Rattle.call_model.specs.Sending as call
 use Rattle.call_model.specs.Stands.{Sender, SenderStands}
+use Rattle.call_model.specs.Steering.{SteeredRun, SenderHolds, next_steered, steered_capture, steered_feedback}
 use Rattle.call_decoding.specs.Rules.{rules_of}
 use Rattle.call_decoding.specs.Samples.{pictures}
 use Rattle.call_decoding.specs.Styles.{Style}
@@ -36,6 +37,8 @@ pub record Stands {P : Type 0} (pace : List ℕ → ℕ) (state : SenderState P)
     (entries : List (SenderEntry Frame)) : Type 0 where
   pub s : Sender Picture
   pub seen : IsSeen state s
+  -- it never forgot
+  pub since : state.since ≡ 0
   pub stands : SenderStands (pictures state.params.format) (encoding state.params)
       (rules_of state.params) pace s entries
 
@@ -55,6 +58,42 @@ abbrev pub last_packets : Params → (List ℕ → ℕ) → List (SenderEntry Fr
 last_packets p pace entries =
     let coded = (run_of p pace entries).coded in
     call.packets_of (encoding p) (rules_of p) coded (length coded - 1)
+
+-- ---- a sender that may be steered
+
+-- what it has done
+abbrev pub Run : Type 0
+Run = SteeredRun Style Mb Picture
+
+-- The state holds this run, whatever its pace was at each picture.
+pub record Holds {P : Type 0} (state : SenderState P) (run : Run) : Type 0 where
+  pub s : Sender Picture
+  pub seen : IsSeen state s
+  pub since : state.since ≡ run.since
+  pub holds : SenderHolds (pictures state.params.format) (encoding state.params)
+      (rules_of state.params) s run.run
+
+-- the next picture of a run, of this frame and with this pace
+abbrev pub next_in : Params → (List ℕ → ℕ) → Frame → Run → CodedPicture Style Mb Picture
+next_in p pace frame run =
+    next_steered (pictures p.format) (encoding p) (rules_of p) pace frame run
+
+-- the run with that picture
+abbrev pub after_code : Params → (List ℕ → ℕ) → Frame → Run → Run
+after_code p pace frame run =
+    steered_capture (pictures p.format) (encoding p) (rules_of p) pace frame run
+
+-- the run with what a message makes known
+abbrev pub after_message : Params → List ℕ → Run → Run
+after_message p bytes run =
+    steered_feedback (pictures p.format) (encoding p) (rules_of p) bytes run
+
+-- the packets of its last picture
+abbrev pub packets_after : Params → Run → List (List ℕ)
+packets_after p run =
+    call.packets_of (encoding p) (rules_of p) run.run.coded (length run.run.coded - 1)
+
+-- ---- answers
 
 -- the answer says which picture this is, its reference, and how many packets it has
 pub record Describes (number : ℕ) (x : CodedPicture Style Mb Picture) (answer : Coded) : Type 0 where

@@ -15,6 +15,9 @@ pub record SenderState (P : Type 0) : Type 0 where
   pub packets : List (List ℕ)
   -- the bytes of the last pictures, oldest first
   pub sizes : List ℕ
+  -- the number of the first picture that may be a reference: how many were coded when it last
+  -- forgot
+  pub since : ℕ
   -- what is known of the last pictures, and the pictures themselves
   pub selector : Selector
   pub store : Pictures

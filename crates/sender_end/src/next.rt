@@ -4,6 +4,7 @@ ghost use Rattle.std.specs.Option.{option_map_or};
 ghost use Rattle.reference_selector.specs.Stands.{SelectorStands};
 ghost use Rattle.call_model.specs.Coding.{Rules};
 ghost use Rattle.call_model.specs.CodedPictures.{reference_for};
+ghost use Rattle.call_model.specs.Steering.{from_floor};
 ghost use Rattle.sender_end.specs.Selecting.{IsSelecting};
 
 use call_model::laws as call_model_laws;
@@ -16,12 +17,23 @@ pub struct Next {
     pub depth: u8,
 }
 
+// The reference, unless it is below the floor.
+fn above(reference: Option<u32>, floor: u32) -> Option<u32>
+    ensures { result ≡ from_floor floor reference }
+{
+    match reference {
+        None => None,
+        Some(m) => { if floor <= m { Some(m) } else { None } }
+    }
+}
+
 /// The reference of picture `number`, the next one, by the pictures that are known, and its depth.
-pub fn next_from(pictures: &Selector, number: u32) -> Next
+/// Pictures below the floor are no references.
+pub fn next_from(pictures: &Selector, number: u32, floor: u32) -> Next
     requires { IsSelecting pictures.now number }
     ensures reference { (rules : Rules) (depth : ℕ → ℕ) (known : ℕ → Bool)
         → SelectorStands rules pictures.now number depth known
-        → result.reference ≡ reference_for rules depth known number }
+        → result.reference ≡ from_floor floor (reference_for rules depth known number) }
     ensures depth { (rules : Rules) (depth : ℕ → ℕ) (known : ℕ → Bool)
         → SelectorStands rules pictures.now number depth known
         → result.depth ≡ option_map_or (λ m. depth m + 1) result.reference 0 }
@@ -30,7 +42,7 @@ pub fn next_from(pictures: &Selector, number: u32) -> Next
         → IfSome result.reference (λ m. (m < number) × (number ≤ m + rules.slots)) }
 {
     call_model_laws::searches();
-    match pictures.choose(number) {
+    match above(pictures.choose(number), floor) {
         None => Next {
             reference: None,
             depth: 0,

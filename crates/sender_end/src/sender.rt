@@ -10,6 +10,7 @@ ghost use Rattle.call_model.specs.CodedPictures.{picture_at};
 ghost use Rattle.call_model.specs.Sending as call;
 ghost use Rattle.call_model.specs.Sending.{SenderEntry, Capture, feedback_answer};
 ghost use Rattle.call_model.specs.SenderStanding.{is_noted};
+ghost use Rattle.call_model.specs.Steering.{after_forget, nothing_done};
 ghost use Rattle.call_decoding.specs.Rules.{rules_of};
 ghost use Rattle.call_encoding.specs.Frames.{Frame};
 ghost use Rattle.call_encoding.specs.Messages.{read_message};
@@ -41,6 +42,8 @@ pub struct Sender<P: Pace> {
     selector: Selector,
     // The bytes of the last pictures, oldest first.
     sizes: ArrayVec<u32, 16>,
+    // The first picture that may be a reference: how many were coded when it last forgot.
+    since: u32,
     // The pictures of the last `slots` numbers, and one that is coded.
     store: PictureStore,
 }
@@ -60,6 +63,8 @@ impl<P: Pace> Model for Sender<P> {
 impl<P: Pace> Sender<P> {
     ghost use Rattle.sender_end.specs.Stands.{Describes, Stands, last_packets, next_after};
     ghost use Rattle.sender_end.specs.Stands.{reply_of, run_of};
+    ghost use Rattle.sender_end.specs.Stands.{Holds, Run, after_code, after_message, next_in};
+    ghost use Rattle.sender_end.specs.Stands.{packets_after};
 
     /// A sender before its first picture.
     pub fn start(alloc: Global, params: &Params, pace: P) -> Result<Sender<P>, OutOfMemory>
@@ -70,8 +75,10 @@ impl<P: Pace> Sender<P> {
         ensures room { IfOk result (λ sender. sender.store.room
             ≡ room_for params.now.format (params.now.slots + 1)) }
         ensures stands { IfOk result (λ sender. Stands (P.quant_of sender.pace) sender []) }
+        ensures holds { IfOk result (λ sender. Holds sender nothing_done) }
     {
         call_model_laws::sender_stands::<Framed, Styled, Mb, Pictured, MessageFault>();
+        call_model_laws::sender_holds::<Framed, Styled, Mb, Pictured, MessageFault>();
         call_decoding_laws::are_rules();
         let cutter = Cutter::start(alloc, params)?;
         let store = PictureStore::start(alloc, params.format, params.slots, 1)?;
@@ -82,6 +89,7 @@ impl<P: Pace> Sender<P> {
             cutter,
             selector: Selector::start(params),
             sizes: ArrayVec::new(),
+            since: 0,
             store,
         })
     }
@@ -107,8 +115,15 @@ impl<P: Pace> Sender<P> {
             → Describes (length (run_of self.old.params (P.quant_of self.old.pace) entries).coded)
             (next_after self.old.params (P.quant_of self.old.pace)
             (record { picture = picture frame.entry; messages = back.now }) entries) result }
+        ensures holds { (run : Run) → Holds self.old run → Holds self.new
+            (after_code self.old.params (P.quant_of self.old.pace)
+            (record { picture = picture frame.entry; messages = back.now }) run) }
+        ensures makes { (run : Run) → Holds self.old run → Describes (length run.run.coded)
+            (next_in self.old.params (P.quant_of self.old.pace)
+            (record { picture = picture frame.entry; messages = back.now }) run) result }
     {
         call_model_laws::sender_stands::<Framed, Styled, Mb, Pictured, MessageFault>();
+        call_model_laws::sender_holds::<Framed, Styled, Mb, Pictured, MessageFault>();
         call_model_laws::searches();
         call_encoding_laws::is_encoding();
         call_encoding_laws::written_packets();
@@ -117,7 +132,7 @@ impl<P: Pace> Sender<P> {
         call_decoding_laws::are_rules();
         let quant = self.pace.quant(self.sizes.as_slice());
         let number = self.sent;
-        let Next { reference, depth } = next_from(&self.selector, number);
+        let Next { reference, depth } = next_from(&self.selector, number, self.since);
         let header = header_of(&self.params, number, reference, depth, quant, back);
         code_in_store(
             &mut self.store,
@@ -149,6 +164,8 @@ impl<P: Pace> Sender<P> {
             → Stands (P.quant_of self.now.pace) self.now entries
             → result.now
             ≡ slice_index_or (last_packets self.now.params (P.quant_of self.now.pace) entries) i [] }
+        ensures holds { (run : Run) → Holds self.now run
+            → result.now ≡ slice_index_or (packets_after self.now.params run) i [] }
     {
         self.cutter.packet(i)
     }
@@ -161,6 +178,8 @@ impl<P: Pace> Sender<P> {
             → Some (picture result)
             ≡ picture_at (run_of self.now.params (P.quant_of self.now.pace) entries).coded
             (self.now.sent - 1) }
+        ensures holds { (run : Run) → Holds self.now run
+            → Some (picture result) ≡ picture_at run.run.coded (self.now.sent - 1) }
         ensures format { (picture result).format ≡ self.now.params.format }
         ensures whole { IsPicture (picture result) }
     {
@@ -174,6 +193,7 @@ impl<P: Pace> Sender<P> {
             → Stands (P.quant_of self.now.pace) self.now entries
             → result
             ≡ length (run_of self.now.params (P.quant_of self.now.pace) entries).coded }
+        ensures holds { (run : Run) → Holds self.now run → result ≡ length run.run.coded }
     {
         self.sent
     }
@@ -191,8 +211,14 @@ impl<P: Pace> Sender<P> {
             → reply_of result ≡ feedback_answer (rules_of self.old.params)
             (length (run_of self.old.params (P.quant_of self.old.pace) entries).coded)
             (read_message self.old.params.clock bytes.now) }
+        ensures holds { (run : Run) → Holds self.old run
+            → Holds self.new (after_message self.old.params bytes.now run) }
+        ensures replies { (run : Run) → Holds self.old run
+            → reply_of result ≡ feedback_answer (rules_of self.old.params)
+            (length run.run.coded) (read_message self.old.params.clock bytes.now) }
     {
         call_model_laws::sender_stands::<Framed, Styled, Mb, Pictured, MessageFault>();
+        call_model_laws::sender_holds::<Framed, Styled, Mb, Pictured, MessageFault>();
         call_decoding_laws::are_rules();
         match read(bytes, self.params.clock) {
             Err(fault) => Feedback::Refused(fault),
@@ -206,6 +232,24 @@ impl<P: Pace> Sender<P> {
         }
     }
 
+    /// Takes another pace, which gives the quantisers from the next picture on. It is asked by the
+    /// bytes of the last pictures, as the one before it was.
+    pub fn set_pace(&mut self, pace: P)
+        ensures others { self.new ≡ record self.old { pace = pace } }
+        ensures holds { (run : Run) → Holds self.old run → Holds self.new run }
+    {
+        self.pace = pace;
+    }
+
+    /// Forgets the pictures that were coded: none of them is a reference any more, however late it
+    /// is acknowledged. So the next picture is coded by itself.
+    pub fn forget(&mut self)
+        ensures others { self.new ≡ record self.old { since = self.old.sent } }
+        ensures holds { (run : Run) → Holds self.old run → Holds self.new (after_forget run) }
+    {
+        self.since = self.sent;
+    }
+
     /// Gives all memory back.
     pub fn finish(self) {
         let Sender {
@@ -215,6 +259,7 @@ impl<P: Pace> Sender<P> {
             cutter: _,
             selector: _,
             sizes: _,
+            since: _,
             store,
         } = self;
         store.finish();

@@ -18,7 +18,8 @@ use Rattle.picture_store.specs.Pictures.{IsKept, picture_in, slot_of, slots_of}
 use Rattle.call_model.specs.CodedPictures.{Coded as CodedPicture}
 use Rattle.call_model.specs.Sending.{Capture, SenderEntry, bytes_in}
 use Rattle.call_model.specs.Stands.{Sender}
-use Rattle.call_model.specs.SenderStanding.{IsAfterCapture, with_size}
+use Rattle.call_model.specs.SenderStanding.{IsAfterCapture, next_by_kept, with_size}
+use Rattle.call_model.specs.Steering.{from_floor}
 use Rattle.call_decoding.specs.Rules.{rules_of}
 use Rattle.call_decoding.specs.Samples.{pictures}
 use Rattle.call_decoding.specs.Styles.{Style, header_from}
@@ -27,7 +28,7 @@ use Rattle.call_encoding.specs.Frames.{Frame, carried, style_in}
 use Rattle.sender_end.specs.declared.answers.Coded.{Coded}
 use Rattle.sender_end.specs.Coding.{HasKept, kept_picture}
 use Rattle.sender_end.specs.Headers.{numbered}
-use Rattle.sender_end.specs.Stands.{Describes, IsSeen, Stands, next_after, run_of}
+use Rattle.sender_end.specs.Stands.{Describes, Holds, IsSeen, Run, Stands, after_code, next_after, next_in, run_of}
 use Rattle.sender_end.specs.Parts.{state_of}
 use Rattle.sender_end.specs.State.{SenderState}
 use Rattle.sender_end.proofs.Captured.{IsCodedNext, made, made_is_next, next, packets_are, reference_at}
@@ -103,7 +104,7 @@ answer_of g c = record { number = c.self.inside.sent; reference = c.next_from-re
 
 -- the next picture was coded
 coded_next : (g : Over) (c : After-count g) (pace : List ℕ → ℕ) (s : Sender Picture) → pace s.sizes ≡ c.quant-quant.result → IsSeen (before g c) s
-    → IsCodedNext c.self.inside.params pace (frame_of g c) s (after g c) (answer_of g c)
+    → IsCodedNext c.self.inside.params pace c.self.inside.since (frame_of g c) s (after g c) (answer_of g c)
 coded_next g c pace s quant_is seen =
     let ready = c.self.invariant in
     let old = c.self.inside in
@@ -151,10 +152,10 @@ coded_next g c pace s quant_is seen =
     ∙ ap (λ (l : List Mb). recon.reconstruction p.format x.style.rounding earlier l) chosen_mbs
     ∙ sym (c.are_pictures.ensures.reconstructed p.format x.style earlier mbs)
     in
-    let is_next : x ≡ next p pace frame s =
-    made_is_next p pace frame s reference d q earlier
+    let is_next : x ≡ next p pace old.since frame s =
+    made_is_next p pace old.since frame s reference d q earlier
     (chosen.ensures.reference (rules_of p) (λ m. s.depth (m % p.slots)) (λ m. s.known (m % p.slots)) seen.selects
-    ∙ ap (λ (k : ℕ). reference_at p s k) (sym seen.sent))
+    ∙ ap (λ (k : ℕ). from_floor old.since (reference_at p s k)) (sym seen.sent))
     (chosen.ensures.depth (rules_of p) (λ m. s.depth (m % p.slots)) (λ m. s.known (m % p.slots)) seen.selects)
     (sym quant_is)
     (same_picture old.store p.slots s.picture reference some ready.slots seen.picture)
@@ -222,6 +223,14 @@ stood_before g c entries stood = subst (λ (x : SenderState g.row.P.Denot). Stan
 quant_of_pace : (g : Over) (c : After-count g) (s : Sender Picture) → IsSeen (before g c) s → g.P.Pace.quant_of c.self.inside.pace s.sizes ≡ c.quant-quant.result
 quant_of_pace g c s seen = ap (g.P.Pace.quant_of c.self.inside.pace) (seen.sizes ∙ sym c.as_slice.ensures.value) ∙ sym c.quant-quant.ensures.value
 
+-- the next picture of one that never forgot
+next_plain : (g : Over) (c : After-count g) (pace : List ℕ → ℕ) (s : Sender Picture) → c.self.inside.since ≡ 0
+    → next c.self.inside.params pace c.self.inside.since (frame_of g c) s ≡ next_by_kept (pictures c.self.inside.params.format) (encoding c.self.inside.params) (rules_of c.self.inside.params) pace (frame_of g c) s
+next_plain g c pace s never =
+    let p = c.self.inside.params in
+    ap (λ (floor : ℕ). next p pace floor (frame_of g c) s) never
+    ∙ c.sender_holds.ensures.plain (pictures p.format) (encoding p) (rules_of p) pace (frame_of g c) s
+
 pub returns-clause-stands : goal.returns-clause-stands
 returns-clause-stands g c = λ entries stood.
     let p = c.self.inside.params in
@@ -231,9 +240,11 @@ returns-clause-stands g c = λ entries stood.
     let now : Stands pace (after g c) (Capture (frame_of g c) ∷ entries) = record {
       s = coded.t;
       seen = coded.seen;
+      since = was.since;
       stands =
           c.sender_stands.ensures.capture (pictures p.format) (encoding p) (rules_of p) (c.is_encoding.ensures p) (c.are_rules.ensures p c.self.invariant.params)
-          pace (frame_of g c) was.s coded.t entries was.stands coded.after;
+          pace (frame_of g c) was.s coded.t entries was.stands
+          (subst (λ (y : CodedPicture Style Mb Picture). IsAfterCapture (pictures p.format) (encoding p) (rules_of p) was.s coded.t y) (next_plain g c pace was.s was.since) coded.after);
     } in
     subst (λ (x : SenderState g.row.P.Denot). Stands (g.P.Pace.quant_of x.pace) (after g c) (Capture (frame_of g c) ∷ entries)) c.self.view_is now
 
@@ -243,11 +254,54 @@ returns-clause-tells g c = λ entries stood.
     let pace = g.P.Pace.quant_of c.self.inside.pace in
     let was = stood_before g c entries stood in
     let coded = coded_next g c pace was.s (quant_of_pace g c was.s was.seen) was.seen in
-    let is_next : next p pace (frame_of g c) was.s ≡ next_after p pace (frame_of g c) entries =
-    c.sender_stands.ensures.next (pictures p.format) (encoding p) (rules_of p) (c.are_rules.ensures p c.self.invariant.params) pace (frame_of g c) was.s entries was.stands
+    let is_next : next p pace c.self.inside.since (frame_of g c) was.s ≡ next_after p pace (frame_of g c) entries =
+    next_plain g c pace was.s was.since
+    ∙ c.sender_stands.ensures.next (pictures p.format) (encoding p) (rules_of p) (c.are_rules.ensures p c.self.invariant.params) pace (frame_of g c) was.s entries was.stands
     in
     let tells : Describes (length (run_of p pace entries).coded) (next_after p pace (frame_of g c) entries) (answer_of g c) =
     subst (λ (x : CodedPicture Style Mb Picture). Describes (length (run_of p pace entries).coded) x (answer_of g c)) is_next
-    (subst (λ (n : ℕ). Describes n (next p pace (frame_of g c) was.s) (answer_of g c)) was.stands.sent coded.tells)
+    (subst (λ (n : ℕ). Describes n (next p pace c.self.inside.since (frame_of g c) was.s) (answer_of g c)) was.stands.sent coded.tells)
     in
     subst (λ (x : SenderState g.row.P.Denot). Describes (length (run_of x.params (g.P.Pace.quant_of x.pace) entries).coded) (next_after x.params (g.P.Pace.quant_of x.pace) (frame_of g c) entries) (answer_of g c)) c.self.view_is tells
+
+-- ---- a sender that may be steered
+
+held_before : (g : Over) (c : After-count g) (run : Run) → Holds c.args.self.now run → Holds (before g c) run
+held_before g c run held = subst (λ (x : SenderState g.row.P.Denot). Holds x run) (sym c.self.view_is) held
+
+-- the picture that was coded is the run's next one
+next_is : (g : Over) (c : After-count g) (pace : List ℕ → ℕ) (run : Run) (was : Holds (before g c) run)
+    → next c.self.inside.params pace c.self.inside.since (frame_of g c) was.s ≡ next_in c.self.inside.params pace (frame_of g c) run
+next_is g c pace run was =
+    let p = c.self.inside.params in
+    ap (λ (floor : ℕ). next p pace floor (frame_of g c) was.s) was.since
+    ∙ c.sender_holds.ensures.next (pictures p.format) (encoding p) (rules_of p) (c.are_rules.ensures p c.self.invariant.params) pace (frame_of g c) was.s run was.holds
+
+pub returns-clause-holds : goal.returns-clause-holds
+returns-clause-holds g c = λ run held.
+    let p = c.self.inside.params in
+    let pace = g.P.Pace.quant_of c.self.inside.pace in
+    let was = held_before g c run held in
+    let coded = coded_next g c pace was.s (quant_of_pace g c was.s was.seen) was.seen in
+    let now : Holds (after g c) (after_code p pace (frame_of g c) run) = record {
+      s = coded.t;
+      seen = coded.seen;
+      since = was.since;
+      holds =
+          c.sender_holds.ensures.capture (pictures p.format) (encoding p) (rules_of p) (c.is_encoding.ensures p) (c.are_rules.ensures p c.self.invariant.params)
+          was.s coded.t run.run (next_in p pace (frame_of g c) run) was.holds
+          (subst (λ (y : CodedPicture Style Mb Picture). IsAfterCapture (pictures p.format) (encoding p) (rules_of p) was.s coded.t y) (next_is g c pace run was) coded.after);
+    } in
+    subst (λ (x : SenderState g.row.P.Denot). Holds (after g c) (after_code x.params (g.P.Pace.quant_of x.pace) (frame_of g c) run)) c.self.view_is now
+
+pub returns-clause-makes : goal.returns-clause-makes
+returns-clause-makes g c = λ run held.
+    let p = c.self.inside.params in
+    let pace = g.P.Pace.quant_of c.self.inside.pace in
+    let was = held_before g c run held in
+    let coded = coded_next g c pace was.s (quant_of_pace g c was.s was.seen) was.seen in
+    let tells : Describes (length run.run.coded) (next_in p pace (frame_of g c) run) (answer_of g c) =
+    subst (λ (x : CodedPicture Style Mb Picture). Describes (length run.run.coded) x (answer_of g c)) (next_is g c pace run was)
+    (subst (λ (n : ℕ). Describes n (next p pace c.self.inside.since (frame_of g c) was.s) (answer_of g c)) was.holds.keeps.sent coded.tells)
+    in
+    subst (λ (x : SenderState g.row.P.Denot). Describes (length run.run.coded) (next_in x.params (g.P.Pace.quant_of x.pace) (frame_of g c) run) (answer_of g c)) c.self.view_is tells

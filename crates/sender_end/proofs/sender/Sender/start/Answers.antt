@@ -57,7 +57,40 @@ returns-clause-stands g c =
         picture = λ rest below. refl;
         selects = c.start-3.ensures (rules_of p) (λ m. 0) (λ m. false) refl refl refl refl;
       };
+      since = refl;
       stands =
           c.sender_stands.ensures.new (pictures p.format) (encoding p) (rules_of p) (c.are_rules.ensures p c.requires) pace s refl
+          c.in_ok-cutter.ensures.sequence c.in_ok-cutter.ensures.none none;
+    }
+
+pub returns-clause-holds : goal.returns-clause-holds
+returns-clause-holds g c =
+    let p = c.args.params.now in
+    let cutter = c.in_ok-cutter.cutter in
+    let store = c.in_ok-store.store in
+    let sizes : List ℕ = c.new.result.items in
+    let none : sizes ≡ [] = search rules in
+    let s : Sender Picture = record {
+      sent = 0;
+      sequence = sequence_of cutter;
+      packets = packets_of cutter;
+      sizes = sizes;
+      picture = λ rest. picture_in store rest;
+      depth = λ rest. 0;
+      known = λ rest. false;
+    } in
+    record {
+      s = s;
+      seen = record {
+        sent = refl;
+        sequence = refl;
+        packets = refl;
+        sizes = refl;
+        picture = λ rest below. refl;
+        selects = c.start-3.ensures (rules_of p) (λ m. 0) (λ m. false) refl refl refl refl;
+      };
+      since = refl;
+      holds =
+          c.sender_holds.ensures.new (pictures p.format) (encoding p) (rules_of p) (c.are_rules.ensures p c.requires) s refl
           c.in_ok-cutter.ensures.sequence c.in_ok-cutter.ensures.none none;
     }

@@ -1,0 +1,77 @@
+//! A receiver of C that joins a call at a picture's number.
+ghost use Rattle.std.specs.Prelude.{◌≡◌, ◌≢◌, List, None, IfOk};
+ghost use Rattle.h263_types.specs.declared.params.Params.{Params};
+ghost use Rattle.call_model.specs.Receiving.{ReceiverEntry};
+ghost use Rattle.receiver_end.specs.State as receivers;
+ghost use Rattle.receiver_end.specs.State.{plays_alone};
+ghost use Rattle.h263rps_c.specs.Asked.{params_at, params_of};
+ghost use Rattle.h263rps_c.specs.Ends.{HoldsReceiver};
+ghost use Rattle.h263rps_c.specs.Refusals.{refusal_number, status_of};
+ghost use Rattle.h263rps_c.specs.Slots.{fault_after, for_receiver, never, start_refusal};
+ghost use Rattle.h263rps_c.specs.declared.refusals.Refusal.TheVariants as refusals;
+
+use crate::asked::Asked;
+use crate::ends::End;
+use crate::handles::{Slot, put};
+use crate::refusals::{OK, Refusal};
+use std::alloc::Global;
+
+/// Starts a receiver in an empty slot, whose next picture is the one of this number, up to
+/// 1,048,576. Where a parameter or the number is out of its range `fault` says which.
+#[unsafe(no_mangle)]
+pub extern "C" fn h263rps_raw_receiver_start_at(
+    alloc: Global,
+    slot: &mut Slot,
+    asked: &Asked,
+    number: u32,
+    fault: &mut u32,
+) -> u32
+    ensures result { result ≢ refusal_number refusals.NoMemory → result
+        ≡ status_of (start_refusal slot.old.handle.inside (params_at number (params_of asked.now))) }
+    ensures memory { result ≡ refusal_number refusals.NoMemory
+        → start_refusal slot.old.handle.inside (params_at number (params_of asked.now)) ≡ None }
+    ensures same { result ≢ 0 → slot.new.handle.inside ≡ slot.old.handle.inside }
+    ensures fault { fault.new
+        ≡ fault_after slot.old.handle.inside (params_at number (params_of asked.now)) fault.old }
+    ensures stands { result ≡ 0 → IfOk (params_at number (params_of asked.now))
+        (λ p. HoldsReceiver p (plays_alone number) slot.new.handle.inside) }
+{
+    if slot.is_started() {
+        return Refusal::Started.number();
+    }
+    match asked.params_at(number) {
+        Err(wrong) => {
+            *fault = wrong;
+            Refusal::BadParams.number()
+        }
+        Ok(params) => match End::receiver_at(alloc, &params, number) {
+            Err(refusal) => refusal.number(),
+            Ok(end) => {
+                put(slot, end);
+                OK
+            }
+        },
+    }
+}
+
+/// How many pictures a receiver has played: the number of the next one.
+#[unsafe(no_mangle)]
+pub extern "C" fn h263rps_raw_receiver_played(slot: &mut Slot, count: &mut u32) -> u32
+    ensures result { result ≡ status_of (for_receiver never slot.old.handle.inside) }
+    ensures same { slot.new.handle.inside ≡ slot.old.handle.inside }
+    ensures uncounted { result ≢ 0 → count.new ≡ count.old }
+    ensures stands { (p : Params) (past : List ReceiverEntry)
+        → HoldsReceiver p past slot.old.handle.inside → result ≡ 0
+        → count.new ≡ (receivers.run_of p past).played }
+{
+    if !slot.is_started() {
+        return Refusal::NotStarted.number();
+    }
+    match slot.handle.end_mut().played() {
+        Err(refusal) => refusal.number(),
+        Ok(played) => {
+            *count = played;
+            OK
+        }
+    }
+}
