@@ -39,11 +39,11 @@ use Rattle.one_way.specs.Seen.{in_both}
 use Rattle.call_command.specs.declared.carrier.Carrier.{Carrier}
 use Rattle.call_command.specs.declared.world.World.{World}
 use Rattle.call_command.specs.Call.{CallState, after_line, by_ends, capture_step, event_step, line_size, line_turn, may_read, play_texts, refusal_at, unless, with_frame, with_message, with_packet, with_packets, with_play}
-use Rattle.call_command.specs.Refused.{fault_at, fault_of}
+use Rattle.call_command.specs.Refused.{IsNotRefused, IsRefusedWith, fault_at, fault_of}
 use Rattle.call_command.specs.Standing.{HasDone, HasTaken, Parts, PartsReady, PartsStand, StoodBefore, more_of, parts_of, state_of}
 use Rattle.call_command.specs.Turning.{IsAsked, IsChecked, IsRead, TakesFrame, TakesLine, names_of}
 use Rattle.call_command.proofs.After.{longer, push_then}
-use Rattle.call_command.proofs.Counting.{done_now, goes_on, was_cut}
+use Rattle.call_command.proofs.Counting.{done_now, gave_up, goes_on, roles_same, was_cut}
 use Rattle.call_command.proofs.LineTurning.{line_goes, line_refused}
 use Rattle.call_command.proofs.Lines.{nothing_behind}
 
@@ -252,9 +252,23 @@ module _ (x : Parts) (s : CallState) (inputs : Role → List ℕ) (k : StoodBefo
 
 -- ---- what a line's turn is, by what the line says
 
--- what was asked, by what the line says
-pub asked : (r : Result Unit Told) (event said : Line) (refusal : Event → Option Refusal) → event ≡ said → IsChecked r event refusal → IsChecked r said refusal
-asked r event said refusal is checked = subst (λ (e : Line). IsChecked r e refusal) is checked
+-- one that is not refused has no refusal
+pub none_so : (r : Result Unit Told) (e : Event) (refusal : Option Refusal) → IsNotRefused r → IsAllowed r e refusal → refusal ≡ None
+none_so (Ok u) e refusal free allowed = allowed
+none_so (Err told) e refusal free allowed = absurd free
+
+-- a line whose event is refused
+pub line_stops : (x : World) (line : ℕ) (event said : Line) (r : Result Bool Status) (status : Status) (checked : Result Unit Told) (now : Outside) → event ≡ said
+    → IsErrAnd r (λ z. z ≡ status) → IsRefusedWith line checked status → x.terms.plain ≡ false → TurnLaws
+    → ((old : Outside) (s : CallState) (inputs : Role → List ℕ) → IsRead (parts_of x) line now old s inputs → IsChecked checked said (refusal_after x.terms.params s.before s.frames s.past))
+    → TakesLine x x line event r now now
+line_stops x line event said r status (Ok u) now is answer refused recorded laws checks = absurd refused
+line_stops x line event said r status (Err told) now is answer refused recorded laws checks =
+    subst (λ (e : Line). TakesLine x x line e r now now) (sym is)
+    (gave_up x x now now (IsRead (parts_of x) line now) (λ s inputs. event_step by_ends s inputs (inputs Events) said) (λ _. true) (more_of (parts_of x) + 1)
+    r (TraceRefused (fault_at line told)) (subst (λ (w : Status). IsErrAnd r (λ z. z ≡ w)) refused answer) refl recorded tt tt (roles_same now)
+    (λ o s inputs b. line_is_refused (parts_of x) s inputs b.stood laws o now b.taken told line b.number (fault_at line told) refl said (checks o s inputs b))
+    (λ s stand. stand))
 
 -- a line whose event is done
 pub line_goes_on : (x y : World) (line : ℕ) (event said : Line) (mid new : Outside) → event ≡ said → names_of y ≡ names_of x

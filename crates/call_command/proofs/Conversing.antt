@@ -28,7 +28,7 @@ use Rattle.call_command.proofs.Counting.{ends_stand}
 use Rattle.call_command.proofs.Starting.{stands_first}
 
 -- its parts stand
-pub lent_first : (w : World) (before : List ReceiverEntry) (inputs : Role → List ℕ) → WayLaws w.terms.params → IsFresh w.terms w.carrier
+pub lent_first : (w : World) (before : List ReceiverEntry) (inputs : Role → List ℕ) → WayLaws w.terms.params → IsFresh w.terms (parts_of w).carrier
     → w.sender.now.params ≡ w.terms.params → sender_end.Stands (steady w.terms.params) w.sender.now [] → w.sender.now.sent ≡ 0
     → w.video.now.more ≡ 1048576 → w.receiver.now.params ≡ w.terms.params → w.receiver.now.played ≡ 0 → receiver_end.Stands w.receiver.now before
     → WorldStands w (first_state w.terms before w.video.now.at) inputs
@@ -37,15 +37,15 @@ lent_first w before inputs laws fresh sender_params sends sent more receiver_par
     (subst (λ (p : Params). (receiver_end.run_of p before).played ≡ 0) receiver_params (sym receives.played ∙ played))
 
 -- no frame and no line was read yet
-most_is : (w : World) → w.carrier.trace.lines ≡ 0 → w.video.now.more ≡ 1048576 → more_of (parts_of w) ≡ most_turns w.terms.plain
+most_is : (w : World) → w.trace.lines ≡ 0 → w.video.now.more ≡ 1048576 → more_of (parts_of w) ≡ most_turns w.terms.plain
 most_is w lines more = by_trace w.terms.plain
   where
-    by_trace : (plain : Bool) → (if plain then w.video.now.more else 16777216 - w.carrier.trace.lines) ≡ most_turns plain
+    by_trace : (plain : Bool) → (if plain then w.video.now.more else 16777216 - w.trace.lines) ≡ most_turns plain
     by_trace true = more
     by_trace false = ap (λ (n : ℕ). 16777216 - n) lines
 
 -- a run of the ideal call that is under way before the first event is one by both ends
-pub alone_under_way : (w : World) → w.carrier.trace.lines ≡ 0 → w.video.now.more ≡ 1048576
+pub alone_under_way : (w : World) → w.trace.lines ≡ 0 → w.video.now.more ≡ 1048576
     → ((rest : Role → List ℕ) → WorldStands w (first_state w.terms [] w.video.now.at) rest) → TalkIsTheCall w.terms
     → (run : Run) (inputs : Role → List ℕ) (start : Role → Option (List ℕ)) (now : Outside)
     → IsUnderWay call_step may_read run inputs start (IsFirst w.terms w.video.now.at) (most_turns w.terms.plain) now
@@ -69,7 +69,7 @@ alone_under_way w lines more kept talk run inputs start now u =
       written = u.written;
     }
 
-module _ (w : World) (before : List ReceiverEntry) (inputs : Role → List ℕ) (now : Outside) (lines : w.carrier.trace.lines ≡ 0) (more : w.video.now.more ≡ 1048576)
+module _ (w : World) (before : List ReceiverEntry) (inputs : Role → List ℕ) (now : Outside) (lines : w.trace.lines ≡ 0) (more : w.video.now.more ≡ 1048576)
     (kept : WorldStands w (first_state w.terms before w.video.now.at) inputs) (told : Tells now inputs) where
   abbrev first : CallState
   first = first_state w.terms before w.video.now.at

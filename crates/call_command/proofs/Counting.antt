@@ -16,7 +16,7 @@ use Rattle.call_report.specs.Status.Phase.{finished, refused, unread, unwritten,
 use Rattle.desk_program.specs.Run.{Step}
 use Rattle.desk_program.specs.Ends.{CauseIn, ComesAtStop, Ended, GainsFronts, GivesUp, HasCause, IsStop, KeepsRoles, OnceSettled, Tells, Went, step_texts, turn_status}
 use Rattle.call_encoding.specs.Frames.{Frame}
-use Rattle.one_way.specs.Counts.{call_text, counts_of, counts_text}
+use Rattle.call_command.specs.Counts.{call_text, counts_of, counts_text}
 use Rattle.one_way.specs.Laws.{WayLaws}
 use Rattle.call_command.specs.declared.world.World.{World}
 use Rattle.call_command.specs.Call.{CallState, by_ends, may_read, talk_step, trace_step, video_step}

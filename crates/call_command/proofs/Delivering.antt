@@ -59,14 +59,14 @@ module _ (x : Parts) (attached : Role → Bool) (r : PartsReady x attached) (rec
 -- the packets of a line are delivered, of which one tells whether they may be
 pub delivered_goes_on : (m y : World) (line : ℕ) (event said : Line) (n j : ℕ) (mid : Outside) (network : Network) (receiver : Kept) (events : CallState → List Event)
     → event ≡ said → names_of y ≡ names_of m → parts_of y ≡ with_network (parts_of m) network receiver
-    → PartsReady (parts_of m) mid.attached → m.terms.plain ≡ false → network.way ≡ m.carrier.network.way → receiver.played ≡ m.receiver.now.played
-    → said_of network.messages ≤ 400 * (m.carrier.trace.lines + m.sender.now.sent) → NearLaws m.terms.params → TurnLaws
+    → PartsReady (parts_of m) mid.attached → m.terms.plain ≡ false → network.way ≡ m.network.way → receiver.played ≡ m.receiver.now.played
+    → said_of network.messages ≤ 400 * (m.trace.lines + m.sender.now.sent) → NearLaws m.terms.params → TurnLaws
     → ((s : CallState) (inputs : Role → List ℕ) → StoodBefore (parts_of m) s inputs → refusal_after m.terms.params s.before s.frames s.past (Deliver n j) ≡ None
     → event_step by_ends s inputs (inputs Events) said ≡ Goes (after_line (record s { past = events s }) (inputs Events)) (line_turn (inputs Events) no_texts))
     → ((s : CallState) (frames : List Frame) → (receiver_end.run_of m.terms.params s.before).played ≡ 0 → HasDone (parts_of m) s.before frames s.past
     → refusal_after m.terms.params s.before frames s.past (Deliver n j) ≡ None)
     → ((s : CallState) (inputs : Role → List ℕ) (k : StoodBefore (parts_of m) s inputs) (later : List Frame)
-    → IsAmongLast m.carrier.network.way.packets (length (both_after m.terms.params (steady m.terms.params) (s.frames ++ later) s.before s.past).sender.coded) n
+    → IsAmongLast m.network.way.packets (length (both_after m.terms.params (steady m.terms.params) (s.frames ++ later) s.before s.past).sender.coded) n
     × MayHappenNow m.terms.params s.before (s.frames ++ later) s.past (Deliver n j)
     → HasDone (with_network (parts_of m) network receiver) s.before (s.frames ++ later) (events s))
     → TakesLine m y line event (Ok true) mid mid

@@ -26,7 +26,7 @@ use Rattle.desk_program.specs.Texts.{no_bytes, on, of}
 use Rattle.desk_program.specs.Laws.{TurnLaws}
 use Rattle.call_command.specs.declared.terms.Terms.{Terms}
 use Rattle.call_command.specs.Call.{CallState, all_played, by_ends, call_begin, first_state, frame_step, head_step, may_read, play_texts, video_step, with_format, with_picture}
-use Rattle.one_way.specs.Counts.{call_text}
+use Rattle.call_command.specs.Counts.{call_text}
 use Rattle.call_command.specs.Laws.{VideoLaws}
 use Rattle.call_command.proofs.Lines.{not_held}
 

@@ -23,29 +23,29 @@ use Rattle.call_command.proofs.Readying.{ready_so}
 
 -- the world with its trace read on
 abbrev pub read_on : World → TraceReader → World
-read_on m after = record m { carrier = record m.carrier { trace = after } }
+read_on m after = record m { trace = after }
 
 -- this line of the trace was read, and nothing else was done
 pub record IsLineRead (m : World) (after : TraceReader) (line : ℕ) (event : Line) (old mid : Outside) : Type 0 where
   pub laws : TurnLaws
   pub rose : (a b c : ℕ) → a ≤ b → Rose b c → Rose a c
   pub recorded : m.terms.plain ≡ false
-  pub gives : (text : List ℕ) → old.left Events ≡ Some text → EventGives (Ok (Some (line, event))) m.carrier.trace text after (mid.left Events)
-  pub moves : Moves (Ok (Some (line, event))) m.carrier.trace after
+  pub gives : (text : List ℕ) → old.left Events ≡ Some text → EventGives (Ok (Some (line, event))) m.trace text after (mid.left Events)
+  pub moves : Moves (Ok (Some (line, event))) m.trace after
   pub others : (r : Role) → r ≢ Events → mid.left r ≡ old.left r
   pub rest : OnlyReads old mid
 
 -- by what the reader of the trace answers
 pub line_read : (m : World) (after : TraceReader) (line : ℕ) (event : Line) (old mid : Outside) (answer : Result (Option (ℕ × Line)) TraceStop) → answer ≡ Ok (Some (line, event))
     → TurnLaws → ((a b c : ℕ) → a ≤ b → Rose b c → Rose a c) → m.terms.plain ≡ false
-    → ((text : List ℕ) → old.left Events ≡ Some text → EventGives answer m.carrier.trace text after (mid.left Events)) → Moves answer m.carrier.trace after
+    → ((text : List ℕ) → old.left Events ≡ Some text → EventGives answer m.trace text after (mid.left Events)) → Moves answer m.trace after
     → ((r : Role) → r ≢ Events → mid.left r ≡ old.left r) → OnlyReads old mid → IsLineRead m after line event old mid
 line_read m after line event old mid answer is laws rose recorded gives moves others rest = record {
   laws = laws;
   rose = rose;
   recorded = recorded;
-  gives = λ text left. subst (λ (q : Result (Option (ℕ × Line)) TraceStop). EventGives q m.carrier.trace text after (mid.left Events)) is (gives text left);
-  moves = subst (λ (q : Result (Option (ℕ × Line)) TraceStop). Moves q m.carrier.trace after) is moves;
+  gives = λ text left. subst (λ (q : Result (Option (ℕ × Line)) TraceStop). EventGives q m.trace text after (mid.left Events)) is (gives text left);
+  moves = subst (λ (q : Result (Option (ℕ × Line)) TraceStop). Moves q m.trace after) is moves;
   others = others;
   rest = rest;
 }
@@ -72,8 +72,8 @@ module _ {m : World} {after : TraceReader} {line : ℕ} {event : Line} {old mid 
       let e = w.gives (inputs Events) (told Events refl) in
       record {
         stood = stood_behind x s inputs k w.recorded after _ w.moves.2 e.0;
-        number = found_number w.laws here inputs old mid (only told) m.carrier.trace after (record { lines_are = refl; ended_is = refl }) (line, event) e w.moves after.few;
-        taken = found_taken w.laws here inputs old mid (only told) m.carrier.trace after (record { lines_are = refl; ended_is = refl }) (line, event) e w.moves after.few;
+        number = found_number w.laws here inputs old mid (only told) m.trace after (record { lines_are = refl; ended_is = refl }) (line, event) e w.moves after.few;
+        taken = found_taken w.laws here inputs old mid (only told) m.trace after (record { lines_are = refl; ended_is = refl }) (line, event) e w.moves after.few;
       }
 
   -- what the line makes of the world and the desk, the turn makes of them
@@ -84,8 +84,8 @@ module _ {m : World} {after : TraceReader} {line : ℕ} {event : Line} {old mid 
         let here = state_of x s.before s.frames s.past in
         let stands = PartsStand (parts_of y) in
         let e = w.gives (inputs Events) (b.told Events refl) in
-        let step_is = found_is w.laws here inputs old mid (only b.told) m.carrier.trace after (record { lines_are = refl; ended_is = refl }) (line, event) e w.moves after.few in
-        let could = found_could w.laws here inputs old mid (only b.told) m.carrier.trace after (record { lines_are = refl; ended_is = refl }) (line, event) e w.moves after.few in
+        let step_is = found_is w.laws here inputs old mid (only b.told) m.trace after (record { lines_are = refl; ended_is = refl }) (line, event) e w.moves after.few in
+        let could = found_could w.laws here inputs old mid (only b.told) m.trace after (record { lines_are = refl; ended_is = refl }) (line, event) e w.moves after.few in
         subst (λ (q : Outside). TurnGives result (talk_step s inputs) stands may_read (may_read s) inputs q new) (sym b.same)
         (line_by_line x s inputs b.stands.is w.recorded (λ (step : Step CallState) (now : Bool). TurnGives result step stands may_read now inputs old new)
         (subst (λ (step : Step CallState). TurnGives result step stands may_read (may_read here) inputs old new) (sym step_is)
@@ -96,7 +96,7 @@ module _ {m : World} {after : TraceReader} {line : ℕ} {event : Line} {old mid 
     lasts = t.lasts;
     falls =
         subst (λ (n : ℕ). Falls result n (more_of (parts_of y)))
-        (subst (λ (b : Bool). (if b then x.video.more else 16777216 - after.lines) + 1 ≡ (if b then x.video.more else 16777216 - m.carrier.trace.lines)) (sym w.recorded)
+        (subst (λ (b : Bool). (if b then x.video.more else 16777216 - after.lines) + 1 ≡ (if b then x.video.more else 16777216 - m.trace.lines)) (sym w.recorded)
         (omega (arith, w.moves.2, after.few))) t.falls;
     ready = t.ready;
     answers = t.answers;

@@ -24,7 +24,7 @@ use Rattle.desk_program.specs.Ends.{Gains, GainsFronts, Went, Ended, EndsBy, Giv
 use Rattle.desk_program.specs.Texts.{of, on}
 use Rattle.desk_program.specs.Laws.{TurnLaws}
 use Rattle.call_command.specs.Call.{CallState, after_line, all_played, bad_line, by_ends, event_step, line_size, line_step, line_turn, may_read, refused_line, trace_step}
-use Rattle.one_way.specs.Counts.{call_text}
+use Rattle.call_command.specs.Counts.{call_text}
 use Rattle.call_command.specs.Laws.{IsPlayedOut}
 use Rattle.call_command.specs.Standing.{HasTaken, ReadsTrace}
 use Rattle.call_command.proofs.Cutting.{trace_part}

@@ -39,7 +39,7 @@ use Rattle.desk_program.specs.Run.{Run, Step, Turn, behind, follow, run_of, sile
 use Rattle.desk_program.specs.Run.Step.{Goes, Ends}
 use Rattle.desk_program.specs.Texts.{and_of, no_texts, of}
 use Rattle.one_way.specs.Both.{bare, steady}
-use Rattle.one_way.specs.Counts.{call_text}
+use Rattle.call_command.specs.Counts.{call_text}
 use Rattle.one_way.specs.Seen.{in_call, reference_in}
 use Rattle.one_way.specs.Trace.{delivered}
 use Rattle.call_command.specs.Call.{CallState, after_line, all_played, bad_line, by_call, call_step, capture_step, captured_step, event_step, line_size, line_step, line_turn, play_texts, refusal_at, trace_step, unless}

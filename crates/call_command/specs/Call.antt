@@ -36,7 +36,7 @@ use Rattle.one_way.specs.Trace.{delivered}
 use Rattle.one_way.specs.Both.{bare, both_after, steady}
 use Rattle.one_way.specs.Seen.{Seen, in_call, in_both, reference_in}
 use Rattle.call_command.specs.Refused.{fault_of}
-use Rattle.one_way.specs.Counts.{call_text}
+use Rattle.call_command.specs.Counts.{call_text}
 
 pub record CallState : Type 0 where
   -- the parameters with the video's format, and whether the trace is the plain one

@@ -18,7 +18,7 @@ use Rattle.call_decoding.specs.Samples.{pictures}
 use Rattle.call_encoding.specs.Encoding.{encoding}
 use Rattle.desk_program.specs.Run.{Run, text_of}
 use Rattle.one_way.specs.Both.{bare}
-use Rattle.one_way.specs.Counts.{counts_text}
+use Rattle.call_command.specs.Counts.{counts_text}
 
 -- the reconstruction of a frame in these planes, coded by itself
 abbrev pub reconstruction_of : Params → List ℕ → Picture

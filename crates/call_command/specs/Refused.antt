@@ -1,5 +1,7 @@
 -- How the refusal of an event is told, with the line that says it.
-use Rattle.std.specs.Prelude.{ℕ}
+use Rattle.std.specs.Prelude.{◌≡◌, ℕ, Result, Ok, Err}
+use Rattle.call_report.specs.declared.status.Status.{Status}
+use Rattle.call_report.specs.declared.status.Status.TheVariants.{TraceRefused}
 use Rattle.loss_trace.specs.declared.fault.TraceFault.{TraceFault}
 use Rattle.loss_trace.specs.declared.fault.TraceFault.TheVariants as trace
 use Rattle.call_model.specs.IdealCall.{Event}
@@ -15,6 +17,16 @@ fault_at line NotSaid = trace.NotSaid line
 fault_at line (Far given other) = trace.Far line given other
 fault_at line PlayBeforeSend = trace.PlayBeforeSend line
 fault_at line NoFrame = trace.NoFrame line
+
+-- with this status a run ends whose next line asks for an event that is refused so
+abbrev pub IsRefusedWith : ℕ → Result Unit Told → Status → Type 0
+IsRefusedWith line (Ok _) status = ⊥
+IsRefusedWith line (Err told) status = status ≡ TraceRefused (fault_at line told)
+
+-- the event of a line is not refused
+abbrev pub IsNotRefused : Result Unit Told → Type 0
+IsNotRefused (Ok _) = Unit {0}
+IsNotRefused (Err told) = ⊥
 
 -- of a message that is far its own number is told, not its picture's
 abbrev pub fault_of : ℕ → Event → Refusal → TraceFault

@@ -52,7 +52,7 @@ parts_of m =
       video = m.video.now;
       sender = m.sender.now;
       receiver = m.receiver.now;
-      carrier = m.carrier;
+      carrier = record { trace = m.trace; network = m.network; frame = m.frame };
     }
 
 -- the state of these frames and events

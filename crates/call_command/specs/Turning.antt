@@ -121,8 +121,3 @@ IsChecked result (says.Packet n j) refusal = IsAllowed result (Deliver n j) (ref
 IsChecked result (says.All n) refusal = IsAllowed result (Deliver n 0) (refusal (Deliver n 0))
 IsChecked result (says.Back k) refusal = IsAllowed result (Back k) (refusal (Back k))
 IsChecked result says.Play refusal = IsAllowed result Play (refusal Play)
-
--- a play is behind what was sent
-abbrev pub IsAhead : Result Unit Told → Line → ℕ → ℕ → Type 0
-IsAhead (Ok _) says.Play played sent = played < sent
-IsAhead _ _ played sent = Unit {0}

@@ -1,12 +1,8 @@
 //! A call, from its video's head on.
-ghost use Rattle.std.specs.Prelude.{◌≡◌, ℕ, List, [], IfErr, IfOk, OnOk};
+ghost use Rattle.std.specs.Prelude.{◌≡◌, ℕ, List, IfErr, IfOk, OnOk};
 ghost use Rattle.h263_outside.specs.declared.desk.Role.{Role};
-ghost use Rattle.h263_types.specs.Params.{IsParams};
 ghost use Rattle.desk_program.specs.Ends.{HasCause, IsUnstarted, KeepsRoles, StartGives, Tells};
 ghost use Rattle.desk_program.specs.Ends.{start_status};
-ghost use Rattle.sender_end.specs.Stands as sender_end;
-ghost use Rattle.receiver_end.specs.State as receiver_end;
-ghost use Rattle.one_way.specs.Both.{steady};
 ghost use Rattle.call_command.specs.Call.{call_begin, may_read};
 ghost use Rattle.call_command.specs.Converse.{IsFirst, MayConverse};
 ghost use Rattle.call_command.specs.Standing.{CallOpens};
@@ -16,51 +12,10 @@ use crate::{Terms, converse, laws};
 use call_report::Status;
 use desk_program::{Acts, laws as desk_program_laws, put_head};
 use h263_outside::{Desk, laws as outside_laws};
-use h263_types::{FixedPace, OutOfMemory, Params};
-use receiver_end::Receiver;
-use sender_end::Sender;
+use h263_types::Params;
+use one_way::Both;
 use std::alloc::Global;
 use y4m::Y4mReader;
-
-/// Both ends of a call. They must be finished.
-pub struct Both {
-    pub sender: Sender<FixedPace>,
-    pub receiver: Receiver,
-}
-
-impl Both {
-    /// Both before the first picture.
-    pub fn start(alloc: Global, params: &Params) -> Result<Both, OutOfMemory>
-        requires { IsParams params.now }
-        ensures sender_params { IfOk result (λ both. both.sender.params ≡ params.now) }
-        ensures receiver_params { IfOk result (λ both. both.receiver.params ≡ params.now) }
-        ensures quant { IfOk result (λ both. both.sender.pace.quant ≡ params.now.quant) }
-        ensures sent { IfOk result (λ both. both.sender.sent ≡ 0) }
-        ensures played { IfOk result (λ both. both.receiver.played ≡ 0) }
-        ensures sends { IfOk result (λ both.
-            sender_end.Stands (steady params.now) both.sender []) }
-        ensures receives { IfOk result (λ both. receiver_end.Stands both.receiver []) }
-    {
-        let pace = FixedPace {
-            quant: params.quant,
-        };
-        let sender = Sender::start(alloc, params, pace)?;
-        match Receiver::start(alloc, params) {
-            Ok(receiver) => Ok(Both { sender, receiver }),
-            Err(_) => {
-                sender.finish();
-                Err(OutOfMemory)
-            }
-        }
-    }
-
-    /// Gives back what they hold.
-    pub fn finish(self) {
-        let Both { sender, receiver } = self;
-        sender.finish();
-        receiver.finish();
-    }
-}
 
 // A call before its first event: its parameters, with the format of its video, the reader of the
 // video after the head, and both ends. They must be finished.

@@ -41,6 +41,4 @@ impl Carrier {
             frame: vec![in alloc; 0; terms.params.format.size() as usize]?,
         })
     }
-    /// After the last event.
-    pub fn finish(self) {}
 }

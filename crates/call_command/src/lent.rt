@@ -116,12 +116,19 @@ pub fn converse<D: Desk>(
     let Ok(carrier) = Carrier::start(alloc, terms) else {
         return Status::OutOfMemory;
     };
+    let Carrier {
+        trace,
+        network,
+        frame,
+    } = carrier;
     let mut world = World {
         terms: *terms,
         video,
         sender,
         receiver,
-        carrier,
+        trace,
+        network,
+        frame,
     };
     let status = take_turns(desk, &mut world);
     let World {
@@ -129,8 +136,9 @@ pub fn converse<D: Desk>(
         video: _video,
         sender: _sender,
         receiver: _receiver,
-        carrier,
+        trace: _trace,
+        network: _network,
+        frame: _frame,
     } = world;
-    carrier.finish();
     status
 }

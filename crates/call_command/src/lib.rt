@@ -15,13 +15,17 @@
 
 mod call;
 mod carrier;
+mod counts;
 pub mod laws;
 mod lent;
+mod refused;
 mod show;
 mod terms;
 mod world;
 
-pub use call::{Both, Call};
+pub use call::Call;
+pub use counts::counts_line;
 pub use lent::converse;
+pub use refused::allow;
 pub use show::tell_counts;
 pub use terms::Terms;

@@ -13,18 +13,20 @@ ghost use Rattle.receiver_end.specs.State as receiver_end;
 ghost use Rattle.desk_program.specs.Ends.{Gains, GainsFronts};
 ghost use Rattle.desk_program.specs.Texts.{on};
 ghost use Rattle.one_way.specs.Both.{State, both_after, steady};
-ghost use Rattle.one_way.specs.Counts.{counts_of, total_of};
+ghost use Rattle.one_way.specs.Counts.{total_of};
 ghost use Rattle.one_way.specs.Seen.{in_both};
 ghost use Rattle.one_way.specs.Way.{HoldsNetwork, MayHappenNow};
 ghost use Rattle.call_command.specs.Call.{play_texts};
+ghost use Rattle.call_command.specs.Counts.{counts_of};
 ghost use Rattle.call_command.specs.Standing.{row_texts};
 
+use crate::counts_line;
 use call_report::{Status, picture_line};
 use desk_program::{laws as desk_program_laws, put_line, put_picture};
 use h263_outside::{Desk, laws as outside_laws};
 use h263_planes::PictureRef;
 use h263_types::{FixedPace, Mark};
-use one_way::{Network, Way, laws as one_way_laws};
+use one_way::{Network, laws as one_way_laws};
 use receiver_end::Receiver;
 use sender_end::Sender;
 
@@ -99,24 +101,29 @@ pub fn play_next<D: Desk>(
     ensures rest { OnlyWrites (D.outside desk.old) (D.outside desk.new) }
 {
     one_way_laws::of_the_way();
-    let number = receiver.played();
-    let reference = network.way.reference_of(number);
-    let mark = network.play(receiver);
-    show(desk, number, mark, reference, receiver.shown())
+    let reference = network.reference_of(receiver);
+    let played = network.play(receiver);
+    show(
+        desk,
+        played.number,
+        played.mark,
+        reference,
+        receiver.shown(),
+    )
 }
 
 /// Writes the counts, at the end of the trace.
 pub fn tell_counts<D: Desk>(
     desk: &mut D,
-    way: &Way,
+    network: &Network,
     sender: &Sender<FixedPace>,
     receiver: &Receiver,
 ) -> Result<(), Status>
     requires { (D.outside desk.old).attached Report ≡ true }
-    ensures ok { OnOk result (Gains (on Report (counts_of way.now.tally
+    ensures ok { OnOk result (Gains (on Report (counts_of network.now.way.tally
         receiver.now.played sender.now.sent))
         (D.outside desk.old).written (D.outside desk.new).written) }
-    ensures err { OnErr result (GainsFronts (on Report (counts_of way.now.tally
+    ensures err { OnErr result (GainsFronts (on Report (counts_of network.now.way.tally
         receiver.now.played sender.now.sent))
         (D.outside desk.old).written (D.outside desk.new).written) }
     ensures kind { IfErr result (λ status. status ≡ Status.WriteFault) }
@@ -124,6 +131,7 @@ pub fn tell_counts<D: Desk>(
         (D.outside desk.new).faults.write) }
     ensures rest { OnlyWrites (D.outside desk.old) (D.outside desk.new) }
 {
-    let line = way.line("played", receiver.played(), sender.sent());
+    let tally = network.tally();
+    let line = counts_line("played", tally, receiver.played(), sender.sent());
     put_line(desk, &line)
 }

@@ -19,7 +19,8 @@ use Rattle.receiver_end.specs.declared.kept.Kept.{Kept}
 use Rattle.one_way.specs.declared.network.Network.{Network}
 use Rattle.one_way.specs.declared.way.Way.{Way}
 use Rattle.one_way.specs.Both.{both_after, steady}
-use Rattle.one_way.specs.Counts.{call_text, counts_of, counts_text, total_of}
+use Rattle.one_way.specs.Counts.{total_of}
+use Rattle.call_command.specs.Counts.{call_text, counts_of, counts_text}
 use Rattle.one_way.specs.Network.{IsAmongLast}
 use Rattle.one_way.specs.Laws.{NearLaws, ShowTheSame, WayLaws}
 use Rattle.one_way.specs.Seen.{Seen, in_call}

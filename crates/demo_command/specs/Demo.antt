@@ -22,7 +22,7 @@ use Rattle.call_decoding.specs.Styles.{Style}
 use Rattle.call_encoding.specs.Frames.{Frame}
 use Rattle.coded_call.specs.Coding.{coding}
 use Rattle.one_way.specs.Both.{bare, steady}
-use Rattle.one_way.specs.Counts.{call_text}
+use Rattle.call_command.specs.Counts.{call_text}
 use Rattle.one_way.specs.Seen.{in_call}
 use Rattle.demo_command.specs.declared.terms.DemoTerms.{DemoTerms}
 

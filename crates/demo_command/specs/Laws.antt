@@ -10,7 +10,7 @@ use Rattle.call_model.specs.IdealCall.{AllMayHappen, Event, slices_at}
 use Rattle.call_decoding.specs.Rules.{rules_of}
 use Rattle.coded_call.specs.Coding.{coding}
 use Rattle.one_way.specs.Both.{steady}
-use Rattle.one_way.specs.Counts.{call_text}
+use Rattle.call_command.specs.Counts.{call_text}
 use Rattle.one_way.specs.Seen.{in_call}
 use Rattle.demo_command.specs.declared.terms.DemoTerms.{DemoTerms}
 use Rattle.demo_command.specs.Demo.{made_call, made_events, made_video}

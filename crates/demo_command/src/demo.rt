@@ -1,11 +1,11 @@
 //! The machine of a call on made input.
 use crate::{DemoTerms, laws};
-use call_command::{Both, tell_counts};
+use call_command::tell_counts;
 use call_report::Status;
 use desk_program::{Begins, Turns, laws as desk_program_laws};
 use h263_outside::Desk;
 use make_input::TraceMaker;
-use one_way::{Network, laws as one_way_laws};
+use one_way::{Both, Network, laws as one_way_laws};
 use std::alloc::Global;
 
 /// The machine of a call on made input: what it was asked for, the lines of its trace that are
@@ -44,12 +44,7 @@ impl Turns for Demo {
         one_way_laws::ends_agree();
         laws::of_made_input();
         let Some(event) = self.lines.next() else {
-            tell_counts(
-                desk,
-                &self.network.way,
-                &self.both.sender,
-                &self.both.receiver,
-            )?;
+            tell_counts(desk, &self.network, &self.both.sender, &self.both.receiver)?;
             return Ok(false);
         };
         self.take_line(event);

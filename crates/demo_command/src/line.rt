@@ -48,7 +48,7 @@ impl Demo {
             &mut self.frame,
         );
         let frame = PictureRef::new(format, &self.frame);
-        self.network.way.send(&mut self.both.sender, frame, &[]);
+        self.network.send(&mut self.both.sender, frame, &[]);
     }
 
     /// Does what a line says. No line of a made trace is refused.

@@ -1,5 +1,5 @@
 -- A line that was read: it is refused, or its event is done, over a desk where its party is the first one.
-use Rattle.std.proofs.Common.{◌≡◌, ℕ, ◌+◌, ◌-◌, Bool, true, List, [], length, drop, Option, None, Result, Ok, Err, IsErrAnd, refl, sym, ap, subst, ◌∙◌, arith}
+use Rattle.std.proofs.Common.{◌≡◌, ℕ, ◌+◌, ◌-◌, Bool, true, List, [], length, drop, Option, None, Result, Ok, Err, IsErrAnd, OnOk, refl, sym, ap, subst, ◌∙◌, arith}
 use Rattle.h263_types.specs.Sizes.{size_of_picture}
 use Rattle.h263_types.specs.declared.params.Params.{Params}
 use Rattle.h263_outside.specs.Desk.{Outside, Rose}
@@ -34,12 +34,12 @@ use Rattle.duplex_command.specs.declared.station.Station.{Station}
 use Rattle.duplex_command.specs.Duplex.{DuplexState, after_line, capture_step, event_step, may_read, place_of, play_step, play_texts, quiet_step, refusal_at, seen_of, unless, with_frame, with_next}
 use Rattle.call_command.specs.Call.{line_size, line_turn}
 use Rattle.call_command.specs.Laws.{LineLaws, StepLaws}
-use Rattle.call_command.specs.Refused.{fault_at, fault_of}
+use Rattle.call_command.specs.Refused.{IsNotRefused, IsRefusedWith, fault_at, fault_of}
 use Rattle.call_command.specs.Turning.{IsChecked}
 use Rattle.duplex_command.specs.Standing.{StationReady, StationsReady, StationsStand, place_in}
 use Rattle.duplex_command.specs.Turning.{IsPartyTurn, IsRead, TakesFrame}
 use Rattle.duplex_command.proofs.LineTurning.{line_goes, line_refused, place_same}
-use Rattle.duplex_command.proofs.PartyTurns.{was_cut, went_on}
+use Rattle.duplex_command.proofs.PartyTurns.{gave_up, was_cut, went_on}
 
 -- ---- at some point of the call
 
@@ -77,9 +77,15 @@ stations_delivered own far own_ends far_ends room r ends keeps = record {
   ends = ends;
 }
 
--- what was asked, by what the line says
-pub asked : (r : Result Unit Told) (event said : Line) (refusal : Event → Option Refusal) → event ≡ said → IsChecked r event refusal → IsChecked r said refusal
-asked r event said refusal is checked = subst (λ (e : Line). IsChecked r e refusal) is checked
+-- one that is not refused has no refusal
+pub none_so : (r : Result Unit Told) (e : Event) (refusal : Option Refusal) → IsNotRefused r → IsAllowed r e refusal → refusal ≡ None
+none_so (Ok u) e refusal free allowed = allowed
+none_so (Err told) e refusal free allowed = absurd free
+
+-- and may be done
+pub may_so : {P : Type 0} (r : Result Unit Told) → IsNotRefused r → OnOk r P → P
+may_so (Ok u) free may = may
+may_so (Err told) free may = absurd free
 
 -- ---- the line of a party
 
@@ -207,6 +213,18 @@ module _ (x : Party) (own far own_new far_new : Station) (line room : ℕ) (even
       → GainsFronts (step_texts (event_step Video Pictures VideoRefused x s (inputs Events) inputs said)) old.written new.written)
       → LineTurn event r
   event_cut is r status answer kind rose rest gives = subst (λ (e : Line). LineTurn e r) (sym is) (was_cut x own_new far_new mid new room _ _ r status answer kind rose rest gives)
+
+-- one whose event is refused
+pub line_stops : (x : Party) (own far : Station) (line room : ℕ) (event said : Line) (r : Result Bool Status) (status : Status) (checked : Result Unit Told) (now : Outside) → event ≡ said
+    → IsErrAnd r (λ z. z ≡ status) → IsRefusedWith line checked status → LineLaws → StepLaws
+    → ((trace : TraceReader) (old : Outside) (s : DuplexState) (inputs : Role → List ℕ) → IsRead x own far line trace now old s inputs → IsChecked checked said (λ e. refusal_at x s e))
+    → LineTurn x own far own far line room event said now now event r
+line_stops x own far line room event said r status (Ok u) now is answer refused lines steps checks = absurd refused
+line_stops x own far line room event said r status (Err told) now is answer refused lines steps checks =
+    subst (λ (e : Line). LineTurn x own far own far line room event said now now e r) (sym is)
+    (gave_up x own far now now room (λ trace. IsRead x own far line trace now) (λ s inputs. event_step Video Pictures VideoRefused x s (inputs Events) inputs said)
+    r (TraceRefused (fault_at line told)) (subst (λ (w : Status). IsErrAnd r (λ z. z ≡ w)) refused answer) tt tt (steps.none now)
+    (λ trace old s inputs b. line_is_refused x own far line trace old now s inputs b lines told (fault_at line told) refl said (checks trace old s inputs b)))
 
 -- one that delivers packets of a picture, of which one tells whether it may be done
 pub delivery_done : (x : Party) (own far : Station) (own_ends far_ends : PartyEnds) (line room : ℕ) (event said : Line) (n j : ℕ) (mid : Outside)

@@ -30,7 +30,7 @@ use Rattle.duplex_call.specs.declared.line.Party.TheVariants.{A, B}
 use Rattle.duplex_call.specs.Duplex.{WayRuns, no_runs, with_shot, with_delivery, with_play}
 use Rattle.duplex_call.specs.Lines.{party_event}
 use Rattle.duplex_call.specs.Refused.{refusal_of}
-use Rattle.one_way.specs.Counts.{call_text_of}
+use Rattle.call_command.specs.Counts.{call_text_of}
 use Rattle.duplex_ends.specs.Ways.{call_in, sides, with_whole}
 use Rattle.call_command.specs.Call.{bad_line, line_size, line_turn, refused_line}
 use Rattle.call_command.specs.Refused.{fault_of}

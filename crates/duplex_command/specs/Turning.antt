@@ -6,13 +6,11 @@ use Rattle.h263_outside.specs.declared.desk.Role.{Role}
 use Rattle.h263_outside.specs.declared.desk.Role.TheVariants.{Video, Events, Pictures, Report}
 use Rattle.y4m.specs.Text.{frame_text}
 use Rattle.y4m.specs.declared.fault.Y4mFault.{Y4mFault}
-use Rattle.loss_trace.specs.declared.event.Event.{Event as Line}
-use Rattle.loss_trace.specs.declared.event.Event.TheVariants as says
 use Rattle.loss_trace.specs.declared.reader.TraceReader.{TraceReader}
 use Rattle.call_report.specs.declared.status.Status.{Status}
 use Rattle.call_report.specs.declared.status.Status.TheVariants.{VideoRefused}
 use Rattle.call_report.specs.Text.{picture_text}
-use Rattle.call_model.specs.IdealCall.{Send, Deliver, Play}
+use Rattle.call_model.specs.IdealCall.{Send}
 use Rattle.desk_program.specs.Run.{Step, behind}
 use Rattle.desk_program.specs.Ends.{Falls, HasCause, IsStop, KeepsRoles, OnEnd, OnGoing, Tells, TurnGives, turn_status}
 use Rattle.desk_program.specs.Texts.{of, on, then_also}
@@ -21,7 +19,6 @@ use Rattle.call_command.specs.Standing.{HasTaken}
 use Rattle.duplex_call.specs.declared.line.Party.{Party}
 use Rattle.duplex_call.specs.declared.line.Party.TheVariants.{A}
 use Rattle.duplex_ends.specs.Pair.{MayHappenNow}
-use Rattle.duplex_ends.specs.declared.party.PartyEnds.{PartyEnds}
 use Rattle.duplex_command.specs.declared.event.Said.{Said}
 use Rattle.duplex_command.specs.declared.show.Row.{Row}
 use Rattle.duplex_command.specs.declared.station.Station.{Station}
@@ -84,16 +81,7 @@ pub record IsAsked (x : Party) (own far : Station) (line : ℕ) (trace : TraceRe
   pub read : IsRead x own far line trace now old s inputs
   pub none : refusal_at x s Send ≡ None
 
--- the event that the line says may happen at some point of the call of both parties
-abbrev pub MayBeDone : PartyEnds → PartyEnds → Line → Type 0
-MayBeDone own far says.Nothing = Unit {0}
-MayBeDone own far says.Send = MayHappenNow own far Send
-MayBeDone own far (says.Packet n j) = MayHappenNow own far (Deliver n j)
-MayBeDone own far (says.All n) = MayHappenNow own far (Deliver n 0)
-MayBeDone own far (says.Back k) = ⊥
-MayBeDone own far says.Play = MayHappenNow own far Play
-
--- and a frame may be captured
+-- a frame may be captured at some point of the call of both parties
 pub record MayCapture (own far : Station) (room : ℕ) : Type 0 where
   pub stations : StationsReady own far room
   pub may : MayHappenNow own.ends far.ends Send

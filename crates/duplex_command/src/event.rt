@@ -1,23 +1,15 @@
 //! What a line says is done, for the party whose pictures it is about.
-ghost use Rattle.std.specs.Prelude.{◌≡◌, ◌+◌, ℕ, OnOk, length, true};
+ghost use Rattle.std.specs.Prelude.{◌≡◌, ◌+◌, ℕ, length, true};
 ghost use Rattle.h263_outside.specs.declared.desk.Role.TheVariants.{Pictures, Pictures2, Video, Video2};
 ghost use Rattle.h263_types.specs.Sizes.{size_of_picture};
-ghost use Rattle.h263_types.specs.declared.params.Params.{Params};
-ghost use Rattle.call_encoding.specs.Frames.{Frame};
-ghost use Rattle.call_command.specs.Refused.{fault_at};
-ghost use Rattle.call_command.specs.Turning.{IsChecked};
-ghost use Rattle.duplex_call.specs.declared.line.Party.{Party};
-ghost use Rattle.duplex_call.specs.Duplex.{WayRuns};
-ghost use Rattle.duplex_call.specs.Refused.{refusal_of};
-ghost use Rattle.duplex_ends.specs.Pair.{AreInCall, HoldsPair, IsInCall};
-ghost use Rattle.duplex_ends.specs.Ways.{call_in, sides};
+ghost use Rattle.duplex_ends.specs.Pair.{IsInCall};
 ghost use Rattle.duplex_command.specs.declared.station.Station.{Station};
 ghost use Rattle.duplex_command.specs.Standing.{DuplexOpens, PartyOpens, StationsReady};
-ghost use Rattle.duplex_command.specs.Turning.{MayBeDone, MayCapture, TakesEvent, TakesFrame, TakesLine};
+ghost use Rattle.duplex_command.specs.Turning.{MayCapture, TakesEvent, TakesFrame, TakesLine};
 
 use crate::show::play_next;
 use crate::{Station, laws, second_result};
-use call_command::laws as call_command_laws;
+use call_command::{allow, laws as call_command_laws};
 use call_report::Status;
 use desk_program::laws as desk_program_laws;
 use duplex_call::Party;
@@ -27,7 +19,6 @@ use duplex_ends::{
 use h263_outside::{Desk, Second, laws as outside_laws};
 use h263_planes::PictureRef;
 use loss_trace::{Event, TraceFault};
-use one_way::Refusal;
 
 /// What the line of this number says: an event of a party's pictures.
 #[derive(Clone, Copy)]
@@ -35,37 +26,6 @@ pub struct Said {
     pub line: u32,
     pub party: Party,
     pub event: Event,
-}
-
-// The refusal of an event, with its line.
-fn fault_at(line: u32, refusal: Refusal) -> TraceFault
-    ensures { result ≡ fault_at line refusal }
-{
-    match refusal {
-        Refusal::NotSent => TraceFault::NotSent { line },
-        Refusal::NotSaid => TraceFault::NotSaid { line },
-        Refusal::Far { given, other } => TraceFault::Far { line, given, other },
-        Refusal::PlayBeforeSend => TraceFault::PlayBeforeSend { line },
-        Refusal::NoFrame => TraceFault::NoFrame { line },
-    }
-}
-
-// Why the event is not done, if it isn't.
-fn check(event: Event, own: &Station, far: &Station) -> Result<(), Refusal>
-    requires { AreInCall own.now.ends far.now.ends }
-    ensures may { OnOk result (MayBeDone own.now.ends far.now.ends event) }
-    ensures refusal { (p : Party → Params) (x : Party) (ways : WayRuns Frame)
-        → HoldsPair p x own.now.ends far.now.ends ways → IsChecked result event
-        (λ e. refusal_of (sides p) (length (call_in p x ways).coded + 1) x e ways) }
-{
-    match event {
-        Event::Nothing => Ok(()),
-        Event::Send => check_send(&own.ends),
-        Event::Packet { number, .. } => check_delivery(&own.ends, &far.ends, number),
-        Event::All { number } => check_delivery(&own.ends, &far.ends, number),
-        Event::Back { .. } => Err(Refusal::NotSaid),
-        Event::Play => check_play(&own.ends),
-    }
 }
 
 // `S`, which isn't too far ahead of the play: the party's next frame is read and sent.
@@ -118,27 +78,29 @@ fn party_turn<D: Desk>(
     call_command_laws::of_lines();
     call_command_laws::of_steps();
     laws::of_refusals();
-    if let Err(refusal) = check(said.event, own, far) {
-        let fault = fault_at(said.line, refusal);
-        return Err(Status::TraceRefused { fault });
-    }
     match said.event {
         Event::Nothing => Ok(true),
         Event::Send => {
+            allow(said.line, check_send(&own.ends))?;
             let size = own.video.format().size() as usize;
             send_frame(desk, said, own, &mut frame[..size])
         }
         Event::Packet { number, place } => {
+            allow(said.line, check_delivery(&own.ends, &far.ends, number))?;
             deliver(&mut own.ends, &mut far.ends, number, place);
             Ok(true)
         }
         Event::All { number } => {
+            allow(said.line, check_delivery(&own.ends, &far.ends, number))?;
             deliver_all(&mut own.ends, &mut far.ends, number);
             Ok(true)
         }
-        // Refused above.
-        Event::Back { .. } => Ok(true),
+        // Messages come back with packets alone.
+        Event::Back { .. } => Err(Status::TraceRefused {
+            fault: TraceFault::NotSaid { line: said.line },
+        }),
         Event::Play => {
+            allow(said.line, check_play(&own.ends))?;
             play_next(desk, said.party, &mut own.ends, &mut far.ends)?;
             Ok(true)
         }

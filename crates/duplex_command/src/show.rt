@@ -1,10 +1,12 @@
 //! What a call of two parties writes: of a picture that is played the picture and its line, and at
 //! the end the counts of both parties.
-ghost use Rattle.std.specs.Prelude.{◌≡◌, ◌<◌, ◌+◌, ℕ, true, OnOk, OnErr, IfErr};
+ghost use Rattle.std.specs.Prelude.{◌≡◌, ◌<◌, ◌≤◌, ◌+◌, ℕ, true, length, OnOk, OnErr, IfErr};
 ghost use Rattle.h263_outside.specs.Desk.{OnlyWrites, Rose};
 ghost use Rattle.h263_outside.specs.declared.desk.Role.TheVariants.{Pictures, Report};
 ghost use Rattle.h263_planes.specs.Lent.{picture as lent};
 ghost use Rattle.h263_types.specs.declared.params.Params.{Params};
+ghost use Rattle.call_report.specs.View.{text_of};
+ghost use Rattle.call_command.specs.Counts.{call_text_of};
 ghost use Rattle.call_model.specs.IdealCall.{Play};
 ghost use Rattle.call_encoding.specs.Frames.{Frame};
 ghost use Rattle.desk_program.specs.Ends.{Gains, GainsFronts};
@@ -18,7 +20,8 @@ ghost use Rattle.duplex_ends.specs.Ways.{call_in, sides};
 ghost use Rattle.duplex_command.specs.Duplex.{both_counts, letter_of, play_texts};
 ghost use Rattle.duplex_command.specs.Turning.{row_texts};
 
-use call_report::{Status, picture_line};
+use call_command::counts_line;
+use call_report::{Line, Status, picture_line};
 use desk_program::{laws as desk_program_laws, put_line, put_picture};
 use duplex_call::Party;
 use duplex_ends::{PartyEnds, laws as duplex_ends_laws, play};
@@ -105,16 +108,26 @@ pub fn play_next<D: Desk>(
 {
     duplex_ends_laws::of_pairs();
     duplex_ends_laws::of_plays();
-    let number = own.played();
     let reference = own.reference_of_next();
-    let mark = play(own, far);
+    let played = play(own, far);
     let row = Row {
         party,
-        number,
-        mark,
+        number: played.number,
+        mark: played.mark,
         reference,
     };
     show(desk, &row, own.shown())
+}
+
+// The line of a party's counts, with this word for the pictures that were played.
+fn party_line(word: &str, ends: &PartyEnds) -> Line
+    requires { length word.now ≤ 16 }
+    ensures { (p : Party → Params) (x : Party) (far : PartyEnds) (ways : WayRuns Frame)
+        → HoldsPair p x ends.now far ways
+        → text_of result ≡ call_text_of word.now (in_call (call_in p x ways)) }
+{
+    duplex_ends_laws::of_pairs();
+    counts_line(word, ends.tally(), ends.played(), ends.sent())
 }
 
 /// Writes the counts of both parties, at the end of the trace.
@@ -134,6 +147,6 @@ pub fn tell_counts<D: Desk>(desk: &mut D, a: &PartyEnds, b: &PartyEnds) -> Resul
     outside_laws::calls();
     desk_program_laws::of_turns();
     duplex_ends_laws::of_pairs();
-    put_line(desk, &a.line("a played"))?;
-    put_line(desk, &b.line("b played"))
+    put_line(desk, &party_line("a played", a))?;
+    put_line(desk, &party_line("b played", b))
 }

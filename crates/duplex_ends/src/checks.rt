@@ -1,5 +1,5 @@
 //! Which events of one party's pictures are refused, before anything is done.
-ghost use Rattle.std.specs.Prelude.{◌≡◌, ◌+◌, ◌<◌, ◌∷◌, [], ℕ, OnOk, length, nat_le};
+ghost use Rattle.std.specs.Prelude.{◌≡◌, ◌+◌, ◌<◌, ◌∷◌, [], ℕ, OnOk, length};
 ghost use Rattle.h263_types.specs.declared.params.Params.{Params};
 ghost use Rattle.call_model.specs.IdealCall.{Deliver, Play, Send};
 ghost use Rattle.call_encoding.specs.Frames.{Frame};
@@ -13,7 +13,7 @@ ghost use Rattle.duplex_ends.specs.Ways.{call_in, sides};
 
 use crate::{PartyEnds, laws};
 use duplex_call::Carried;
-use one_way::{Refusal, check_capture, check_packet, laws as one_way_laws};
+use one_way::{Refusal, check_capture, check_packet, is_late, laws as one_way_laws};
 
 /// Whether the party's next picture may be captured: it may not where half a period is on the way.
 /// A frame for it is looked for afterwards.
@@ -28,13 +28,6 @@ pub fn check_send(own: &PartyEnds) -> Result<(), Refusal>
     one_way_laws::ends_agree();
     laws::of_refusals();
     check_capture(own.params.clock.half(), &own.sender, &own.receiver)
-}
-
-// A message about this picture comes too late.
-fn is_late(half: u32, about: u32, sent: u32) -> bool
-    ensures { result ≡ nat_le (about + half) sent }
-{
-    half <= sent && about <= sent - half
 }
 
 // Whether the message at one place of a header is near, if there is one.

@@ -19,8 +19,9 @@ ghost use Rattle.duplex_ends.specs.declared.party.PartyEnds.{PartyEnds};
 use crate::bringing::bring_header;
 use crate::saying::put_by;
 use crate::{PartyEnds, laws};
-use h263_types::{FixedPace, Mark};
+use h263_types::FixedPace;
 use one_way::laws as one_way_laws;
+use receiver_end::Played;
 use sender_end::Sender;
 
 // Brings the other party's sender the messages of a picture's header, where there is a packet at
@@ -87,15 +88,17 @@ pub fn deliver_all(own: &mut PartyEnds, far: &mut PartyEnds, number: u32)
     }
 }
 
-/// Plays the next picture, and answers its mark. What is said of it waits with the other party.
-pub fn play(own: &mut PartyEnds, far: &mut PartyEnds) -> Mark
+/// Plays the next picture, and answers it with its mark. What is said of it waits with the other
+/// party.
+pub fn play(own: &mut PartyEnds, far: &mut PartyEnds) -> Played
     requires { MayHappenNow own.old far.old Play }
     ensures ready { AreInCall own.new far.new }
     ensures keeps { KeepsInPlay own.old far.old own.new far.new }
     ensures played { own.new.receiver.played ≡ own.old.receiver.played + 1 }
+    ensures number { result.number ≡ own.old.receiver.played }
     ensures mark { (p : Party → Params) (x : Party) (ways : WayRuns Frame) (left : ℕ)
         → HoldsPair p x own.old far.old ways → MayHappenOf (sides p) left x Play ways
-        → result ≡ mark_of (shown_next p x ways).mark }
+        → result.mark ≡ mark_of (shown_next p x ways).mark }
     ensures holds { (p : Party → Params) (x : Party) (ways : WayRuns Frame) (left : ℕ)
         → HoldsPair p x own.old far.old ways → MayHappenOf (sides p) left x Play ways
         → HoldsPair p x own.new far.new (with_play (sides p) x ways) }
@@ -104,8 +107,12 @@ pub fn play(own: &mut PartyEnds, far: &mut PartyEnds) -> Mark
     one_way_laws::of_near_events();
     laws::of_pairs();
     laws::of_said();
-    let number = own.receiver.played();
     let played = own.way.play(&mut own.receiver);
-    put_by(&mut far.waiting, own.params.clock, number, played.message);
-    played.mark
+    put_by(
+        &mut far.waiting,
+        own.params.clock,
+        played.number,
+        played.message,
+    );
+    played
 }

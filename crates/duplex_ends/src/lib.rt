@@ -15,7 +15,7 @@
 //! a.send(frame);
 //! check_delivery(&a, &b, 0)?;
 //! deliver_all(&mut a, &mut b, 0);
-//! let mark = play(&mut a, &mut b);
+//! let mark = play(&mut a, &mut b).mark;
 //! ```
 #![tactic(auto)]
 

@@ -1,24 +1,22 @@
 //! The ends of one party's pictures.
-ghost use Rattle.std.specs.Prelude.{◌≡◌, ◌+◌, ◌<◌, ◌≤◌, ℕ, IfOk, length};
+ghost use Rattle.std.specs.Prelude.{◌≡◌, ◌+◌, ◌<◌, ◌≤◌, ℕ, IfOk};
 ghost use Rattle.h263_types.specs.declared.params.Params.{Params};
 ghost use Rattle.h263_types.specs.Params.{IsParams};
 ghost use Rattle.h263_planes.specs.Lent.{picture as lent};
-ghost use Rattle.call_report.specs.View as report;
 ghost use Rattle.call_model.specs.IdealCall.{Play, Send};
 ghost use Rattle.call_encoding.specs.Frames.{Frame};
-ghost use Rattle.one_way.specs.Counts.{call_text_of};
-ghost use Rattle.one_way.specs.Seen.{in_call, reference_in};
+ghost use Rattle.one_way.specs.Counts.{AreCounted};
+ghost use Rattle.one_way.specs.Seen.{reference_in};
 ghost use Rattle.duplex_call.specs.declared.line.Party.{Party};
 ghost use Rattle.duplex_call.specs.Duplex.{MayHappenOf, WayRuns, with_shot};
 
 use crate::saying::put_messages;
 use crate::{CarriedRing, laws};
 use back_messages::Message;
-use call_report::Line;
 use duplex_call::Carrier;
 use h263_planes::PictureRef;
 use h263_types::{FixedPace, OutOfMemory, Params};
-use one_way::{Way, laws as one_way_laws};
+use one_way::{Tally, Way, laws as one_way_laws};
 use receiver_end::Receiver;
 use sender_end::Sender;
 use std::alloc::Global;
@@ -143,17 +141,13 @@ impl PartyEnds {
         self.receiver.played()
     }
 
-    /// The line of the counts, with this word for the pictures that were played.
-    pub fn line(&self, word: &str) -> Line
-        requires { length word.now ≤ 16 }
+    /// How many pictures were shown with each mark.
+    pub fn tally(&self) -> Tally
         ensures { (p : Party → Params) (x : Party) (far : PartyEnds) (ways : WayRuns Frame)
-            → HoldsPair p x self.now far ways
-            → report.text_of result ≡ call_text_of word.now (in_call (call_in p x ways)) }
+            → HoldsPair p x self.now far ways → AreCounted result (call_in p x ways).plays }
     {
-        laws::of_pairs();
         one_way_laws::ends_agree();
-        self.way
-            .line(word, self.receiver.played(), self.sender.sent())
+        self.way.tally()
     }
 
     /// Gives back what the ends hold.

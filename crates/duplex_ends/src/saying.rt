@@ -3,7 +3,6 @@ ghost use Rattle.std.specs.Prelude.{◌≡◌, ◌++◌, ◌≤◌, List, map, t
 ghost use Rattle.back_messages.specs.MessageBytes.{text_of};
 ghost use Rattle.back_messages.specs.Text.{IsMessage};
 ghost use Rattle.call_encoding.specs.Messages.{written};
-ghost use Rattle.coded_call.specs.Bytes.{AreBytes};
 ghost use Rattle.duplex_call.specs.declared.carrier.Carried.{Carried};
 ghost use Rattle.duplex_call.specs.Waiting.{Waits};
 ghost use Rattle.duplex_ends.specs.Bringing.{carried_in, message_in, said_as};
@@ -12,6 +11,7 @@ use back_messages::{Message, MessageBytes, read, write};
 use coded_call::laws as coded_call_laws;
 use duplex_call::{Carried, Carrier};
 use h263_types::Clock;
+use one_way::are_bytes;
 
 /// What was said of picture `about`, if anything was, waits for the next header.
 pub fn put_by(waiting: &mut Carrier, clock: Clock, about: u32, said: Option<MessageBytes>)
@@ -25,11 +25,6 @@ pub fn put_by(waiting: &mut Carrier, clock: Clock, about: u32, said: Option<Mess
         waiting.say(Carried { about, message });
     }
 }
-
-// What a slice holds are bytes: a law that speaks of numbers asks for it.
-fn are_bytes(bytes: &[u8])
-    ensures { AreBytes bytes.now }
-{}
 
 /// The bytes of a message of a picture header: those that are written of it.
 pub fn bytes_of(message: &Message, clock: Clock) -> MessageBytes

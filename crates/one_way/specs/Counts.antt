@@ -1,11 +1,9 @@
--- How many pictures were shown with each mark, and the line of a call's counts.
-use Rattle.std.specs.Prelude.{◌≡◌, ℕ, ◌+◌, List, [], ◌∷◌, length, codes}
+-- How many pictures were shown with each mark.
+use Rattle.std.specs.Prelude.{◌≡◌, ℕ, ◌+◌, List, [], ◌∷◌}
 use Rattle.h263_types.specs.declared.Mark.{Mark}
 use Rattle.h263_types.specs.declared.Mark.TheVariants as marks
 use Rattle.call_model.specs.Coding.{Shown, Mark as CallMark, Exact, Patched, Held}
-use Rattle.call_report.specs.Text.{Text, counts}
 use Rattle.one_way.specs.declared.tally.Tally.{Tally}
-use Rattle.one_way.specs.Seen.{Seen}
 
 -- ---- by the plays of a call
 
@@ -30,29 +28,6 @@ abbrev pub count_of : {Picture : Type 0} → (CallMark → ℕ) → List (Shown 
 count_of one [] = 0
 count_of one (shown ∷ plays) = count_of one plays + one shown.mark
 
--- the line of these counts, with this word for the pictures that were played
-abbrev pub counts_text_of : Text → ℕ → ℕ → ℕ → ℕ → ℕ → Text
-counts_text_of word played sent exact patched held =
-    counts
-    ((word, played)
-    ∷ (codes "sent", sent)
-    ∷ (codes "exact", exact)
-    ∷ (codes "patched", patched)
-    ∷ (codes "held", held)
-    ∷ [])
-
-abbrev pub counts_text : ℕ → ℕ → ℕ → ℕ → ℕ → Text
-counts_text = counts_text_of (codes "played")
-
--- the line of a call: how many pictures were played and sent, and how the plays were marked
-abbrev pub call_text_of : Text → Seen → Text
-call_text_of word seen =
-    counts_text_of word seen.played (length seen.coded) (count_of one_exact seen.plays)
-    (count_of one_patched seen.plays) (count_of one_held seen.plays)
-
-abbrev pub call_text : Seen → Text
-call_text = call_text_of (codes "played")
-
 -- ---- as they are counted
 
 abbrev pub no_marks : Tally
@@ -72,11 +47,3 @@ pub record AreCounted {Picture : Type 0} (tally : Tally) (plays : List (Shown Pi
   pub exact : tally.exact ≡ count_of one_exact plays
   pub patched : tally.patched ≡ count_of one_patched plays
   pub held : tally.held ≡ count_of one_held plays
-
--- the line of these counts, with those of the pictures that were played and sent
-abbrev pub counts_with : Text → Tally → ℕ → ℕ → Text
-counts_with word tally played sent =
-    counts_text_of word played sent tally.exact tally.patched tally.held
-
-abbrev pub counts_of : Tally → ℕ → ℕ → Text
-counts_of = counts_with (codes "played")

@@ -2,18 +2,19 @@
 //! keeps their packets until they are delivered.
 //!
 //! `specs/Both` joins both ends, `specs/Way` says what is kept between them. Both ends are lent to
-//! each call of a [`Way`]; it answers what the receiver says, and a [`Network`] keeps that besides,
-//! by its number, for a trace that brings it back so. What an event may not do is a [`Refusal`];
+//! each call of a [`Network`]. It is a [`Way`], which answers what the receiver says, and keeps that
+//! besides, by its number, for a trace that brings it back so. What an event may not do is a [`Refusal`];
 //! the `check` functions tell it by the counts of both ends, before anything is done.
 //!
 //! ```rust
 //! let mut network = Network::start(alloc, &params, params.clock.period())?;
-//! let number = network.way.send(&mut sender, frame, &[]);
+//! let number = network.send(&mut sender, frame, &[]);
 //! network.deliver_all(&mut receiver, number);
-//! let mark = network.play(&mut receiver);
+//! let mark = network.play(&mut receiver).mark;
 //! ```
 #![tactic(auto)]
 
+mod both;
 pub mod laws;
 mod network;
 mod references;
@@ -21,8 +22,9 @@ mod refusals;
 mod tally;
 mod way;
 
+pub use both::Both;
 pub use network::Network;
 pub use references::References;
-pub use refusals::{Refusal, check_back, check_capture, check_packet, check_play};
+pub use refusals::{Refusal, check_back, check_capture, check_packet, check_play, is_late};
 pub use tally::Tally;
-pub use way::{Way, bring_back};
+pub use way::{Way, are_bytes, bring_back};

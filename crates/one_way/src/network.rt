@@ -1,12 +1,15 @@
 //! A way whose messages wait for their return, by their numbers.
-ghost use Rattle.std.specs.Prelude.{◌≡◌, ◌+◌, ◌^◌, ◌<◌, ◌≤◌, ℕ, List, ◌∷◌, ◌++◌, IfOk, IfSome, length};
+ghost use Rattle.std.specs.Prelude.{◌≡◌, ◌+◌, ◌^◌, ◌<◌, ◌≤◌, ℕ, Some, List, ◌∷◌, ◌++◌, IfOk, IfSome};
+ghost use Rattle.std.specs.Prelude.{length, slice_get};
 ghost use Rattle.back_messages.specs.MessageBytes.{text_of};
 ghost use Rattle.coded_call.specs.Bytes.{AreBytes};
 ghost use Rattle.h263_types.specs.declared.params.Params.{Params};
 ghost use Rattle.h263_types.specs.Params.{IsParams};
-ghost use Rattle.call_rings.specs.Keeping.{most_of};
+ghost use Rattle.h263_planes.specs.Lent.{picture as lent};
+ghost use Rattle.picture_header.specs.Ranges.{AreMessages};
+ghost use Rattle.call_rings.specs.Keeping.{most_of, period_of};
 ghost use Rattle.call_rings.specs.Messages.{said_of};
-ghost use Rattle.call_model.specs.IdealCall.{Back, Event, Deliver, Play, slices_at};
+ghost use Rattle.call_model.specs.IdealCall.{Back, Event, Deliver, Play, Send, slices_at};
 ghost use Rattle.call_model.specs.JoinedRun.{SaidMessage};
 ghost use Rattle.call_model.specs.Receiving.{ReceiverEntry, played_mark};
 ghost use Rattle.call_decoding.specs.Rules.{rules_of};
@@ -15,25 +18,27 @@ ghost use Rattle.receiver_end.specs.declared.kept.Kept.{Kept};
 ghost use Rattle.receiver_end.specs.Answers.{mark_of};
 ghost use Rattle.receiver_end.specs.Decoding.{decoding};
 ghost use Rattle.receiver_end.specs.State as receiver_end;
-ghost use Rattle.one_way.specs.Both.{IsSameSender, State, both_after, steady};
+ghost use Rattle.one_way.specs.Both.{IsSameSender, State, both_after, carrying, steady};
 ghost use Rattle.one_way.specs.Counts.{total_of};
 ghost use Rattle.one_way.specs.Network.{HasMessages, IsAmongLast, told_by};
+ghost use Rattle.one_way.specs.Seen.{reference_in};
 ghost use Rattle.one_way.specs.Trace.{delivered};
 ghost use Rattle.one_way.specs.Way.{CanSend, HoldsNetwork, IsNewNetwork, MayHappenNow};
 
-use crate::{Way, bring_back, laws};
-use back_messages::MessageBytes;
+use crate::{Tally, Way, bring_back, laws};
+use back_messages::{Message, MessageBytes};
 use call_rings::MessageRing;
-use h263_types::{FixedPace, Mark, OutOfMemory, Params};
-use receiver_end::Receiver;
+use h263_planes::PictureRef;
+use h263_types::{FixedPace, OutOfMemory, Params};
+use receiver_end::{Played, Receiver};
 use sender_end::Sender;
 use std::alloc::Global;
 
 /// A way, and the last messages that its receiver said: an event brings one back by its number.
 #[derive(Drop)]
 pub struct Network {
-    pub way: Way,
-    pub messages: MessageRing,
+    pub(crate) way: Way,
+    pub(crate) messages: MessageRing,
 }
 
 // Keeps what was said of this picture, if anything was.
@@ -59,6 +64,37 @@ impl Network {
             way: Way::start(alloc, params, kept)?,
             messages: MessageRing::start(alloc)?,
         })
+    }
+
+    /// Sends the next picture, of this frame and with these messages in its header, keeps its
+    /// packets and its reference, and answers its number.
+    pub fn send(
+        &mut self,
+        sender: &mut Sender<FixedPace>,
+        frame: PictureRef<'_>,
+        back: &[Message],
+    ) -> u32
+        requires few { length back.now ≤ 4 }
+        requires back { AreMessages sender.old.params.clock back.now }
+        requires frame { (lent frame).format ≡ sender.old.params.format }
+        requires left { sender.old.sent < 1048576 }
+        requires ready { CanSend self.old.way sender.old }
+        ensures ready { CanSend self.new.way sender.new }
+        ensures same { IsSameSender sender.old sender.new }
+        ensures sent { sender.new.sent ≡ sender.old.sent + 1 }
+        ensures kept { period_of self.new.way.packets ≡ period_of self.old.way.packets }
+        ensures tally { self.new.way.tally ≡ self.old.way.tally }
+        ensures messages { self.new.messages ≡ self.old.messages }
+        ensures number { result ≡ sender.old.sent }
+        ensures holds { (p : Params) (receiver : Kept) (before : List ReceiverEntry)
+            (frames : List Frame) (past : List Event)
+            → HoldsNetwork p self.old sender.old receiver before frames past
+            → slice_get frames sender.old.sent
+            ≡ Some (carrying (lent frame.entry) back.now)
+            → MayHappenNow p before frames past Send
+            → HoldsNetwork p self.new sender.new receiver before frames (Send ∷ past) }
+    {
+        self.way.send(sender, frame, back)
     }
 
     /// Delivers the packet at a place of a picture, if there is one, and keeps what is said of it.
@@ -106,13 +142,14 @@ impl Network {
         }
     }
 
-    /// Plays the next picture, keeps what is said of it, and answers its mark.
-    pub fn play(&mut self, receiver: &mut Receiver) -> Mark
+    /// Plays the next picture, keeps what is said of it, and answers it with its mark.
+    pub fn play(&mut self, receiver: &mut Receiver) -> Played
         requires played { receiver.old.played < 2 ^ 20 }
         requires counted { total_of self.old.way.tally < 1048576 }
         requires said { said_of self.old.messages + 1 < 2 ^ 64 }
         ensures params { receiver.new.params ≡ receiver.old.params }
         ensures played { receiver.new.played ≡ receiver.old.played + 1 }
+        ensures number { result.number ≡ receiver.old.played }
         ensures few { said_of self.new.messages ≤ said_of self.old.messages + 1 }
         ensures counted { total_of self.new.way.tally ≡ total_of self.old.way.tally + 1 }
         ensures way { self.new.way ≡ record self.old.way { tally = self.new.way.tally } }
@@ -124,13 +161,33 @@ impl Network {
         ensures mark { (p : Params) (sender : State) (before : List ReceiverEntry)
             (frames : List Frame) (past : List Event)
             → HoldsNetwork p self.old sender receiver.old before frames past
-            → result ≡ mark_of (played_mark (decoding p.format) (rules_of p)
+            → result.mark ≡ mark_of (played_mark (decoding p.format) (rules_of p)
             (both_after p (steady p) frames before past).receiver) }
     {
-        let number = receiver.played();
         let played = self.way.play(receiver);
-        keep_message(&mut self.messages, number, played.message);
-        played.mark
+        keep_message(&mut self.messages, played.number, played.message);
+        played
+    }
+
+    /// The reference from which the picture was coded that this receiver plays next: none where it
+    /// was coded intra.
+    pub fn reference_of(&self, receiver: &Receiver) -> Option<u32>
+        ensures { (p : Params) (sender : State) (before : List ReceiverEntry)
+            (frames : List Frame) (past : List Event)
+            → (receiver_end.run_of p before).played ≡ 0
+            → HoldsNetwork p self.now sender receiver.now before frames past
+            → receiver.now.played < sender.sent
+            → result ≡ reference_in
+            (both_after p (steady p) frames before past).sender.coded receiver.now.played }
+    {
+        self.way.reference_of(receiver.played())
+    }
+
+    /// How many pictures were shown with each mark.
+    pub fn tally(&self) -> Tally
+        ensures { result ≡ self.now.way.tally }
+    {
+        self.way.tally()
     }
 
     /// Brings message `k` back to the sender. One that has left the ring is about a picture that

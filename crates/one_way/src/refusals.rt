@@ -106,8 +106,8 @@ pub fn check_play(sender: &Sender<FixedPace>, receiver: &Receiver) -> Result<(),
     Ok(())
 }
 
-// A message about this picture comes back too late.
-fn is_late(half: u32, about: u32, sent: u32) -> bool
+/// Whether a message about this picture comes back too late, where this many pictures were sent.
+pub fn is_late(half: u32, about: u32, sent: u32) -> bool
     ensures { result ≡ nat_le (about + half) sent }
 {
     half <= sent && about <= sent - half

@@ -8,7 +8,6 @@ ghost use Rattle.h263_types.specs.declared.params.Params.{Params};
 ghost use Rattle.h263_types.specs.Params.{IsParams};
 ghost use Rattle.h263_planes.specs.Lent.{picture as lent};
 ghost use Rattle.picture_header.specs.Ranges.{AreMessages};
-ghost use Rattle.call_report.specs.View as report;
 ghost use Rattle.call_rings.specs.Keeping.{HoldsPackets, HasSizes, Pictures, begun_of, kept_of};
 ghost use Rattle.call_rings.specs.Keeping.{most_of, period_of, room_of};
 ghost use Rattle.call_model.specs.IdealCall.{Back, Event, Deliver, Play, Send};
@@ -21,7 +20,7 @@ ghost use Rattle.receiver_end.specs.Answers.{mark_of};
 ghost use Rattle.receiver_end.specs.Decoding.{decoding};
 ghost use Rattle.receiver_end.specs.State as receiver_end;
 ghost use Rattle.one_way.specs.Both.{IsSameSender, State, both_after, carrying, steady};
-ghost use Rattle.one_way.specs.Counts.{counts_with, total_of};
+ghost use Rattle.one_way.specs.Counts.{total_of};
 ghost use Rattle.one_way.specs.Network.{AreRoomy, IsAmongLast, IsKeeping, told_by};
 ghost use Rattle.one_way.specs.Seen.{reference_in};
 ghost use Rattle.one_way.specs.Way.{CanSend, HoldsWay, IsNewWay, MayHappenNow};
@@ -29,7 +28,6 @@ ghost use Rattle.one_way.specs.declared.way.Way.{Way};
 
 use crate::{References, Tally, laws};
 use back_messages::{Message, MessageBytes};
-use call_report::Line;
 use call_rings::{SentPackets, laws as call_rings_laws};
 use h263_planes::PictureRef;
 use h263_types::{FixedPace, OutOfMemory, Params};
@@ -66,8 +64,8 @@ fn keep_packets(packets: &mut SentPackets, sender: &Sender<FixedPace>, count: u3
     }
 }
 
-// What a slice holds are bytes: a law that speaks of numbers asks for it.
-fn are_bytes(bytes: &[u8])
+/// What a slice holds are bytes: a law that speaks of numbers asks for it.
+pub fn are_bytes(bytes: &[u8])
     ensures { AreBytes bytes.now }
 {}
 
@@ -180,6 +178,7 @@ impl Way {
         requires counted { total_of self.old.tally < 1048576 }
         ensures params { receiver.new.params ≡ receiver.old.params }
         ensures played { receiver.new.played ≡ receiver.old.played + 1 }
+        ensures number { result.number ≡ receiver.old.played }
         ensures bytes { IfSome result.message (λ said. AreBytes (text_of said)) }
         ensures counted { total_of self.new.tally ≡ total_of self.old.tally + 1 }
         ensures others { self.new ≡ record self.old { tally = self.new.tally } }
@@ -223,13 +222,11 @@ impl Way {
         self.references.get(number)
     }
 
-    /// The line of the counts, with those of the pictures that were played, which this word names,
-    /// and sent.
-    pub fn line(&self, word: &str, played: u32, sent: u32) -> Line
-        requires { length word.now ≤ 16 }
-        ensures { report.text_of result ≡ counts_with word.now self.now.tally played sent }
+    /// How many pictures were shown with each mark.
+    pub fn tally(&self) -> Tally
+        ensures { result ≡ self.now.tally }
     {
-        self.tally.line(word, played, sent)
+        self.tally
     }
 }
 

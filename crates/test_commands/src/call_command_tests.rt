@@ -6,13 +6,14 @@ ghost use Rattle.h263_outside.specs.declared.desk.Role.TheVariants.{Video, Event
 ghost use Rattle.h263_outside.specs.declared.desk.Role.TheVariants.{Report};
 
 use crate::by_words::check;
-use call_command::{Both, Terms, converse};
+use call_command::{Terms, converse};
 use call_report::Status;
 use desk_program::attach_all;
 use h263_outside::{Desk, MemoryDesk, Role};
 use h263_planes::PictureRef;
 use h263_types::{FixedPace, OutOfMemory, Params};
 use loss_trace::TraceFault;
+use one_way::Both;
 use receiver_end::Receiver;
 use sender_end::Sender;
 use std::alloc::Global;
@@ -332,26 +333,27 @@ const CUT_3: Parts<'static> = &[SHOWN_HEAD, EXACT, PIECE, PIECE, PIECE];
 
 const CUT_4: Parts<'static> = &[SHOWN_HEAD, EXACT, PIECE, PIECE, PIECE, PIECE];
 
-// Three roles are attached; the head is read byte by byte and written; the frame's line is read
-// byte by byte, and its planes in five pieces; the picture's line, its planes in five pieces, and
-// the line of the report are written; the video's end is met, and the counts are written.
+// Three roles are attached; the head is read, ten bytes at once and nine byte by byte, and written;
+// the frame's line is read at once, and its planes in five pieces; the picture's line, its planes in
+// five pieces, and the line of the report are written; the video's end is met, and the counts are
+// written.
 const PLAIN: &[Stretch] = &[
     (0, 1, NO_REPORT, NOTHING, NOTHING),
     (1, 2, NO_VIDEO, NOTHING, NO_VIDEO_LINE),
     (2, 3, NO_PICTURES, NOTHING, NO_PICTURES_LINE),
-    (3, 22, Status::ReadFault, NOTHING, &[READ_LINE]),
-    (22, 23, Status::WriteFault, NOTHING, NOTHING),
-    (23, 34, Status::ReadFault, HEAD_ALONE, &[READ_LINE]),
-    (34, 35, Status::WriteFault, HEAD_ALONE, NOTHING),
-    (35, 36, Status::WriteFault, LINE_ALONE, NOTHING),
-    (36, 37, Status::WriteFault, CUT_1, NOTHING),
-    (37, 38, Status::WriteFault, CUT_2, NOTHING),
-    (38, 39, Status::WriteFault, CUT_3, NOTHING),
-    (39, 40, Status::WriteFault, CUT_4, NOTHING),
-    (40, 41, Status::WriteFault, SHOWN, NOTHING),
-    (41, 42, Status::ReadFault, SHOWN, &[ONE_LINE, READ_LINE]),
-    (42, 43, Status::WriteFault, SHOWN, &[ONE_LINE]),
-    (43, 44, Status::Ok, SHOWN, &[ONE_EXACT]),
+    (3, 13, Status::ReadFault, NOTHING, &[READ_LINE]),
+    (13, 14, Status::WriteFault, NOTHING, NOTHING),
+    (14, 20, Status::ReadFault, HEAD_ALONE, &[READ_LINE]),
+    (20, 21, Status::WriteFault, HEAD_ALONE, NOTHING),
+    (21, 22, Status::WriteFault, LINE_ALONE, NOTHING),
+    (22, 23, Status::WriteFault, CUT_1, NOTHING),
+    (23, 24, Status::WriteFault, CUT_2, NOTHING),
+    (24, 25, Status::WriteFault, CUT_3, NOTHING),
+    (25, 26, Status::WriteFault, CUT_4, NOTHING),
+    (26, 27, Status::WriteFault, SHOWN, NOTHING),
+    (27, 28, Status::ReadFault, SHOWN, &[ONE_LINE, READ_LINE]),
+    (28, 29, Status::WriteFault, SHOWN, &[ONE_LINE]),
+    (29, 30, Status::Ok, SHOWN, &[ONE_EXACT]),
 ];
 
 // The same with a fourth role, and with each line of the trace byte by byte: one before the frame
@@ -361,19 +363,19 @@ const TRACED: &[Stretch] = &[
     (1, 2, NO_VIDEO, NOTHING, NO_VIDEO_LINE),
     (2, 3, NO_EVENTS, NOTHING, NO_EVENTS_LINE),
     (3, 4, NO_PICTURES, NOTHING, NO_PICTURES_LINE),
-    (4, 23, Status::ReadFault, NOTHING, &[READ_LINE]),
-    (23, 24, Status::WriteFault, NOTHING, NOTHING),
-    (24, 45, Status::ReadFault, HEAD_ALONE, &[READ_LINE]),
-    (45, 46, Status::WriteFault, HEAD_ALONE, NOTHING),
-    (46, 47, Status::WriteFault, LINE_ALONE, NOTHING),
-    (47, 48, Status::WriteFault, CUT_1, NOTHING),
-    (48, 49, Status::WriteFault, CUT_2, NOTHING),
-    (49, 50, Status::WriteFault, CUT_3, NOTHING),
-    (50, 51, Status::WriteFault, CUT_4, NOTHING),
-    (51, 52, Status::WriteFault, SHOWN, NOTHING),
-    (52, 53, Status::ReadFault, SHOWN, &[ONE_LINE, READ_LINE]),
-    (53, 54, Status::WriteFault, SHOWN, &[ONE_LINE]),
-    (54, 55, Status::Ok, SHOWN, &[ONE_EXACT]),
+    (4, 14, Status::ReadFault, NOTHING, &[READ_LINE]),
+    (14, 15, Status::WriteFault, NOTHING, NOTHING),
+    (15, 31, Status::ReadFault, HEAD_ALONE, &[READ_LINE]),
+    (31, 32, Status::WriteFault, HEAD_ALONE, NOTHING),
+    (32, 33, Status::WriteFault, LINE_ALONE, NOTHING),
+    (33, 34, Status::WriteFault, CUT_1, NOTHING),
+    (34, 35, Status::WriteFault, CUT_2, NOTHING),
+    (35, 36, Status::WriteFault, CUT_3, NOTHING),
+    (36, 37, Status::WriteFault, CUT_4, NOTHING),
+    (37, 38, Status::WriteFault, SHOWN, NOTHING),
+    (38, 39, Status::ReadFault, SHOWN, &[ONE_LINE, READ_LINE]),
+    (39, 40, Status::WriteFault, SHOWN, &[ONE_LINE]),
+    (40, 41, Status::Ok, SHOWN, &[ONE_EXACT]),
 ];
 
 // For each call up to the first that isn't made.

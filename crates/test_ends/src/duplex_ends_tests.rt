@@ -63,7 +63,7 @@ fn play_next(own: &mut PartyEnds, far: &mut PartyEnds) -> Option<Mark>
     ensures { AreInCall own.new far.new }
 {
     match check_play(own) {
-        Ok(()) => Some(play(own, far)),
+        Ok(()) => Some(play(own, far).mark),
         Err(_) => None,
     }
 }

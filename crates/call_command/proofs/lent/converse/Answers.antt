@@ -9,21 +9,21 @@ use Rattle.call_command.proofs.lent.converse.Goals as goal
 pub returns-clause-gives : goal.returns-clause-gives
 returns-clause-gives g c = λ before inputs receives told.
     let now = g.D.Desk.outside c.args.desk.now in
-    let w : World = record { terms = c.args.terms.now; video = c.args.video; sender = c.args.sender; receiver = c.args.receiver; carrier = c.in-Ok.carrier } in
+    let w : World = record { terms = c.args.terms.now; video = c.args.video; sender = c.args.sender; receiver = c.args.receiver; trace = c.in-Ok.carrier.trace; network = c.in-Ok.carrier.network; frame = c.in-Ok.carrier.frame } in
     let kept = lent_first w before inputs (c.of_the_way.ensures w.terms.params) c.in-Ok.ensures c.requires.sender_params c.requires.sends c.requires.sent c.requires.frames c.requires.receiver_params c.requires.played receives in
     c.take_turns-status.ensures.gives _ inputs now.written (under_way w before inputs now c.in-Ok.ensures.lines c.requires.frames kept told c.of_turns.ensures)
 
 pub returns-clause-whole_input : goal.returns-clause-whole_input
 returns-clause-whole_input g c = λ before inputs receives told.
     let now = g.D.Desk.outside c.args.desk.now in
-    let w : World = record { terms = c.args.terms.now; video = c.args.video; sender = c.args.sender; receiver = c.args.receiver; carrier = c.in-Ok.carrier } in
+    let w : World = record { terms = c.args.terms.now; video = c.args.video; sender = c.args.sender; receiver = c.args.receiver; trace = c.in-Ok.carrier.trace; network = c.in-Ok.carrier.network; frame = c.in-Ok.carrier.frame } in
     let kept = lent_first w before inputs (c.of_the_way.ensures w.terms.params) c.in-Ok.ensures c.requires.sender_params c.requires.sends c.requires.sent c.requires.frames c.requires.receiver_params c.requires.played receives in
     c.take_turns-status.ensures.whole_input _ inputs now.written (under_way w before inputs now c.in-Ok.ensures.lines c.requires.frames kept told c.of_turns.ensures)
 
 pub returns-clause-stands : goal.returns-clause-stands
 returns-clause-stands g c = λ before inputs receives told.
     let now = g.D.Desk.outside c.args.desk.now in
-    let w : World = record { terms = c.args.terms.now; video = c.args.video; sender = c.args.sender; receiver = c.args.receiver; carrier = c.in-Ok.carrier } in
+    let w : World = record { terms = c.args.terms.now; video = c.args.video; sender = c.args.sender; receiver = c.args.receiver; trace = c.in-Ok.carrier.trace; network = c.in-Ok.carrier.network; frame = c.in-Ok.carrier.frame } in
     let kept = lent_first w before inputs (c.of_the_way.ensures w.terms.params) c.in-Ok.ensures c.requires.sender_params c.requires.sends c.requires.sent c.requires.frames c.requires.receiver_params c.requires.played receives in
     let final = talk_end w.terms before w.video.now.at inputs in
     let machine = c.take_turns-status.new.machine in
@@ -47,7 +47,7 @@ returns-clause-answers g c = answers_itself c.take_turns-status.result c.take_tu
 pub returns-clause-alone : goal.returns-clause-alone
 returns-clause-alone g c = λ run inputs start receives u.
     let now = g.D.Desk.outside c.args.desk.now in
-    let w : World = record { terms = c.args.terms.now; video = c.args.video; sender = c.args.sender; receiver = c.args.receiver; carrier = c.in-Ok.carrier } in
+    let w : World = record { terms = c.args.terms.now; video = c.args.video; sender = c.args.sender; receiver = c.args.receiver; trace = c.in-Ok.carrier.trace; network = c.in-Ok.carrier.network; frame = c.in-Ok.carrier.frame } in
     c.take_turns-status.ensures.gives run inputs start
     (alone_under_way w c.in-Ok.ensures.lines c.requires.frames
     (λ rest. lent_first w [] rest (c.of_the_way.ensures w.terms.params) c.in-Ok.ensures c.requires.sender_params c.requires.sends c.requires.sent c.requires.frames c.requires.receiver_params c.requires.played receives)

@@ -14,11 +14,11 @@ returns-clause-ok g c = λ p ways left holds may.
     let x = c.args.party in
     let own = c.args.own.now in
     let far = c.args.far.now in
-    let after = c.play-mark.ensures.holds p x ways left holds may in
-    let row = row_is p x ways (c.of_plays.ensures p x ways) c.played-number.result c.play-mark.result c.reference_of_next-reference.result (picture c.shown.result)
-    (c.played-number.ensures ∙ (c.of_pairs.ensures p).played x own far ways holds) (c.play-mark.ensures.mark p x ways left holds may)
+    let after = c.play-played.ensures.holds p x ways left holds may in
+    let row = row_is p x ways (c.of_plays.ensures p x ways) c.play-played.result.number c.play-played.result.mark c.reference_of_next-reference.result (picture c.shown.result)
+    (c.play-played.ensures.number ∙ (c.of_pairs.ensures p).played x own far ways holds) (c.play-played.ensures.mark p x ways left holds may)
     (c.reference_of_next-reference.ensures p x far ways left holds may)
-    (c.shown.ensures.holds p x c.play-mark.new.far (with_play (sides p) x ways) after)
+    (c.shown.ensures.holds p x c.play-played.new.far (with_play (sides p) x ways) after)
     in
     on_ok_weaker c.show.result (λ gains. subst (λ (t : Role → List ℕ). Gains t (outside c.args.desk.now).written (outside c.show.new.desk).written) row gains) c.show.ensures.ok
 
@@ -28,10 +28,10 @@ returns-clause-err g c = λ p ways left holds may.
     let x = c.args.party in
     let own = c.args.own.now in
     let far = c.args.far.now in
-    let after = c.play-mark.ensures.holds p x ways left holds may in
-    let row = row_is p x ways (c.of_plays.ensures p x ways) c.played-number.result c.play-mark.result c.reference_of_next-reference.result (picture c.shown.result)
-    (c.played-number.ensures ∙ (c.of_pairs.ensures p).played x own far ways holds) (c.play-mark.ensures.mark p x ways left holds may)
+    let after = c.play-played.ensures.holds p x ways left holds may in
+    let row = row_is p x ways (c.of_plays.ensures p x ways) c.play-played.result.number c.play-played.result.mark c.reference_of_next-reference.result (picture c.shown.result)
+    (c.play-played.ensures.number ∙ (c.of_pairs.ensures p).played x own far ways holds) (c.play-played.ensures.mark p x ways left holds may)
     (c.reference_of_next-reference.ensures p x far ways left holds may)
-    (c.shown.ensures.holds p x c.play-mark.new.far (with_play (sides p) x ways) after)
+    (c.shown.ensures.holds p x c.play-played.new.far (with_play (sides p) x ways) after)
     in
     on_err_weaker c.show.result (λ gains. subst (λ (t : Role → List ℕ). GainsFronts t (outside c.args.desk.now).written (outside c.show.new.desk).written) row gains) c.show.ensures.err

@@ -78,8 +78,8 @@ returns-clause-holds c = λ p x ways left h may.
     let new_far : PartyEnds = record far { waiting = c.put_by.new.waiting } in
     let waits : Waits own.waiting (drop w.loaded (told_by Q v) ++ []) = subst (λ (l : List Carried). Waits own.waiting l) (sym (append-nil (drop w.loaded (told_by Q v)))) one.waits in
     let said : Waits c.put_by.new.waiting (drop v.loaded (told_by P w) ++ said_as P.clock n told.result.message) =
-    subst (λ (k : ℕ). Waits c.put_by.new.waiting (drop v.loaded (told_by P w) ++ said_as P.clock k told.result.message)) c.played-number.ensures.count
-    (subst (λ (q : Params). Waits c.put_by.new.waiting (drop v.loaded (told_by P w) ++ said_as q.clock c.played-number.result told.result.message)) one.params
+    subst (λ (k : ℕ). Waits c.put_by.new.waiting (drop v.loaded (told_by P w) ++ said_as P.clock k told.result.message)) c.play-played.ensures.number
+    (subst (λ (q : Params). Waits c.put_by.new.waiting (drop v.loaded (told_by P w) ++ said_as q.clock c.play-played.result.number told.result.message)) one.params
     (c.put_by.ensures (drop v.loaded (told_by P w)) two.waits))
     in
     let laws = c.of_pairs.ensures p in

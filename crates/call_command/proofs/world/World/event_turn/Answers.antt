@@ -1,4 +1,4 @@
-use Rattle.std.proofs.Common.{◌≡◌, ℕ, ◌<◌, List, ◌∷◌, ◌++◌, length, None, Ok, Err, refl, sym, ap, subst, true, ◌+◌, ◌∙◌, arith}
+use Rattle.std.proofs.Common.{◌≡◌, ℕ, ◌<◌, List, ◌∷◌, ◌++◌, length, None, Result, Ok, Err, OnOk, refl, sym, ap, subst, true, ◌+◌, ◌∙◌, arith}
 use Rattle.h263_outside.specs.declared.desk.Role.TheVariants.{Events}
 use Rattle.h263_types.specs.declared.params.Params.{Params}
 use Rattle.h263_types.specs.declared.pace.FixedPace.{FixedPace}
@@ -8,6 +8,7 @@ use Rattle.call_report.specs.declared.status.Status.TheVariants.{TraceRefused}
 use Rattle.call_rings.specs.Keeping.{period_of}
 use Rattle.call_model.specs.IdealCall.{Deliver, Back, Play, Send, slices_at}
 use Rattle.call_encoding.specs.Frames.{Frame}
+use Rattle.one_way.specs.declared.refusals.Refusal.{Refusal}
 use Rattle.one_way.specs.declared.way.Way.{Way}
 use Rattle.one_way.specs.Refused.{refusal_after}
 use Rattle.one_way.specs.Trace.{delivered}
@@ -15,25 +16,18 @@ use Rattle.one_way.specs.Way.{CanSend, HoldsNetwork}
 use Rattle.call_command.specs.declared.carrier.Carrier.{Carrier}
 use Rattle.call_command.specs.Call.{by_ends, event_step}
 use Rattle.call_command.specs.Standing.{HasDone, PartsStand, more_of, parts_of}
-use Rattle.call_command.specs.Turning.{IsAhead, IsRead, Names, names_of}
-use Rattle.call_command.proofs.Behind.{asked, asks_frame, count_same, done_here, event_goes, line_goes_on, line_is_refused, line_was_cut, message_is, packet_is, packets_is, play_cut, play_goes, refusal_here, stands_event}
-use Rattle.call_command.proofs.Counting.{gave_up, roles_same, writes_keep}
+use Rattle.call_command.specs.Refused.{IsNotRefused}
+use Rattle.call_command.specs.Turning.{Names, names_of}
+use Rattle.call_command.proofs.Behind.{asks_frame, count_same, done_here, event_goes, line_goes_on, line_stops, line_was_cut, none_so, message_is, packet_is, packets_is, play_cut, play_goes, refusal_here, stands_event}
+use Rattle.call_command.proofs.Counting.{roles_same, writes_keep}
 use Rattle.call_command.proofs.Delivering.{delivered_goes_on}
 use Rattle.call_command.proofs.Readying.{can_still, few_mbs, ready_so}
 use Rattle.call_command.proofs.world.World.event_turn.Goals as goal
 
-pub returns-in-Err : goal.returns-in-Err
-returns-in-Err g c =
-    let old = g.D.Desk.outside c.args.desk.now in
-    let m = c.args.self.now in
-    let x = parts_of m in
-    let status = TraceRefused c.fault_at-fault.result in
-    gave_up m _ old old (IsRead x c.args.line old) (λ s inputs. event_step by_ends s inputs (inputs Events) c.args.event) (λ _. true) (more_of x + 1)
-    (Err status) status refl refl c.requires.recorded tt tt (roles_same old)
-    (λ o s inputs b.
-    line_is_refused x s inputs b.stood c.of_turns.ensures o old b.taken c.in-Err.refusal c.args.line b.number c.fault_at-fault.result c.fault_at-fault.ensures c.args.event
-    (c.in-Err.ensures.refusal s.before s.frames s.past b.stood.begun (done_here x s inputs b.stood)))
-    (λ s stand. stand)
+-- a play that is not refused is behind what was sent
+ahead_so : (r : Result Unit Refusal) (played sent : ℕ) → IsNotRefused r → OnOk r (played < sent) → played < sent
+ahead_so (Ok u) played sent free ahead = ahead
+ahead_so (Err told) played sent free ahead = absurd free
 
 pub returns-in-Nothing : goal.returns-in-Nothing
 returns-in-Nothing g c =
@@ -46,20 +40,47 @@ returns-in-Nothing g c =
 
 -- ---- a frame
 
-pub returns-in-Send : goal.returns-in-Send
-returns-in-Send g c =
+pub returns-in_err-allow-in-Send : goal.returns-in_err-allow-in-Send
+returns-in_err-allow-in-Send g c =
+    let old = g.D.Desk.outside c.args.desk.now in
+    let m = c.args.self.now in
+    let p = m.terms.params in
+    line_stops m c.args.line c.args.event says.Send _ c.in_err-allow-in-Send.field-0.0 c.check_capture.result old c.in-Send.is c.from_residual.ensures.1 c.in_err-allow-in-Send.ensures.err
+    c.requires.recorded c.of_turns.ensures
+    (λ o s inputs b. c.check_capture.ensures p s.before s.frames s.past c.half-half.ensures (done_here (parts_of m) s inputs b.stood).way_holds.joined)
+
+pub returns-in_ok-allow-in-Send : goal.returns-in_ok-allow-in-Send
+returns-in_ok-allow-in-Send g c =
     let outside = g.D.Desk.outside in
     let m = c.args.self.now in
     let x = parts_of m in
     asks_frame m _ c.args.line c.args.event c.send_frame.result (outside c.args.desk.now) (outside c.send_frame.new.desk) c.in-Send.is c.send_frame.ensures
     (λ o s inputs b.
-    let checked = c.in_default.ensures.refusal s.before s.frames s.past b.stood.begun (done_here x s inputs b.stood) in
-    refusal_here x s inputs b.stood Send ∙ asked (Ok c.in_default.field-0) _ says.Send (refusal_after x.terms.params s.before s.frames s.past) c.in-Send.is checked)
+    refusal_here x s inputs b.stood Send ∙ none_so c.check_capture.result Send _ c.in_ok-allow-in-Send.ensures.ok
+    (c.check_capture.ensures x.terms.params s.before s.frames s.past c.half-half.ensures (done_here x s inputs b.stood).way_holds.joined))
 
 -- ---- a packet
 
-pub returns-in-Packet : goal.returns-in-Packet
-returns-in-Packet g c =
+pub returns-in_err-allow-in-Packet : goal.returns-in_err-allow-in-Packet
+returns-in_err-allow-in-Packet g c =
+    let old = g.D.Desk.outside c.args.desk.now in
+    let m = c.args.self.now in
+    let p = m.terms.params in
+    line_stops m c.args.line c.args.event (says.Packet c.in-Packet.number c.in-Packet.place) _ c.in_err-allow-in-Packet.field-0.0 c.check_packet.result old c.in-Packet.is c.from_residual-in_err-allow-in-Packet.ensures.1 c.in_err-allow-in-Packet.ensures.err
+    c.requires.recorded c.of_turns.ensures
+    (λ o s inputs b. c.check_packet.ensures p s.before s.frames s.past c.in-Packet.place c.half-half.ensures (done_here (parts_of m) s inputs b.stood).way_holds.joined)
+
+pub returns-in_err-allow-in-All : goal.returns-in_err-allow-in-All
+returns-in_err-allow-in-All g c =
+    let old = g.D.Desk.outside c.args.desk.now in
+    let m = c.args.self.now in
+    let p = m.terms.params in
+    line_stops m c.args.line c.args.event (says.All c.in-All.number) _ c.in_err-allow-in-All.field-0.0 c.check_packet-in-All.result old c.in-All.is c.from_residual-in_err-allow-in-All.ensures.1 c.in_err-allow-in-All.ensures.err
+    c.requires.recorded c.of_turns.ensures
+    (λ o s inputs b. c.check_packet-in-All.ensures p s.before s.frames s.past 0 c.half-half.ensures (done_here (parts_of m) s inputs b.stood).way_holds.joined)
+
+pub returns-in_ok-allow-in-Packet : goal.returns-in_ok-allow-in-Packet
+returns-in_ok-allow-in-Packet g c =
     let m = c.args.self.now in
     let p = m.terms.params in
     let r = c.requires.ready in
@@ -69,11 +90,11 @@ returns-in-Packet g c =
     delivered_goes_on m _ c.args.line c.args.event (says.Packet n j) n j (g.D.Desk.outside c.args.desk.now) done.new.self done.new.receiver (λ s. Deliver n j ∷ s.past) c.in-Packet.is refl refl
     r c.requires.recorded done.ensures.way done.ensures.played (omega (arith, done.ensures.few, c.requires.room)) (c.of_near_events.ensures p r.opens.params) c.of_turns.ensures
     (λ s inputs k. packet_is (parts_of m) s inputs k n j)
-    (λ s frames begun h. asked (Ok c.in_default.field-0) _ (says.Packet n j) (refusal_after p s.before frames s.past) c.in-Packet.is (c.in_default.ensures.refusal s.before frames s.past begun h))
+    (λ s frames begun h. none_so c.check_packet.result (Deliver n j) _ c.in_ok-allow-in-Packet.ensures.ok (c.check_packet.ensures p s.before frames s.past j c.half-half.ensures h.way_holds.joined))
     (λ s inputs k later may. done.ensures.holds p m.sender.now s.before (s.frames ++ later) s.past (k.holds later) may.0 may.1)
 
-pub returns-in-All : goal.returns-in-All
-returns-in-All g c =
+pub returns-in_ok-allow-in-All : goal.returns-in_ok-allow-in-All
+returns-in_ok-allow-in-All g c =
     let m = c.args.self.now in
     let x = parts_of m in
     let p = x.terms.params in
@@ -83,15 +104,24 @@ returns-in-All g c =
     delivered_goes_on m _ c.args.line c.args.event (says.All n) n 0 (g.D.Desk.outside c.args.desk.now) done.new.self done.new.receiver (λ s. delivered n (length (slices_at (by_ends s).coded n)) ++ s.past) c.in-All.is refl refl
     r c.requires.recorded done.ensures.way done.ensures.played (omega (arith, done.ensures.few, c.requires.room, r.can.most, few_mbs x.sender.params.format)) (c.of_near_events.ensures p r.opens.params) c.of_turns.ensures
     (λ s inputs k. packets_is x s inputs k n)
-    (λ s frames begun h. asked (Ok c.in_default.field-0) _ (says.All n) (refusal_after p s.before frames s.past) c.in-All.is (c.in_default.ensures.refusal s.before frames s.past begun h))
+    (λ s frames begun h. none_so c.check_packet-in-All.result (Deliver n 0) _ c.in_ok-allow-in-All.ensures.ok (c.check_packet-in-All.ensures p s.before frames s.past 0 c.half-half.ensures h.way_holds.joined))
     (λ s inputs k later may.
     subst (λ (count : ℕ). HoldsNetwork p done.new.self x.sender done.new.receiver s.before (s.frames ++ later) (delivered n count ++ s.past)) (count_same x s inputs k (c.later_frames.ensures p) n later)
     (done.ensures.holds p x.sender s.before (s.frames ++ later) s.past (k.holds later) may.0 may.1))
 
 -- ---- a message
 
-pub returns-in-Back : goal.returns-in-Back
-returns-in-Back g c =
+pub returns-in_err-allow-in-Back : goal.returns-in_err-allow-in-Back
+returns-in_err-allow-in-Back g c =
+    let old = g.D.Desk.outside c.args.desk.now in
+    let m = c.args.self.now in
+    let p = m.terms.params in
+    line_stops m c.args.line c.args.event (says.Back c.in-Back.message) _ c.in_err-allow-in-Back.field-0.0 c.check_back.result old c.in-Back.is c.from_residual-in_err-allow-in-Back.ensures.1 c.in_err-allow-in-Back.ensures.err
+    c.requires.recorded c.of_turns.ensures
+    (λ o s inputs b. c.check_back.ensures p m.receiver.now s.before s.frames s.past c.requires.ready.opens.params c.half-half.ensures b.stood.begun (done_here (parts_of m) s inputs b.stood))
+
+pub returns-in_ok-allow-in-Back : goal.returns-in_ok-allow-in-Back
+returns-in_ok-allow-in-Back g c =
     let old = g.D.Desk.outside c.args.desk.now in
     let m = c.args.self.now in
     let x = parts_of m in
@@ -110,7 +140,7 @@ returns-in-Back g c =
     let stood = b.stood in
     let near_laws = c.of_near_events.ensures p r.opens.params in
     let none : (frames : List Frame) → HasDone x s.before frames s.past → refusal_after p s.before frames s.past (Back k) ≡ None =
-    λ frames h. asked (Ok c.in_default.field-0) _ (says.Back k) (refusal_after p s.before frames s.past) c.in-Back.is (c.in_default.ensures.refusal s.before frames s.past stood.begun h)
+    λ frames h. none_so c.check_back.result (Back k) _ c.in_ok-allow-in-Back.ensures.ok (c.check_back.ensures p m.receiver.now s.before frames s.past r.opens.params c.half-half.ensures stood.begun h)
     in
     event_goes x s inputs stood sender x.receiver x.carrier refl done.ensures.sent c.of_turns.ensures o old b.taken (says.Back k) (Back k ∷ s.past)
     (message_is x s inputs stood k (none s.frames (done_here x s inputs stood)))
@@ -122,6 +152,15 @@ returns-in-Back g c =
 
 -- ---- a play
 
+pub returns-in_err-allow-in-Play : goal.returns-in_err-allow-in-Play
+returns-in_err-allow-in-Play g c =
+    let old = g.D.Desk.outside c.args.desk.now in
+    let m = c.args.self.now in
+    let p = m.terms.params in
+    line_stops m c.args.line c.args.event says.Play _ c.in_err-allow-in-Play.field-0.0 c.check_play.result old c.in-Play.is c.from_residual-in_err-allow-in-Play.ensures.1 c.in_err-allow-in-Play.ensures.err
+    c.requires.recorded c.of_turns.ensures
+    (λ o s inputs b. c.check_play.ensures.refusal p s.before s.frames s.past (done_here (parts_of m) s inputs b.stood).way_holds.joined)
+
 pub returns-in_err-play_next-in-Play : goal.returns-in_err-play_next-in-Play
 returns-in_err-play_next-in-Play g c =
     let outside = g.D.Desk.outside in
@@ -131,7 +170,7 @@ returns-in_err-play_next-in-Play g c =
     let x = parts_of m in
     let p = x.terms.params in
     let r = c.requires.ready in
-    line_was_cut m _ c.args.line c.args.event says.Play c.from_residual.result c.in_err-play_next-in-Play.field-0.0 old new c.in-Play.is c.from_residual.ensures.1 refl
+    line_was_cut m _ c.args.line c.args.event says.Play c.from_residual-in_err-play_next-in-Play.result c.in_err-play_next-in-Play.field-0.0 old new c.in-Play.is c.from_residual-in_err-play_next-in-Play.ensures.1 refl
     c.in_err-play_next-in-Play.ensures.kind c.in_err-play_next-in-Play.ensures.cause
     (writes_keep old new c.play_next.ensures.rest)
     (λ o s inputs b.
@@ -139,7 +178,7 @@ returns-in_err-play_next-in-Play g c =
     let h = done_here x s inputs k in
     let near_laws = c.of_near_events.ensures p r.opens.params in
     let none : refusal_after p s.before s.frames s.past Play ≡ None =
-    asked (Ok c.in_default.field-0) _ says.Play (refusal_after p s.before s.frames s.past) c.in-Play.is (c.in_default.ensures.refusal s.before s.frames s.past k.begun h)
+    none_so c.check_play.result Play _ c.in_ok-allow-in-Play.ensures.ok (c.check_play.ensures.refusal p s.before s.frames s.past h.way_holds.joined)
     in
     play_cut x s inputs k (c.of_the_way.ensures p) o old new b.taken c.play_next.ensures.rest.left none
     (c.in_err-play_next-in-Play.ensures.err p x.sender s.before s.frames s.past k.begun h (near_laws.play s.before s.frames s.past none)))
@@ -154,7 +193,7 @@ returns-in_ok-play_next-in-Play g c =
     let p = x.terms.params in
     let r = c.requires.ready in
     let played = c.play_next.ensures in
-    let ahead : x.receiver.played < x.sender.sent = subst (λ (e : Line). IsAhead (Ok c.in_default.field-0) e x.receiver.played x.sender.sent) c.in-Play.is c.in_default.ensures.ahead in
+    let ahead : x.receiver.played < x.sender.sent = ahead_so c.check_play.result x.receiver.played x.sender.sent c.in_ok-allow-in-Play.ensures.ok c.check_play.ensures.ahead in
     let carrier : Carrier = record x.carrier { network = c.play_next.new.network } in
     line_goes_on m _ c.args.line c.args.event says.Play old new c.in-Play.is refl refl
     (ready_so x old.attached new.attached r played.rest.attached x.video x.sender c.play_next.new.receiver carrier refl refl
@@ -167,7 +206,7 @@ returns-in_ok-play_next-in-Play g c =
     let k = b.stood in
     let near_laws = c.of_near_events.ensures p r.opens.params in
     let none : (frames : List Frame) → HasDone x s.before frames s.past → refusal_after p s.before frames s.past Play ≡ None =
-    λ frames h. asked (Ok c.in_default.field-0) _ says.Play (refusal_after p s.before frames s.past) c.in-Play.is (c.in_default.ensures.refusal s.before frames s.past k.begun h)
+    λ frames h. none_so c.check_play.result Play _ c.in_ok-allow-in-Play.ensures.ok (c.check_play.ensures.refusal p s.before frames s.past h.way_holds.joined)
     in
     let here = done_here x s inputs k in
     play_goes x s inputs k (c.of_the_way.ensures p) o old new b.taken played.rest.left (none s.frames here) (PartsStand (record x { receiver = c.play_next.new.receiver; carrier = carrier }))
@@ -178,5 +217,5 @@ returns-in_ok-play_next-in-Play g c =
 pub play_next-requires-clause-played : goal.play_next-requires-clause-played
 play_next-requires-clause-played g c =
     let x = parts_of c.args.self.now in
-    let ahead : x.receiver.played < x.sender.sent = subst (λ (e : Line). IsAhead (Ok c.in_default.field-0) e x.receiver.played x.sender.sent) c.in-Play.is c.in_default.ensures.ahead in
+    let ahead : x.receiver.played < x.sender.sent = ahead_so c.check_play.result x.receiver.played x.sender.sent c.in_ok-allow-in-Play.ensures.ok c.check_play.ensures.ahead in
     omega (arith, ahead, c.requires.ready.sent)

@@ -17,9 +17,10 @@ use Rattle.desk_program.specs.Run.{Step, behind}
 use Rattle.desk_program.specs.Ends.{Ended, GainsFronts, GivesUp, Went, step_texts}
 use Rattle.desk_program.specs.Texts.{of}
 use Rattle.call_rings.specs.Keeping.{period_of}
+use Rattle.call_rings.specs.Messages.{said_of}
 use Rattle.one_way.specs.declared.way.Way.{Way}
 use Rattle.one_way.specs.Both.{bare}
-use Rattle.one_way.specs.Counts.{counts_of}
+use Rattle.call_command.specs.Counts.{counts_of}
 use Rattle.one_way.specs.Trace.{delivered, passed_on}
 use Rattle.one_way.specs.Way.{CanSend, HoldsNetwork}
 use Rattle.call_encoding.specs.Frames.{Frame}
@@ -121,11 +122,11 @@ returns-in_err-play_next g c =
     let all = s.frames ++ bare (picture_of p.format out) ∷ [] in
     let h = k.holds (bare (picture_of p.format out) ∷ []) in
     let number = c.send-sent.ensures.number in
-    let sent = c.send-sent.ensures.holds p x.receiver s.before all s.past h.way_holds
+    let sent = c.send-sent.ensures.holds p x.receiver s.before all s.past h
     (at x laws events later_law s inputs k level out [] ∙ ap (λ (o : Picture). Some (bare o)) (sym picture_is)) (may_send x laws events later_law s inputs k level out [])
     in
-    let delivered = c.deliver_all.ensures.holds p c.send-sent.new.sender s.before all (Send ∷ s.past) (record { way_holds = sent; messages_are = h.messages_are })
-    (among_last x laws events later_law s inputs k level out [] c.send-sent.new.self.packets n number (plain_keeps x.terms _ (c.send-sent.ensures.kept ∙ r.period) c.requires.plain))
+    let delivered = c.deliver_all.ensures.holds p c.send-sent.new.sender s.before all (Send ∷ s.past) sent
+    (among_last x laws events later_law s inputs k level out [] c.send-sent.new.self.way.packets n number (plain_keeps x.terms _ (c.send-sent.ensures.kept ∙ r.period) c.requires.plain))
     (may_deliver x laws events later_law s inputs k level out [] n number)
     in
     let texts = texts_are x laws events later_law s inputs k level out n c.deliver_all.new.receiver.played number c.deliver_all.ensures.played in
@@ -160,12 +161,12 @@ returns g c =
     turn_goes_on m _ old new (ap (λ (q : FixedPace). let names : Names = record (names_of m) { pace = q } in names) c.send-sent.ensures.same.pace)
     (subst (λ (b : Bool). (if b then c.frame.new.self.more else 16777216 - x.carrier.trace.lines) + 1 ≡ (if b then x.video.more else 16777216 - x.carrier.trace.lines)) (sym c.requires.plain) moves.1)
     (ready_so x old.attached new.attached r (c.play_next.ensures.rest.attached ∙ c.frame.ensures.rest.attached) c.frame.new.self sender receiver carrier moves.0 c.send-sent.ensures.same.params
-    (subst (λ (w : Way). CanSend w sender) (sym way) (can_still c.send-sent.new.self network.way.tally sender c.send-sent.ensures.ready))
+    (subst (λ (w : Way). CanSend w sender) (sym way) (can_still c.send-sent.new.self.way network.way.tally sender c.send-sent.ensures.ready))
     (ap (λ (w : Way). period_of w.packets) way ∙ c.send-sent.ensures.kept)
     (omega (arith, r.sent, c.send-sent.ensures.sent, moves.1)) (omega (arith, r.played, c.send-sent.ensures.sent, c.play_next.ensures.played, c.deliver_all.ensures.played))
     (λ plain. omega (arith, level, c.send-sent.ensures.sent, c.play_next.ensures.played, c.deliver_all.ensures.played))
     long (λ plain. r.unread plain) c.play_next.ensures.counted
-    (omega (arith, r.said, c.play_next.ensures.few, c.deliver_all.ensures.few, c.send-sent.ensures.ready.most, few_mbs sender.params.format, c.send-sent.ensures.sent)))
+    (omega (arith, r.said, c.play_next.ensures.few, c.deliver_all.ensures.few, ap said_of c.send-sent.ensures.messages, c.send-sent.ensures.ready.most, few_mbs sender.params.format, c.send-sent.ensures.sent)))
     (reads_then_writes old mid new c.frame.ensures.rest c.play_next.ensures.rest)
     (λ s inputs k told.
     let here = state_of x s.before s.frames s.past in
@@ -181,11 +182,11 @@ returns g c =
     λ later.
     let all = s.frames ++ f ∷ later in
     let h = k.holds (f ∷ later) in
-    let sent = c.send-sent.ensures.holds p x.receiver s.before all s.past h.way_holds
+    let sent = c.send-sent.ensures.holds p x.receiver s.before all s.past h
     (at x laws events later_law s inputs k level out later ∙ ap (λ (o : Picture). Some (bare o)) (sym picture_is)) (may_send x laws events later_law s inputs k level out later)
     in
-    c.deliver_all.ensures.holds p sender s.before all (Send ∷ s.past) (record { way_holds = sent; messages_are = h.messages_are })
-    (among_last x laws events later_law s inputs k level out later c.send-sent.new.self.packets n number (plain_keeps x.terms _ (c.send-sent.ensures.kept ∙ r.period) c.requires.plain))
+    c.deliver_all.ensures.holds p sender s.before all (Send ∷ s.past) sent
+    (among_last x laws events later_law s inputs k level out later c.send-sent.new.self.way.packets n number (plain_keeps x.terms _ (c.send-sent.ensures.kept ∙ r.period) c.requires.plain))
     (may_deliver x laws events later_law s inputs k level out later n number)
     in
     let played : (later : List Frame) → HoldsNetwork p network sender receiver s.before (s.frames ++ f ∷ later) (passed_on n (count_of x laws events later_law s inputs k level out later n) s.past) =

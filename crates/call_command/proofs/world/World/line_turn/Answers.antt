@@ -9,7 +9,7 @@ use Rattle.call_report.specs.declared.status.Status.TheVariants.{Ok as Fine}
 use Rattle.call_report.specs.Status.{phase, trace_stop}
 use Rattle.desk_program.specs.Run.{Step}
 use Rattle.desk_program.specs.Ends.{Ended, GainsFronts, GivesUp, step_texts}
-use Rattle.one_way.specs.Counts.{counts_of}
+use Rattle.call_command.specs.Counts.{counts_of}
 use Rattle.call_command.specs.Call.{CallState}
 use Rattle.call_command.specs.Standing.{parts_of, state_of}
 use Rattle.call_command.proofs.Counting.{counts_are, line_by_line, reads_keep, reads_then_writes, trace_answers, trace_cause, trace_halts, turn_gave_up, turn_is_over, turn_was_cut}

@@ -13,6 +13,7 @@ use Rattle.y4m.specs.Frame.{frame_size}
 use Rattle.loss_trace.specs.declared.fault.TraceFault.TheVariants.{NoFrame}
 use Rattle.call_report.specs.declared.status.Status.TheVariants.{TraceRefused}
 use Rattle.call_report.specs.Status.{video_stop}
+use Rattle.call_rings.specs.Messages.{said_of}
 use Rattle.call_model.specs.IdealCall.{Send}
 use Rattle.call_encoding.specs.Frames.{Frame}
 use Rattle.one_way.specs.Both.{bare}
@@ -79,7 +80,7 @@ returns g c =
     let send = c.send in
     let sender = send.new.sender in
     let moves = subst (λ (b : Bool). Moves (Ok b) x.video c.frame.new.self) c.if-not-branch.false c.in_ok-frame.ensures.moves in
-    let carrier : Carrier = record x.carrier { frame = with_items x.carrier.frame out; network = record x.carrier.network { way = send.new.self } } in
+    let carrier : Carrier = record x.carrier { frame = with_items x.carrier.frame out; network = send.new.self } in
     let long : length carrier.frame.items ≡ size_of_picture p.format =
     ap (λ (l : List ℕ). length l) (with_items_is x.carrier.frame out (omega (arith, c.frame.auto.out, c.deref_mut.ensures.len, x.carrier.frame.ok.0)))
     ∙ omega (arith, c.frame.auto.out, c.deref_mut.ensures.len, x.carrier.frame.ok.0, r.frame)
@@ -89,7 +90,7 @@ returns g c =
     (subst (λ (b : Bool). (if b then c.frame.new.self.more else 16777216 - x.carrier.trace.lines) + 1 ≡ (if b then x.video.more else 16777216 - x.carrier.trace.lines) + 1) (sym c.requires.recorded) refl)
     (ready_so x old.attached mid.attached r c.frame.ensures.rest.attached c.frame.new.self sender x.receiver carrier moves.0 send.ensures.same.params send.ensures.ready send.ensures.kept
     (omega (arith, r.sent, send.ensures.sent, moves.1)) (omega (arith, r.played, send.ensures.sent)) (λ plain. absurd (cc (plain, c.requires.recorded))) long
-    (λ plain. absurd (cc (plain, c.requires.recorded))) (ap total_of send.ensures.tally ∙ r.counted) (omega (arith, r.said, send.ensures.sent)))
+    (λ plain. absurd (cc (plain, c.requires.recorded))) (ap total_of send.ensures.tally ∙ r.counted) (omega (arith, r.said, ap said_of send.ensures.messages, send.ensures.sent)))
     (reads_keep old mid c.frame.ensures.rest)
     (λ o s inputs b.
     let k = b.read.stood in
@@ -104,12 +105,9 @@ returns g c =
     let h = k.holds (f ∷ later) in
     let coded = (c.of_the_way.ensures p).sent x.sender x.receiver s.before all s.past h.way_holds.joined in
     let none = refusal_later x s inputs k (c.later_frames.ensures p) Send (f ∷ later) ∙ sym (refusal_here x s inputs k Send) ∙ b.none in
-    record {
-      way_holds = send.ensures.holds p x.receiver s.before all s.past h.way_holds
-          (ap (λ (i : ℕ). slice_get all i) k.sent ∙ at_end s.frames later f ∙ ap (λ (o : Picture). Some (bare o)) (sym picture_is))
-          ((c.of_near_events.ensures p r.opens.params).capture s.before all s.past none (omega (arith, coded, k.sent, below_end s.frames later f)));
-      messages_are = h.messages_are;
-    }
+    send.ensures.holds p x.receiver s.before all s.past h
+    (ap (λ (i : ℕ). slice_get all i) k.sent ∙ at_end s.frames later f ∙ ap (λ (o : Picture). Some (bare o)) (sym picture_is))
+    ((c.of_near_events.ensures p r.opens.params).capture s.before all s.past none (omega (arith, coded, k.sent, below_end s.frames later f)))
     in
     frame_sent c.of_turns.ensures c.of_the_video.ensures s inputs o old mid taken c.frame.ensures.others c.frame.ensures.rest.written c.frame.new.self out e (PartsStand sent_parts)
     (stands_sent x s inputs k out c.frame.new.self sender carrier refl (frame_size s.params.format (inputs Video)) e.2 (moves.1 ∙ sym (video_more x s inputs k)) send.ensures.sent sends))

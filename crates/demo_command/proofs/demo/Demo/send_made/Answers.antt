@@ -56,4 +56,4 @@ returns-clause-done c = λ past h near.
     let there : slice_get (made_video t) s.sent ≡ Some (bare (picture c.new-frame.result)) =
     frame_is t s.sent some ∙ ap (λ (n : ℕ). Some (made_frame t n)) (sym c.sent.ensures.value) ∙ ap (λ (x : Picture). Some (bare x)) (sym shows)
     in
-    record { way_holds = c.send.ensures.holds p m.both.receiver [] (made_video t) past h.way_holds there may; messages_are = h.messages_are }
+    c.send.ensures.holds p m.both.receiver [] (made_video t) past h there may

@@ -1,7 +1,7 @@
 use Rattle.std.proofs.Common.{◌≡◌, ◌+◌, List, length, ap, subst, sym, ◌∙◌, arith}
 use Rattle.loss_trace.specs.declared.event.Event.{Event as Line}
 use Rattle.make_input.specs.Left.{lines_left}
-use Rattle.one_way.specs.Counts.{counts_of}
+use Rattle.call_command.specs.Counts.{counts_of}
 use Rattle.demo_command.specs.declared.terms.DemoTerms.{DemoTerms}
 use Rattle.demo_command.specs.Demo.{demo_step, made_video}
 use Rattle.demo_command.specs.Machine.{AreInPlace, DemoOpens}

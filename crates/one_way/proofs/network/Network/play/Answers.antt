@@ -8,8 +8,8 @@ pub returns-clause-holds : goal.returns-clause-holds
 returns-clause-holds c = λ p sender before frames past h near.
     let played = c.play-played.ensures in
     let said = (both_after p (steady p) frames before past).said in
-    let number : said ++ told_by c.played-number.result c.play-played.result.message ≡ said ++ told_by c.args.receiver.now.played c.play-played.result.message =
-    ap (λ (n : ℕ). said ++ told_by n c.play-played.result.message) c.played-number.ensures.count
+    let number : said ++ told_by c.play-played.result.number c.play-played.result.message ≡ said ++ told_by c.args.receiver.now.played c.play-played.result.message =
+    ap (λ (n : ℕ). said ++ told_by n c.play-played.result.message) c.play-played.ensures.number
     in
     record {
       way_holds = played.holds p sender before frames past h.way_holds near;
