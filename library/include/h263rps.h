@@ -14,9 +14,11 @@
  *    pointer of yours. What a call lends (h263rps_receiver_play_lent, h263rps_receiver_shown) is
  *    the end's own: only read it, and only until the next call with that end.
  *  - What a call writes must not overlap with anything else that is handed to it.
- *  - An end is used by one thread, from its start to its finish, and by one call at a time. Ends
- *    share nothing: two may be used at once. No call from a signal handler, or in the child of a
- *    fork() of a process with threads.
+ *  - An end takes one call at a time. Another thread may go on with it, if a lock, or whatever
+ *    hands the end over, keeps their calls apart. Ends share nothing: two may be used at once. No
+ *    call from a signal handler, or in the child of a fork() of a process with threads.
+ *  - malloc, realloc and free are of one allocator, whose blocks are aligned to 16 bytes, as those
+ *    of every C library on x86-64 are.
  *
  * C11 or C++11. The functions of this header are static inline: each tests its pointers and lengths
  * and then calls the library's own, h263rps_raw_NAME, which test nothing of the kind.
@@ -76,7 +78,8 @@ enum h263rps_param {
     H263RPS_PARAM_MESSAGES = 7,
     H263RPS_PARAM_FORMAT = 8,
     H263RPS_PARAM_CLOCK = 9,
-    H263RPS_PARAM_TARGET = 10
+    H263RPS_PARAM_TARGET = 10,
+    H263RPS_PARAM_NUMBER = 11 /* h263rps_receiver_start_at() alone: above 1,048,576 */
 };
 
 /* `kind` of the answer to a packet. Only the first two change the receiver. */
@@ -238,12 +241,15 @@ uint32_t h263rps_raw_picture_size(uint32_t format);
 
 uint32_t h263rps_raw_receiver_start(h263rps_end *end, const h263rps_params *params,
                                     uint32_t *fault);
+uint32_t h263rps_raw_receiver_start_at(h263rps_end *end, const h263rps_params *params,
+                                       uint32_t number, uint32_t *fault);
 uint32_t h263rps_raw_receiver_packet(h263rps_end *end, const uint8_t *bytes, size_t length,
                                      h263rps_answer *answer);
 uint32_t h263rps_raw_receiver_play(h263rps_end *end, uint8_t *picture, size_t length,
                                    h263rps_answer *answer);
 uint32_t h263rps_raw_receiver_next(h263rps_end *end, h263rps_answer *answer);
 uint32_t h263rps_raw_receiver_shown(h263rps_end *end, h263rps_lent *lent);
+uint32_t h263rps_raw_receiver_played(h263rps_end *end, uint32_t *count);
 uint32_t h263rps_raw_receiver_finish(h263rps_end *end);
 
 uint32_t h263rps_raw_sender_start(h263rps_end *end, const h263rps_params *params, uint32_t *fault);
@@ -254,6 +260,9 @@ uint32_t h263rps_raw_sender_packet(h263rps_end *end, uint32_t number, uint8_t *r
                                    size_t *count);
 uint32_t h263rps_raw_sender_feedback(h263rps_end *end, const uint8_t *message, size_t length,
                                      h263rps_reply *reply);
+uint32_t h263rps_raw_sender_target(h263rps_end *end, uint32_t bytes);
+uint32_t h263rps_raw_sender_forget(h263rps_end *end);
+uint32_t h263rps_raw_sender_sent(h263rps_end *end, uint32_t *count);
 uint32_t h263rps_raw_sender_finish(h263rps_end *end);
 
 /* ---- before the start ---------------------------------------------------------------------- */
@@ -310,6 +319,18 @@ static inline uint32_t h263rps_receiver_start(h263rps_end *end, const h263rps_pa
     return h263rps_raw_receiver_start(end, params, fault ? fault : &unwanted);
 }
 
+/* Makes `end`, which is all zeros, a receiver that joins a call: its next picture is the one of
+ * this number, up to 1,048,576, as if it had played those before and heard nothing. All samples
+ * that it shows are 128 until an intra picture comes, for which the other side calls
+ * h263rps_sender_forget(). As h263rps_receiver_start(), which is this at number 0.
+ * STARTED, BAD_PARAMS, NO_MEMORY. */
+static inline uint32_t h263rps_receiver_start_at(h263rps_end *end, const h263rps_params *params,
+                                                 uint32_t number, uint32_t *fault) {
+    uint32_t unwanted = 0;
+    if (!end || !params) return H263RPS_NULL;
+    return h263rps_raw_receiver_start_at(end, params, number, fault ? fault : &unwanted);
+}
+
 /* Gives a whole RTP packet to a receiver, whatever it is: any bytes are an answer and no refusal.
  * Where answer->message.length isn't 0 send the message back at once.
  * NOT_STARTED, OTHER_END. */
@@ -363,6 +384,14 @@ static inline uint32_t h263rps_receiver_play_lent(h263rps_end *end, const uint8_
     if (!end || !samples || !answer) return H263RPS_NULL;
     status = h263rps_raw_receiver_next(end, answer);
     return status ? status : h263rps_receiver_shown(end, samples);
+}
+
+/* Writes how many pictures a receiver has played to `count`: the number of the next one, with those
+ * that h263rps_receiver_start_at() left out.
+ * NOT_STARTED, OTHER_END. */
+static inline uint32_t h263rps_receiver_played(h263rps_end *end, uint32_t *count) {
+    if (!end || !count) return H263RPS_NULL;
+    return h263rps_raw_receiver_played(end, count);
 }
 
 /* Gives a receiver's memory back, and leaves `end` all zeros, ready for a start.
@@ -423,6 +452,32 @@ static inline uint32_t h263rps_sender_feedback(h263rps_end *end, const void *mes
     if (status) return status;
     return h263rps_raw_sender_feedback(end, length ? (const uint8_t *)message : &nothing, length,
                                        reply);
+}
+
+/* A sender follows another target from its next picture on: this many bytes a picture, up to
+ * 999,999, or none where it is 0, so that each picture has the parameters' quantiser. Call it
+ * whenever the line changes. The sizes of the pictures before count towards the new target.
+ * NOT_STARTED, OTHER_END, BAD_PARAMS. */
+static inline uint32_t h263rps_sender_target(h263rps_end *end, uint32_t bytes) {
+    if (!end) return H263RPS_NULL;
+    return h263rps_raw_sender_target(end, bytes);
+}
+
+/* A sender forgets the pictures that it coded: none of them is a reference any more, however late
+ * it is acknowledged. So the next picture is intra, as a picture loss indication, a full intra
+ * request or a new viewer asks for, and those after it as well until one of them is acknowledged.
+ * The packets of the last picture stay.
+ * NOT_STARTED, OTHER_END. */
+static inline uint32_t h263rps_sender_forget(h263rps_end *end) {
+    if (!end) return H263RPS_NULL;
+    return h263rps_raw_sender_forget(end);
+}
+
+/* Writes how many pictures a sender has coded to `count`: the number of the next one.
+ * NOT_STARTED, OTHER_END. */
+static inline uint32_t h263rps_sender_sent(h263rps_end *end, uint32_t *count) {
+    if (!end || !count) return H263RPS_NULL;
+    return h263rps_raw_sender_sent(end, count);
 }
 
 /* Gives a sender's memory back. As h263rps_receiver_finish(). */

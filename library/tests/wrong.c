@@ -94,13 +94,16 @@ static void parameters(int receives) {
 /* Each call of a receiver answers `status`. */
 static void receiver_calls(h263rps_end *end, uint32_t status) {
     const uint8_t *lent = room;
+    uint32_t pictures = 77;
     memset(&answer, 0xAA, sizeof answer);
     memset(shown, 0xAA, SIZE);
     want("packet", h263rps_receiver_packet(end, "abc", 3, &answer), status);
     want("play", h263rps_receiver_play(end, shown, SIZE, &answer), status);
     want("play lent", h263rps_receiver_play_lent(end, &lent, &answer), status);
     want("shown", h263rps_receiver_shown(end, &lent), status);
+    want("played", h263rps_receiver_played(end, &pictures), status);
     want("finish", h263rps_receiver_finish(end), status);
+    want("the number is left", pictures, 77);
     want("answer is left", answer.kind, 0xAAAAAAAA);
     want("picture is left", shown[0], 0xAA);
     want("nothing is lent", lent == room, 1);
@@ -109,11 +112,16 @@ static void receiver_calls(h263rps_end *end, uint32_t status) {
 static void sender_calls(h263rps_end *end, uint32_t status) {
     memset(&coded, 0xAA, sizeof coded);
     memset(&reply, 0xAA, sizeof reply);
+    uint32_t pictures = 77;
     count = 77;
     want("code", h263rps_sender_code(end, picture, SIZE, NULL, 0, &coded), status);
     want("packet", h263rps_sender_packet(end, 0, room, sizeof room, &count), status);
     want("feedback", h263rps_sender_feedback(end, "abc", 3, &reply), status);
+    want("target", h263rps_sender_target(end, 1000000), status);
+    want("forget", h263rps_sender_forget(end), status);
+    want("sent", h263rps_sender_sent(end, &pictures), status);
     want("finish", h263rps_sender_finish(end), status);
+    want("the number is left", pictures, 77);
     want("picture is left", coded.number, 0xAAAAAAAA);
     want("reply is left", reply.kind, 0xAAAAAAAA);
     want("count is left", (uint32_t)count, 77);
@@ -171,6 +179,24 @@ static void receiver(void) {
     receiver_calls(&end, H263RPS_NOT_STARTED);
 }
 
+/* A receiver that begins at a number: the greatest, and one above it. */
+static void joining(void) {
+    h263rps_end end = {0};
+    uint32_t fault = 77, pictures = 77;
+    want("start", h263rps_receiver_start_at(&end, &params, 1048577, &fault), H263RPS_BAD_PARAMS);
+    want("the number is told", fault, H263RPS_PARAM_NUMBER);
+    want("empty", end.kind, 0);
+    want("null", h263rps_receiver_start_at(NULL, &params, 0, &fault), H263RPS_NULL);
+    want("null", h263rps_receiver_start_at(&end, NULL, 0, &fault), H263RPS_NULL);
+    want("start", h263rps_receiver_start_at(&end, &params, 1048576, NULL), H263RPS_OK);
+    want("started", h263rps_receiver_start_at(&end, &params, 0, NULL), H263RPS_STARTED);
+    want("null", h263rps_receiver_played(&end, NULL), H263RPS_NULL);
+    want("played", h263rps_receiver_played(&end, &pictures), H263RPS_OK);
+    want("all", pictures, 1048576);
+    want("the end", h263rps_receiver_play(&end, shown, SIZE, &answer), H263RPS_ENDED);
+    want("finish", h263rps_receiver_finish(&end), H263RPS_OK);
+}
+
 static void sender(void) {
     h263rps_end end = {0};
     h263rps_message back[5] = {{{0xC0, 0x04, 0x00, 0, 0}, 3}};
@@ -205,6 +231,11 @@ static void sender(void) {
     want("packet", h263rps_sender_packet(&end, 0, room, sizeof room, &count), H263RPS_OK);
     want("code", h263rps_sender_code(&end, picture, SIZE, NULL, 0, &coded), H263RPS_OK);
     want("the second", coded.number == 1 && coded.intra == 0 && coded.reference == 0, 1);
+    want("too great a target", h263rps_sender_target(&end, 1000000), H263RPS_BAD_PARAMS);
+    want("the greatest", h263rps_sender_target(&end, 999999), H263RPS_OK);
+    want("null", h263rps_sender_target(NULL, 0), H263RPS_NULL);
+    want("null", h263rps_sender_forget(NULL), H263RPS_NULL);
+    want("null", h263rps_sender_sent(&end, NULL), H263RPS_NULL);
     want("finish", h263rps_sender_finish(&end), H263RPS_OK);
     sender_calls(&end, H263RPS_NOT_STARTED);
 }
@@ -215,6 +246,7 @@ int main(void) {
     parameters(0);
     parameters(1);
     receiver();
+    joining();
     sender();
     if (!wrong) printf("each wrong call is refused by its number\n");
     return wrong;

@@ -1,7 +1,9 @@
 #!/usr/bin/env python3
 """Wrong calls of the module for Python: each is an error that names what is wrong."""
 
+import ctypes
 import sys
+import threading
 from pathlib import Path
 from typing import Callable
 
@@ -12,7 +14,7 @@ from h263rps import Params, Receiver, Refused, Sender  # noqa: E402
 def wanted(error: str, call: Callable[[], object]) -> None:
     try:
         told = repr(call())
-    except (Refused, TypeError, ValueError) as fault:
+    except (BufferError, Refused, TypeError, ValueError) as fault:
         told = f"{type(fault).__name__}: {fault}"
     if told != error:
         sys.exit(f"{told}, and not {error}")
@@ -24,10 +26,16 @@ wanted("ValueError: lead: -1 is out of its range", lambda: Params.of("qcif", lea
 wanted("ValueError: there is no format vga", lambda: Params.of("vga"))
 wanted("TypeError: there is no parameter slot", lambda: Params.of("qcif", slot=9))
 wanted("TypeError: there is no parameter slot", lambda: setattr(Params.of("qcif"), "slot", 9))
+wanted("Refused: start: bad params: number", lambda: Receiver(Params.of("qcif"), 1048577))
+wanted("ValueError: number: -1 is out of its range", lambda: Receiver(Params.of("qcif"), -1))
 with Sender(Params.of("qcif")) as sender, Receiver(Params.of("qcif")) as receiver:
     wanted("Refused: code: wrong length", lambda: sender.code(bytes(3)))
     wanted("Refused: code: bad messages", lambda: sender.code(bytes(38016), [bytes(6)]))
     wanted("Refused: packet: no packet", lambda: sender.packet(0))
+    wanted("Refused: target: bad params", lambda: sender.target(1000000))
+    wanted("ValueError: target: 4294967296 is out of its range", lambda: sender.target(1 << 32))
+    wanted("None", lambda: (sender.target(999999), sender.forget())[1])
+    wanted("(0, 0)", lambda: (sender.sent(), receiver.played()))
     wanted("Reply(kind='no message', fault=1)", lambda: sender.feedback(b""))
     wanted("'refused'", lambda: receiver.packet(b"").kind)
     lent = receiver.play_lent()
@@ -40,5 +48,85 @@ with Sender(Params.of("qcif")) as sender, Receiver(Params.of("qcif")) as receive
 wanted("ValueError: operation forbidden on released memoryview object", lambda: lent[0])
 wanted("Refused: shown: not started", receiver.shown)
 wanted("Refused: play: not started", receiver.play_lent)
+with Receiver(Params.of("qcif"), 1048576) as receiver:
+    wanted("1048576", receiver.played)
+    wanted("Refused: play: ended", receiver.play)
 sender.close()
+wanted("Refused: forget: not started", sender.forget)
+wanted("Refused: sent: not started", sender.sent)
 wanted("Refused: packet: not started", lambda: sender.packet(0))
+
+# A picture that was coded before the last one has no packets any more.
+with Sender(Params.of("qcif")) as sender:
+    first, second = sender.code(bytes(38016)), sender.code(bytes(38016))
+    told = "Refused: packets: no packet: picture 0 isn't the last one"
+    wanted(told, lambda: sender.packets(first))
+    wanted("True", lambda: len(sender.packets(second)) == second.packets)
+
+# While a part of a loan is held, no call is made; once it is let go, the same call is.
+HELD = "BufferError: the picture that was lent is still held, by a slice or an array"
+HOLDERS: dict[str, Callable[[memoryview], object]] = {
+    "a plane": lambda view: view[:25344],
+    "every other sample": lambda view: view[::2],
+    "rows": lambda view: view.cast("B", [216, 176]),
+    "a view of the view": memoryview,
+    "a list of slices": lambda view: [view[n * 176 : (n + 1) * 176] for n in range(144)],
+    "a generator that has begun": lambda view: begun(view),
+    "an object over it": lambda view: ctypes.py_object(view[1:]),
+}
+
+
+def begun(view: memoryview) -> object:
+    def rows():
+        for n in range(144):
+            part = view[n * 176 : (n + 1) * 176]
+            yield part[0]
+
+    found = rows()
+    next(found)
+    return found
+
+
+for name, holder in HOLDERS.items():
+    receiver = Receiver(Params.of("qcif"))
+    held = [holder(receiver.play_lent().picture)]
+    for call in (receiver.play, receiver.shown, lambda: receiver.packet(b""), receiver.close):
+        wanted(HELD, call)
+    held.clear()
+    wanted("'held'", lambda: receiver.play().mark)
+    receiver.close()
+try:
+    import numpy
+except ImportError:
+    print("without numpy: arrays over a loan weren't tried")
+else:
+    receiver = Receiver(Params.of("qcif"))
+    array = numpy.frombuffer(receiver.play_lent().picture, numpy.uint8)
+    wanted(HELD, receiver.play)
+    array = array[:25344].reshape(144, 176)
+    wanted(HELD, receiver.close)
+    del array
+    receiver.close()
+# An end that is let go while its picture is held keeps that memory: nothing reads what is gone.
+receiver = Receiver(Params.of("qcif"))
+plane = receiver.play_lent().picture[:25344]
+del receiver
+wanted("128", lambda: plane[-1])
+
+# Threads that share ends: each picture is coded once, and no call meets another.
+with Sender(Params.of("sub-qcif")) as sender, Receiver(Params.of("sub-qcif")) as receiver:
+    numbers: list[int] = []
+    kinds: list[str] = []
+
+    def work() -> None:
+        for n in range(50):
+            numbers.append(sender.code(bytes([n]) * 18432).number)
+            kinds.append(receiver.play().mark)
+
+    workers = [threading.Thread(target=work) for _ in range(4)]
+    for worker in workers:
+        worker.start()
+    for worker in workers:
+        worker.join()
+    wanted("True", lambda: sorted(numbers) == list(range(200)))
+    wanted("True", lambda: kinds == 200 * ["held"])

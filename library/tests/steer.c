@@ -1,0 +1,168 @@
+/* A sender that is steered, and a receiver that joins: what the line, a request for an intra
+ * picture and a new viewer ask of a call. */
+#include "h263rps.h"
+
+#include <stdio.h>
+#include <string.h>
+
+static int wrong;
+
+static void want(const char *what, uint32_t got, uint32_t wanted) {
+    if (got == wanted) return;
+    printf("%s: %u, not %u\n", what, (unsigned)got, (unsigned)wanted);
+    wrong = 1;
+}
+
+enum { SIZE = 18432, ROOM = 1400, MOST = 64 };
+
+static uint8_t shown[SIZE];
+static h263rps_params params;
+
+/* A picture of its own for each number, with much detail. */
+static const uint8_t *picture(uint32_t number) {
+    static uint8_t samples[SIZE];
+    uint32_t state = 1 + number * 7919;
+    for (int i = 0; i < SIZE; i++) {
+        state = state * 1664525 + 1013904223;
+        samples[i] = (uint8_t)(64 + (i + 3 * number) % 64 + (state >> 27));
+    }
+    return samples;
+}
+
+/* A picture that was coded, with its packets. */
+struct made {
+    h263rps_coded coded;
+    size_t lengths[MOST], bytes;
+    uint8_t packets[MOST][ROOM];
+};
+
+static void code(h263rps_end *sender, uint32_t number, struct made *made) {
+    memset(made, 0, sizeof *made);
+    want("code", h263rps_sender_code(sender, picture(number), SIZE, NULL, 0, &made->coded), 0);
+    want("its number", made->coded.number, number);
+    for (uint32_t i = 0; i < made->coded.packets && i < MOST; i++) {
+        want("packet", h263rps_sender_packet(sender, i, made->packets[i], ROOM,
+                                             &made->lengths[i]), 0);
+        made->bytes += made->lengths[i];
+    }
+}
+
+/* An acknowledgement of one of the first 256 pictures: TR and RTR are its number. */
+static void acknowledge(h263rps_end *sender, uint32_t number) {
+    uint32_t bits = 3u << 22 | number << 11 | 1u << 10 | number;
+    uint8_t message[3] = {(uint8_t)(bits >> 16), (uint8_t)(bits >> 8), (uint8_t)bits};
+    h263rps_reply reply;
+    want("feedback", h263rps_sender_feedback(sender, message, 3, &reply), 0);
+    want("noted", reply.kind, H263RPS_NOTED);
+}
+
+/* After a forget each picture is intra until a later one is acknowledged, also where the
+ * acknowledgement of an earlier one is late. */
+static void forgetting(void) {
+    static struct made made;
+    h263rps_end sender = {0};
+    uint32_t pictures = 0;
+    want("start", h263rps_sender_start(&sender, &params, NULL), 0);
+    code(&sender, 0, &made);
+    acknowledge(&sender, 0);
+    code(&sender, 1, &made);
+    want("predicted", made.coded.intra, 0);
+    want("forget", h263rps_sender_forget(&sender), 0);
+    want("the packets stay", h263rps_sender_packet(&sender, 0, made.packets[0], ROOM,
+                                                   &made.lengths[0]), 0);
+    code(&sender, 2, &made);
+    want("intra on request", made.coded.intra, 1);
+    acknowledge(&sender, 1);
+    code(&sender, 3, &made);
+    want("a late acknowledgement", made.coded.intra, 1);
+    acknowledge(&sender, 2);
+    code(&sender, 4, &made);
+    want("predicted again", made.coded.intra, 0);
+    want("from the intra picture", made.coded.reference, 2);
+    want("sent", h263rps_sender_sent(&sender, &pictures), 0);
+    want("five", pictures, 5);
+    want("finish", h263rps_sender_finish(&sender), 0);
+}
+
+/* A target that is set before the first picture is that of the parameters, byte for byte. */
+static void same_target(void) {
+    static struct made one, other;
+    h263rps_params with = params;
+    h263rps_end first = {0}, second = {0};
+    with.target = 1000;
+    want("start", h263rps_sender_start(&first, &with, NULL), 0);
+    want("start", h263rps_sender_start(&second, &params, NULL), 0);
+    want("target", h263rps_sender_target(&second, 1000), 0);
+    for (uint32_t number = 0; number < 6; number++) {
+        code(&first, number, &one);
+        code(&second, number, &other);
+        want("the same packets", memcmp(one.packets, other.packets, sizeof one.packets), 0);
+    }
+    want("finish", h263rps_sender_finish(&first), 0);
+    want("finish", h263rps_sender_finish(&second), 0);
+}
+
+/* A target that comes later makes pictures smaller, from the next one on, and none gives the first
+ * quantiser back. */
+static void later_target(void) {
+    static struct made made;
+    h263rps_end sender = {0};
+    size_t before, after;
+    want("start", h263rps_sender_start(&sender, &params, NULL), 0);
+    code(&sender, 0, &made);
+    before = made.bytes;
+    want("target", h263rps_sender_target(&sender, 500), 0);
+    code(&sender, 1, &made);
+    after = made.bytes;
+    want("fewer bytes", 2 * after < before, 1);
+    want("no target", h263rps_sender_target(&sender, 0), 0);
+    code(&sender, 2, &made);
+    want("as many bytes as before", 10 * made.bytes > 9 * before, 1);
+    printf("bytes of pictures: %u, then with a target of 500 %u, then with none %u\n",
+           (unsigned)before, (unsigned)after, (unsigned)made.bytes);
+    want("finish", h263rps_sender_finish(&sender), 0);
+}
+
+/* A receiver that joins after 700 pictures, in the third period of picture numbers: once it is
+ * there the sender forgets, and the next picture is shown exactly. */
+static void joining(void) {
+    static struct made made;
+    h263rps_end sender = {0}, receiver = {0};
+    h263rps_answer answer;
+    h263rps_reply reply;
+    uint32_t pictures = 0, last = H263RPS_TAKEN;
+    want("start", h263rps_sender_start(&sender, &params, NULL), 0);
+    for (uint32_t number = 0; number < 700; number++) code(&sender, number, &made);
+    want("sent", h263rps_sender_sent(&sender, &pictures), 0);
+    want("start at", h263rps_receiver_start_at(&receiver, &params, pictures, NULL), 0);
+    want("forget", h263rps_sender_forget(&sender), 0);
+    for (uint32_t number = 700; number < 703; number++) {
+        code(&sender, number, &made);
+        want("the first is intra", made.coded.intra, number == 700);
+        for (uint32_t i = 0; i < made.coded.packets; i++) {
+            want("packet", h263rps_receiver_packet(&receiver, made.packets[i], made.lengths[i],
+                                                   &answer), 0);
+            last = answer.kind;
+        }
+        want("completed", last, H263RPS_COMPLETED);
+        want("feedback", h263rps_sender_feedback(&sender, answer.message.bytes,
+                                                 answer.message.length, &reply), 0);
+        want("noted", reply.kind, H263RPS_NOTED);
+        want("play", h263rps_receiver_play(&receiver, shown, SIZE, &answer), 0);
+        want("exact", answer.kind, H263RPS_EXACT);
+    }
+    want("played", h263rps_receiver_played(&receiver, &pictures), 0);
+    want("of the call", pictures, 703);
+    want("finish", h263rps_receiver_finish(&receiver), 0);
+    want("finish", h263rps_sender_finish(&sender), 0);
+}
+
+int main(void) {
+    want("defaults", h263rps_defaults(H263RPS_SUB_QCIF, &params), 0);
+    forgetting();
+    same_target();
+    later_target();
+    joining();
+    if (!wrong) printf("a sender is steered, and a receiver joins\n");
+    return wrong;
+}
