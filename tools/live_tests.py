@@ -18,7 +18,7 @@ from typing import Any, Callable, Optional, Sequence
 from unittest import mock
 
 from calltools import bad_network, errors, in_process, live_settings, logs, loop, messages, numbers, pipes
-from calltools import picture_start, playout, program, rtcp, rtp, stand_in, udp, y4m, y4m_pipe
+from calltools import picture_start, playout, program, rtcp, rtp, speakers, stand_in, udp, y4m, y4m_pipe
 
 TOOLS = Path(__file__).resolve().parent
 EXAMPLES = TOOLS.parent / "examples"
@@ -49,7 +49,12 @@ class PartsTest(unittest.TestCase):
         """Out of order, over a wrap, after a long loss, and after a camera's pause."""
         of = numbers.Numbers(256, 30.0)
         start = 2**32 - 3_000  # the timestamp wraps, too
-        place = lambda n, tick, sequence: of.place(n % 256, sequence & 0xFFFF, start + tick & 0xFFFFFFFF)
+
+        def place(n: int, tick: int, sequence: int) -> tuple[int, float]:
+            placed = of.place(n % 256, sequence & 0xFFFF, start + tick & 0xFFFFFFFF, tick / 90_000)
+            assert placed
+            return placed
+
         self.assertEqual(place(250, 0, 65_530), (250, 0.0))
         self.assertEqual(place(252, 6_000, 65_532)[0], 252)
         number, time = place(251, 3_000, 65_531)
@@ -78,6 +83,55 @@ class PartsTest(unittest.TestCase):
         for step in range(10):  # the way grows: it counts after a while
             out.arrived(5 + step, 0.5 + step / 10, 10.8 + step / 10)
         self.assertAlmostEqual(out.due(14), 1.4 + 10.3 + 0.05)
+
+    def test_numbers_stay_behind_the_clock(self) -> None:
+        """Two seconds ahead are borne, once; further ahead, or back in time by a newer number, there is no place."""
+        of = numbers.Numbers(256, 30.0)
+        self.assertEqual(of.place(0, 0, 0, 5.0), (0, 0.0))
+        self.assertEqual(of.place(60, 60, 60 * 3_000, 5.0), (60, 2.0))
+        self.assertIsNone(of.place(62, 62, 62 * 3_000, 5.0))
+        self.assertIsNone(of.place(61, 61, 1_000 * 90_000, 5.5))
+        self.assertIsNone(of.place(61, 61, 59 * 3_000, 5.5))
+        self.assertIsNone(of.place(61 + 120, 61, 61 * 3_000, 6.0))
+        self.assertEqual(of.place(61, 61, 61 * 3_000, 6.0)[0], 61)
+        self.assertEqual(of.newest, 61)
+        # After ten minutes of silence the clock allows as much.
+        self.assertEqual(of.place((61 + 18_000) % 256, 18_061, (61 + 18_000) * 3_000, 606.0)[0], 18_061)
+
+    def test_a_stream_is_tried_when_several_of_its_packets_came(self) -> None:
+        """Three near each other, each once, in any order; strays push no stream out that goes on."""
+        probation = speakers.Probation()
+
+        def came(source: int, sequence: int) -> Optional[list[int]]:
+            data = rtp.renumbered(stand_in.packet(1, "qcif"), sequence, 0, source)
+            header, start = rtp.rtp_header(data), picture_start.picture_start(data)
+            assert header and start
+            found = probation.add(speakers.Arrival(data, header, start))
+            return found and [it.header.sequence for it in found]
+
+        self.assertEqual([came(1, 65_535), came(1, 65_535), came(1, 1), came(1, 0)], [None, None, None, [65_535, 1, 0]])
+        self.assertEqual([came(2, 10), came(2, 20_000), came(2, 40_000), came(2, 9)], 4 * [None])
+        # Strays beside it leave a stream as it is.
+        self.assertIsNone(came(3, 100))
+        self.assertEqual([came(10 + stray, 0) for stray in range(6)], 6 * [None])
+        self.assertEqual([came(3, 101), came(3, 102)], [None, [100, 101, 102]])
+
+    def test_the_least_way_of_many_packets(self) -> None:
+        """It is the least of half a second's, and 50,000 packets a second take no long."""
+        draws, least, ways = random.Random(7), playout.LeastWay(), []
+        for count in range(2_000):
+            now, way = count / 2_000, draws.random()
+            ways.append((now, way))
+            self.assertEqual(least.add(now, way), min(way for at, way in ways if at >= now - 0.5))
+        began = time.process_time()
+        for count in range(50_000):
+            least.add(2 + count / 50_000, draws.random())
+        self.assertLess(time.process_time() - began, 2)
+
+    def test_so_many_packets_a_second_are_allowed(self) -> None:
+        allowed = speakers.Allowance(100)
+        self.assertEqual(sum(allowed.takes(9.0) for _ in range(300)), 100)
+        self.assertEqual(sum(allowed.takes(9.5) for _ in range(300)), 50)
 
     def test_messages_go_as_reference_picture_selection_indications(self) -> None:
         for body in (bytes([0xC0, 0x0C, 0x01]), bytes([0xE0, 0x0C, 0x01, 0x80, 0x80])):
@@ -350,7 +404,9 @@ class Call:
         return self.count(cause, "dropped")
 
 
-class CallsTest(unittest.TestCase):
+class Calls(unittest.TestCase):
+    """Tests that make live calls."""
+
     def setUp(self) -> None:
         room = tempfile.TemporaryDirectory()
         self.addCleanup(room.cleanup)
@@ -395,6 +451,8 @@ class CallsTest(unittest.TestCase):
             self.assertEqual(out.read_bytes(), (folder / run["video"]).read_bytes())
         return facts
 
+
+class CallsTest(Calls):
     def test_a_call_alone_by_the_stand_in(self) -> None:
         """With losses, each picture is counted, and the recorded call is played again."""
         video, out, folder = self.video(60), self.room / "out.y4m", self.room / "call"
@@ -431,7 +489,8 @@ class CallsTest(unittest.TestCase):
         for clock, version, format in (("standard", 1, "qcif"), ("custom", 2, "cif")):
             video, folder = self.video(45, format), self.room / format
             ends = ("--format", format, "--clock", clock, "--messages", version, "--camera", video)
-            bad = ("--loss", 0.1, "--delay", 20, "--jitter", 20, "--library")
+            # A target that follows the line isn't in what is recorded.
+            bad = ("--loss", 0.1, "--delay", 20, "--jitter", 20, "--library", "--target", 6_000)
             call = self.run_call(*ends, *bad, "--screen", "none", "--record", folder, program=PROGRAM)
             self.assertEqual((call.status, call.count("sent", "sent")), (0, 45), call.told)
             self.assertGreater(call.shown("exact"), 20)
@@ -553,11 +612,11 @@ class CallsTest(unittest.TestCase):
         self.assertGreater(call.shown("exact"), 50, call.told)
 
     def test_strangers_and_bad_datagrams_count_and_do_no_harm(self) -> None:
-        """The test is the other party: what it sends of another SSRC, of a stale run, or malformed
-        is dropped; what it should send is shown."""
+        """The test is the other party: what it sends of another SSRC or malformed is dropped; what it should send is
+        shown."""
         port, other_port = free_port(), free_port()
         ends = ("--with", "127.0.0.1", "--port", port, "--other-port", other_port, "--one-way", "screen")
-        call = self.start(*ends, "--format", "sub-qcif", "--screen", "none", "--seconds", 4)
+        call = self.start(*ends, "--format", "sub-qcif", "--screen", "none", "--seconds", 7)
         other, control = bound(other_port), bound(other_port + 1)
         stranger = bound(0)
         wait_for_port(port)
@@ -570,15 +629,16 @@ class CallsTest(unittest.TestCase):
             control.sendto(bytes(9), ("127.0.0.1", port + 1))
             control.sendto(rtcp.feedback_bytes(rtcp.Feedback(1, 2, bytes(3))), ("127.0.0.1", port + 1))
             control.sendto(rtcp.bye_bytes(5), ("127.0.0.1", port + 1))
-        time.sleep(1)  # then another SSRC counts, and the first one is stale
+        time.sleep(2.5)  # then another stream is followed, and the first one isn't any more
         for packet in packets:
             other.sendto(packet[:8] + b"next" + packet[12:], ("127.0.0.1", port))
-            other.sendto(packet, ("127.0.0.1", port))
         self.assertEqual(call.ended().status, 0, call.told)
         count = len(packets)
-        self.assertEqual(call.shown("packets"), 2 * count, call.told)
-        wanted = {"malformed": 2 * count, "other source": 2 * count, "stale": count, "of strangers": count, "not asked for": count}
+        self.assertEqual((call.shown("packets"), call.count("anew", "dropped")), (2 * count, 1), call.told)
+        wanted = {"malformed": 2 * count, "of strangers": count, "not asked for": count}
         self.assertEqual({cause: call.dropped(cause) for cause in wanted}, wanted, call.told)
+        # Until three packets of a stream came, all are on probation, and a BYE that is read by then is of nobody.
+        self.assertIn(call.dropped("other source"), range(2 * count - 4, 2 * count - 1), call.told)
         for net in (other, control, stranger):
             net.close()
 
@@ -601,11 +661,181 @@ class CallsTest(unittest.TestCase):
                 time.sleep(0.01)
         self.assertEqual(call.ended().status, 0, call.told)
         self.assertNotIn("Traceback", call.told)
-        self.assertGreater(call.shown("shown"), 100, call.told)
+        self.assertGreater(call.shown("shown"), 10, call.told)
         self.assertGreater(call.count("messages in", "sent"), 1_000, call.told)
         self.assertGreater(call.dropped("malformed"), 100, call.told)
         for net in (other, control):
             net.close()
+
+    def start_screen(self, seconds: float) -> tuple[Call, socket.socket, int]:
+        """A call with a screen alone, whose other party is the test: the call, that party's socket and the port."""
+        port, other_port = free_port(), free_port()
+        ends = ("--with", "127.0.0.1", "--port", port, "--other-port", other_port, "--one-way", "screen")
+        call = self.start(*ends, "--format", "sub-qcif", "--screen", "none", "--seconds", seconds)
+        other = bound(other_port)
+        self.addCleanup(other.close)
+        wait_for_port(port)
+        return call, other, port
+
+    def test_forged_streams_hold_nothing(self) -> None:
+        """From the other party's address, by one who doesn't know the SSRC: a stray packet every 0.4 s from the start,
+        one in a silence of 0.7 s, and a whole stream in a later one. Pictures are exact soon after each."""
+        call, other, port = self.start_screen(9)
+        draws, stray = random.Random(6), 0
+        for count in range(240):
+            packet = stand_in.packet(count, "sub-qcif")
+            is_silent = 60 <= count < 81 or 140 <= count < 170
+            if not is_silent:
+                other.sendto(rtp.renumbered(packet, count, rtp.TICKS_A_PICTURE * count, 7), ("127.0.0.1", port))
+            if count % 12 == 0 or count == 65:
+                stray += 1
+                numbers = draws.getrandbits(16), draws.getrandbits(32), draws.getrandbits(32)
+                other.sendto(rtp.renumbered(packet, *numbers), ("127.0.0.1", port))
+            if 140 <= count < 170:
+                other.sendto(rtp.renumbered(packet, count, rtp.TICKS_A_PICTURE * count, 8), ("127.0.0.1", port))
+            time.sleep(1 / 30)
+        self.assertEqual(call.ended().status, 0, call.told)
+        # All but those of both silences, and of the second after the forged stream that was followed.
+        self.assertGreater(call.shown("exact"), 240 - 21 - 30 - 30, call.told)
+        self.assertLess(call.shown("held"), 240 - 100, call.told)
+        self.assertLessEqual(call.count("anew", "dropped"), 2, call.told)
+
+    def forged(self, draws: random.Random, count: int) -> list[bytes]:
+        """A datagram of each kind that one makes who knows the other party's address and no more."""
+        packet = stand_in.packet(count, "sub-qcif")
+        numbers = draws.getrandbits(16), draws.getrandbits(32)
+        own = draws.getrandbits(32)
+        return [
+            rtp.renumbered(packet, *numbers, own),  # a stray packet of an SSRC of its own
+            rtp.renumbered(packet, count, 3_003 * count, 8),  # the next one of a stream that goes on
+            rtp.renumbered(packet, 30_000 + count, 1_000 * rtp.CLOCK, 8),  # the same, far ahead
+            rtp.renumbered(stand_in.packet(count + 120, "sub-qcif"), count, 3_003 * count, own),
+            rtp.renumbered(stand_in.packet(count, "cif"), *numbers, own),
+            packet[:1] + bytes([packet[1] ^ 1]) + packet[2:],  # another payload type
+            packet[: draws.randrange(20)],
+            draws.randbytes(draws.randrange(1, 1_400)),
+            b"",
+            bytes([packet[0] | 0x20]) + packet[1:],  # padding that there isn't
+        ]
+
+    def assert_nothing_is_done_by_forged_packets(
+        self, packets: Callable[[int], list[bytes]], program: Path, *words: object
+    ) -> None:
+        """Kinds of forged packets come once each, then by fives and then by hundreds a second; each picture is exact,
+        a line is told each second, and the memory stays."""
+        port, other_port = free_port(), free_port()
+        ends = ("--with", "127.0.0.1", "--port", port, "--other-port", other_port, "--one-way", "screen")
+        told = [*ends, "--format", "sub-qcif", "--screen", "none", "--seconds", 11, "--wait", 300, *words]
+        call = Call([*told, "--program", program])
+        self.calls.append(call)
+        other, control, draws = bound(other_port), bound(other_port + 1), random.Random(8)
+        wait_for_port(port)
+        memory = []
+        for count in range(270):
+            for packet in packets(count):
+                header = rtp.rtp_header(packet)
+                assert header
+                data = rtp.renumbered(packet, header.sequence, rtp.TICKS_A_PICTURE * count, 7)
+                other.sendto(data, ("127.0.0.1", port))
+            # From the second second on: once, then 5 a second for 2 s, then 300 a second for 2 s.
+            turns = 1 if count == 30 or 60 <= count < 120 and count % 6 == 0 or 150 <= count < 210 else 0
+            for data in self.forged(draws, count)[: 10 if turns else 0]:
+                other.sendto(data, ("127.0.0.1", port))
+                control.sendto(data, ("127.0.0.1", port + 1))
+            if turns:
+                control.sendto(rtcp.bye_bytes(draws.getrandbits(32)), ("127.0.0.1", port + 1))
+            if count in (29, 269):
+                status = Path(f"/proc/{call.process.pid}/status").read_text()
+                memory.append(int(re.search(r"VmRSS:\s+(\d+)", status)[1]))
+            time.sleep(1 / 30)
+        self.assertEqual(call.ended().status, 0, call.told)
+        self.assertEqual((call.shown("exact"), call.shown("shown")), (270, 270), call.told)
+        self.assertEqual(call.count("anew", "dropped"), 0, call.told)
+        seconds = [int(line.split()[0]) for line in call.told.splitlines() if re.match(r"\d+ s ", line)]
+        self.assertEqual(seconds[:9], list(range(1, 10)), call.told)
+        self.assertLess(memory[1] - memory[0], 4_000)
+        for net in (other, control):
+            net.close()
+
+    def coded_packets(self) -> Callable[[int], list[bytes]]:
+        """The packets of 270 pictures, by the library's sender."""
+        library = in_process.library()
+        picture = bytes(range(96, 160)) * 288
+        with library.Sender(library.Params.of("sub-qcif")) as sender:
+            packets = [sender.packets(sender.code(picture)) for _ in range(270)]
+        return lambda count: packets[count]
+
+    def test_forged_packets_do_nothing_to_the_stand_in(self) -> None:
+        packets = lambda count: [stand_in.packet(count, "sub-qcif")]  # noqa: E731
+        self.assert_nothing_is_done_by_forged_packets(packets, self.stand_in)
+
+    @needs_program
+    @needs_library
+    def test_forged_packets_do_nothing_to_the_program(self) -> None:
+        self.assert_nothing_is_done_by_forged_packets(self.coded_packets(), PROGRAM)
+
+    @needs_library
+    def test_forged_packets_do_nothing_to_the_library(self) -> None:
+        self.assert_nothing_is_done_by_forged_packets(self.coded_packets(), self.stand_in, "--library")
+
+    def test_packets_ahead_of_the_clock_are_dropped(self) -> None:
+        """One that is 30,000 packets and 1,000 s ahead, and twenty of which each is 120 pictures ahead of the one
+        before: nothing is played for them beyond two seconds' pictures, and the call goes on."""
+        call, other, port = self.start_screen(6)
+        for count in range(120):
+            packet = stand_in.packet(count, "sub-qcif")
+            time_of = rtp.TICKS_A_PICTURE * count
+            other.sendto(rtp.renumbered(packet, count, time_of, 7), ("127.0.0.1", port))
+            if count == 40:
+                ahead = rtp.renumbered(packet, count + 30_000, time_of + 1_000 * rtp.CLOCK, 7)
+                other.sendto(ahead, ("127.0.0.1", port))
+            if 50 <= count < 70:
+                number = count + 120 * (count - 49)
+                forged = stand_in.packet(number, "sub-qcif")
+                other.sendto(rtp.renumbered(forged, count + 1, time_of + 1, 7), ("127.0.0.1", port))
+            time.sleep(1 / 30)
+        self.assertEqual(call.ended().status, 0, call.told)
+        # Half of the twenty have the reference of a picture that is behind, and are late.
+        self.assertGreaterEqual(call.dropped("ahead of the clock"), 10, call.told)
+        self.assertLessEqual(call.shown("shown"), 120 + 60, call.told)
+        self.assertGreater(call.shown("exact"), 100, call.told)
+
+    def test_a_flood_of_the_right_stream(self) -> None:
+        """Whatever a second and a half of it does, pictures are exact again a second later, and the call ends in its
+        time."""
+        call, other, port = self.start_screen(6)
+        began, sent = time.monotonic(), 0
+        while (second := time.monotonic() - began) < 5:
+            packet = stand_in.packet(int(30 * second), "sub-qcif")
+            for _ in range(50 if 1 < second < 2.5 else 1):
+                data = rtp.renumbered(packet, sent, int(second * rtp.CLOCK), 7)
+                other.sendto(data, ("127.0.0.1", port))
+                sent += 1
+            time.sleep(0.001 if 1 < second < 2.5 else 1 / 30)
+        self.assertEqual(call.ended(20).status, 0, call.told)
+        self.assertGreater(call.shown("exact"), 60, call.told)
+        self.assertLess(call.shown("shown"), 240, call.told)
+
+    def test_without_messages_fewer_pictures_are_sent(self) -> None:
+        """Nothing comes back: after two seconds five pictures a second, and that is told once."""
+        port, other_port = free_port(), free_port()
+        ends = ("--with", "127.0.0.1", "--port", port, "--other-port", other_port, "--one-way", "camera")
+        other = bound(other_port)
+        call = self.start(*ends, "--format", "sub-qcif", "--camera", self.video(300), "--seconds", 6)
+        self.assertEqual(call.ended().status, 0, call.told)
+        self.assertIn(call.count("sent", "sent"), range(40, 100), call.told)
+        self.assertEqual(call.told.count("nothing comes back: fewer pictures are sent"), 1, call.told)
+        other.close()
+
+    def test_another_rate_is_told(self) -> None:
+        call, other, port = self.start_screen(4)
+        for count in range(60):
+            packet = stand_in.packet(count, "sub-qcif")
+            other.sendto(rtp.renumbered(packet, count, 4_500 * count, 7), ("127.0.0.1", port))
+            time.sleep(1 / 20)
+        self.assertEqual(call.ended().status, 0, call.told)
+        told = "the other side sends 20.0 pictures a second, and --rate here is 30.0: give both the same --rate"
+        self.assertEqual(call.told.count(told), 1, call.told)
 
     def test_numbers_that_go_back(self) -> None:
         """Where all that comes is of pictures that were played, the receiving end joins anew."""
@@ -651,7 +881,10 @@ class CallsTest(unittest.TestCase):
         self.assertEqual(steps, list(range(30)))
         ticks = (headers[-1].timestamp - first.timestamp) & 0xFFFFFFFF
         self.assertAlmostEqual(ticks / rtp.CLOCK, 29 / 20, delta=0.5)
-        self.assertEqual(rtcp.read_rtcp(control.recv(100)), rtcp.Bye(first.source))
+        # Reports come on the control port, too.
+        while (data := control.recv(200))[1] in (200, 201):
+            pass
+        self.assertEqual(rtcp.read_rtcp(data), rtcp.Bye(first.source))
         self.assertEqual(call.ended().status, 0, call.told)
         self.assertEqual((call.count("messages in", "sent"), call.dropped("stale messages")), (30, 30), call.told)
         for net in (other, control):

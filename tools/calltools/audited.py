@@ -23,9 +23,14 @@ class Ends:
     wire_path: str
 
 
-def entries_of_ends(ends: Ends) -> list[logs.Entry]:
-    """The log of an audit by LOG and WIRE: the packets of picture n stand at the n-th capture."""
+def entries_of_ends(ends: Ends, is_cut: bool = False) -> list[logs.Entry]:
+    """The log of an audit by LOG and WIRE: the packets of picture n stand at the n-th capture.
+
+    Where both may have been cut off, up to the last picture that is whole in both.
+    """
     pictures = packets_of_pictures(ends.wire, ends.wire_path)
+    if is_cut:
+        return _whole_entries(ends.log, pictures)
     entries: list[logs.Entry] = []
     captures = 0
     for number, entry in enumerate(ends.log):
@@ -41,6 +46,24 @@ def entries_of_ends(ends: Ends) -> list[logs.Entry]:
     if captures < len(pictures):
         why = f"it is of {len(pictures)} pictures, and {ends.log_path} has {captures} captures"
         raise BadInput(ends.wire_path, "its packets", why)
+    return entries
+
+
+def _whole_entries(log: Sequence[logs.Entry], pictures: Sequence[list[bytes]]) -> list[logs.Entry]:
+    # A picture's last packet has the marker.
+    count = len(pictures)
+    while count and not ((header := rtp.rtp_header(pictures[count - 1][-1])) and header.is_last):
+        count -= 1
+    entries: list[logs.Entry] = []
+    captures = 0
+    for entry in log:
+        if entry.letter == logs.MESSAGE:
+            entries.append(entry)
+        elif entry.letter == logs.CAPTURE:
+            if captures == count:
+                break
+            entries += [logs.Entry(logs.PACKET, packet) for packet in pictures[captures]]
+            captures += 1
     return entries
 
 

@@ -1,19 +1,31 @@
 """The sockets of a call: to the other party, or alone between two parties over a bad network."""
 
 from dataclasses import dataclass
-from typing import Optional
+from typing import Callable, Optional, Protocol
 
 from .bad_network import BadLink, BadNetwork
 from .loop import Loop
 from .udp import Address, Channel
 
 
+class AnyChannel(Protocol):
+    """What a party asks of a channel, encrypted or not."""
+
+    on_datagram: Callable[[bytes], None]
+    bytes_in: int
+    bytes_out: int
+    unreached: int
+
+    def send(self, data: bytes) -> None:
+        """A datagram goes out."""
+
+
 @dataclass(frozen=True)
 class Line:
     """A party's two channels: packets go over `media`, messages over `control`."""
 
-    media: Channel
-    control: Channel
+    media: AnyChannel
+    control: AnyChannel
 
     @property
     def bytes_out(self) -> int:
@@ -31,9 +43,35 @@ class Line:
         return self.media.unreached + self.control.unreached
 
 
-class CallNetwork:
+class Lines:
     """The lines of the parties that are on this machine: one, or alone two, of which the first
-    has the camera. Messages have the port after that of the packets."""
+    has the camera."""
+
+    lines: list[Line]
+
+    def open(self, say: Callable[[str], None]) -> None:
+        """Finds the other party, where that takes more than its address."""
+
+    def on_closed(self, call: Callable[[], None]) -> None:
+        """Calls when a way closes that has to be held open."""
+
+    @property
+    def strangers(self) -> int:
+        """Datagrams that came from anyone else."""
+        raise NotImplementedError
+
+    @property
+    def long(self) -> int:
+        """Datagrams that no log could hold."""
+        raise NotImplementedError
+
+    def close(self) -> None:
+        """Lets go of the sockets."""
+        raise NotImplementedError
+
+
+class CallNetwork(Lines):
+    """Sockets without encryption. Messages have the port after that of the packets."""
 
     def __init__(
         self, loop: Loop, at: Address, other: Optional[Address], network: BadNetwork
@@ -44,12 +82,10 @@ class CallNetwork:
 
     @property
     def strangers(self) -> int:
-        """Datagrams that came from anyone else."""
         return sum(channel.strangers for channel in self._channels)
 
     @property
     def long(self) -> int:
-        """Datagrams that no log could hold."""
         return sum(channel.long for channel in self._channels)
 
     def close(self) -> None:

@@ -1,76 +1,60 @@
 """How long a recorded call's pictures took, and how its losses went."""
 
-import json
 from collections import Counter
 from dataclasses import dataclass
 from pathlib import Path
-from typing import Any, Iterator, Optional
+from typing import Iterator, Optional
 
-from . import logs
 from .errors import BadInput
-from .numbers import nearest
-from .picture_start import PERIODS, picture_start
-from .report import MARKS, Report, read_report
-from .rtp import TICKS_A_PICTURE, rtp_header
-
-
-@dataclass(frozen=True)
-class Timed:
-    """An entry of a log, and when it was."""
-
-    entry: logs.Entry
-    time: float
-
-
-def times_in(path: Path) -> list[float]:
-    try:
-        return [float(line) for line in path.read_text().split()]
-    except ValueError:
-        raise BadInput(str(path), "a line", "it is no time") from None
-
-
-def _entries(folder: Path, name: str) -> list[Timed]:
-    path = folder / name
-    with path.open("rb") as file:
-        entries = list(logs.read_log(file, str(path)))
-    return [Timed(*both) for both in zip(entries, times_in(path.with_suffix(".times")))]
-
-
-def _report(folder: Path, name: str) -> Report:
-    path = folder / name
-    return read_report(path.read_text().splitlines(), str(path))
+from .recorded import Record, read_record
+from .recorded_ways import Joined, ends_of
+from .report import MARKS
 
 
 @dataclass(frozen=True)
 class CallTimes:
-    """A recorded stream, from its capture to the screen. By picture: when it was captured, when
-    its first packet went out, when it was shown; the bytes of all packets; marks, references;
-    when packets came, and of which picture; the share of a processor that the bridges took."""
+    """A recorded stream, from its capture to the screen; times are by the receiver's clock. By
+    picture: when it was captured, when its first packet went out, when it was shown, its mark and
+    its reference. The bytes of all packets; when packets came, and of which picture; and the share
+    of a processor that the bridges took, of which nobody knows in a call that was cut off."""
 
-    captured: list[float]
+    name: str
+    first: int
+    captured: list[Optional[float]]
     first_out: dict[int, float]
     bytes: int
-    shown: list[float]
+    shown: list[Optional[float]]
     marks: list[str]
     references: list[Optional[int]]
     arrived: list[tuple[float, int]]
     processor: Optional[float]
+    is_one_clock: bool
 
     @property
     def seconds(self) -> float:
-        return self.captured[-1] - self.captured[0]
+        known = [time for time in self.captured if time is not None]
+        return known[-1] - known[0] if known else 0.0
 
     def to_first_packet(self) -> list[float]:
-        return [out - self.captured[number] for number, out in self.first_out.items()]
+        known = zip(range(self.first, self.first + len(self.captured)), self.captured)
+        return [
+            self.first_out[number] - captured
+            for number, captured in known
+            if captured is not None and number in self.first_out
+        ]
 
     def to_shown(self) -> list[float]:
         """Of the exact pictures."""
         rows = zip(self.captured, self.shown, self.marks)
-        return [shown - captured for captured, shown, mark in rows if mark == "exact"]
+        return [
+            shown - captured
+            for captured, shown, mark in rows
+            if mark == "exact" and captured is not None and shown is not None
+        ]
 
     def back(self) -> Counter[Optional[int]]:
         """How far references lie back, None for an intra picture."""
-        told = enumerate(self.references)
+        told = enumerate(self.references, self.first)
         return Counter(None if reference is None else n - reference for n, reference in told)
 
     def wrong_runs(self) -> Counter[int]:
@@ -88,54 +72,53 @@ class CallTimes:
         """After each silence of the network longer than this: its length, and the first picture
         of which something came, with its mark."""
         for (before, _), (time, picture) in zip(self.arrived, self.arrived[1:]):
-            if time - before > longest and picture < len(self.marks):
-                yield time - before, picture, self.marks[picture]
+            if time - before > longest and 0 <= picture - self.first < len(self.marks):
+                yield time - before, picture, self.marks[picture - self.first]
 
 
-def read_call(folder: Path) -> CallTimes:
-    """The first runs of both ends, which have to be of one stream, from its start on."""
-    path = folder / "call.json"
-    try:
-        facts = json.loads(path.read_text())
-        send, recv = facts["send"][0], facts["recv"][0]
-        is_one = send["source"] == recv["source"] and not recv["skipped"]
-        counts = facts.get("counts")
-        processor = counts and counts["processor_seconds"] / counts["seconds"]
-    except (ValueError, LookupError, TypeError):
-        raise BadInput(str(path), "its runs", "this isn't a recorded call with both ends") from None
-    if not is_one:
-        raise BadInput(str(path), "its runs", "the ends aren't of one stream from its start on")
-    return _call(folder, send, recv, PERIODS[facts["clock"]], processor)
+def read_calls(folder: Path, other: Optional[Path]) -> list[CallTimes]:
+    """The streams of a call of which both ends are recorded, in one folder or in those of two
+    machines."""
+    record = read_record(folder)
+    far = read_record(other) if other else None
+    for one in (record, far):
+        if one:
+            one.tell_cut()
+    found = [_times_of(joined) for joined in ends_of(record, far).joined if joined.numbers()]
+    if not found:
+        told = "no stream of it has both ends recorded; --other names the other machine's folder"
+        raise BadInput(str(record.path("call.json")), "its runs", told)
+    return found
 
 
-def _call(
-    folder: Path,
-    send: dict[str, Any],
-    recv: dict[str, Any],
-    period: int,
-    processor: Optional[float],
-) -> CallTimes:
-    captured = [it.time for it in _entries(folder, send["log"]) if it.entry.letter == logs.CAPTURE]
+def _times_of(joined: Joined) -> CallTimes:
+    numbers, packets = joined.numbers(), joined.sender.packets
     first_out: dict[int, float] = {}
-    count = 0
-    for out in _entries(folder, send["wire"]):
-        header = rtp_header(out.entry.body)
-        assert header
-        first_out.setdefault(header.timestamp // TICKS_A_PICTURE, out.time)
-        count += len(out.entry.body)
-    arrived: list[tuple[float, int]] = []
-    newest = 0
-    for came in _entries(folder, recv["log"]):
-        start = picture_start(came.entry.body) if came.entry.letter == logs.PACKET else None
-        if start:
-            number = nearest(newest, start.reference, period)
-            newest = max(newest, number)
-            arrived.append((came.time, number))
-    shown = times_in(folder / Path(recv["video"]).with_suffix(".times"))
-    marks = [picture.mark or "" for picture in _report(folder, recv["report"]).pictures]
-    told = _report(folder, send["report"]).pictures
-    references = [picture.reference for picture in told]
-    return CallTimes(captured, first_out, count, shown, marks, references, arrived, processor)
+    for place, packet in enumerate(packets):
+        if (time := joined.sent(place)) is not None:
+            first_out.setdefault(packet.picture, time)
+    came = [(packet.time, packets[place].picture) for place, packet in joined.came]
+    return CallTimes(
+        name=joined.name,
+        first=numbers.start,
+        captured=[joined.captured(number) for number in numbers],
+        first_out=first_out,
+        bytes=sum(packet.size for packet in packets),
+        shown=[joined.shown(number) for number in numbers],
+        marks=[joined.mark(number) for number in numbers],
+        references=[joined.sender.pictures[number].reference for number in numbers],
+        arrived=[(time, picture) for time, picture in came if time is not None],
+        processor=_processor(joined.record),
+        is_one_clock=joined.is_one_clock,
+    )
+
+
+def _processor(record: Record) -> Optional[float]:
+    counts = record.told.get("counts")
+    told = [counts.get(name) for name in ("processor_seconds", "seconds")] if isinstance(counts, dict) else []
+    if not all(type(value) in (int, float) and 0 < value < 1e9 for value in told) or not told:
+        return None
+    return told[0] / told[1]
 
 
 def _spread(name: str, values: list[float]) -> str:
@@ -170,6 +153,8 @@ def lines_of(call: CallTimes) -> list[str]:
     ]
     if call.processor is not None:
         lines.append(f"bridges: {100 * call.processor:.1f} % of a processor")
+    if not call.is_one_clock:
+        lines.append("two clocks: put together so that the quickest packet and message take as long")
     for length, picture, mark in call.silences(0.5):
         lines.append(f"after {length:.2f} s of silence: picture {picture} {mark}")
     return lines

@@ -17,6 +17,8 @@ from .traced import PERIOD
 MOST_DROPOUT = 3_000
 # A stream has no more packets a second than this; more that are missing are made up.
 MOST_A_SECOND = 20_000
+# Of so many packets one came at least; of others nobody could tell a call's losses.
+MOST_TO_ONE = 100
 # By this many seconds a packet's timestamp may be away from the capture's clock.
 MOST_DRIFT = 10.0
 # A call's pictures (docs/COMMANDS.md, "Limits"), and one that is later by more is lost to any call.
@@ -94,7 +96,7 @@ def _told(arrivals: Sequence[_Arrival], clock: int, path: str) -> list[Heard]:
             told = f"its timestamp is {way - quickest:,.0f} s away from the capture's clock"
             raise BadInput(path, f"RTP packet {number}", f"{told}, at {clock:,} ticks a second")
     missing = arrivals[-1].sequence - first.sequence + 1 - len(arrivals)
-    if missing > MOST_DROPOUT + MOST_A_SECOND * span:
+    if missing > MOST_DROPOUT + min(MOST_A_SECOND * span, MOST_TO_ONE * len(arrivals)):
         told = f"{missing:,} packets are missing, more than {span:,.0f} s can have had"
         raise BadInput(path, "its sequence numbers", told)
     heard: list[Heard] = []

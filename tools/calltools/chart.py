@@ -5,6 +5,8 @@ from . import svg
 from .report import MARKS, Picture, Rows
 
 MARGIN, BASE, GAP = 20, 20, 12
+# What is written of the lines after the pictures: a report has three at most.
+_MOST_LINES, _LONGEST = 8, 200
 _SHAPES = {  # how a mark looks where colours can't be told apart: how much of the square is filled
     "exact": 1.0,
     "patched": 0.5,
@@ -28,7 +30,7 @@ def chart_of(rows: Rows) -> str:
     shown = {picture.mark for pictures in rows.by_letter.values() for picture in pictures}
     marks = [(svg.COLOURS[mark], mark) for mark in MARKS if mark in shown]
     parts.append(svg.legend(MARGIN, below, marks or [(svg.COLOURS[None], "sent")]))
-    words = [line for line in rows.rest if line]
+    words = [line[:_LONGEST] for line in rows.rest if line][:_MOST_LINES]
     parts += [svg.text(MARGIN, below + 18 * row, line, "start") for row, line in enumerate(words, 1)]
     width = max(2 * MARGIN + count * cell, 400)
     return svg.drawing(width, below + 18 * len(words) + BASE, parts, "The pictures of a call and their references")

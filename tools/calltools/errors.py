@@ -1,8 +1,12 @@
 """Bad input, and how a tool ends on it."""
 
 import argparse
+import re
 import sys
+from pathlib import Path
 from typing import Callable
+
+_CHANGES = Path(__file__).resolve().parent.parent.parent / "CHANGELOG.md"
 
 
 class BadInput(Exception):
@@ -24,9 +28,21 @@ def number_from(least: int, most: int) -> Callable[[str], int]:
     return number
 
 
+def release() -> str:
+    """The newest release of the repository."""
+    found = re.search(r"^## (\d.*)", _CHANGES.read_text(encoding="utf-8"), re.M)
+    return found[1] if found else "of no release"
+
+
 def run(main: Callable[[list[str]], None]) -> None:
-    """Runs a tool on the words of the command line. Bad input and failing files end it with status 1."""
+    """Runs a tool on the words of the command line. Bad input and failing files end it with status 1.
+
+    With --version alone it says the release.
+    """
     try:
+        if sys.argv[1:] == ["--version"]:
+            print(Path(sys.argv[0]).name, release())
+            return
         main(sys.argv[1:])
     except BadInput as fault:
         sys.exit(str(fault))

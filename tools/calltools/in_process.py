@@ -1,6 +1,7 @@
 """`send` and `recv` in this process, over library/, in the place of the program with its pipes."""
 
-import importlib.util
+import importlib
+import sys
 from collections import Counter, deque
 from pathlib import Path
 from types import ModuleType
@@ -13,17 +14,16 @@ from .loop import Call, Loop
 from .pipes import Cutter, entry_size
 from .y4m import head_bytes
 
-_MODULE = Path(__file__).resolve().parent.parent.parent / "library" / "h263rps.py"
+_PACKAGES = Path(__file__).resolve().parent.parent.parent / "library"
 _FRAME = b"FRAME\n"
 
 
 def library() -> ModuleType:
     """The library's own module for Python. Without the library itself there is none."""
-    spec = importlib.util.spec_from_file_location("h263rps", _MODULE)
-    assert spec and spec.loader
-    module = importlib.util.module_from_spec(spec)
+    if str(_PACKAGES) not in sys.path:
+        sys.path.insert(0, str(_PACKAGES))
+    module = importlib.import_module("h263rps")
     try:
-        spec.loader.exec_module(module)
         module.picture_size("qcif")
     except OSError as fault:
         raise BadInput("--library", "no library", "make -C library makes it") from fault
@@ -127,6 +127,11 @@ class SendInProcess(InProcess):
         self._frames: deque[bytes] = deque()
         self._captures = 0
         return lib.Sender(lib.Params.of(settings.format, **own, **shared))
+
+    def follow(self, target: int) -> None:
+        """From the next picture on this is the target, in bytes a picture."""
+        if not self.is_over:
+            self._end.target(target)
 
     def feed(self, file: int) -> Entered:
         return Entered(self._video, lambda: None) if file == 0 else super().feed(file)

@@ -6,10 +6,10 @@ from dataclasses import dataclass
 from datetime import datetime, timezone
 from pathlib import Path
 from types import ModuleType
-from typing import Any, Optional
+from typing import Any, Callable, Optional
 
 from .bad_network import BadNetwork
-from .call_network import CallNetwork
+from .call_network import CallNetwork, Lines
 from .cameras import camera_of
 from .errors import BadInput
 from .live_end import CallContext
@@ -19,13 +19,15 @@ from .parties import Party
 from .recording import Recorder
 from .screens import screen_of
 from .tally import Recent, StatusLine, Tally, counts
+from .told import Heard, TerminalStatus, Told
 from .udp import Address
 
-LOOPBACK = "127.0.0.1"
 # What is on its way when a camera ends is waited for this much longer than it takes, in seconds.
 _MORE = 0.2
 # How long the ends may take to finish.
 _PATIENCE = 10.0
+# How often what is recorded is handed on to the system, in seconds.
+_FLUSH = 1.0
 # When nothing came by then, that is told.
 _ALONE = 2.0
 
@@ -45,6 +47,15 @@ class Asked:
     record: Optional[Path] = None
     is_quiet: bool = False
     library: Optional[ModuleType] = None
+    secure: Optional["Secure"] = None
+
+
+@dataclass(frozen=True)
+class Secure:
+    """What an encrypted call has in place of plain sockets."""
+
+    loop: Callable[[], Loop]
+    network: Callable[[Loop], Lines]
 
 
 class LiveCall:
@@ -52,13 +63,22 @@ class LiveCall:
 
     def __init__(self, asked: Asked) -> None:
         self._asked, self._settings = asked, asked.settings
-        self.loop = Loop()
+        secure = asked.secure
+        self.loop = secure.loop() if secure else Loop()
+        self._told = Told(sys.stderr)
         self.tally = Tally()
         self._began = self.loop.now()
         self._recorder = Recorder(asked.record, self._began, self._facts())
         self._recorder.on_fault = self._recording_failed
-        self._network = CallNetwork(self.loop, asked.at, asked.other, asked.network)
-        self._line = StatusLine(bool(asked.camera), bool(asked.screen))
+        self._network: Lines
+        if secure:
+            self._network = secure.network(self.loop)
+        else:
+            self._network = CallNetwork(self.loop, asked.at, asked.other, asked.network)
+        self._network.on_closed(lambda: self.end("the way to the other side has closed"))
+        ends = bool(asked.camera), bool(asked.screen)
+        self._line = StatusLine(*ends)
+        self._status = TerminalStatus(*ends, asked.settings.wait)
         self.fault: Optional[BadInput] = None
         self._is_ending = self._is_over = False
         context = CallContext(
@@ -67,7 +87,12 @@ class LiveCall:
         self.parties = [Party(context, line) for line in self._network.lines]
         for party in self.parties:
             party.on_end, party.on_fault = self.end, self._failed
-        self._add_ends()
+        # What can be refused comes first, so that no program is started in vain.
+        camera, screen = asked.camera, asked.screen
+        self._camera = camera_of(self.loop, self._settings, camera) if camera else None
+        self._screen = (
+            screen_of(self.loop, self._settings, screen, "h263rps") if screen else None
+        )
 
     def _facts(self) -> dict[str, Any]:
         asked, settings = self._asked, self._settings
@@ -83,25 +108,30 @@ class LiveCall:
             "lead": settings.lead,
             "slots": settings.slots,
             "target": settings.target,
+            "adapts": settings.adapts,
             "network": vars(asked.network) if asked.other is None else None,
         }
 
-    def _add_ends(self) -> None:
-        # What can be refused comes first, so that no program was started in vain.
-        asked, settings = self._asked, self._settings
-        camera = camera_of(self.loop, settings, asked.camera) if asked.camera else None
-        screen = screen_of(self.loop, settings, asked.screen, "h263rps") if asked.screen else None
-        if camera:
-            self.parties[0].add_camera(camera)
-        if screen:
-            self.parties[-1].add_screen(screen)
+    def _open(self) -> None:
+        # The other party is found, and then the programs start.
+        try:
+            self._network.open(self.say)
+        except BadInput:
+            self._network.close()
+            raise
+        if self._camera:
+            self.parties[0].add_camera(self._camera)
+        if self._screen:
+            self.parties[-1].add_screen(self._screen)
 
     def say(self, words: str) -> None:
         """A line for the user."""
-        print(words, file=sys.stderr, flush=True)
+        self._told.say(words)
 
     def run(self) -> None:
         """The whole call. A fault ends it, and is raised when both ends have finished."""
+        self._open()
+        self._began = self.loop.now()
         self.loop.on_signals(self._interrupted)
         for party in self.parties:
             if party.camera:
@@ -111,6 +141,8 @@ class LiveCall:
         if not self._asked.is_quiet:
             self.say(self._first_line())
             self.loop.at(self._began + 1, self._tell)
+        if self._asked.record:
+            self.loop.at(self._began + _FLUSH, self._flush)
         self.loop.at(self._began + _ALONE, self._tell_if_nobody_is_there)
         self.loop.run(lambda: self._is_over)
         self._finish()
@@ -125,9 +157,14 @@ class LiveCall:
     def _first_line(self) -> str:
         settings, (host, port) = self._settings, self._asked.at
         other = "itself" if self._asked.other is None else ":".join(map(str, self._asked.other))
+        follows = " at first" if settings.adapts else ""
+        parties = f"{host}:{port} calls {other}, not encrypted"
+        if self._asked.secure:
+            other = self._asked.other[0] if self._asked.other else "itself"
+            parties = f"a call with {other}, encrypted"
         return (
-            f"{host}:{port} calls {other}: {settings.format} {settings.rate} a second, "
-            f"{settings.target:,} bytes a picture, wait {1000 * settings.wait:g} ms"
+            f"{parties}: {settings.format} {settings.rate} a second, "
+            f"{settings.target:,} bytes a picture{follows}, wait {1000 * settings.wait:g} ms"
         )
 
     def _tell_if_nobody_is_there(self) -> None:
@@ -166,6 +203,11 @@ class LiveCall:
         self.fault = self.fault or fault
         self.end()
 
+    def _flush(self) -> None:
+        self._recorder.flush()
+        if not self._recorder.fault:
+            self.loop.at(self.loop.now() + _FLUSH, self._flush)
+
     def _recording_failed(self, fault: OSError) -> None:
         self.say(f"the recording ends here: {fault.strerror}; the call goes on")
 
@@ -181,14 +223,27 @@ class LiveCall:
         self._count_datagrams()
         now = self.loop.now()
         second = now - self._began
-        sending, receiving = self.parties[0].sending, self.parties[-1].receiving
-        recent = sending.recent if sending else Recent()
-        silent = now - max(receiving.last, self._began) if receiving else 0.0
-        self.say(self._line.line(second, self.tally, recent, silent))
+        if self._told.is_terminal:
+            self._told.status(self._status.line(second, self.tally, self._heard()))
+        else:
+            self._told.status(self._second(second))
         if not self._is_ending:
             self.loop.at(self._began + round(second) + 1, self._tell)
 
+    def _second(self, second: float) -> str:
+        sending, receiving = self.parties[0].sending, self.parties[-1].receiving
+        recent = sending.recent if sending else Recent()
+        last = max(receiving.last, self._began) if receiving else 0.0
+        silent = self.loop.now() - last if receiving else 0.0
+        return self._line.line(second, self.tally, recent, silent)
+
+    def _heard(self) -> Heard:
+        out, reception = self.parties[0].reporting, self.parties[-1].reporting.reception
+        came = (reception.expected, reception.came) if reception else (0, 0)
+        return Heard(out.round_trip, out.loss, *came)
+
     def _finish(self) -> None:
+        self._told.end()
         for party in self.parties:
             if party.camera:
                 self.tally.left_out += party.camera.left_out

@@ -7,6 +7,7 @@ from pathlib import Path
 from typing import Optional
 
 from .errors import BadInput
+from .following import Bounds
 from .y4m import FORMATS, RATE, Size
 
 # The most pictures of a run of `send` (docs/FORMATS.md, "Y4M").
@@ -18,6 +19,9 @@ WINDOW = 32
 _AHEAD, _LEAST_AHEAD = 3, 1
 # Bytes a picture: 430 kbit/s for QCIF at 30 a second.
 TARGETS = {"sub-qcif": 900, "qcif": 1_800, "cif": 6_000}
+# The most bytes a picture that a target may have, and which part of the default is the least that
+# one which follows the line comes to: as much a second as one picture of the default.
+MOST_TARGET, FLOOR = 999_999, 30
 
 
 @dataclass(frozen=True)
@@ -36,6 +40,14 @@ class Settings:
     quant: int = 8
     limit: int = 1_400
     most_pictures: int = MOST_PICTURES
+    # Whether the target follows the line; it is the first one then.
+    adapts: bool = False
+
+    @property
+    def bounds(self) -> Bounds:
+        """The targets between which it follows."""
+        least = TARGETS[self.format] // FLOOR
+        return Bounds(self.target, least, MOST_TARGET, self.quant)
 
     @property
     def size(self) -> Size:

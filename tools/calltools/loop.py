@@ -80,8 +80,9 @@ class Loop:
             self._call_due()
 
     def _call_due(self) -> None:
-        now = self.now()
-        while self._timers and self._timers[0][0] <= now:
+        # Those that are set meanwhile wait for the next round, after a look at the files.
+        now, until = self.now(), self._count
+        while self._timers and self._timers[0][0] <= now and self._timers[0][1] <= until:
             _, _, timer = heapq.heappop(self._timers)
             if timer.call:
                 timer.call()

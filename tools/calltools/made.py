@@ -1,9 +1,9 @@
 """Made input, the formula of docs/FORMATS.md: two moving ridges in Y, slopes in Cb and Cr."""
 
 import random
-from typing import BinaryIO, Iterator
+from typing import Iterator
 
-from .y4m import Size, write_frame, write_head
+from .y4m import Size
 
 
 def _ridge(value: int) -> int:
@@ -37,10 +37,3 @@ def frames(size: Size, count: int, noise: int, seed: int = 1, step: int = 1) -> 
     for number in range(count):
         frame = made_frame(size, seed, step * number)
         yield with_noise(size, frame, noise, draws) if noise else frame
-
-
-def write_video(file: BinaryIO, size: Size, count: int, noise: int, seed: int = 1) -> None:
-    """A whole video."""
-    write_head(file, size)
-    for frame in frames(size, count, noise, seed):
-        write_frame(file, frame)

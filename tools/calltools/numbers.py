@@ -6,6 +6,10 @@ from .rtp import CLOCK
 
 # After this many seconds of silence a temporal reference alone doesn't tell the number.
 SILENCE = 3.0
+# Pictures, in seconds, by which a stream may run ahead of this machine's clock: what waited on the way comes at once.
+SLACK = 2.0
+# How much faster than at its rate a stream may go on.
+_FASTER = 1.1
 
 
 def nearest(guess: int, reference: int, period: int) -> int:
@@ -20,6 +24,9 @@ class Numbers:
     The first packet's temporal reference is its number. From then on a number is the nearest to
     the newest one. After a silence the time tells how many pictures went by, and the sequence
     numbers how many there can be at most: a camera that paused sent none.
+
+    No picture was captured that is ahead of the clock: a packet that says so has no place, since
+    everything up to its picture would be played for it.
     """
 
     def __init__(self, period: int, rate: float) -> None:
@@ -27,21 +34,41 @@ class Numbers:
         self._first_stamp: Optional[int] = None
         self._stamp = 0  # of the newest picture, counted on from the first one
         self._sequence = 0  # of the newest packet, likewise
+        self._arrived = 0.0  # when a packet of the newest picture came
+        self._slack = SLACK * rate  # pictures by which the stream may still run ahead
         self.newest = 0
 
-    def place(self, reference: int, sequence: int, timestamp: int) -> tuple[int, float]:
-        """The packet's picture, and its time of capture in seconds from the first one's."""
+    def place(
+        self, reference: int, sequence: int, timestamp: int, now: float
+    ) -> Optional[tuple[int, float]]:
+        """The packet's picture, and its time of capture in seconds from the first one's; None where it is ahead of
+        the clock."""
         if self._first_stamp is None:
             self._first_stamp, self._sequence = timestamp, sequence
-            self.newest = reference
+            self.newest, self._arrived = reference, now
         newest_stamp = self._first_stamp + self._stamp
         stamp = self._stamp + signed(timestamp - newest_stamp, 32)
         ahead = signed(sequence - self._sequence, 16)
         number = nearest(self._guess(stamp, ahead), reference, self._period)
-        if number >= self.newest:
-            self.newest, self._stamp = number, stamp
+        if number > self.newest:
+            if not self._may_advance(number, stamp, now):
+                return None
+            self.newest, self._stamp, self._arrived = number, stamp, now
         self._sequence += max(ahead, 0)
         return number, stamp / CLOCK
+
+    def _may_advance(self, number: int, stamp: int, now: float) -> bool:
+        # By its number or by its time, whichever is further; what the clock allows costs nothing.
+        seconds = (stamp - self._stamp) / CLOCK
+        if seconds < 0:
+            return False
+        advance = max(number - self.newest, seconds * self._rate)
+        allowed = (now - self._arrived) * self._rate * _FASTER
+        left = min(SLACK * self._rate, self._slack + allowed - advance)
+        if left < 0:
+            return False
+        self._slack = left
+        return True
 
     def _guess(self, stamp: int, ahead: int) -> int:
         silence = (stamp - self._stamp) / CLOCK

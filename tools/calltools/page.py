@@ -8,7 +8,7 @@ import re
 from pathlib import Path
 from typing import Optional, Sequence
 
-from . import stored, way
+from . import stored, way, working
 from .quality import errors_between
 from .report import MARKS
 
@@ -34,14 +34,15 @@ def _reference(picture: way.Picture) -> int:
 
 
 def _psnr(told: way.Way) -> list[float]:
-    pairs = zip(told.captured, told.shown)
+    count = min(len(told.captured), len(told.shown))
+    pairs = working.through(zip(told.captured, told.shown), "comparing pictures", count)
     values = (errors_between(told.size, one, other).psnr()[0] for one, other in pairs)
     return [round(min(value, _SAME), 1) for value in values]
 
 
 def _packet(packet: way.Packet) -> list[object]:
     sent, came = _rounded(packet.sent), _rounded(packet.came)
-    return [packet.picture, packet.fate, sent, came, packet.size, packet.is_all]
+    return [packet.picture, packet.fate, sent, came, packet.size, packet.is_all, packet.count]
 
 
 def _message(message: way.Message) -> list[object]:

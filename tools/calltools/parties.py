@@ -1,5 +1,6 @@
 """A party of a live call: its camera and its screen, and the ends between them and the network."""
 
+from dataclasses import replace
 from typing import Callable, Optional
 
 from .call_network import Line
@@ -7,7 +8,10 @@ from .cameras import Camera
 from .errors import BadInput
 from .live_end import CallContext
 from .receiving import Receiving
-from .rtcp import Feedback, bye_bytes, feedback_bytes, read_rtcp
+from .reporting import Reporting
+from .reports import Report, is_description, read_report
+from .rtcp import Bye, Feedback, bye_bytes, feedback_bytes, packets_of, read_rtcp
+from .rtp import rtp_header
 from .screens import Screen
 from .sending import Sending
 from .y4m import Frame
@@ -22,6 +26,8 @@ class Party:
     def __init__(self, context: CallContext, line: Line) -> None:
         self._context, self._line = context, line
         line.media.on_datagram, line.control.on_datagram = self._packet, self._rtcp
+        session = context.settings.target * float(context.settings.rate)
+        self.reporting = Reporting(context.loop, session, line.control.send)
         self.camera: Optional[Camera] = None
         self.screen: Optional[Screen] = None
         self.sending: Optional[Sending] = None
@@ -33,7 +39,7 @@ class Party:
     def add_camera(self, camera: Camera) -> None:
         """What the party sends."""
         sending = Sending(self._context)
-        sending.on_packet = self._line.media.send
+        sending.on_packet = self._send
         sending.on_over = self._over
         sending.on_fault = self._fault
         camera.on_frame, camera.on_end, camera.on_fault = sending.frame, self._end, self._fault
@@ -88,23 +94,44 @@ class Party:
         assert self.screen
         self.screen.show(frame, self._context.loop.now())
 
+    def _send(self, packet: bytes) -> None:
+        self.reporting.sent(packet)
+        self._line.media.send(packet)
+
     def _packet(self, data: bytes) -> None:
-        if self.receiving:
-            self.receiving.packet(data)
-        else:
+        if not self.receiving:
             self._drop("not asked for")
+            return
+        self.receiving.packet(data)
+        header = rtp_header(data)
+        if header and header.source == self.receiving.source:
+            self.reporting.came(header)
 
     def _feedback(self, feedback: Feedback) -> None:
-        self._line.control.send(feedback_bytes(feedback))
+        # Reports and messages of a party are of one speaker.
+        own = replace(feedback, speaker=self.reporting.source)
+        self._line.control.send(feedback_bytes(own))
 
     def _rtcp(self, data: bytes) -> None:
-        packet = read_rtcp(data)
-        if isinstance(packet, Feedback) and self.sending:
-            self.sending.feedback(packet)
-        elif packet and not isinstance(packet, Feedback) and self.receiving:
-            self.receiving.bye(packet)
-        else:
-            self._drop("not asked for" if packet else "malformed")
+        packets = packets_of(data)
+        for packet in packets:
+            self._take(packet)
+        if not packets:
+            self._drop("malformed")
+
+    def _take(self, packet: bytes) -> None:
+        known = read_report(packet) or read_rtcp(packet)
+        if isinstance(known, Report):
+            self.reporting.size(len(packet))
+            self.reporting.heard(known, self.receiving.source if self.receiving else None)
+        elif isinstance(known, Feedback) and self.sending:
+            self.sending.feedback(known)
+        elif isinstance(known, Bye) and self.receiving:
+            self.receiving.bye(known)
+        elif known:
+            self._drop("not asked for")
+        elif not is_description(packet):
+            self._drop("of another kind")
 
     def _drop(self, cause: str) -> None:
         self._context.tally.dropped[cause] += 1

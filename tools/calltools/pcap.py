@@ -1,9 +1,11 @@
 """Captures (pcap and pcapng) of UDP over IPv4 and IPv6, read; pcap of UDP over IPv4, written."""
 
+import os
 import struct
 from dataclasses import dataclass
 from typing import BinaryIO, Iterator, Optional
 
+from . import working
 from .errors import BadInput
 
 _MAGICS = {  # the first four bytes: byte order, and parts of a second in the times
@@ -17,6 +19,10 @@ _RAW_IP = 101
 # Bytes before the IP header by the type of the link: BSD loopback, Ethernet, raw IP, Linux cooked (both versions).
 _BEFORE_IP = {0: 4, 1: 14, _RAW_IP: 0, 113: 16, 276: 20}
 MOST_UDP = 65_507
+# What is read at once: a size that a capture only claims takes no memory.
+_AT_ONCE = 1 << 20
+# Of an interface: many more than there are kinds of.
+_MOST_OPTIONS = 1_000
 # Of a pcapng block, by its kind: an interface, an enhanced packet.
 _LEAST_BODY = {1: 8, 6: 20}
 
@@ -47,15 +53,20 @@ def read_capture(file: BinaryIO, path: str) -> Iterator[Optional[Datagram]]:
         frames = _pcap_frames(file, path, *_MAGICS[magic])
     else:
         raise BadInput(path, "byte 0", "this is neither pcap nor pcapng")
-    for frame in frames:
+    whole = os.fstat(file.fileno()).st_size if file.seekable() else None
+    for frame in working.through(frames, f"{path}: reading", whole, file.tell if whole else None):
         yield _datagram(frame)
 
 
 def _taken(file: BinaryIO, path: str, size: int) -> bytes:
-    found = file.read(size)
-    if len(found) < size:
-        raise BadInput(path, f"byte {file.tell()}", "the capture ends within a part")
-    return found
+    parts: list[bytes] = []
+    while size:
+        part = file.read(min(size, _AT_ONCE))
+        if not part:
+            raise BadInput(path, f"byte {file.tell()}", "the capture ends within a part")
+        parts.append(part)
+        size -= len(part)
+    return b"".join(parts)
 
 
 def _pcap_frames(file: BinaryIO, path: str, order: str, parts: int) -> Iterator[_Frame]:
@@ -100,12 +111,18 @@ def _pcapng_frames(file: BinaryIO, path: str) -> Iterator[_Frame]:
 
 def _parts_of_a_second(order: str, options: bytes) -> int:
     # Option 9 of an interface is the unit of its times; without it they are microseconds.
-    while len(options) > 4:
-        code, size = struct.unpack_from(order + "HH", options)
+    head = struct.Struct(order + "HH").unpack_from
+    at, last = 0, len(options) - 5
+    for _ in range(_MOST_OPTIONS):
+        if at > last:
+            break
+        code, size = head(options, at)
+        if not code:
+            break
         if code == 9 and size == 1:
-            unit = options[4]
+            unit = options[at + 4]
             return 2 ** (unit & 0x7F) if unit & 0x80 else 10**unit
-        options = options[4 + (size + 3) // 4 * 4 :]
+        at += 4 + (size + 3) // 4 * 4
     return 10**6
 
 

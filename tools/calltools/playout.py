@@ -9,6 +9,30 @@ _MEMORY = 0.5
 _SOME, _LONG = 5, 0.3
 
 
+class LeastWay:
+    """The least of the last half second's ways. Only those are kept that may still become the least."""
+
+    def __init__(self) -> None:
+        self._ways: deque[tuple[float, float]] = deque()
+        self._times: deque[float] = deque()
+
+    def add(self, now: float, way: float) -> float:
+        """The least one with this one."""
+        while self._ways and self._ways[-1][1] >= way:
+            self._ways.pop()
+        self._ways.append((now, way))
+        self._times.append(now)
+        while self._ways[0][0] < now - _MEMORY:
+            self._ways.popleft()
+        while self._times[0] < now - _MEMORY:
+            self._times.popleft()
+        return self._ways[0][1]
+
+    def is_known(self, now: float) -> bool:
+        """Whether there were enough of them, over long enough."""
+        return len(self._times) >= _SOME and now - self._times[0] > _LONG
+
+
 class Playout:
     """A picture is due at its time of capture, plus the least way of the last half second, plus
     the wait.
@@ -20,7 +44,7 @@ class Playout:
 
     def __init__(self, period: float, wait: float) -> None:
         self._period, self._wait = period, wait
-        self._ways: deque[tuple[float, float]] = deque()
+        self._least = LeastWay()
         self._way: Optional[float] = None
         self._times: dict[int, float] = {}
         self._newest = -1
@@ -31,12 +55,8 @@ class Playout:
         if self._before is None or picture > self._before[0]:
             self._times[picture] = captured
             self._newest = max(self._newest, picture)
-        self._ways.append((now, now - captured))
-        while self._ways[0][0] < now - _MEMORY:
-            self._ways.popleft()
-        least = min(way for _, way in self._ways)
-        is_known = len(self._ways) >= _SOME and now - self._ways[0][0] > _LONG
-        if self._way is None or least < self._way or is_known:
+        least = self._least.add(now, now - captured)
+        if self._way is None or least < self._way or self._least.is_known(now):
             self._way = least
 
     def due(self, picture: int) -> Optional[float]:

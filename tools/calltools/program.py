@@ -6,7 +6,9 @@ from pathlib import Path
 
 from .errors import BadInput
 
-OWN = Path(__file__).resolve().parent.parent.parent / "crates" / "h263rps" / "out" / "h263rps"
+_TOP = Path(__file__).resolve().parent.parent.parent
+_RELEASED = _TOP / "bin" / "h263rps"
+OWN = _RELEASED if _RELEASED.exists() else _TOP / "crates" / "h263rps" / "out" / "h263rps"
 
 
 def add_option(parser: argparse.ArgumentParser) -> None:

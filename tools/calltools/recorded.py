@@ -1,13 +1,15 @@
 """The folder that `live_call --record` writes (docs/LIVE.md): its settings, logs, times, videos."""
 
+import io
 import json
 import re
+import sys
 from dataclasses import dataclass
 from fractions import Fraction
 from pathlib import Path
-from typing import Any, Optional, Sequence
+from typing import Any, BinaryIO, Optional, Sequence
 
-from . import logs, report
+from . import logs, report, working
 from .errors import BadInput
 from .frames import frames_of
 from .picture_start import PERIODS
@@ -16,6 +18,10 @@ from .y4m import FORMATS, Size
 
 
 _TIME = re.compile(r"-?\d{1,9}(?:\.\d{1,9})?")
+_RATE = re.compile(r"\d{1,6}(?:/\d{1,6}|\.\d{1,6})?")
+_BEGAN = re.compile(r"[-0-9T:.+]{16,40}")
+# Greater numbers are no setting's.
+_MOST = 1e9
 # What a run of each command names.
 _NAMES = {"send": ("video", "log", "wire", "report"), "recv": ("log", "video", "wire", "report")}
 
@@ -40,6 +46,16 @@ class Record:
         """Whether nobody wrote the end: the files may stop anywhere."""
         return "counts" not in self.told
 
+    def opened(self, name: str) -> BinaryIO:
+        """A file of the folder, to be read; where the call was cut off, one that isn't there is empty."""
+        path = self.path(name)
+        return io.BytesIO() if self.is_cut and not path.exists() else open(path, "rb")
+
+    def tell_cut(self) -> None:
+        """Says on the standard error that the call has no end, if that is so."""
+        if self.is_cut:
+            print(f"{self.folder}: the recording was cut off: what is whole of it is taken", file=sys.stderr)
+
     @property
     def size(self) -> Size:
         return Size(*FORMATS[self.told["format"]])
@@ -57,6 +73,7 @@ class Record:
 def read_record(folder: Path) -> Record:
     """A folder with a whole call.json of version 1."""
     path = folder / "call.json"
+    _check_file(path)
     with open(path, encoding="utf-8") as file:
         try:
             told = json.load(file)
@@ -70,13 +87,36 @@ def read_record(folder: Path) -> Record:
         raise BadInput(str(path), "rate", "pictures a second are wanted, as in 30000/1001")
     for command, names in _NAMES.items():
         _check_runs(path, command, told.get(command, []), names)
+    _check_files(path, told)
     return Record(folder, told)
+
+
+def _check_file(path: Path) -> None:
+    # Nothing would ever come out of a pipe.
+    if path.exists() and not path.is_file():
+        raise BadInput(str(path), "a file of the folder", "it is no file")
+
+
+def _check_files(path: Path, told: dict[str, Any]) -> None:
+    # Each run has its own files, so that reading all of them takes no longer than the folder is.
+    seen: set[str] = set()
+    for command, names in _NAMES.items():
+        for number, run in enumerate(told.get(command, []), 1):
+            for name in names:
+                if run[name] in seen:
+                    raise BadInput(str(path), f"{command}, run {number}", f"{name} is a file of another run, too")
+                seen.add(run[name])
+                file = path.parent / run[name]
+                _check_file(file)
+                _check_file(file.with_suffix(".times"))
 
 
 def _is_rate(rate: object) -> bool:
     try:
-        return isinstance(rate, str) and Fraction(1, 10) <= Fraction(rate) <= 1000
-    except (ValueError, ZeroDivisionError):
+        # In a number with an exponent a few digits would say millions.
+        is_text = isinstance(rate, str) and _RATE.fullmatch(rate)
+        return bool(is_text) and Fraction(1, 10) <= Fraction(rate) <= 1000  # type: ignore[arg-type]
+    except ZeroDivisionError:
         return False
 
 
@@ -111,7 +151,8 @@ class Timed:
     time: Optional[float]
 
 
-def _times(path: Path, is_cut: bool) -> list[float]:
+def times_in(path: Path, is_cut: bool = False) -> list[float]:
+    """The times of a file, a line each. Where it may have been cut off, those before the cut."""
     if not path.exists():
         return []
     lines = path.read_text(encoding="ascii", errors="replace").split("\n")
@@ -119,24 +160,36 @@ def _times(path: Path, is_cut: bool) -> list[float]:
     last = lines.pop()
     if last and not is_cut:
         lines.append(last)
+    times = []
     for number, line in enumerate(lines, 1):
         if not _TIME.fullmatch(line):
+            if is_cut:
+                break
             raise BadInput(str(path), f"line {number}", "a time in seconds is wanted")
-    return list(map(float, lines))
+        times.append(float(line))
+    return times
+
+
+def video_times(record: Record, name: str) -> list[float]:
+    """When each picture of a video left its end."""
+    return times_in(record.path(name).with_suffix(".times"), record.is_cut)
 
 
 def entries_of(record: Record, name: str) -> list[Timed]:
-    """The entries of a log with their times. Where the call was cut off, those before the cut."""
+    """The entries of a log with their times. Where the call was cut off, those before the cut that
+    have a time, too."""
     path = record.path(name)
-    times: list[Optional[float]] = [*_times(path.with_suffix(".times"), record.is_cut)]
+    beside = path.with_suffix(".times")
+    times: list[Optional[float]] = [*times_in(beside, record.is_cut)]
     entries: list[logs.Entry] = []
-    with open(path, "rb") as file:
+    with record.opened(name) as file:
         try:
-            entries.extend(logs.read_log(file, str(path)))
+            entries.extend(working.through(logs.read_log(file, str(path)), f"{path}: entries"))
         except BadInput:
             if not record.is_cut:
                 raise
-    times += [None] * (len(entries) - len(times))
+    if not record.is_cut or not beside.exists():
+        times += [None] * (len(entries) - len(times))
     return [Timed(entry, time) for entry, time in zip(entries, times)]
 
 
@@ -145,7 +198,12 @@ def video_of(record: Record, name: str) -> Sequence[bytes]:
     path = record.path(name)
     if not path.exists() or not path.stat().st_size:
         return []
-    found = frames_of(path, record.is_cut)
+    try:
+        found = frames_of(path, record.is_cut)
+    except BadInput:
+        if record.is_cut:
+            return []
+        raise
     if found.size != record.size:
         raise BadInput(str(path), "the head", "its size is not the call's format")
     return found
@@ -154,9 +212,13 @@ def video_of(record: Record, name: str) -> Sequence[bytes]:
 def pictures_of(record: Record, name: str) -> list[report.Picture]:
     """The pictures of a report. One of an end that died at once has none."""
     path = record.path(name)
-    with open(path, encoding="ascii", errors="replace") as file:
-        lines = file.readlines()
-    return report.read_report(lines, str(path)).pictures if lines else []
+    with record.opened(name) as file:
+        lines = file.read().decode("ascii", "replace").splitlines(keepends=True)
+    if not record.is_cut:
+        return report.read_report(lines, str(path)).pictures if lines else []
+    # The last line may be the beginning of another one.
+    whole = [line for line in lines if line.endswith("\n")]
+    return report.whole_pictures(whole, str(path))
 
 
 def about(record: Record) -> list[str]:
@@ -170,13 +232,13 @@ def about(record: Record) -> list[str]:
         words.append(f"target {told['target']:,} bytes a picture")
     if _is_number(told.get("wait")):
         words.append(f"wait {1000 * told['wait']:g} ms")
-    if isinstance(told.get("began"), str):
+    if isinstance(told.get("began"), str) and _BEGAN.fullmatch(told["began"]):
         words.append(f"{told['began'][:16].replace('T', ' ')} UTC")
     return words
 
 
 def _is_number(value: object) -> bool:
-    return isinstance(value, (int, float)) and not isinstance(value, bool)
+    return type(value) in (int, float) and -_MOST <= value <= _MOST  # type: ignore[operator]
 
 
 def _network(network: dict[str, Any]) -> str:

@@ -10,7 +10,7 @@ from .errors import BadInput
 from .messages import read_message
 from .numbers import nearest
 from .picture_start import picture_start
-from .recorded import Record, Timed, entries_of, pictures_of, video_of
+from .recorded import Record, Timed, entries_of, pictures_of, video_of, video_times
 
 _SEQUENCES, _STAMPS = 1 << 16, 1 << 32
 # `recv` without --lead.
@@ -116,6 +116,7 @@ class Receiver:
     skipped: int
     pictures: list[report.Picture]
     played: list[Optional[float]]
+    shown: list[float]
     packets: list[CamePacket]
     said: list[Said]
     frames: Sequence[bytes]
@@ -134,6 +135,7 @@ def receiver_of(record: Record, place: int) -> Receiver:
         skipped=skipped,
         pictures=pictures_of(record, run["report"]),
         played=played,
+        shown=video_times(record, run["video"]),
         packets=_came(entries),
         said=_said(record, run, played)[skipped:],
         frames=video_of(record, run["video"]),

@@ -1,6 +1,7 @@
 """The ways of a recorded call: each run of `recv` with the run of `send` that it heard."""
 
-from dataclasses import replace
+import bisect
+from dataclasses import dataclass, replace
 from typing import Iterator, Optional, Sequence
 
 from . import way
@@ -9,11 +10,25 @@ from .recorded import Record
 from .recorded_ends import CamePacket, Receiver, Sender, receiver_of, sender_of
 
 _SECOND = 90_000
+# Rows of a gap of sequence numbers; each says how many packets it stands for.
+_MOST_ROWS = 8
+# A message comes back at most this much before it is said, in seconds: a busy machine notes a time too late.
+_TOO_LATE = 0.05
 
 
-def ways_of(record: Record, other: Optional[Record] = None) -> list[way.Way]:
-    """All ways of a call. `other` is the folder of the other machine: its sender's pictures come
-    here, and ours go there. A run whose other end isn't recorded tells what it knows."""
+@dataclass(frozen=True)
+class Ends:
+    """The runs of a call's ends: those of `recv` with the run of `send` that each heard, and those
+    whose other end isn't recorded."""
+
+    joined: list["Joined"]
+    received: list[tuple[Record, Receiver]]
+    sent: list[tuple[Record, Sender]]
+
+
+def ends_of(record: Record, other: Optional[Record] = None) -> Ends:
+    """All runs of a call. `other` is the folder of the other machine: its sender's pictures come
+    here, and ours go there."""
     records = [record] if other is None else [record, other]
     senders = [
         (at, sender_of(at, number)) for at in records for number in range(len(at.runs("send")))
@@ -21,17 +36,25 @@ def ways_of(record: Record, other: Optional[Record] = None) -> list[way.Way]:
     receivers = [
         (at, receiver_of(at, number)) for at in records for number in range(len(at.runs("recv")))
     ]
-    ways, joined = [], set()
+    joined, received, heard = [], [], set()
     for at, receiver in receivers:
         if not receiver.packets:
             continue
         found = next((pair for pair in senders if pair[1].source == receiver.source), None)
         if found is None:
-            ways.append(_CameOnly(at, receiver).way())
+            received.append((at, receiver))
             continue
-        joined.add(id(found[1]))
-        ways.append(_Joined(at, receiver, found[1], found[0]).way())
-    ways += [_sent_only(at, sender) for at, sender in senders if id(sender) not in joined]
+        heard.add(id(found[1]))
+        joined.append(Joined(at, receiver, found[1], found[0]))
+    return Ends(joined, received, [pair for pair in senders if id(pair[1]) not in heard])
+
+
+def ways_of(record: Record, other: Optional[Record] = None) -> list[way.Way]:
+    """All ways of a call. A run whose other end isn't recorded tells what it knows."""
+    ends = ends_of(record, other)
+    ways = [one.way() for one in ends.joined]
+    ways += [_CameOnly(*one).way() for one in ends.received]
+    ways += [_sent_only(*one) for one in ends.sent]
     ways = [one for one in ways if one.pictures]
     return [replace(one, name="") for one in ways] if len(ways) == 1 else ways
 
@@ -61,13 +84,34 @@ def _run_name(record: Record, number: int) -> str:
     return record.folder.resolve().name + (f" (run {number})" if number > 1 else "")
 
 
-class _Joined:
+class _Unheard:
+    """Equal messages by the times at which they were said; each is taken once."""
+
+    def __init__(self, rows: list[tuple[float, int]]) -> None:
+        self._rows = sorted(rows)
+        self._times = [time for time, _ in self._rows]
+        # Of each place, counted from 1, the last one up to it that wasn't taken, or a nearer one on the way there.
+        self._last = list(range(len(rows) + 1))
+
+    def take(self, until: float) -> Optional[int]:
+        """The number of the last message that was said by this time and isn't taken."""
+        at = bisect.bisect_right(self._times, until)
+        while self._last[at] != at:
+            self._last[at] = self._last[self._last[at]]
+            at = self._last[at]
+        if not at:
+            return None
+        self._last[at] = at - 1
+        return self._rows[at - 1][1]
+
+
+class Joined:
     """A run of `recv` and the run of `send` that it heard. Pictures have the sender's
     numbers, the receiver's plus `offset`; times are the receiver's, the sender's plus `shift`."""
 
     def __init__(self, record: Record, receiver: Receiver, sender: Sender, sent_at: Record) -> None:
         self.record, self.receiver, self.sender = record, receiver, sender
-        is_one_clock = sent_at is record
+        self.is_one_clock = is_one_clock = sent_at is record
         self.name = _run_name(record, receiver.number)
         if not is_one_clock:
             self.name = f"{_run_name(sent_at, sender.number)} to {self.name}"
@@ -109,19 +153,16 @@ class _Joined:
 
     def _heard(self) -> dict[int, float]:
         # Of each message that came back, by its place: when.
-        by_body: dict[bytes, list[int]] = {}
+        rows: dict[bytes, list[tuple[float, int]]] = {}
         for number, said in enumerate(self.receiver.said):
-            by_body.setdefault(said.body, []).append(number)
+            rows.setdefault(said.body, []).append((self._said(number), number))
+        by_body = {body: _Unheard(own) for body, own in rows.items()}
         found: dict[int, float] = {}
         for heard in self.sender.heard:
             time = (heard.time or 0.0) + self.shift
-            before = [
-                k
-                for k in by_body.get(heard.body, [])
-                if k not in found and self._said(k) <= time + 0.05
-            ]
-            if before:
-                found[before[-1]] = time
+            equal = by_body.get(heard.body)
+            if equal and (number := equal.take(time + _TOO_LATE)) is not None:
+                found[number] = time
         return found
 
     def _packets(self) -> Iterator[way.Packet]:
@@ -146,19 +187,39 @@ class _Joined:
 
     def _picture(self, number: int) -> way.Picture:
         coded, shown = self.sender.pictures[number], self.receiver.pictures[number - self.offset]
-        captured = _add(_item(self.sender.captured, number), self.shift)
         played = _item(self.receiver.played, number - self.offset)
-        return way.Picture(number, shown.mark, coded.is_intra, coded.reference, captured, played)
+        return way.Picture(
+            number, shown.mark, coded.is_intra, coded.reference, self.captured(number), played
+        )
+
+    def numbers(self) -> range:
+        """The numbers of the pictures that were sent and played."""
+        first = self.offset + self.receiver.skipped
+        return range(first, min(len(self.sender.pictures), self.offset + len(self.receiver.pictures)))
+
+    def captured(self, number: int) -> Optional[float]:
+        """When a picture was captured, by the receiver's clock."""
+        return _add(_item(self.sender.captured, number), self.shift)
+
+    def mark(self, number: int) -> str:
+        return self.receiver.pictures[number - self.offset].mark or ""
+
+    def shown(self, number: int) -> Optional[float]:
+        """When a picture left the receiver."""
+        return _item(self.receiver.shown, number - self.offset)
+
+    def sent(self, place: int) -> Optional[float]:
+        """When the packet at this place went out, by the receiver's clock."""
+        return _add(self.sender.packets[place].time, self.shift)
 
     def way(self) -> way.Way:
         """The pictures that were sent and played."""
-        first = self.offset + self.receiver.skipped
-        last = min(len(self.sender.pictures), self.offset + len(self.receiver.pictures))
+        first, last = self.numbers().start, self.numbers().stop
         return way.Way(
             name=self.name,
             size=self.record.size,
             period=self.record.period,
-            pictures=[self._picture(number) for number in range(first, last)],
+            pictures=[self._picture(number) for number in self.numbers()],
             packets=list(self._packets()),
             messages=list(self._messages()),
             captured=self.sender.frames[first:last],
@@ -215,14 +276,16 @@ class _CameOnly:
             yield from self._lost(one, other, after - before - 1)
 
     def _lost(self, one: CamePacket, other: CamePacket, count: int) -> Iterator[way.Packet]:
-        # Between two that came: of the pictures between them, shared out evenly.
+        # Between two that came: of the pictures between them, shared out evenly. A row stands for all of a picture's,
+        # and in a long gap for those of several pictures.
         first = self._number(one) + one.has_marker
         pictures = max(self._number(other) - first + 1, 1)
-        for place in range(min(count, 1 << 16)):
-            step = place * pictures // count
-            yield way.Packet(
-                first + step, "lost", self._sent(one) + (step + one.has_marker) * self.record.period
-            )
+        rows = min(count, pictures, _MOST_ROWS)
+        for row in range(rows):
+            step = row * pictures // rows
+            sent = self._sent(one) + (step + one.has_marker) * self.record.period
+            share = count // rows + (row < count % rows)
+            yield way.Packet(first + step, "lost", sent, count=share)
 
     def way(self) -> way.Way:
         """The pictures that were played."""

@@ -1,8 +1,11 @@
 """The folder of a call that can be looked at afterwards (docs/LIVE.md, "A recorded call")."""
 
 import json
+import os
 from pathlib import Path
 from typing import Any, BinaryIO, Callable, Optional
+
+from .errors import BadInput
 
 VERSION = 1
 # What each end's run has: its key in call.json, the file's name, and whether it has times beside.
@@ -46,9 +49,23 @@ class RunRecord:
         if key in self._times:
             self._recorder.write(self._times[key], f"{when - self._recorder.began:.6f}\n".encode())
 
+    def flush(self) -> None:
+        """Hands what is written on to the system, but for videos: they are large, and go by themselves."""
+        small = [file for key, file in self._files.items() if key != "video"]
+        for file in (*small, *self._times.values()):
+            if not self._recorder.fault:
+                self._recorder.guarded(file.flush)
+
     def close(self) -> None:
         for file in (*self._files.values(), *self._times.values()):
             self._recorder.guarded(file.close)
+
+
+def _replace(path: Path, text: str) -> None:
+    # So that a whole file is there at any time, whatever ends the call or fills the disk.
+    new = path.with_suffix(".new")
+    new.write_text(text)
+    os.replace(new, path)
 
 
 class Recorder:
@@ -62,8 +79,11 @@ class Recorder:
         self._folder = folder
         self._facts: dict[str, Any] = {"version": VERSION, **facts, "send": [], "recv": []}
         self._runs: list[RunRecord] = []
+        self._told = ""
         if folder:
             folder.mkdir(parents=True, exist_ok=True)
+            if any(folder.iterdir()):
+                raise BadInput(str(folder), "--record", "the folder isn't empty")
             self._write_facts()
         if self.fault:
             raise self.fault
@@ -76,6 +96,12 @@ class Recorder:
         self._write_facts()
         return run
 
+    def flush(self) -> None:
+        """What is recorded by now outlives this process; so does what a run was found to be since it began."""
+        for run in self._runs:
+            run.flush()
+        self._write_facts()
+
     def finish(self, counts: dict[str, Any]) -> None:
         """Closes the files, and writes what came of the call."""
         for run in self._runs:
@@ -86,7 +112,9 @@ class Recorder:
     def _write_facts(self) -> None:
         if self._folder and not self.fault:
             path, text = self._folder / "call.json", json.dumps(self._facts, indent=1) + "\n"
-            self.guarded(lambda: path.write_text(text))
+            if text != self._told:
+                self.guarded(lambda: _replace(path, text))
+                self._told = text
 
     def open(self, files: dict[str, BinaryIO], key: str, name: str) -> None:
         """Opens a file of the folder, if there is one."""

@@ -80,6 +80,20 @@ def read_report(lines: Iterable[str], path: str) -> Report:
     return Report(rows.by_letter[""], rows.rest)
 
 
+def whole_pictures(lines: Iterable[str], path: str) -> list[Picture]:
+    """The pictures of a report of one party that may have been cut off: those before what is none."""
+    found: list[Picture] = []
+    for number, line in enumerate(lines, 1):
+        fields = _PICTURE.fullmatch(line.rstrip("\n"))
+        if not fields or fields[1]:
+            break
+        try:
+            found.append(_picture(fields, len(found), path, number))
+        except BadInput:
+            break
+    return found
+
+
 def text_of(report: Report) -> str:
     """The lines of a report, as `call` prints them."""
     lines = []

@@ -2,7 +2,7 @@
 
 A message goes as a Reference Picture Selection Indication (RFC 4585, 6.3.3), whose native bit
 string it is; it carries the SSRC of the stream that it is about. A stream's end is a BYE
-(RFC 3550, 6.6). Each is a packet by itself (RFC 5506)."""
+(RFC 3550, 6.6). Each goes as a datagram by itself (RFC 5506); what comes in may be a compound."""
 
 import struct
 from dataclasses import dataclass
@@ -14,6 +14,8 @@ _VERSION = 0x80
 _RPSI, _PAYLOAD_FEEDBACK, _BYE = 3, 206, 203
 # Bytes of a message: version 1, version 2 (docs/FORMATS.md, "Back-channel message").
 MESSAGE_BYTES = (3, 5)
+# Of a datagram with more packets than this, none is looked at: a report has two or three.
+_MOST_PACKETS = 16
 
 
 @dataclass(frozen=True)
@@ -58,6 +60,19 @@ def bye_bytes(source: int) -> bytes:
 def is_rtcp(data: bytes) -> bool:
     """Whether the bytes look like RTCP: its version, and a type from 192 to 223 (RFC 5761, 4)."""
     return len(data) >= 4 and data[0] >> 6 == 2 and 192 <= data[1] <= 223
+
+
+def packets_of(datagram: bytes) -> list[bytes]:
+    """The packets of a datagram, each with its head, or none where they don't fill it exactly."""
+    packets: list[bytes] = []
+    at = 0
+    while at < len(datagram) and len(packets) < _MOST_PACKETS:
+        end = at + 4 + 4 * int.from_bytes(datagram[at + 2 : at + 4], "big")
+        if not is_rtcp(datagram[at:end]) or end > len(datagram):
+            return []
+        packets.append(datagram[at:end])
+        at = end
+    return packets if at == len(datagram) else []
 
 
 def read_rtcp(data: bytes) -> Optional[Union[Feedback, Bye]]:

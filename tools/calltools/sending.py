@@ -1,9 +1,12 @@
 """The sending end of a live call: frames in, packets out to the network, messages back in."""
 
 import random
-from typing import Callable
+from dataclasses import replace
+from typing import Callable, Optional
 
 from . import logs
+from .following import Bounds, Follower
+from .in_process import SendInProcess
 from .live_end import CallContext, LiveEnd, program_of
 from .messages import read_message
 from .numbers import nearest
@@ -19,19 +22,24 @@ _BEHIND = 4
 _KEPT = 100
 # Bytes that may wait in the log of `send`; a message that comes then is dropped.
 _MOST_WAITING = 1 << 16
+# Where nothing comes back for this many seconds, a picture goes out only each so many (after RFC 8083: what nobody is
+# seen to receive must not fill a line that may be full).
+_UNHEARD = ((10.0, 1.0), (2.0, 0.2))
 # That a run is nearly full is told this many seconds before.
 _NOTICE = 60
 
 
 class SendingRun:
     """One run of `send`, with an SSRC, a first sequence number and a first time of its own
-    (RFC 3550, 5.1)."""
+    (RFC 3550, 5.1). Its target follows the line between bounds, if there are any."""
 
-    def __init__(self, context: CallContext, recent: Recent) -> None:
+    def __init__(self, context: CallContext, recent: Recent, bounds: Optional[Bounds]) -> None:
         loop, settings = context.loop, context.settings
         self._loop, self._settings = loop, settings
         self._tally, self._recent = context.tally, recent
-        self.source, self._first_sequence, self._first_time = map(random.getrandbits, (32, 16, 32))
+        # The first sequence number is below 2^15: were it just below 2^16 and the first packets lost, a receiver of
+        # SRTP would guess another turn of the numbers (RFC 3711, 3.3.1).
+        self.source, self._first_sequence, self._first_time = map(random.getrandbits, (32, 15, 32))
         self._record = context.recorder.run("send", self._facts())
         self.program = program_of(context, "send", "rrw", settings.send_options())
         video, log, wire = self.program.files
@@ -44,6 +52,9 @@ class SendingRun:
         self._times: dict[int, float] = {}
         self._began = 0.0
         self._is_ended = False
+        now = loop.now()
+        self._follower = Follower(bounds, settings.period, now) if bounds else None
+        self._packets: list[int] = []  # the sizes of those of the picture that is being coded
         self._put_video(head_bytes(settings.size, settings.rate))
 
     def _facts(self) -> dict[str, object]:
@@ -53,6 +64,15 @@ class SendingRun:
             "first_sequence": self._first_sequence,
             "first_time": self._first_time,
         }
+
+    @property
+    def size(self) -> int:
+        """Bytes a picture that the line has room for."""
+        return self._follower.size if self._follower else self._settings.target
+
+    def has_room(self, now: float) -> bool:
+        """Whether the line, as far as its rate is followed, has room for a further picture."""
+        return not self._follower or self._follower.has_room(now)
 
     def capture(self, samples: bytes, now: float) -> bool:
         """A frame came from the camera. It is left out where the coder lags, or where it had
@@ -65,6 +85,7 @@ class SendingRun:
         self._times[self.captured] = self._last = now
         self._times.pop(self.captured - _KEPT, None)
         self.captured += 1
+        self._set_target()
         self._put_log(logs.entry_bytes(logs.CAPTURE), now)
         self._put_video(b"FRAME\n" + samples)
         return True
@@ -74,10 +95,13 @@ class SendingRun:
         if self._is_ended or self._log.waiting > _MOST_WAITING:
             return
         said = read_message(body)
+        newest, period = self.captured - 1, PERIODS[self._settings.clock]
+        picture = nearest(newest - period // 2 + 1, said.reference, period)
         if said.is_ack:
-            newest = self.captured - 1
-            period = PERIODS[self._settings.clock]
-            self._recent.trip(newest - nearest(newest - period // 2 + 1, said.reference, period))
+            self._recent.trip(newest - picture)
+        if self._follower and body[0] >> 7:
+            # Else it is none (docs/FORMATS.md, "Back-channel message").
+            self._follower.told(picture, said.is_ack, now)
         self._put_log(logs.entry_bytes(logs.MESSAGE, body), now)
 
     def end(self) -> None:
@@ -85,6 +109,12 @@ class SendingRun:
         self._is_ended = True
         self._log.end()
         self._video.end()
+
+    def _set_target(self) -> None:
+        if not self._follower or not isinstance(self.program, SendInProcess):
+            return
+        self.program.follow(self._follower.target)
+        self._recent.kbits = 8 * self._follower.rate / 1_000
 
     def _put_log(self, entry: bytes, now: float) -> None:
         self._record.mark("log", now)
@@ -100,8 +130,12 @@ class SendingRun:
         header = rtp_header(packet)
         assert header
         picture = header.timestamp // TICKS_A_PICTURE
+        self._packets.append(len(packet))
         if header.is_last:
             self._coded = picture + 1
+            if self._follower:
+                self._follower.sent(picture, self._packets, self._loop.now())
+            self._packets = []
         # RTP's time is that of the capture: `send` counts pictures, and a camera may skip some.
         ticks = round((self._times[picture] - self._began) * CLOCK)
         sequence = self._first_sequence + header.sequence
@@ -128,11 +162,15 @@ class Sending(LiveEnd):
         super().__init__(context)
         self.recent = Recent()
         self.on_packet: Callable[[bytes], None] = lambda _: None
-        self._is_told = False
+        self._is_told = self._is_unheard = False
+        self._captured = 0.0
+        # Since when pictures are sent of which nothing is heard.
+        self._unheard: Optional[float] = None
+        self._bounds = self._settings.bounds if self._settings.adapts else None
         self._run = self._begun()
 
     def _begun(self) -> SendingRun:
-        run = SendingRun(self._context, self.recent)
+        run = SendingRun(self._context, self.recent, self._bounds)
         run.on_packet = lambda packet: self.on_packet(packet)
         run.program.on_end = lambda: self._ended(run.program)
         return run
@@ -144,20 +182,36 @@ class Sending(LiveEnd):
 
     def frame(self, samples: bytes) -> bool:
         """A frame came from the camera; answers whether it was taken."""
-        if self._is_ending:
+        now = self._loop.now()
+        if self._is_ending or not self._is_due(now):
             return False
         if self._run.captured >= self._settings.most_pictures:
             self._begin_anew()
         self._tell_of_the_end()
-        is_taken = self._run.capture(samples, self._loop.now())
+        if not self._run.has_room(now):
+            self._tally.thinned += 1
+            return False
+        is_taken = self._run.capture(samples, now)
+        if is_taken:
+            self._captured = now
+            self._unheard = now if self._unheard is None else self._unheard
         self._tally.captured += is_taken
         return is_taken
+
+    def _is_due(self, now: float) -> bool:
+        silent = 0.0 if self._unheard is None else now - self._unheard
+        least = next((each for after, each in _UNHEARD if silent >= after), 0.0)
+        if least and not self._is_unheard:
+            self._is_unheard = True
+            self._context.say("nothing comes back: fewer pictures are sent until something does")
+        return now - self._captured >= least
 
     def feedback(self, feedback: Feedback) -> None:
         """A message came from the network."""
         if feedback.about != self._run.source:
             self._tally.dropped["stale messages"] += 1
             return
+        self._unheard, self._is_unheard = None, False
         self._tally.messages_in += 1
         self._run.message(feedback.message, self._loop.now())
 
@@ -180,6 +234,8 @@ class Sending(LiveEnd):
     def _begin_anew(self) -> None:
         self._tally.begun_anew += 1
         old, self._is_told = self._run, False
+        if self._bounds:
+            self._bounds = replace(self._bounds, first=old.size)
         old.program.on_end = lambda: None
         old.end()
         self._run = self._begun()

@@ -6,7 +6,7 @@ import zlib
 from dataclasses import dataclass
 from typing import Iterator, Optional, Sequence
 
-from . import lanes, wavelet
+from . import lanes, wavelet, working
 from .quality import NO_ERRORS, Errors, errors_between
 from .y4m import Size
 
@@ -156,7 +156,8 @@ class Video:
 def stored(size: Size, pictures: Sequence[bytes], steps: Optional[Steps]) -> Video:
     """The whole video. What is lost is measured at the first picture of each group."""
     groups, errors = [], NO_ERRORS
-    for group in _groups(pictures):
+    count = -(-len(pictures) // GROUP)
+    for group in working.through(_groups(pictures), "storing pictures", count):
         parts = [coded(size, samples, steps) for samples in group]
         groups.append(base64.b64encode(packed(parts)).decode())
         if steps is not None:

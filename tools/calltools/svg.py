@@ -1,9 +1,18 @@
 """A few words of SVG."""
 
-from html import escape
+import re
+from html import escape as _escape
+
+# What XML has no place for.
+_NO_TEXT = re.compile("[^\t\n\x20-\ud7ff\ue000-\ufffd\U00010000-\U0010ffff]")
 
 COLOURS = {"exact": "#2b8a5a", "patched": "#e6a23c", "held": "#c0392b", None: "#5b7fa6"}
 LIGHT, DARK = "#d9d9d9", "#333333"
+
+
+def escape(words: str) -> str:
+    """Words as XML has them; a character that it can't have is shown as none."""
+    return _escape(_NO_TEXT.sub("\ufffd", words))
 
 
 def text(x: float, y: float, words: str, anchor: str = "middle", size: int = 11) -> str:

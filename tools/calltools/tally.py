@@ -13,10 +13,12 @@ _SILENT = 2.0
 
 @dataclass
 class Tally:
-    """Counts of a call so far; the dropped ones by the cause."""
+    """Counts of a call so far; the dropped ones by the cause. `thinned` are frames that the line
+    had no room for."""
 
     captured: int = 0
     left_out: int = 0
+    thinned: int = 0
     coded: int = 0
     packets_out: int = 0
     packets_in: int = 0
@@ -45,6 +47,8 @@ class Recent:
         self._trips: deque[int] = deque(maxlen=30)
         self._back: deque[int] = deque(maxlen=30)
         self.intra = 0
+        # Kilobits a second, where the target follows the line.
+        self.kbits: Optional[float] = None
 
     def trip(self, pictures: int) -> None:
         """How many pictures were captured since the one that a message is about."""
@@ -68,7 +72,7 @@ class StatusLine:
 
     def __init__(self, has_camera: bool, has_screen: bool) -> None:
         self._has_camera, self._has_screen = has_camera, has_screen
-        self._out = self._in = 0
+        self._out = self._in = self._thinned = 0
 
     def line(self, second: float, tally: Tally, recent: Recent, silent: float) -> str:
         """`silent` is since when nothing came for the screen, in seconds."""
@@ -77,6 +81,11 @@ class StatusLine:
         self._out, self._in = tally.bytes_out, tally.bytes_in
         if self._has_camera:
             parts.append(f"sent {tally.coded} intra {recent.intra} {recent.words()}")
+        if self._has_camera and recent.kbits is not None:
+            parts.append(f"line {recent.kbits:,.0f} kbit/s")
+        if tally.thinned > self._thinned:
+            parts.append(f"too narrow: {tally.thinned - self._thinned} frames left out")
+            self._thinned = tally.thinned
         if self._has_screen:
             marks = " ".join(f"{mark} {tally.marks[mark]}" for mark in MARKS)
             parts.append(f"shown {tally.shown} {marks}")
@@ -97,6 +106,8 @@ def counts(tally: Tally, has_camera: bool, has_screen: bool) -> list[str]:
             f"sent {tally.coded} pictures packets {tally.packets_out} messages in "
             f"{tally.messages_in} left out {tally.left_out}"
         )
+        if tally.thinned:
+            lines.append(f"frames left out for the line {tally.thinned}")
     if has_screen:
         marks = " ".join(f"{mark} {tally.marks[mark]}" for mark in MARKS)
         lines.append(

@@ -7,12 +7,35 @@ import statistics
 import subprocess
 from dataclasses import dataclass
 from pathlib import Path
-from typing import Callable, Iterator, Optional, Sequence
+from typing import Callable, Iterable, Iterator, Optional, Sequence
 
 from .errors import BadInput
 
+
+@dataclass(frozen=True)
+class Spent:
+    """Processor time: of the programs themselves, and of the system for them."""
+
+    user: float
+    system: float
+
+    @property
+    def total(self) -> float:
+        return self.user + self.system
+
+    def __add__(self, other: "Spent") -> "Spent":
+        return Spent(self.user + other.user, self.system + other.system)
+
+    def __sub__(self, other: "Spent") -> "Spent":
+        return Spent(self.user - other.user, self.system - other.system)
+
+    def over(self, parts: float) -> "Spent":
+        """One of so many equal parts."""
+        return Spent(self.user / parts, self.system / parts)
+
+
 # Runs programs on a video, and tells their processor time in seconds.
-Run = Callable[[Path], float]
+Run = Callable[[Path], Spent]
 
 
 @dataclass(frozen=True)
@@ -34,30 +57,31 @@ class Contest:
 
 @dataclass(frozen=True)
 class FrameTime:
-    """Milliseconds of a frame: by the least times of the two videos, and by the middle of what the rounds tell.
+    """Milliseconds of a frame: by the runs of the two videos that took the least, and by the middle of what the rounds
+    tell.
 
     None where the longer video took no more, so that nothing can be told.
     """
 
-    least: Optional[float]
+    least: Optional[Spent]
     middle: Optional[float]
 
 
 @dataclass(frozen=True)
 class _Taken:
     # The seconds of the shorter video and of the longer one, in the same round.
-    short: float
-    long: float
+    short: Spent
+    long: Spent
 
 
-def processor_time(words: Sequence[object]) -> float:
-    """The seconds that a program took of the processor, the system's with them. It must end with status 0."""
+def processor_time(words: Sequence[object]) -> Spent:
+    """The seconds that a program took of the processor. It must end with status 0."""
     before = resource.getrusage(resource.RUSAGE_CHILDREN)
     run = subprocess.run([str(word) for word in words], stdout=subprocess.DEVNULL, stderr=subprocess.DEVNULL)
     if run.returncode != 0:
         raise BadInput(str(words[0]), f"status {run.returncode}", "of " + " ".join(str(word) for word in words[1:]))
     after = resource.getrusage(resource.RUSAGE_CHILDREN)
-    return after.ru_utime + after.ru_stime - before.ru_utime - before.ru_stime
+    return Spent(after.ru_utime - before.ru_utime, after.ru_stime - before.ru_stime)
 
 
 @contextlib.contextmanager
@@ -94,13 +118,15 @@ def frame_times(contests: Sequence[Contest], rounds: int, told: Callable[[int], 
 
 
 def _frame_time(taken: Sequence[_Taken], frames: int) -> FrameTime:
-    least = min(each.long for each in taken) - min(each.short for each in taken)
-    middle = statistics.median(each.long - each.short for each in taken)
-    return FrameTime(_milliseconds(least, frames), _milliseconds(middle, frames))
+    least = _least(each.long for each in taken) - _least(each.short for each in taken)
+    middle = statistics.median((each.long - each.short).total for each in taken)
+    return FrameTime(
+        least.over(frames / 1000) if least.total > 0 else None, 1000 * middle / frames if middle > 0 else None
+    )
 
 
-def _milliseconds(seconds: float, frames: int) -> Optional[float]:
-    return 1000 * seconds / frames if seconds > 0 else None
+def _least(runs: Iterable[Spent]) -> Spent:
+    return min(runs, key=lambda each: each.total)
 
 
 def coded_and_decoded(room: Path, quantiser: int, options: Sequence[str]) -> Run:
@@ -109,7 +135,7 @@ def coded_and_decoded(room: Path, quantiser: int, options: Sequence[str]) -> Run
     coder = ["-threads", "1", "-c:v", "h263", "-qscale:v", quantiser]
     coded = room / "coded.avi"
 
-    def run(video: Path) -> float:
+    def run(video: Path) -> Spent:
         coding = processor_time([*quiet, "-i", video, *coder, *options, coded])
         return coding + processor_time([*quiet, "-i", coded, "-threads", "1", "-f", "null", "-"])
 

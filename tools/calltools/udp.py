@@ -7,6 +7,7 @@ from typing import Callable, Optional
 from .errors import BadInput
 from .loop import Loop
 
+LOOPBACK = "127.0.0.1"
 # The longest datagram that an entry of a log holds.
 MOST_BYTES = 65_535
 # What is read at once at most, so that the rest of the call has its turn.

@@ -20,8 +20,8 @@ class Picture:
 
 @dataclass(frozen=True)
 class Packet:
-    """A packet of a picture, or where `is_all` all that it has. `fate` is taken, lost, late, early,
-    again, or passed where nobody says whether it came."""
+    """A packet of a picture, or as many as `count` says, or where `is_all` all that it has. `fate` is
+    taken, lost, late, early, again, or passed where nobody says whether it came."""
 
     picture: int
     fate: str
@@ -29,6 +29,7 @@ class Packet:
     came: Optional[float] = None
     size: Optional[int] = None
     is_all: bool = False
+    count: int = 1
 
 
 @dataclass(frozen=True)

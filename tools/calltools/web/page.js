@@ -203,7 +203,7 @@ class Page {
 
 /* Rows with names, and what the drawing needs. */
 function wayOf(told) {
-  const packet = ([picture, fate, sent, came, size, isAll]) => {
+  const packet = ([picture, fate, sent, came, size, isAll, count]) => {
     return { picture, fate, sent, came, size, isAll };
   };
   const message = ([picture, isAck, fate, said, heard]) => ({ picture, isAck, fate, said, heard });

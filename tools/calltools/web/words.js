@@ -16,7 +16,7 @@ function packetWords(packets) {
   if (packets.some(({ isAll }) => isAll)) {
     return packets.map(({ isAll, fate }) => `${isAll ? "all" : "one"} ${FATES[fate]}`).join(", ");
   }
-  const count = (fate) => packets.filter((row) => row.fate === fate).length;
+  const count = (fate) => packets.reduce((sum, row) => sum + (row.fate === fate ? row.count : 0), 0);
   const fates = Object.keys(FATES).filter(count);
   return fates.map((fate) => `${count(fate)} ${FATES[fate]}`).join(", ");
 }

@@ -1,0 +1,340 @@
+"""Tests of what follows the line: calls over simulated lines, in discrete time.
+
+The ends are the library's, between this tool's own `Sending` and `Receiving`; the clock, the line
+and the sockets are made here, so that a minute of a call takes seconds, and is always the same.
+"""
+
+import heapq
+import json
+import random
+from dataclasses import dataclass, field
+from pathlib import Path
+from typing import Any, Callable, Optional
+
+from calltools import following, in_process, live_settings, made, receiving, sending, y4m
+from calltools.live_end import CallContext
+from calltools.loop import Timer
+from calltools.recording import Recorder
+from calltools.tally import StatusLine, Tally
+from live_tests import Calls, needs_library
+
+
+_QCIF = y4m.Size(*y4m.FORMATS["qcif"])
+_HEADS = 28
+# What waits before a line, in seconds.
+_QUEUE = 0.2
+_WAY = 0.03
+
+
+class Clock:
+    """A loop whose time is the next call's."""
+
+    def __init__(self) -> None:
+        self._now = 0.0
+        self._timers: list[tuple[float, int, Timer]] = []
+        self._count = 0
+
+    def now(self) -> float:
+        return self._now
+
+    def at(self, when: float, call: Callable[[], None]) -> Timer:
+        timer = Timer(call)
+        self._count += 1
+        heapq.heappush(self._timers, (max(when, self._now), self._count, timer))
+        return timer
+
+    def run(self, until: float) -> None:
+        while self._timers and self._timers[0][0] <= until:
+            self._now, _, timer = heapq.heappop(self._timers)
+            if timer.call:
+                timer.call()
+        self._now = until
+
+
+class Line:
+    """A line of a rate that may change, with a queue of 200 ms before it, and losses by chance."""
+
+    def __init__(self, clock: Clock, kbits: dict[float, int], loss: float = 0.0) -> None:
+        self._clock, self._loss, self._draws = clock, loss, random.Random(5)
+        self._waiting: list[tuple[int, Callable[[], None]]] = []
+        self._bytes, self._is_busy = 0, False
+        self.kbits = kbits[0]
+        for when, rate in kbits.items():
+            clock.at(when, lambda rate=rate: setattr(self, "kbits", rate))
+
+    @property
+    def queue(self) -> float:
+        """How long what waits takes, in seconds."""
+        return 8 * self._bytes / (1_000 * self.kbits)
+
+    def take(self, size: int, arrive: Callable[[], None]) -> bool:
+        """Answers whether it was taken, and not dropped before a full queue."""
+        if self.queue > _QUEUE:
+            return False
+        self._bytes += size
+        self._waiting.append((size, arrive))
+        if not self._is_busy:
+            self._serve()
+        return True
+
+    def _serve(self) -> None:
+        self._is_busy = bool(self._waiting)
+        if self._waiting:
+            size, arrive = self._waiting.pop(0)
+            left = self._clock.now() + 8 * size / (1_000 * self.kbits)
+            self._clock.at(left, lambda: self._sent(size, arrive))
+
+    def _sent(self, size: int, arrive: Callable[[], None]) -> None:
+        self._bytes -= size
+        if self._draws.random() >= self._loss:
+            self._clock.at(self._clock.now() + _WAY, arrive)
+        self._serve()
+
+
+class Flow:
+    """TCP's additive increase and multiplicative decrease, by windows of whole segments."""
+
+    SEGMENT = 1_460
+
+    def __init__(self, clock: Clock, line: Line, began: float) -> None:
+        self._clock, self._line = clock, line
+        self._window, self._flying, self._cut = 4.0, 0, 0.0
+        self.arrived = 0
+        clock.at(began, self._fill)
+
+    def _fill(self) -> None:
+        while self._flying < int(self._window):
+            self._flying += 1
+            sent = self._clock.now()
+            if not self._line.take(self.SEGMENT + 40, lambda sent=sent: self._came(sent)):
+                # Three segments behind it tell of the loss, a round trip later.
+                self._clock.at(sent + 2 * _WAY + _QUEUE, lambda sent=sent: self._lost(sent))
+
+    def _came(self, sent: float) -> None:
+        self.arrived += self.SEGMENT
+        self._clock.at(self._clock.now() + _WAY, self._acknowledged)
+
+    def _acknowledged(self) -> None:
+        self._flying -= 1
+        self._window += 1 / self._window
+        self._fill()
+
+    def _lost(self, sent: float) -> None:
+        self._flying -= 1
+        if sent > self._cut:
+            self._window, self._cut = max(2.0, self._window / 2), self._clock.now()
+        self._fill()
+
+
+_MADE: list[bytes] = []
+
+
+def frames() -> list[bytes]:
+    """A video that has 4,000 bytes a picture at the finest quantiser: the made one with noise."""
+    if not _MADE:
+        draws, count = random.Random(1), _QCIF.width * _QCIF.height
+        mask = int.from_bytes(bytes([63]) * count, "big")
+        for number in range(64):
+            frame = made.made_frame(_QCIF, 1, number)
+            noise = int.from_bytes(draws.randbytes(count), "big") & mask
+            noisy = int.from_bytes(frame[:count], "big") + noise
+            _MADE.append(noisy.to_bytes(count, "big") + frame[count:])
+    return _MADE
+
+
+@dataclass
+class Moment:
+    """How a picture was shown."""
+
+    when: float
+    mark: str
+
+
+@dataclass
+class Seen:
+    """What came of a call."""
+
+    shown: list[Moment] = field(default_factory=list)
+    queues: list[tuple[float, float]] = field(default_factory=list)
+    bytes_out: list[tuple[float, int]] = field(default_factory=list)
+    left_out: int = 0
+    told: list[str] = field(default_factory=list)
+
+    def exact(self, start: float = 0.0, end: float = 1e9) -> float:
+        """The share of pictures shown that are exact."""
+        marks = [it.mark for it in self.shown if start <= it.when < end]
+        return marks.count("exact") / len(marks)
+
+    def kbits(self, start: float, end: float) -> float:
+        """What was sent, with the heads of IP and UDP."""
+        sent = sum(size for when, size in self.bytes_out if start <= when < end)
+        return 8 * sent / (end - start) / 1_000
+
+    def waited(self, start: float, end: float) -> list[float]:
+        """What waited before the line, in seconds, when pictures were captured."""
+        return [queue for when, queue in self.queues if start <= when < end]
+
+
+class SimulatedCall:
+    """A call of the tool's own ends over a line."""
+
+    def __init__(
+        self,
+        kbits: dict[float, int],
+        target: Optional[int] = None,
+        loss: float = 0.0,
+        flow: Optional[float] = None,
+    ) -> None:
+        random.seed(3)
+        self.clock, self.seen = Clock(), Seen()
+        self.line = Line(self.clock, kbits, loss)
+        self.flow = None if flow is None else Flow(self.clock, self.line, flow)
+        self._losses, self._loss = random.Random(6), loss
+        settings = live_settings.Settings(Path("none"), target=target or 1_800, adapts=not target)
+        self.tally = Tally()
+        clock: Any = self.clock
+        recorder, say = Recorder(None, 0.0, {}), self.seen.told.append
+        library = in_process.library()
+        context = CallContext(clock, settings, recorder, self.tally, say, library)
+        self.sending, self.receiving = sending.Sending(context), receiving.Receiving(context)
+        self.sending.on_packet = self._packet
+        self.receiving.on_feedback, self.receiving.on_frame = self._feedback, self._show
+        self._period, self._number = settings.period, 0
+        self.clock.at(0.0, self._capture)
+
+    def run(self, seconds: float) -> Seen:
+        self.clock.run(seconds)
+        return self.seen
+
+    def _capture(self) -> None:
+        video, place = frames(), self._number % (2 * len(frames()))
+        self.seen.queues.append((self.clock.now(), self.line.queue))
+        self.seen.left_out += not self.sending.frame(video[min(place, 2 * len(video) - 1 - place)])
+        self._number += 1
+        self.clock.at(self._number * self._period, self._capture)
+
+    def _show(self, frame: y4m.Frame) -> None:
+        self.seen.shown.append(Moment(self.clock.now(), frame.tags[0][1:].lower()))
+
+    def _packet(self, data: bytes) -> None:
+        size = len(data) + _HEADS
+        self.seen.bytes_out.append((self.clock.now(), size))
+        self.line.take(size, lambda: self.receiving.packet(data))
+
+    def _feedback(self, feedback: Any) -> None:
+        if self._losses.random() >= self._loss:
+            self.clock.at(self.clock.now() + _WAY, lambda: self.sending.feedback(feedback))
+
+
+def quant_of(packet: bytes, is_intra: bool) -> int:
+    """PQUANT of a picture's first packet, whose header has no messages (docs/FORMATS.md)."""
+    place = 61 if is_intra else 71
+    return int.from_bytes(packet[14:26], "big") >> 96 - place - 5 & 31
+
+
+@needs_library
+class AdaptTest(Calls):
+    def test_each_line_is_followed(self) -> None:
+        """Pictures are exact, the line is used, and no queue stands before it."""
+        lines = ((1_000, 15, 0.98), (500, 15, 0.95), (300, 30, 0.95), (150, 20, 0.9))
+        for kbits, seconds, exact in lines:
+            with self.subTest(kbits=kbits):
+                seen = SimulatedCall({0: kbits}).run(seconds)
+                waited = seen.waited(3, seconds)
+                self.assertGreater(seen.exact(), exact)
+                self.assertGreater(seen.exact(3), 0.98)
+                self.assertGreater(seen.kbits(8, seconds), 0.75 * kbits)
+                self.assertLess(sum(waited) / len(waited), 0.05)
+
+    def test_a_fixed_target_stays(self) -> None:
+        """One that is too much for the line has half of its pictures exact at the most."""
+        call = SimulatedCall({0: 300}, target=1_800)
+        seen = call.run(10)
+        self.assertLess(seen.exact(), 0.55)
+        self.assertGreater(seen.kbits(5, 10), 430)
+        self.assertIsNone(call.sending.recent.kbits)
+        self.assertGreater(SimulatedCall({0: 300}, target=917).run(10).exact(), 0.95)
+
+    def test_a_line_that_becomes_slower_and_fast_again(self) -> None:
+        """Two seconds after it all pictures are exact, and the queue is below 50 ms."""
+        seen = SimulatedCall({0: 1_000, 15: 200, 30: 1_000}).run(50)
+        self.assertEqual(seen.exact(17, 22), 1.0)
+        waited = seen.waited(17, 22)
+        self.assertLess(max(waited[:30]), 0.05)
+        self.assertLess(sum(queue > 0.05 for queue in waited) / len(waited), 0.05)
+        self.assertGreater(seen.kbits(24, 30), 150)
+        # As fast as it was within 12 seconds.
+        self.assertGreater(seen.kbits(42, 50), 750)
+
+    def test_losses_by_chance_are_no_full_line(self) -> None:
+        for kbits in (2_000, 500):
+            with self.subTest(kbits=kbits):
+                seen = SimulatedCall({0: kbits}, loss=0.05).run(24)
+                rates = [seen.kbits(start, start + 4) for start in range(4, 24, 4)]
+                self.assertGreater(min(rates), 432 / 2)
+                self.assertGreater(sum(rates) / len(rates), 0.75 * 432)
+                self.assertEqual(seen.left_out, 0)
+
+    def test_beside_a_flow_of_tcp(self) -> None:
+        """Neither starves, though TCP fills the queue that this one leaves empty."""
+        call = SimulatedCall({0: 1_000}, flow=5)
+        seen = call.run(45)
+        assert call.flow
+        self.assertGreater(8 * call.flow.arrived / 40 / 1_000, 300)
+        self.assertGreater(seen.kbits(10, 45), 100)
+        self.assertGreater(seen.exact(5), 0.9)
+
+    def test_a_line_too_narrow_for_the_coarsest_pictures(self) -> None:
+        """Frames are left out, and those that go out are shown exactly."""
+        call = SimulatedCall({0: 40})
+        seen = call.run(40)
+        self.assertGreater(seen.exact(10), 0.9)
+        thinned = call.tally.thinned
+        self.assertGreater(thinned, 300)
+        self.assertGreater(len(seen.shown), 5 * 40)
+        status = StatusLine(True, False)
+        told, later = [status.line(40, call.tally, call.sending.recent, 0) for _ in range(2)]
+        self.assertNotIn("too narrow", later)
+        self.assertRegex(told, rf"line \d+ kbit/s \| too narrow: {thinned} frames left out")
+
+    def test_a_target_gives_the_quantiser(self) -> None:
+        """What the sender takes is what its sizes and the target were said to give."""
+        bounds = following.Bounds(1_800, 60, 999_999, 8)
+        library, period = in_process.library(), 1 / 30
+        follower = following.Follower(bounds, period, 0.0)
+        quants = set()
+        with library.Sender(library.Params.of("qcif", target=1_800)) as sender:
+            for number, frame in enumerate(frames()[:40]):
+                # No message comes, so each picture is intra.
+                wanted = round(follower.quantiser)
+                sender.target(follower.target)
+                packets = sender.packets(sender.code(frame))
+                quant = quant_of(packets[0], True)
+                quants.add(quant)
+                self.assertLessEqual(wanted, quant)
+                self.assertLessEqual(quant, wanted + 1)
+                follower.sent(number, [len(packet) for packet in packets], number * period)
+        self.assertGreater(len(quants), 5)
+
+    def test_the_rate_stays_within_its_bounds(self) -> None:
+        """However long nothing is whole, and however much comes through."""
+        bounds = following.Bounds(1_800, 60, 3_000, 8)
+        for is_whole, least, most in ((False, 60, 61), (True, 2_990, 3_000)):
+            follower = following.Follower(bounds, 1 / 30, 0.0)
+            for number in range(3_000):
+                now = number / 30
+                follower.sent(number, [1_400, follower.size], now)
+                follower.told(number, is_whole, now + 0.02)
+                follower.told(number, not is_whole, now + 0.02)  # what is told twice counts once
+            self.assertTrue(least <= follower.size <= most, follower.size)
+
+    def test_a_call_that_follows_and_one_that_does_not(self) -> None:
+        """With the library and no target it does, and that is recorded."""
+        for words, adapts in (((), True), (("--target", 900), False)):
+            folder = self.room / f"call{adapts}"
+            ends = ("--format", "sub-qcif", "--camera", self.video(75), "--screen", "none")
+            call = self.run_call(*ends, "--library", "--record", folder, *words)
+            self.assertEqual(call.status, 0, call.told)
+            self.assertGreater(call.shown("exact"), 50, call.told)
+            facts = json.loads((folder / "call.json").read_text())
+            self.assertEqual((facts["adapts"], facts["target"]), (adapts, 900))
