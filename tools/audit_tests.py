@@ -3,6 +3,7 @@
 import contextlib
 import io
 import json
+import shutil
 import struct
 import tempfile
 import unittest
@@ -124,7 +125,10 @@ class AuditLogTest(unittest.TestCase):
         call.write_text(json.dumps(told))
         wanted = f"audit {self.log} --format=sub-qcif --clock=standard --slots=6 --lead=2"
         self.assertEqual(self.made(self.room), wanted)
-        call.write_text(json.dumps({**told, "send": runs * 2}))
+        names = {"video": "v-2", "log": "send-2.log", "wire": "packets-2.log", "report": "r-2"}
+        for name in ("log", "wire"):
+            shutil.copy(self.room / str(runs[0][name]), self.room / names[name])
+        call.write_text(json.dumps({**told, "send": [*runs, {**runs[0], **names}]}))
         self.assert_refused(f"{self.room}: send: it ran 2 times: --run chooses one", self.room)
         self.assertEqual(self.made("--run", 2, self.room), wanted)
         self.assert_refused(f"{self.room}: send: it ran 2 times", "--run", 3, self.room)
