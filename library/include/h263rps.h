@@ -125,7 +125,7 @@ enum h263rps_fault {
     H263RPS_BYTES_NO_START = 114, /* not the rest of a start code (5.1.1, Annex K) */
     H263RPS_BYTES_PICTURE_TYPE = 115, /* PTYPE isn't the extended one (5.1.3) */
     H263RPS_BYTES_UFEP = 116, /* UFEP isn't 001 (5.1.4.1) */
-    H263RPS_BYTES_SOURCE_FORMAT = 117, /* a source format that is none of the three (5.1.4.2) */
+    H263RPS_BYTES_SOURCE_FORMAT = 117, /* another source format than the three (5.1.4.2) */
     /* a source format of the three that isn't the expected one (5.1.4.2) */
     H263RPS_BYTES_OTHER_FORMAT = 118,
     H263RPS_BYTES_MODES = 119, /* the optional modes aren't Annexes K and N alone (5.1.4.2) */
@@ -134,7 +134,7 @@ enum h263rps_fault {
     H263RPS_BYTES_CPM = 122, /* continuous presence multipoint (CPM 5.1.20) */
     H263RPS_BYTES_DIVISOR = 123, /* a custom picture clock whose divisor is 0 (CPCFC 5.1.7) */
     H263RPS_BYTES_SLICE_MODE = 124, /* slices that are rectangular or in any order (SSS 5.1.10) */
-    /* a mode of the back channel that is none of the four (RPSMF 5.1.13) */
+    /* another mode of the back channel than the four (RPSMF 5.1.13) */
     H263RPS_BYTES_RPSMF = 125,
     H263RPS_BYTES_INTRA_REFERENCE = 126, /* an I picture that names a reference (TRPI 5.1.14) */
     H263RPS_BYTES_NO_REFERENCE = 127, /* a P picture that names none (TRPI 5.1.14) */
@@ -165,11 +165,11 @@ enum h263rps_noted {
     H263RPS_NO_MESSAGE = 2 /* `fault` says why (enum h263rps_message_fault) */
 };
 
-/* Why bytes are no message. */
+/* Why bytes aren't a message. */
 enum h263rps_message_fault {
     H263RPS_MESSAGE_LENGTH = 1, /* neither three bytes nor five, as it says itself */
     H263RPS_MESSAGE_KIND = 2,   /* neither an acknowledgement nor its opposite */
-    H263RPS_MESSAGE_HIGH = 3,   /* a number of a picture that the clock hasn't */
+    H263RPS_MESSAGE_HIGH = 3,   /* a picture number that the clock doesn't have */
     H263RPS_MESSAGE_MARKER = 4, /* a marker bit is 0 */
     H263RPS_MESSAGE_PAIR = 5    /* an acknowledgement of two pictures */
 };
@@ -225,7 +225,7 @@ typedef struct h263rps_coded {
 /* A sender's answer to a message. */
 typedef struct h263rps_reply {
     uint32_t kind;  /* enum h263rps_noted */
-    uint32_t fault; /* enum h263rps_message_fault where it is none, else 0 */
+    uint32_t fault; /* enum h263rps_message_fault if it isn't a message, else 0 */
 } h263rps_reply;
 
 /* A picture in its place: Y, then Cb, then Cr. */
@@ -287,15 +287,15 @@ static inline const char *h263rps_status_text(uint32_t status) {
     }
 }
 
-/* Writes the parameters of a call in this format where nothing else is asked for.
- * BAD_PARAMS: it is no format. */
+/* Writes the default parameters of a call in this format.
+ * BAD_PARAMS: the format is unknown. */
 static inline uint32_t h263rps_defaults(uint32_t format, h263rps_params *params) {
     if (!params) return H263RPS_NULL;
     return h263rps_raw_defaults(format, params);
 }
 
 /* How many bytes a picture of this format has: Y, then Cb, then Cr, each by rows from the top. 0
- * where it is no format. */
+ * if the format is unknown. */
 static inline size_t h263rps_picture_size(uint32_t format) {
     return h263rps_raw_picture_size(format);
 }
