@@ -148,7 +148,7 @@ manual() {
     done
     cat <<'END'
 .SH EXIT STATUS
-0: done. 1: memory ran out. 2: the words are no command. 3, 4: a read or a write failed.
+0: done. 1: memory ran out. 2: the command line is invalid. 3, 4: a read or a write failed.
 5, 6, 7, 9: the video, the trace, the log or the second video has a fault.
 8: a file could not be opened, or has another role. 125: the program could not be made or run.
 .SH SEE ALSO
