@@ -287,8 +287,8 @@ static inline const char *h263rps_status_text(uint32_t status) {
     }
 }
 
-/* Writes the default parameters of a call in this format.
- * BAD_PARAMS: the format is unknown. */
+/* Writes the parameters of a call in this format where nothing else is asked for.
+ * BAD_PARAMS: it is no format. */
 static inline uint32_t h263rps_defaults(uint32_t format, h263rps_params *params) {
     if (!params) return H263RPS_NULL;
     return h263rps_raw_defaults(format, params);
