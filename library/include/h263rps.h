@@ -50,7 +50,9 @@ enum h263rps_status {
     H263RPS_SHORT_ROOM = 10,  /* the packet is longer than the room; `limit` bytes always do */
     /* of this header alone */
     H263RPS_NULL = 11,        /* a pointer is null */
-    H263RPS_TOO_LONG = 12     /* a length is above PTRDIFF_MAX */
+    H263RPS_TOO_LONG = 12,    /* a length is above PTRDIFF_MAX */
+    /* the library's again */
+    H263RPS_NO_START = 13     /* the bytes don't begin as a packet of any format does */
 };
 
 /* The sizes of pictures. */
@@ -228,6 +230,17 @@ typedef struct h263rps_reply {
     uint32_t fault; /* enum h263rps_message_fault if it isn't a message, else 0 */
 } h263rps_reply;
 
+/* What a packet says of its picture. */
+typedef struct h263rps_start {
+    uint32_t format;             /* enum h263rps_format */
+    uint32_t clock;              /* enum h263rps_clock */
+    uint32_t temporal_reference; /* the picture's number modulo 256, in the custom clock 1,024 */
+    uint32_t intra;              /* 1 where it is coded by itself */
+    uint32_t reference;          /* that of the picture it is predicted from, else 0 */
+    uint32_t count;              /* how many messages its header carries, at most 4 */
+    h263rps_message messages[4]; /* these, and none in the places after them */
+} h263rps_start;
+
 /* A picture in its place: Y, then Cb, then Cr. */
 typedef struct h263rps_lent {
     const uint8_t *samples; /* not null, also before the call */
@@ -238,6 +251,7 @@ typedef struct h263rps_lent {
 
 uint32_t h263rps_raw_defaults(uint32_t format, h263rps_params *params);
 uint32_t h263rps_raw_picture_size(uint32_t format);
+uint32_t h263rps_raw_packet_start(const uint8_t *bytes, size_t length, h263rps_start *start);
 
 uint32_t h263rps_raw_receiver_start(h263rps_end *end, const h263rps_params *params,
                                     uint32_t *fault);
@@ -283,6 +297,7 @@ static inline const char *h263rps_status_text(uint32_t status) {
     case H263RPS_SHORT_ROOM: return "too short a room";
     case H263RPS_NULL: return "a null pointer";
     case H263RPS_TOO_LONG: return "too great a length";
+    case H263RPS_NO_START: return "no start of a packet";
     default: return "no status";
     }
 }
@@ -304,6 +319,21 @@ static inline size_t h263rps_picture_size(uint32_t format) {
 static inline uint32_t h263rps_may_pass(const void *from, size_t length) {
     if (!from && length) return H263RPS_NULL;
     return length > PTRDIFF_MAX ? H263RPS_TOO_LONG : H263RPS_OK;
+}
+
+/* What an RTP packet says of its picture, before any end takes it; no end is asked for. The messages
+ * in its header are those that the other side handed to h263rps_sender_code(): give each to your
+ * own sender by h263rps_sender_feedback(). Every packet of a picture carries them, and a message
+ * that comes again changes nothing. A packet that a receiver takes has a start; one that has a
+ * start may still be refused.
+ * NO_START. */
+static inline uint32_t h263rps_packet_start(const void *bytes, size_t length,
+                                            h263rps_start *start) {
+    uint8_t nothing = 0;
+    uint32_t status = h263rps_may_pass(bytes, length);
+    if (!start) return H263RPS_NULL;
+    if (status) return status;
+    return h263rps_raw_packet_start(length ? (const uint8_t *)bytes : &nothing, length, start);
 }
 
 /* ---- the receiver -------------------------------------------------------------------------- */

@@ -8,7 +8,7 @@ from pathlib import Path
 from typing import Callable
 
 sys.path[:0] = [str(Path(__file__).resolve().parent.parent)]
-from h263rps import Params, Receiver, Refused, Sender  # noqa: E402
+from h263rps import Params, Receiver, Refused, Sender, packet_start  # noqa: E402
 
 
 def wanted(error: str, call: Callable[[], object]) -> None:
@@ -28,6 +28,7 @@ wanted("TypeError: there is no parameter slot", lambda: Params.of("qcif", slot=9
 wanted("TypeError: there is no parameter slot", lambda: setattr(Params.of("qcif"), "slot", 9))
 wanted("Refused: start: bad params: number", lambda: Receiver(Params.of("qcif"), 1048577))
 wanted("ValueError: number: -1 is out of its range", lambda: Receiver(Params.of("qcif"), -1))
+wanted("Refused: packet start: no start", lambda: packet_start(b"abc"))
 with Sender(Params.of("qcif")) as sender, Receiver(Params.of("qcif")) as receiver:
     wanted("Refused: code: wrong length", lambda: sender.code(bytes(3)))
     wanted("Refused: code: bad messages", lambda: sender.code(bytes(38016), [bytes(6)]))

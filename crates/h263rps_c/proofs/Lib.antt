@@ -5,3 +5,4 @@ mod BeforeFirst
 mod Untaken
 mod RefusalNumbers
 mod Steered
+mod Starts

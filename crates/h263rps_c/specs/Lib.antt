@@ -10,3 +10,4 @@ pub mod Sending
 pub mod Steering
 pub mod Slots
 pub mod Ends
+pub mod Start

@@ -7,7 +7,7 @@ use Rattle.back_messages.specs.declared.message.Message.{Message}
 use Rattle.h263rps_c.specs.declared.answers.Said.{Said}
 use Rattle.rate_control.specs.declared.send_pace.SendPace.{SendPace}
 use Rattle.h263rps_c.specs.declared.refusals.Refusal.{Refusal}
-use Rattle.h263rps_c.specs.declared.refusals.Refusal.TheVariants.{NotStarted, Started, OtherEnd, BadParams, NoMemory, Ended, WrongLength, BadMessages, NoPacket, ShortRoom}
+use Rattle.h263rps_c.specs.declared.refusals.Refusal.TheVariants.{NotStarted, Started, OtherEnd, BadParams, NoMemory, Ended, WrongLength, BadMessages, NoPacket, ShortRoom, NoStart}
 use Rattle.h263rps_c.specs.Messages.{messages_of}
 
 abbrev pub refusal_number : Refusal → ℕ
@@ -21,6 +21,7 @@ refusal_number WrongLength = 7
 refusal_number BadMessages = 8
 refusal_number NoPacket = 9
 refusal_number ShortRoom = 10
+refusal_number NoStart = 13
 
 -- what a call answers: 0, or the number of its refusal
 abbrev pub status_of : Option Refusal → ℕ

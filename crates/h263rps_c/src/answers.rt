@@ -50,12 +50,12 @@ pub struct Reply {
 }
 
 impl Said {
-    const NOTHING: Said = Said {
+    pub(crate) const NOTHING: Said = Said {
         bytes: [0; 5],
         length: 0,
     };
 
-    fn of(said: &MessageBytes) -> Said
+    pub(crate) fn of(said: &MessageBytes) -> Said
         ensures { result ≡ numbers.said_of said.now }
     {
         Said {

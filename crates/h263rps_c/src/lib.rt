@@ -20,6 +20,7 @@ mod refusals;
 mod running;
 mod sender;
 mod sending;
+mod start;
 mod starting;
 #[cfg(test)]
 mod tests;
@@ -28,6 +29,7 @@ pub use answers::{Answer, Made, Reply, Said};
 pub use asked::Asked;
 pub use handles::Slot;
 pub use refusals::Refusal;
+pub use start::Start;
 
 /// The most pictures of a run.
 const MOST_PICTURES: u32 = 1_048_576;

@@ -25,6 +25,8 @@ pub enum Refusal {
     NoPacket,
     /// The packet has more bytes than the room.
     ShortRoom,
+    /// The bytes don't begin as a packet of any format does.
+    NoStart,
 }
 
 /// Nothing was refused.
@@ -47,6 +49,8 @@ impl Refusal {
             Refusal::BadMessages => 8,
             Refusal::NoPacket => 9,
             Refusal::ShortRoom => 10,
+            // 11 and 12 are the header's own.
+            Refusal::NoStart => 13,
         }
     }
 }

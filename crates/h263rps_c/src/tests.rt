@@ -6,6 +6,7 @@ use crate::joining::*;
 use crate::receiver::*;
 use crate::running::*;
 use crate::sender::*;
+use crate::start::*;
 use crate::starting::*;
 use std::alloc::Global;
 use std::test::Fail;
@@ -282,5 +283,92 @@ fn a_call(rt: HostRuntime) -> Result<(), Fail> {
     assert_eq!(rt; lent(&mut receiver), (0, 18432, 128));
     let _sender = sender.into_box();
     let _receiver = receiver.into_box();
+    Ok(())
+}
+
+const UNTOLD: Start = Start {
+    format: 77,
+    clock: 77,
+    temporal_reference: 77,
+    intra: 77,
+    reference: 77,
+    count: 77,
+    messages: [Said {
+        bytes: [7; 5],
+        length: 7,
+    }; 4],
+};
+
+// What the first packet of a sender's next picture says, with these messages in its header: the
+// status and the start.
+fn begun(sender: &mut Slot, picture: &[u8], messages: &[Said]) -> (u32, Start) {
+    let mut made = Made {
+        number: 0,
+        packets: 0,
+        intra: 0,
+        reference: 0,
+    };
+    let mut room = [0; 1400];
+    let mut count = 0;
+    let mut start = UNTOLD;
+    let mut refused = h263rps_raw_sender_code(sender, picture, messages, &mut made);
+    refused |= h263rps_raw_sender_packet(sender, 0, &mut room, &mut count);
+    refused |= h263rps_raw_packet_start(&room[..count.min(1400)], &mut start);
+    (refused, start)
+}
+
+// The numbers of a start.
+fn numbers_of(start: &Start) -> [u32; 6] {
+    [
+        start.format,
+        start.clock,
+        start.temporal_reference,
+        start.intra,
+        start.reference,
+        start.count,
+    ]
+}
+
+#[test]
+fn starts_of_packets(rt: HostRuntime) -> Result<(), Fail> {
+    let picture = vec![in rt.alloc(); 128; 18432]?;
+    let mut sender = Slot::vacant(rt.alloc());
+    let mut fault = 77;
+    assert_eq!(rt;
+        h263rps_raw_sender_start(rt.alloc(), &mut sender, &ASKED, &mut fault),
+        0
+    );
+    let (refused, first) = begun(&mut sender, &picture, &[]);
+    assert_eq!(rt; (refused, numbers_of(&first)), (0, [1, 0, 0, 1, 0, 0]));
+    assert_eq!(rt; first.messages.map(|said| said.length), [0; 4]);
+    let mut reply = Reply {
+        kind: 77,
+        fault: 77,
+    };
+    assert_eq!(rt;
+        h263rps_raw_sender_feedback(&mut sender, &ACK_0, &mut reply),
+        0
+    );
+    // the second refers to the first, and has two messages, of three bytes and of five
+    let short = Said {
+        bytes: [0xC0, 0x04, 0x00, 0, 0],
+        length: 3,
+    };
+    let long = Said {
+        bytes: [0xE0, 0x04, 0x00, 0xC0, 0x80],
+        length: 5,
+    };
+    let (refused, second) = begun(&mut sender, &picture, &[short, long]);
+    assert_eq!(rt; (refused, numbers_of(&second)), (0, [1, 0, 1, 0, 0, 2]));
+    assert_eq!(rt; second.messages.map(|said| said.length), [3, 5, 0, 0]);
+    assert_eq!(rt;
+        second.messages.map(|said| said.bytes),
+        [short.bytes, long.bytes, [0; 5], [0; 5]]
+    );
+    let mut start = UNTOLD;
+    assert_eq!(rt; h263rps_raw_packet_start(&[1, 2, 3], &mut start), 13);
+    assert_eq!(rt; numbers_of(&start), [77; 6]);
+    assert_eq!(rt; start.messages.map(|said| said.length), [7; 4]);
+    let _end = sender.into_box();
     Ok(())
 }
