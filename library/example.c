@@ -52,7 +52,7 @@ int main(void) {
     for (unsigned n = 0; n < PICTURES; n++) {
         h263rps_coded coded;
         h263rps_answer answer;
-        const uint8_t *shown = NULL;
+        h263rps_lent shown;
         capture(n);
         must("code", h263rps_sender_code(&sender, captured, SIZE, NULL, 0, &coded));
         for (uint32_t i = 0; i < coded.packets; i++) {
@@ -67,7 +67,7 @@ int main(void) {
         printf("picture %u: %u packets, ", (unsigned)coded.number, (unsigned)coded.packets);
         if (coded.intra) printf("intra");
         else printf("from picture %u", (unsigned)coded.reference);
-        printf(", shown %s, at most %u off\n", marks[answer.kind], most_off(shown));
+        printf(", shown %s, at most %u off\n", marks[answer.kind], most_off(shown.samples));
     }
     must("finish", h263rps_sender_finish(&sender));
     must("finish", h263rps_receiver_finish(&receiver));

@@ -33,6 +33,10 @@
 extern "C" {
 #endif
 
+/* What a sender's packets have, and a receiver's must have; h263rps_packet_label() changes it. */
+#define H263RPS_SSRC 0x48323633u /* the letters H263 */
+#define H263RPS_PAYLOAD_TYPE 96u
+
 /* ---- numbers ------------------------------------------------------------------------------- */
 
 /* What a call answers. */
@@ -241,10 +245,10 @@ typedef struct h263rps_start {
     h263rps_message messages[4]; /* these, and none in the places after them */
 } h263rps_start;
 
-/* A picture in its place: Y, then Cb, then Cr. */
+/* A picture in its place: Y, then Cb, then Cr, each by rows from the top. */
 typedef struct h263rps_lent {
-    const uint8_t *samples; /* not null, also before the call */
-    size_t length;
+    const uint8_t *samples; /* for the raw call: not null, also before it */
+    size_t length;          /* h263rps_picture_size() */
 } h263rps_lent;
 
 /* ---- the library's own functions: pointers aren't null, also where a length is 0 ------------- */
@@ -388,32 +392,31 @@ static inline uint32_t h263rps_receiver_play(h263rps_end *end, void *picture, si
 }
 
 /* Lends the picture that a receiver shows, without a copy: the one that was played last, and before
- * the first play a grey one. `samples` then leads to h263rps_picture_size() bytes, which belong to
- * the receiver. Only read them, and only until the next call with this end, whichever it is: a
- * packet may overwrite them, and a finish frees them. `samples` is left alone where the call is
- * refused.
+ * the first play a grey one. `lent` then has its place and length, h263rps_picture_size() bytes
+ * that belong to the receiver. Only read them, and only until the next call with this end: any may
+ * overwrite them, and a finish frees them. `lent` is written where the call is OK, and not read.
  * NOT_STARTED, OTHER_END. */
-static inline uint32_t h263rps_receiver_shown(h263rps_end *end, const uint8_t **samples) {
+static inline uint32_t h263rps_receiver_shown(h263rps_end *end, h263rps_lent *lent) {
     uint8_t nothing = 0;
-    h263rps_lent lent;
+    h263rps_lent shown;
     uint32_t status;
-    if (!end || !samples) return H263RPS_NULL;
-    lent.samples = &nothing;
-    lent.length = 0;
-    status = h263rps_raw_receiver_shown(end, &lent);
-    if (!status) *samples = lent.samples;
+    if (!end || !lent) return H263RPS_NULL;
+    shown.samples = &nothing;
+    shown.length = 0;
+    status = h263rps_raw_receiver_shown(end, &shown);
+    if (!status) *lent = shown;
     return status;
 }
 
 /* Plays the next picture as h263rps_receiver_play() does, but lends it where that one copies it:
- * `samples` is that of h263rps_receiver_shown(), good until the next call with this end.
+ * `lent` is that of h263rps_receiver_shown(), good until the next call with this end.
  * NOT_STARTED, OTHER_END, ENDED. */
-static inline uint32_t h263rps_receiver_play_lent(h263rps_end *end, const uint8_t **samples,
+static inline uint32_t h263rps_receiver_play_lent(h263rps_end *end, h263rps_lent *lent,
                                                   h263rps_answer *answer) {
     uint32_t status;
-    if (!end || !samples || !answer) return H263RPS_NULL;
+    if (!end || !lent || !answer) return H263RPS_NULL;
     status = h263rps_raw_receiver_next(end, answer);
-    return status ? status : h263rps_receiver_shown(end, samples);
+    return status ? status : h263rps_receiver_shown(end, lent);
 }
 
 /* Writes how many pictures a receiver has played to `count`: the number of the next one, with those
@@ -469,6 +472,25 @@ static inline uint32_t h263rps_sender_packet(h263rps_end *end, uint32_t number, 
     if (status) return status;
     return h263rps_raw_sender_packet(end, number, length ? (uint8_t *)room : &nothing, length,
                                      count);
+}
+
+/* Gives an RTP packet another SSRC and another payload type, up to 127, in place: bytes 8 to 11,
+ * and byte 1 without the marker (RFC 3550, 5.1). A sender writes H263RPS_SSRC and
+ * H263RPS_PAYLOAD_TYPE, and a receiver takes no others: what is changed on the way out is changed
+ * back before h263rps_receiver_packet(). It is the header's own, and tested, not proved.
+ * WRONG_LENGTH: fewer than 12 bytes. BAD_PARAMS: the payload type. */
+static inline uint32_t h263rps_packet_label(void *bytes, size_t length, uint32_t ssrc,
+                                            uint32_t payload_type) {
+    uint8_t *at = (uint8_t *)bytes;
+    if (!bytes) return H263RPS_NULL;
+    if (length < 12) return H263RPS_WRONG_LENGTH;
+    if (payload_type > 127) return H263RPS_BAD_PARAMS;
+    at[1] = (uint8_t)((at[1] & 0x80) | payload_type);
+    at[8] = (uint8_t)(ssrc >> 24);
+    at[9] = (uint8_t)(ssrc >> 16);
+    at[10] = (uint8_t)(ssrc >> 8);
+    at[11] = (uint8_t)ssrc;
+    return H263RPS_OK;
 }
 
 /* Gives a message of the other side to a sender: any bytes are an answer and no refusal. The

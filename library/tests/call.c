@@ -97,7 +97,7 @@ int main(int argc, char **argv) {
                 keep_message(&answer.message);
             }
         } else if (line[0] == 'P') {
-            const uint8_t *shown = picture;
+            h263rps_lent shown = {picture, size};
             if (played++ % 2) {
                 must("play", h263rps_receiver_play_lent(&receiver, &shown, &answer));
             } else {
@@ -105,7 +105,7 @@ int main(int argc, char **argv) {
             }
             marks[answer.kind]++;
             keep_message(&answer.message);
-            fwrite(shown, 1, size, out);
+            fwrite(shown.samples, 1, shown.length, out);
         } else if (line[0] == 'B') {
             const text *message = &messages[k];
             must("feedback", h263rps_sender_feedback(&sender, message->bytes, message->length,

@@ -239,12 +239,13 @@ static void play(void) {
     h263rps_answer answers[2];
     int lends = drawn() % 2;
     for (int i = 0; i < 2; i++) {
-        const uint8_t *lent = shown[i];
+        h263rps_lent lent = {shown[i], 0};
         uint32_t status;
         memset(&answers[i], 0xAB, sizeof answers[i]);
         if (lends) {
             status = h263rps_receiver_play_lent(&receivers[i], &lent, &answers[i]);
-            memcpy(shown[i], lent, SIZE);
+            check(status != H263RPS_OK || lent.length == SIZE, "the length of a loan");
+            memcpy(shown[i], lent.samples, SIZE);
         } else {
             status = h263rps_receiver_play(&receivers[i], shown[i], SIZE, &answers[i]);
         }

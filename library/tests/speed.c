@@ -82,7 +82,7 @@ static void hand_back(h263rps_end *sender, const h263rps_message *message) {
 /* Plays, and tells whether the picture is the sender's. */
 static int play(h263rps_end *receiver) {
     h263rps_answer answer;
-    const uint8_t *lent;
+    h263rps_lent lent;
     if (copied) must(h263rps_receiver_play(receiver, shown, SIZE, &answer));
     else must(h263rps_receiver_play_lent(receiver, &lent, &answer));
     return answer.kind == H263RPS_EXACT;

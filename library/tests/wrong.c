@@ -93,7 +93,7 @@ static void parameters(int receives) {
 
 /* Each call of a receiver answers `status`. */
 static void receiver_calls(h263rps_end *end, uint32_t status) {
-    const uint8_t *lent = room;
+    h263rps_lent lent = {room, 77};
     uint32_t pictures = 77;
     memset(&answer, 0xAA, sizeof answer);
     memset(shown, 0xAA, SIZE);
@@ -106,7 +106,7 @@ static void receiver_calls(h263rps_end *end, uint32_t status) {
     want("the number is left", pictures, 77);
     want("answer is left", answer.kind, 0xAAAAAAAA);
     want("picture is left", shown[0], 0xAA);
-    want("nothing is lent", lent == room, 1);
+    want("nothing is lent", lent.samples == room && lent.length == 77, 1);
 }
 
 static void sender_calls(h263rps_end *end, uint32_t status) {
@@ -130,26 +130,27 @@ static void sender_calls(h263rps_end *end, uint32_t status) {
 /* What is lent is the picture that is shown, where it was copied from, and stays until the next
  * call. */
 static void lent_pictures(h263rps_end *end) {
-    const uint8_t *lent = NULL, *again = NULL;
-    h263rps_lent raw = {room, 77};
+    h263rps_lent lent = {NULL, 77}, again = {NULL, 77}, raw = {room, 77};
     want("null", h263rps_receiver_shown(NULL, &lent), H263RPS_NULL);
     want("null", h263rps_receiver_shown(end, NULL), H263RPS_NULL);
     want("null", h263rps_receiver_play_lent(NULL, &lent, &answer), H263RPS_NULL);
     want("null", h263rps_receiver_play_lent(end, NULL, &answer), H263RPS_NULL);
     want("null", h263rps_receiver_play_lent(end, &lent, NULL), H263RPS_NULL);
     want("shown", h263rps_receiver_shown(end, &lent), H263RPS_OK);
-    want("grey", lent[0] == 128 && lent[SIZE - 1] == 128, 1);
+    want("all of it", (uint32_t)lent.length, SIZE);
+    want("grey", lent.samples[0] == 128 && lent.samples[SIZE - 1] == 128, 1);
     want("play lent", h263rps_receiver_play_lent(end, &lent, &answer), H263RPS_OK);
     want("held", answer.kind, H263RPS_HELD);
+    want("its length", (uint32_t)lent.length, SIZE);
     want("a message", answer.message.length, 3);
     want("shown", h263rps_receiver_shown(end, &again), H263RPS_OK);
-    want("one place", again == lent, 1);
+    want("one place", again.samples == lent.samples && again.length == SIZE, 1);
     want("the raw call", h263rps_raw_receiver_shown(end, &raw), H263RPS_OK);
-    want("its place", raw.samples == lent, 1);
+    want("its place", raw.samples == lent.samples, 1);
     want("its length", (uint32_t)raw.length, SIZE);
     want("play", h263rps_receiver_play(end, shown, SIZE, &answer), H263RPS_OK);
     want("shown", h263rps_receiver_shown(end, &lent), H263RPS_OK);
-    want("the copied one", memcmp(lent, shown, SIZE), 0);
+    want("the copied one", memcmp(lent.samples, shown, SIZE), 0);
 }
 
 static void receiver(void) {
@@ -195,6 +196,31 @@ static void joining(void) {
     want("all", pictures, 1048576);
     want("the end", h263rps_receiver_play(&end, shown, SIZE, &answer), H263RPS_ENDED);
     want("finish", h263rps_receiver_finish(&end), H263RPS_OK);
+}
+
+/* Another SSRC and payload type: of a packet of a sender, and back. */
+static void labels(void) {
+    h263rps_end end = {0};
+    uint8_t kept[1400];
+    memset(room, 0xAA, sizeof room);
+    want("short", h263rps_packet_label(room, 11, 1, 2), H263RPS_WRONG_LENGTH);
+    want("payload type", h263rps_packet_label(room, 12, 1, 128), H263RPS_BAD_PARAMS);
+    want("null", h263rps_packet_label(NULL, 12, 1, 2), H263RPS_NULL);
+    for (size_t i = 0; i < sizeof room; i++) want("untouched", room[i], 0xAA);
+    want("start", h263rps_sender_start(&end, &params, NULL), H263RPS_OK);
+    want("code", h263rps_sender_code(&end, picture, SIZE, NULL, 0, &coded), H263RPS_OK);
+    want("packet", h263rps_sender_packet(&end, 0, room, sizeof room, &count), H263RPS_OK);
+    memcpy(kept, room, count);
+    want("label", h263rps_packet_label(room, count, 0xFEDCBA98, 127), H263RPS_OK);
+    for (size_t i = 0; i < count; i++) {
+        static const uint8_t source[4] = {0xFE, 0xDC, 0xBA, 0x98};
+        int is_source = i >= 8 && i < 12;
+        want("label", room[i],
+             i == 1 ? (kept[1] & 0x80u) | 127u : is_source ? source[i - 8] : kept[i]);
+    }
+    want("back", h263rps_packet_label(room, 12, H263RPS_SSRC, H263RPS_PAYLOAD_TYPE), H263RPS_OK);
+    want("as it was", memcmp(room, kept, count), 0);
+    want("finish", h263rps_sender_finish(&end), H263RPS_OK);
 }
 
 static void sender(void) {
@@ -248,6 +274,7 @@ int main(void) {
     receiver();
     joining();
     sender();
+    labels();
     if (!wrong) printf("each wrong call is refused by its number\n");
     return wrong;
 }

@@ -8,7 +8,16 @@ from pathlib import Path
 from typing import Callable
 
 sys.path[:0] = [str(Path(__file__).resolve().parent.parent)]
-from h263rps import Params, Receiver, Refused, Sender, packet_start  # noqa: E402
+from h263rps import (  # noqa: E402
+    PAYLOAD_TYPE,
+    SSRC,
+    Params,
+    Receiver,
+    Refused,
+    Sender,
+    label,
+    packet_start,
+)
 
 
 def wanted(error: str, call: Callable[[], object]) -> None:
@@ -56,6 +65,16 @@ sender.close()
 wanted("Refused: forget: not started", sender.forget)
 wanted("Refused: sent: not started", sender.sent)
 wanted("Refused: packet: not started", lambda: sender.packet(0))
+
+# Another SSRC and payload type, and back.
+with Sender(Params.of("qcif")) as sender, Receiver(Params.of("qcif")) as receiver:
+    packet = sender.packets(sender.code(bytes(38016)))[0]
+    other = label(packet, 1, 127)
+    wanted("(True, 'refused')", lambda: (other[1] & 127 == 127, receiver.packet(other).kind))
+    wanted("True", lambda: label(other, SSRC, PAYLOAD_TYPE) == packet)
+    wanted("'completed'", lambda: receiver.packet(label(other, SSRC, PAYLOAD_TYPE)).kind)
+    wanted("Refused: label: wrong length", lambda: label(packet[:11], 1, 127))
+    wanted("ValueError: payload_type: 128 is out of its range", lambda: label(packet, 1, 128))
 
 # A picture that was coded before the last one has no packets any more.
 with Sender(Params.of("qcif")) as sender:
