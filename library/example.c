@@ -52,7 +52,7 @@ int main(void) {
     for (unsigned n = 0; n < PICTURES; n++) {
         h263rps_coded coded;
         h263rps_answer answer;
-        h263rps_lent shown;
+        h263rps_lent shown = {0};
         capture(n);
         must("code", h263rps_sender_code(&sender, captured, SIZE, NULL, 0, &coded));
         for (uint32_t i = 0; i < coded.packets; i++) {
