@@ -8,8 +8,10 @@ from typing import Any, BinaryIO, Callable, Optional
 from .errors import BadInput
 
 VERSION = 1
-# What each end's run has: its key in call.json, the file's name, and whether it has times beside.
-_FILES = {
+# What each end's run has: its key in call.json, the file's name, and whether it has times beside. One that follows the
+# line has a line a picture: the target in bytes, and the rate in kbit/s.
+TARGETS = ("targets", "targets", ".txt", False)
+_FILES: dict[str, tuple[tuple[str, str, str, bool], ...]] = {
     "send": (
         ("video", "captured", ".y4m", False),
         ("log", "send", ".log", True),
@@ -29,19 +31,20 @@ class RunRecord:
     """The files of one run of an end. Of one that is only tried there are none, and what is written waits here until
     it is kept."""
 
-    def __init__(self, recorder: "Recorder", end: str, facts: dict[str, Any]) -> None:
+    def __init__(self, recorder: "Recorder", end: str, facts: dict[str, Any], has_targets: bool) -> None:
         self._recorder, self._end = recorder, end
         self._files: dict[str, BinaryIO] = {}
         self._times: dict[str, BinaryIO] = {}
         self.facts = facts
-        self._timed = {key for key, _, _, has_times in _FILES[end] if has_times}
+        self._rows = (*_FILES[end], TARGETS) if has_targets else _FILES[end]
+        self._timed = {key for key, _, _, has_times in self._rows if has_times}
         self._held: Optional[list[tuple[str, bytes, bool]]] = []
         self.held = 0  # bytes
 
     def keep(self) -> None:
         """From now on it is in the folder, with all that was written before."""
         number = self._recorder.runs_of(self._end) + 1
-        for key, name, suffix, has_times in _FILES[self._end]:
+        for key, name, suffix, has_times in self._rows:
             stem = name if number == 1 else f"{name}-{number}"
             self.facts[key] = stem + suffix
             self._recorder.open(self._files, key, stem + suffix)
@@ -114,9 +117,11 @@ class Recorder:
         """Whether anything is recorded."""
         return bool(self._folder) and not self.fault
 
-    def run(self, end: str, facts: dict[str, Any], is_kept: bool = True) -> RunRecord:
+    def run(
+        self, end: str, facts: dict[str, Any], is_kept: bool = True, has_targets: bool = False
+    ) -> RunRecord:
         """A new run of `send` or `recv`; `facts` may be filled later on."""
-        run = RunRecord(self, end, facts)
+        run = RunRecord(self, end, facts, has_targets)
         if is_kept:
             run.keep()
         return run
