@@ -163,6 +163,30 @@ class ForgedTest(Calls):
                     self.assertLess(sizes[name, is_whole], (1.1 if is_whole else 1.001) * sizes["none", is_whole])
                     self.assertEqual(call.tally.begun_anew > 0, is_whole and streams > 0)
 
+    @needs_library
+    def test_a_forged_stream_that_goes_on_gives_way(self) -> None:
+        """One with complete pictures is followed in an outage, and no more once the true stream is there again."""
+        call = ForgedCall(0)
+        library, picture = call.counts.library, bytes(range(96, 160)) * 594
+        with library.Sender(library.Params.of("qcif", clock=library.CLOCKS["custom"])) as sender:
+
+            def forge() -> None:
+                sender.forget()
+                for packet in sender.packets(sender.code(picture)):
+                    header = rtp.rtp_header(packet)
+                    assert header
+                    call.receiving.packet(rtp.renumbered(packet, header.sequence, header.timestamp, 8))
+
+            for number in range(150):
+                call.clock.at(FORGED[0] + number / 30, forge)
+            call.run(OUTAGE[1] - 0.1)
+            self.assertEqual(call.receiving.source, 8)
+            call.run(OUTAGE[1] + 0.2)
+            self.assertEqual(call.receiving.source, call.sending.source)
+            seen = call.run(10)
+        self.assertEqual(call.receiving.source, call.sending.source)
+        self.assertEqual(seen.exact(OUTAGE[1] + 0.2), 1.0)
+
     def test_the_program_joins_by_as_many_plays_at_once_as_are_kept(self) -> None:
         """With a look at the sockets between them; packets that come meanwhile wait."""
         clock = Clock()
@@ -244,25 +268,25 @@ class ForgedTest(Calls):
     @needs_program
     @needs_library
     def test_late_streams_and_the_program(self) -> None:
-        packets = self.coded_packets()
-        self.assert_late_streams_hold_nothing(packets, sum(packets[253:256], []), PROGRAM)
+        self.assert_late_streams_hold_nothing(coded_packets(330, True), sum(coded_packets(256, False)[253:], []), PROGRAM)
 
     @needs_program
     @needs_library
     def test_late_streams_and_the_library(self) -> None:
-        packets = self.coded_packets()
-        self.assert_late_streams_hold_nothing(packets, sum(packets[253:256], []), PROGRAM, "--library")
+        late = sum(coded_packets(256, False)[253:], [])
+        self.assert_late_streams_hold_nothing(coded_packets(330, True), late, PROGRAM, "--library")
 
-    def coded_packets(self) -> list[list[bytes]]:
-        """The packets of 330 pictures of a sender that hears that all but those of the outages came."""
-        library, picture = in_process.library(), bytes(range(96, 160)) * 288
-        params, found = library.Params.of("sub-qcif", lead=6, slots=39), []
-        with library.Sender(params) as sender, library.Receiver(params) as receiver:
-            for count in range(330):
-                found.append(sender.packets(sender.code(picture)))
-                outage, place = divmod(count - 30, 75)
-                came = found[-1] if outage < 0 or place >= 36 else []
-                for message in [*(receiver.packet(packet).message for packet in came), receiver.play().message]:
-                    if message:
-                        sender.feedback(message)
-        return found
+
+def coded_packets(count: int, is_intra: bool) -> list[list[bytes]]:
+    """The packets of so many pictures, each complete by itself, or predicted from the one before."""
+    library, picture, found = in_process.library(), bytes(range(96, 160)) * 288, []
+    params = library.Params.of("sub-qcif", lead=6, slots=39)
+    with library.Sender(params) as sender, library.Receiver(params) as receiver:
+        for _ in range(count):
+            if is_intra:
+                sender.forget()
+            found.append(sender.packets(sender.code(picture)))
+            for message in [*(receiver.packet(packet).message for packet in found[-1]), receiver.play().message]:
+                if message:
+                    sender.feedback(message)
+    return found
