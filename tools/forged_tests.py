@@ -177,8 +177,8 @@ class ForgedTest(Calls):
                     assert header
                     call.receiving.packet(rtp.renumbered(packet, header.sequence, header.timestamp, 8))
 
-            for number in range(150):
-                call.clock.at(FORGED[0] + number / 30, forge)
+            for number in range(120):
+                call.clock.at(FORGED[0] + 1.5 + number / 30, forge)
             call.run(OUTAGE[1] - 0.1)
             self.assertEqual(call.receiving.source, 8)
             call.run(OUTAGE[1] + 0.2)
