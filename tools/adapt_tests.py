@@ -303,6 +303,26 @@ class AdaptTest(Calls):
         self.assertNotIn("too narrow", later)
         self.assertRegex(told, rf"line \d+ kbit/s \| too narrow: {thinned} frames left out")
 
+    def test_the_longer_nothing_comes_back_the_fewer_pictures_go_out(self) -> None:
+        """Five a second after two seconds, one after ten, and all again with the first message."""
+
+        class Deaf(SimulatedCall):
+            def _feedback(self, feedback: Any) -> None:
+                if self.clock.now() >= 20:
+                    super()._feedback(feedback)
+
+        for target in (1_800, None):
+            call = Deaf({0: 2_000}, target=target)
+            coded = []
+            for second in (2, 10, 20, 23):
+                call.run(second)
+                coded.append(call.tally.captured)
+            steps = [after - before for before, after in zip([0, *coded], coded)]
+            # In the last three seconds one picture goes out alone, and the messages about it come back.
+            for step, (least, most) in zip(steps, ((55, 61), (38, 42), (9, 11), (50, 91))):
+                self.assertTrue(least <= step <= most, steps)
+            self.assertEqual(sum("nothing comes back" in words for words in call.seen.told), 1)
+
     def test_a_target_gives_the_quantiser(self) -> None:
         """What the sender takes is what its sizes and the target were said to give."""
         bounds = following.Bounds(1_800, 60, 999_999, 8)

@@ -187,6 +187,25 @@ class ForgedTest(Calls):
         self.assertEqual(call.receiving.source, call.sending.source)
         self.assertEqual(seen.exact(OUTAGE[1] + 0.2), 1.0)
 
+    @needs_library
+    def test_a_forged_stream_that_is_never_complete_is_no_bar(self) -> None:
+        """The sender begins anew in an outage, with another SSRC, while such a stream comes from before until after it:
+        a trial ends after a second, and the next one is the sender's."""
+        call = ForgedCall(0)
+        call.clock.at(5.0, call.sending._begin_anew)
+
+        def forge(number: int) -> None:
+            packet = rtp.renumbered(late_packets(False)[0], number, rtp.TICKS_A_PICTURE * number, 8)
+            call.receiving.packet(packet)
+
+        for number in range(180):
+            call.clock.at(FORGED[0] + number / 30, lambda number=number: forge(number))
+        call.run(OUTAGE[1])
+        self.assertNotEqual(call.receiving.source, call.sending.source)
+        seen = call.run(10)
+        self.assertEqual(call.receiving.source, call.sending.source)
+        self.assertEqual(seen.exact(OUTAGE[1] + 1.5), 1.0)
+
     def test_the_program_joins_by_as_many_plays_at_once_as_are_kept(self) -> None:
         """With a look at the sockets between them; packets that come meanwhile wait."""
         clock = Clock()

@@ -728,11 +728,11 @@ class CallsTest(Calls):
         self, packets: Callable[[int], list[bytes]], program: Path, *words: object
     ) -> None:
         """Kinds of forged packets come once each, then by fives and then by hundreds a second; each picture is exact,
-        a line is told each second, and the memory stays."""
-        port, other_port = free_port(), free_port()
+        a line is told each second, the memory stays, and nothing but the call is recorded."""
+        port, other_port, folder = free_port(), free_port(), self.room / "call"
         ends = ("--with", "127.0.0.1", "--port", port, "--other-port", other_port, "--one-way", "screen")
         told = [*ends, "--format", "sub-qcif", "--screen", "none", "--seconds", 11, "--wait", 300, *words]
-        call = Call([*told, "--program", program])
+        call = Call([*told, "--program", program, "--record", folder])
         self.calls.append(call)
         other, control, draws = bound(other_port), bound(other_port + 1), random.Random(8)
         wait_for_port(port)
@@ -760,6 +760,7 @@ class CallsTest(Calls):
         seconds = [int(line.split()[0]) for line in call.told.splitlines() if re.match(r"\d+ s ", line)]
         self.assertEqual(seconds[:9], list(range(1, 10)), call.told)
         self.assertLess(memory[1] - memory[0], 4_000)
+        self.assertLess(sum(path.stat().st_size for path in folder.iterdir()), 270 * 20_000)
         for net in (other, control):
             net.close()
 
