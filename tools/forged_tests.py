@@ -5,6 +5,7 @@ import random
 import re
 import time
 import types
+from collections import Counter
 from pathlib import Path
 from typing import Any, Callable, Optional
 from unittest import mock
@@ -121,11 +122,21 @@ def size_of(folder: Path) -> int:
     return sum(path.stat().st_size for path in folder.iterdir())
 
 
+def arrival_of(number: int, sequence: int) -> Arrival:
+    """A packet of a picture by the stand-in."""
+    packet = stand_in.packet(number, "qcif")
+    data = rtp.renumbered(packet, sequence, rtp.TICKS_A_PICTURE * number, 7)
+    header, start = rtp.rtp_header(data), picture_start(data)
+    assert header and start
+    return Arrival(data, header, start)
+
+
 class Program:
     """In the place of `recv` in discrete time: what it is given, by the looks at the sockets between."""
 
     def __init__(self, clock: Clock) -> None:
         self.files, self.is_over, self.waiting = [0, 1, 2], False, 0
+        self.is_ended = False
         self._clock = clock
         self.given: list[tuple[int, bytes]] = []
 
@@ -134,6 +145,9 @@ class Program:
 
     def put(self, data: bytes) -> None:
         self.given.append((self._clock.turns, data))
+
+    def end(self) -> None:
+        self.is_ended = True
 
     def source(self, file: int, *_: Any) -> None:
         pass
@@ -208,26 +222,12 @@ class ForgedTest(Calls):
 
     def test_the_program_joins_by_as_many_plays_at_once_as_are_kept(self) -> None:
         """With a look at the sockets between them; packets that come meanwhile wait."""
-        clock = Clock()
-        settings = live_settings.Settings(Path("none"))
-        given: list[Program] = []
-
-        def program_of(*_: Any) -> Program:
-            given.append(Program(clock))
-            return given[-1]
-
-        with mock.patch.object(receiving, "program_of", program_of):
-            context: Any = CallContext(clock, settings, Recorder(None, 0.0, {}), Tally(), print)  # type: ignore[arg-type]
-            run = receiving.ReceivingRun(context)
-            for number in range(252, 255):
-                packet = stand_in.packet(number, "qcif")
-                header, start = rtp.rtp_header(packet), picture_start(packet)
-                assert header and start
-                self.assertTrue(run.packet(Arrival(packet, header, start), clock.now()))
-                if number == 252:
-                    self.assertEqual(len(given[0].given), 1)
-                clock.run(clock.now() + settings.period)
-        (program,) = given
+        clock, settings, program, run = self.run_with_program()
+        for number in range(252, 255):
+            self.assertTrue(run.packet(arrival_of(number, number), clock.now()))
+            if number == 252:
+                self.assertEqual(len(program.given), 1)
+            clock.run(clock.now() + settings.period)
         first = next(place for place, (_, data) in enumerate(program.given) if data[:1] == b"K")
         joining = program.given[:first]
         self.assertEqual(b"".join(data for _, data in joining), 250 * logs.entry_bytes(logs.PLAY))
@@ -236,10 +236,33 @@ class ForgedTest(Calls):
         self.assertEqual(sum(data[:1] == b"K" for _, data in program.given), 3)
         self.assertEqual(run.joining, 250)
 
-    def assert_late_streams_hold_nothing(self, packets: list[list[bytes]], late: list[bytes], program: Path, *words: object) -> None:
+    def test_a_run_ends_by_as_many_plays_at_once_as_are_kept(self) -> None:
+        """After an outage of 20 s, of which nothing was played yet."""
+        clock, settings, program, run = self.run_with_program()
+        self.assertTrue(run.packet(arrival_of(0, 0), 0.0))
+        clock.run(20.0)
+        self.assertTrue(run.packet(arrival_of(600, 600), clock.now()))
+        given = len(program.given)
+        run.end()
+        clock.run(20.0)
+        plays: Counter[int] = Counter(turn for turn, data in program.given[given:] if data[:1] == b"P")
+        self.assertEqual(run.played, 601)
+        self.assertLessEqual(max(plays.values()), settings.slots)
+        self.assertGreater(len(plays), 10)
+        self.assertTrue(program.is_ended)
+
+    def run_with_program(self) -> tuple[Clock, live_settings.Settings, Program, receiving.ReceivingRun]:
+        """A run in discrete time, over what stands for the program."""
+        clock, settings = Clock(), live_settings.Settings(Path("none"))
+        program = Program(clock)
+        with mock.patch.object(receiving, "program_of", lambda *_: program):
+            context: Any = CallContext(clock, settings, Recorder(None, 0.0, {}), Tally(), print)  # type: ignore[arg-type]
+            return clock, settings, program, receiving.ReceivingRun(context)
+
+    def assert_late_streams_hold_nothing(self, packets: list[list[bytes]], late: list[bytes], program: Path, *words: object) -> int:
         """Over sockets: four outages, in which such streams come once, by three packets a second, by fives and by
         hundreds, until a moment after each. A line is told each second; the memory stays, and what is recorded is what
-        was shown; pictures are exact again soon after each."""
+        was shown; pictures are exact again soon after each. Answers how many runs were recorded."""
         port, other_port, folder = free_port(), free_port(), self.room / "call"
         ends = ("--with", "127.0.0.1", "--port", port, "--other-port", other_port, "--one-way", "screen")
         told = [*ends, "--format", "sub-qcif", "--screen", "none", "--seconds", 12, "--record", folder, *words]
@@ -277,23 +300,28 @@ class ForgedTest(Calls):
         self.assertLess(memory[1] - memory[0], 8_000)
         # All pictures of the call are shown once; beside them there is what was shown of forged streams.
         self.assertLess(size_of(folder), (330 + 60) * 18_500 + 500_000)
-        self.assert_played_again(folder, program)
+        runs = self.assert_played_again(folder, program)["recv"]
+        self.assertEqual([run["joined"] for run in runs], [0] + (len(runs) - 1) * [251])
+        return len(runs)
 
     def test_late_streams_and_the_stand_in(self) -> None:
         packets = [[stand_in.packet(count, "sub-qcif")] for count in range(330)]
         late = [stand_in.packet(count, "sub-qcif") for count in range(253, 256)]
-        self.assert_late_streams_hold_nothing(packets, late, self.stand_in)
+        self.assertGreater(self.assert_late_streams_hold_nothing(packets, late, self.stand_in), 3)
 
     @needs_program
     @needs_library
     def test_late_streams_and_the_program(self) -> None:
-        self.assert_late_streams_hold_nothing(coded_packets(330, True), sum(coded_packets(256, False)[253:], []), PROGRAM)
+        late = sum(coded_packets(256, False)[253:], [])
+        self.assertEqual(self.assert_late_streams_hold_nothing(coded_packets(330, True), late, PROGRAM), 1)
 
     @needs_program
     @needs_library
     def test_late_streams_and_the_library(self) -> None:
-        late = sum(coded_packets(256, False)[253:], [])
-        self.assert_late_streams_hold_nothing(coded_packets(330, True), late, PROGRAM, "--library")
+        # These are complete, so they are followed, and what is recorded of them begins where they were joined.
+        late = sum(coded_packets(256, True)[253:], [])
+        told = self.assert_late_streams_hold_nothing(coded_packets(330, True), late, PROGRAM, "--library")
+        self.assertGreater(told, 3)
 
 
 def coded_packets(count: int, is_intra: bool) -> list[list[bytes]]:
