@@ -263,7 +263,7 @@ class ForgedTest(Calls):
         """Over sockets: four outages, in which such streams come once, by three packets a second, by fives and by
         hundreds, until a moment after each. A line is told each second; the memory stays, and what is recorded is what
         was shown; pictures are exact again soon after each. Answers how many runs were recorded."""
-        port, other_port, folder = free_port(), free_port(), self.room / "call"
+        port, other_port, folder = free_port(), free_port(), self.folder_in_memory()
         ends = ("--with", "127.0.0.1", "--port", port, "--other-port", other_port, "--one-way", "screen")
         told = [*ends, "--format", "sub-qcif", "--screen", "none", "--seconds", 12, "--record", folder, *words]
         call = Call([*told, "--program", program])

@@ -196,6 +196,11 @@ class PartsTest(unittest.TestCase):
             self.assertEqual((run.is_over, run.status, told[-1:]), (True, 0, [command]))
             self.assertEqual(b"".join(lines), (EXAMPLES / "expected" / f"{command}.txt").read_bytes())
 
+    def test_an_interrupted_tool_ends_without_a_word(self) -> None:
+        code = "import signal, sys; from calltools import errors; errors.run(lambda _: signal.raise_signal(signal.SIGINT))"
+        run = subprocess.run([sys.executable, "-c", code], cwd=TOOLS, capture_output=True)
+        self.assertEqual((run.returncode, run.stdout, run.stderr), (130, b"", b""))
+
     def test_lead_and_slots_hold_the_wait(self) -> None:
         rate = y4m.RATE
         self.assertEqual([live_settings.lead_for(wait, rate, None) for wait in (0, 0.1, 0.101, 1.9)], [3, 6, 7, 60])
@@ -418,6 +423,13 @@ class Calls(unittest.TestCase):
         head = f"#!{sys.executable}\nimport sys\nsys.path.insert(0, {str(TOOLS)!r})\n"
         self.stand_in.write_text(head + "from calltools import stand_in\nstand_in.main(sys.argv[1:])\n")
         self.stand_in.chmod(0o755)
+
+    def folder_in_memory(self) -> Path:
+        """A folder to record into where no other process's writes to the disk are waited for."""
+        memory = "/dev/shm" if os.access("/dev/shm", os.W_OK) else None
+        room = tempfile.TemporaryDirectory(dir=memory)
+        self.addCleanup(room.cleanup)
+        return Path(room.name) / "call"
 
     def start(self, *words: object, program: Optional[Path] = None, **more: Any) -> Call:
         call = Call([*words, "--quiet", "--program", program or self.stand_in], **more)
@@ -729,7 +741,7 @@ class CallsTest(Calls):
     ) -> None:
         """Kinds of forged packets come once each, then by fives and then by hundreds a second; each picture is exact,
         a line is told each second, the memory stays, and nothing but the call is recorded."""
-        port, other_port, folder = free_port(), free_port(), self.room / "call"
+        port, other_port, folder = free_port(), free_port(), self.folder_in_memory()
         ends = ("--with", "127.0.0.1", "--port", port, "--other-port", other_port, "--one-way", "screen")
         told = [*ends, "--format", "sub-qcif", "--screen", "none", "--seconds", 11, "--wait", 300, *words]
         call = Call([*told, "--program", program, "--record", folder])

@@ -2,6 +2,7 @@
 
 import argparse
 import re
+import signal
 import sys
 from pathlib import Path
 from typing import Callable
@@ -35,7 +36,8 @@ def release() -> str:
 
 
 def run(main: Callable[[list[str]], None]) -> None:
-    """Runs a tool on the words of the command line. Bad input and failing files end it with status 1.
+    """Runs a tool on the words of the command line. Bad input and failing files end it with status 1, an interrupt as a
+    shell tells one.
 
     With --version alone it says the release.
     """
@@ -44,6 +46,8 @@ def run(main: Callable[[list[str]], None]) -> None:
             print(Path(sys.argv[0]).name, release())
             return
         main(sys.argv[1:])
+    except KeyboardInterrupt:
+        sys.exit(128 + signal.SIGINT)
     except BadInput as fault:
         sys.exit(str(fault))
     except OSError as fault:
