@@ -361,10 +361,10 @@ fn starts_of_packets(rt: HostRuntime) -> Result<(), Fail> {
     let (refused, second) = begun(&mut sender, &picture, &[short, long]);
     assert_eq!(rt; (refused, numbers_of(&second)), (0, [1, 0, 1, 0, 0, 2]));
     assert_eq!(rt; second.messages.map(|said| said.length), [3, 5, 0, 0]);
-    assert_eq!(rt;
-        second.messages.map(|said| said.bytes),
-        [short.bytes, long.bytes, [0; 5], [0; 5]]
-    );
+    let [first, second, third, fourth] = second.messages.map(|said| said.bytes);
+    assert_eq!(rt; first, [0xC0, 0x04, 0x00, 0, 0]);
+    assert_eq!(rt; second, [0xE0, 0x04, 0x00, 0xC0, 0x80]);
+    assert_eq!(rt; (third, fourth), ([0; 5], [0; 5]));
     let mut start = UNTOLD;
     assert_eq!(rt; h263rps_raw_packet_start(&[1, 2, 3], &mut start), 13);
     assert_eq!(rt; numbers_of(&start), [77; 6]);
