@@ -2,10 +2,13 @@
 
 import json
 import os
+from datetime import datetime, timezone
 from pathlib import Path
 from typing import Any, BinaryIO, Callable, Optional
 
+from .bad_network import BadNetwork
 from .errors import BadInput
+from .live_settings import Settings
 
 VERSION = 1
 # What each end's run has: its key in call.json, the file's name, and whether it has times beside.
@@ -68,6 +71,24 @@ def _replace(path: Path, text: str) -> None:
     os.replace(new, path)
 
 
+def call_facts(settings: Settings, party: str, network: Optional[BadNetwork]) -> dict[str, Any]:
+    """What call.json says of a call that begins now. `party` is alone, both, camera or screen."""
+    return {
+        "began": datetime.now(timezone.utc).isoformat(timespec="milliseconds"),
+        "party": party,
+        "format": settings.format,
+        "rate": str(settings.rate),
+        "clock": settings.clock,
+        "messages": settings.messages,
+        "wait": settings.wait,
+        "lead": settings.lead,
+        "slots": settings.slots,
+        "target": settings.target,
+        "adapts": settings.adapts,
+        "network": vars(network) if network else None,
+    }
+
+
 class Recorder:
     """Writes a call's folder, or nothing without one. Where a write fails, recording ends, the
     call goes on, and `fault` says why."""
@@ -91,10 +112,13 @@ class Recorder:
     def run(self, end: str, facts: dict[str, Any]) -> RunRecord:
         """A new run of `send` or `recv`; `facts` may be filled later on."""
         self._facts[end].append(facts)
-        run = RunRecord(self, end, len(self._facts[end]), facts)
+        run = self._begun(end, len(self._facts[end]), facts)
         self._runs.append(run)
         self._write_facts()
         return run
+
+    def _begun(self, end: str, number: int, facts: dict[str, Any]) -> RunRecord:
+        return RunRecord(self, end, number, facts)
 
     def flush(self) -> None:
         """What is recorded by now outlives this process; so does what a run was found to be since it began."""
