@@ -303,7 +303,7 @@ class Receiving(LiveEnd):
             return False
         self.last = now
         rate = self._run.other_rate
-        if rate:
+        if rate and self._settings.is_even:
             own = float(self._settings.rate)
             told = f"the other side sends {rate:.1f} pictures a second, and --rate here is {own:.1f}"
             self._tell_once("rate", told + ": give both the same --rate")

@@ -199,7 +199,8 @@ class PhoneCall:
         self._count_datagrams()
         told = self._status.facts(now - self.began, self.tally, self._heard(now - self.began))
         unreached = not self.has_come and line.unreached > 0
-        return {**told, "has_come": self.has_come, "unreached": unreached}
+        is_other = not self.has_come and self.tally.dropped["other format or clock"] > 0
+        return {**told, "has_come": self.has_come, "unreached": unreached, "other_size": is_other}
 
     def _heard(self, now: float) -> Heard:
         reception, sender = self._parties[-1].reporting.reception, self._sender()

@@ -159,11 +159,12 @@ class Phone {
   begin(state) {
     this.status = null;
     this.tellFault("");
+    this.tellNews("");
     this.screens.forEach((screen) => screen.clear());
     this.strip.clear();
     this.goingOn.clear();
     byId("sentence").textContent = "";
-    byId("other_name").textContent = state.alone ? "Over the bad network" : state.other;
+    byId("other_name").textContent = state.alone ? "Over the network" : state.other;
     byId("other_none").textContent = state.alone ? "" : `Calling ${state.other}`;
     byId("mark").textContent = "";
     this.tick();
@@ -173,9 +174,8 @@ class Phone {
     byId("clock").textContent = "";
     if (!ended && !why) return;
     const seconds = before.calls ? this.status?.seconds : 0;
-    const words = ended ? endWords({ why, kept }, seconds, this.status?.shown) : `${why[0].toUpperCase()}${why.slice(1)}.`;
-    this.tellFault(words);
-    this.goingOn.isOpen && this.goingOn.due();
+    if (ended) this.tellNews(endWords({ why, kept }, seconds, this.status?.shown));
+    else this.tellFault(`${why[0].toUpperCase()}${why.slice(1)}.`);
   }
 
   stateWords() {
@@ -214,7 +214,8 @@ class Phone {
     byId("sentence").textContent = sentenceWords(status);
     byId("state").textContent = this.stateWords();
     if (!status.has_come) {
-      const nobody = status.unreached ? "Nobody is there yet." : "Nothing has come from there yet.";
+      const silent = status.unreached ? "Nobody is there yet." : "Nothing has come from there yet.";
+      const nobody = status.other_size ? "Its pictures have another size: choose the same one on both sides, in the settings." : silent;
       byId("other_none").textContent = `Calling ${this.state.other}. ${status.seconds > 2 ? nobody : ""}`;
     }
   }
@@ -228,6 +229,11 @@ class Phone {
   tellFault(words) {
     byId("fault").textContent = words;
     byId("fault").hidden = !words;
+  }
+
+  tellNews(words) {
+    byId("news").textContent = words;
+    byId("news").hidden = !words;
   }
 
   call(host) {

@@ -7,6 +7,7 @@ class Shown {
     this.canvas = canvas;
     this.pen = canvas.getContext("2d", { alpha: false });
     this.frame = canvas.closest(".frame");
+    this.hasMarks = this.frame.hasAttribute("data-mark");
     this.setSize(352, 288);
   }
 
@@ -20,8 +21,7 @@ class Shown {
 
   clear() {
     this.number = null;
-    this.frame.dataset.mark = "";
-    this.frame.classList.remove("is_live");
+    if (this.hasMarks) this.frame.dataset.mark = "";
     this.pen.fillStyle = "#15191c";
     this.pen.fillRect(0, 0, this.width, this.height);
   }
@@ -31,8 +31,7 @@ class Shown {
     paint(samples, this.width, this.height, this.image.data);
     this.pen.putImageData(this.image, 0, 0);
     this.number = number;
-    this.frame.dataset.mark = mark;
-    this.frame.classList.add("is_live");
+    if (this.hasMarks) this.frame.dataset.mark = mark;
   }
 }
 

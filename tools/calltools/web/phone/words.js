@@ -8,8 +8,8 @@ function percentWords(share) {
   return `${percent >= 10 || percent === 0 ? percent.toFixed(0) : percent.toFixed(1)} %`;
 }
 
-function bytesASecond(bytes) {
-  return bytes < 100_000 ? `${(bytes / 1000).toFixed(1)} kB/s` : `${Math.round(bytes / 1000)} kB/s`;
+function kilobytes(bytes) {
+  return (bytes / 1000).toFixed(bytes < 100_000 ? 1 : 0);
 }
 
 function clockWords(seconds) {
@@ -32,7 +32,7 @@ function numberWords(status) {
     lost: percentWords(status.lost) + (status.lost === null ? "" : out),
     round_trip: status.round_trip === null ? NOTHING : `${status.round_trip} ms`,
     back: backWords(status.back),
-    bytes: `${bytesASecond(status.out)} out, ${bytesASecond(status.in)} in`,
+    bytes: `${kilobytes(status.out)} out, ${kilobytes(status.in)} in`,
   };
 }
 
