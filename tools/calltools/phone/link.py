@@ -5,7 +5,7 @@ import json
 from collections import Counter, deque
 from typing import Any, Optional
 
-from aiohttp import WSMsgType, web
+from aiohttp import WebSocketError, WSCloseCode, WSMsgType, web
 
 # Pictures that may wait for the page; where there are more, the oldest are left out.
 _AHEAD = 4
@@ -75,8 +75,9 @@ class PageLink:
 
 
 def is_too_long(socket: web.WebSocketResponse) -> bool:
-    """Whether the page was closed for a message of too many bytes (RFC 6455, 7.4.1)."""
-    return socket.close_code == 1_009
+    """Whether the page was closed for a message of too many bytes."""
+    fault = socket.exception()
+    return isinstance(fault, WebSocketError) and fault.code == WSCloseCode.MESSAGE_TOO_BIG
 
 
 TEXT, BYTES = WSMsgType.TEXT, WSMsgType.BINARY

@@ -31,6 +31,7 @@ class OrdinaryCoder:
     def __init__(self, settings: Settings) -> None:
         import av
 
+        av.logging.set_level(av.logging.FATAL)  # else it tells of each loss
         self._av, self._size, self._limit = av, settings.size, settings.limit
         self._coded: deque[tuple[int, list[bytes]]] = deque(maxlen=_KEPT)
         self._shown = bytes([128]) * settings.size.bytes

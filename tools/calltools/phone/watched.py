@@ -25,7 +25,8 @@ class WatchedRun(RunRecord):
 
     def mark(self, key: str, when: float) -> None:
         super().mark(key, when)
-        self._last = when - self._began
+        # As it is in the file.
+        self._last = round(when - self._began, 6)
         if key == "video" and isinstance(self._watch, RecvWatch):
             self._watch.frame()
 

@@ -301,7 +301,9 @@ class Phone {
 
   tellNetwork() {
     for (const [name, [, unit]] of Object.entries(SLIDERS)) {
-      byId(`${name}_told`).textContent = `${byId(name).value} ${unit}`.trim();
+      const words = `${byId(name).value} ${unit}`.trim();
+      byId(`${name}_told`).textContent = words;
+      byId(name).setAttribute("aria-valuetext", words);
     }
   }
 
