@@ -239,9 +239,9 @@ class CallTest(Room):
         clean, lossy = errors_of(bad_network.BadNetwork(delay=0.02)), errors_of(bad_network.BadNetwork(0.15, 1, 0.02))
         middle = lambda values: sorted(values)[len(values) // 2]
         self.assertEqual(len(clean[0]), len(clean[1]))
-        self.assertLess(middle(clean[1]), 1.5 * middle(clean[0]) + 1)
-        self.assertLess(middle(lossy[0]), 1.5 * middle(clean[0]) + 1)
-        self.assertGreater(middle(lossy[1]), 1.5 * middle(clean[1]))
+        told = [middle(of[canvas]) for of in (clean, lossy) for canvas in of]
+        self.assertLess(max(told[:2]), 4, told)
+        self.assertGreater(told[3], 2 * told[2], told)
 
     def test_old_rows_are_forgotten(self) -> None:
         live = live_way.LiveWay("sent")
@@ -447,7 +447,7 @@ class ServerTest(Room):
 
     @needs_library
     def test_a_record_begins_and_ends_in_a_call(self) -> None:
-        """Both ends begin anew for it, and the folder is whole."""
+        """Both ends begin anew for it, and go on when it ends; the folder is one that was cut off there."""
         async def work() -> None:
             async with self.opened() as page_:
                 await page_.send_str(json.dumps(CALL))
@@ -465,14 +465,18 @@ class ServerTest(Room):
                 await send(30)
                 await page_.send_str('{"do": "record", "on": false}')
                 self.assertIsNone((await self.words(page_, "state"))["folder"])
+                before = self.phone.call.tally.shown
                 await send(10)
+                self.assertGreater(self.phone.call.tally.shown, before)
                 await page_.send_str('{"do": "hang up"}')
                 while (await self.words(page_, "state"))["calls"]:
                     pass
 
         with contextlib.chdir(self.room):
             self.with_session(work)
-        (told,) = recorded_ways.ways_of(recorded.read_record(self.folder))
+        record = recorded.read_record(self.folder)
+        (told,) = recorded_ways.ways_of(record)
+        self.assertTrue(record.is_cut)
         self.assertGreater(len(told.pictures), 15)
         self.assertEqual(told.pictures[0].number, 0)
 

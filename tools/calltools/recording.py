@@ -60,8 +60,10 @@ class RunRecord:
                 self._recorder.guarded(file.flush)
 
     def close(self) -> None:
+        """No more is written."""
         for file in (*self._files.values(), *self._times.values()):
             self._recorder.guarded(file.close)
+        self._files, self._times = {}, {}
 
 
 def _replace(path: Path, text: str) -> None:
@@ -125,6 +127,12 @@ class Recorder:
         for run in self._runs:
             run.flush()
         self._write_facts()
+
+    def stop(self) -> None:
+        """Nothing more is recorded of a call that goes on: the folder is one that was cut off here."""
+        for run in self._runs:
+            run.close()
+        self._folder = None
 
     def finish(self, counts: dict[str, Any]) -> None:
         """Closes the files, and writes what came of the call."""

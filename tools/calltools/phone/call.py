@@ -134,7 +134,7 @@ class PhoneCall:
     @property
     def folder(self) -> Optional[Path]:
         """Where it is recorded, if it is."""
-        return None if self._recorder.fault else self._wanted.folder
+        return self._recorder.folder
 
     @property
     def wanted(self) -> Wanted:
@@ -220,6 +220,10 @@ class PhoneCall:
 
     def _failed(self, fault: BadInput) -> None:
         self.end(str(fault))
+
+    def stop_recording(self) -> None:
+        """What is recorded by now stays; the call goes on."""
+        self._recorder.stop()
 
     def end(self, why: str = "") -> None:
         """The camera stops, and the other side is told; what is on its way is still shown."""

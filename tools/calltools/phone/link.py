@@ -3,7 +3,7 @@
 import asyncio
 import json
 from collections import Counter, deque
-from typing import Any, Optional
+from typing import Any, Callable, Optional
 
 from aiohttp import WebSocketError, WSCloseCode, WSMsgType, web
 
@@ -11,6 +11,8 @@ from aiohttp import WebSocketError, WSCloseCode, WSMsgType, web
 _AHEAD = 4
 # Texts that may wait. A page that takes none is closed: it has stopped.
 _MOST_TEXTS = 400
+# Seconds after which a page that takes nothing is gone.
+_PATIENCE = 20.0
 # Refusals that are told in words; all are counted.
 _MOST_TOLD = 20
 
@@ -18,8 +20,9 @@ _MOST_TOLD = 20
 class PageLink:
     """Pictures and words to a page. They wait here, in bounded number, until it takes them."""
 
-    def __init__(self, socket: web.WebSocketResponse) -> None:
-        self.socket = socket
+    def __init__(self, socket: web.WebSocketResponse, abort: Callable[[], None]) -> None:
+        """`abort` ends the connection without a word."""
+        self.socket, self._abort = socket, abort
         self.refused: Counter[str] = Counter()
         self.left_out = 0
         self._texts: deque[str] = deque()
@@ -63,15 +66,18 @@ class PageLink:
                 await self._write_waiting()
         except (ConnectionError, RuntimeError):
             return  # the page has gone
+        except asyncio.TimeoutError:
+            self._abort()
+            return
         if self._is_closing is not None:
             await self.socket.close(code=4_001, message=self._is_closing.encode()[:120])
 
     async def _write_waiting(self) -> None:
         while self._is_closing is None and (self._texts or self._pictures):
             while self._texts:
-                await self.socket.send_str(self._texts.popleft())
+                await asyncio.wait_for(self.socket.send_str(self._texts.popleft()), _PATIENCE)
             if self._pictures:
-                await self.socket.send_bytes(self._pictures.popleft())
+                await asyncio.wait_for(self.socket.send_bytes(self._pictures.popleft()), _PATIENCE)
 
 
 def is_too_long(socket: web.WebSocketResponse) -> bool:

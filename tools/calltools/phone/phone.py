@@ -240,13 +240,19 @@ class Phone:
         return named if self._calls == 1 else named.with_name(f"{named.name}-{self._calls}")
 
     def _record(self, call: PhoneCall, is_on: bool) -> None:
-        # A record begins where both ends begin: they do so anew.
+        # A record begins where both ends begin. With oneself they do so anew; another side would have to, as well.
         if is_on == (call.folder is not None) or call.is_over:
             return
+        if not is_on:
+            call.stop_recording()
+            self._tell_state()
+            return
+        if not call.is_alone:
+            raise Refused("record", "a recording begins with its call")
         call.on_over = lambda _: None
         call.renounce()
         self._call = None
-        self._begin(replace(call.wanted, folder=self._folder() if is_on else None, network=self._network))
+        self._begin(replace(call.wanted, folder=self._folder(), network=self._network))
 
     def _over(self, call: PhoneCall, why: str) -> None:
         self._tell_status(call)

@@ -83,11 +83,12 @@ class Server:
         if self._phone.has_page:
             await page.close(code=BUSY, message=b"busy")
             return page
-        await self._serve(page)
+        assert request.transport
+        await self._serve(page, request.transport)
         return page
 
-    async def _serve(self, page: web.WebSocketResponse) -> None:
-        link = PageLink(page)
+    async def _serve(self, page: web.WebSocketResponse, transport: asyncio.Transport) -> None:
+        link = PageLink(page, transport.abort)
         self._phone.join(link)
         writer = asyncio.ensure_future(link.write())
         try:

@@ -42,6 +42,11 @@ class Watched(Recorder):
         self.received: list[RecvWatch] = []
         super().__init__(folder, began, facts)
 
+    @property
+    def folder(self) -> Optional[Path]:
+        """Where the call is recorded now."""
+        return None if self.fault else self._folder
+
     def following(self, source: Optional[int]) -> Optional[RecvWatch]:
         """The last run of `recv` of a stream."""
         of = (one for one in reversed(self.received) if one.source == source)

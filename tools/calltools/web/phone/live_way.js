@@ -4,7 +4,7 @@
 const KEPT = 400;
 const DRAWN = 200;
 /* The newest picture stands this many pictures from the right edge of what is drawn. */
-const LATE = 0.72;
+const LATE = 0.84;
 
 class LiveWay {
   constructor(name) {

@@ -17,6 +17,15 @@ class Phone {
     this.counts = { came: 0, shown: [], late: [] };
     this.state = { calls: false };
     this.status = null;
+    this.records = false;
+    this.heard = {
+      hello: (hello) => this.greeted(hello),
+      state: (state) => this.changed(state),
+      status: (status) => this.tellStatus(status),
+      way: (told) => this.goingOn.take(told),
+      said: ({ words }) => this.tellSaid(words),
+      refused: ({ why }) => this.tellSaid(`The page was refused: ${why}`),
+    };
     this.listen();
     this.line.open();
     this.camera.start();
@@ -24,7 +33,7 @@ class Phone {
 
   listen() {
     const { line, camera } = this;
-    line.onWords = (words) => this.heard[words.is]?.call(this, words);
+    line.onWords = (words) => this.heard[words.is]?.(words);
     line.onPicture = (picture) => this.show(picture);
     line.onClosed = (how) => this.closed(how);
     camera.wants = () => this.state.calls && line.isOpen;
@@ -90,24 +99,13 @@ class Phone {
     for (const end of ["pointerup", "pointercancel"]) canvas.addEventListener(end, () => (last = null));
   }
 
-  get heard() {
-    return {
-      hello: this.greeted,
-      state: this.changed,
-      status: this.tellStatus,
-      way: (told) => this.goingOn.take(told),
-      said: ({ words }) => this.tellSaid(words),
-      refused: ({ why }) => this.tellSaid(`The page was refused: ${why}`),
-    };
-  }
-
   /* The phone's first words. */
   greeted(hello) {
     this.hello = hello;
     this.goingOn.period = 1 / hello.rate;
     if (!byId("host").value && hello.other) byId("host").value = hello.other;
     byId("address").textContent = hello.address ? `Your address: ${hello.address}` : "This machine is in no network now.";
-    byId("record_next").checked ||= hello.records;
+    this.records ||= hello.records;
     byId("compare").disabled = !hello.can_compare;
     byId("compare").checked = hello.compares;
     byId("compare").parentElement.title = hello.can_compare ? "" : "It needs Debian’s python3-av";
@@ -141,19 +139,26 @@ class Phone {
     this.state = state;
     document.body.dataset.state = state.calls ? "call" : "ready";
     if (state.calls) document.body.classList.toggle("alone", state.alone);
-    byId("record").setAttribute("aria-pressed", Boolean(state.calls && state.folder));
-    byId("record").querySelector("span").textContent = state.calls && state.folder ? "Recording" : "Record";
-    byId("record").hidden = !state.calls;
+    this.tellRecord();
     if (state.calls) {
       this.began = performance.now() - 1000 * state.seconds;
       if (state.format !== byId("size").value) this.resize(state.format);
       if (!before.calls) this.begin(state);
     }
-    byId("source").disabled = byId("size").disabled = state.calls;
-    byId("source").disabled = false;
+    byId("size").disabled = state.calls;
     byId("state").textContent = this.stateWords();
     if (!state.calls) this.end(before, state);
     this.arrange();
+  }
+
+  /* Before a call the button says whether that will be recorded. A recording of a call with another side begins with it. */
+  tellRecord() {
+    const { calls, folder, alone } = this.state;
+    const isOn = Boolean(calls ? folder : this.records);
+    byId("record").setAttribute("aria-pressed", isOn);
+    byId("record").querySelector("span").textContent = !isOn ? "Record" : calls ? "Recording" : "Will record";
+    byId("record").disabled = Boolean(calls && !folder && !alone);
+    byId("record").title = byId("record").disabled ? "A recording begins with its call" : "";
   }
 
   begin(state) {
@@ -212,6 +217,7 @@ class Phone {
     this.status = status;
     for (const [id, words] of Object.entries(numberWords(status))) byId(id).textContent = words;
     byId("sentence").textContent = sentenceWords(status);
+    byId("costs").textContent = costWords(status, this.camera.left);
     byId("state").textContent = this.stateWords();
     if (!status.has_come) {
       const silent = status.unreached ? "Nobody is there yet." : "Nothing has come from there yet.";
@@ -237,9 +243,9 @@ class Phone {
   }
 
   call(host) {
-    const recorded = byId("record_next").checked;
     const port = this.hello?.port;
-    this.line.say({ do: "call", format: byId("size").value, recorded, ...(host ? { host, port } : {}) });
+    const other = host ? { host, port } : {};
+    this.line.say({ do: "call", format: byId("size").value, recorded: this.records, ...other });
   }
 
   callOther() {
@@ -250,7 +256,9 @@ class Phone {
   }
 
   record() {
-    this.line.say({ do: "record", on: !this.state.folder });
+    if (this.state.calls) return this.line.say({ do: "record", on: !this.state.folder });
+    this.records = !this.records;
+    this.tellRecord();
   }
 
   turnCamera() {

@@ -49,6 +49,15 @@ function sentenceWords(status) {
   return share > 0.95 ? `${of}.` : `Pictures come late or not at all: ${of}.`;
 }
 
+/* What was left out or dropped, where anything was. */
+function costWords({ unshown, refused, dropped, anew }, left) {
+  const counts = [
+    [left, "pictures of the camera left out"], [unshown, "pictures not shown here in time"],
+    [dropped, "datagrams dropped"], [refused, "messages of this page refused"], [anew, "ends begun anew"],
+  ];
+  return counts.filter(([count]) => count).map(([count, words]) => `${count} ${words}`).join(" · ");
+}
+
 function endWords({ why, kept }, seconds, shown) {
   const pictures = shown ? shown.exact + shown.patched + shown.held : 0;
   const share = pictures ? `, ${Math.floor((100 * shown.exact) / pictures)} of 100 pictures exact` : "";
