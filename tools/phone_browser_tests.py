@@ -314,8 +314,7 @@ class PhoneBrowserTest(Browsers):
     def test_a_camera_that_is_refused(self) -> None:
         """Words say what to do, and a call goes with the test picture."""
         here = self.phone(flags=())
-        here.until("return document.getElementById('own_none').innerText")
-        self.assertRegex(here.text("own_none"), "camera isn’t allowed|No camera was found")
+        here.until("return /camera isn’t allowed|No camera was found/.test(document.getElementById('own_none').innerText)")
         here.press("itself")
         here.until("return phone.state.calls")
         here.value("document.getElementById('more').open = true")
