@@ -120,8 +120,6 @@ def _message_row(key: int, one: way.Message) -> Row:
 class Watch:
     """What a run of an end writes, read as it is written: `entry` takes what goes to a file of its record."""
 
-    way: Optional[LiveWay]
-
     def entry(self, key: str, data: bytes, when: float) -> None:
         """Bytes of a file; `when` is the time of the file's last mark."""
         raise NotImplementedError

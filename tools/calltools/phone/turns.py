@@ -19,8 +19,9 @@ class Turns(Loop):
 
     def on_readable(self, file: int, call: Optional[Call]) -> None:
         if call and not self._is_closed:
+            given = call
             self._files.add(file)
-            self._loop.on_readable(file, lambda: self._turn(call))
+            self._loop.on_readable(file, lambda: self._turn(given))
         elif file in self._files:
             self._files.discard(file)
             self._loop.on_readable(file, None)
