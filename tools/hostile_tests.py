@@ -172,6 +172,7 @@ class HostileTest(Room):
             (run("recv", wire=["messages.log"]), "wire names no file of the folder"),
             (run("send", source=LONG), "source is no number of 32 bits"),
             (run("recv", skipped=-1), "skipped is no number of 32 bits"),
+            (run("recv", joined=1 << 32), "joined is no number of 32 bits"),
             (run("recv", options="--lead=1"), "its options are no list of words"),
             (twice, "is a file of another run, too"),
             ({**run("send"), "rate": "1e999999999"}, "pictures a second are wanted"),

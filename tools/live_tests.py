@@ -443,12 +443,18 @@ class Calls(unittest.TestCase):
             self.assertEqual(told, (folder / run["report"]).read_bytes())
             self.assertEqual(again.read_bytes(), (folder / run["wire"]).read_bytes())
         for run in facts["recv"]:
-            out = self.room / "out"
-            words = [program, "recv", folder / run["log"], out, again, *run["options"]]
+            out, log, joined = self.room / "out", self.room / "log", run["joined"]
+            log.write_bytes(joined * logs.entry_bytes(logs.PLAY) + (folder / run["log"]).read_bytes())
+            words = [program, "recv", log, out, again, *run["options"]]
             told = subprocess.run(words, capture_output=True).stdout
-            self.assertEqual(told, (folder / run["report"]).read_bytes())
-            self.assertEqual(again.read_bytes(), (folder / run["wire"]).read_bytes())
-            self.assertEqual(out.read_bytes(), (folder / run["video"]).read_bytes())
+            self.assertEqual(told.split(b"\n", joined)[joined], (folder / run["report"]).read_bytes())
+            with again.open("rb") as wire:
+                said = [logs.entry_bytes(it.letter, it.body) for it in logs.read_log(wire, "again")]
+            self.assertEqual(b"".join(said[joined:]), (folder / run["wire"]).read_bytes())
+            shown, before = (folder / run["video"]).read_bytes(), out.read_bytes()
+            head = before[: before.find(b"\n") + 1]
+            frame = len(b"FRAME XHELD\n") + y4m.Size(*y4m.FORMATS[facts["format"]]).bytes
+            self.assertEqual(head + before[len(head) + joined * frame :], shown)
         return facts
 
 
@@ -571,7 +577,7 @@ class CallsTest(Calls):
         self.assertEqual([call.ended().status for call in (camera, screen)], [0, 0], screen.told)
         self.assertEqual(camera.count("sent", "sent"), 600)
         run = self.assert_played_again(folder, self.stand_in)["recv"][0]
-        self.assertEqual(run["skipped"], max(0, run["first"] - 2))
+        self.assertEqual(run["joined"], max(0, run["first"] - 2))
         self.assertGreater(screen.shown("exact"), 100)
         self.assertLessEqual(screen.shown("held"), 12)
         shown = (self.room / "out.y4m").read_bytes().count(b"FRAME X")

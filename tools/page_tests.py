@@ -218,12 +218,12 @@ class Folder:
         self.log("messages", [("B", text, time) for text, time in said])
         return self
 
-    def shown(self, marks: list[str], pictures: list[bytes], skipped: int = 0) -> "Folder":
-        """What was shown, of which nobody saw the first ones."""
+    def shown(self, marks: list[str], pictures: list[bytes], joined: int = 0, **more: int) -> "Folder":
+        """What was shown, from the picture on at which it joined."""
         write_video(self.path / "shown.y4m", SMALL, pictures)
-        lines = [f"{number} {mark}\n" for number, mark in enumerate(marks)]
+        lines = [f"{number} {mark}\n" for number, mark in enumerate(marks, joined)]
         (self.path / "recv.txt").write_text("".join(lines))
-        self.run("recv", "shown.y4m", "messages.log", skipped=skipped, options=["--lead=1"])
+        self.run("recv", "shown.y4m", "messages.log", joined=joined, options=["--lead=1"], **more)
         return self
 
     def done(self) -> Path:
@@ -475,19 +475,27 @@ class RecordedTest(Room):
         self.assertIsNone(found.pictures[3].played)
         self.assertEqual(len(found.captured), 4)
 
-    def test_a_joined_call_leaves_out_what_nobody_saw(self) -> None:
-        shown = [bytes([128]) * SMALL.bytes] * 2 + frames()[2:4]
-        rows = [("P", 0, 0.1), ("P", 0, 0.1), ("K", 4, 0.11), ("K", 5, 0.12), ("P", 0, 0.13)]
-        rows += [("K", 6, 0.14), ("K", 7, 0.14), ("P", 0, 0.15)]
-        said = [(message(False, 0), 0.1), (message(False, 1), 0.1)]
-        said += [(message(True, 2), 0.12), (message(True, 3), 0.14)]
-        marks = ["held", "held", "exact", "exact"]
-        folder = Folder(self.room / "call").sent(frames()[:5], said[2:]).came(rows, said)
-        record = recorded.read_record(folder.shown(marks, shown, skipped=2).done())
-        (found,) = recorded_ways.ways_of(record)
-        self.assertEqual([picture.mark for picture in found.pictures], ["exact", "exact"])
-        self.assertEqual((found.first, list(found.shown)), (2, frames()[2:4]))
-        self.assertEqual([message.picture for message in found.messages], [2, 3])
+    def test_a_joined_call_begins_where_it_joined(self) -> None:
+        """So it does where the recording of an older release has the plays before, too."""
+        rows = [("K", 4, 0.11), ("K", 5, 0.12), ("P", 0, 0.13), ("K", 6, 0.14), ("K", 7, 0.14), ("P", 0, 0.15)]
+        said = [(message(True, 2), 0.12), (message(True, 3), 0.14)]
+        unseen = [("P", 0, 0.1), ("P", 0, 0.1)], [(message(False, 0), 0.1), (message(False, 1), 0.1)]
+        shown, marks, grey = frames()[2:4], ["exact", "exact"], [bytes([128]) * SMALL.bytes] * 2
+        for name, is_old in (("new", False), ("old", True)):
+            for has_sender in (True, False):
+                folder = Folder(self.room / f"{name}{has_sender}")
+                if has_sender:
+                    folder.sent(frames()[:5], said)
+                if is_old:
+                    folder.came(unseen[0] + rows, unseen[1] + said).shown(["held"] * 2 + marks, grey + shown, skipped=2)
+                else:
+                    folder.came(rows, said).shown(marks, shown, joined=2)
+                (found,) = recorded_ways.ways_of(recorded.read_record(folder.done()))
+                self.assertEqual([picture.mark for picture in found.pictures], marks)
+                self.assertEqual([picture.played for picture in found.pictures], [0.13, 0.15])
+                self.assertEqual((found.first, list(found.shown)), (2, frames()[2:4]))
+                self.assertEqual([message.picture for message in found.messages], [2, 3])
+                self.assertEqual([packet.fate for packet in found.packets if packet.fate == "taken"], 4 * ["taken"])
 
 
 class BadPageTest(Room):

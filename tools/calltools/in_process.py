@@ -174,8 +174,18 @@ class RecvInProcess(InProcess):
 
     def _started(self, lib: ModuleType, shared: dict[str, int]) -> Any:
         self._is_headed = False
-        own = {"messages": self._settings.messages}
-        return lib.Receiver(lib.Params.of(self._settings.format, **own, **shared))
+        params = lib.Params.of(self._settings.format, messages=self._settings.messages, **shared)
+        self._start_at = lambda number: lib.Receiver(params, number)
+        return self._start_at(0)
+
+    def begin_at(self, number: int) -> None:
+        """Before anything came: the next picture is the one of this number, as after so many plays."""
+        try:
+            self._end.close()
+            self._end = self._start_at(number)
+        except self._refused:
+            self._close(1)
+        self._counts.update(played=number, held=number)
 
     def _entry(self, letter: str, body: bytes) -> None:
         if letter == logs.PLAY:

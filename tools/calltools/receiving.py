@@ -6,6 +6,8 @@ from statistics import median
 from typing import Callable, Optional
 
 from . import logs
+from .in_process import RecvInProcess
+from .joining import JoiningLog
 from .live_end import CallContext, LiveEnd, program_of
 from .loop import Call, Timer
 from .messages import read_message
@@ -22,8 +24,11 @@ from .y4m_pipe import FrameCutter
 _BEFORE = 2
 # A stream is followed as long as no more than this many seconds go by without a picture of it that is complete.
 _SILENT = 0.5
-# One that is tried has this many seconds for its first one.
-_TRIAL = 1.0
+# One that is tried has this many seconds for its first one, as long as its packets are no further apart than that; and
+# this many bytes of it are kept for the recording.
+_TRIAL, _QUIET, _MOST_HELD = 1.0, 0.5, 8 << 20
+# Plays a second by which the program joins streams that are tried.
+_JOINING = 1_024
 # Packets a second. The largest pictures that there can be, 30 a second, have fewer.
 _MOST_PACKETS = 12_000
 # The steps of this many pictures tell the other side's rate, and that it differs by this share.
@@ -39,29 +44,34 @@ _MOST_ENTRIES, _LEFT = 1 << 24, 1_024
 
 
 class ReceivingRun:
-    """One run of `recv`, for one SSRC."""
+    """One run of `recv`, for one SSRC. One that is tried is recorded once it is kept."""
 
-    def __init__(self, context: CallContext) -> None:
+    def __init__(self, context: CallContext, is_tried: bool = False) -> None:
         loop, settings = context.loop, context.settings
         self._loop, self._settings, self._tally = loop, settings, context.tally
         self._facts: dict[str, object] = {
-            "options": settings.recv_options(), "source": None, "skipped": 0, "first": 0
+            "options": settings.recv_options(), "source": None, "joined": 0, "first": 0
         }
-        self._record = context.recorder.run("recv", self._facts)
+        self._record = context.recorder.run("recv", self._facts, not is_tried)
         self.program = program_of(context, "recv", "rww", settings.recv_options())
         log, out, wire = self.program.files
-        self._log = self.program.feed(log)
+        self._log = JoiningLog(loop, self.program.feed(log), settings.slots)
         self._cutter = FrameCutter("what recv shows")
         self.program.source(out, self._shown)
         self.program.entries(wire, self._said)
-        self.program.lines(lambda line: self._record.write("report", line))
+        self.program.lines(self._line)
         self.on_message: Callable[[bytes], None] = lambda _: None
         self.on_frame: Callable[[Frame], None] = lambda _: None
         self._playout = Playout(settings.period, settings.wait)
         self._numbers: Optional[Numbers] = None
         self._timer: Optional[Timer] = None
-        self._skipped = self._frames = self._messages = self._entries = 0
-        self.played = 0
+        # What `recv` will say of the plays by which it joins, `joining`: nobody sees these or hears of them.
+        self._unseen = self._unsaid = self._unlisted = 0
+        self._is_headed = False
+        self._entries = 0
+        self.played = self.joining = 0
+        # When a packet came last, and how many pictures were complete.
+        self.last, self.completed = 0.0, 0
         self._late, self._late_since = 0, 0.0
         self._source: Optional[int] = None
         self._before: Optional[tuple[int, float]] = None
@@ -92,6 +102,7 @@ class ReceivingRun:
         if placed is None:
             return False
         number, captured = placed
+        self.last = now
         self._tally.packets_in += 1
         self._playout.arrived(number, captured, now)
         self._note_late(number, now)
@@ -115,26 +126,54 @@ class ReceivingRun:
         be in time again."""
         return self._late >= _LATE and now - self._late_since >= _LATE_TIME
 
+    @property
+    def is_too_long(self) -> bool:
+        """Whether more was written than waits for a recording."""
+        return self._record.held > _MOST_HELD
+
+    def keep(self) -> None:
+        """From now on it is recorded, with all that came of it."""
+        self._record.keep()
+
     def end(self) -> None:
-        """Plays what is left, and ends the log; the program then says its counts."""
+        """Plays what is left, as many at once as are kept, and ends the log; the program then says its counts."""
         if self._timer:
             self._timer.cancel()
         now = self._loop.now()
-        while self._playout.due(self.played) is not None:
+        for _ in range(self._settings.slots):
+            if self._playout.due(self.played) is None:
+                self._log.end()
+                return
             self._play(now)
-        self._log.end()
+        self._timer = self._loop.at(now, self.end)
+
+    def drop(self) -> None:
+        """Ends it at once, with nothing left of it."""
+        if self._timer:
+            self._timer.cancel()
+        self.program.on_end = lambda: None
+        self.program.kill()
+
+    def replace(self) -> None:
+        """Ends it while the call goes on with another run."""
+        self.program.on_end = self._record.close
+        self.end()
 
     def _join(self, arrival: Arrival) -> None:
-        # `recv` counts pictures from 0. A stream that has been running is joined by as many plays
-        # as its temporal reference says; nobody sees their pictures or hears their messages.
+        # The end is at picture 0. A stream that has been running is joined at the number that its temporal reference
+        # says: the library begins there, and `recv` comes there by as many plays. What is recorded begins after them.
         header, start = arrival.header, arrival.start
         self._numbers = Numbers(start.period, float(self._settings.rate))
         self._source = header.source
-        self._skipped = max(0, start.reference - _BEFORE)
-        self._facts.update(source=header.source, skipped=self._skipped, first=start.reference)
-        now = self._loop.now()
-        for _ in range(self._skipped):
-            self._play(now)
+        self.played = self._entries = joined = max(0, start.reference - _BEFORE)
+        self._facts.update(source=header.source, joined=joined, first=start.reference)
+        if not joined:
+            return
+        if isinstance(self.program, RecvInProcess):
+            self.program.begin_at(joined)
+        else:
+            self._unseen = self._unsaid = self._unlisted = self.joining = joined
+            self._log.join(joined)
 
     def _note_late(self, number: int, now: float) -> None:
         if number >= self.played:
@@ -180,20 +219,34 @@ class ReceivingRun:
         self._log.put(entry)
 
     def _shown(self, data: bytes) -> None:
-        self._record.write("video", data)
         for frame in self._cutter.frames(data):
+            if self._unseen:
+                self._unseen -= 1
+                continue
+            self._record_head()
+            self._record.write("video", frame.as_written())
             self._record.mark("video", self._loop.now())
-            self._frames += 1
-            if self._frames > self._skipped:
-                self.on_frame(frame)
+            self.on_frame(frame)
+        self._record_head()
+
+    def _record_head(self) -> None:
+        if self._cutter.head and not self._is_headed:
+            self._is_headed = True
+            self._record.write("video", self._cutter.head)
 
     def _said(self, entry: bytes) -> None:
+        if self._unsaid:
+            self._unsaid -= 1
+            return
         self._record.mark("wire", self._loop.now())
         self._record.write("wire", entry)
-        self._messages += 1
-        # The first ones are of the plays before the first picture, and about nothing.
-        if self._messages > self._skipped:
-            self.on_message(entry[3:])
+        self.on_message(entry[3:])
+
+    def _line(self, line: bytes) -> None:
+        if self._unlisted:
+            self._unlisted -= 1
+        else:
+            self._record.write("report", line)
 
 
 class Receiving(LiveEnd):
@@ -201,8 +254,9 @@ class Receiving(LiveEnd):
 
     A stream is followed while pictures of it become complete. Where none does, another stream (or the same, where its
     packets are ahead of the clock) is tried beside it, in a run of its own, once several of its packets came; it is
-    followed from its first complete picture on. So a packet that anyone may have sent ends nothing: when the stream
-    that was followed goes on, so does its run, with all that it knows.
+    followed from its first complete picture on. Of the streams that were followed the one with the most complete
+    pictures keeps its run beside, with all that it knows: it is followed again at its next complete picture. So a
+    packet that anyone may have sent ends nothing.
     """
 
     command = "recv"
@@ -221,10 +275,12 @@ class Receiving(LiveEnd):
         self.last = self._complete = 0.0
         self._run = self._begun()
         self._trial: Optional[ReceivingRun] = None
-        self._trial_began = 0.0
+        self._next_trial, self._trial_ends = 0.0, Timer(lambda: None)
+        self._former: Optional[ReceivingRun] = None
+        self._left = 0
 
-    def _begun(self) -> ReceivingRun:
-        run = ReceivingRun(self._context)
+    def _begun(self, is_tried: bool = False) -> ReceivingRun:
+        run = ReceivingRun(self._context, is_tried)
         run.on_message = lambda body: self._message(run, body)
         run.on_frame = lambda frame: self._frame(run, frame)
         run.program.on_end = lambda: self._run_ended(run)
@@ -260,10 +316,12 @@ class Receiving(LiveEnd):
         """No more packets; `on_over` is called when the program has ended."""
         self._is_ending = True
         self._end_trial()
-        if self._run.program.is_over:
+        runs = [run for run in (self._run, self._former) if run and not run.program.is_over]
+        self._left = len(runs)
+        if not runs:
             self.on_over()
-        else:
-            self._run.end()
+        for run in runs:
+            run.end()
 
     def _is_wanted(self, start: PictureStart) -> bool:
         theirs, own = (start.format, start.clock), (self._settings.format, self._settings.clock)
@@ -284,16 +342,18 @@ class Receiving(LiveEnd):
         source = arrival.header.source
         if source == self._source and self._taken(arrival, now):
             return
-        trial = self._trial
-        if trial and trial.source == source and trial.packet(arrival, now):
+        if self._taken_beside(arrival, now):
             return
-        if self._source is not None and now - self._complete < _SILENT:
+        if not self._is_silent(now):
             cause = "ahead of the clock" if source == self._source else "other source"
             self._tally.dropped[cause] += 1
             return
         came = self._probation.add(arrival)
-        if came and (not trial or now - self._trial_began > _TRIAL):
+        if came and self._may_try(now):
             self._try(came, now)
+
+    def _is_silent(self, now: float) -> bool:
+        return self._source is None or now - self._complete >= _SILENT
 
     def _taken(self, arrival: Arrival, now: float) -> bool:
         # Whether a packet of the stream that is followed is taken. Its run is begun anew where that is needed.
@@ -309,49 +369,87 @@ class Receiving(LiveEnd):
             self._tell_once("rate", told + ": give both the same --rate")
         return True
 
+    def _taken_beside(self, arrival: Arrival, now: float) -> bool:
+        # Whether a packet is of a stream that was followed before, or of the one that is tried.
+        former, trial = self._former, self._trial
+        if former and former.source == arrival.header.source:
+            if now - former.last > _LOST or former.is_full:
+                self._end_former()
+            elif former.packet(arrival, now):
+                return True
+        if not trial or trial.source != arrival.header.source or not trial.packet(arrival, now):
+            return False
+        if trial.is_too_long:
+            self._end_trial()
+        return True
+
+    def _may_try(self, now: float) -> bool:
+        return now >= self._next_trial and (not self._trial or now - self._trial.last > _QUIET)
+
     def _try(self, came: list[Arrival], now: float) -> None:
         # The first stream of a call is followed at once: there is none to be kept.
         self._end_trial()
         if self._source is None:
             self._source = came[0].header.source
-            self._complete = now
+            self.last = self._complete = now
             run = self._run
         else:
-            self._trial_began = now
-            run = self._trial = self._begun()
+            run = self._trial = self._begun(is_tried=True)
+            self._trial_ends = self._loop.at(now + _TRIAL, self._end_trial)
         for arrival in came:
             run.packet(arrival, now)
-        if run is self._run:
-            self.last = now
+        self._next_trial = now + run.joining / _JOINING
 
     def _end_trial(self) -> None:
+        self._trial_ends.cancel()
         if self._trial:
-            self._trial.program.on_end = lambda: None
-            self._trial.end()
+            self._trial.drop()
         self._trial = None
 
-    def _turn_to_trial(self) -> None:
-        # The stream that was tried is followed from now on.
-        assert self._trial
-        old, self._run, self._trial = self._run, self._trial, None
-        self._replaced(old)
-        self._source = self._run.source
+    def _end_former(self) -> None:
+        if self._former:
+            self._former.replace()
+        self._former = None
+
+    def _turn_to(self, run: ReceivingRun) -> None:
+        # The stream that was tried, or was followed before, is followed from now on.
+        old, self._run = self._run, run
+        if run is self._trial:
+            self._trial_ends.cancel()
+            self._trial = None
+            run.keep()
+            self._tally.begun_anew += 1
+        else:
+            self._former = None
+        self._keep_beside(old)
+        self._source = run.source
         self._probation.clear()
         self.last = self._loop.now()
+
+    def _keep_beside(self, old: ReceivingRun) -> None:
+        # The run that has completed more, if it isn't of the stream that is followed now.
+        former = self._former
+        if old.source == self._run.source or former and former.completed >= old.completed:
+            old.replace()
+            return
+        self._end_former()
+        self._former = old
 
     def _begin_anew(self) -> None:
         old = self._run
         self._run = self._begun()
-        self._replaced(old)
-
-    def _replaced(self, old: ReceivingRun) -> None:
         self._tally.begun_anew += 1
-        old.program.on_end = lambda: None
-        old.end()
+        old.replace()
 
     def _run_ended(self, run: ReceivingRun) -> None:
-        if run is self._trial:
+        if self._is_ending:
+            self._left -= 1
+            if not self._left:
+                self.on_over()
+        elif run is self._trial:
             self._trial = None
+        elif run is self._former:
+            self._former = None
         elif run is self._run:
             self._ended(run.program)
 
@@ -362,10 +460,17 @@ class Receiving(LiveEnd):
 
     def _message(self, run: ReceivingRun, body: bytes) -> None:
         if read_message(body).is_ack:
-            if run is self._trial:
-                self._turn_to_trial()
-            if run is self._run:
-                self._complete = self._loop.now()
-        if run is self._run and self._source is not None:
+            self._completed(run)
+        # Of a stream that is tried, too: what it lacks is to come.
+        if run.source is not None and run in (self._run, self._trial, self._former):
             self._tally.messages_out += 1
-            self.on_feedback(Feedback(self._own_source, self._source, body))
+            self.on_feedback(Feedback(self._own_source, run.source, body))
+
+    def _completed(self, run: ReceivingRun) -> None:
+        now = self._loop.now()
+        run.completed += 1
+        is_better = run is self._former and (self._is_silent(now) or run.completed > self._run.completed)
+        if run is self._trial or is_better:
+            self._turn_to(run)
+        if run is self._run:
+            self._complete = now

@@ -132,7 +132,7 @@ def _check_runs(path: Path, command: str, runs: object, names: tuple[str, ...]) 
             file = run.get(name)
             if not isinstance(file, str) or file in ("", ".", "..") or "/" in file or "\0" in file:
                 raise BadInput(str(path), place, f"{name} names no file of the folder")
-        for name in ("source", "first_sequence", "first_time", "skipped"):
+        for name in ("source", "first_sequence", "first_time", "skipped", "joined"):
             number_of = run.get(name)
             if number_of is not None and (
                 type(number_of) is not int or not 0 <= number_of < 1 << 32
@@ -209,16 +209,16 @@ def video_of(record: Record, name: str) -> Sequence[bytes]:
     return found
 
 
-def pictures_of(record: Record, name: str) -> list[report.Picture]:
-    """The pictures of a report. One of an end that died at once has none."""
+def pictures_of(record: Record, name: str, first: int = 0) -> list[report.Picture]:
+    """The pictures of a report, whose numbers begin with the first one's. One of an end that died at once has none."""
     path = record.path(name)
     with record.opened(name) as file:
         lines = file.read().decode("ascii", "replace").splitlines(keepends=True)
     if not record.is_cut:
-        return report.read_report(lines, str(path)).pictures if lines else []
+        return report.read_report(lines, str(path), first).pictures if lines else []
     # The last line may be the beginning of another one.
     whole = [line for line in lines if line.endswith("\n")]
-    return report.whole_pictures(whole, str(path))
+    return report.whole_pictures(whole, str(path), first)
 
 
 def about(record: Record) -> list[str]:

@@ -108,12 +108,12 @@ class Said:
 
 @dataclass(frozen=True)
 class Receiver:
-    """A run of `recv`. Nobody saw the first `skipped` pictures: it joined a call under way."""
+    """A run of `recv`. Its pictures, plays, frames and times begin with the picture `first`, at which it joined."""
 
     number: int
     source: Optional[int]
     lead: int
-    skipped: int
+    first: int
     pictures: list[report.Picture]
     played: list[Optional[float]]
     shown: list[float]
@@ -127,18 +127,19 @@ def receiver_of(record: Record, place: int) -> Receiver:
     run = record.runs("recv")[place]
     entries = entries_of(record, run["log"])
     played = [timed.time for timed in entries if timed.entry.letter == logs.PLAY]
-    skipped = run.get("skipped") or 0
+    # A call of release 1.0 has the plays before the first picture that anybody saw, too: so many.
+    joined, unseen = run.get("joined") or 0, run.get("skipped") or 0
     return Receiver(
         number=place + 1,
         source=run.get("source"),
         lead=_lead_of(record, place),
-        skipped=skipped,
-        pictures=pictures_of(record, run["report"]),
-        played=played,
-        shown=video_times(record, run["video"]),
-        packets=_came(entries),
-        said=_said(record, run, played)[skipped:],
-        frames=video_of(record, run["video"]),
+        first=joined + unseen,
+        pictures=pictures_of(record, run["report"], joined)[unseen:],
+        played=played[unseen:],
+        shown=video_times(record, run["video"])[unseen:],
+        packets=_came(entries, joined),
+        said=_said(record, run, played, joined)[unseen:],
+        frames=video_of(record, run["video"])[unseen:],
     )
 
 
@@ -154,9 +155,9 @@ def _lead_of(record: Record, place: int) -> int:
     return int(lead)
 
 
-def _came(entries: list[Timed]) -> list[CamePacket]:
+def _came(entries: list[Timed], joined: int) -> list[CamePacket]:
     found: list[CamePacket] = []
-    played = 0
+    played = joined
     for timed in entries:
         body = timed.entry.body
         played += timed.entry.letter == logs.PLAY
@@ -177,7 +178,9 @@ def _came(entries: list[Timed]) -> list[CamePacket]:
     return found
 
 
-def _said(record: Record, run: dict[str, Any], played: list[Optional[float]]) -> list[Said]:
+def _said(
+    record: Record, run: dict[str, Any], played: list[Optional[float]], joined: int
+) -> list[Said]:
     # A message is about the picture of the last play, or an open one: the nearest with its TR.
     found, plays = [], 0
     for number, timed in enumerate(entries_of(record, run["wire"])):
@@ -188,6 +191,6 @@ def _said(record: Record, run: dict[str, Any], played: list[Optional[float]]) ->
             plays = number
         while timed.time is not None and plays < len(played) and (played[plays] or 0) <= timed.time:
             plays += 1
-        number_of = nearest(plays, read_message(body).reference, record.numbers)
+        number_of = nearest(joined + plays, read_message(body).reference, record.numbers)
         found.append(Said(body, number_of, timed.time))
     return found

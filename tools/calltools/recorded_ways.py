@@ -186,27 +186,32 @@ class Joined:
             yield way.Message(said.picture + self.offset, said.is_ack, fate, said.time, heard)
 
     def _picture(self, number: int) -> way.Picture:
-        coded, shown = self.sender.pictures[number], self.receiver.pictures[number - self.offset]
-        played = _item(self.receiver.played, number - self.offset)
+        coded, shown = self.sender.pictures[number], self.receiver.pictures[number - self.first]
+        played = _item(self.receiver.played, number - self.first)
         return way.Picture(
             number, shown.mark, coded.is_intra, coded.reference, self.captured(number), played
         )
 
+    @property
+    def first(self) -> int:
+        """The number of the receiver's first picture."""
+        return self.offset + self.receiver.first
+
     def numbers(self) -> range:
         """The numbers of the pictures that were sent and played."""
-        first = self.offset + self.receiver.skipped
-        return range(first, min(len(self.sender.pictures), self.offset + len(self.receiver.pictures)))
+        last = self.first + len(self.receiver.pictures)
+        return range(self.first, min(len(self.sender.pictures), last))
 
     def captured(self, number: int) -> Optional[float]:
         """When a picture was captured, by the receiver's clock."""
         return _add(_item(self.sender.captured, number), self.shift)
 
     def mark(self, number: int) -> str:
-        return self.receiver.pictures[number - self.offset].mark or ""
+        return self.receiver.pictures[number - self.first].mark or ""
 
     def shown(self, number: int) -> Optional[float]:
         """When a picture left the receiver."""
-        return _item(self.receiver.shown, number - self.offset)
+        return _item(self.receiver.shown, number - self.first)
 
     def sent(self, place: int) -> Optional[float]:
         """When the packet at this place went out, by the receiver's clock."""
@@ -223,7 +228,7 @@ class Joined:
             packets=list(self._packets()),
             messages=list(self._messages()),
             captured=self.sender.frames[first:last],
-            shown=self.receiver.frames[first - self.offset : last - self.offset],
+            shown=self.receiver.frames[: last - first],
         )
 
 
@@ -296,9 +301,9 @@ class _CameOnly:
                 line.number,
                 line.mark,
                 captured=captured.get(line.number),
-                played=_item(receiver.played, line.number),
+                played=_item(receiver.played, line.number - receiver.first),
             )
-            for line in receiver.pictures[receiver.skipped :]
+            for line in receiver.pictures
         ]
         messages = [
             way.Message(said.picture, said.is_ack, "passed", said.time) for said in receiver.said
@@ -310,5 +315,5 @@ class _CameOnly:
             pictures,
             list(self._packets()),
             messages,
-            shown=receiver.frames[receiver.skipped :],
+            shown=receiver.frames,
         )

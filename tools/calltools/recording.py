@@ -29,28 +29,47 @@ _FILES = {
 
 
 class RunRecord:
-    """The files of one run of an end."""
+    """The files of one run of an end. Of one that is only tried there are none, and what is written waits here until
+    it is kept."""
 
-    def __init__(self, recorder: "Recorder", end: str, number: int, facts: dict[str, Any]) -> None:
-        self._recorder = recorder
+    def __init__(self, recorder: "Recorder", end: str, facts: dict[str, Any]) -> None:
+        self._recorder, self._end = recorder, end
         self._files: dict[str, BinaryIO] = {}
         self._times: dict[str, BinaryIO] = {}
         self.facts = facts
-        for key, name, suffix, has_times in _FILES[end]:
+        self._timed = {key for key, _, _, has_times in _FILES[end] if has_times}
+        self._held: Optional[list[tuple[str, bytes, bool]]] = []
+        self.held = 0  # bytes
+
+    def keep(self) -> None:
+        """From now on it is in the folder, with all that was written before."""
+        number = self._recorder.runs_of(self._end) + 1
+        for key, name, suffix, has_times in _FILES[self._end]:
             stem = name if number == 1 else f"{name}-{number}"
-            facts[key] = stem + suffix
-            recorder.open(self._files, key, stem + suffix)
+            self.facts[key] = stem + suffix
+            self._recorder.open(self._files, key, stem + suffix)
             if has_times:
-                recorder.open(self._times, key, stem + ".times")
+                self._recorder.open(self._times, key, stem + ".times")
+        self._recorder.add(self._end, self)
+        held, self._held, self.held = self._held or [], None, 0
+        for row in held:
+            self._put(*row)
 
     def write(self, key: str, data: bytes) -> None:
         """More bytes of a file."""
-        self._recorder.write(self._files.get(key), data)
+        self._put(key, data, False)
 
     def mark(self, key: str, when: float) -> None:
         """The time of the next entry, or frame, of a file."""
-        if key in self._times:
-            self._recorder.write(self._times[key], f"{when - self._recorder.began:.6f}\n".encode())
+        if key in self._timed:
+            self._put(key, f"{when - self._recorder.began:.6f}\n".encode(), True)
+
+    def _put(self, key: str, data: bytes, is_time: bool) -> None:
+        if self._held is None:
+            self._recorder.write((self._times if is_time else self._files).get(key), data)
+        elif self._recorder.is_on:
+            self._held.append((key, data, is_time))
+            self.held += len(data)
 
     def flush(self) -> None:
         """Hands what is written on to the system, but for videos: they are large, and go by themselves."""
@@ -60,7 +79,7 @@ class RunRecord:
                 self._recorder.guarded(file.flush)
 
     def close(self) -> None:
-        """No more is written."""
+        """Its end has ended: what is still written counts no more."""
         for file in (*self._files.values(), *self._times.values()):
             self._recorder.guarded(file.close)
         self._files, self._times = {}, {}
@@ -111,16 +130,30 @@ class Recorder:
         if self.fault:
             raise self.fault
 
-    def run(self, end: str, facts: dict[str, Any]) -> RunRecord:
+    @property
+    def is_on(self) -> bool:
+        """Whether anything is recorded."""
+        return bool(self._folder) and not self.fault
+
+    def run(self, end: str, facts: dict[str, Any], is_kept: bool = True) -> RunRecord:
         """A new run of `send` or `recv`; `facts` may be filled later on."""
-        self._facts[end].append(facts)
-        run = self._begun(end, len(self._facts[end]), facts)
-        self._runs.append(run)
-        self._write_facts()
+        run = self._begun(end, facts)
+        if is_kept:
+            run.keep()
         return run
 
-    def _begun(self, end: str, number: int, facts: dict[str, Any]) -> RunRecord:
-        return RunRecord(self, end, number, facts)
+    def runs_of(self, end: str) -> int:
+        """How many runs of an end are in the folder."""
+        return len(self._facts[end])
+
+    def add(self, end: str, run: RunRecord) -> None:
+        """Takes a run into the folder."""
+        self._facts[end].append(run.facts)
+        self._runs.append(run)
+        self._write_facts()
+
+    def _begun(self, end: str, facts: dict[str, Any]) -> RunRecord:
+        return RunRecord(self, end, facts)
 
     def flush(self) -> None:
         """What is recorded by now outlives this process; so does what a run was found to be since it began."""

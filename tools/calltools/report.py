@@ -39,8 +39,9 @@ class Rows:
     rest: list[str]
 
 
-def read_rows(lines: Iterable[str], path: str) -> Rows:
-    """Reads a report. A party's pictures count up from 0, and each reference is an earlier one."""
+def read_rows(lines: Iterable[str], path: str, first: int = 0) -> Rows:
+    """Reads a report. A party's pictures count up from 0, or from the first one that is told, and each reference is an
+    earlier one."""
     found: dict[str, list[Picture]] = {}
     rest: list[str] = []
     for number, line in enumerate(lines, 1):
@@ -50,7 +51,7 @@ def read_rows(lines: Iterable[str], path: str) -> Rows:
             rest.append(text)
             continue
         row = found.setdefault(fields[1] or "", [])
-        row.append(_picture(fields, len(row), path, number))
+        row.append(_picture(fields, first + len(row), path, number))
     if not found:
         raise BadInput(path, "line 1", "the report has no picture")
     if len(found) > 1 and "" in found:
@@ -72,15 +73,15 @@ def _picture(fields: re.Match[str], wanted: int, path: str, number: int) -> Pict
     return picture
 
 
-def read_report(lines: Iterable[str], path: str) -> Report:
+def read_report(lines: Iterable[str], path: str, first: int = 0) -> Report:
     """Reads a report of one party."""
-    rows = read_rows(lines, path)
+    rows = read_rows(lines, path, first)
     if "" not in rows.by_letter:
         raise BadInput(path, "line 1", "this is the report of two parties")
     return Report(rows.by_letter[""], rows.rest)
 
 
-def whole_pictures(lines: Iterable[str], path: str) -> list[Picture]:
+def whole_pictures(lines: Iterable[str], path: str, first: int = 0) -> list[Picture]:
     """The pictures of a report of one party that may have been cut off: those before what is none."""
     found: list[Picture] = []
     for number, line in enumerate(lines, 1):
@@ -88,7 +89,7 @@ def whole_pictures(lines: Iterable[str], path: str) -> list[Picture]:
         if not fields or fields[1]:
             break
         try:
-            found.append(_picture(fields, len(found), path, number))
+            found.append(_picture(fields, first + len(found), path, number))
         except BadInput:
             break
     return found

@@ -45,6 +45,10 @@ class Frame:
     tags: tuple[str, ...]
     samples: bytes
 
+    def as_written(self) -> bytes:
+        """Its line and its bytes."""
+        return " ".join(("FRAME", *self.tags)).encode("latin-1") + b"\n" + self.samples
+
 
 class Y4mReader:
     """A Y4M file, read frame by frame."""
