@@ -33,6 +33,7 @@ class Clock:
         self._now = 0.0
         self._timers: list[tuple[float, int, Timer]] = []
         self._count = 0
+        self.turns = 0
 
     def now(self) -> float:
         return self._now
@@ -46,6 +47,7 @@ class Clock:
     def run(self, until: float) -> None:
         while self._timers and self._timers[0][0] <= until:
             self._now, _, timer = heapq.heappop(self._timers)
+            self.turns += 1
             if timer.call:
                 timer.call()
         self._now = until
@@ -184,18 +186,21 @@ class SimulatedCall:
         target: Optional[int] = None,
         loss: float = 0.0,
         flow: Optional[float] = None,
+        time: Optional[Clock] = None,
+        library: Any = None,
+        record: Optional[Path] = None,
+        **more: Any,
     ) -> None:
         random.seed(3)
-        self.clock, self.seen = Clock(), Seen()
+        self.clock, self.seen = time or Clock(), Seen()
         self.line = Line(self.clock, kbits, loss)
         self.flow = None if flow is None else Flow(self.clock, self.line, flow)
         self._losses, self._loss = random.Random(6), loss
-        settings = live_settings.Settings(Path("none"), target=target or 1_800, adapts=not target)
+        settings = live_settings.Settings(Path("none"), target=target or 1_800, adapts=not target, **more)
         self.tally = Tally()
         clock: Any = self.clock
-        recorder, say = Recorder(None, 0.0, {}), self.seen.told.append
-        library = in_process.library()
-        context = CallContext(clock, settings, recorder, self.tally, say, library)
+        self.recorder, say = Recorder(record, 0.0, {}), self.seen.told.append
+        context = CallContext(clock, settings, self.recorder, self.tally, say, library or in_process.library())
         self.sending, self.receiving = sending.Sending(context), receiving.Receiving(context)
         self.sending.on_packet = self._packet
         self.receiving.on_feedback, self.receiving.on_frame = self._feedback, self._show

@@ -1,0 +1,268 @@
+"""Tests of streams that are forged by one who knows the other party's address and no more: in an outage each is tried,
+at the number that its pictures say. Most run over the library's own ends in discrete time."""
+
+import random
+import re
+import time
+import types
+from pathlib import Path
+from typing import Any, Callable, Optional
+from unittest import mock
+
+from adapt_tests import Clock, SimulatedCall
+from calltools import in_process, live_settings, logs, receiving, rtcp, rtp, stand_in
+from calltools.live_end import CallContext
+from calltools.loop import Timer
+from calltools.picture_start import picture_start
+from calltools.recording import Recorder
+from calltools.speakers import Arrival
+from calltools.tally import Tally
+from live_tests import PROGRAM, Call, Calls, bound, free_port, needs_library, needs_program, wait_for_port
+
+# How many streams of three packets are forged a second.
+RATES = {"once": 1 / 3.5, "three packets a second": 1, "by fives": 5, "by hundreds": 100}
+# The outage, and when the first and the last one is forged.
+OUTAGE, FORGED = (3.0, 7.0), (4.0, 7.5)
+# They begin at this picture of a stream in the custom clock, with 1,024 numbers.
+LATE = 1_021
+
+
+class Counts:
+    """The library, with what its receivers do counted."""
+
+    def __init__(self) -> None:
+        real = in_process.library()
+        self.plays = self.started = self.open = self.most_open = 0
+        counts = self
+
+        class Receiver(real.Receiver):  # type: ignore[name-defined,misc]
+            def __init__(self, *words: Any) -> None:
+                super().__init__(*words)
+                self.is_open = True
+                counts.started += 1
+                counts.open += 1
+                counts.most_open = max(counts.most_open, counts.open)
+
+            def play_lent(self) -> Any:
+                counts.plays += 1
+                return super().play_lent()
+
+            def close(self) -> None:
+                counts.open -= getattr(self, "is_open", False)
+                self.is_open = False
+                super().close()
+
+        self.library: Any = types.SimpleNamespace(**{**vars(real), "Receiver": Receiver})
+
+
+class CountingClock(Clock):
+    """A clock that notes the most plays between two looks at the sockets, which are its calls."""
+
+    def __init__(self, counts: Counts) -> None:
+        super().__init__()
+        self._counts, self.most = counts, 0
+
+    def at(self, when: float, call: Callable[[], None]) -> Timer:
+        def counted() -> None:
+            before = self._counts.plays
+            call()
+            self.most = max(self.most, self._counts.plays - before)
+
+        return super().at(when, counted)
+
+
+_LATE: dict[bool, list[bytes]] = {}
+
+
+def late_packets(is_whole: bool) -> list[bytes]:
+    """Three packets of a stream under way, of pictures that are complete by themselves, or that want earlier ones."""
+    if is_whole not in _LATE:
+        library, picture, found = in_process.library(), bytes(range(96, 160)) * 594, []
+        params = library.Params.of("qcif", clock=library.CLOCKS["custom"])
+        with library.Sender(params) as sender, library.Receiver(params) as receiver:
+            for number in range(LATE + 3):
+                if is_whole and number >= LATE:
+                    sender.forget()
+                packets = sender.packets(sender.code(picture))
+                found += packets if number >= LATE else []
+                for message in [*(receiver.packet(packet).message for packet in packets), receiver.play().message]:
+                    if message:
+                        sender.feedback(message)
+        _LATE[is_whole] = found
+    return _LATE[is_whole]
+
+
+class ForgedCall(SimulatedCall):
+    """A call with an outage, in which streams come from the other party's address."""
+
+    def __init__(self, streams: float, is_whole: bool = False, record: Optional[Path] = None) -> None:
+        self.counts = Counts()
+        self.time = CountingClock(self.counts)
+        super().__init__({0: 2_000}, target=1_800, time=self.time, library=self.counts.library, record=record, clock="custom")
+        self._draws, self._late = random.Random(9), late_packets(is_whole)
+        for place in range(round((FORGED[1] - FORGED[0]) * streams)):
+            self.clock.at(FORGED[0] + place / streams, self._forge)
+
+    def _packet(self, data: bytes) -> None:
+        if not OUTAGE[0] <= self.clock.now() < OUTAGE[1]:
+            super()._packet(data)
+
+    def _forge(self) -> None:
+        source, sequence, stamp = (self._draws.getrandbits(bits) for bits in (32, 16, 32))
+        for place, packet in enumerate(self._late):
+            header = rtp.rtp_header(packet)
+            assert header
+            data = rtp.renumbered(packet, sequence + place, stamp + header.timestamp, source)
+            self.clock.at(self.clock.now(), lambda data=data: self.receiving.packet(data))
+
+
+def size_of(folder: Path) -> int:
+    """The bytes of a folder's files."""
+    return sum(path.stat().st_size for path in folder.iterdir())
+
+
+class Program:
+    """In the place of `recv` in discrete time: what it is given, by the looks at the sockets between."""
+
+    def __init__(self, clock: Clock) -> None:
+        self.files, self.is_over, self.waiting = [0, 1, 2], False, 0
+        self._clock = clock
+        self.given: list[tuple[int, bytes]] = []
+
+    def feed(self, file: int) -> "Program":
+        return self
+
+    def put(self, data: bytes) -> None:
+        self.given.append((self._clock.turns, data))
+
+    def source(self, file: int, *_: Any) -> None:
+        pass
+
+    entries, lines = source, source
+
+
+class ForgedTest(Calls):
+    @needs_library
+    def test_streams_that_are_tried_cost_nothing(self) -> None:
+        """However many come in an outage: never more plays at once than are kept, three receivers at most, all pictures
+        exact when it is over, and recorded is nothing but what was shown."""
+        sizes = {}
+        for is_whole in (False, True):
+            for name, streams in {"none": 0, **RATES}.items():
+                with self.subTest(streams=name, is_whole=is_whole):
+                    folder = self.room / f"{name}{is_whole}"
+                    call = ForgedCall(streams, is_whole, folder)
+                    seen = call.run(10)
+                    call.recorder.finish({})
+                    self.assertLessEqual(call.time.most, 39)
+                    self.assertLessEqual(call.counts.most_open, 3)
+                    self.assertLessEqual(call.counts.started, 20)
+                    self.assertEqual(seen.exact(OUTAGE[1] + 0.2), 1.0)
+                    sizes[name, is_whole] = size_of(folder)
+                    # Complete ones are followed, so what is shown of them is recorded.
+                    self.assertLess(sizes[name, is_whole], (1.1 if is_whole else 1.001) * sizes["none", is_whole])
+                    self.assertEqual(call.tally.begun_anew > 0, is_whole and streams > 0)
+
+    def test_the_program_joins_by_as_many_plays_at_once_as_are_kept(self) -> None:
+        """With a look at the sockets between them; packets that come meanwhile wait."""
+        clock = Clock()
+        settings = live_settings.Settings(Path("none"))
+        given: list[Program] = []
+
+        def program_of(*_: Any) -> Program:
+            given.append(Program(clock))
+            return given[-1]
+
+        with mock.patch.object(receiving, "program_of", program_of):
+            context: Any = CallContext(clock, settings, Recorder(None, 0.0, {}), Tally(), print)  # type: ignore[arg-type]
+            run = receiving.ReceivingRun(context)
+            for number in range(252, 255):
+                packet = stand_in.packet(number, "qcif")
+                header, start = rtp.rtp_header(packet), picture_start(packet)
+                assert header and start
+                self.assertTrue(run.packet(Arrival(packet, header, start), clock.now()))
+                if number == 252:
+                    self.assertEqual(len(given[0].given), 1)
+                clock.run(clock.now() + settings.period)
+        (program,) = given
+        first = next(place for place, (_, data) in enumerate(program.given) if data[:1] == b"K")
+        joining = program.given[:first]
+        self.assertEqual(b"".join(data for _, data in joining), 250 * logs.entry_bytes(logs.PLAY))
+        self.assertLessEqual(max(len(data) for _, data in joining), 3 * settings.slots)
+        self.assertEqual(len({turn for turn, _ in joining}), len(joining))
+        self.assertEqual(sum(data[:1] == b"K" for _, data in program.given), 3)
+        self.assertEqual(run.joining, 250)
+
+    def assert_late_streams_hold_nothing(self, packets: list[list[bytes]], late: list[bytes], program: Path, *words: object) -> None:
+        """Over sockets: four outages, in which such streams come once, by three packets a second, by fives and by
+        hundreds, until a moment after each. A line is told each second; the memory stays, and what is recorded is what
+        was shown; pictures are exact again soon after each."""
+        port, other_port, folder = free_port(), free_port(), self.room / "call"
+        ends = ("--with", "127.0.0.1", "--port", port, "--other-port", other_port, "--one-way", "screen")
+        told = [*ends, "--format", "sub-qcif", "--screen", "none", "--seconds", 12, "--record", folder, *words]
+        call = Call([*told, "--program", program])
+        self.calls.append(call)
+        other, draws, sent, memory = bound(other_port), random.Random(8), 0, []
+        self.addCleanup(other.close)
+        wait_for_port(port)
+        began = time.monotonic()
+        for count in range(30 + 4 * 75):
+            outage, place = divmod(count - 30, 75)
+            if outage < 0 or place >= 36:
+                sent += 1
+                for data in packets[count]:
+                    header = rtp.rtp_header(data)
+                    assert header
+                    own = rtp.renumbered(data, header.sequence, rtp.TICKS_A_PICTURE * count, 7)
+                    other.sendto(own, ("127.0.0.1", port))
+            streams = 0.0
+            if 18 <= place < 40 and outage >= 0:
+                streams = (float(place == 18), float(place in (18, 38)), float(place % 6 == 0), 4.0)[outage]
+            for _ in range(int(streams)):
+                numbers = [draws.getrandbits(bits) for bits in (16, 32, 32)]
+                for step, data in enumerate(late):
+                    forged = rtp.renumbered(data, numbers[0] + step, numbers[1] + rtp.TICKS_A_PICTURE * step, numbers[2])
+                    other.sendto(forged, ("127.0.0.1", port))
+            if count in (29, 329):
+                status = Path(f"/proc/{call.process.pid}/status").read_text()
+                memory.append(int(re.search(r"VmRSS:\s+(\d+)", status)[1]))  # type: ignore[index]
+            time.sleep(max(0.0, began + (count + 1) / 30 - time.monotonic()))
+        self.assertEqual(call.ended().status, 0, call.told)
+        self.assertGreater(call.shown("exact"), sent - 4 * 6, call.told)
+        seconds = [int(line.split()[0]) for line in call.told.splitlines() if re.match(r"\d+ s ", line)]
+        self.assertEqual(seconds[:11], list(range(1, 12)), call.told)
+        self.assertLess(memory[1] - memory[0], 8_000)
+        # All pictures of the call are shown once; beside them there is what was shown of forged streams.
+        self.assertLess(size_of(folder), (330 + 60) * 18_500 + 500_000)
+        self.assert_played_again(folder, program)
+
+    def test_late_streams_and_the_stand_in(self) -> None:
+        packets = [[stand_in.packet(count, "sub-qcif")] for count in range(330)]
+        late = [stand_in.packet(count, "sub-qcif") for count in range(253, 256)]
+        self.assert_late_streams_hold_nothing(packets, late, self.stand_in)
+
+    @needs_program
+    @needs_library
+    def test_late_streams_and_the_program(self) -> None:
+        packets = self.coded_packets()
+        self.assert_late_streams_hold_nothing(packets, sum(packets[253:256], []), PROGRAM)
+
+    @needs_program
+    @needs_library
+    def test_late_streams_and_the_library(self) -> None:
+        packets = self.coded_packets()
+        self.assert_late_streams_hold_nothing(packets, sum(packets[253:256], []), PROGRAM, "--library")
+
+    def coded_packets(self) -> list[list[bytes]]:
+        """The packets of 330 pictures of a sender that hears that all but those of the outages came."""
+        library, picture = in_process.library(), bytes(range(96, 160)) * 288
+        params, found = library.Params.of("sub-qcif", lead=6, slots=39), []
+        with library.Sender(params) as sender, library.Receiver(params) as receiver:
+            for count in range(330):
+                found.append(sender.packets(sender.code(picture)))
+                outage, place = divmod(count - 30, 75)
+                came = found[-1] if outage < 0 or place >= 36 else []
+                for message in [*(receiver.packet(packet).message for packet in came), receiver.play().message]:
+                    if message:
+                        sender.feedback(message)
+        return found
