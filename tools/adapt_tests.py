@@ -7,16 +7,17 @@ and the sockets are made here, so that a minute of a call takes seconds, and is 
 import heapq
 import json
 import random
+import subprocess
 from dataclasses import dataclass, field
 from pathlib import Path
 from typing import Any, Callable, Optional
 
-from calltools import following, in_process, live_settings, made, receiving, sending, y4m
+from calltools import following, in_process, live_settings, made, receiving, recorded, recorded_ways, sending, y4m
 from calltools.live_end import CallContext
 from calltools.loop import Timer
 from calltools.recording import Recorder
 from calltools.tally import StatusLine, Tally
-from live_tests import Calls, needs_library
+from live_tests import TOOLS, Calls, needs_library
 
 
 _QCIF = y4m.Size(*y4m.FORMATS["qcif"])
@@ -343,3 +344,13 @@ class AdaptTest(Calls):
             self.assertGreater(call.shown("exact"), 50, call.told)
             facts = json.loads((folder / "call.json").read_text())
             self.assertEqual((facts["adapts"], facts["target"]), (adapts, 900))
+            # What it followed is told picture by picture, by both tools.
+            (run,) = facts["send"]
+            self.assertEqual("targets" in run, adapts)
+            lines = (folder / run["targets"]).read_text().splitlines() if adapts else []
+            self.assertEqual(len(lines), call.count("sent", "sent") if adapts else 0)
+            (way,) = recorded_ways.ways_of(recorded.read_record(folder))
+            rates = [int(line.split()[1]) for line in lines] or [None] * len(way.pictures)
+            self.assertEqual([picture.kbits for picture in way.pictures], rates[: len(way.pictures)])
+            told = subprocess.run([TOOLS / "times_of_call", folder], capture_output=True, text=True, check=True).stdout
+            self.assertEqual("line followed: " in told, adapts)

@@ -163,6 +163,8 @@ class HostileTest(Room):
 
         whole_folder(self.room / "call").done()
         os.mkfifo(self.room / "call" / "pipe")
+        (self.room / "call" / "long").write_text("9" * 5_000 + " 1\n")
+        odd = run("send", targets="long")
         twice = run("send")
         twice["send"] *= 2
         cases: list[tuple[object, str]] = [
@@ -174,6 +176,10 @@ class HostileTest(Room):
             (run("recv", skipped=-1), "skipped is no number of 32 bits"),
             (run("recv", joined=1 << 32), "joined is no number of 32 bits"),
             (run("recv", options="--lead=1"), "its options are no list of words"),
+            (run("send", targets="/dev/zero"), "targets names no file of the folder"),
+            (run("send", targets=None), "targets names no file of the folder"),
+            (run("send", targets="pipe"), "it is no file"),
+            (run("send", targets="send.log"), "targets is a file of another run, too"),
             (twice, "is a file of another run, too"),
             ({**run("send"), "rate": "1e999999999"}, "pictures a second are wanted"),
             ({**run("send"), "rate": "9" * 400}, "pictures a second are wanted"),
@@ -189,6 +195,9 @@ class HostileTest(Room):
             for name, output in outputs.items():
                 with self.subTest(told, tool=name):
                     self.refused(told, name, self.room / "call", *output)
+        (self.room / "call" / "call.json").write_text(json.dumps(odd))
+        for name in ("page_of_call", "times_of_call"):
+            self.refused("line 1: a target and a rate are wanted", name, self.room / "call", *outputs[name])
         for text in ("[" * 100_000, "{", "\0", f'{{"version": {"9" * 5_000}}}'):
             (self.room / "call" / "call.json").write_text(text)
             for name, output in outputs.items():

@@ -18,7 +18,7 @@ from typing import Any, Callable, Optional, Sequence
 from unittest import mock
 
 from calltools import bad_network, errors, in_process, live_settings, logs, loop, messages, numbers, pipes
-from calltools import picture_start, playout, program, rtcp, rtp, speakers, stand_in, udp, y4m, y4m_pipe
+from calltools import picture_start, playout, program, reports, rtcp, rtp, speakers, stand_in, udp, y4m, y4m_pipe
 
 TOOLS = Path(__file__).resolve().parent
 EXAMPLES = TOOLS.parent / "examples"
@@ -834,14 +834,26 @@ class CallsTest(Calls):
         other.close()
 
     def test_another_rate_is_told(self) -> None:
-        call, other, port = self.start_screen(4)
+        """Once, by the reports of the other side; not of one that leaves frames out."""
+        port, calls = free_port(), []
+        for own, other, rate in (("127.0.0.1", "127.0.0.2", 20), ("127.0.0.2", "127.0.0.1", 30)):
+            words = ("--at", own, "--with", other, "--rate", rate, "--camera", self.video(300), "--screen", "none")
+            calls.append(self.start("--port", port, *words, "--format", "sub-qcif", "--seconds", 7))
+        for call, own, other in zip(calls, (20, 30), (30, 20)):
+            self.assertEqual(call.ended().status, 0, call.told)
+            told = f"the other side's --rate is {other}, and here it is {own}: give both the same\n"
+            self.assertEqual(call.told.count(told), 1, call.told)
+        call, other_end, port = self.start_screen(4)
+        control = bound(other_end.getsockname()[1] + 1)
         for count in range(60):
             packet = stand_in.packet(count, "sub-qcif")
-            other.sendto(rtp.renumbered(packet, count, 4_500 * count, 7), ("127.0.0.1", port))
+            other_end.sendto(rtp.renumbered(packet, count, 4_500 * count, 7), ("127.0.0.1", port))
+            report = reports.Report(7, None, ())
+            control.sendto(reports.compound_bytes(report, "abc", y4m.RATE), ("127.0.0.1", port + 1))
             time.sleep(1 / 20)
+        control.close()
         self.assertEqual(call.ended().status, 0, call.told)
-        told = "the other side sends 20.0 pictures a second, and --rate here is 30.0: give both the same --rate"
-        self.assertEqual(call.told.count(told), 1, call.told)
+        self.assertNotIn("--rate", call.told)
 
     def test_numbers_that_go_back(self) -> None:
         """Where all that comes is of pictures that were played, the receiving end joins anew."""

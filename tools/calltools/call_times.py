@@ -15,8 +15,9 @@ from .report import MARKS
 class CallTimes:
     """A recorded stream, from its capture to the screen; times are by the receiver's clock. By
     picture: when it was captured, when its first packet went out, when it was shown, its mark and
-    its reference. The bytes of all packets; when packets came, and of which picture; and the share
-    of a processor that the bridges took, of which nobody knows in a call that was cut off."""
+    its reference. The bytes of all packets; when packets came, and of which picture; the rates of the line
+    that was followed, by picture; and the share of a processor that the bridges took, of which nobody knows in a call
+    that was cut off."""
 
     name: str
     first: int
@@ -27,6 +28,7 @@ class CallTimes:
     marks: list[str]
     references: list[Optional[int]]
     arrived: list[tuple[float, int]]
+    rates: list[int]
     processor: Optional[float]
     is_one_clock: bool
 
@@ -108,6 +110,7 @@ def _times_of(joined: Joined) -> CallTimes:
         marks=[joined.mark(number) for number in numbers],
         references=[joined.sender.pictures[number].reference for number in numbers],
         arrived=[(time, picture) for time, picture in came if time is not None],
+        rates=joined.sender.rates,
         processor=_processor(joined.record),
         is_one_clock=joined.is_one_clock,
     )
@@ -151,6 +154,10 @@ def lines_of(call: CallTimes) -> list[str]:
         f"references: intra {back[None]} {inter}",
         f"runs of wrong pictures: {wrong or 'none'}",
     ]
+    if call.rates:
+        ordered = sorted(call.rates)
+        median = ordered[len(ordered) // 2]
+        lines.append(f"line followed: {ordered[0]} to {ordered[-1]} kbit/s, median {median}, last {call.rates[-1]}")
     if call.processor is not None:
         lines.append(f"bridges: {100 * call.processor:.1f} % of a processor")
     if not call.is_one_clock:

@@ -61,6 +61,7 @@ def told_way(told: way.Way) -> dict[str, object]:
         "references": [_reference(picture) for picture in pictures],
         "captured": [_rounded(picture.captured) for picture in pictures],
         "played": [_rounded(picture.played) for picture in pictures],
+        "kbits": [picture.kbits for picture in pictures],
         "psnr": _psnr(told),
         "packets": list(map(_packet, told.packets)),
         "messages": list(map(_message, told.messages)),

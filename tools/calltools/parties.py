@@ -9,7 +9,7 @@ from .errors import BadInput
 from .live_end import CallContext
 from .receiving import Receiving
 from .reporting import Reporting
-from .reports import Report, is_description, read_report
+from .reports import Report, is_description, rate_in, read_report
 from .rtcp import Bye, Feedback, bye_bytes, feedback_bytes, packets_of, read_rtcp
 from .rtp import rtp_header
 from .screens import Screen
@@ -26,8 +26,10 @@ class Party:
     def __init__(self, context: CallContext, line: Line) -> None:
         self._context, self._line = context, line
         line.media.on_datagram, line.control.on_datagram = self._packet, self._rtcp
-        session = context.settings.target * float(context.settings.rate)
-        self.reporting = Reporting(context.loop, session, line.control.send)
+        rate = context.settings.rate
+        session = context.settings.target * float(rate)
+        self.reporting = Reporting(context.loop, session, line.control.send, rate)
+        self._is_rate_told = False
         self.camera: Optional[Camera] = None
         self.screen: Optional[Screen] = None
         self.sending: Optional[Sending] = None
@@ -130,8 +132,18 @@ class Party:
             self.receiving.bye(known)
         elif known:
             self._drop("not asked for")
-        elif not is_description(packet):
+        elif is_description(packet):
+            self._tell_rate(packet)
+        else:
             self._drop("of another kind")
+
+    def _tell_rate(self, packet: bytes) -> None:
+        # By what the other side says: its pictures tell less, since it may leave frames out.
+        theirs, own = rate_in(packet), self._context.settings.rate
+        if theirs and theirs != own and not self._is_rate_told:
+            self._is_rate_told = True
+            told = f"the other side's --rate is {float(theirs):.4g}, and here it is {float(own):.4g}"
+            self._context.say(told + ": give both the same")
 
     def _drop(self, cause: str) -> None:
         self._context.tally.dropped[cause] += 1

@@ -1,8 +1,6 @@
 """The receiving end of a live call: packets in from the network, pictures and messages out."""
 
 import random
-from collections import deque
-from statistics import median
 from typing import Callable, Optional
 
 from . import logs
@@ -31,8 +29,6 @@ _TRIAL, _QUIET, _MOST_HELD = 1.0, 0.5, 8 << 20
 _JOINING = 1_024
 # Packets a second. The largest pictures that there can be, 30 a second, have fewer.
 _MOST_PACKETS = 12_000
-# The steps of this many pictures tell the other side's rate, and that it differs by this share.
-_STEPS, _OTHER_RATE = 30, 0.15
 # After this many seconds of silence the end begins anew: numbers can't be told any more.
 _LOST = 30.0
 # After this many packets in a row, over this many seconds, of pictures that were played, too.
@@ -74,8 +70,6 @@ class ReceivingRun:
         self.last, self.completed = 0.0, 0
         self._late, self._late_since = 0, 0.0
         self._source: Optional[int] = None
-        self._before: Optional[tuple[int, float]] = None
-        self._steps: deque[float] = deque(maxlen=_STEPS)
 
     @property
     def source(self) -> Optional[int]:
@@ -106,20 +100,11 @@ class ReceivingRun:
         self._tally.packets_in += 1
         self._playout.arrived(number, captured, now)
         self._note_late(number, now)
-        self._note_step(number, captured)
         self._play_due(now)
         packet = renumbered(arrival.data, header.sequence, header.timestamp, OWN_SOURCE)
         self._put(logs.entry_bytes(logs.PACKET, packet), now)
         self._plan()
         return True
-
-    @property
-    def other_rate(self) -> Optional[float]:
-        """The pictures a second of the other side, where they are told and differ."""
-        if len(self._steps) < _STEPS:
-            return None
-        rate = 1 / max(median(self._steps), 0.001)
-        return None if abs(rate / float(self._settings.rate) - 1) < _OTHER_RATE else rate
 
     def is_lost(self, now: float) -> bool:
         """Whether all that came of late was of pictures that were played: no picture would ever
@@ -182,12 +167,6 @@ class ReceivingRun:
             self._late, self._late_since = 1, now
         else:
             self._late += 1
-
-    def _note_step(self, number: int, captured: float) -> None:
-        if self._before and number == self._before[0] + 1:
-            self._steps.append(captured - self._before[1])
-        if not self._before or number > self._before[0]:
-            self._before = number, captured
 
     def _play_due(self, now: float) -> None:
         # At most as many at once as are kept: what is due beyond them waits for a look at the sockets.
@@ -362,11 +341,6 @@ class Receiving(LiveEnd):
         if not self._run.packet(arrival, now):
             return False
         self.last = now
-        rate = self._run.other_rate
-        if rate and self._settings.is_even:
-            own = float(self._settings.rate)
-            told = f"the other side sends {rate:.1f} pictures a second, and --rate here is {own:.1f}"
-            self._tell_once("rate", told + ": give both the same --rate")
         return True
 
     def _taken_beside(self, arrival: Arrival, now: float) -> bool:

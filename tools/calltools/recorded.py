@@ -19,10 +19,11 @@ from .y4m import FORMATS, Size
 
 _TIME = re.compile(r"-?\d{1,9}(?:\.\d{1,9})?")
 _RATE = re.compile(r"\d{1,6}(?:/\d{1,6}|\.\d{1,6})?")
+_TARGET = re.compile(r"(\d{1,6}) (\d{1,9})")
 _BEGAN = re.compile(r"[-0-9T:.+]{16,40}")
 # Greater numbers are no setting's.
 _MOST = 1e9
-# What a run of each command names.
+# What a run of each command names; `targets` only where it followed the line.
 _NAMES = {"send": ("video", "log", "wire", "report"), "recv": ("log", "video", "wire", "report")}
 
 
@@ -102,13 +103,17 @@ def _check_files(path: Path, told: dict[str, Any]) -> None:
     seen: set[str] = set()
     for command, names in _NAMES.items():
         for number, run in enumerate(told.get(command, []), 1):
-            for name in names:
+            for name in _named(run, names):
                 if run[name] in seen:
                     raise BadInput(str(path), f"{command}, run {number}", f"{name} is a file of another run, too")
                 seen.add(run[name])
                 file = path.parent / run[name]
                 _check_file(file)
                 _check_file(file.with_suffix(".times"))
+
+
+def _named(run: dict[str, Any], names: tuple[str, ...]) -> tuple[str, ...]:
+    return (*names, "targets") if "targets" in run else names
 
 
 def _is_rate(rate: object) -> bool:
@@ -127,7 +132,7 @@ def _check_runs(path: Path, command: str, runs: object, names: tuple[str, ...]) 
         place = f"{command}, run {number}"
         if not isinstance(run, dict):
             raise BadInput(str(path), place, "this is no run")
-        for name in names:
+        for name in _named(run, names):
             # Names are flat, so that none leads out of the folder.
             file = run.get(name)
             if not isinstance(file, str) or file in ("", ".", "..") or "/" in file or "\0" in file:
@@ -168,6 +173,23 @@ def times_in(path: Path, is_cut: bool = False) -> list[float]:
             raise BadInput(str(path), f"line {number}", "a time in seconds is wanted")
         times.append(float(line))
     return times
+
+
+def rates_of(record: Record, run: dict[str, Any]) -> list[int]:
+    """The rates of the line that a run of `send` followed, in kbit/s and by picture; none if it followed none."""
+    if "targets" not in run:
+        return []
+    with record.opened(run["targets"]) as file:
+        lines = file.read().decode("ascii", "replace").split("\n")
+    rates = []
+    # What follows the last newline is nothing, or was cut off.
+    for number, line in enumerate(lines[:-1], 1):
+        fields = _TARGET.fullmatch(line)
+        if not fields:
+            why = "a target and a rate are wanted"
+            raise BadInput(str(record.path(run["targets"])), f"line {number}", why)
+        rates.append(int(fields[2]))
+    return rates
 
 
 def video_times(record: Record, name: str) -> list[float]:

@@ -10,7 +10,7 @@ from .errors import BadInput
 from .messages import read_message
 from .numbers import nearest
 from .picture_start import picture_start
-from .recorded import Record, Timed, entries_of, pictures_of, video_of, video_times
+from .recorded import Record, Timed, entries_of, pictures_of, rates_of, video_of, video_times
 
 _SEQUENCES, _STAMPS = 1 << 16, 1 << 32
 # `recv` without --lead.
@@ -46,6 +46,7 @@ class Sender:
     captured: list[Optional[float]]
     packets: list[SentPacket]
     heard: list[Heard]
+    rates: list[int]
     frames: Sequence[bytes]
 
 
@@ -75,6 +76,7 @@ def sender_of(record: Record, place: int) -> Sender:
             for timed in entries
             if timed.entry.letter == logs.MESSAGE
         ],
+        rates=rates_of(record, run),
         frames=video_of(record, run["video"]),
     )
 

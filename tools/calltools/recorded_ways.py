@@ -72,6 +72,10 @@ def _item(times: Sequence, number: int) -> Optional[float]:
     return times[number] if 0 <= number < len(times) else None
 
 
+def _rate(sender: Sender, number: int) -> Optional[int]:
+    return sender.rates[number] if number < len(sender.rates) else None
+
+
 def _fate(picture: int, packet: CamePacket, lead: int, is_taken: bool) -> str:
     # By the count of plays before it: what is open is taken, once.
     if picture < packet.played:
@@ -189,7 +193,13 @@ class Joined:
         coded, shown = self.sender.pictures[number], self.receiver.pictures[number - self.first]
         played = _item(self.receiver.played, number - self.first)
         return way.Picture(
-            number, shown.mark, coded.is_intra, coded.reference, self.captured(number), played
+            number,
+            shown.mark,
+            coded.is_intra,
+            coded.reference,
+            self.captured(number),
+            played,
+            _rate(self.sender, number),
         )
 
     @property
@@ -235,7 +245,12 @@ class Joined:
 def _sent_only(record: Record, sender: Sender) -> way.Way:
     pictures = [
         way.Picture(
-            line.number, None, line.is_intra, line.reference, _item(sender.captured, line.number)
+            line.number,
+            None,
+            line.is_intra,
+            line.reference,
+            _item(sender.captured, line.number),
+            kbits=_rate(sender, line.number),
         )
         for line in sender.pictures
     ]

@@ -11,8 +11,10 @@ from .errors import BadInput
 from .live_settings import Settings
 
 VERSION = 1
-# What each end's run has: its key in call.json, the file's name, and whether it has times beside.
-_FILES = {
+# What each end's run has: its key in call.json, the file's name, and whether it has times beside. One that follows the
+# line has a line a picture: the target in bytes, and the rate in kbit/s.
+TARGETS = ("targets", "targets", ".txt", False)
+_FILES: dict[str, tuple[tuple[str, str, str, bool], ...]] = {
     "send": (
         ("video", "captured", ".y4m", False),
         ("log", "send", ".log", True),
@@ -32,19 +34,20 @@ class RunRecord:
     """The files of one run of an end. Of one that is only tried there are none, and what is written waits here until
     it is kept."""
 
-    def __init__(self, recorder: "Recorder", end: str, facts: dict[str, Any]) -> None:
+    def __init__(self, recorder: "Recorder", end: str, facts: dict[str, Any], has_targets: bool) -> None:
         self._recorder, self._end = recorder, end
         self._files: dict[str, BinaryIO] = {}
         self._times: dict[str, BinaryIO] = {}
         self.facts = facts
-        self._timed = {key for key, _, _, has_times in _FILES[end] if has_times}
+        self._rows = (*_FILES[end], TARGETS) if has_targets else _FILES[end]
+        self._timed = {key for key, _, _, has_times in self._rows if has_times}
         self._held: Optional[list[tuple[str, bytes, bool]]] = []
         self.held = 0  # bytes
 
     def keep(self) -> None:
         """From now on it is in the folder, with all that was written before."""
         number = self._recorder.runs_of(self._end) + 1
-        for key, name, suffix, has_times in _FILES[self._end]:
+        for key, name, suffix, has_times in self._rows:
             stem = name if number == 1 else f"{name}-{number}"
             self.facts[key] = stem + suffix
             self._recorder.open(self._files, key, stem + suffix)
@@ -135,9 +138,11 @@ class Recorder:
         """Whether anything is recorded."""
         return bool(self._folder) and not self.fault
 
-    def run(self, end: str, facts: dict[str, Any], is_kept: bool = True) -> RunRecord:
+    def run(
+        self, end: str, facts: dict[str, Any], is_kept: bool = True, has_targets: bool = False
+    ) -> RunRecord:
         """A new run of `send` or `recv`; `facts` may be filled later on."""
-        run = self._begun(end, facts)
+        run = self._begun(end, facts, has_targets)
         if is_kept:
             run.keep()
         return run
@@ -152,8 +157,8 @@ class Recorder:
         self._runs.append(run)
         self._write_facts()
 
-    def _begun(self, end: str, facts: dict[str, Any]) -> RunRecord:
-        return RunRecord(self, end, facts)
+    def _begun(self, end: str, facts: dict[str, Any], has_targets: bool) -> RunRecord:
+        return RunRecord(self, end, facts, has_targets)
 
     def flush(self) -> None:
         """What is recorded by now outlives this process; so does what a run was found to be since it began."""

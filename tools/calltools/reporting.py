@@ -6,6 +6,7 @@ import os
 import random
 import time
 from dataclasses import dataclass
+from fractions import Fraction
 from typing import Callable, Optional
 
 from .loop import Loop
@@ -80,9 +81,12 @@ class Sent:
 class Reporting:
     """A party's reports. Whatever comes in changes two numbers that are shown, and no more."""
 
-    def __init__(self, loop: Loop, session: float, send: Callable[[bytes], None]) -> None:
-        """`session` is the bytes a second of the pictures, of which RTCP has a share."""
+    def __init__(
+        self, loop: Loop, session: float, send: Callable[[bytes], None], rate: Optional[Fraction] = None
+    ) -> None:
+        """`session` is the bytes a second of the pictures, of which RTCP has a share; `rate` is the camera's."""
         self._loop, self._bandwidth, self._send = loop, session * _SHARE, send
+        self._rate = rate
         # The machine's clock is looked at once: NTP times of a call then go on evenly.
         self._epoch = time.time() - loop.now() + _EPOCH
         self._own = random.getrandbits(32)
@@ -157,7 +161,7 @@ class Reporting:
         if due > now:
             self._loop.at(due, self._due)
             return
-        data = compound_bytes(self._report(now), self._name)
+        data = compound_bytes(self._report(now), self._name, self._rate)
         self._send(data)
         self.size(len(data))
         self._before, self._is_first = now, False

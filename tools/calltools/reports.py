@@ -1,12 +1,17 @@
 """Sender and receiver reports, and by whom they are: packets of RTCP (RFC 3550, 6.4 and 6.5)."""
 
+import re
 import struct
 from dataclasses import dataclass
-from typing import Optional
+from fractions import Fraction
+from typing import Iterator, Optional
 
 _VERSION = 0x80
 _SENDER, _RECEIVER, _DESCRIPTION = 200, 201, 202
-_CNAME = 1
+_CNAME, _PRIVATE = 1, 8
+# The private item (RFC 3550, 6.5.8) that says how many pictures a second a party's camera has.
+_RATE = b"h263rps.rate"
+_RATE_TEXT = re.compile(rb"[1-9]\d{0,5}(?:/[1-9]\d{0,5})?")
 _HEAD = struct.Struct(">BBHI")
 _SENT = struct.Struct(">QIII")
 _BLOCK = struct.Struct(">IIIIII")
@@ -66,21 +71,48 @@ def _report_bytes(report: Report) -> bytes:
     return _HEAD.pack(_VERSION | len(report.blocks), kind, words, report.speaker) + body
 
 
-def _description_bytes(source: int, name: str) -> bytes:
+def _item(kind: int, text: bytes) -> bytes:
+    return bytes([kind, len(text)]) + text
+
+
+def _description_bytes(source: int, name: str, rate: Optional[Fraction]) -> bytes:
     # The list of items ends with one zero or more, up to the next word.
-    items = bytes([_CNAME, len(name)]) + name.encode() + b"\0"
+    items = _item(_CNAME, name.encode())
+    if rate:
+        items += _item(_PRIVATE, bytes([len(_RATE)]) + _RATE + str(rate).encode())
+    items += b"\0"
     items += bytes(-len(items) % 4)
     return _HEAD.pack(_VERSION | 1, _DESCRIPTION, 1 + len(items) // 4, source) + items
 
 
-def compound_bytes(report: Report, name: str) -> bytes:
-    """The datagram of a report, with its speaker's canonical name, as each has to be."""
-    return _report_bytes(report) + _description_bytes(report.speaker, name)
+def compound_bytes(report: Report, name: str, rate: Optional[Fraction] = None) -> bytes:
+    """The datagram of a report, with its speaker's canonical name, as each has to be, and its camera's rate."""
+    return _report_bytes(report) + _description_bytes(report.speaker, name, rate)
 
 
 def is_description(packet: bytes) -> bool:
     """Whether a packet tells names alone."""
     return packet[1] == _DESCRIPTION
+
+
+def _items(packet: bytes) -> Iterator[tuple[int, bytes]]:
+    # Those of the first speaker.
+    at = _HEAD.size
+    while at + 2 <= len(packet) and packet[at]:
+        end = at + 2 + packet[at + 1]
+        if end > len(packet):
+            return
+        yield packet[at], packet[at + 2 : end]
+        at = end
+
+
+def rate_in(packet: bytes) -> Optional[Fraction]:
+    """The rate that a packet of names tells, or None where it tells none."""
+    start = bytes([len(_RATE)]) + _RATE
+    for kind, text in _items(packet):
+        if kind == _PRIVATE and text.startswith(start) and _RATE_TEXT.fullmatch(text[len(start) :]):
+            return Fraction(text[len(start) :].decode())
+    return None
 
 
 def _read_block(data: bytes) -> ReportBlock:

@@ -40,7 +40,7 @@ class SendingRun:
         # The first sequence number is below 2^15: were it just below 2^16 and the first packets lost, a receiver of
         # SRTP would guess another turn of the numbers (RFC 3711, 3.3.1).
         self.source, self._first_sequence, self._first_time = map(random.getrandbits, (32, 15, 32))
-        self._record = context.recorder.run("send", self._facts())
+        self._record = context.recorder.run("send", self._facts(), has_targets=bool(bounds))
         self.program = program_of(context, "send", "rrw", settings.send_options())
         video, log, wire = self.program.files
         self._video, self._log = self.program.feed(video), self.program.feed(log)
@@ -113,8 +113,9 @@ class SendingRun:
     def _set_target(self) -> None:
         if not self._follower or not isinstance(self.program, SendInProcess):
             return
-        self.program.follow(self._follower.target)
-        self._recent.kbits = 8 * self._follower.rate / 1_000
+        target, self._recent.kbits = self._follower.target, 8 * self._follower.rate / 1_000
+        self.program.follow(target)
+        self._record.write("targets", f"{target} {self._recent.kbits:.0f}\n".encode())
 
     def _put_log(self, entry: bytes, now: float) -> None:
         self._record.mark("log", now)

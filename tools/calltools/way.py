@@ -8,7 +8,8 @@ from .y4m import FORMATS, Size
 
 @dataclass(frozen=True)
 class Picture:
-    """A picture by its number at the sender. What isn't known is None; times are in seconds."""
+    """A picture by its number at the sender. What isn't known is None; times are in seconds, `kbits` is the rate of the
+    line that its sender followed."""
 
     number: int
     mark: Optional[str] = None
@@ -16,6 +17,7 @@ class Picture:
     reference: Optional[int] = None
     captured: Optional[float] = None
     played: Optional[float] = None
+    kbits: Optional[int] = None
 
 
 @dataclass(frozen=True)

@@ -38,6 +38,10 @@ function qualityWords(psnr) {
   return psnr >= 99 ? "as captured" : `${psnr.toFixed(1)} dB (PSNR of Y, shown against captured)`;
 }
 
+function rateWords(kbits) {
+  return kbits === null ? "" : `${kbits} kbit/s followed`;
+}
+
 /* One sentence on a picture, which readers of the screen hear at each step. */
 function sentenceOf(way, place) {
   const mark = way.marks[place];
@@ -53,6 +57,7 @@ function rowsOf(way, place) {
   const rows = [["Reference", referenceWords(way.references[place]), true]];
   rows.push(["Packets", packetWords(packets), way.packets.length]);
   rows.push(["Bytes", bytesWords(packets), way.packets.some(({ size }) => size)]);
+  rows.push(["Line", rateWords(way.kbits[place]), way.kbits.some(Boolean)]);
   rows.push(["Message", messages, way.messages.length]);
   rows.push(["Captured", secondsWords(way.captured[place]), true]);
   rows.push(["Played", secondsWords(way.played[place]), way.played.some(Boolean)]);
