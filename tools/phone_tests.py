@@ -37,7 +37,7 @@ NETWORK = {"do": "network", "loss": 0.1, "burst": 2, "delay": 0.04, "jitter": 0}
 def settings(format: str = "qcif", **changed: Any) -> live_settings.Settings:
     own = {"target": live_settings.TARGETS[format], "lead": live_settings.lead_for(0.1, y4m.RATE, None)}
     own["slots"] = live_settings.slots_for(own["lead"], None)
-    return live_settings.Settings(Path("the library"), format, is_even=False, **{**own, **changed})
+    return live_settings.Settings(Path("the library"), format, **{**own, **changed})
 
 
 class AskedTest(unittest.TestCase):

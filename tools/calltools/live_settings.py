@@ -42,8 +42,6 @@ class Settings:
     most_pictures: int = MOST_PICTURES
     # Whether the target follows the line; it is the first one then.
     adapts: bool = False
-    # Whether cameras keep to the rate; those of a browser may give fewer pictures.
-    is_even: bool = True
 
     @property
     def bounds(self) -> Bounds:

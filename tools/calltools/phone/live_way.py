@@ -201,12 +201,13 @@ class RecvWatch(Watch):
         return self.facts["source"]
 
     @property
-    def _skipped(self) -> int:
-        return int(self.facts["skipped"])
+    def _played(self) -> int:
+        # How many pictures were played, those before it joined too.
+        return int(self.facts.get("joined") or 0) + self._plays
 
     def frame(self) -> None:
         """A further picture is shown."""
-        self.shown = self._frames + self._offset
+        self.shown = int(self.facts.get("joined") or 0) + self._frames + self._offset
         self._frames += 1
 
     def entry(self, key: str, data: bytes, when: float) -> None:
@@ -214,8 +215,8 @@ class RecvWatch(Watch):
             self._packet(data[3:], when)
         elif key == "log":
             self._plays += 1
-            if self.way and self._plays > self._skipped:
-                self.way.played(self._plays - 1 + self._offset, when)
+            if self.way:
+                self.way.played(self._played - 1 + self._offset, when)
         elif key == "report":
             self._line(data.decode().split())
         elif key == "wire":
@@ -235,7 +236,7 @@ class RecvWatch(Watch):
                 return
             number, sent = known.picture, known.sent
         else:
-            number = nearest(self._plays, start.reference, self._numbers)
+            number = nearest(self._played, start.reference, self._numbers)
             since = self._stamp / CLOCK
             self._start = when - since if self._start is None else min(self._start, when - since)
             sent = since + self._start
@@ -263,9 +264,9 @@ class RecvWatch(Watch):
 
     def _fate(self, picture: int, is_taken: bool) -> str:
         # By the count of plays before it, as page_of_call has it.
-        if picture < self._plays:
+        if picture < self._played:
             return "late"
-        return "early" if picture > self._plays + self._lead else "again" if is_taken else "taken"
+        return "early" if picture > self._played + self._lead else "again" if is_taken else "taken"
 
     def _lose(self, key: int, number: int, sent: float) -> None:
         # What is missing before a packet, shared out over the pictures from the newest one that came.
@@ -279,15 +280,15 @@ class RecvWatch(Watch):
             self.way.packet(self._newest + 1 + place, way.Packet(picture, "lost", sent))
 
     def _line(self, words: list[str]) -> None:
-        if self.way and words[0].isdigit() and int(words[0]) >= self._skipped:
+        if self.way and words[0].isdigit():
             self.way.picture(int(words[0]) + self._offset, mark=words[1])
 
     def _said(self, body: bytes, when: float) -> None:
         self._messages += 1
-        if self.way is None or self._messages <= self._skipped:
+        if self.way is None:
             return
         said = read_message(body)
-        number = nearest(self._plays, said.reference, self._numbers) + self._offset
+        number = nearest(self._played, said.reference, self._numbers) + self._offset
         fate = "lost" if self._is_joined else "passed"
         self.way.message(self._messages, way.Message(number, said.is_ack, fate, when))
         if self._is_joined:

@@ -228,7 +228,6 @@ class Phone:
             target=options.target or TARGETS[format],
             # With oneself the bytes stay as they are, so that losses alone make a difference.
             adapts=options.target is None and not is_alone,
-            is_even=False,
         )
 
     def _folder(self) -> Path:

@@ -13,9 +13,9 @@ class WatchedRun(RunRecord):
     """A run's files, if the call is recorded, and what is read of them meanwhile."""
 
     def __init__(
-        self, recorder: Recorder, end: str, number: int, facts: dict[str, Any], watch: Watch
+        self, recorder: Recorder, end: str, facts: dict[str, Any], has_targets: bool, watch: Watch
     ) -> None:
-        super().__init__(recorder, end, number, facts)
+        super().__init__(recorder, end, facts, has_targets)
         self._began, self._watch = recorder.began, watch
         self._last = 0.0
 
@@ -52,7 +52,7 @@ class Watched(Recorder):
         of = (one for one in reversed(self.received) if one.source == source)
         return None if source is None else next(of, None)
 
-    def _begun(self, end: str, number: int, facts: dict[str, Any]) -> RunRecord:
+    def _begun(self, end: str, facts: dict[str, Any], has_targets: bool) -> RunRecord:
         watch: Watch
         numbers = PERIODS[self._settings.clock]
         if end == "send":
@@ -61,7 +61,7 @@ class Watched(Recorder):
         else:
             watch = RecvWatch(facts, numbers, self._settings.lead, self._sender)
             self.received = [*self.received[-3:], watch]
-        return WatchedRun(self, end, number, facts, watch)
+        return WatchedRun(self, end, facts, has_targets, watch)
 
     def _sender(self, source: int) -> Optional[SendWatch]:
         return next((one for one in self.sent if one.source == source), None)
