@@ -435,7 +435,7 @@ class PhoneBrowserTest(Browsers):
         here.value("document.getElementById('going_on').open = true")
         if ordinary.is_there():
             here.press("compare")
-        here.until("return phone.counts.came > 420 && phone.status.lost > 0.04")
+        here.until("return phone.counts.came > 330 && phone.status.lost > 0.04", 3 * PATIENCE)
         here.browser.set_window_size(1180, 1352)
         time.sleep(1)
         path = Path(os.environ.get("PHONE_PICTURE") or self.room / "phone.png")
