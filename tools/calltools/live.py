@@ -3,7 +3,6 @@
 import resource
 import sys
 from dataclasses import dataclass
-from datetime import datetime, timezone
 from pathlib import Path
 from types import ModuleType
 from typing import Any, Callable, Optional
@@ -16,7 +15,7 @@ from .live_end import CallContext
 from .live_settings import Settings
 from .loop import Loop
 from .parties import Party
-from .recording import Recorder
+from .recording import Recorder, call_facts
 from .screens import screen_of
 from .tally import Recent, StatusLine, Tally, counts
 from .told import Heard, TerminalStatus, Told
@@ -95,22 +94,11 @@ class LiveCall:
         )
 
     def _facts(self) -> dict[str, Any]:
-        asked, settings = self._asked, self._settings
+        asked = self._asked
+        if asked.other is None:
+            return call_facts(self._settings, "alone", asked.network)
         party = "both" if asked.camera and asked.screen else "camera" if asked.camera else "screen"
-        return {
-            "began": datetime.now(timezone.utc).isoformat(timespec="milliseconds"),
-            "party": "alone" if asked.other is None else party,
-            "format": settings.format,
-            "rate": str(settings.rate),
-            "clock": settings.clock,
-            "messages": settings.messages,
-            "wait": settings.wait,
-            "lead": settings.lead,
-            "slots": settings.slots,
-            "target": settings.target,
-            "adapts": settings.adapts,
-            "network": vars(asked.network) if asked.other is None else None,
-        }
+        return call_facts(self._settings, party, None)
 
     def _open(self) -> None:
         # The other party is found, and then the programs start.

@@ -13,7 +13,7 @@ from .quality import errors_between
 from .report import MARKS
 
 WEB = Path(__file__).resolve().parent / "web"
-_SCRIPTS = ("stored.js", "marks.js", "words.js", "timeline.js", "player.js", "page.js")
+_SCRIPTS = ("colours.js", "stored.js", "marks.js", "words.js", "timeline.js", "player.js", "page.js")
 _PLACE = re.compile(r"\{\{(\w+)\}\}")
 # What a picture's reference is where it is none, or isn't known.
 _INTRA, _UNKNOWN = -1, -2

@@ -2,10 +2,13 @@
 
 import json
 import os
+from datetime import datetime, timezone
 from pathlib import Path
 from typing import Any, BinaryIO, Callable, Optional
 
+from .bad_network import BadNetwork
 from .errors import BadInput
+from .live_settings import Settings
 
 VERSION = 1
 # What each end's run has: its key in call.json, the file's name, and whether it has times beside. One that follows the
@@ -92,6 +95,24 @@ def _replace(path: Path, text: str) -> None:
     os.replace(new, path)
 
 
+def call_facts(settings: Settings, party: str, network: Optional[BadNetwork]) -> dict[str, Any]:
+    """What call.json says of a call that begins now. `party` is alone, both, camera or screen."""
+    return {
+        "began": datetime.now(timezone.utc).isoformat(timespec="milliseconds"),
+        "party": party,
+        "format": settings.format,
+        "rate": str(settings.rate),
+        "clock": settings.clock,
+        "messages": settings.messages,
+        "wait": settings.wait,
+        "lead": settings.lead,
+        "slots": settings.slots,
+        "target": settings.target,
+        "adapts": settings.adapts,
+        "network": vars(network) if network else None,
+    }
+
+
 class Recorder:
     """Writes a call's folder, or nothing without one. Where a write fails, recording ends, the
     call goes on, and `fault` says why."""
@@ -121,7 +142,7 @@ class Recorder:
         self, end: str, facts: dict[str, Any], is_kept: bool = True, has_targets: bool = False
     ) -> RunRecord:
         """A new run of `send` or `recv`; `facts` may be filled later on."""
-        run = RunRecord(self, end, facts, has_targets)
+        run = self._begun(end, facts, has_targets)
         if is_kept:
             run.keep()
         return run
@@ -136,11 +157,20 @@ class Recorder:
         self._runs.append(run)
         self._write_facts()
 
+    def _begun(self, end: str, facts: dict[str, Any], has_targets: bool) -> RunRecord:
+        return RunRecord(self, end, facts, has_targets)
+
     def flush(self) -> None:
         """What is recorded by now outlives this process; so does what a run was found to be since it began."""
         for run in self._runs:
             run.flush()
         self._write_facts()
+
+    def stop(self) -> None:
+        """Nothing more is recorded of a call that goes on: the folder is one that was cut off here."""
+        for run in self._runs:
+            run.close()
+        self._folder = None
 
     def finish(self, counts: dict[str, Any]) -> None:
         """Closes the files, and writes what came of the call."""

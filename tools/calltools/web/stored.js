@@ -1,9 +1,7 @@
-"use strict";
 /* The way back from what calltools/stored.py makes: groups to samples, and samples to colours. */
 
 const LEVELS = 3;
 const FINER = [2, 1, 1, 1, 1, 1, 0, 0, 0, -1];
-const MIDDLE = 128;
 const KEPT_GROUPS = 6;
 
 function bytesOf(base64) {
@@ -160,24 +158,5 @@ class StoredVideo {
   shapes() {
     const half = [this.width / 2, this.height / 2];
     return [[this.width, this.height], half, half];
-  }
-}
-
-/* Colours by ITU-R BT.601, Y from 16 to 235, as rows of red, green, blue and opaque. */
-function paint(samples, width, height, colours) {
-  const half = width / 2;
-  const cb = width * height;
-  const cr = cb + cb / 4;
-  for (let y = 0, at = 0, to = 0; y < height; y++) {
-    const row = (y >> 1) * half;
-    for (let x = 0; x < width; x++, at++, to += 4) {
-      const luma = 1.164 * (samples[at] - 16);
-      const blue = samples[cb + row + (x >> 1)] - MIDDLE;
-      const red = samples[cr + row + (x >> 1)] - MIDDLE;
-      colours[to] = luma + 1.596 * red;
-      colours[to + 1] = luma - 0.392 * blue - 0.813 * red;
-      colours[to + 2] = luma + 2.017 * blue;
-      colours[to + 3] = 255;
-    }
   }
 }
