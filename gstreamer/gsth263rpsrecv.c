@@ -47,6 +47,8 @@ GST_DEBUG_CATEGORY_STATIC (h263rpsrecv_debug);
 #define DEFAULT_SLOTS 39
 #define DEFAULT_LEAD 6
 #define DEFAULT_MESSAGES 1
+/* As that of a payloader: one that is drawn at random. */
+#define DEFAULT_SSRC G_MAXUINT32
 
 /* Another stream that is tried has this long for its first complete picture. */
 #define TRIAL GST_SECOND
@@ -71,6 +73,7 @@ enum
   PROP_SLOTS,
   PROP_LEAD,
   PROP_MESSAGES,
+  PROP_SSRC,
   PROP_SESSION,
   PROP_RECORD_LOCATION,
   PROP_STATS
@@ -98,7 +101,7 @@ struct _GstH263RpsRecv
   GstPad *sinkpad, *srcpad, *rtcp_srcpad;
 
   /* properties, under the object's lock */
-  guint latency, slots, lead, messages;
+  guint latency, slots, lead, messages, ssrc;
   gchar *record_location;
   GObject *session;
   gulong session_handler;
@@ -425,11 +428,8 @@ play_shown (GstH263RpsRecv * self, GstClockTime due)
       gst_util_uint64_scale (GST_SECOND, run->fps_d, run->fps_n);
   mark_buffer (run, buffer, number, answer.kind);
   self->counts.marks[answer.kind]++;
-  if (answer.message.length) {
-    gst_h263rps_record_entry (run->record, GST_H263RPS_RECORD_WIRE, 'B', answer.message.bytes,
-        answer.message.length, when);
+  if (answer.message.length)
     note_message (self, run, &answer.message);
-  }
   queue_picture (self, buffer);
 }
 
@@ -563,11 +563,8 @@ note_answer (GstH263RpsRecv * self, GstH263RpsRun * run, const h263rps_answer * 
   if (run != self->run)
     return;
   self->counts.heard[answer->kind]++;
-  if (answer->message.length) {
-    gst_h263rps_record_entry (run->record, GST_H263RPS_RECORD_WIRE, 'B', answer->message.bytes,
-        answer->message.length, running_time_of (self, now));
+  if (answer->message.length)
     note_message (self, run, &answer->message);
-  }
 }
 
 /* Gives a run a packet of its stream. Answers whether it may be of it. */
@@ -1123,6 +1120,9 @@ gst_h263rps_recv_set_property (GObject * object, guint id, const GValue * value,
     case PROP_MESSAGES:
       self->messages = g_value_get_uint (value);
       break;
+    case PROP_SSRC:
+      self->ssrc = g_value_get_uint (value);
+      break;
     case PROP_RECORD_LOCATION:
       g_free (self->record_location);
       self->record_location = g_value_dup_string (value);
@@ -1194,6 +1194,9 @@ gst_h263rps_recv_get_property (GObject * object, guint id, GValue * value, GPara
     case PROP_MESSAGES:
       g_value_set_uint (value, self->messages);
       break;
+    case PROP_SSRC:
+      g_value_set_uint (value, self->ssrc);
+      break;
     case PROP_SESSION:
       g_value_set_object (value, self->session);
       break;
@@ -1228,6 +1231,7 @@ gst_h263rps_recv_change_state (GstElement * element, GstStateChange transition)
       memset (&self->counts, 0, sizeof self->counts);
       memset (&self->allowance, 0, sizeof self->allowance);
       self->has_asked = FALSE;
+      self->own_ssrc = self->ssrc == DEFAULT_SSRC ? g_random_int () : self->ssrc;
       g_mutex_unlock (&self->lock);
       set_playing (self, FALSE);
       break;
@@ -1323,7 +1327,7 @@ gst_h263rps_recv_init (GstH263RpsRecv * self)
   self->fps_n = 30000;
   self->fps_d = 1001;
   self->earliest = GST_CLOCK_TIME_NONE;
-  self->own_ssrc = g_random_int ();
+  self->ssrc = DEFAULT_SSRC;
   self->room = g_malloc (ROOM);
   g_queue_init (&self->out);
   g_queue_init (&self->session_queue);
@@ -1380,6 +1384,9 @@ gst_h263rps_recv_class_init (GstH263RpsRecvClass * klass)
   g_object_class_install_property (object_class, PROP_MESSAGES,
       g_param_spec_uint ("messages", "Messages", "The version of the messages", 1, 2,
           DEFAULT_MESSAGES, ready));
+  g_object_class_install_property (object_class, PROP_SSRC,
+      g_param_spec_uint ("ssrc", "SSRC", "The SSRC of the messages at rtcp_src (default == random)",
+          0, G_MAXUINT32, DEFAULT_SSRC, ready));
   /**
    * GstH263RpsRecv:session:
    *

@@ -52,12 +52,28 @@ gst_h263rps_run_new (const h263rps_params * params, gint fps_n, gint fps_d, GstC
   return run;
 }
 
+/* The last line of a report. A packet that completes its picture is taken, too. */
+static void
+record_counts (GstH263RpsRun * run)
+{
+  gst_h263rps_record_line (run->record, GST_H263RPS_RECORD_REPORT,
+      "played %" G_GINT64_FORMAT " exact %" G_GUINT64_FORMAT " patched %" G_GUINT64_FORMAT
+      " held %" G_GUINT64_FORMAT " taken %" G_GUINT64_FORMAT " late %" G_GUINT64_FORMAT
+      " early %" G_GUINT64_FORMAT " repeat %" G_GUINT64_FORMAT " refused %" G_GUINT64_FORMAT,
+      run->played, run->marks[H263RPS_EXACT], run->marks[H263RPS_PATCHED],
+      run->first + run->marks[H263RPS_HELD],
+      run->heard[H263RPS_TAKEN] + run->heard[H263RPS_COMPLETED], run->heard[H263RPS_LATE],
+      run->heard[H263RPS_EARLY], run->heard[H263RPS_REPEAT], run->heard[H263RPS_REFUSED]);
+}
+
 void
 gst_h263rps_run_free (GstH263RpsRun * run)
 {
   h263rps_receiver_finish (&run->end);
-  if (run->record)
+  if (run->record) {
+    record_counts (run);
     gst_h263rps_record_free (run->record);
+  }
   g_free (run);
 }
 
@@ -87,6 +103,14 @@ gst_h263rps_run_place (GstH263RpsRun * run, const GstH263RpsArrival * arrival, G
   return TRUE;
 }
 
+static void
+record_message (GstH263RpsRun * run, const h263rps_message * message, GstClockTime when)
+{
+  if (message->length)
+    gst_h263rps_record_entry (run->record, GST_H263RPS_RECORD_WIRE, 'B', message->bytes,
+        message->length, when);
+}
+
 /* Hears a whole packet, whose payload type and SSRC become those of the library. */
 void
 gst_h263rps_run_hear (GstH263RpsRun * run, guint8 * bytes, gsize length, h263rps_answer * answer,
@@ -95,7 +119,9 @@ gst_h263rps_run_hear (GstH263RpsRun * run, guint8 * bytes, gsize length, h263rps
   bytes[1] = (bytes[1] & 0x80) | GST_H263RPS_LIBRARY_PT;
   memcpy (bytes + 8, GST_H263RPS_LIBRARY_SSRC, 4);
   h263rps_receiver_packet (&run->end, bytes, length, answer);
+  run->heard[answer->kind]++;
   gst_h263rps_record_entry (run->record, GST_H263RPS_RECORD_LOG, 'K', bytes, length, when);
+  record_message (run, &answer->message, when);
 }
 
 /* When the next picture is to be played, on the clock of the arrivals. */
@@ -133,11 +159,13 @@ gst_h263rps_run_play (GstH263RpsRun * run, guint8 * samples, h263rps_answer * an
     run->is_ended = TRUE;
     return FALSE;
   }
+  run->marks[answer->kind]++;
   gst_h263rps_record_entry (run->record, GST_H263RPS_RECORD_LOG, 'P', NULL, 0, when);
   gst_h263rps_record_frame (run->record, gst_h263rps_mark_name (answer->kind), lent, run->size,
       when);
   gst_h263rps_record_line (run->record, GST_H263RPS_RECORD_REPORT, "%" G_GINT64_FORMAT " %s",
       run->played, gst_h263rps_mark_name (answer->kind));
+  record_message (run, &answer->message, when);
   h263rps_playout_played (&run->playout, run->played++);
   return TRUE;
 }

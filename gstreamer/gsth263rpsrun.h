@@ -40,6 +40,7 @@ struct _GstH263RpsRun
   guint late;
   GstClockTime late_since;
   gboolean is_ended;
+  guint64 marks[3], heard[6];
   GstH263RpsRecord *record;
 };
 

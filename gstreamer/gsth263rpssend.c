@@ -114,7 +114,7 @@ struct _GstH263RpsSend
   gint64 heard;                 /* when a message of the speaker was noted, in us */
   gboolean wants_intra;
   gint64 intra_at;              /* when an intra picture was asked for last, in us */
-  Counts counts;
+  Counts counts, begun;         /* ..and as the run began */
 };
 
 static GstStaticPadTemplate sink_template = GST_STATIC_PAD_TEMPLATE ("sink",
@@ -159,8 +159,9 @@ finish_run (GstH263RpsSend * self)
     g_mutex_lock (&self->lock);
     gst_h263rps_record_line (self->record, GST_H263RPS_RECORD_REPORT,
         "sent %" G_GUINT64_FORMAT " packets %" G_GUINT64_FORMAT " noted %" G_GUINT64_FORMAT
-        " old %" G_GUINT64_FORMAT " refused %" G_GUINT64_FORMAT, self->counts.coded,
-        self->counts.packets, self->counts.noted, self->counts.old, self->counts.malformed);
+        " old %" G_GUINT64_FORMAT " refused %" G_GUINT64_FORMAT, self->counts.coded - self->begun.coded,
+        self->counts.packets - self->begun.packets, self->counts.noted - self->begun.noted,
+        self->counts.old - self->begun.old, self->counts.malformed - self->begun.malformed);
     g_mutex_unlock (&self->lock);
   }
   if (self->end.kind)
@@ -259,6 +260,7 @@ begin_run (GstH263RpsSend * self)
   self->waiting_count = 0;
   self->has_speaker = FALSE;
   self->counts.runs++;
+  self->begun = self->counts;
   g_mutex_unlock (&self->lock);
   return TRUE;
 }
