@@ -797,7 +797,7 @@ static void
 end_task (GstH263RpsRecv * self, GstFlowReturn flow)
 {
   gst_pad_pause_task (self->srcpad);
-  if (flow != GST_FLOW_EOS && flow > GST_FLOW_NOT_LINKED)
+  if (flow == GST_FLOW_FLUSHING)
     return;
   if (flow != GST_FLOW_EOS)
     GST_ELEMENT_FLOW_ERROR (self, flow);

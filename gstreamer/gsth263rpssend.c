@@ -448,7 +448,7 @@ gst_h263rps_send_rtcp_chain (GstPad * pad, GstObject * parent, GstBuffer * buffe
   GstH263RpsSend *self = GST_H263RPS_SEND (parent);
   GstRTCPBuffer rtcp = GST_RTCP_BUFFER_INIT;
 
-  if (gst_rtcp_buffer_validate_reduced (buffer)
+  if (gst_buffer_get_size (buffer) > 0 && gst_rtcp_buffer_validate_reduced (buffer)
       && gst_rtcp_buffer_map (buffer, GST_MAP_READ, &rtcp)) {
     hear_packets (self, &rtcp);
     gst_rtcp_buffer_unmap (&rtcp);
