@@ -30,7 +30,8 @@ extern "C" {
  * many there can be at most: a camera that paused sent none.
  *
  * No picture was captured that is ahead of the receiver's clock by more than two seconds: a packet
- * that says so has no place, since everything up to its picture would be played for it. */
+ * that says so has no place, since everything up to its picture would be played for it. Neither has
+ * one of an older picture that says it was captured after the newest. */
 typedef struct h263rps_numbers {
     int64_t period;       /* pictures until a temporal reference comes again: 256 or 1,024 */
     int64_t rate, second; /* `rate` pictures in `second` seconds */
@@ -50,12 +51,12 @@ typedef struct h263rps_place {
 } h263rps_place;
 
 /* Begins with no packet. `clock` is that of the stream (enum h263rps_clock), and `rate` pictures
- * are sent in `second` seconds, both above 0: 30000 and 1001. */
+ * are sent in `second` seconds, both from 1 to 1,000,000: 30000 and 1001. */
 void h263rps_numbers_begin(h263rps_numbers *numbers, uint32_t clock, uint32_t rate, uint32_t second);
 
 /* Places a packet of the stream by its picture's temporal reference, and by the sequence number and
- * the timestamp of its RTP header; it came at `now`. Answers 1; or 0 where it is ahead of the
- * clock, and nothing changes but the newest sequence number's base if it is the first. */
+ * the timestamp of its RTP header; it came at `now`. Answers 1; or 0 where it has no place, and
+ * then `place` is left alone. */
 int h263rps_numbers_place(h263rps_numbers *numbers, uint32_t reference, uint16_t sequence,
                           uint32_t timestamp, int64_t now, h263rps_place *place);
 
@@ -71,7 +72,7 @@ int h263rps_numbers_place(h263rps_numbers *numbers, uint32_t reference, uint16_t
  * clock. A picture of which nothing came is due by its neighbours. None after the newest that came
  * is due: perhaps the camera paused, and there is no such picture yet. */
 typedef struct h263rps_playout {
-    int64_t period, wait;
+    int64_t rate, second, wait;
     /* the ways of the last half second that may still become the least, in the order of time */
     int64_t way_at[H263RPS_ARRIVALS], way[H263RPS_ARRIVALS];
     uint32_t first_way, ways;
@@ -87,7 +88,8 @@ typedef struct h263rps_playout {
     uint8_t known;                 /* whether there is one */
 } h263rps_playout;
 
-/* Begins with no arrival. `rate` pictures are captured in `second` seconds, both above 0. */
+/* Begins with no arrival. `rate` pictures are captured in `second` seconds, both from 1 to
+ * 1,000,000. */
 void h263rps_playout_begin(h263rps_playout *playout, uint32_t rate, uint32_t second, int64_t wait);
 
 /* A packet came at `now`, of this picture, which was captured then. */

@@ -27,6 +27,12 @@ static int64_t nearest(int64_t guess, int64_t reference, int64_t period) {
 /* `ticks` of 90 kHz in nanoseconds: each is 100,000 ninths. */
 static int64_t nanoseconds(int64_t ticks) { return ticks * (SECOND / 10000) / (TICKS / 10000); }
 
+/* The time of so many pictures, `rate` of them in `second` seconds. */
+static int64_t time_of(int64_t pictures, int64_t rate, int64_t second) {
+    int64_t parts = pictures * second;
+    return parts / rate * SECOND + parts % rate * SECOND / rate;
+}
+
 void h263rps_numbers_begin(h263rps_numbers *numbers, uint32_t clock, uint32_t rate,
                            uint32_t second) {
     memset(numbers, 0, sizeof *numbers);
@@ -53,7 +59,7 @@ static int64_t guess(const h263rps_numbers *numbers, int64_t ticks, int64_t ahea
  * the clock has gone on since, and a tenth more, costs nothing. */
 static int may_advance(h263rps_numbers *numbers, int64_t number, int64_t ticks, int64_t now) {
     int64_t time = nanoseconds(ticks - numbers->ticks);
-    int64_t by_number = (number - numbers->newest) * SECOND * numbers->second / numbers->rate;
+    int64_t by_number = time_of(number - numbers->newest, numbers->rate, numbers->second);
     int64_t allowed = (now - numbers->arrived) / 10 * 11, left;
     if (time < 0) return 0;
     left = least_of(SLACK, numbers->slack + allowed - most_of(by_number, time));
@@ -82,6 +88,8 @@ int h263rps_numbers_place(h263rps_numbers *numbers, uint32_t reference, uint16_t
         numbers->newest = number;
         numbers->ticks = ticks;
         numbers->arrived = now;
+    } else if (ticks > numbers->ticks) {
+        return 0;
     }
     if (ahead > 0) numbers->sequence = sequence;
     place->number = number;
@@ -104,7 +112,8 @@ static uint32_t in_ring(uint32_t first, uint32_t index, uint32_t size) {
 
 void h263rps_playout_begin(h263rps_playout *playout, uint32_t rate, uint32_t second, int64_t wait) {
     memset(playout, 0, sizeof *playout);
-    playout->period = SECOND * second / rate;
+    playout->rate = rate;
+    playout->second = second;
     playout->wait = wait;
     playout->newest = playout->before = -1;
 }
@@ -185,9 +194,10 @@ int h263rps_playout_due(const h263rps_playout *playout, int64_t picture, int64_t
     captured = playout->captured[place];
     if (playout->waiting[place] != picture) {
         int64_t after = playout->waiting[place];
+        int64_t rate = playout->rate, second = playout->second;
         captured = playout->before < 0
-            ? captured - (after - picture) * playout->period
-            : least_of(playout->before_time + (picture - playout->before) * playout->period,
+            ? captured - time_of(after - picture, rate, second)
+            : least_of(playout->before_time + time_of(picture - playout->before, rate, second),
                        captured);
     }
     *due = captured + playout->least + playout->wait;
