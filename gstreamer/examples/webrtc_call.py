@@ -11,31 +11,35 @@ from typing import Any, Callable, Optional
 import gi
 
 gi.require_version("Gst", "1.0")
+gi.require_version("GstSdp", "1.0")
 gi.require_version("GstWebRTC", "1.0")
-from gi.repository import GLib, Gst  # noqa: E402
+from gi.repository import GLib, Gst, GstSdp, GstWebRTC  # noqa: E402, F401
 
 CAPS = "video/x-raw,width=176,height=144,framerate=30/1"
 # A session delays feedback by its bandwidth (RFC 4585, 3.5): ten times the stream's is enough.
 BANDWIDTH = 4_300_000.0
+MARKS = ("exact", "patched", "held")
+# Keys are made at the start, which may take seconds.
+PATIENCE = 60
 
 
 class Party:
     """A camera, a screen, and a webrtcbin between them and the network."""
 
-    def __init__(self, pipeline: Gst.Pipeline, name: str, pictures: int, loss: float, sink: str) -> None:
+    def __init__(self, pipeline: Gst.Pipeline, name: str, sink: str) -> None:
         self.name, self._pipeline, self._sink = name, pipeline, sink
-        camera = f"videotestsrc is-live=true pattern=ball num-buffers={pictures} ! {CAPS}"
-        packets = "application/x-rtp,media=video,encoding-name=H263-2000,payload=96"
-        text = f"{camera} ! h263rpssend name=send-{name} ! {packets} ! netsim drop-probability={loss} ! " \
-            f"webrtcbin name=rtc-{name} bundle-policy=max-bundle latency=0"
-        part = Gst.parse_bin_from_description(text, False)
-        part.set_name(name)
-        pipeline.add(part)
-        self.send, self.rtc = part.get_by_name(f"send-{name}"), part.get_by_name(f"rtc-{name}")
+        self.send, self.rtc = pipeline.get_by_name(f"send-{name}"), pipeline.get_by_name(f"rtc-{name}")
         self.recv: Optional[Gst.Element] = None
-        self._part = part
         self._kept: list[Any] = []
         self.rtc.connect("pad-added", self._on_pad)
+
+    @staticmethod
+    def text(name: str, loss: float) -> str:
+        """The sending part of the pipeline. The receiving one is added when the other side's stream comes."""
+        camera = f"videotestsrc is-live=true pattern=ball ! {CAPS} ! h263rpssend name=send-{name}"
+        packets = "application/x-rtp,media=video,encoding-name=H263-2000,payload=96"
+        return f"{camera} ! {packets} ! netsim drop-probability={loss} ! " \
+            f"webrtcbin name=rtc-{name} bundle-policy=max-bundle latency=0 "
 
     def session(self) -> Any:
         """The inner session of this party's one stream."""
@@ -69,15 +73,20 @@ class Party:
         self.recv.set_property("session", self.session())
         screen = Gst.parse_bin_from_description(self._sink, True)
         for element in (self.recv, screen):
-            self._part.add(element)
+            self._pipeline.add(element)
         self.recv.link(screen)
-        for element in (screen, self.recv):
+        for element in (self.recv, screen):
             element.sync_state_with_parent()
         pad.link(self.recv.get_static_pad("sink"))
 
     def count(self, name: str) -> int:
         """A count of what this party shows."""
         return self.recv.get_property("stats").get_value(name) if self.recv else 0
+
+    @property
+    def shown(self) -> int:
+        """How many pictures this party has shown."""
+        return sum(map(self.count, MARKS))
 
 
 def connect(a: Party, b: Party) -> None:
@@ -94,14 +103,14 @@ def connect(a: Party, b: Party) -> None:
 
 def main(words: list[str]) -> int:
     parser = argparse.ArgumentParser(description=__doc__)
-    parser.add_argument("--pictures", type=int, default=300, help="that each side sends (300)")
+    parser.add_argument("--pictures", type=int, default=300, help="that each side shows (300)")
     parser.add_argument("--loss", type=float, default=0.0, help="the share of packets that is lost, each way (0)")
     parser.add_argument("--sink", default="videoconvert ! autovideosink", help="what shows the pictures")
     parser.add_argument("--sdp", action="store_true", help="print the offer")
     asked = parser.parse_args(words)
     Gst.init(None)
-    pipeline = Gst.Pipeline()
-    a, b = (Party(pipeline, name, asked.pictures, asked.loss, asked.sink) for name in "ab")
+    pipeline = Gst.parse_launch(" ".join(Party.text(name, asked.loss) for name in "ab"))
+    a, b = (Party(pipeline, name, asked.sink) for name in "ab")
     connect(a, b)
     loop = GLib.MainLoop()
     faults: list[str] = []
@@ -110,23 +119,26 @@ def main(words: list[str]) -> int:
         if message.type == Gst.MessageType.ERROR:
             faults.append(f"{message.src.get_name()}: {message.parse_error()[0].message}")
             loop.quit()
+        elif message.type == Gst.MessageType.LATENCY:
+            pipeline.recalculate_latency()
 
     bus = pipeline.get_bus()
     bus.add_signal_watch()
     bus.connect("message", on_message)
     pipeline.set_state(Gst.State.PLAYING)
-    GLib.timeout_add(round(1000 * asked.pictures / 30) + 4000, loop.quit)
+    GLib.timeout_add_seconds(PATIENCE + asked.pictures // 30, loop.quit)
+    GLib.timeout_add(100, lambda: loop.quit() if min(a.shown, b.shown) >= asked.pictures else True)
     loop.run()
     if asked.sdp:
         print(a.rtc.get_property("local-description").sdp.as_text(), end="")
     for party in (a, b):
         state = party.rtc.get_property("ice-connection-state").value_nick
-        marks = " ".join(f"{name} {party.count(name)}" for name in ("exact", "patched", "held"))
+        marks = " ".join(f"{name} {party.count(name)}" for name in MARKS)
         print(f"{party.name}: ice {state}, {marks}")
     pipeline.set_state(Gst.State.NULL)
     for fault in faults:
         print(fault, file=sys.stderr)
-    return 1 if faults else 0
+    return 1 if faults or min(a.shown, b.shown) < asked.pictures else 0
 
 
 if __name__ == "__main__":
