@@ -11,6 +11,7 @@ struct _GstH263RpsRecord
   gchar *names[GST_H263RPS_RECORD_FILES];
   FILE *files[GST_H263RPS_RECORD_FILES];
   FILE *times[GST_H263RPS_RECORD_FILES];
+  gint64 flushed;               /* in us */
 };
 
 static const struct
@@ -144,6 +145,24 @@ gst_h263rps_record_head (GstH263RpsRecord * record, gint width, gint height, gin
         width, height, fps_n, fps_d);
 }
 
+/* What is recorded outlives the process, whatever ends it. */
+static void
+flush_each_second (GstH263RpsRecord * record)
+{
+  gint64 now = g_get_monotonic_time ();
+  gint kind;
+
+  if (now - record->flushed < G_USEC_PER_SEC)
+    return;
+  record->flushed = now;
+  for (kind = 0; kind < GST_H263RPS_RECORD_FILES; kind++) {
+    if (record->files[kind])
+      fflush (record->files[kind]);
+    if (record->times[kind])
+      fflush (record->times[kind]);
+  }
+}
+
 /* A picture with its mark, in capitals, or without one. */
 void
 gst_h263rps_record_frame (GstH263RpsRecord * record, const gchar * mark, const guint8 * samples,
@@ -164,6 +183,7 @@ gst_h263rps_record_frame (GstH263RpsRecord * record, const gchar * mark, const g
   }
   fwrite (samples, 1, size, file);
   write_time (record, GST_H263RPS_RECORD_VIDEO, when);
+  flush_each_second (record);
 }
 
 void

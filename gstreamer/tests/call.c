@@ -17,7 +17,8 @@
  *   --intra                an intra picture is asked for at half time, from downstream
  *   --key HEX              30 bytes
  *   --shown FILE           the pictures that are shown, with no heads
- *   --captured FILE        those that are captured */
+ *   --captured FILE        those that are captured
+ *   --psnr                 the mean over the pictures of the camera, each beside what the screen has */
 #include <gst/gst.h>
 #include <gst/video/video.h>
 #include <math.h>
@@ -38,7 +39,7 @@ typedef struct
 
 static gdouble loss = 0, burst = 1;
 static gint seed = 1, cycles = 1, bitrate = 0;
-static gboolean by_session, is_flushed, asks_intra;
+static gboolean by_session, is_flushed, asks_intra, by_psnr;
 static gchar *new_caps, *key, *shown_name, *captured_name;
 
 static GOptionEntry options[] = {
@@ -54,6 +55,7 @@ static GOptionEntry options[] = {
   {"key", 0, 0, G_OPTION_ARG_STRING, &key, NULL, NULL},
   {"shown", 0, 0, G_OPTION_ARG_STRING, &shown_name, NULL, NULL},
   {"captured", 0, 0, G_OPTION_ARG_STRING, &captured_name, NULL, NULL},
+  {"psnr", 0, 0, G_OPTION_ARG_NONE, &by_psnr, NULL, NULL},
   {NULL}
 };
 
@@ -62,13 +64,12 @@ typedef struct
 {
   gint64 captured, played;
   guint wanted, shown;
-  gdouble error;
+  guint8 *camera, *screen;
   gboolean is_captured, is_wanted, is_shown;
 } Picture;
 
 static Picture pictures[MOST];
-static guint8 *kept[MOST];
-static gsize kept_size;
+static gsize size;
 static guint captures, marks[3], run, longest, others;
 static GstClockTime first_capture = GST_CLOCK_TIME_NONE, period;
 static FILE *shown, *captured;
@@ -111,33 +112,38 @@ sum_of (GstBuffer * buffer)
   return sum;
 }
 
-static gdouble
-error_of (GstBuffer * buffer, guint number)
+static guint8 *
+copy_of (GstBuffer * buffer)
 {
-  GstMapInfo map;
-  gdouble error = 0;
-  gsize i;
+  guint8 *copy = g_malloc0 (size);
 
-  gst_buffer_map (buffer, &map, GST_MAP_READ);
-  for (i = 0; kept[number] && i < MIN (map.size, kept_size); i++) {
-    gint off = (gint) map.data[i] - kept[number][i];
-
-    error += off * off;
-  }
-  gst_buffer_unmap (buffer, &map);
-  return error;
+  gst_buffer_extract (buffer, 0, copy, size);
+  return copy;
 }
 
-/* Which picture a buffer is by its time: those of the capture go through the pipeline. */
+/* Which picture a buffer is by its running time: that of the capture goes through the pipeline. */
 static guint
-number_of (GstBuffer * buffer)
+number_of (GstPad * pad, GstBuffer * buffer)
 {
-  GstClockTime pts = GST_BUFFER_PTS (buffer);
+  GstEvent *event = gst_pad_get_sticky_event (pad, GST_EVENT_SEGMENT, 0);
+  GstClockTime at = GST_BUFFER_PTS (buffer);
+  const GstSegment *segment;
 
-  if (!GST_CLOCK_TIME_IS_VALID (pts) || !GST_CLOCK_TIME_IS_VALID (first_capture)
-      || pts + period / 2 < first_capture)
+  if (event) {
+    gst_event_parse_segment (event, &segment);
+    at = gst_segment_to_running_time (segment, GST_FORMAT_TIME, at);
+    gst_event_unref (event);
+  }
+  if (!GST_CLOCK_TIME_IS_VALID (at))
     return MOST;
-  return (pts + period / 2 - first_capture) / period;
+  if (!GST_CLOCK_TIME_IS_VALID (first_capture)) {
+    first_capture = at;
+    period = GST_BUFFER_DURATION (buffer);
+    size = gst_buffer_get_size (buffer);
+  }
+  if (at + period / 2 < first_capture)
+    return MOST;
+  return MIN ((at + period / 2 - first_capture) / period, MOST);
 }
 
 static GstPadProbeReturn
@@ -147,20 +153,13 @@ on_capture (GstPad * pad, GstPadProbeInfo * info, gpointer data)
   guint number;
 
   g_mutex_lock (&lock);
-  if (!GST_CLOCK_TIME_IS_VALID (first_capture)) {
-    first_capture = GST_BUFFER_PTS (buffer);
-    period = GST_BUFFER_DURATION (buffer);
-    kept_size = gst_buffer_get_size (buffer);
-  }
-  number = number_of (buffer);
+  number = number_of (pad, buffer);
   captures++;
   if (number < MOST) {
     pictures[number].captured = g_get_monotonic_time ();
     pictures[number].is_captured = TRUE;
-    if (data) {
-      kept[number] = g_malloc (kept_size);
-      gst_buffer_extract (buffer, 0, kept[number], kept_size);
-    }
+    if (by_psnr && !pictures[number].camera)
+      pictures[number].camera = copy_of (buffer);
   }
   write_buffer (captured, buffer);
   g_mutex_unlock (&lock);
@@ -174,7 +173,7 @@ on_wanted (GstPad * pad, GstPadProbeInfo * info, gpointer data)
   guint number;
 
   g_mutex_lock (&lock);
-  number = number_of (buffer);
+  number = number_of (pad, buffer);
   if (number < MOST) {
     pictures[number].wanted = sum_of (buffer);
     pictures[number].is_wanted = TRUE;
@@ -201,7 +200,7 @@ on_shown (GstPad * pad, GstPadProbeInfo * info, gpointer data)
   guint number;
 
   g_mutex_lock (&lock);
-  number = number_of (buffer);
+  number = number_of (pad, buffer);
   if (meta) {
     GstStructure *structure = gst_custom_meta_get_structure (meta);
     gboolean is_exact = g_str_equal (gst_structure_get_string (structure, "mark"), "exact");
@@ -213,7 +212,8 @@ on_shown (GstPad * pad, GstPadProbeInfo * info, gpointer data)
   if (number < MOST) {
     pictures[number].played = g_get_monotonic_time ();
     pictures[number].shown = data ? sum_of (buffer) : 0;
-    pictures[number].error = data ? error_of (buffer, number) : 0;
+    if (by_psnr && !pictures[number].screen)
+      pictures[number].screen = copy_of (buffer);
     pictures[number].is_shown = TRUE;
   }
   write_buffer (shown, buffer);
@@ -429,44 +429,64 @@ by_size (const void *one, const void *other)
   return (a > b) - (a < b);
 }
 
-/* The times from capture to play, and where the coder's pictures are known, how many are shown. */
+/* The times from capture to play. */
 static void
-tell_pictures (gboolean has_wanted)
+tell_ways (void)
 {
   static gdouble ways[MOST];
-  guint count = 0, exact = 0, freeze = 0, worst = 0, number, last = 0, wanted = 0;
-  gdouble error = 0, held = 0;
+  guint count = 0, number;
 
   for (number = 0; number < MOST; number++) {
-    if (pictures[number].is_captured)
-      last = number;
     if (pictures[number].is_captured && pictures[number].is_shown)
       ways[count++] = (pictures[number].played - pictures[number].captured) / 1000.0;
   }
-  if (count > 0) {
-    qsort (ways, count, sizeof *ways, by_size);
-    printf ("way.least %.2f\nway.median %.2f\nway.99 %.2f\nway.most %.2f\n", ways[0],
-        ways[count / 2], ways[count * 99 / 100], ways[count - 1]);
-  }
-  if (!has_wanted)
+  if (count == 0)
     return;
-  for (number = 0; number <= last; number++) {
+  qsort (ways, count, sizeof *ways, by_size);
+  printf ("way.least %.2f\nway.median %.2f\nway.99 %.2f\nway.most %.2f\n", ways[0],
+      ways[count / 2], ways[count * 99 / 100], ways[count - 1]);
+}
+
+/* How many of the coder's pictures are shown as it has them, and the longest row of others. */
+static void
+tell_equal (void)
+{
+  guint equal = 0, row = 0, most = 0, wanted = 0, number;
+
+  for (number = 0; number < MOST; number++) {
     const Picture *it = &pictures[number];
-    gboolean is_exact = it->is_wanted && it->is_shown && it->shown == it->wanted;
 
     if (!it->is_wanted)
       continue;
     wanted++;
-    exact += is_exact;
-    freeze = is_exact ? 0 : freeze + 1;
-    worst = MAX (worst, freeze);
-    if (it->is_shown)
-      held = it->error;
-    error += held;
+    row = it->is_shown && it->shown == it->wanted ? 0 : row + 1;
+    equal += row == 0;
+    most = MAX (most, row);
   }
-  printf ("wanted %u\nequal %u\nlongest.unequal %u\n", wanted, exact, worst);
-  if (wanted)
-    printf ("psnr %.2f\n", error > 0 ? 10 * log10 (255.0 * 255 * kept_size * wanted / error) : 99);
+  printf ("wanted %u\nequal %u\nlongest.unequal %u\n", wanted, equal, most);
+}
+
+static void
+tell_psnr (void)
+{
+  const guint8 *screen = NULL;
+  gdouble error = 0;
+  guint number, count = 0;
+  gsize i;
+
+  for (number = 0; number < MOST; number++) {
+    const guint8 *camera = pictures[number].camera;
+
+    if (pictures[number].screen)
+      screen = pictures[number].screen;
+    if (!camera || !screen)
+      continue;
+    count++;
+    for (i = 0; i < size; i++)
+      error += (camera[i] - screen[i]) * (camera[i] - screen[i]);
+  }
+  if (count > 0)
+    printf ("psnr %.2f\n", error > 0 ? 10 * log10 (255.0 * 255 * size * count / error) : 99.0);
 }
 
 static void
@@ -484,7 +504,10 @@ tell (gdouble wall, gboolean has_wanted)
       G_GUINT64_FORMAT "\n", line.passed, line.lost, line.bytes);
   printf ("back.passed %" G_GUINT64_FORMAT "\nback.lost %" G_GUINT64_FORMAT "\n", back.passed,
       back.lost);
-  tell_pictures (has_wanted);
+  tell_ways ();
+  if (has_wanted)
+    tell_equal ();
+  tell_psnr ();
   printf ("processor %.3f\nseconds %.3f\npeak %ld\n",
       used.ru_utime.tv_sec + used.ru_stime.tv_sec + (used.ru_utime.tv_usec +
           used.ru_stime.tv_usec) / 1e6, wall, used.ru_maxrss);
@@ -543,7 +566,7 @@ main (int argc, char **argv)
   captured = captured_name ? fopen (captured_name, "wb") : NULL;
 
   has_wanted = hook ("wanted", "src", on_wanted, NULL);
-  hook ("send", "sink", on_capture, has_wanted ? &pictures : NULL);
+  hook ("send", "sink", on_capture, NULL);
   hook ("recv", "src", on_shown, has_wanted ? &pictures : NULL);
   hook_line (&line, "line");
   seed++;
@@ -570,7 +593,7 @@ main (int argc, char **argv)
   g_rand_free (line.rand);
   g_rand_free (back.rand);
   for (i = 0; i < MOST; i++)
-    g_free (kept[i]);
+    g_free (pictures[i].camera), g_free (pictures[i].screen);
   if (shown)
     fclose (shown);
   if (captured)
