@@ -18,10 +18,6 @@ G_BEGIN_DECLS
     "application/x-rtp, media = (string) video, clock-rate = (int) 90000, " \
     "encoding-name = (string) H263-2000"
 
-/* The one payload type and the one SSRC of the library's own packets. */
-#define GST_H263RPS_LIBRARY_PT 96
-#define GST_H263RPS_LIBRARY_SSRC "H263"
-
 /* While a speaker or a stream was heard this lately (in ns), no other counts. */
 #define GST_H263RPS_SILENT (GST_SECOND / 2)
 
@@ -46,6 +42,9 @@ struct _GstH263RpsStart
 G_GNUC_INTERNAL
 gboolean      gst_h263rps_start_read     (GstH263RpsStart * start, const guint8 * payload,
                                           gsize length);
+
+G_GNUC_INTERNAL
+void          gst_h263rps_label_packet   (guint8 * packet);
 
 G_GNUC_INTERNAL
 guint         gst_h263rps_format_of_size (gint width, gint height);

@@ -672,8 +672,29 @@ follow (GstH263RpsRecv * self, const GstH263RpsArrival * arrival, GstClockTime n
 
 /* ---- packets ---- */
 
+/* What a packet says of its picture, whatever its payload type and SSRC are. */
 static gboolean
-read_arrival (GstH263RpsArrival * arrival, GstBuffer * buffer)
+read_start (GstH263RpsRecv * self, GstH263RpsStart * start, GstBuffer * buffer, GstRTPBuffer * rtp)
+{
+#ifdef H263RPS_VERSION
+  gsize length = gst_buffer_extract (buffer, 0, self->room, ROOM);
+  h263rps_start told;
+
+  gst_h263rps_label_packet (self->room);
+  if (h263rps_packet_start (self->room, length, &told) != H263RPS_OK)
+    return FALSE;
+  start->format = told.format;
+  start->clock = told.clock;
+  start->temporal_reference = told.temporal_reference;
+  return TRUE;
+#else
+  return gst_h263rps_start_read (start, gst_rtp_buffer_get_payload (rtp),
+      gst_rtp_buffer_get_payload_len (rtp));
+#endif
+}
+
+static gboolean
+read_arrival (GstH263RpsRecv * self, GstH263RpsArrival * arrival, GstBuffer * buffer)
 {
   GstRTPBuffer rtp = GST_RTP_BUFFER_INIT;
   gboolean is_read;
@@ -685,8 +706,7 @@ read_arrival (GstH263RpsArrival * arrival, GstBuffer * buffer)
   arrival->sequence = gst_rtp_buffer_get_seq (&rtp);
   arrival->timestamp = gst_rtp_buffer_get_timestamp (&rtp);
   arrival->pt = gst_rtp_buffer_get_payload_type (&rtp);
-  is_read = gst_h263rps_start_read (&arrival->start, gst_rtp_buffer_get_payload (&rtp),
-      gst_rtp_buffer_get_payload_len (&rtp));
+  is_read = read_start (self, &arrival->start, buffer, &rtp);
   gst_rtp_buffer_unmap (&rtp);
   return is_read;
 }
@@ -697,7 +717,6 @@ gst_h263rps_recv_chain (GstPad * pad, GstObject * parent, GstBuffer * buffer)
   GstH263RpsRecv *self = GST_H263RPS_RECV (parent);
   GstFlowReturn flow = GST_FLOW_OK;
   GstH263RpsArrival arrival;
-  gboolean is_read = read_arrival (&arrival, buffer);
   /* The time here, and not the buffer's: what was held up before is late all the same. */
   GstClockTime now = clock_time (self);
 
@@ -710,7 +729,7 @@ gst_h263rps_recv_chain (GstPad * pad, GstObject * parent, GstBuffer * buffer)
     self->counts.paused++;
   else if (!gst_h263rps_allowance_takes (&self->allowance, now))
     self->counts.too_fast++;
-  else if (!is_read)
+  else if (!read_arrival (self, &arrival, buffer))
     self->counts.malformed++;
   else if (self->caps_pt && arrival.pt != self->caps_pt)
     self->counts.other_payload_type++;

@@ -1,7 +1,5 @@
 #include "gsth263rpsrun.h"
 
-#include <string.h>
-
 /* Pictures that are open before the first one that came, for packets out of order at the start. */
 #define BEFORE 2
 /* After this many packets in a row, over this time, of pictures that were played, a run is lost. */
@@ -116,8 +114,7 @@ void
 gst_h263rps_run_hear (GstH263RpsRun * run, guint8 * bytes, gsize length, h263rps_answer * answer,
     GstClockTime when)
 {
-  bytes[1] = (bytes[1] & 0x80) | GST_H263RPS_LIBRARY_PT;
-  memcpy (bytes + 8, GST_H263RPS_LIBRARY_SSRC, 4);
+  gst_h263rps_label_packet (bytes);
   h263rps_receiver_packet (&run->end, bytes, length, answer);
   run->heard[answer->kind]++;
   gst_h263rps_record_entry (run->record, GST_H263RPS_RECORD_LOG, 'K', bytes, length, when);
