@@ -60,6 +60,8 @@ GST_DEBUG_CATEGORY_STATIC (h263rpsrecv_debug);
 #define MOST_OUT 8
 /* Messages that wait to be said; a further one is dropped. */
 #define MOST_PENDING 256
+/* Runs that are recorded: strangers may begin runs, and mustn't fill a disk. */
+#define MOST_RECORDED 16
 /* The longest packet of UDP. */
 #define ROOM 65536
 /* A picture is 12:11, as those of H.263 are. */
@@ -463,8 +465,10 @@ begin_record (GstH263RpsRecv * self, GstH263RpsRun * run, const GstH263RpsArriva
   GST_OBJECT_LOCK (self);
   folder = g_strdup (self->record_location);
   GST_OBJECT_UNLOCK (self);
-  if (!folder)
+  if (!folder || self->recorded == MOST_RECORDED) {
+    g_free (folder);
     return;
+  }
   run->record = gst_h263rps_record_new (folder, "recv", ++self->recorded, &error);
   g_free (folder);
   if (!run->record) {
@@ -527,6 +531,14 @@ static void
 end_trial (GstH263RpsRecv * self)
 {
   g_clear_pointer (&self->trial, gst_h263rps_run_free);
+}
+
+static void
+forget_streams (GstH263RpsRecv * self)
+{
+  end_trial (self);
+  g_clear_pointer (&self->run, gst_h263rps_run_free);
+  gst_h263rps_probation_clear (&self->probation);
 }
 
 static void
@@ -601,9 +613,8 @@ begin_anew (GstH263RpsRecv * self, const GstH263RpsArrival * arrival, GstClockTi
 static gboolean
 take_followed (GstH263RpsRecv * self, const GstH263RpsArrival * arrival, GstClockTime now)
 {
-  if (self->is_clock_new || now - self->last > LOST || gst_h263rps_run_is_lost (self->run, now))
+  if (now - self->last > LOST || gst_h263rps_run_is_lost (self->run, now))
     begin_anew (self, arrival, now);
-  self->is_clock_new = FALSE;
   if (arrival->start.format != self->run->params.format
       || arrival->start.clock != self->run->params.clock) {
     self->counts.other_format++;
@@ -648,6 +659,10 @@ follow (GstH263RpsRecv * self, const GstH263RpsArrival * arrival, GstClockTime n
   GstH263RpsArrival came[GST_H263RPS_PROBATION];
   guint i;
 
+  /* Times on another clock tell nothing of those before. */
+  if (self->is_clock_new)
+    forget_streams (self);
+  self->is_clock_new = FALSE;
   if (self->run && self->run->ssrc == arrival->ssrc && take_followed (self, arrival, now))
     return;
   if (self->trial && self->trial->ssrc == arrival->ssrc
@@ -873,14 +888,6 @@ stop_waiting (GstH263RpsRecv * self)
   self->is_flushing = TRUE;
   wake (self);
   g_mutex_unlock (&self->lock);
-}
-
-static void
-forget_streams (GstH263RpsRecv * self)
-{
-  end_trial (self);
-  g_clear_pointer (&self->run, gst_h263rps_run_free);
-  gst_h263rps_probation_clear (&self->probation);
 }
 
 /* As before the first packet, but for the counts. */

@@ -304,18 +304,19 @@ on_time (gpointer data)
   return G_SOURCE_REMOVE;
 }
 
+/* The source before the receiver flushes. The time goes on: the camera is in the same pipeline. */
 static void
 flush_receiver (void)
 {
   GstElement *element = named ("recv");
-  GstPad *pad = gst_element_get_static_pad (element, "sink");
-  GstSegment segment;
+  GstPad *pad = gst_element_get_static_pad (element, "sink"), *peer = gst_pad_get_peer (pad);
+  GstElement *source = gst_pad_get_parent_element (peer);
 
-  gst_pad_send_event (pad, gst_event_new_flush_start ());
+  gst_element_send_event (source, gst_event_new_flush_start ());
   g_usleep (50000);
-  gst_pad_send_event (pad, gst_event_new_flush_stop (TRUE));
-  gst_segment_init (&segment, GST_FORMAT_TIME);
-  gst_pad_send_event (pad, gst_event_new_segment (&segment));
+  gst_element_send_event (source, gst_event_new_flush_stop (FALSE));
+  gst_object_unref (source);
+  gst_object_unref (peer);
   gst_object_unref (pad);
   gst_object_unref (element);
 }
