@@ -26,7 +26,8 @@ class Numbers:
     numbers how many there can be at most: a camera that paused sent none.
 
     No picture was captured that is ahead of the clock: a packet that says so has no place, since
-    everything up to its picture would be played for it.
+    everything up to its picture would be played for it. Neither has one of an older picture that says it was captured
+    after the newest: nothing would be played until then.
     """
 
     def __init__(self, period: int, rate: float) -> None:
@@ -42,7 +43,7 @@ class Numbers:
         self, reference: int, sequence: int, timestamp: int, now: float
     ) -> Optional[tuple[int, float]]:
         """The packet's picture, and its time of capture in seconds from the first one's; None where it is ahead of
-        the clock."""
+        the clock, or out of order."""
         if self._first_stamp is None:
             self._first_stamp, self._sequence = timestamp, sequence
             self.newest, self._arrived = reference, now
@@ -54,6 +55,8 @@ class Numbers:
             if not self._may_advance(number, stamp, now):
                 return None
             self.newest, self._stamp, self._arrived = number, stamp, now
+        elif stamp > self._stamp:
+            return None
         self._sequence += max(ahead, 0)
         return number, stamp / CLOCK
 

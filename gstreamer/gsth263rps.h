@@ -1,0 +1,63 @@
+/* What both elements share: formats, the meta on shown pictures, and what a packet says of its
+ * picture. */
+#ifndef __GST_H263RPS_H__
+#define __GST_H263RPS_H__
+
+#include <gst/gst.h>
+
+#include "h263rps.h"
+
+G_BEGIN_DECLS
+
+/* The name under which the meta of a shown picture is registered (gst_meta_register_custom). Its
+ * structure has "mark" (a string: exact, patched or held), "number" (guint, the picture's number in
+ * its stream) and "ssrc" (guint, its stream). */
+#define GST_H263RPS_META_NAME "GstH263RpsMeta"
+
+#define GST_H263RPS_RTP_CAPS \
+    "application/x-rtp, media = (string) video, clock-rate = (int) 90000, " \
+    "encoding-name = (string) H263-2000"
+
+/* While a speaker or a stream was heard this lately (in ns), no other counts. */
+#define GST_H263RPS_SILENT (GST_SECOND / 2)
+
+typedef struct _GstH263RpsStart GstH263RpsStart;
+
+/**
+ * GstH263RpsStart:
+ * @format: enum h263rps_format
+ * @clock: enum h263rps_clock
+ * @temporal_reference: of 8 bits, or of 10 with the custom clock
+ *
+ * What each packet says of its picture, in the picture header or in the extra one before a later
+ * slice (RFC 4629, 5.1).
+ */
+struct _GstH263RpsStart
+{
+  guint format;
+  guint clock;
+  guint temporal_reference;
+};
+
+G_GNUC_INTERNAL
+gboolean      gst_h263rps_start_read     (GstH263RpsStart * start, const guint8 * payload,
+                                          gsize length);
+
+G_GNUC_INTERNAL
+void          gst_h263rps_label_packet   (guint8 * packet);
+
+G_GNUC_INTERNAL
+guint         gst_h263rps_format_of_size (gint width, gint height);
+
+G_GNUC_INTERNAL
+void          gst_h263rps_size_of_format (guint format, gint * width, gint * height);
+
+G_GNUC_INTERNAL
+const gchar * gst_h263rps_format_name    (guint format);
+
+G_GNUC_INTERNAL
+const gchar * gst_h263rps_mark_name      (guint mark);
+
+G_END_DECLS
+
+#endif

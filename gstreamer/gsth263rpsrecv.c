@@ -1,0 +1,1457 @@
+/**
+ * SECTION:element-h263rpsrecv
+ * @title: h263rpsrecv
+ * @see_also: h263rpssend
+ *
+ * Hears the RTP packets of #GstH263RpsSend as they come, and gives a picture at each picture's
+ * time: the sender's own (exact), one with what arrived (patched), or the one before (held).
+ *
+ * It is jitter buffer, depayloader and decoder in one. Packets are decoded and acknowledged on
+ * arrival, and wait as pictures; so no rtpjitterbuffer belongs before it, but srtpdec, rtpsession
+ * or the network itself. Each message goes out at the pad rtcp_src, or by the session of
+ * #GstH263RpsRecv:session.
+ *
+ * Each buffer has the custom meta GstH263RpsMeta, whose structure has "mark" (exact, patched or
+ * held), "number" and "ssrc"; one that isn't exact has the flag %GST_BUFFER_FLAG_CORRUPTED.
+ *
+ * One stream is followed while pictures of it become complete. Half a second after the last one
+ * another is tried in a run of its own, once three of its packets came, and followed from its first
+ * complete picture on. What doesn't count costs a count, and no more.
+ *
+ * ## Example launch line
+ * |[
+ * gst-launch-1.0 udpsrc port=5004 \
+ *     caps="application/x-rtp,media=video,clock-rate=90000,encoding-name=H263-2000,payload=96" \
+ *     ! h263rpsrecv name=r ! videoconvert ! autovideosink \
+ *     r.rtcp_src ! udpsink host=192.0.2.6 port=5005 sync=false async=false
+ * ]| Shows what comes on port 5004, and answers to port 5005 of the other side.
+ */
+#ifdef HAVE_CONFIG_H
+#include "config.h"
+#endif
+
+#include "gsth263rpsrecv.h"
+
+#include <gst/rtp/rtp.h>
+#include <gst/video/video.h>
+#include <stdlib.h>
+#include <string.h>
+
+#include "gsth263rpsrtcp.h"
+#include "gsth263rpsrun.h"
+
+GST_DEBUG_CATEGORY_STATIC (h263rpsrecv_debug);
+#define GST_CAT_DEFAULT h263rpsrecv_debug
+
+#define DEFAULT_LATENCY 100
+#define DEFAULT_SLOTS 39
+#define DEFAULT_LEAD 6
+#define DEFAULT_MESSAGES 1
+/* As that of a payloader: one that is drawn at random. */
+#define DEFAULT_SSRC G_MAXUINT32
+
+/* Another stream that is tried has this long for its first complete picture. */
+#define TRIAL GST_SECOND
+/* After this much silence the run begins anew: numbers can't be told any more. */
+#define LOST (30 * GST_SECOND)
+/* An intra picture is asked for at most this often. */
+#define ASK_INTERVAL (GST_SECOND / 2)
+/* Pictures that wait for what comes after; of more, the oldest is dropped. */
+#define MOST_OUT 8
+/* Messages that wait to be said; a further one is dropped. */
+#define MOST_PENDING 256
+/* Runs that are recorded: strangers may begin runs, and mustn't fill a disk. */
+#define MOST_RECORDED 16
+/* The longest packet of UDP. */
+#define ROOM 65536
+/* A picture is 12:11, as those of H.263 are. */
+#define PAR_N 12
+#define PAR_D 11
+
+enum
+{
+  PROP_0,
+  PROP_LATENCY,
+  PROP_SLOTS,
+  PROP_LEAD,
+  PROP_MESSAGES,
+  PROP_SSRC,
+  PROP_SESSION,
+  PROP_RECORD_LOCATION,
+  PROP_STATS
+};
+
+/* What waits to be said: a message, or with a length of 0 that an intra picture is wanted. */
+typedef struct
+{
+  h263rps_message message;
+  guint32 about;
+  guint pt;
+} Pending;
+
+typedef struct
+{
+  guint64 marks[3], heard[6], unshown;
+  guint64 malformed, other_payload_type, other_format, other_source, ahead, too_fast, paused;
+  guint64 said, session_refused, dropped_messages, intra_asked, runs, trials;
+} Counts;
+
+struct _GstH263RpsRecv
+{
+  GstElement parent;
+
+  GstPad *sinkpad, *srcpad, *rtcp_srcpad;
+
+  /* properties, under the object's lock */
+  guint latency, slots, lead, messages, ssrc;
+  gchar *record_location;
+  GObject *session;
+  gulong session_handler;
+
+  /* all below is under this lock */
+  GMutex lock;
+  GCond cond;
+  gboolean is_flushing, is_playing, is_eos, is_clock_new;
+  GstClockID clock_id;
+
+  /* from the caps of the packets; 0 where they don't say */
+  guint caps_slots, caps_lead, caps_pt;
+  gint fps_n, fps_d;
+
+  /* the stream that is followed, the one that is tried, and those that might be */
+  GstH263RpsRun *run, *trial;
+  GstClockTime trial_began, last, complete;
+  GstH263RpsProbation probation;
+  GstH263RpsAllowance allowance;
+  guint8 *room;
+  guint recorded;
+
+  /* pictures, with new caps before them, for the task */
+  GQueue out;
+  GstCaps *new_caps;
+  gboolean needs_stream_start, needs_segment;
+  GstClockTime earliest;        /* by QoS: a picture before it would come too late, or NONE */
+
+  /* what is to be said, and what the session will take */
+  Pending pending[MOST_PENDING];
+  guint pending_count;
+  GQueue session_queue;
+  guint32 own_ssrc;
+  GstClockTime asked;
+  gboolean has_asked;
+
+  Counts counts;
+
+  GMutex rtcp_lock;             /* one push at a time on rtcp_src */
+  gboolean is_rtcp_begun;
+};
+
+static GstStaticPadTemplate sink_template = GST_STATIC_PAD_TEMPLATE ("sink",
+    GST_PAD_SINK,
+    GST_PAD_ALWAYS,
+    GST_STATIC_CAPS (GST_H263RPS_RTP_CAPS)
+    );
+
+static GstStaticPadTemplate src_template = GST_STATIC_PAD_TEMPLATE ("src",
+    GST_PAD_SRC,
+    GST_PAD_ALWAYS,
+    GST_STATIC_CAPS ("video/x-raw, format = (string) I420, "
+        "width = (int) 128, height = (int) 96, framerate = (fraction) [ 1/1, 120/1 ]; "
+        "video/x-raw, format = (string) I420, "
+        "width = (int) 176, height = (int) 144, framerate = (fraction) [ 1/1, 120/1 ]; "
+        "video/x-raw, format = (string) I420, "
+        "width = (int) 352, height = (int) 288, framerate = (fraction) [ 1/1, 120/1 ]")
+    );
+
+static GstStaticPadTemplate rtcp_src_template = GST_STATIC_PAD_TEMPLATE ("rtcp_src",
+    GST_PAD_SRC,
+    GST_PAD_ALWAYS,
+    GST_STATIC_CAPS ("application/x-rtcp")
+    );
+
+#define gst_h263rps_recv_parent_class parent_class
+G_DEFINE_TYPE (GstH263RpsRecv, gst_h263rps_recv, GST_TYPE_ELEMENT);
+GST_ELEMENT_REGISTER_DEFINE (h263rpsrecv, "h263rpsrecv", GST_RANK_NONE, GST_TYPE_H263RPS_RECV);
+
+/* ---- the clock ---- */
+
+/* The time on the element's clock; the system's where it has none yet. */
+static GstClockTime
+clock_time (GstH263RpsRecv * self)
+{
+  GstClock *clock = gst_element_get_clock (GST_ELEMENT (self));
+  GstClockTime now;
+
+  if (!clock)
+    clock = gst_system_clock_obtain ();
+  now = gst_clock_get_time (clock);
+  gst_object_unref (clock);
+  return now;
+}
+
+static GstClockTime
+running_time_of (GstH263RpsRecv * self, GstClockTime when)
+{
+  GstClockTime base = gst_element_get_base_time (GST_ELEMENT (self));
+
+  return GST_CLOCK_TIME_IS_VALID (base) && when > base ? when - base : 0;
+}
+
+/* Under the lock: whoever waits looks again. */
+static void
+wake (GstH263RpsRecv * self)
+{
+  g_cond_broadcast (&self->cond);
+  if (self->clock_id)
+    gst_clock_id_unschedule (self->clock_id);
+}
+
+/* ---- messages ---- */
+
+/* Under the lock: a message that is to be said once it is left. */
+static void
+note_message (GstH263RpsRecv * self, const GstH263RpsRun * run, const h263rps_message * message)
+{
+  Pending *pending;
+
+  if (self->pending_count == MOST_PENDING) {
+    self->counts.dropped_messages++;
+    return;
+  }
+  pending = &self->pending[self->pending_count++];
+  pending->message = *message;
+  pending->about = run->ssrc;
+  pending->pt = run->pt;
+}
+
+/* Under the lock: an intra picture is wanted, as of a stream that was joined. */
+static void
+note_intra (GstH263RpsRecv * self, const GstH263RpsRun * run, GstClockTime now)
+{
+  const h263rps_message none = { {0}, 0 };
+
+  if (self->has_asked && now - self->asked < ASK_INTERVAL)
+    return;
+  self->has_asked = TRUE;
+  self->asked = now;
+  self->counts.intra_asked++;
+  note_message (self, run, &none);
+}
+
+static void
+begin_rtcp (GstH263RpsRecv * self)
+{
+  GstSegment segment;
+  GstCaps *caps = gst_caps_new_empty_simple ("application/x-rtcp");
+  gchar *id = gst_pad_create_stream_id (self->rtcp_srcpad, GST_ELEMENT (self), "rtcp");
+
+  gst_segment_init (&segment, GST_FORMAT_TIME);
+  gst_pad_push_event (self->rtcp_srcpad, gst_event_new_stream_start (id));
+  gst_pad_push_event (self->rtcp_srcpad, gst_event_new_caps (caps));
+  gst_pad_push_event (self->rtcp_srcpad, gst_event_new_segment (&segment));
+  gst_caps_unref (caps);
+  g_free (id);
+  self->is_rtcp_begun = TRUE;
+}
+
+static void
+push_rtcp (GstH263RpsRecv * self, const Pending * pending)
+{
+  GstBuffer *buffer;
+
+  if (!gst_pad_is_linked (self->rtcp_srcpad))
+    return;
+  buffer = pending->message.length == 0
+      ? gst_h263rps_rtcp_new_pli (self->own_ssrc, pending->about)
+      : gst_h263rps_rtcp_new_rpsi (self->own_ssrc, pending->about, pending->pt, &pending->message);
+  g_mutex_lock (&self->rtcp_lock);
+  if (!self->is_rtcp_begun)
+    begin_rtcp (self);
+  gst_pad_push (self->rtcp_srcpad, buffer);
+  g_mutex_unlock (&self->rtcp_lock);
+}
+
+/* The session sends what waits when its rules on early feedback allow it (RFC 4585, 3.5). */
+static void
+tell_session (GstH263RpsRecv * self, GObject * session, const Pending * pending)
+{
+  gboolean is_taken = FALSE;
+
+  if (pending->message.length == 0) {
+    gst_pad_push_event (self->sinkpad,
+        gst_video_event_new_upstream_force_key_unit (GST_CLOCK_TIME_NONE, FALSE, 0));
+    return;
+  }
+  g_mutex_lock (&self->lock);
+  if (g_queue_get_length (&self->session_queue) == MOST_PENDING) {
+    g_free (g_queue_pop_head (&self->session_queue));
+    self->counts.dropped_messages++;
+  }
+  g_queue_push_tail (&self->session_queue, g_memdup2 (pending, sizeof *pending));
+  g_mutex_unlock (&self->lock);
+
+  g_signal_emit_by_name (session, "send-rtcp-full", (guint64) 0, &is_taken);
+  if (!is_taken) {
+    g_mutex_lock (&self->lock);
+    self->counts.session_refused++;
+    g_mutex_unlock (&self->lock);
+  }
+}
+
+/* Without the lock. */
+static void
+say_pending (GstH263RpsRecv * self)
+{
+  Pending pending[MOST_PENDING];
+  GObject *session;
+  guint count, i;
+
+  g_mutex_lock (&self->lock);
+  count = self->pending_count;
+  memcpy (pending, self->pending, count * sizeof *pending);
+  self->pending_count = 0;
+  self->counts.said += count;
+  g_mutex_unlock (&self->lock);
+  if (count == 0)
+    return;
+
+  GST_OBJECT_LOCK (self);
+  session = self->session ? g_object_ref (self->session) : NULL;
+  GST_OBJECT_UNLOCK (self);
+  for (i = 0; i < count; i++) {
+    if (session)
+      tell_session (self, session, &pending[i]);
+    else
+      push_rtcp (self, &pending[i]);
+  }
+  if (session)
+    g_object_unref (session);
+}
+
+static gboolean
+on_sending_rtcp (GObject * session, GstBuffer * compound, gboolean is_early, GstH263RpsRecv * self)
+{
+  guint own_ssrc = 0;
+  gboolean is_added = FALSE, has_room = TRUE;
+  Pending *pending;
+
+  g_object_get (session, "internal-ssrc", &own_ssrc, NULL);
+  g_mutex_lock (&self->lock);
+  while (has_room && (pending = g_queue_peek_head (&self->session_queue))) {
+    has_room = gst_h263rps_rtcp_add_rpsi (compound, own_ssrc, pending->about, pending->pt,
+        &pending->message);
+    if (has_room) {
+      g_free (g_queue_pop_head (&self->session_queue));
+      is_added = TRUE;
+    }
+  }
+  g_mutex_unlock (&self->lock);
+  return is_added;
+}
+
+/* ---- pictures, under the lock ---- */
+
+static GstCaps *
+caps_of (const GstH263RpsRun * run)
+{
+  gint width, height;
+
+  gst_h263rps_size_of_format (run->params.format, &width, &height);
+  return gst_caps_new_simple ("video/x-raw", "format", G_TYPE_STRING, "I420",
+      "width", G_TYPE_INT, width, "height", G_TYPE_INT, height,
+      "framerate", GST_TYPE_FRACTION, run->fps_n, run->fps_d,
+      "interlace-mode", G_TYPE_STRING, "progressive",
+      "pixel-aspect-ratio", GST_TYPE_FRACTION, PAR_N, PAR_D, NULL);
+}
+
+static void
+mark_buffer (const GstH263RpsRun * run, GstBuffer * buffer, guint number, guint mark)
+{
+  GstCustomMeta *meta = gst_buffer_add_custom_meta (buffer, GST_H263RPS_META_NAME);
+
+  if (meta)
+    gst_structure_set (gst_custom_meta_get_structure (meta),
+        "mark", G_TYPE_STRING, gst_h263rps_mark_name (mark),
+        "number", G_TYPE_UINT, number, "ssrc", G_TYPE_UINT, run->ssrc, NULL);
+  if (mark != H263RPS_EXACT)
+    GST_BUFFER_FLAG_SET (buffer, GST_BUFFER_FLAG_CORRUPTED);
+}
+
+/* A screen that lags loses pictures, the oldest first; the call doesn't wait for it. */
+static void
+queue_picture (GstH263RpsRecv * self, GstBuffer * buffer)
+{
+  GList *item;
+  guint count = 0;
+
+  for (item = self->out.head; item; item = item->next)
+    count += GST_IS_BUFFER (item->data);
+  for (item = self->out.head; item && count >= MOST_OUT; item = item->next) {
+    if (GST_IS_BUFFER (item->data)) {
+      gst_buffer_unref (item->data);
+      g_queue_delete_link (&self->out, item);
+      self->counts.unshown++;
+      break;
+    }
+  }
+  if (self->new_caps) {
+    g_queue_push_tail (&self->out, gst_event_new_caps (self->new_caps));
+    gst_clear_caps (&self->new_caps);
+  }
+  g_queue_push_tail (&self->out, buffer);
+}
+
+/* Plays the next picture of the run that is followed, for the screen. */
+static void
+play_shown (GstH263RpsRecv * self, GstClockTime due)
+{
+  GstH263RpsRun *run = self->run;
+  GstBuffer *buffer = gst_buffer_new_allocate (NULL, run->size, NULL);
+  GstMapInfo map;
+  h263rps_answer answer = { 0 };
+  GstClockTime shown = running_time_of (self, due), latency = self->latency * GST_MSECOND;
+  GstClockTime when = running_time_of (self, clock_time (self));
+  guint number = run->played;
+  gboolean is_played;
+
+  GST_BUFFER_OFFSET (buffer) = number;
+  gst_buffer_map (buffer, &map, GST_MAP_WRITE);
+  is_played = gst_h263rps_run_play (run, map.data, &answer, when);
+  gst_buffer_unmap (buffer, &map);
+  if (!is_played) {
+    GST_INFO_OBJECT (self, "the run has ended: what comes next begins anew");
+    gst_buffer_unref (buffer);
+    return;
+  }
+  /* What is due is shown as late as the pipeline's latency says. */
+  GST_BUFFER_PTS (buffer) = shown + (latency - MIN (latency, run->wait));
+  GST_BUFFER_PTS (buffer) -= MIN (GST_BUFFER_PTS (buffer), latency);
+  GST_BUFFER_DURATION (buffer) =
+      gst_util_uint64_scale (GST_SECOND, run->fps_d, run->fps_n);
+  mark_buffer (run, buffer, number, answer.kind);
+  self->counts.marks[answer.kind]++;
+  if (answer.message.length)
+    note_message (self, run, &answer.message);
+  queue_picture (self, buffer);
+}
+
+/* At most as many at once as are kept: what is due beyond them waits until the network was looked
+ * at again. */
+static void
+play_due (GstH263RpsRecv * self, GstH263RpsRun * run, GstClockTime now)
+{
+  GstClockTime due;
+  h263rps_answer answer;
+  guint i;
+
+  for (i = 0; i < run->params.slots && gst_h263rps_run_due (run, &due) && due <= now; i++) {
+    if (run == self->run)
+      play_shown (self, due);
+    else
+      gst_h263rps_run_play (run, NULL, &answer, running_time_of (self, now));
+  }
+}
+
+/* ---- which stream is followed, under the lock ---- */
+
+static void
+begin_record (GstH263RpsRecv * self, GstH263RpsRun * run, const GstH263RpsArrival * arrival)
+{
+  GError *error = NULL;
+  gchar *folder;
+  gint width, height;
+  gint64 i;
+
+  GST_OBJECT_LOCK (self);
+  folder = g_strdup (self->record_location);
+  GST_OBJECT_UNLOCK (self);
+  if (!folder || self->recorded == MOST_RECORDED) {
+    g_free (folder);
+    return;
+  }
+  run->record = gst_h263rps_record_new (folder, "recv", ++self->recorded, &error);
+  g_free (folder);
+  if (!run->record) {
+    GST_WARNING_OBJECT (self, "no record: %s", error->message);
+    g_clear_error (&error);
+    return;
+  }
+  gst_h263rps_size_of_format (run->params.format, &width, &height);
+  gst_h263rps_record_head (run->record, width, height, run->fps_n, run->fps_d);
+  gst_h263rps_record_facts (run->record, "\"format\": \"%s\", \"rate\": \"%d/%d\", "
+      "\"clock\": \"%s\", \"messages\": %u, \"slots\": %u, \"lead\": %u, \"wait\": %.6f, "
+      "\"source\": %u, \"skipped\": %" G_GINT64_FORMAT ", \"first\": %u",
+      gst_h263rps_format_name (run->params.format), run->fps_n, run->fps_d,
+      run->params.clock ? "custom" : "standard", run->params.messages, run->params.slots,
+      run->params.lead, (gdouble) run->wait / GST_SECOND, run->ssrc, run->first,
+      arrival->start.temporal_reference);
+  /* `recv` counts from 0: the log has the plays that the library leaves out. */
+  for (i = 0; i < run->first; i++)
+    gst_h263rps_record_entry (run->record, GST_H263RPS_RECORD_LOG, 'P', NULL, 0,
+        running_time_of (self, clock_time (self)));
+}
+
+/* How long pictures wait before they are played. More than the lead holds would come early. */
+static GstClockTime
+wait_for (GstH263RpsRecv * self, guint lead)
+{
+  GstClockTime wait = self->latency * GST_MSECOND;
+  GstClockTime most = lead > 1
+      ? gst_util_uint64_scale (GST_SECOND, (lead - 1) * self->fps_d, self->fps_n) : 0;
+
+  if (wait <= most)
+    return wait;
+  GST_WARNING_OBJECT (self, "a lead of %u pictures holds %" GST_TIME_FORMAT " of the latency of "
+      "%u ms: the rest is waited for with the picture", lead, GST_TIME_ARGS (most), self->latency);
+  return most;
+}
+
+static GstH263RpsRun *
+begin_run (GstH263RpsRecv * self, const GstH263RpsArrival * arrival)
+{
+  h263rps_params params = { 0 };
+  GstH263RpsRun *run;
+  guint32 status = H263RPS_OK;
+
+  params.slots = self->caps_slots ? self->caps_slots : self->slots;
+  params.lead = self->caps_lead ? self->caps_lead : self->lead;
+  params.messages = self->messages;
+  run = gst_h263rps_run_new (&params, self->fps_n, self->fps_d, wait_for (self, params.lead),
+      arrival, &status);
+  if (!run)
+    GST_ERROR_OBJECT (self, "no run: %s (slots %u, lead %u)", h263rps_status_text (status),
+        params.slots, params.lead);
+  else
+    GST_INFO_OBJECT (self, "a run of stream %08x from picture %" G_GINT64_FORMAT " on", run->ssrc,
+        run->first);
+  return run;
+}
+
+static void
+end_trial (GstH263RpsRecv * self)
+{
+  g_clear_pointer (&self->trial, gst_h263rps_run_free);
+}
+
+static void
+forget_streams (GstH263RpsRecv * self)
+{
+  end_trial (self);
+  g_clear_pointer (&self->run, gst_h263rps_run_free);
+  gst_h263rps_probation_clear (&self->probation);
+}
+
+static void
+follow_run (GstH263RpsRecv * self, GstH263RpsRun * run, GstClockTime now)
+{
+  gboolean is_new = !self->run || self->run->params.format != run->params.format
+      || self->run->fps_n != run->fps_n || self->run->fps_d != run->fps_d;
+
+  g_clear_pointer (&self->run, gst_h263rps_run_free);
+  self->run = run;
+  self->last = self->complete = now;
+  self->counts.runs++;
+  if (is_new)
+    gst_caps_replace (&self->new_caps, NULL);
+  if (is_new)
+    self->new_caps = caps_of (run);
+}
+
+/* What a packet's answer means: a message, and for a stream that is tried, that it is followed. */
+static void
+note_answer (GstH263RpsRecv * self, GstH263RpsRun * run, const h263rps_answer * answer,
+    GstClockTime now)
+{
+  if (answer->kind == H263RPS_COMPLETED) {
+    if (run == self->trial) {
+      self->trial = NULL;
+      follow_run (self, run, now);
+      gst_h263rps_probation_clear (&self->probation);
+    }
+    self->complete = now;
+  }
+  if (answer->kind == H263RPS_REFUSED && answer->fault == H263RPS_MISSING_REFERENCE)
+    note_intra (self, run, now);
+  if (run != self->run)
+    return;
+  self->counts.heard[answer->kind]++;
+  if (answer->message.length)
+    note_message (self, run, &answer->message);
+}
+
+/* Gives a run a packet of its stream. Answers whether it may be of it. */
+static gboolean
+give_run (GstH263RpsRecv * self, GstH263RpsRun * run, const GstH263RpsArrival * arrival,
+    GstClockTime now)
+{
+  h263rps_answer answer = { 0 };
+  gsize length = gst_buffer_get_size (arrival->buffer);
+
+  if (!gst_h263rps_run_place (run, arrival, now))
+    return FALSE;
+  play_due (self, run, now);
+  gst_buffer_extract (arrival->buffer, 0, self->room, length);
+  gst_h263rps_run_hear (run, self->room, length, &answer, running_time_of (self, now));
+  note_answer (self, run, &answer, now);
+  return TRUE;
+}
+
+/* The stream goes on, and its run can't. */
+static void
+begin_anew (GstH263RpsRecv * self, const GstH263RpsArrival * arrival, GstClockTime now)
+{
+  GstH263RpsRun *run = begin_run (self, arrival);
+
+  if (!run)
+    return;
+  follow_run (self, run, now);
+  begin_record (self, run, arrival);
+  note_intra (self, run, now);
+}
+
+/* Whether a packet of the stream that is followed is taken. */
+static gboolean
+take_followed (GstH263RpsRecv * self, const GstH263RpsArrival * arrival, GstClockTime now)
+{
+  if (now - self->last > LOST || gst_h263rps_run_is_lost (self->run, now))
+    begin_anew (self, arrival, now);
+  if (arrival->start.format != self->run->params.format
+      || arrival->start.clock != self->run->params.clock) {
+    self->counts.other_format++;
+    return TRUE;
+  }
+  if (!give_run (self, self->run, arrival, now))
+    return FALSE;
+  self->last = now;
+  return TRUE;
+}
+
+/* A stream is worth a try. The first one is followed at once: there is none to be kept. */
+static void
+try_stream (GstH263RpsRecv * self, const GstH263RpsArrival came[GST_H263RPS_PROBATION],
+    GstClockTime now)
+{
+  GstH263RpsRun *run = begin_run (self, &came[0]);
+  guint i;
+
+  if (!run)
+    return;
+  end_trial (self);
+  if (!self->run) {
+    follow_run (self, run, now);
+  } else {
+    self->trial = run;
+    self->trial_began = now;
+    self->counts.trials++;
+  }
+  begin_record (self, run, &came[0]);
+  if (run->first > 0)
+    note_intra (self, run, now);
+  for (i = 0; i < GST_H263RPS_PROBATION; i++) {
+    if (run->params.format == came[i].start.format && run->params.clock == came[i].start.clock)
+      give_run (self, run, &came[i], now);
+  }
+}
+
+static void
+follow (GstH263RpsRecv * self, const GstH263RpsArrival * arrival, GstClockTime now)
+{
+  GstH263RpsArrival came[GST_H263RPS_PROBATION];
+  guint i;
+
+  /* Times on another clock tell nothing of those before. */
+  if (self->is_clock_new)
+    forget_streams (self);
+  self->is_clock_new = FALSE;
+  if (self->run && self->run->ssrc == arrival->ssrc && take_followed (self, arrival, now))
+    return;
+  if (self->trial && self->trial->ssrc == arrival->ssrc
+      && self->trial->params.format == arrival->start.format
+      && self->trial->params.clock == arrival->start.clock
+      && give_run (self, self->trial, arrival, now))
+    return;
+  if (self->run && now - self->complete < GST_H263RPS_SILENT) {
+    if (self->run->ssrc == arrival->ssrc)
+      self->counts.ahead++;
+    else
+      self->counts.other_source++;
+    return;
+  }
+  if (!gst_h263rps_probation_add (&self->probation, arrival, came))
+    return;
+  if (!self->trial || now - self->trial_began > TRIAL)
+    try_stream (self, came, now);
+  for (i = 0; i < GST_H263RPS_PROBATION; i++)
+    gst_buffer_unref (came[i].buffer);
+}
+
+/* ---- packets ---- */
+
+/* What a packet says of its picture, whatever its payload type and SSRC are. */
+static gboolean
+read_start (GstH263RpsRecv * self, GstH263RpsStart * start, GstBuffer * buffer, GstRTPBuffer * rtp)
+{
+#ifdef H263RPS_VERSION
+  gsize length = gst_buffer_extract (buffer, 0, self->room, ROOM);
+  h263rps_start told;
+
+  gst_h263rps_label_packet (self->room);
+  if (h263rps_packet_start (self->room, length, &told) != H263RPS_OK)
+    return FALSE;
+  start->format = told.format;
+  start->clock = told.clock;
+  start->temporal_reference = told.temporal_reference;
+  return TRUE;
+#else
+  return gst_h263rps_start_read (start, gst_rtp_buffer_get_payload (rtp),
+      gst_rtp_buffer_get_payload_len (rtp));
+#endif
+}
+
+static gboolean
+read_arrival (GstH263RpsRecv * self, GstH263RpsArrival * arrival, GstBuffer * buffer)
+{
+  GstRTPBuffer rtp = GST_RTP_BUFFER_INIT;
+  gboolean is_read;
+
+  if (gst_buffer_get_size (buffer) > ROOM || !gst_rtp_buffer_map (buffer, GST_MAP_READ, &rtp))
+    return FALSE;
+  arrival->buffer = buffer;
+  arrival->ssrc = gst_rtp_buffer_get_ssrc (&rtp);
+  arrival->sequence = gst_rtp_buffer_get_seq (&rtp);
+  arrival->timestamp = gst_rtp_buffer_get_timestamp (&rtp);
+  arrival->pt = gst_rtp_buffer_get_payload_type (&rtp);
+  is_read = read_start (self, &arrival->start, buffer, &rtp);
+  gst_rtp_buffer_unmap (&rtp);
+  return is_read;
+}
+
+static GstFlowReturn
+gst_h263rps_recv_chain (GstPad * pad, GstObject * parent, GstBuffer * buffer)
+{
+  GstH263RpsRecv *self = GST_H263RPS_RECV (parent);
+  GstFlowReturn flow = GST_FLOW_OK;
+  GstH263RpsArrival arrival;
+  /* The time here, and not the buffer's: what was held up before is late all the same. */
+  GstClockTime now = clock_time (self);
+
+  g_mutex_lock (&self->lock);
+  if (self->is_flushing)
+    flow = GST_FLOW_FLUSHING;
+  else if (self->is_eos)
+    flow = GST_FLOW_EOS;
+  else if (!self->is_playing)
+    self->counts.paused++;
+  else if (!gst_h263rps_allowance_takes (&self->allowance, now))
+    self->counts.too_fast++;
+  else if (!read_arrival (self, &arrival, buffer))
+    self->counts.malformed++;
+  else if (self->caps_pt && arrival.pt != self->caps_pt)
+    self->counts.other_payload_type++;
+  else {
+    follow (self, &arrival, now);
+    wake (self);
+  }
+  g_mutex_unlock (&self->lock);
+  gst_buffer_unref (buffer);
+  say_pending (self);
+  return flow;
+}
+
+/* ---- the task ---- */
+
+static void
+push_begin (GstH263RpsRecv * self)
+{
+  gchar *id;
+
+  if (!self->needs_stream_start)
+    return;
+  self->needs_stream_start = FALSE;
+  id = gst_pad_create_stream_id (self->srcpad, GST_ELEMENT (self), "video");
+  gst_pad_push_event (self->srcpad, gst_event_new_stream_start (id));
+  g_free (id);
+}
+
+/* A buffer that would come too late by what the sink said is dropped. */
+static gboolean
+is_too_late (GstH263RpsRecv * self, GstBuffer * buffer)
+{
+  gboolean is_late;
+
+  g_mutex_lock (&self->lock);
+  is_late = GST_CLOCK_TIME_IS_VALID (self->earliest)
+      && GST_BUFFER_PTS (buffer) + GST_BUFFER_DURATION (buffer) < self->earliest;
+  self->counts.unshown += is_late;
+  g_mutex_unlock (&self->lock);
+  return is_late;
+}
+
+static GstFlowReturn
+push_next (GstH263RpsRecv * self, GstMiniObject * next)
+{
+  push_begin (self);
+  if (GST_IS_EVENT (next)) {
+    gst_pad_push_event (self->srcpad, GST_EVENT (next));
+    if (self->needs_segment) {
+      GstSegment segment;
+
+      gst_segment_init (&segment, GST_FORMAT_TIME);
+      gst_pad_push_event (self->srcpad, gst_event_new_segment (&segment));
+      self->needs_segment = FALSE;
+    }
+    return GST_FLOW_OK;
+  }
+  if (is_too_late (self, GST_BUFFER (next))) {
+    gst_mini_object_unref (next);
+    return GST_FLOW_OK;
+  }
+  return gst_pad_push (self->srcpad, GST_BUFFER (next));
+}
+
+/* Under the lock, which is left meanwhile: waits until then, or until someone wakes it. */
+static void
+wait_until (GstH263RpsRecv * self, GstClockTime when)
+{
+  GstClock *clock = gst_element_get_clock (GST_ELEMENT (self));
+  GstClockID id;
+
+  if (!clock)
+    clock = gst_system_clock_obtain ();
+  id = self->clock_id = gst_clock_new_single_shot_id (clock, when);
+  g_mutex_unlock (&self->lock);
+  gst_clock_id_wait (id, NULL);
+  g_mutex_lock (&self->lock);
+  self->clock_id = NULL;
+  gst_clock_id_unref (id);
+  gst_object_unref (clock);
+}
+
+static void
+end_task (GstH263RpsRecv * self, GstFlowReturn flow)
+{
+  gst_pad_pause_task (self->srcpad);
+  if (flow == GST_FLOW_FLUSHING)
+    return;
+  if (flow != GST_FLOW_EOS)
+    GST_ELEMENT_FLOW_ERROR (self, flow);
+  push_begin (self);
+  gst_pad_push_event (self->srcpad, gst_event_new_eos ());
+  g_mutex_lock (&self->rtcp_lock);
+  if (self->is_rtcp_begun)
+    gst_pad_push_event (self->rtcp_srcpad, gst_event_new_eos ());
+  g_mutex_unlock (&self->rtcp_lock);
+}
+
+/* What is to be said or shown goes out first; then the next picture's time is waited for. */
+static void
+gst_h263rps_recv_loop (gpointer data)
+{
+  GstH263RpsRecv *self = GST_H263RPS_RECV (data);
+  GstFlowReturn flow = GST_FLOW_OK;
+  GstMiniObject *next;
+  GstClockTime due;
+
+  g_mutex_lock (&self->lock);
+  while (!self->is_flushing && flow == GST_FLOW_OK) {
+    if (!self->is_playing) {
+      g_cond_wait (&self->cond, &self->lock);
+      continue;
+    }
+    if (self->run)
+      play_due (self, self->run, clock_time (self));
+    next = g_queue_pop_head (&self->out);
+    if (next || self->pending_count > 0) {
+      g_mutex_unlock (&self->lock);
+      say_pending (self);
+      if (next)
+        flow = push_next (self, next);
+      g_mutex_lock (&self->lock);
+    } else if (self->run && gst_h263rps_run_due (self->run, &due)) {
+      wait_until (self, due);
+    } else if (self->is_eos) {
+      flow = GST_FLOW_EOS;
+    } else {
+      g_cond_wait (&self->cond, &self->lock);
+    }
+  }
+  if (self->is_flushing)
+    flow = GST_FLOW_FLUSHING;
+  g_mutex_unlock (&self->lock);
+  end_task (self, flow);
+}
+
+static void
+stop_waiting (GstH263RpsRecv * self)
+{
+  g_mutex_lock (&self->lock);
+  self->is_flushing = TRUE;
+  wake (self);
+  g_mutex_unlock (&self->lock);
+}
+
+/* As before the first packet, but for the counts. */
+static void
+begin_task_state (GstH263RpsRecv * self)
+{
+  g_mutex_lock (&self->lock);
+  forget_streams (self);
+  g_queue_clear_full (&self->out, (GDestroyNotify) gst_mini_object_unref);
+  g_queue_clear_full (&self->session_queue, g_free);
+  gst_clear_caps (&self->new_caps);
+  self->pending_count = 0;
+  self->is_flushing = self->is_eos = self->is_clock_new = FALSE;
+  self->needs_segment = TRUE;
+  self->earliest = GST_CLOCK_TIME_NONE;
+  g_mutex_unlock (&self->lock);
+}
+
+static gboolean
+gst_h263rps_recv_activate_mode (GstPad * pad, GstObject * parent, GstPadMode mode, gboolean active)
+{
+  GstH263RpsRecv *self = GST_H263RPS_RECV (parent);
+
+  if (mode != GST_PAD_MODE_PUSH)
+    return FALSE;
+  if (active) {
+    begin_task_state (self);
+    self->needs_stream_start = TRUE;
+    return gst_pad_start_task (pad, gst_h263rps_recv_loop, self, NULL);
+  }
+  stop_waiting (self);
+  return gst_pad_stop_task (pad);
+}
+
+/* ---- events and queries ---- */
+
+/* Pictures in seconds, from SDP's decimal number. */
+static void
+read_rate (GstH263RpsRecv * self, const gchar * text)
+{
+  gdouble rate = text ? g_ascii_strtod (text, NULL) : 0.0;
+  gint whole;
+
+  if (!(rate >= 1.0 && rate <= 120.0))
+    return;
+  whole = (gint) (rate + 0.5);
+  self->fps_n = whole;
+  self->fps_d = 1;
+  if (ABS (rate - whole * 1000.0 / 1001.0) < 0.001) {
+    self->fps_n = 1000 * whole;
+    self->fps_d = 1001;
+  } else if (ABS (rate - whole) > 0.001) {
+    gst_util_double_to_fraction (rate, &self->fps_n, &self->fps_d);
+  }
+}
+
+static guint
+number_in (const GstStructure * structure, const gchar * name, guint most)
+{
+  const gchar *text = gst_structure_get_string (structure, name);
+  guint64 number;
+
+  if (!text || !g_ascii_string_to_unsigned (text, 10, 1, most, &number, NULL))
+    return 0;
+  return number;
+}
+
+static void
+read_caps (GstH263RpsRecv * self, GstCaps * caps)
+{
+  const GstStructure *structure = gst_caps_get_structure (caps, 0);
+  gint pt = 0;
+
+  gst_structure_get_int (structure, "payload", &pt);
+  g_mutex_lock (&self->lock);
+  self->caps_pt = pt;
+  self->caps_slots = number_in (structure, "x-slots", 64);
+  self->caps_lead = number_in (structure, "x-lead", 62);
+  read_rate (self, gst_structure_get_string (structure, "a-framerate"));
+  g_mutex_unlock (&self->lock);
+}
+
+static gboolean
+gst_h263rps_recv_sink_event (GstPad * pad, GstObject * parent, GstEvent * event)
+{
+  GstH263RpsRecv *self = GST_H263RPS_RECV (parent);
+  gboolean result = TRUE;
+
+  switch (GST_EVENT_TYPE (event)) {
+    case GST_EVENT_CAPS:{
+      GstCaps *caps;
+
+      gst_event_parse_caps (event, &caps);
+      read_caps (self, caps);
+      break;
+    }
+    case GST_EVENT_EOS:
+      g_mutex_lock (&self->lock);
+      self->is_eos = TRUE;
+      wake (self);
+      g_mutex_unlock (&self->lock);
+      break;
+    case GST_EVENT_FLUSH_START:
+      result = gst_pad_push_event (self->srcpad, gst_event_ref (event));
+      stop_waiting (self);
+      gst_pad_pause_task (self->srcpad);
+      break;
+    case GST_EVENT_FLUSH_STOP:
+      result = gst_pad_push_event (self->srcpad, gst_event_ref (event));
+      begin_task_state (self);
+      gst_pad_start_task (self->srcpad, gst_h263rps_recv_loop, self, NULL);
+      break;
+    default:
+      /* What the network's side tells isn't about the pictures. */
+      break;
+  }
+  gst_event_unref (event);
+  return result;
+}
+
+/* Pictures can't be left out before they are decoded, and what comes too late needn't be shown. */
+static gboolean
+hear_qos (GstH263RpsRecv * self, GstEvent * event)
+{
+  GstClockTimeDiff difference;
+  GstClockTime timestamp;
+
+  gst_event_parse_qos (event, NULL, NULL, &difference, &timestamp);
+  g_mutex_lock (&self->lock);
+  self->earliest = GST_CLOCK_TIME_IS_VALID (timestamp) && difference > 0
+      ? timestamp + difference : GST_CLOCK_TIME_NONE;
+  g_mutex_unlock (&self->lock);
+  gst_event_unref (event);
+  return TRUE;
+}
+
+static gboolean
+gst_h263rps_recv_src_event (GstPad * pad, GstObject * parent, GstEvent * event)
+{
+  GstH263RpsRecv *self = GST_H263RPS_RECV (parent);
+
+  if (GST_EVENT_TYPE (event) == GST_EVENT_QOS)
+    return hear_qos (self, event);
+  if (gst_video_event_is_force_key_unit (event)) {
+    g_mutex_lock (&self->lock);
+    if (self->run)
+      note_intra (self, self->run, clock_time (self));
+    wake (self);
+    g_mutex_unlock (&self->lock);
+    gst_event_unref (event);
+    return TRUE;
+  }
+  return gst_pad_event_default (pad, parent, event);
+}
+
+/* Messages and pictures have nothing to do with each other downstream: without this a call with
+ * itself would be a loop of queries. */
+static GstIterator *
+gst_h263rps_recv_iterate_links (GstPad * pad, GstObject * parent)
+{
+  GstH263RpsRecv *self = GST_H263RPS_RECV (parent);
+  GstPad *other;
+  GstIterator *iterator;
+  GValue value = G_VALUE_INIT;
+
+  if (pad == self->rtcp_srcpad)
+    return gst_iterator_new_single (GST_TYPE_PAD, NULL);
+  other = pad == self->sinkpad ? self->srcpad : self->sinkpad;
+  g_value_init (&value, GST_TYPE_PAD);
+  g_value_set_object (&value, other);
+  iterator = gst_iterator_new_single (GST_TYPE_PAD, &value);
+  g_value_unset (&value);
+  return iterator;
+}
+
+static gboolean
+gst_h263rps_recv_rtcp_query (GstPad * pad, GstObject * parent, GstQuery * query)
+{
+  if (GST_QUERY_TYPE (query) != GST_QUERY_LATENCY)
+    return gst_pad_query_default (pad, parent, query);
+  gst_query_set_latency (query, TRUE, 0, GST_CLOCK_TIME_NONE);
+  return TRUE;
+}
+
+static gboolean
+gst_h263rps_recv_src_query (GstPad * pad, GstObject * parent, GstQuery * query)
+{
+  GstH263RpsRecv *self = GST_H263RPS_RECV (parent);
+  GstClockTime least, most, own = self->latency * GST_MSECOND;
+  gboolean is_live;
+
+  if (GST_QUERY_TYPE (query) != GST_QUERY_LATENCY)
+    return gst_pad_query_default (pad, parent, query);
+  if (!gst_pad_peer_query (self->sinkpad, query))
+    return FALSE;
+  gst_query_parse_latency (query, &is_live, &least, &most);
+  gst_query_set_latency (query, TRUE, least + own,
+      GST_CLOCK_TIME_IS_VALID (most) ? most + own : GST_CLOCK_TIME_NONE);
+  return TRUE;
+}
+
+/* ---- the object ---- */
+
+static void
+set_session (GstH263RpsRecv * self, GObject * session)
+{
+  GObject *old;
+  gulong old_handler;
+
+  if (session) {
+    if (g_signal_lookup ("on-sending-rtcp", G_OBJECT_TYPE (session)) == 0) {
+      GST_WARNING_OBJECT (self, "a %s is no session of RTP", G_OBJECT_TYPE_NAME (session));
+      return;
+    }
+    g_object_ref (session);
+  }
+  GST_OBJECT_LOCK (self);
+  old = self->session;
+  old_handler = self->session_handler;
+  self->session = session;
+  self->session_handler = 0;
+  GST_OBJECT_UNLOCK (self);
+
+  if (old) {
+    g_signal_handler_disconnect (old, old_handler);
+    g_object_unref (old);
+  }
+  if (session)
+    self->session_handler =
+        g_signal_connect_object (session, "on-sending-rtcp", G_CALLBACK (on_sending_rtcp), self,
+        0);
+}
+
+static void
+gst_h263rps_recv_set_property (GObject * object, guint id, const GValue * value,
+    GParamSpec * pspec)
+{
+  GstH263RpsRecv *self = GST_H263RPS_RECV (object);
+
+  if (id == PROP_SESSION) {
+    set_session (self, g_value_get_object (value));
+    return;
+  }
+
+  GST_OBJECT_LOCK (self);
+  switch (id) {
+    case PROP_LATENCY:
+      self->latency = g_value_get_uint (value);
+      break;
+    case PROP_SLOTS:
+      self->slots = g_value_get_uint (value);
+      break;
+    case PROP_LEAD:
+      self->lead = g_value_get_uint (value);
+      break;
+    case PROP_MESSAGES:
+      self->messages = g_value_get_uint (value);
+      break;
+    case PROP_SSRC:
+      self->ssrc = g_value_get_uint (value);
+      break;
+    case PROP_RECORD_LOCATION:
+      g_free (self->record_location);
+      self->record_location = g_value_dup_string (value);
+      break;
+    default:
+      G_OBJECT_WARN_INVALID_PROPERTY_ID (object, id, pspec);
+      break;
+  }
+  GST_OBJECT_UNLOCK (self);
+}
+
+static GstStructure *
+create_stats (GstH263RpsRecv * self)
+{
+  Counts counts;
+  guint ssrc;
+
+  g_mutex_lock (&self->lock);
+  counts = self->counts;
+  ssrc = self->run ? self->run->ssrc : 0;
+  g_mutex_unlock (&self->lock);
+  return gst_structure_new ("application/x-h263rpsrecv-stats",
+      "ssrc", G_TYPE_UINT, ssrc,
+      "exact", G_TYPE_UINT64, counts.marks[H263RPS_EXACT],
+      "patched", G_TYPE_UINT64, counts.marks[H263RPS_PATCHED],
+      "held", G_TYPE_UINT64, counts.marks[H263RPS_HELD],
+      "unshown", G_TYPE_UINT64, counts.unshown,
+      "taken", G_TYPE_UINT64, counts.heard[H263RPS_TAKEN] + counts.heard[H263RPS_COMPLETED],
+      "completed", G_TYPE_UINT64, counts.heard[H263RPS_COMPLETED],
+      "late", G_TYPE_UINT64, counts.heard[H263RPS_LATE],
+      "early", G_TYPE_UINT64, counts.heard[H263RPS_EARLY],
+      "repeat", G_TYPE_UINT64, counts.heard[H263RPS_REPEAT],
+      "refused", G_TYPE_UINT64, counts.heard[H263RPS_REFUSED],
+      "malformed", G_TYPE_UINT64, counts.malformed,
+      "other-payload-type", G_TYPE_UINT64, counts.other_payload_type,
+      "other-format", G_TYPE_UINT64, counts.other_format,
+      "other-source", G_TYPE_UINT64, counts.other_source,
+      "ahead", G_TYPE_UINT64, counts.ahead,
+      "too-fast", G_TYPE_UINT64, counts.too_fast,
+      "paused", G_TYPE_UINT64, counts.paused,
+      "said", G_TYPE_UINT64, counts.said,
+      "session-refused", G_TYPE_UINT64, counts.session_refused,
+      "dropped-messages", G_TYPE_UINT64, counts.dropped_messages,
+      "intra-asked", G_TYPE_UINT64, counts.intra_asked,
+      "runs", G_TYPE_UINT64, counts.runs, "trials", G_TYPE_UINT64, counts.trials, NULL);
+}
+
+static void
+gst_h263rps_recv_get_property (GObject * object, guint id, GValue * value, GParamSpec * pspec)
+{
+  GstH263RpsRecv *self = GST_H263RPS_RECV (object);
+
+  if (id == PROP_STATS) {
+    g_value_take_boxed (value, create_stats (self));
+    return;
+  }
+
+  GST_OBJECT_LOCK (self);
+  switch (id) {
+    case PROP_LATENCY:
+      g_value_set_uint (value, self->latency);
+      break;
+    case PROP_SLOTS:
+      g_value_set_uint (value, self->slots);
+      break;
+    case PROP_LEAD:
+      g_value_set_uint (value, self->lead);
+      break;
+    case PROP_MESSAGES:
+      g_value_set_uint (value, self->messages);
+      break;
+    case PROP_SSRC:
+      g_value_set_uint (value, self->ssrc);
+      break;
+    case PROP_SESSION:
+      g_value_set_object (value, self->session);
+      break;
+    case PROP_RECORD_LOCATION:
+      g_value_set_string (value, self->record_location);
+      break;
+    default:
+      G_OBJECT_WARN_INVALID_PROPERTY_ID (object, id, pspec);
+      break;
+  }
+  GST_OBJECT_UNLOCK (self);
+}
+
+static void
+set_playing (GstH263RpsRecv * self, gboolean is_playing)
+{
+  g_mutex_lock (&self->lock);
+  self->is_playing = is_playing;
+  wake (self);
+  g_mutex_unlock (&self->lock);
+}
+
+static GstStateChangeReturn
+gst_h263rps_recv_change_state (GstElement * element, GstStateChange transition)
+{
+  GstH263RpsRecv *self = GST_H263RPS_RECV (element);
+  GstStateChangeReturn result;
+
+  switch (transition) {
+    case GST_STATE_CHANGE_READY_TO_PAUSED:
+      g_mutex_lock (&self->lock);
+      memset (&self->counts, 0, sizeof self->counts);
+      memset (&self->allowance, 0, sizeof self->allowance);
+      self->has_asked = FALSE;
+      self->own_ssrc = self->ssrc == DEFAULT_SSRC ? g_random_int () : self->ssrc;
+      g_mutex_unlock (&self->lock);
+      set_playing (self, FALSE);
+      break;
+    case GST_STATE_CHANGE_PAUSED_TO_PLAYING:
+      set_playing (self, TRUE);
+      break;
+    case GST_STATE_CHANGE_PLAYING_TO_PAUSED:
+      set_playing (self, FALSE);
+      break;
+    default:
+      break;
+  }
+  result = GST_ELEMENT_CLASS (parent_class)->change_state (element, transition);
+  if (transition == GST_STATE_CHANGE_PAUSED_TO_READY) {
+    begin_task_state (self);
+    self->is_rtcp_begun = FALSE;
+  }
+  /* Pictures come by the clock, so there is none before it runs. */
+  if (result == GST_STATE_CHANGE_SUCCESS && (transition == GST_STATE_CHANGE_READY_TO_PAUSED
+          || transition == GST_STATE_CHANGE_PLAYING_TO_PAUSED))
+    result = GST_STATE_CHANGE_NO_PREROLL;
+  return result;
+}
+
+static gboolean
+gst_h263rps_recv_set_clock (GstElement * element, GstClock * clock)
+{
+  GstH263RpsRecv *self = GST_H263RPS_RECV (element);
+
+  g_mutex_lock (&self->lock);
+  self->is_clock_new = self->run != NULL && clock != NULL && clock != GST_ELEMENT_CLOCK (element);
+  g_mutex_unlock (&self->lock);
+  return GST_ELEMENT_CLASS (parent_class)->set_clock (element, clock);
+}
+
+static void
+gst_h263rps_recv_dispose (GObject * object)
+{
+  set_session (GST_H263RPS_RECV (object), NULL);
+  G_OBJECT_CLASS (parent_class)->dispose (object);
+}
+
+static void
+gst_h263rps_recv_finalize (GObject * object)
+{
+  GstH263RpsRecv *self = GST_H263RPS_RECV (object);
+
+  forget_streams (self);
+  g_queue_clear_full (&self->out, (GDestroyNotify) gst_mini_object_unref);
+  g_queue_clear_full (&self->session_queue, g_free);
+  gst_clear_caps (&self->new_caps);
+  g_free (self->record_location);
+  g_free (self->room);
+  g_mutex_clear (&self->lock);
+  g_mutex_clear (&self->rtcp_lock);
+  g_cond_clear (&self->cond);
+  G_OBJECT_CLASS (parent_class)->finalize (object);
+}
+
+static void
+add_pads (GstH263RpsRecv * self)
+{
+  GstElement *element = GST_ELEMENT (self);
+
+  self->sinkpad = gst_pad_new_from_static_template (&sink_template, "sink");
+  gst_pad_set_chain_function (self->sinkpad, gst_h263rps_recv_chain);
+  gst_pad_set_event_function (self->sinkpad, gst_h263rps_recv_sink_event);
+  gst_pad_set_iterate_internal_links_function (self->sinkpad, gst_h263rps_recv_iterate_links);
+  gst_element_add_pad (element, self->sinkpad);
+
+  self->srcpad = gst_pad_new_from_static_template (&src_template, "src");
+  gst_pad_set_activatemode_function (self->srcpad, gst_h263rps_recv_activate_mode);
+  gst_pad_set_event_function (self->srcpad, gst_h263rps_recv_src_event);
+  gst_pad_set_query_function (self->srcpad, gst_h263rps_recv_src_query);
+  gst_pad_set_iterate_internal_links_function (self->srcpad, gst_h263rps_recv_iterate_links);
+  gst_pad_use_fixed_caps (self->srcpad);
+  gst_element_add_pad (element, self->srcpad);
+
+  self->rtcp_srcpad = gst_pad_new_from_static_template (&rtcp_src_template, "rtcp_src");
+  gst_pad_set_query_function (self->rtcp_srcpad, gst_h263rps_recv_rtcp_query);
+  gst_pad_set_iterate_internal_links_function (self->rtcp_srcpad, gst_h263rps_recv_iterate_links);
+  gst_pad_use_fixed_caps (self->rtcp_srcpad);
+  gst_element_add_pad (element, self->rtcp_srcpad);
+}
+
+static void
+gst_h263rps_recv_init (GstH263RpsRecv * self)
+{
+  self->latency = DEFAULT_LATENCY;
+  self->slots = DEFAULT_SLOTS;
+  self->lead = DEFAULT_LEAD;
+  self->messages = DEFAULT_MESSAGES;
+  self->fps_n = 30000;
+  self->fps_d = 1001;
+  self->earliest = GST_CLOCK_TIME_NONE;
+  self->ssrc = DEFAULT_SSRC;
+  self->room = g_malloc (ROOM);
+  g_queue_init (&self->out);
+  g_queue_init (&self->session_queue);
+  g_mutex_init (&self->lock);
+  g_mutex_init (&self->rtcp_lock);
+  g_cond_init (&self->cond);
+  add_pads (self);
+}
+
+static void
+gst_h263rps_recv_class_init (GstH263RpsRecvClass * klass)
+{
+  GObjectClass *object_class = G_OBJECT_CLASS (klass);
+  GstElementClass *element_class = GST_ELEMENT_CLASS (klass);
+  const GParamFlags ready =
+      G_PARAM_READWRITE | G_PARAM_STATIC_STRINGS | GST_PARAM_MUTABLE_READY;
+
+  GST_DEBUG_CATEGORY_INIT (h263rpsrecv_debug, "h263rpsrecv", 0, "H.263 RPS receiver");
+
+  object_class->set_property = gst_h263rps_recv_set_property;
+  object_class->get_property = gst_h263rps_recv_get_property;
+  object_class->dispose = gst_h263rps_recv_dispose;
+  object_class->finalize = gst_h263rps_recv_finalize;
+
+  /**
+   * GstH263RpsRecv:latency:
+   *
+   * How long after the earliest arrival a picture is played: what the network's jitter may be. The
+   * lead must hold it.
+   */
+  g_object_class_install_property (object_class, PROP_LATENCY,
+      g_param_spec_uint ("latency", "Latency",
+          "Milliseconds from the earliest arrival of a picture to its play", 0, 2000,
+          DEFAULT_LATENCY, ready));
+  /**
+   * GstH263RpsRecv:slots:
+   *
+   * Pictures that are kept, where the caps of the packets don't say (x-slots). It must be the
+   * sender's.
+   */
+  g_object_class_install_property (object_class, PROP_SLOTS,
+      g_param_spec_uint ("slots", "Slots", "Pictures that are kept, where the caps don't say", 2,
+          64, DEFAULT_SLOTS, ready));
+  /**
+   * GstH263RpsRecv:lead:
+   *
+   * Pictures that may come before their turn, where the caps of the packets don't say (x-lead). It
+   * must be the sender's.
+   */
+  g_object_class_install_property (object_class, PROP_LEAD,
+      g_param_spec_uint ("lead", "Lead",
+          "Pictures that may come before their turn, where the caps don't say", 0, 62,
+          DEFAULT_LEAD, ready));
+  g_object_class_install_property (object_class, PROP_MESSAGES,
+      g_param_spec_uint ("messages", "Messages", "The version of the messages", 1, 2,
+          DEFAULT_MESSAGES, ready));
+  g_object_class_install_property (object_class, PROP_SSRC,
+      g_param_spec_uint ("ssrc", "SSRC", "The SSRC of the messages at rtcp_src (default == random)",
+          0, G_MAXUINT32, DEFAULT_SSRC, ready));
+  /**
+   * GstH263RpsRecv:session:
+   *
+   * The inner session of an rtpsession (its internal-session), an rtpbin (get-internal-session) or
+   * a webrtcbin, by which messages are sent, in place of the pad rtcp_src. It delays them by its
+   * rules on early feedback, so give it a bandwidth of ten times the stream's.
+   */
+  g_object_class_install_property (object_class, PROP_SESSION,
+      g_param_spec_object ("session", "Session", "An inner session of RTP that sends the messages",
+          G_TYPE_OBJECT, G_PARAM_READWRITE | G_PARAM_STATIC_STRINGS | GST_PARAM_MUTABLE_PLAYING));
+  /**
+   * GstH263RpsRecv:record-location:
+   *
+   * A folder that gets what the end reads and writes, as `h263rps recv` and the project's tools
+   * read it.
+   */
+  g_object_class_install_property (object_class, PROP_RECORD_LOCATION,
+      g_param_spec_string ("record-location", "Record location", "A folder to record the call in",
+          NULL, ready));
+  /**
+   * GstH263RpsRecv:stats:
+   *
+   * Pictures "exact", "patched", "held", and of them "unshown" (what comes after lagged); packets
+   * "taken", of them "completed" (their picture was whole then), "late", "early", "repeat" and
+   * "refused"; what didn't count: "malformed", "other-payload-type", "other-format",
+   * "other-source", "ahead" of the clock, "too-fast", "paused"; messages "said",
+   * "session-refused" (sent later on), "dropped-messages"; "intra-asked", "runs", "trials".
+   */
+  g_object_class_install_property (object_class, PROP_STATS,
+      g_param_spec_boxed ("stats", "Statistics", "Counts of the call", GST_TYPE_STRUCTURE,
+          G_PARAM_READABLE | G_PARAM_STATIC_STRINGS));
+
+  element_class->change_state = gst_h263rps_recv_change_state;
+  element_class->set_clock = gst_h263rps_recv_set_clock;
+  gst_element_class_add_static_pad_template (element_class, &sink_template);
+  gst_element_class_add_static_pad_template (element_class, &src_template);
+  gst_element_class_add_static_pad_template (element_class, &rtcp_src_template);
+  gst_element_class_set_static_metadata (element_class, "H.263 RPS receiver",
+      "Codec/Decoder/Depayloader/Network/RTP",
+      "Decodes RTP packets of H.263 (RFC 4629) on arrival, acknowledges pictures, shows them on time",
+      "Leuvasti maintainers <maintainers@users.noreply.leuvasti.example>");
+}

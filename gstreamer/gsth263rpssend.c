@@ -1,0 +1,1080 @@
+/**
+ * SECTION:element-h263rpssend
+ * @title: h263rpssend
+ * @see_also: h263rpsrecv
+ *
+ * Codes pictures in H.263 (2005) with slices and reference picture selection, and cuts them into
+ * RTP packets (RFC 4629). It predicts from acknowledged pictures alone, so a lost packet costs its
+ * own picture and no other.
+ *
+ * It is coder and payloader in one, since the coder cuts the packets and lives by what comes back:
+ * a message about each picture (RPSI, RFC 4585, 6.3.3), at the pad rtcp_sink or by the session of
+ * #GstH263RpsSend:session. While one receiver is heard, messages of others don't count.
+ *
+ * Pictures of 128x96, 176x144 and 352x288 are taken. Another size within a call begins a new run,
+ * under a new SSRC. A GstForceKeyUnit event from either side, and a picture loss indication at
+ * rtcp_sink, make the next picture intra.
+ *
+ * ## Example launch line
+ * |[
+ * gst-launch-1.0 -v videotestsrc is-live=true ! video/x-raw,width=176,height=144,framerate=30/1 \
+ *     ! h263rpssend name=s ! h263rpsrecv name=r ! videoconvert ! autovideosink r.rtcp_src ! s.rtcp_sink
+ * ]| A call with itself.
+ *
+ * |[
+ * gst-launch-1.0 v4l2src ! videoconvert ! videoscale ! videorate \
+ *     ! video/x-raw,width=176,height=144,framerate=30/1 ! h263rpssend name=s bitrate=300000 \
+ *     ! udpsink host=192.0.2.7 port=5004 udpsrc port=5005 caps=application/x-rtcp ! s.rtcp_sink
+ * ]| Sends a camera's pictures, and hears what comes back on port 5005.
+ */
+#ifdef HAVE_CONFIG_H
+#include "config.h"
+#endif
+
+#include "gsth263rpssend.h"
+
+#include <gst/rtp/rtp.h>
+#include <gst/video/video.h>
+#include <string.h>
+
+#include "gsth263rps.h"
+#include "gsth263rpsrecord.h"
+#include "gsth263rpsrtcp.h"
+
+GST_DEBUG_CATEGORY_STATIC (h263rpssend_debug);
+#define GST_CAT_DEFAULT h263rpssend_debug
+
+#define DEFAULT_BITRATE 430000
+#define DEFAULT_QUANT 8
+#define DEFAULT_RADIUS 7
+#define DEFAULT_SLOTS 39
+#define DEFAULT_LEAD 6
+#define DEFAULT_CUSTOM_CLOCK FALSE
+#define DEFAULT_MIN_FORCE_KEY_UNIT_INTERVAL (GST_SECOND / 2)
+
+#define MOST_TARGET 999999
+#define LEAST_LIMIT 1200
+#define MOST_LIMIT 9000
+
+/* Messages that may wait for the next picture; what comes then is dropped. */
+#define MOST_WAITING 256
+
+enum
+{
+  PROP_0,
+  PROP_BITRATE,
+  PROP_QUANT,
+  PROP_RADIUS,
+  PROP_SLOTS,
+  PROP_LEAD,
+  PROP_CUSTOM_CLOCK,
+  PROP_MIN_FORCE_KEY_UNIT_INTERVAL,
+  PROP_SESSION,
+  PROP_RECORD_LOCATION,
+  PROP_STATS
+};
+
+typedef struct
+{
+  guint64 coded, intra, packets, bytes, distance;
+  guint64 noted, old, malformed, stale, other_speaker, dropped;
+  guint64 runs, intra_asked, intra_refused;
+} Counts;
+
+struct _GstH263RpsSend
+{
+  GstRTPBasePayload parent;
+
+  GstPad *rtcp_sinkpad;
+
+  /* properties, under the object's lock */
+  guint bitrate, quant, radius, slots, lead;
+  gboolean custom_clock;
+  guint64 min_force_key_unit_interval;
+  gchar *record_location;
+  GObject *session;
+  gulong session_handler;
+
+  /* the run: of the streaming thread, between READY and PAUSED */
+  h263rps_end end;
+  h263rps_params params;
+  GstVideoInfo info;
+  gsize size;
+  guint8 *packed;
+  GstH263RpsRecord *record;
+  guint recorded;
+
+  /* what came back, for the streaming thread, and the counts: under this lock */
+  GMutex lock;
+  h263rps_message waiting[MOST_WAITING];
+  guint waiting_count;
+  guint32 ssrc;
+  guint32 speaker;
+  gboolean has_speaker;
+  gint64 heard;                 /* when a message of the speaker was noted, in us */
+  gboolean wants_intra;
+  gint64 intra_at;              /* when an intra picture was asked for last, in us */
+  Counts counts, begun;         /* ..and as the run began */
+};
+
+static GstStaticPadTemplate sink_template = GST_STATIC_PAD_TEMPLATE ("sink",
+    GST_PAD_SINK,
+    GST_PAD_ALWAYS,
+    GST_STATIC_CAPS ("video/x-raw, format = (string) I420, "
+        "width = (int) 128, height = (int) 96, framerate = (fraction) [ 1/1, 120/1 ]; "
+        "video/x-raw, format = (string) I420, "
+        "width = (int) 176, height = (int) 144, framerate = (fraction) [ 1/1, 120/1 ]; "
+        "video/x-raw, format = (string) I420, "
+        "width = (int) 352, height = (int) 288, framerate = (fraction) [ 1/1, 120/1 ]")
+    );
+
+static GstStaticPadTemplate src_template = GST_STATIC_PAD_TEMPLATE ("src",
+    GST_PAD_SRC,
+    GST_PAD_ALWAYS,
+    GST_STATIC_CAPS (GST_H263RPS_RTP_CAPS ", payload = (int) [ 96, 127 ]")
+    );
+
+static GstStaticPadTemplate rtcp_sink_template = GST_STATIC_PAD_TEMPLATE ("rtcp_sink",
+    GST_PAD_SINK,
+    GST_PAD_ALWAYS,
+    GST_STATIC_CAPS ("application/x-rtcp")
+    );
+
+#define gst_h263rps_send_parent_class parent_class
+G_DEFINE_TYPE (GstH263RpsSend, gst_h263rps_send, GST_TYPE_RTP_BASE_PAYLOAD);
+GST_ELEMENT_REGISTER_DEFINE (h263rpssend, "h263rpssend", GST_RANK_NONE, GST_TYPE_H263RPS_SEND);
+
+/* ---- the run ---- */
+
+static GstClockTime
+running_time (GstH263RpsSend * self)
+{
+  return gst_element_get_current_running_time (GST_ELEMENT (self));
+}
+
+static void
+finish_run (GstH263RpsSend * self)
+{
+  if (self->record) {
+    g_mutex_lock (&self->lock);
+    gst_h263rps_record_line (self->record, GST_H263RPS_RECORD_REPORT,
+        "sent %" G_GUINT64_FORMAT " packets %" G_GUINT64_FORMAT " noted %" G_GUINT64_FORMAT
+        " old %" G_GUINT64_FORMAT " refused %" G_GUINT64_FORMAT, self->counts.coded - self->begun.coded,
+        self->counts.packets - self->begun.packets, self->counts.noted - self->begun.noted,
+        self->counts.old - self->begun.old, self->counts.malformed - self->begun.malformed);
+    g_mutex_unlock (&self->lock);
+  }
+  if (self->end.kind)
+    h263rps_sender_finish (&self->end);
+  g_clear_pointer (&self->packed, g_free);
+  g_clear_pointer (&self->record, gst_h263rps_record_free);
+}
+
+/* Bytes a picture, under the object's lock. */
+static guint
+target_of (GstH263RpsSend * self)
+{
+  guint64 bytes = gst_util_uint64_scale (self->bitrate / 8, self->info.fps_d, self->info.fps_n);
+
+  return CLAMP (bytes, 1, MOST_TARGET);
+}
+
+static void
+read_params (GstH263RpsSend * self, guint format)
+{
+  guint mtu = GST_RTP_BASE_PAYLOAD_MTU (self);
+
+  h263rps_defaults (format, &self->params);
+  self->params.limit = CLAMP (mtu, LEAST_LIMIT, MOST_LIMIT);
+  if (self->params.limit != mtu)
+    GST_WARNING_OBJECT (self, "an mtu of %u counts as %u", mtu, self->params.limit);
+
+  GST_OBJECT_LOCK (self);
+  self->params.quant = self->quant;
+  self->params.radius = self->radius;
+  self->params.slots = self->slots;
+  self->params.lead = self->lead;
+  self->params.clock = self->custom_clock ? H263RPS_CUSTOM_CLOCK : H263RPS_STANDARD_CLOCK;
+  self->params.target = target_of (self);
+  GST_OBJECT_UNLOCK (self);
+}
+
+static void
+begin_record (GstH263RpsSend * self)
+{
+  GError *error = NULL;
+  gchar *folder;
+
+  GST_OBJECT_LOCK (self);
+  folder = g_strdup (self->record_location);
+  GST_OBJECT_UNLOCK (self);
+  if (!folder)
+    return;
+
+  self->record = gst_h263rps_record_new (folder, "send", ++self->recorded, &error);
+  g_free (folder);
+  if (!self->record) {
+    GST_ELEMENT_WARNING (self, RESOURCE, OPEN_WRITE, ("%s", error->message), (NULL));
+    g_clear_error (&error);
+    return;
+  }
+  gst_h263rps_record_head (self->record, self->info.width, self->info.height, self->info.fps_n,
+      self->info.fps_d);
+}
+
+/* Once the first picture's packets have gone out: the base class numbers them. */
+static void
+record_facts (GstH263RpsSend * self, guint packets)
+{
+  guint last, first;
+
+  g_object_get (self, "seqnum", &last, "timestamp", &first, NULL);
+  gst_h263rps_record_facts (self->record, "\"format\": \"%s\", \"rate\": \"%d/%d\", "
+      "\"clock\": \"%s\", \"target\": %u, \"quant\": %u, \"limit\": %u, \"slots\": %u, "
+      "\"lead\": %u, \"source\": %u, \"first_sequence\": %u, \"first_time\": %u",
+      gst_h263rps_format_name (self->params.format), self->info.fps_n, self->info.fps_d,
+      self->params.clock ? "custom" : "standard", self->params.target, self->params.quant,
+      self->params.limit, self->params.slots, self->params.lead,
+      GST_RTP_BASE_PAYLOAD (self)->current_ssrc, (guint) (guint16) (last - packets + 1), first);
+}
+
+static gboolean
+begin_run (GstH263RpsSend * self)
+{
+  guint32 status, fault = 0;
+  guint format = gst_h263rps_format_of_size (self->info.width, self->info.height);
+
+  finish_run (self);
+  read_params (self, format);
+  status = h263rps_sender_start (&self->end, &self->params, &fault);
+  if (status != H263RPS_OK) {
+    GST_ELEMENT_ERROR (self, LIBRARY, SETTINGS, ("%s", h263rps_status_text (status)),
+        ("parameter %u, slots %u, lead %u", fault, self->params.slots, self->params.lead));
+    return FALSE;
+  }
+  self->size = h263rps_picture_size (format);
+  self->packed = g_malloc (self->size);
+  begin_record (self);
+
+  g_mutex_lock (&self->lock);
+  self->waiting_count = 0;
+  self->has_speaker = FALSE;
+  self->counts.runs++;
+  self->begun = self->counts;
+  g_mutex_unlock (&self->lock);
+  return TRUE;
+}
+
+/* The parameters of RFC 4629, 8.1, and of RFC 4585, 4.2, as they stand in SDP; and what a receiver
+ * of ours has to know besides. */
+static gboolean
+set_outcaps (GstH263RpsSend * self)
+{
+  static const gchar *const sizes[] = { NULL, "sqcif", "qcif", "cif" };
+  GstRTPBasePayload *payload = GST_RTP_BASE_PAYLOAD (self);
+  gchar rate[G_ASCII_DTOSTR_BUF_SIZE];
+  gchar *slots = g_strdup_printf ("%u", self->params.slots);
+  gchar *lead = g_strdup_printf ("%u", self->params.lead);
+  gboolean result;
+
+  g_ascii_formatd (rate, sizeof rate, "%.6g", (gdouble) self->info.fps_n / self->info.fps_d);
+  gst_rtp_base_payload_set_options (payload, "video", TRUE, "H263-2000", 90000);
+  result = gst_rtp_base_payload_set_outcaps (payload,
+      sizes[self->params.format], G_TYPE_STRING, "1",
+      "k", G_TYPE_STRING, "1", "n", G_TYPE_STRING, "4",
+      "x-slots", G_TYPE_STRING, slots, "x-lead", G_TYPE_STRING, lead,
+      "a-framerate", G_TYPE_STRING, rate,
+      "rtcp-fb-ack-rpsi", G_TYPE_BOOLEAN, TRUE,
+      "rtcp-fb-nack-rpsi", G_TYPE_BOOLEAN, TRUE,
+      "rtcp-fb-nack-pli", G_TYPE_BOOLEAN, TRUE, NULL);
+  g_free (slots);
+  g_free (lead);
+  return result;
+}
+
+/* A sender that starts anew counts from 0: a new SSRC says so. */
+static gboolean
+begin_anew (GstH263RpsSend * self)
+{
+  if (!begin_run (self))
+    return FALSE;
+  GST_RTP_BASE_PAYLOAD (self)->current_ssrc = g_random_int ();
+  return set_outcaps (self);
+}
+
+static gboolean
+gst_h263rps_send_set_caps (GstRTPBasePayload * payload, GstCaps * caps)
+{
+  GstH263RpsSend *self = GST_H263RPS_SEND (payload);
+  GstVideoInfo info;
+  gboolean is_same;
+
+  if (!gst_video_info_from_caps (&info, caps) || info.fps_n <= 0
+      || gst_h263rps_format_of_size (info.width, info.height) == 0)
+    return FALSE;
+
+  is_same = self->end.kind && info.width == self->info.width && info.height == self->info.height;
+  if (is_same) {
+    /* Another rate: the same run, with another target. */
+    self->info = info;
+    return set_outcaps (self);
+  }
+  self->info = info;
+  if (self->end.kind)
+    return begin_anew (self);
+  return begin_run (self) && set_outcaps (self);
+}
+
+/* ---- what comes back ---- */
+
+static gboolean
+is_lately (gint64 when)
+{
+  return g_get_monotonic_time () - when < (gint64) (GST_H263RPS_SILENT / 1000);
+}
+
+/* Whether what this speaker says counts: where another was heard lately, it doesn't. A new one
+ * hasn't the pictures that another acknowledged. Under the lock. */
+static gboolean
+takes_speaker (GstH263RpsSend * self, guint32 speaker)
+{
+  if (self->has_speaker && speaker != self->speaker) {
+    if (is_lately (self->heard)) {
+      self->counts.other_speaker++;
+      return FALSE;
+    }
+    self->wants_intra = TRUE;
+    self->waiting_count = 0;
+  }
+  if (!self->has_speaker || speaker != self->speaker)
+    self->heard = g_get_monotonic_time ();
+  self->has_speaker = TRUE;
+  self->speaker = speaker;
+  return TRUE;
+}
+
+static void
+hear_message (GstH263RpsSend * self, guint32 speaker, guint32 about,
+    const h263rps_message * message)
+{
+  g_mutex_lock (&self->lock);
+  if (about != self->ssrc)
+    self->counts.stale++;
+  else if (takes_speaker (self, speaker)) {
+    if (self->waiting_count < MOST_WAITING)
+      self->waiting[self->waiting_count++] = *message;
+    else
+      self->counts.dropped++;
+  }
+  g_mutex_unlock (&self->lock);
+}
+
+/* An intra picture is asked for. Asked for too often none would be predicted any more. */
+static void
+ask_for_intra (GstH263RpsSend * self)
+{
+  gint64 now = g_get_monotonic_time (), least;
+
+  GST_OBJECT_LOCK (self);
+  least = self->min_force_key_unit_interval / 1000;
+  GST_OBJECT_UNLOCK (self);
+
+  g_mutex_lock (&self->lock);
+  if (self->intra_at != 0 && now - self->intra_at < least)
+    self->counts.intra_refused++;
+  else {
+    self->counts.intra_asked++;
+    self->wants_intra = TRUE;
+    self->intra_at = now;
+  }
+  g_mutex_unlock (&self->lock);
+}
+
+static void
+hear_picture_loss (GstH263RpsSend * self, guint32 speaker, guint32 about)
+{
+  gboolean counts;
+
+  g_mutex_lock (&self->lock);
+  counts = about == self->ssrc && (!self->has_speaker || speaker == self->speaker
+      || !is_lately (self->heard));
+  if (about != self->ssrc)
+    self->counts.stale++;
+  else if (!counts)
+    self->counts.other_speaker++;
+  g_mutex_unlock (&self->lock);
+  if (counts)
+    ask_for_intra (self);
+}
+
+static void
+hear_feedback (GstH263RpsSend * self, guint type, guint32 speaker, guint32 about,
+    const guint8 * fci, gsize length)
+{
+  h263rps_message message;
+
+  if (type == GST_RTCP_PSFB_TYPE_PLI)
+    hear_picture_loss (self, speaker, about);
+  else if (type == GST_RTCP_PSFB_TYPE_RPSI) {
+    if (gst_h263rps_rtcp_read_fci (&message, fci, length))
+      hear_message (self, speaker, about, &message);
+    else {
+      g_mutex_lock (&self->lock);
+      self->counts.malformed++;
+      g_mutex_unlock (&self->lock);
+    }
+  }
+}
+
+static void
+hear_packets (GstH263RpsSend * self, GstRTCPBuffer * rtcp)
+{
+  GstRTCPPacket packet;
+  gboolean more;
+
+  for (more = gst_rtcp_buffer_get_first_packet (rtcp, &packet); more;
+      more = gst_rtcp_packet_move_to_next (&packet)) {
+    if (gst_rtcp_packet_get_type (&packet) != GST_RTCP_TYPE_PSFB)
+      continue;
+    hear_feedback (self, gst_rtcp_packet_fb_get_type (&packet),
+        gst_rtcp_packet_fb_get_sender_ssrc (&packet), gst_rtcp_packet_fb_get_media_ssrc (&packet),
+        gst_rtcp_packet_fb_get_fci (&packet), 4 * gst_rtcp_packet_fb_get_fci_length (&packet));
+  }
+}
+
+static GstFlowReturn
+gst_h263rps_send_rtcp_chain (GstPad * pad, GstObject * parent, GstBuffer * buffer)
+{
+  GstH263RpsSend *self = GST_H263RPS_SEND (parent);
+  GstRTCPBuffer rtcp = GST_RTCP_BUFFER_INIT;
+
+  if (gst_buffer_get_size (buffer) > 0 && gst_rtcp_buffer_validate_reduced (buffer)
+      && gst_rtcp_buffer_map (buffer, GST_MAP_READ, &rtcp)) {
+    hear_packets (self, &rtcp);
+    gst_rtcp_buffer_unmap (&rtcp);
+  } else {
+    g_mutex_lock (&self->lock);
+    self->counts.malformed++;
+    g_mutex_unlock (&self->lock);
+  }
+  gst_buffer_unref (buffer);
+  return GST_FLOW_OK;
+}
+
+/* Nothing that is said of the back channel concerns the stream. */
+static gboolean
+gst_h263rps_send_rtcp_event (GstPad * pad, GstObject * parent, GstEvent * event)
+{
+  gst_event_unref (event);
+  return TRUE;
+}
+
+static void
+on_feedback_rtcp (GObject * session, guint type, guint fbtype, guint speaker, guint about,
+    GstBuffer * fci, GstH263RpsSend * self)
+{
+  GstMapInfo map;
+
+  /* A picture loss indication comes by the session's own GstForceKeyUnit. */
+  if (type != GST_RTCP_TYPE_PSFB || fbtype != GST_RTCP_PSFB_TYPE_RPSI || !fci
+      || !gst_buffer_map (fci, &map, GST_MAP_READ))
+    return;
+  hear_feedback (self, fbtype, speaker, about, map.data, map.size);
+  gst_buffer_unmap (fci, &map);
+}
+
+/* The streaming thread hands over what came back before each picture. */
+static void
+tell_messages (GstH263RpsSend * self)
+{
+  h263rps_message waiting[MOST_WAITING];
+  guint count, noted = 0, old = 0, malformed = 0, i;
+
+  g_mutex_lock (&self->lock);
+  count = self->waiting_count;
+  memcpy (waiting, self->waiting, count * sizeof *waiting);
+  self->waiting_count = 0;
+  self->ssrc = GST_RTP_BASE_PAYLOAD (self)->current_ssrc;
+  g_mutex_unlock (&self->lock);
+
+  for (i = 0; i < count; i++) {
+    h263rps_reply reply;
+
+    if (h263rps_sender_feedback (&self->end, waiting[i].bytes, waiting[i].length, &reply))
+      continue;
+    gst_h263rps_record_entry (self->record, GST_H263RPS_RECORD_LOG, 'B', waiting[i].bytes,
+        waiting[i].length, running_time (self));
+    noted += reply.kind == H263RPS_NOTED;
+    old += reply.kind == H263RPS_OLD;
+    malformed += reply.kind == H263RPS_NO_MESSAGE;
+  }
+
+  g_mutex_lock (&self->lock);
+  if (noted)
+    self->heard = g_get_monotonic_time ();
+  self->counts.noted += noted;
+  self->counts.old += old;
+  self->counts.malformed += malformed;
+  g_mutex_unlock (&self->lock);
+}
+
+/* A new target, and an intra picture where one is asked for. */
+static void
+steer (GstH263RpsSend * self)
+{
+  gboolean wants_intra;
+  guint target, coded = 0;
+
+  GST_OBJECT_LOCK (self);
+  target = target_of (self);
+  GST_OBJECT_UNLOCK (self);
+  g_mutex_lock (&self->lock);
+  wants_intra = self->wants_intra;
+  self->wants_intra = FALSE;
+  g_mutex_unlock (&self->lock);
+
+  if (!wants_intra && target == self->params.target)
+    return;
+  h263rps_sender_sent (&self->end, &coded);
+  if (target != self->params.target) {
+    self->params.target = target;
+    h263rps_sender_target (&self->end, target);
+    gst_h263rps_record_line (self->record, GST_H263RPS_RECORD_STEPS, "%u target %u", coded, target);
+  }
+  if (wants_intra) {
+    h263rps_sender_forget (&self->end);
+    gst_h263rps_record_line (self->record, GST_H263RPS_RECORD_STEPS, "%u forget 0", coded);
+  }
+}
+
+/* ---- pictures ---- */
+
+/* Whether the planes lie as the library wants them: one after another, with no gaps. */
+static gboolean
+is_packed (GstVideoFrame * frame)
+{
+  const guint8 *next = GST_VIDEO_FRAME_COMP_DATA (frame, 0);
+  guint c;
+
+  for (c = 0; c < 3; c++) {
+    if (GST_VIDEO_FRAME_COMP_DATA (frame, c) != next
+        || GST_VIDEO_FRAME_COMP_STRIDE (frame, c) != GST_VIDEO_FRAME_COMP_WIDTH (frame, c))
+      return FALSE;
+    next += GST_VIDEO_FRAME_COMP_WIDTH (frame, c) * GST_VIDEO_FRAME_COMP_HEIGHT (frame, c);
+  }
+  return TRUE;
+}
+
+static const guint8 *
+packed_samples (GstH263RpsSend * self, GstVideoFrame * frame)
+{
+  guint8 *to = self->packed;
+  guint c;
+  gint y;
+
+  if (is_packed (frame))
+    return GST_VIDEO_FRAME_COMP_DATA (frame, 0);
+  for (c = 0; c < 3; c++) {
+    const guint8 *from = GST_VIDEO_FRAME_COMP_DATA (frame, c);
+
+    for (y = 0; y < GST_VIDEO_FRAME_COMP_HEIGHT (frame, c); y++) {
+      memcpy (to, from, GST_VIDEO_FRAME_COMP_WIDTH (frame, c));
+      to += GST_VIDEO_FRAME_COMP_WIDTH (frame, c);
+      from += GST_VIDEO_FRAME_COMP_STRIDE (frame, c);
+    }
+  }
+  return self->packed;
+}
+
+static guint32
+code_picture (GstH263RpsSend * self, GstVideoFrame * frame, h263rps_coded * coded)
+{
+  const guint8 *samples = packed_samples (self, frame);
+  guint32 status;
+
+  status = h263rps_sender_code (&self->end, samples, self->size, NULL, 0, coded);
+  if (status != H263RPS_OK)
+    return status;
+  gst_h263rps_record_entry (self->record, GST_H263RPS_RECORD_LOG, 'S', NULL, 0,
+      running_time (self));
+  gst_h263rps_record_frame (self->record, NULL, samples, self->size, GST_CLOCK_TIME_NONE);
+  if (coded->intra)
+    gst_h263rps_record_line (self->record, GST_H263RPS_RECORD_REPORT, "%u intra", coded->number);
+  else
+    gst_h263rps_record_line (self->record, GST_H263RPS_RECORD_REPORT, "%u from %u", coded->number,
+        coded->reference);
+  return status;
+}
+
+static GstBufferList *
+packets_of (GstH263RpsSend * self, const h263rps_coded * coded, GstBuffer * picture,
+    guint64 * bytes)
+{
+  GstBufferList *list = gst_buffer_list_new_sized (coded->packets);
+  guint i;
+
+  *bytes = 0;
+  for (i = 0; i < coded->packets; i++) {
+    GstBuffer *packet = gst_buffer_new_allocate (NULL, self->params.limit, NULL);
+    GstMapInfo map;
+    gsize count = 0;
+
+    gst_buffer_map (packet, &map, GST_MAP_WRITE);
+    h263rps_sender_packet (&self->end, i, map.data, map.size, &count);
+    gst_h263rps_record_entry (self->record, GST_H263RPS_RECORD_WIRE, 'K', map.data, count,
+        running_time (self));
+    gst_buffer_unmap (packet, &map);
+    gst_buffer_set_size (packet, count);
+    /* Not the offset: the base class would count RTP's time by it (perfect-rtptime). */
+    GST_BUFFER_PTS (packet) = GST_BUFFER_PTS (picture);
+    gst_buffer_list_add (list, packet);
+    *bytes += count;
+  }
+  return list;
+}
+
+static void
+count_picture (GstH263RpsSend * self, const h263rps_coded * coded, guint64 bytes)
+{
+  g_mutex_lock (&self->lock);
+  self->counts.coded++;
+  self->counts.intra += coded->intra;
+  if (!coded->intra)
+    self->counts.distance += coded->number - coded->reference;
+  self->counts.packets += coded->packets;
+  self->counts.bytes += bytes;
+  g_mutex_unlock (&self->lock);
+}
+
+static GstFlowReturn
+gst_h263rps_send_handle_buffer (GstRTPBasePayload * payload, GstBuffer * buffer)
+{
+  GstH263RpsSend *self = GST_H263RPS_SEND (payload);
+  GstVideoFrame frame;
+  GstBufferList *list;
+  h263rps_coded coded;
+  guint32 status;
+  guint64 bytes;
+  GstFlowReturn flow;
+
+  if (!self->end.kind)
+    goto not_negotiated;
+  if (!gst_video_frame_map (&frame, &self->info, buffer, GST_MAP_READ))
+    goto no_frame;
+
+  tell_messages (self);
+  steer (self);
+  status = code_picture (self, &frame, &coded);
+  if (status == H263RPS_ENDED && begin_anew (self)) {
+    tell_messages (self);
+    status = code_picture (self, &frame, &coded);
+  }
+  gst_video_frame_unmap (&frame);
+  if (status != H263RPS_OK)
+    goto refused;
+
+  list = packets_of (self, &coded, buffer, &bytes);
+  count_picture (self, &coded, bytes);
+  gst_buffer_unref (buffer);
+  GST_LOG_OBJECT (self, "picture %u, %u packets, %" G_GUINT64_FORMAT " bytes, %s %u",
+      coded.number, coded.packets, bytes, coded.intra ? "intra" : "from", coded.reference);
+  flow = gst_rtp_base_payload_push_list (payload, list);
+  if (coded.number == 0 && self->record)
+    record_facts (self, coded.packets);
+  return flow;
+
+not_negotiated:
+  gst_buffer_unref (buffer);
+  return GST_FLOW_NOT_NEGOTIATED;
+
+no_frame:
+  GST_ELEMENT_WARNING (self, STREAM, FORMAT, (NULL), ("a buffer is no picture of the caps"));
+  gst_buffer_unref (buffer);
+  return GST_FLOW_OK;
+
+refused:
+  GST_ELEMENT_ERROR (self, LIBRARY, FAILED, ("%s", h263rps_status_text (status)), (NULL));
+  gst_buffer_unref (buffer);
+  return GST_FLOW_ERROR;
+}
+
+/* ---- events ---- */
+
+static gboolean
+gst_h263rps_send_sink_event (GstRTPBasePayload * payload, GstEvent * event)
+{
+  if (gst_video_event_is_force_key_unit (event))
+    ask_for_intra (GST_H263RPS_SEND (payload));
+  return GST_RTP_BASE_PAYLOAD_CLASS (parent_class)->sink_event (payload, event);
+}
+
+static gboolean
+gst_h263rps_send_src_event (GstRTPBasePayload * payload, GstEvent * event)
+{
+  GstH263RpsSend *self = GST_H263RPS_SEND (payload);
+  const GstStructure *structure = gst_event_get_structure (event);
+
+  if (gst_video_event_is_force_key_unit (event)) {
+    ask_for_intra (self);
+    gst_event_unref (event);
+    return TRUE;
+  }
+  /* The base class takes another SSRC, for which a receiver begins anew. */
+  if (structure && gst_structure_has_name (structure, "GstRTPCollision")) {
+    g_mutex_lock (&self->lock);
+    self->wants_intra = TRUE;
+    g_mutex_unlock (&self->lock);
+  }
+  return GST_RTP_BASE_PAYLOAD_CLASS (parent_class)->src_event (payload, event);
+}
+
+/* No query or event goes from the back channel to the stream, also where a call with itself closes
+ * the loop. */
+static GstIterator *
+gst_h263rps_send_iterate_links (GstPad * pad, GstObject * parent)
+{
+  GstH263RpsSend *self = GST_H263RPS_SEND (parent);
+  GstRTPBasePayload *payload = GST_RTP_BASE_PAYLOAD (self);
+  GstPad *other;
+  GstIterator *iterator;
+  GValue value = G_VALUE_INIT;
+
+  if (pad == self->rtcp_sinkpad)
+    return gst_iterator_new_single (GST_TYPE_PAD, NULL);
+  other = pad == payload->sinkpad ? payload->srcpad : payload->sinkpad;
+  g_value_init (&value, GST_TYPE_PAD);
+  g_value_set_object (&value, other);
+  iterator = gst_iterator_new_single (GST_TYPE_PAD, &value);
+  g_value_unset (&value);
+  return iterator;
+}
+
+/* ---- the object ---- */
+
+static void
+set_session (GstH263RpsSend * self, GObject * session)
+{
+  GObject *old;
+  gulong old_handler;
+
+  if (session) {
+    if (g_signal_lookup ("on-feedback-rtcp", G_OBJECT_TYPE (session)) == 0) {
+      GST_WARNING_OBJECT (self, "a %s is no session of RTP", G_OBJECT_TYPE_NAME (session));
+      return;
+    }
+    g_object_ref (session);
+  }
+  GST_OBJECT_LOCK (self);
+  old = self->session;
+  old_handler = self->session_handler;
+  self->session = session;
+  self->session_handler = 0;
+  GST_OBJECT_UNLOCK (self);
+
+  if (old) {
+    g_signal_handler_disconnect (old, old_handler);
+    g_object_unref (old);
+  }
+  if (session)
+    self->session_handler =
+        g_signal_connect_object (session, "on-feedback-rtcp", G_CALLBACK (on_feedback_rtcp), self,
+        0);
+}
+
+static void
+gst_h263rps_send_set_property (GObject * object, guint id, const GValue * value,
+    GParamSpec * pspec)
+{
+  GstH263RpsSend *self = GST_H263RPS_SEND (object);
+
+  if (id == PROP_SESSION) {
+    set_session (self, g_value_get_object (value));
+    return;
+  }
+
+  GST_OBJECT_LOCK (self);
+  switch (id) {
+    case PROP_BITRATE:
+      self->bitrate = g_value_get_uint (value);
+      break;
+    case PROP_QUANT:
+      self->quant = g_value_get_uint (value);
+      break;
+    case PROP_RADIUS:
+      self->radius = g_value_get_uint (value);
+      break;
+    case PROP_SLOTS:
+      self->slots = g_value_get_uint (value);
+      break;
+    case PROP_LEAD:
+      self->lead = g_value_get_uint (value);
+      break;
+    case PROP_CUSTOM_CLOCK:
+      self->custom_clock = g_value_get_boolean (value);
+      break;
+    case PROP_MIN_FORCE_KEY_UNIT_INTERVAL:
+      self->min_force_key_unit_interval = g_value_get_uint64 (value);
+      break;
+    case PROP_RECORD_LOCATION:
+      g_free (self->record_location);
+      self->record_location = g_value_dup_string (value);
+      break;
+    default:
+      G_OBJECT_WARN_INVALID_PROPERTY_ID (object, id, pspec);
+      break;
+  }
+  GST_OBJECT_UNLOCK (self);
+}
+
+/* The base class's statistics and those of the call. */
+static GstStructure *
+create_stats (GstH263RpsSend * self)
+{
+  GParamSpec *pspec = g_object_class_find_property (G_OBJECT_CLASS (parent_class), "stats");
+  GstStructure *stats;
+  GValue value = G_VALUE_INIT;
+  Counts counts;
+  guint64 predicted;
+
+  g_value_init (&value, GST_TYPE_STRUCTURE);
+  G_OBJECT_CLASS (parent_class)->get_property (G_OBJECT (self), pspec->param_id, &value, pspec);
+  stats = g_value_dup_boxed (&value);
+  g_value_unset (&value);
+
+  g_mutex_lock (&self->lock);
+  counts = self->counts;
+  g_mutex_unlock (&self->lock);
+  predicted = counts.coded - counts.intra;
+  gst_structure_set (stats,
+      "coded", G_TYPE_UINT64, counts.coded,
+      "intra", G_TYPE_UINT64, counts.intra,
+      "packets", G_TYPE_UINT64, counts.packets,
+      "bytes", G_TYPE_UINT64, counts.bytes,
+      "mean-distance", G_TYPE_DOUBLE, predicted ? (gdouble) counts.distance / predicted : 0.0,
+      "noted", G_TYPE_UINT64, counts.noted,
+      "old", G_TYPE_UINT64, counts.old,
+      "malformed", G_TYPE_UINT64, counts.malformed,
+      "stale", G_TYPE_UINT64, counts.stale,
+      "other-speaker", G_TYPE_UINT64, counts.other_speaker,
+      "dropped", G_TYPE_UINT64, counts.dropped,
+      "runs", G_TYPE_UINT64, counts.runs,
+      "intra-asked", G_TYPE_UINT64, counts.intra_asked,
+      "intra-refused", G_TYPE_UINT64, counts.intra_refused, NULL);
+  return stats;
+}
+
+static void
+gst_h263rps_send_get_property (GObject * object, guint id, GValue * value, GParamSpec * pspec)
+{
+  GstH263RpsSend *self = GST_H263RPS_SEND (object);
+
+  if (id == PROP_STATS) {
+    g_value_take_boxed (value, create_stats (self));
+    return;
+  }
+
+  GST_OBJECT_LOCK (self);
+  switch (id) {
+    case PROP_BITRATE:
+      g_value_set_uint (value, self->bitrate);
+      break;
+    case PROP_QUANT:
+      g_value_set_uint (value, self->quant);
+      break;
+    case PROP_RADIUS:
+      g_value_set_uint (value, self->radius);
+      break;
+    case PROP_SLOTS:
+      g_value_set_uint (value, self->slots);
+      break;
+    case PROP_LEAD:
+      g_value_set_uint (value, self->lead);
+      break;
+    case PROP_CUSTOM_CLOCK:
+      g_value_set_boolean (value, self->custom_clock);
+      break;
+    case PROP_MIN_FORCE_KEY_UNIT_INTERVAL:
+      g_value_set_uint64 (value, self->min_force_key_unit_interval);
+      break;
+    case PROP_SESSION:
+      g_value_set_object (value, self->session);
+      break;
+    case PROP_RECORD_LOCATION:
+      g_value_set_string (value, self->record_location);
+      break;
+    default:
+      G_OBJECT_WARN_INVALID_PROPERTY_ID (object, id, pspec);
+      break;
+  }
+  GST_OBJECT_UNLOCK (self);
+}
+
+static GstStateChangeReturn
+gst_h263rps_send_change_state (GstElement * element, GstStateChange transition)
+{
+  GstH263RpsSend *self = GST_H263RPS_SEND (element);
+  GstStateChangeReturn result;
+
+  if (transition == GST_STATE_CHANGE_READY_TO_PAUSED) {
+    g_mutex_lock (&self->lock);
+    memset (&self->counts, 0, sizeof self->counts);
+    self->waiting_count = 0;
+    self->has_speaker = self->wants_intra = FALSE;
+    self->intra_at = 0;
+    g_mutex_unlock (&self->lock);
+  }
+  result = GST_ELEMENT_CLASS (parent_class)->change_state (element, transition);
+  if (transition == GST_STATE_CHANGE_PAUSED_TO_READY)
+    finish_run (self);
+  return result;
+}
+
+static void
+gst_h263rps_send_dispose (GObject * object)
+{
+  set_session (GST_H263RPS_SEND (object), NULL);
+  G_OBJECT_CLASS (parent_class)->dispose (object);
+}
+
+static void
+gst_h263rps_send_finalize (GObject * object)
+{
+  GstH263RpsSend *self = GST_H263RPS_SEND (object);
+
+  finish_run (self);
+  g_free (self->record_location);
+  g_mutex_clear (&self->lock);
+  G_OBJECT_CLASS (parent_class)->finalize (object);
+}
+
+static void
+gst_h263rps_send_init (GstH263RpsSend * self)
+{
+  GstRTPBasePayload *payload = GST_RTP_BASE_PAYLOAD (self);
+
+  self->bitrate = DEFAULT_BITRATE;
+  self->quant = DEFAULT_QUANT;
+  self->radius = DEFAULT_RADIUS;
+  self->slots = DEFAULT_SLOTS;
+  self->lead = DEFAULT_LEAD;
+  self->custom_clock = DEFAULT_CUSTOM_CLOCK;
+  self->min_force_key_unit_interval = DEFAULT_MIN_FORCE_KEY_UNIT_INTERVAL;
+  g_mutex_init (&self->lock);
+
+  self->rtcp_sinkpad = gst_pad_new_from_static_template (&rtcp_sink_template, "rtcp_sink");
+  gst_pad_set_chain_function (self->rtcp_sinkpad, gst_h263rps_send_rtcp_chain);
+  gst_pad_set_event_function (self->rtcp_sinkpad, gst_h263rps_send_rtcp_event);
+  gst_pad_set_iterate_internal_links_function (self->rtcp_sinkpad, gst_h263rps_send_iterate_links);
+  gst_pad_set_iterate_internal_links_function (payload->sinkpad, gst_h263rps_send_iterate_links);
+  gst_pad_set_iterate_internal_links_function (payload->srcpad, gst_h263rps_send_iterate_links);
+  gst_element_add_pad (GST_ELEMENT (self), self->rtcp_sinkpad);
+}
+
+static void
+gst_h263rps_send_class_init (GstH263RpsSendClass * klass)
+{
+  GObjectClass *object_class = G_OBJECT_CLASS (klass);
+  GstElementClass *element_class = GST_ELEMENT_CLASS (klass);
+  GstRTPBasePayloadClass *payload_class = GST_RTP_BASE_PAYLOAD_CLASS (klass);
+  const GParamFlags ready =
+      G_PARAM_READWRITE | G_PARAM_STATIC_STRINGS | GST_PARAM_MUTABLE_READY;
+  const GParamFlags playing =
+      G_PARAM_READWRITE | G_PARAM_STATIC_STRINGS | GST_PARAM_MUTABLE_PLAYING;
+
+  GST_DEBUG_CATEGORY_INIT (h263rpssend_debug, "h263rpssend", 0, "H.263 RPS sender");
+
+  object_class->set_property = gst_h263rps_send_set_property;
+  object_class->get_property = gst_h263rps_send_get_property;
+  object_class->dispose = gst_h263rps_send_dispose;
+  object_class->finalize = gst_h263rps_send_finalize;
+
+  /**
+   * GstH263RpsSend:bitrate:
+   *
+   * What the coder aims at, in bits a second, with the heads of RTP. From the next picture on the
+   * quantiser follows it, by the sizes of the last 16 pictures.
+   */
+  g_object_class_install_property (object_class, PROP_BITRATE,
+      g_param_spec_uint ("bitrate", "Bitrate", "Bits a second that the coder aims at",
+          1000, 100000000, DEFAULT_BITRATE, playing));
+  /**
+   * GstH263RpsSend:quant:
+   *
+   * The finest quantiser, and the first: 1 is fine, 31 coarse.
+   */
+  g_object_class_install_property (object_class, PROP_QUANT,
+      g_param_spec_uint ("quant", "Quantiser", "The first and the finest quantiser", 1, 31,
+          DEFAULT_QUANT, ready));
+  g_object_class_install_property (object_class, PROP_RADIUS,
+      g_param_spec_uint ("radius", "Radius", "Samples that the motion search goes, each way",
+          0, 15, DEFAULT_RADIUS, ready));
+  /**
+   * GstH263RpsSend:slots:
+   *
+   * Pictures that each end keeps. Both ends need the same: the caps of the packets, and so the
+   * SDP, tell the receiver (x-slots). References may lie slots less lead less 1 pictures back, so
+   * they must hold the round trip.
+   */
+  g_object_class_install_property (object_class, PROP_SLOTS,
+      g_param_spec_uint ("slots", "Slots", "Pictures that each end keeps", 2, 64, DEFAULT_SLOTS,
+          ready));
+  /**
+   * GstH263RpsSend:lead:
+   *
+   * Pictures that may come before their turn. Both ends need the same: the caps tell the receiver
+   * (x-lead). It must be one more than the pictures of the receiver's latency.
+   */
+  g_object_class_install_property (object_class, PROP_LEAD,
+      g_param_spec_uint ("lead", "Lead", "Pictures that may come before their turn", 0, 62,
+          DEFAULT_LEAD, ready));
+  g_object_class_install_property (object_class, PROP_CUSTOM_CLOCK,
+      g_param_spec_boolean ("custom-clock", "Custom clock",
+          "Number pictures by 10 bits in place of 8", DEFAULT_CUSTOM_CLOCK, ready));
+  g_object_class_install_property (object_class, PROP_MIN_FORCE_KEY_UNIT_INTERVAL,
+      g_param_spec_uint64 ("min-force-key-unit-interval", "Minimum force key unit interval",
+          "Least time between intra pictures that are asked for, in nanoseconds",
+          0, G_MAXINT64, DEFAULT_MIN_FORCE_KEY_UNIT_INTERVAL, playing));
+  /**
+   * GstH263RpsSend:session:
+   *
+   * The inner session of an rtpsession (its internal-session), an rtpbin (get-internal-session) or
+   * a webrtcbin, from which messages are heard, in place of the pad rtcp_sink.
+   */
+  g_object_class_install_property (object_class, PROP_SESSION,
+      g_param_spec_object ("session", "Session", "An inner session of RTP that hears the messages",
+          G_TYPE_OBJECT, playing));
+  /**
+   * GstH263RpsSend:record-location:
+   *
+   * A folder that gets what the end reads and writes, as `h263rps send` and the project's tools
+   * read it.
+   */
+  g_object_class_install_property (object_class, PROP_RECORD_LOCATION,
+      g_param_spec_string ("record-location", "Record location", "A folder to record the call in",
+          NULL, ready));
+  /**
+   * GstH263RpsSend:stats:
+   *
+   * Those of the base class, and of this call: pictures "coded" and of them "intra", "packets",
+   * "bytes", "mean-distance" to the reference in pictures; messages "noted", "old", "malformed",
+   * "stale" (about another SSRC), of an "other-speaker", and "dropped" for want of room; "runs";
+   * intra pictures "intra-asked" and "intra-refused" (too soon after another).
+   */
+  g_object_class_install_property (object_class, PROP_STATS,
+      g_param_spec_boxed ("stats", "Statistics", "Counts of the call", GST_TYPE_STRUCTURE,
+          G_PARAM_READABLE | G_PARAM_STATIC_STRINGS));
+
+  element_class->change_state = gst_h263rps_send_change_state;
+  gst_element_class_add_static_pad_template (element_class, &sink_template);
+  gst_element_class_add_static_pad_template (element_class, &src_template);
+  gst_element_class_add_static_pad_template (element_class, &rtcp_sink_template);
+  gst_element_class_set_static_metadata (element_class, "H.263 RPS sender",
+      "Codec/Encoder/Payloader/Network/RTP",
+      "Codes video in H.263 from acknowledged reference pictures, as RTP packets (RFC 4629)",
+      "Leuvasti maintainers <maintainers@users.noreply.leuvasti.example>");
+
+  payload_class->set_caps = gst_h263rps_send_set_caps;
+  payload_class->handle_buffer = gst_h263rps_send_handle_buffer;
+  payload_class->sink_event = gst_h263rps_send_sink_event;
+  payload_class->src_event = gst_h263rps_send_src_event;
+}

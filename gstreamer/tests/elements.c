@@ -1,0 +1,842 @@
+/* Tests of the elements by GStreamer's harness: pads, caps, states, events, queries, and what a
+ * network may send. Pictures are 60 a second. */
+#include <gst/check/gstcheck.h>
+#include <gst/check/gstharness.h>
+#include <gst/rtp/rtp.h>
+#include <gst/video/video.h>
+#include <string.h>
+
+#define CAPS(width, height) "video/x-raw, format = (string) I420, width = (int) " #width \
+    ", height = (int) " #height ", framerate = (fraction) 60/1"
+#define SUB_QCIF CAPS (128, 96)
+#define QCIF CAPS (176, 144)
+#define PERIOD (GST_SECOND / 60)
+/* The latency of the receivers here, in milliseconds: a busy machine may be late itself. */
+#define LATENCY 400
+#define LEAD 30
+#define SLOTS 63
+
+/* Both ends with a harness for each pair of pads. */
+typedef struct
+{
+  GstElement *send, *recv;
+  GstHarness *out, *back, *in, *said;
+  guint captured, size;
+  gint64 origin, next;          /* in us: the zero of times, and the next picture's */
+} Call;
+
+static GstHarness *
+quick_harness (GstElement * element, const gchar * sink, const gchar * src)
+{
+  GstHarness *harness = gst_harness_new_with_element (element, sink, src);
+
+  gst_harness_use_systemclock (harness);
+  return harness;
+}
+
+static void
+set_size (Call * call, const gchar * caps)
+{
+  GstVideoInfo info;
+  GstCaps *parsed = gst_caps_from_string (caps);
+
+  gst_video_info_from_caps (&info, parsed);
+  gst_caps_unref (parsed);
+  call->size = GST_VIDEO_INFO_SIZE (&info);
+  gst_harness_set_src_caps_str (call->out, caps);
+}
+
+static void
+begin_call (Call * call)
+{
+  memset (call, 0, sizeof *call);
+  call->origin = g_get_monotonic_time ();
+  call->send = gst_element_factory_make ("h263rpssend", NULL);
+  call->recv = gst_element_factory_make ("h263rpsrecv", NULL);
+  fail_unless (call->send && call->recv);
+  g_object_set (call->send, "slots", SLOTS, "lead", LEAD, NULL);
+  g_object_set (call->recv, "latency", LATENCY, NULL);
+  call->out = quick_harness (call->send, "sink", "src");
+  call->back = quick_harness (call->send, "rtcp_sink", NULL);
+  call->in = quick_harness (call->recv, "sink", "src");
+  call->said = quick_harness (call->recv, NULL, "rtcp_src");
+  gst_harness_set_live (call->out, TRUE);
+  gst_harness_set_live (call->in, TRUE);
+  gst_harness_set_src_caps_str (call->back, "application/x-rtcp");
+  set_size (call, SUB_QCIF);
+}
+
+static void
+end_call (Call * call)
+{
+  gst_harness_teardown (call->said);
+  gst_harness_teardown (call->in);
+  gst_harness_teardown (call->back);
+  gst_harness_teardown (call->out);
+  gst_object_unref (call->send);
+  gst_object_unref (call->recv);
+}
+
+/* A surface that moves. */
+static GstBuffer *
+picture_of (const Call * call)
+{
+  GstBuffer *buffer = gst_buffer_new_allocate (NULL, call->size, NULL);
+  GstMapInfo map;
+  gsize i;
+
+  gst_buffer_map (buffer, &map, GST_MAP_WRITE);
+  for (i = 0; i < map.size; i++)
+    map.data[i] = 60 + (i / 9 + 5 * call->captured + i * i / 4099) % 90;
+  gst_buffer_unmap (buffer, &map);
+  GST_BUFFER_PTS (buffer) = 1000 * (guint64) (g_get_monotonic_time () - call->origin);
+  GST_BUFFER_DURATION (buffer) = PERIOD;
+  return buffer;
+}
+
+static void
+capture (Call * call)
+{
+  fail_unless_equals_int (gst_harness_push (call->out, picture_of (call)), GST_FLOW_OK);
+  call->captured++;
+}
+
+static void
+pass_caps (Call * call)
+{
+  GstPad *pad = gst_element_get_static_pad (call->send, "src");
+  GstCaps *caps = gst_pad_get_current_caps (pad);
+
+  gst_harness_set_src_caps (call->in, caps);
+  gst_object_unref (pad);
+}
+
+/* What was sent goes to the receiver, and what it says to the sender. */
+static void
+pass_on (Call * call, gboolean is_lost)
+{
+  GstBuffer *buffer;
+
+  while ((buffer = gst_harness_try_pull (call->out))) {
+    if (is_lost)
+      gst_buffer_unref (buffer);
+    else
+      gst_harness_push (call->in, buffer);
+  }
+  while ((buffer = gst_harness_try_pull (call->said)))
+    gst_harness_push (call->back, buffer);
+}
+
+/* Pictures at their times; of each `lose` the last is lost, and with 0 none. Where the machine has
+ * stood still, the camera has, too: it makes up for nothing. */
+static void
+run_call (Call * call, guint pictures, guint lose)
+{
+  guint i;
+
+  for (i = 0; i < pictures; i++) {
+    gint64 left = call->next - g_get_monotonic_time ();
+
+    if (left > 0)
+      g_usleep (left);
+    call->next = g_get_monotonic_time () + PERIOD / 1000;
+    capture (call);
+    if (call->captured == 1)
+      pass_caps (call);
+    pass_on (call, lose && call->captured % lose == 0);
+  }
+}
+
+static guint64
+count_of (GstElement * element, const gchar * name)
+{
+  GstStructure *stats;
+  guint64 count = 0;
+
+  g_object_get (element, "stats", &stats, NULL);
+  fail_unless (gst_structure_get_uint64 (stats, name, &count), "no %s", name);
+  gst_structure_free (stats);
+  return count;
+}
+
+static guint
+ssrc_of (GstElement * element)
+{
+  GstStructure *stats;
+  guint ssrc = 0;
+
+  g_object_get (element, "stats", &stats, NULL);
+  gst_structure_get_uint (stats, "ssrc", &ssrc);
+  gst_structure_free (stats);
+  return ssrc;
+}
+
+static void
+assert_count (GstElement * element, const gchar * name, guint64 wanted)
+{
+  guint64 count = count_of (element, name);
+
+  fail_unless (count == wanted, "%s is %" G_GUINT64_FORMAT ", and not %" G_GUINT64_FORMAT, name,
+      count, wanted);
+}
+
+static void assert_at_least (GstElement * element, const gchar * name, guint64 least);
+
+/* A machine that stands still for a while makes some pictures late. */
+static void
+assert_nearly (GstElement * element, const gchar * name, guint64 most)
+{
+  assert_at_least (element, name, most * 4 / 5);
+  fail_unless (count_of (element, name) <= most);
+}
+
+static void
+assert_at_least (GstElement * element, const gchar * name, guint64 least)
+{
+  guint64 count = count_of (element, name);
+
+  fail_unless (count >= least, "%s is %" G_GUINT64_FORMAT ", and not %" G_GUINT64_FORMAT, name,
+      count, least);
+}
+
+/* Waits for what is still to be played. */
+static void
+drain (void)
+{
+  g_usleep (1000 * (LATENCY + 200));
+}
+
+/* ---- caps ---- */
+
+GST_START_TEST (test_templates)
+{
+  static const struct
+  {
+    const gchar *element, *pad, *caps;
+    gboolean is_taken;
+  } rows[] = {
+    {"h263rpssend", "sink", SUB_QCIF, TRUE},
+    {"h263rpssend", "sink", QCIF, TRUE},
+    {"h263rpssend", "sink", CAPS (352, 288), TRUE},
+    {"h263rpssend", "sink", CAPS (640, 480), FALSE},
+    {"h263rpssend", "sink", CAPS (176, 96), FALSE},
+    {"h263rpssend", "sink", "video/x-raw, format = (string) NV12, width = (int) 176, "
+          "height = (int) 144, framerate = (fraction) 30/1", FALSE},
+    {"h263rpssend", "sink", "video/x-raw, format = (string) I420, width = (int) 176, "
+          "height = (int) 144, framerate = (fraction) 0/1", FALSE},
+    {"h263rpsrecv", "sink", "application/x-rtp, media = (string) video, "
+          "clock-rate = (int) 90000, encoding-name = (string) H263-2000", TRUE},
+    {"h263rpsrecv", "sink", "application/x-rtp, media = (string) video, "
+          "clock-rate = (int) 90000, encoding-name = (string) H264", FALSE},
+  };
+  guint i;
+
+  for (i = 0; i < G_N_ELEMENTS (rows); i++) {
+    GstElement *element = gst_element_factory_make (rows[i].element, NULL);
+    GstPad *pad = gst_element_get_static_pad (element, rows[i].pad);
+    GstCaps *caps = gst_caps_from_string (rows[i].caps);
+
+    fail_unless (gst_pad_query_accept_caps (pad, caps) == rows[i].is_taken, "row %u", i);
+    gst_caps_unref (caps);
+    gst_object_unref (pad);
+    gst_object_unref (element);
+  }
+}
+GST_END_TEST;
+
+GST_START_TEST (test_caps_of_packets)
+{
+  static const gchar *const fields[][2] = {
+    {"sqcif", "1"}, {"k", "1"}, {"n", "4"}, {"x-slots", "63"}, {"x-lead", "30"},
+    {"a-framerate", "60"}, {"encoding-name", "H263-2000"}
+  };
+  Call call;
+  GstCaps *caps;
+  GstPad *pad;
+  guint i;
+
+  begin_call (&call);
+  capture (&call);
+  pad = gst_element_get_static_pad (call.send, "src");
+  caps = gst_pad_get_current_caps (pad);
+  for (i = 0; i < G_N_ELEMENTS (fields); i++)
+    fail_unless_equals_string (gst_structure_get_string (gst_caps_get_structure (caps, 0),
+            fields[i][0]), fields[i][1]);
+  gst_caps_unref (caps);
+  gst_object_unref (pad);
+  end_call (&call);
+}
+GST_END_TEST;
+
+/* ---- calls ---- */
+
+static guint
+marked (Call * call, const gchar * mark)
+{
+  GstBuffer *buffer;
+  guint count = 0;
+
+  while ((buffer = gst_harness_try_pull (call->in))) {
+    GstCustomMeta *meta = gst_buffer_get_custom_meta (buffer, "GstH263RpsMeta");
+    const gchar *is = gst_structure_get_string (gst_custom_meta_get_structure (meta), "mark");
+
+    fail_unless (g_str_equal (is, "exact")
+        != GST_BUFFER_FLAG_IS_SET (buffer, GST_BUFFER_FLAG_CORRUPTED));
+    fail_unless_equals_int (gst_buffer_get_size (buffer), call->size);
+    count += g_str_equal (is, mark);
+    gst_buffer_unref (buffer);
+  }
+  return count;
+}
+
+GST_START_TEST (test_a_call)
+{
+  Call call;
+
+  begin_call (&call);
+  run_call (&call, 60, 0);
+  drain ();
+  assert_nearly (call.recv, "exact", 60);
+  assert_count (call.recv, "malformed", 0);
+  assert_at_least (call.send, "noted", 50);
+  fail_unless (marked (&call, "exact") >= 48 - count_of (call.recv, "unshown"));
+  end_call (&call);
+}
+GST_END_TEST;
+
+GST_START_TEST (test_a_loss_costs_its_own_picture)
+{
+  Call call;
+
+  begin_call (&call);
+  run_call (&call, 60, 10);
+  drain ();
+  /* The last one is lost, and nothing after it says that it was there. */
+  assert_nearly (call.recv, "exact", 54);
+  assert_at_least (call.recv, "held", 5);
+  fail_unless (marked (&call, "held") >= 1);
+  end_call (&call);
+}
+GST_END_TEST;
+
+GST_START_TEST (test_events_in_order)
+{
+  static const GstEventType wanted[] =
+      { GST_EVENT_STREAM_START, GST_EVENT_CAPS, GST_EVENT_SEGMENT };
+  Call call;
+  guint i;
+
+  begin_call (&call);
+  run_call (&call, 10, 0);
+  drain ();
+  for (i = 0; i < G_N_ELEMENTS (wanted); i++) {
+    GstEvent *event = gst_harness_try_pull_event (call.in);
+
+    fail_unless (event != NULL);
+    fail_unless_equals_int (GST_EVENT_TYPE (event), wanted[i]);
+    gst_event_unref (event);
+  }
+  end_call (&call);
+}
+GST_END_TEST;
+
+GST_START_TEST (test_end_of_stream)
+{
+  Call call;
+  GstEvent *event;
+  gboolean is_ended = FALSE;
+
+  begin_call (&call);
+  run_call (&call, 10, 0);
+  fail_unless (gst_harness_push_event (call.in, gst_event_new_eos ()));
+  drain ();
+  assert_nearly (call.recv, "exact", 10);
+  while ((event = gst_harness_try_pull_event (call.in))) {
+    is_ended = GST_EVENT_TYPE (event) == GST_EVENT_EOS;
+    gst_event_unref (event);
+  }
+  fail_unless (is_ended);
+  end_call (&call);
+}
+GST_END_TEST;
+
+GST_START_TEST (test_flush)
+{
+  Call call;
+  GstSegment segment;
+
+  begin_call (&call);
+  run_call (&call, 30, 0);
+  drain ();
+  gst_harness_push_event (call.in, gst_event_new_flush_start ());
+  gst_harness_push_event (call.in, gst_event_new_flush_stop (TRUE));
+  gst_segment_init (&segment, GST_FORMAT_TIME);
+  gst_harness_push_event (call.in, gst_event_new_segment (&segment));
+  run_call (&call, 60, 0);
+  drain ();
+  /* It asks for an intra picture, and from that on all are exact. */
+  assert_count (call.recv, "intra-asked", 1);
+  assert_count (call.send, "intra-asked", 1);
+  assert_at_least (call.recv, "exact", 30 + 50);
+  end_call (&call);
+}
+GST_END_TEST;
+
+GST_START_TEST (test_another_size)
+{
+  Call call;
+  guint first;
+
+  begin_call (&call);
+  run_call (&call, 20, 0);
+  first = ssrc_of (call.send);
+  set_size (&call, QCIF);
+  capture (&call);
+  pass_caps (&call);
+  pass_on (&call, FALSE);
+  run_call (&call, 100, 0);
+  drain ();
+  fail_unless (ssrc_of (call.send) != first);
+  fail_unless_equals_int (ssrc_of (call.recv), ssrc_of (call.send));
+  assert_count (call.send, "runs", 2);
+  assert_count (call.recv, "runs", 2);
+  assert_at_least (call.recv, "exact", 20 + 20);
+  end_call (&call);
+}
+GST_END_TEST;
+
+/* ---- what is asked of the sender ---- */
+
+GST_START_TEST (test_force_key_unit)
+{
+  Call call;
+
+  begin_call (&call);
+  run_call (&call, 20, 0);
+  assert_at_least (call.send, "intra", 1);
+  gst_harness_push_upstream_event (call.out,
+      gst_video_event_new_upstream_force_key_unit (GST_CLOCK_TIME_NONE, TRUE, 1));
+  gst_harness_push_upstream_event (call.out,
+      gst_video_event_new_upstream_force_key_unit (GST_CLOCK_TIME_NONE, TRUE, 2));
+  assert_count (call.send, "intra-asked", 1);
+  assert_count (call.send, "intra-refused", 1);
+  {
+    guint64 before = count_of (call.send, "intra");
+
+    run_call (&call, 1, 0);
+    assert_count (call.send, "intra", before + 1);
+  }
+  run_call (&call, 20, 0);
+  drain ();
+  assert_nearly (call.recv, "exact", 41);
+  end_call (&call);
+}
+GST_END_TEST;
+
+GST_START_TEST (test_bitrate_while_playing)
+{
+  Call call;
+  guint64 before, between;
+
+  begin_call (&call);
+  g_object_set (call.send, "bitrate", 2000000, NULL);
+  run_call (&call, 60, 0);
+  before = count_of (call.send, "bytes");
+  g_object_set (call.send, "bitrate", 200000, NULL);
+  run_call (&call, 30, 0);
+  between = count_of (call.send, "bytes");
+  run_call (&call, 60, 0);
+  drain ();
+  fail_unless (2 * (count_of (call.send, "bytes") - between) < before);
+  assert_nearly (call.recv, "exact", 150);
+  end_call (&call);
+}
+GST_END_TEST;
+
+static GstBuffer *
+rpsi_of (guint32 speaker, guint32 about, guint8 first)
+{
+  GstRTCPBuffer rtcp = GST_RTCP_BUFFER_INIT;
+  GstRTCPPacket packet;
+  GstBuffer *buffer = gst_rtcp_buffer_new (64);
+  /* "Picture 0 came": with no marker it is refused. */
+  const guint8 fci[] = { 24, 96, first, 0x00, 0x20, 0, 0, 0 };
+
+  gst_rtcp_buffer_map (buffer, GST_MAP_READWRITE, &rtcp);
+  gst_rtcp_buffer_add_packet (&rtcp, GST_RTCP_TYPE_PSFB, &packet);
+  gst_rtcp_packet_fb_set_type (&packet, GST_RTCP_PSFB_TYPE_RPSI);
+  gst_rtcp_packet_fb_set_sender_ssrc (&packet, speaker);
+  gst_rtcp_packet_fb_set_media_ssrc (&packet, about);
+  gst_rtcp_packet_fb_set_fci_length (&packet, 2);
+  memcpy (gst_rtcp_packet_fb_get_fci (&packet), fci, sizeof fci);
+  gst_rtcp_buffer_unmap (&rtcp);
+  return buffer;
+}
+
+GST_START_TEST (test_one_speaker_counts)
+{
+  Call call;
+  guint about;
+
+  begin_call (&call);
+  run_call (&call, 20, 0);
+  about = ssrc_of (call.send);
+  gst_harness_push (call.back, rpsi_of (77, about, 0x80));
+  assert_count (call.send, "other-speaker", 1);
+  gst_harness_push (call.back, rpsi_of (77, about + 1, 0x80));
+  assert_count (call.send, "stale", 1);
+  run_call (&call, 20, 0);
+  drain ();
+  assert_nearly (call.recv, "exact", 40);
+  /* After half a second without the first one, another counts, and what it hasn't is forgotten. */
+  g_usleep (600000);
+  gst_harness_push (call.back, rpsi_of (77, about, 0x80));
+  assert_count (call.send, "other-speaker", 1);
+  {
+    guint64 before = count_of (call.send, "intra");
+
+    capture (&call);
+    assert_count (call.send, "intra", before + 1);
+  }
+  end_call (&call);
+}
+GST_END_TEST;
+
+/* ---- what a network may send ---- */
+
+GST_START_TEST (test_wrong_datagrams)
+{
+  GRand *rand = g_rand_new_with_seed (1);
+  Call call;
+  guint i, j;
+
+  begin_call (&call);
+  run_call (&call, 20, 0);
+  for (i = 0; i < 2000; i++) {
+    gsize length = g_rand_int_range (rand, 0, i % 100 == 0 ? 65000 : 80), k;
+    GstBuffer *buffer = gst_buffer_new_allocate (NULL, length, NULL);
+    GstMapInfo map;
+
+    gst_buffer_map (buffer, &map, GST_MAP_WRITE);
+    for (k = 0; k < map.size; k++)
+      map.data[k] = g_rand_int (rand);
+    if (i % 2 && length > 2) {
+      map.data[0] = 0x80;
+      map.data[1] = i % 4 == 1 ? 96 : 206;
+    }
+    gst_buffer_unmap (buffer, &map);
+    gst_harness_push (i % 3 ? call.in : call.back, buffer);
+    if (i % 100 == 0)
+      run_call (&call, 1, 0);
+  }
+  run_call (&call, 20, 0);
+  drain ();
+  assert_at_least (call.recv, "malformed", 1000);
+  assert_at_least (call.send, "malformed", 300);
+  assert_nearly (call.recv, "exact", call.captured);
+  for (j = 0; j < 3; j++)
+    fail_unless (ssrc_of (call.recv) == ssrc_of (call.send));
+  g_rand_free (rand);
+  end_call (&call);
+}
+GST_END_TEST;
+
+/* Packets of the call itself, changed in bits, under its own SSRC and others. */
+GST_START_TEST (test_changed_packets)
+{
+  GRand *rand = g_rand_new_with_seed (2);
+  Call call;
+  guint i;
+
+  begin_call (&call);
+  run_call (&call, 20, 0);
+  for (i = 0; i < 300; i++) {
+    GstBuffer *packet, *changed;
+    GstMapInfo map;
+    guint flips;
+
+    capture (&call);
+    packet = gst_harness_pull (call.out);
+    changed = gst_buffer_copy_deep (packet);
+    gst_buffer_map (changed, &map, GST_MAP_READWRITE);
+    for (flips = 0; flips < 1 + i % 3; flips++) {
+      gsize at = g_rand_int_range (rand, i % 2 ? 0 : 12, map.size);
+
+      map.data[at] ^= 1 << g_rand_int_range (rand, 0, 8);
+    }
+    gst_buffer_unmap (changed, &map);
+    gst_harness_push (call.in, changed);
+    gst_harness_push (call.in, packet);
+    pass_on (&call, FALSE);
+    g_usleep (PERIOD / 2000);
+  }
+  /* A bit of its own header may tell a false time: the call finds back within a second or so. */
+  run_call (&call, 240, 0);
+  drain ();
+  {
+    guint64 before = count_of (call.recv, "exact");
+
+    run_call (&call, 30, 0);
+    drain ();
+    assert_nearly (call.recv, "exact", before + 30);
+  }
+  g_rand_free (rand);
+  end_call (&call);
+}
+GST_END_TEST;
+
+/* Whole streams of strangers beside the call: none is followed while the call goes on. */
+GST_START_TEST (test_forged_streams)
+{
+  Call call, forged;
+  GstBuffer *buffer;
+  guint i;
+
+  begin_call (&call);
+  begin_call (&forged);
+  run_call (&call, 20, 0);
+  for (i = 0; i < 60; i++) {
+    capture (&forged);
+    while ((buffer = gst_harness_try_pull (forged.out)))
+      gst_harness_push (call.in, buffer);
+    run_call (&call, 1, 0);
+  }
+  drain ();
+  assert_nearly (call.recv, "exact", 80);
+  assert_at_least (call.recv, "other-source", 60);
+  assert_count (call.recv, "runs", 1);
+  /* When the call falls silent, another stream is followed from its first complete picture on. */
+  g_usleep (600000);
+  for (i = 0; i < 10; i++) {
+    capture (&forged);
+    while ((buffer = gst_harness_try_pull (forged.out)))
+      gst_harness_push (call.in, buffer);
+    /* Nobody answers it, so that its pictures are intra. */
+    g_usleep (PERIOD / 1000);
+  }
+  drain ();
+  fail_unless_equals_int (ssrc_of (call.recv), ssrc_of (forged.send));
+  assert_count (call.recv, "runs", 2);
+  end_call (&forged);
+  end_call (&call);
+}
+GST_END_TEST;
+
+GST_START_TEST (test_other_payload_type)
+{
+  Call call;
+  GstBuffer *buffer;
+
+  begin_call (&call);
+  run_call (&call, 5, 0);
+  g_object_set (call.send, "pt", 97, NULL);
+  capture (&call);
+  while ((buffer = gst_harness_try_pull (call.out))) {
+    GstMapInfo map;
+
+    gst_buffer_map (buffer, &map, GST_MAP_READWRITE);
+    map.data[1] = (map.data[1] & 0x80) | 97;
+    gst_buffer_unmap (buffer, &map);
+    gst_harness_push (call.in, buffer);
+  }
+  assert_at_least (call.recv, "other-payload-type", 1);
+  end_call (&call);
+}
+GST_END_TEST;
+
+/* ---- queries, states and properties ---- */
+
+GST_START_TEST (test_latency)
+{
+  Call call;
+  GstQuery *query = gst_query_new_latency ();
+  GstPad *pad;
+  GstClockTime least;
+  gboolean is_live;
+
+  begin_call (&call);
+  gst_harness_set_upstream_latency (call.in, 5 * GST_MSECOND);
+  pad = gst_element_get_static_pad (call.recv, "src");
+  fail_unless (gst_pad_query (pad, query));
+  gst_query_parse_latency (query, &is_live, &least, NULL);
+  fail_unless (is_live);
+  fail_unless_equals_uint64 (least, (LATENCY + 5) * GST_MSECOND);
+  gst_query_unref (query);
+  gst_object_unref (pad);
+
+  pad = gst_element_get_static_pad (call.recv, "rtcp_src");
+  query = gst_query_new_latency ();
+  fail_unless (gst_pad_query (pad, query));
+  gst_query_unref (query);
+  gst_object_unref (pad);
+  end_call (&call);
+}
+GST_END_TEST;
+
+GST_START_TEST (test_qos)
+{
+  Call call;
+
+  begin_call (&call);
+  run_call (&call, 10, 0);
+  fail_unless (gst_harness_push_upstream_event (call.in,
+          gst_event_new_qos (GST_QOS_TYPE_UNDERFLOW, 1.0, 60 * GST_SECOND,
+              gst_util_get_timestamp ())));
+  run_call (&call, 10, 0);
+  drain ();
+  /* They are played, and not shown. */
+  assert_nearly (call.recv, "exact", 20);
+  assert_at_least (call.recv, "unshown", 5);
+  end_call (&call);
+}
+GST_END_TEST;
+
+GST_START_TEST (test_paused)
+{
+  Call call;
+
+  begin_call (&call);
+  run_call (&call, 10, 0);
+  drain ();
+  fail_unless_equals_int (gst_element_set_state (call.recv, GST_STATE_PAUSED),
+      GST_STATE_CHANGE_NO_PREROLL);
+  run_call (&call, 10, 0);
+  assert_at_least (call.recv, "paused", 10);
+  assert_nearly (call.recv, "exact", 10);
+  fail_unless_equals_int (gst_element_set_state (call.recv, GST_STATE_PLAYING),
+      GST_STATE_CHANGE_SUCCESS);
+  run_call (&call, 120, 0);
+  drain ();
+  assert_at_least (call.recv, "exact", 80);
+  end_call (&call);
+}
+GST_END_TEST;
+
+GST_START_TEST (test_states)
+{
+  static const GstState states[] =
+      { GST_STATE_READY, GST_STATE_PLAYING, GST_STATE_NULL, GST_STATE_PAUSED, GST_STATE_PLAYING };
+  Call call;
+  guint i;
+
+  begin_call (&call);
+  for (i = 0; i < 200; i++) {
+    gst_element_set_state (call.send, states[i % 5]);
+    gst_element_set_state (call.recv, states[i % 5]);
+  }
+  gst_element_set_state (call.send, GST_STATE_NULL);
+  gst_element_set_state (call.recv, GST_STATE_NULL);
+  end_call (&call);
+}
+GST_END_TEST;
+
+GST_START_TEST (test_wrong_settings)
+{
+  Call call;
+  GObject *other = G_OBJECT (gst_element_factory_make ("identity", NULL));
+  GObject *session;
+  GstBus *bus = gst_bus_new ();
+  GstMessage *message;
+
+  begin_call (&call);
+  g_object_set (call.send, "session", other, NULL);
+  g_object_set (call.recv, "session", other, NULL);
+  g_object_get (call.send, "session", &session, NULL);
+  fail_unless (session == NULL);
+  g_object_get (call.recv, "session", &session, NULL);
+  fail_unless (session == NULL);
+
+  /* A lead that the slots don't hold. */
+  g_object_set (call.send, "slots", 5, "lead", 4, NULL);
+  gst_element_set_bus (call.send, bus);
+  set_size (&call, QCIF);
+  fail_unless (gst_harness_push (call.out, picture_of (&call)) != GST_FLOW_OK);
+  message = gst_bus_pop_filtered (bus, GST_MESSAGE_ERROR);
+  fail_unless (message != NULL);
+  gst_message_unref (message);
+  gst_element_set_bus (call.send, NULL);
+  gst_object_unref (bus);
+  gst_object_unref (other);
+  end_call (&call);
+}
+GST_END_TEST;
+
+/* A picture whose rows have gaps is the same picture. */
+GST_START_TEST (test_strides)
+{
+  gint y, c;
+  gsize offsets[GST_VIDEO_MAX_PLANES] = { 0, 192 * 144, 192 * 144 + 96 * 72 };
+  gint strides[GST_VIDEO_MAX_PLANES] = { 192, 96, 96 };
+  guint64 bytes[2];
+  guint with_gaps;
+
+  for (with_gaps = 0; with_gaps < 2; with_gaps++) {
+    Call call;
+    GstBuffer *packed, *buffer;
+
+    begin_call (&call);
+    set_size (&call, QCIF);
+    packed = picture_of (&call);
+    buffer = packed;
+    if (with_gaps) {
+      GstMapInfo from, to;
+      const guint8 *row;
+
+      buffer = gst_buffer_new_allocate (NULL, 192 * 144 * 3 / 2, NULL);
+      gst_buffer_map (packed, &from, GST_MAP_READ);
+      gst_buffer_map (buffer, &to, GST_MAP_WRITE);
+      memset (to.data, 17, to.size);
+      row = from.data;
+      for (c = 0; c < 3; c++)
+        for (y = 0; y < (c ? 72 : 144); y++) {
+          memcpy (to.data + offsets[c] + y * strides[c], row, c ? 88 : 176);
+          row += c ? 88 : 176;
+        }
+      gst_buffer_unmap (buffer, &to);
+      gst_buffer_unmap (packed, &from);
+      gst_buffer_add_video_meta_full (buffer, GST_VIDEO_FRAME_FLAG_NONE, GST_VIDEO_FORMAT_I420, 176,
+          144, 3, offsets, strides);
+      GST_BUFFER_PTS (buffer) = 0;
+      gst_buffer_unref (packed);
+    }
+    fail_unless_equals_int (gst_harness_push (call.out, buffer), GST_FLOW_OK);
+    bytes[with_gaps] = count_of (call.send, "bytes");
+    end_call (&call);
+  }
+  fail_unless_equals_uint64 (bytes[0], bytes[1]);
+}
+GST_END_TEST;
+
+static Suite *
+elements_suite (void)
+{
+  Suite *suite = suite_create ("h263rps");
+  TCase *chain = tcase_create ("elements");
+
+  tcase_set_timeout (chain, 120);
+  suite_add_tcase (suite, chain);
+  tcase_add_test (chain, test_templates);
+  tcase_add_test (chain, test_caps_of_packets);
+  tcase_add_test (chain, test_a_call);
+  tcase_add_test (chain, test_a_loss_costs_its_own_picture);
+  tcase_add_test (chain, test_events_in_order);
+  tcase_add_test (chain, test_end_of_stream);
+  tcase_add_test (chain, test_flush);
+  tcase_add_test (chain, test_another_size);
+  tcase_add_test (chain, test_force_key_unit);
+  tcase_add_test (chain, test_bitrate_while_playing);
+  tcase_add_test (chain, test_one_speaker_counts);
+  tcase_add_test (chain, test_wrong_datagrams);
+  tcase_add_test (chain, test_changed_packets);
+  tcase_add_test (chain, test_forged_streams);
+  tcase_add_test (chain, test_other_payload_type);
+  tcase_add_test (chain, test_latency);
+  tcase_add_test (chain, test_qos);
+  tcase_add_test (chain, test_paused);
+  tcase_add_test (chain, test_states);
+  tcase_add_test (chain, test_wrong_settings);
+  tcase_add_test (chain, test_strides);
+  return suite;
+}
+
+GST_CHECK_MAIN (elements);
