@@ -40,10 +40,6 @@ struct _GstH263RpsStart
 };
 
 G_GNUC_INTERNAL
-gboolean      gst_h263rps_start_read     (GstH263RpsStart * start, const guint8 * payload,
-                                          gsize length);
-
-G_GNUC_INTERNAL
 void          gst_h263rps_label_packet   (guint8 * packet);
 
 G_GNUC_INTERNAL

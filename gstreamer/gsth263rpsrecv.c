@@ -689,9 +689,8 @@ follow (GstH263RpsRecv * self, const GstH263RpsArrival * arrival, GstClockTime n
 
 /* What a packet says of its picture, whatever its payload type and SSRC are. */
 static gboolean
-read_start (GstH263RpsRecv * self, GstH263RpsStart * start, GstBuffer * buffer, GstRTPBuffer * rtp)
+read_start (GstH263RpsRecv * self, GstH263RpsStart * start, GstBuffer * buffer)
 {
-#ifdef H263RPS_VERSION
   gsize length = gst_buffer_extract (buffer, 0, self->room, ROOM);
   h263rps_start told;
 
@@ -702,10 +701,6 @@ read_start (GstH263RpsRecv * self, GstH263RpsStart * start, GstBuffer * buffer, 
   start->clock = told.clock;
   start->temporal_reference = told.temporal_reference;
   return TRUE;
-#else
-  return gst_h263rps_start_read (start, gst_rtp_buffer_get_payload (rtp),
-      gst_rtp_buffer_get_payload_len (rtp));
-#endif
 }
 
 static gboolean
@@ -721,7 +716,7 @@ read_arrival (GstH263RpsRecv * self, GstH263RpsArrival * arrival, GstBuffer * bu
   arrival->sequence = gst_rtp_buffer_get_seq (&rtp);
   arrival->timestamp = gst_rtp_buffer_get_timestamp (&rtp);
   arrival->pt = gst_rtp_buffer_get_payload_type (&rtp);
-  is_read = read_start (self, &arrival->start, buffer, &rtp);
+  is_read = read_start (self, &arrival->start, buffer);
   gst_rtp_buffer_unmap (&rtp);
   return is_read;
 }

@@ -148,7 +148,7 @@ gboolean
 gst_h263rps_run_play (GstH263RpsRun * run, guint8 * samples, h263rps_answer * answer,
     GstClockTime when)
 {
-  const uint8_t *lent = samples;
+  h263rps_lent lent = { samples, run->size };
   guint32 status = samples ? h263rps_receiver_play (&run->end, samples, run->size, answer)
       : h263rps_receiver_play_lent (&run->end, &lent, answer);
 
@@ -158,8 +158,8 @@ gst_h263rps_run_play (GstH263RpsRun * run, guint8 * samples, h263rps_answer * an
   }
   run->marks[answer->kind]++;
   gst_h263rps_record_entry (run->record, GST_H263RPS_RECORD_LOG, 'P', NULL, 0, when);
-  gst_h263rps_record_frame (run->record, gst_h263rps_mark_name (answer->kind), lent, run->size,
-      when);
+  gst_h263rps_record_frame (run->record, gst_h263rps_mark_name (answer->kind), lent.samples,
+      lent.length, when);
   gst_h263rps_record_line (run->record, GST_H263RPS_RECORD_REPORT, "%" G_GINT64_FORMAT " %s",
       run->played, gst_h263rps_mark_name (answer->kind));
   record_message (run, &answer->message, when);

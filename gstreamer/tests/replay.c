@@ -162,7 +162,7 @@ recv (char **words)
     return 2;
   while ((letter = entry (log))) {
     h263rps_answer answer;
-    const uint8_t *samples = picture;
+    h263rps_lent lent = { picture, size };
 
     if (letter == 'K') {
       memcpy (packet, body, length);
@@ -170,12 +170,12 @@ recv (char **words)
       compare_message (&answer.message, wire, &messages);
       continue;
     }
-    h263rps_receiver_play_lent (&end, &samples, &answer);
+    h263rps_receiver_play_lent (&end, &lent, &answer);
     /* The element began at this number, and the plays before it are of the log alone. */
     if (skipped++ < first)
       continue;
     compare (frame (video, line, sizeof line, picture, size)
-        && strcmp (line, marks[answer.kind]) == 0 && memcmp (picture, samples, size) == 0);
+        && strcmp (line, marks[answer.kind]) == 0 && memcmp (picture, lent.samples, size) == 0);
     plays++;
     compare_message (&answer.message, wire, &messages);
   }
