@@ -22,8 +22,6 @@ mod packet_collector_tests;
 #[cfg(test)]
 mod packet_cutter_tests;
 #[cfg(test)]
-mod packet_start_tests;
-#[cfg(test)]
 mod payload_join_tests;
 #[cfg(test)]
 mod payload_join_units_tests;

@@ -82,7 +82,7 @@ fn first_faults(rt: HostRuntime) {
         (&FLAT_PACKET[..11], Format::SubQcif, FaultKind::Short, 88),
         (&FLAT_PACKET[..12], Format::SubQcif, FaultKind::Ended, 96),
         (&FLAT_PACKET[..14], Format::SubQcif, FaultKind::Ended, 112),
-        (&FLAT_PACKET[..22], Format::SubQcif, FaultKind::Ended, 174),
+        (&FLAT_PACKET[..22], Format::SubQcif, FaultKind::Ended, 173),
         (&TELLING[..38], Format::Qcif, FaultKind::Ended, 304),
         (&SECOND_OF_CIF[..23], Format::Cif, FaultKind::Ended, 184),
         (&begun[..], Format::Cif, FaultKind::ExtraHeader, 184),
