@@ -31,7 +31,8 @@ place_of ring n = n + period_of ring - ring.begun
 pub record HoldsPackets (ring : SentPackets) (pictures : Pictures) : Type 0 where
   pub begun : ring.begun ≡ length pictures
   pub each : (n : ℕ) → n < length pictures → length pictures ≤ n + period_of ring
-      → IfSome (slice_get ring.pictures.items (place_of ring n)) (λ kept. HasPackets kept (slice_index_or pictures n []))
+      → IfSome (slice_get ring.pictures.items (place_of ring n))
+      (λ kept. HasPackets kept (slice_index_or pictures n []))
 
 -- of this many pictures, number n is among the last ones
 abbrev pub is_among_last : ℕ → ℕ → ℕ → Bool
@@ -39,7 +40,9 @@ is_among_last period count n = nat_lt n count && nat_le count (n + period)
 
 -- what is kept of picture n where it is among the last ones, and nothing of any other
 abbrev pub picture_at : SentPackets → ℕ → Option KeptPackets
-picture_at ring n = if is_among_last (period_of ring) ring.begun n then slice_get ring.pictures.items (place_of ring n) else None
+picture_at ring n =
+    if is_among_last (period_of ring) ring.begun n
+    then slice_get ring.pictures.items (place_of ring n) else None
 
 -- the packets of picture n where it is among the last ones, and none of any other
 abbrev pub kept_of : ℕ → Pictures → ℕ → List (List ℕ)
@@ -49,7 +52,8 @@ kept_of period pictures n =
 -- a picture was begun, and has room for one more packet, of this many bytes
 pub record HasRoom (ring : SentPackets) (size : ℕ) : Type 0 where
   pub begun : 0 < ring.begun
-  pub newest : IfSome (last_item ring.pictures.items) (λ kept. (count_in kept < ring.most) × (size_in kept + size ≤ ring.room))
+  pub newest : IfSome (last_item ring.pictures.items)
+      (λ kept. (count_in kept < ring.most) × (size_in kept + size ≤ ring.room))
 
 -- There is a place for each picture that the ring may keep, with memory for as many bytes and
 -- packets as it may have. None has more of either than its memory was taken for.

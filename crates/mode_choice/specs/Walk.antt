@@ -57,10 +57,11 @@ zero_block = record { levels = replicate 64 (pos 0) }
 abbrev pub AreZerosFrom : ℕ → List Block → Type 0
 AreZerosFrom n blocks = (d : Block) (b : ℕ) → n ≤ b → b < 6 → slice_index_or blocks b d ≡ zero_block
 
--- of the levels of a block those whose marks aren't in the rest stand at their places of the zigzag order, and zeros at the
--- places of the others; a mark is the bit of a level's place
+-- of the levels of a block those whose marks aren't in the rest stand at their places of the zigzag
+-- order, and zeros at the places of the others; a mark is the bit of a level's place
 pub record AreSet (standing : Standing) (keep : ℕ) (block : List ℤ) (rest : ℕ) (levels : List ℤ) : Type 0 where
   pub long : length levels ≡ 64
   pub stand : (k : ℕ) → k < 64 → slice_index_or levels k (pos 0)
-      ≡ (if nat_eq (bit_at rest (place_in standing k)) 0 then kept_level keep k (slice_index_or block (place_in standing k) (pos 0)) else pos 0)
+      ≡ (if nat_eq (bit_at rest (place_in standing k)) 0
+      then kept_level keep k (slice_index_or block (place_in standing k) (pos 0)) else pos 0)
   pub range : All IsLevel levels

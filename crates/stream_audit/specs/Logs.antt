@@ -51,4 +51,5 @@ StreamsAreAudited p = (version : ℕ) → 1 ≤ version → version ≤ 2 → (l
 
 -- the verdict on a log with these parameters is that with messages of any version
 abbrev pub VerdictOfEachVersion : Params → Type 0
-VerdictOfEachVersion p = (version : ℕ) (past : List LogEntry) → verdict_on (of_version version p) past ≡ verdict_on p past
+VerdictOfEachVersion p = (version : ℕ) (past : List LogEntry) →
+    verdict_on (of_version version p) past ≡ verdict_on p past
