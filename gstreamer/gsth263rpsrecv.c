@@ -406,7 +406,7 @@ static void
 play_shown (GstH263RpsRecv * self, GstClockTime due)
 {
   GstH263RpsRun *run = self->run;
-  GstBuffer *buffer = gst_buffer_new_allocate (NULL, run->size, NULL);
+  GstBuffer *buffer = gst_h263rps_run_picture (run);
   GstMapInfo map;
   h263rps_answer answer = { 0 };
   GstClockTime shown = running_time_of (self, due), latency = self->latency * GST_MSECOND;

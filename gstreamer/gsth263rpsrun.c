@@ -72,6 +72,10 @@ gst_h263rps_run_free (GstH263RpsRun * run)
     record_counts (run);
     gst_h263rps_record_free (run->record);
   }
+  if (run->pool) {
+    gst_buffer_pool_set_active (run->pool, FALSE);
+    gst_object_unref (run->pool);
+  }
   g_free (run);
 }
 
@@ -165,6 +169,39 @@ gst_h263rps_run_play (GstH263RpsRun * run, guint8 * samples, h263rps_answer * an
   record_message (run, &answer->message, when);
   h263rps_playout_played (&run->playout, run->played++);
   return TRUE;
+}
+
+static GstBufferPool *
+new_pool (guint size)
+{
+  GstBufferPool *pool = gst_buffer_pool_new ();
+  GstStructure *config = gst_buffer_pool_get_config (pool);
+
+  gst_buffer_pool_config_set_params (config, NULL, size, 0, 0);
+  gst_buffer_pool_set_config (pool, config);
+  gst_buffer_pool_set_active (pool, TRUE);
+  return pool;
+}
+
+/**
+ * gst_h263rps_run_picture:
+ * @run: a run
+ *
+ * Room for a picture, first of all where one lay that nobody shows any more: fresh memory costs a
+ * fault of the processor for each of its pages.
+ *
+ * Returns: (transfer full): a writable buffer of the picture's size
+ */
+GstBuffer *
+gst_h263rps_run_picture (GstH263RpsRun * run)
+{
+  GstBuffer *buffer = NULL;
+
+  if (!run->pool)
+    run->pool = new_pool (run->size);
+  if (gst_buffer_pool_acquire_buffer (run->pool, &buffer, NULL) != GST_FLOW_OK)
+    buffer = gst_buffer_new_allocate (NULL, run->size, NULL);
+  return buffer;
 }
 
 /* Whether no picture would ever be in time again: all that came of late was of pictures that were

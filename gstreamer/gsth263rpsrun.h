@@ -42,6 +42,7 @@ struct _GstH263RpsRun
   gboolean is_ended;
   guint64 marks[3], heard[6];
   GstH263RpsRecord *record;
+  GstBufferPool *pool;
 };
 
 G_GNUC_INTERNAL
@@ -66,6 +67,9 @@ gboolean        gst_h263rps_run_due     (const GstH263RpsRun * run, GstClockTime
 G_GNUC_INTERNAL
 gboolean        gst_h263rps_run_play    (GstH263RpsRun * run, guint8 * samples,
                                          h263rps_answer * answer, GstClockTime when);
+
+G_GNUC_INTERNAL
+GstBuffer *     gst_h263rps_run_picture (GstH263RpsRun * run);
 
 G_GNUC_INTERNAL
 gboolean        gst_h263rps_run_is_lost (const GstH263RpsRun * run, GstClockTime now);

@@ -204,7 +204,7 @@ class ForgedTest(Calls):
     @needs_library
     def test_a_forged_stream_that_is_never_complete_is_no_bar(self) -> None:
         """The sender begins anew in an outage, with another SSRC, while such a stream comes from before until after it:
-        a trial ends after a second, and the next one or the one after it is the sender's."""
+        its trial ends after a second, and the next one is the sender's."""
         call = ForgedCall(0)
         call.clock.at(5.0, call.sending._begin_anew)
 

@@ -12,6 +12,8 @@ import subprocess
 import sys
 import tempfile
 import unittest
+from collections import Counter
+from dataclasses import replace
 from pathlib import Path
 from typing import Any, Callable, Coroutine, Iterator, Optional
 from unittest import mock
@@ -479,6 +481,56 @@ class ServerTest(Room):
         self.assertTrue(record.is_cut)
         self.assertGreater(len(told.pictures), 15)
         self.assertEqual(told.pictures[0].number, 0)
+
+    @needs_library
+    def test_a_record_begins_in_a_call_with_another_side(self) -> None:
+        """Both sides show exact pictures again a second and a half later, and go on to; the folder has both ways."""
+        period, here, there = float(1 / y4m.RATE), free_port(), free_port()
+        self.phone._options = replace(self.phone._options, at="127.0.0.1", port=here)
+        places = ("127.0.0.2", there), ("127.0.0.1", here)
+        wanted = call.Wanted(settings(), *places, bad_network.BadNetwork(), None, in_process.library())
+        marks: dict[str, list[str]] = {"here": [], "there": []}
+
+        async def work() -> None:
+            other = call.PhoneCall(self.turns, wanted, lambda _: None)
+            other.on_picture = lambda canvas, mark, *_: marks["there"].append(mark)
+            async with self.opened() as page_:
+                await page_.send_str(json.dumps({**CALL, "host": "127.0.0.2", "port": there}))
+                while not (await self.words(page_, "state"))["calls"]:
+                    pass
+                show = self.phone._show
+                self.phone._show = lambda canvas, mark, *rest: (marks["here"].append(mark), show(canvas, mark, *rest))
+                self.phone.call.on_picture = self.phone._show
+
+                async def send(seconds: float) -> None:
+                    for number in range(round(seconds / period)):
+                        frame = made.made_frame(QCIF, 1, number)
+                        await page_.send_bytes(struct.pack("<d", number) + frame)
+                        other.capture(pictures.Captured(float(number), frame))
+                        await asyncio.sleep(period)
+
+                await send(2)
+                await page_.send_str('{"do": "record", "on": true}')
+                self.folder = Path((await self.words(page_, "state"))["folder"])
+                await send(1.5)
+                self.before = {side: Counter(of) for side, of in marks.items()}
+                for of in marks.values():
+                    of.clear()
+                await send(2)
+                await page_.send_str('{"do": "hang up"}')
+                while (await self.words(page_, "state"))["calls"]:
+                    pass
+            other.renounce()
+
+        with contextlib.chdir(self.room):
+            self.with_session(work)
+        for side, of in marks.items():
+            self.assertGreater(len(of), 40, side)
+            self.assertEqual(set(of), {"exact"}, (side, Counter(of), self.before))
+        ways = recorded_ways.ways_of(recorded.read_record(self.folder))
+        self.assertEqual(len(ways), 2)
+        for one in ways:
+            self.assertGreater(len(one.pictures), 60)
 
 
 if __name__ == "__main__":

@@ -8,6 +8,7 @@ import subprocess
 import time
 import unittest
 from pathlib import Path
+from unittest import mock
 
 from calltools import errors, logs, recorded, recorded_ways, recording
 from live_tests import Calls, free_port
@@ -193,6 +194,26 @@ class RecorderTest(Calls):
                 full.close()
         self.assertNotIn("counts", json.loads((folder / "call.json").read_text()))
         self.assertEqual(sorted(path.suffix for path in folder.iterdir() if path.suffix == ".new"), [])
+
+    def test_a_call_that_begins_anew_without_end_fills_no_disk(self) -> None:
+        """After so many runs of an end, kept at once or once tried, nothing more is recorded of that end."""
+        folder = self.room / "call"
+        recorder = recording.Recorder(folder, 0.0, {"format": "sub-qcif"})
+        with mock.patch.object(recording, "MOST_RUNS", 3):
+            for number in range(8):
+                run = recorder.run("recv", {}, number % 2 == 0)
+                run.write("log", b"P\0\0")
+                if number % 2:
+                    run.keep()
+                run.write("log", b"P\0\0")
+                self.assertEqual(run.held, 0)
+                run.close()
+            recorder.run("send", {}).close()
+        recorder.finish({})
+        told = json.loads((folder / "call.json").read_text())
+        self.assertEqual([len(told[end]) for end in ("recv", "send")], [3, 1])
+        logs = sorted(path.name for path in folder.iterdir() if path.name.startswith("recv") and path.suffix == ".log")
+        self.assertEqual(logs, ["recv-2.log", "recv-3.log", "recv.log"])
 
 
 if __name__ == "__main__":

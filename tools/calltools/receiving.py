@@ -23,8 +23,8 @@ _BEFORE = 2
 # A stream is followed as long as no more than this many seconds go by without a picture of it that is complete.
 _SILENT = 0.5
 # One that is tried has this many seconds for its first one, as long as its packets are no further apart than that; and
-# this many bytes of it are kept for the recording.
-_TRIAL, _QUIET, _MOST_HELD = 1.0, 0.5, 8 << 20
+# this many bytes of it are kept for the recording. One that failed then waits this long, so that another has its turn.
+_TRIAL, _QUIET, _MOST_HELD, _TURN = 1.0, 0.5, 8 << 20, 0.5
 # Plays a second by which the program joins streams that are tried.
 _JOINING = 1_024
 # Packets a second. The largest pictures that there can be, 30 a second, have fewer.
@@ -255,6 +255,8 @@ class Receiving(LiveEnd):
         self._run = self._begun()
         self._trial: Optional[ReceivingRun] = None
         self._next_trial, self._trial_ends = 0.0, Timer(lambda: None)
+        # The stream whose trial ended last without a complete picture, and when.
+        self._failed: tuple[Optional[int], float] = (None, 0.0)
         self._former: Optional[ReceivingRun] = None
         self._left = 0
 
@@ -327,6 +329,9 @@ class Receiving(LiveEnd):
             cause = "ahead of the clock" if source == self._source else "other source"
             self._tally.dropped[cause] += 1
             return
+        if self._has_failed(source, now):
+            self._tally.dropped["other source"] += 1
+            return
         came = self._probation.add(arrival)
         if came and self._may_try(now):
             self._try(came, now)
@@ -357,6 +362,10 @@ class Receiving(LiveEnd):
             self._end_trial()
         return True
 
+    def _has_failed(self, source: int, now: float) -> bool:
+        failed, when = self._failed
+        return source == failed and now - when < _TURN
+
     def _may_try(self, now: float) -> bool:
         return now >= self._next_trial and (not self._trial or now - self._trial.last > _QUIET)
 
@@ -377,6 +386,7 @@ class Receiving(LiveEnd):
     def _end_trial(self) -> None:
         self._trial_ends.cancel()
         if self._trial:
+            self._failed = self._trial.source, self._loop.now()
             self._trial.drop()
         self._trial = None
 

@@ -11,6 +11,9 @@ from .errors import BadInput
 from .live_settings import Settings
 
 VERSION = 1
+# Runs of an end that a folder takes. A call that begins anew more often is recorded no further, so that nobody can fill
+# a disk with files by streams of their own.
+MOST_RUNS = 1_000
 # What each end's run has: its key in call.json, the file's name, and whether it has times beside. One that follows the
 # line has a line a picture: the target in bytes, and the rate in kbit/s.
 TARGETS = ("targets", "targets", ".txt", False)
@@ -46,7 +49,10 @@ class RunRecord:
 
     def keep(self) -> None:
         """From now on it is in the folder, with all that was written before."""
+        held, self._held, self.held = self._held or [], None, 0
         number = self._recorder.runs_of(self._end) + 1
+        if number > MOST_RUNS:
+            return
         for key, name, suffix, has_times in self._rows:
             stem = name if number == 1 else f"{name}-{number}"
             self.facts[key] = stem + suffix
@@ -54,7 +60,6 @@ class RunRecord:
             if has_times:
                 self._recorder.open(self._times, key, stem + ".times")
         self._recorder.add(self._end, self)
-        held, self._held, self.held = self._held or [], None, 0
         for row in held:
             self._put(*row)
 

@@ -239,15 +239,14 @@ class Phone:
         return named if self._calls == 1 else named.with_name(f"{named.name}-{self._calls}")
 
     def _record(self, call: PhoneCall, is_on: bool) -> None:
-        # A record begins where both ends begin. With oneself they do so anew; another side would have to, as well.
+        # A record begins where both ends begin, so they do so anew. Another side follows the new stream once the old one
+        # is silent, and refers to no picture from before once its window has passed them.
         if is_on == (call.folder is not None) or call.is_over:
             return
         if not is_on:
             call.stop_recording()
             self._tell_state()
             return
-        if not call.is_alone:
-            raise Refused("record", "a recording begins with its call")
         call.on_over = lambda _: None
         call.renounce()
         self._call = None

@@ -151,14 +151,12 @@ class Phone {
     this.arrange();
   }
 
-  /* Before a call the button says whether that will be recorded. A recording of a call with another side begins with it. */
+  /* Before a call the button says whether that will be recorded. */
   tellRecord() {
-    const { calls, folder, alone } = this.state;
+    const { calls, folder } = this.state;
     const isOn = Boolean(calls ? folder : this.records);
     byId("record").setAttribute("aria-pressed", isOn);
     byId("record").querySelector("span").textContent = !isOn ? "Record" : calls ? "Recording" : "Will record";
-    byId("record").disabled = Boolean(calls && !folder && !alone);
-    byId("record").title = byId("record").disabled ? "A recording begins with its call" : "";
   }
 
   begin(state) {
