@@ -119,7 +119,8 @@ module _ {Frame Style Mb Picture MessageFault : Type 0} (pictures : Pictures Sty
       next_above pace frame 0 s ≡ next_by_kept pictures encoding rules pace frame s
 
   -- a sender that stands for entries holds their run, and the other way
-  pub record StandingIsHolding (pace : List ℕ → ℕ) (s : Sender Picture) (entries : List (SenderEntry Frame)) : Type 0 where
+  pub record StandingIsHolding (pace : List ℕ → ℕ) (s : Sender Picture)
+      (entries : List (SenderEntry Frame)) : Type 0 where
     pub holds : SenderStands pictures encoding rules pace s entries
         → SenderHolds s (sender_run pictures encoding rules pace entries)
     pub stands : SenderHolds s (sender_run pictures encoding rules pace entries)
