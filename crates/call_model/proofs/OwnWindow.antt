@@ -1,11 +1,10 @@
 -- A receiver whose window is at least its sender's follows it.
-use Rattle.std.proofs.Common.{◌≡◌, ℕ, ◌+◌, ◌-◌, ◌≤◌, Bool, refl, sym, ap, ◌∙◌, subst, arith, Option, Some, None, Ok, List, [], ◌∷◌, length}
-use Rattle.std.specs.Prelude.{slice_get}
-use Rattle.call_model.specs.Coding.{Rules, window, Slice, Message, Ack, Nack, Header, Piece, Pictures, Decoding, Coding, pictures_of}
+use Rattle.std.proofs.Common.{◌≡◌, ℕ, ◌+◌, ◌-◌, ◌≤◌, Bool, refl, sym, ap, ◌∙◌, subst, arith, Some, None, Ok, List, [], ◌∷◌, length}
+use Rattle.call_model.specs.Coding.{Rules, window, Message, Ack, Nack, Header, Decoding, Coding}
 use Rattle.call_model.specs.CodedPictures.{Coded}
 use Rattle.call_model.specs.IdealCall.{Event, Send, Deliver, Play, Back, NumberedMessage, Got, Lost, Call, Source, encoded}
 use Rattle.call_model.specs.Lawful.{IsPace, IsInPeriod, IsDecoding, IsCoding, IsRules}
-use Rattle.call_model.specs.OwnWindow.{with_own, IsWideEnough, SmallerLead, MoreSlots, AllSoundToSender, SoundToSenderIsSound, AnySenderIsFollowed, SteeredIsSoundToOwn, SteeredIsFollowedByOwn, EncoderIsFollowedByOwn, own_call}
+use Rattle.call_model.specs.OwnWindow.{with_own, IsWideEnough, SmallerLead, GreaterDifference, AllSoundToSender, SoundToSenderIsSound, AnySenderIsFollowed, SteeredIsSoundToOwn, SteeredIsFollowedByOwn, EncoderIsFollowedByOwn, own_call}
 use Rattle.call_model.specs.Sending.{nearest_below, nearest, called_complete, made_known, header_of, packets_of, message_flags}
 use Rattle.call_model.specs.Sound.{Packets, IsSoundPicture, IsPacket, IsSoundEvent, IsUnderstood}
 use Rattle.call_model.specs.Steering.{AreQuants, steered}
@@ -21,8 +20,8 @@ some_window s l t m room wide = omega (arith, room, wide)
 less_lead : (s l m : ℕ) → m ≤ l → s - l - 1 ≤ s - m - 1
 less_lead s l m less = omega (arith, less)
 
-more_slots : (s t l : ℕ) → s ≤ t → s - l - 1 ≤ t - l - 1
-more_slots s t l more = omega (arith, more)
+greater_difference : (s l t m : ℕ) → s + m ≤ t + l → s - l - 1 ≤ t - m - 1
+greater_difference s l t m greater = omega (arith, greater)
 
 -- what is in a window is in a wider one
 in_wider : (n m v w : ℕ) → v ≤ w → n ≤ m + v → n ≤ m + w
@@ -34,10 +33,10 @@ smaller_lead rules ruled lead less = record {
   window = less_lead rules.slots rules.lead lead less;
 }
 
-pub more_slots_alone : (rules : Rules) → MoreSlots rules
-more_slots_alone rules slots more small = record {
+pub wide_by_difference : (rules : Rules) → GreaterDifference rules
+wide_by_difference rules slots lead small greater = record {
   slots_small = small;
-  window = more_slots rules.slots slots rules.lead more;
+  window = greater_difference rules.slots rules.lead slots lead greater;
 }
 
 module _ (rules : Rules) (slots lead : ℕ) where

@@ -1,6 +1,6 @@
--- A receiver with slots and a lead of its own. It needs no more than a window that is as wide as its
--- sender's: then it takes every reference that the sender chooses.
-use Rattle.std.specs.Prelude.{◌≡◌, ℕ, ◌≤◌, ⊤, Bool, List, [], ◌∷◌, length, slice_get, Some}
+-- A receiver with slots and a lead of its own, which may differ from its sender's. All that it needs
+-- is a window that is at least the sender's: then it takes each reference that the sender chooses.
+use Rattle.std.specs.Prelude.{◌≡◌, ℕ, ◌+◌, ◌≤◌, ⊤, Bool, List, [], ◌∷◌, length, slice_get, Some}
 use Rattle.call_model.specs.Coding.{Rules, window, Decoding, Coding, pictures_of}
 use Rattle.call_model.specs.IdealCall.{Event, NumberedMessage, Call, Source, AllMayHappenFrom, call_from, encoded}
 use Rattle.call_model.specs.Lawful.{IsPace}
@@ -17,13 +17,14 @@ pub record IsWideEnough (rules : Rules) (slots lead : ℕ) : Type 0 where
   pub slots_small : slots ≤ rules.half
   pub window : window rules ≤ window (with_own rules slots lead)
 
--- so the lead may be smaller by itself,
+-- a smaller lead alone is enough,
 abbrev pub SmallerLead : Rules → Type 0
 SmallerLead rules = (lead : ℕ) → lead ≤ rules.lead → IsWideEnough rules rules.slots lead
 
--- and there may be more slots by themselves
-abbrev pub MoreSlots : Rules → Type 0
-MoreSlots rules = (slots : ℕ) → rules.slots ≤ slots → slots ≤ rules.half → IsWideEnough rules slots rules.lead
+-- and so are any slots and lead whose difference is at least the sender's
+abbrev pub GreaterDifference : Rules → Type 0
+GreaterDifference rules = (slots lead : ℕ) → slots ≤ rules.half → rules.slots + lead ≤ slots + rules.lead
+    → IsWideEnough rules slots lead
 
 module _ {Style Mb Picture Fault : Type 0} (decoding : Decoding Style Mb Picture Fault)
     (rules : Rules) (slots lead : ℕ) where
@@ -38,7 +39,8 @@ module _ {Style Mb Picture Fault : Type 0} (decoding : Decoding Style Mb Picture
     AllSoundToSender (e ∷ past) =
         IsSoundEvent decoding rules source packets (own_call past) e × AllSoundToSender past
 
-    -- the receiver follows that call, and the sender understands its messages by numbers of its own
+    -- the receiver follows that call, and the sender, by the sender's numbers, understands its
+    -- messages
     pub record FollowsOwnCall (count : ℕ) (past : List Event) : Type 0 where
       pub follows : FollowsTheCall decoding (with_own rules slots lead) source packets count past
       pub understood : (k : ℕ) (note : NumberedMessage) → slice_get (own_call past).said k ≡ Some note
@@ -49,7 +51,7 @@ module _ {Style Mb Picture Fault : Type 0} (decoding : Decoding Style Mb Picture
     SoundToSenderIsSound = (past : List Event) → AllSoundToSender past
         → AllSound decoding (with_own rules slots lead) source packets past
 
-  -- so the receiver follows any sender whose pictures are sound by its own numbers
+  -- so the receiver follows any sender whose pictures are sound by the sender's numbers
   abbrev pub AnySenderIsFollowed : Type 0
   AnySenderIsFollowed = (source : Source Style Mb Picture)
       (packets : Packets Style Mb Picture) (count : ℕ) (past : List Event) →
@@ -58,14 +60,14 @@ module _ {Style Mb Picture Fault : Type 0} (decoding : Decoding Style Mb Picture
 
 module _ {Frame Style Mb Picture Fault MessageFault : Type 0}
     (coding : Coding Frame Style Mb Picture Fault MessageFault) (rules : Rules) (slots lead : ℕ) where
-  -- the pictures of a steered sender, which goes by its own numbers, are sound to such a receiver,
+  -- the pictures of a steered sender, chosen by the sender's numbers, are sound by the receiver's,
   abbrev pub SteeredIsSoundToOwn : Type 0
   SteeredIsSoundToOwn = (quant : Call Style Mb Picture → ℕ) (may : Call Style Mb Picture → ℕ → Bool)
       (frames : List Frame) (past : List Event) → AreQuants quant
       → AllSound coding.decoding (with_own rules slots lead)
       (steered coding rules quant may frames) (packets_of coding.encoding rules) past
 
-  -- and in a near call it follows them
+  -- and in a near call the receiver follows them
   abbrev pub SteeredIsFollowedByOwn : Type 0
   SteeredIsFollowedByOwn = (quant : Call Style Mb Picture → ℕ) (may : Call Style Mb Picture → ℕ → Bool)
       (frames : List Frame) (past : List Event) → AreQuants quant

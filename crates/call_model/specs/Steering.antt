@@ -6,7 +6,6 @@ use Rattle.std.specs.Result.{result_ok}
 use Rattle.call_model.specs.Coding.{Rules, Pictures, Encoding, Coding, pictures_of, reconstruction}
 use Rattle.call_model.specs.CodedPictures.{Coded, depth_at, is_among, reference_for, capture}
 use Rattle.call_model.specs.IdealCall.{Event, Call, Source, AllMayHappenFrom}
-use Rattle.call_model.specs.Lawful.{IsPace}
 use Rattle.call_model.specs.Sending.{SenderEntry, SenderRun, packets_of, known_by_feedback, feedback_answer, next_coded, after_feedback, sender_run}
 use Rattle.call_model.specs.SenderStanding.{IsAfterCapture, IsAfterFeedback, is_noted, next_by_kept, reference_by_kept}
 use Rattle.call_model.specs.Sound.{AllSound, FollowsTheCall}

@@ -1,11 +1,11 @@
-use Rattle.call_model.proofs.OwnWindow.{smaller_lead, more_slots_alone, any_is_followed, steered_is_sound_to_own, steered_is_followed_by_own, encoder_is_followed_by_own}
+use Rattle.call_model.proofs.OwnWindow.{smaller_lead, wide_by_difference, any_is_followed, steered_is_sound_to_own, steered_is_followed_by_own, encoder_is_followed_by_own}
 use Rattle.call_model.proofs.laws.own_window.Goals as goal
 
 pub returns-clause-lead : goal.returns-clause-lead
 returns-clause-lead g c rules ruled = smaller_lead rules ruled
 
-pub returns-clause-slots : goal.returns-clause-slots
-returns-clause-slots g c rules = more_slots_alone rules
+pub returns-clause-difference : goal.returns-clause-difference
+returns-clause-difference g c rules = wide_by_difference rules
 
 pub returns-clause-any : goal.returns-clause-any
 returns-clause-any g c decoding rules slots lead lawful ruled wide = any_is_followed rules slots lead decoding wide lawful ruled
