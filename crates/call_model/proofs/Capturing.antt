@@ -10,7 +10,7 @@ use Rattle.std.proofs.Math.Nat.{mod-lt}
 use Rattle.call_model.specs.Numbers.{greatest}
 use Rattle.call_model.specs.Coding.{Rules, window, period, Slice, Pictures, Encoding, Coding, pictures_of, reconstruction, reconstruction_of_slices, mb_among}
 use Rattle.call_model.specs.CodedPictures.{Coded, picture_at, capture, reference_for, is_among, depth_at}
-use Rattle.call_model.specs.IdealCall.{Event, Send, Deliver, Play, Back, Call, encoded, ideal}
+use Rattle.call_model.specs.IdealCall.{Event, Send, Deliver, Play, Back, Call, call_from, encoded}
 use Rattle.call_model.specs.Sending.{header_of, packets_of, packets_before, bytes_in, last_sizes, next_coded}
 use Rattle.call_model.specs.Sound.{IsSoundPicture, IsPacket, IsSoundEvent, AllSound}
 use Rattle.call_model.specs.Lawful.{Divides, IsMade, IsChosen, IsPictures, IsEncoding, IsCoding, IsRules, IsPace, FitsHeader}
@@ -181,35 +181,39 @@ module _ {Frame Style Mb Picture Fault MessageFault : Type 0} (coding : Coding F
     no_other = λ none. ap (λ (ps : List (List ℕ)). slice_get ps j) (packets_of_is coded n x at_n) ∙ lawful.no_packet n (packets_before (take n coded)) (header_of rules n x) x.slices j none;
   }
 
-  module _ (pace : List ℕ → ℕ) (frames : List Frame) (range : IsPace pace) where
-    pub all_encoded : (past : List Event) → AllEncoded (pictures_of coding) coding.encoding (ideal coding rules pace frames past).coded
+  -- in the call of a receiver whatever its numbers
+  module _ (own : Rules) (pace : List ℕ → ℕ) (frames : List Frame) (range : IsPace pace) where
+    abbrev call : List Event → Call Style Mb Picture
+    call past = call_from (pictures_of coding) own (encoded coding rules pace frames) past
+
+    pub all_encoded : (past : List Event) → AllEncoded (pictures_of coding) coding.encoding (call past).coded
     all_encoded [] = λ n x e. cc
-    all_encoded (Send ∷ past) = go (slice_get frames (length (ideal coding rules pace frames past).coded)) (all_encoded past)
+    all_encoded (Send ∷ past) = go (slice_get frames (length (call past).coded)) (all_encoded past)
       where
-        go : (o : Option Frame) → AllEncoded (pictures_of coding) coding.encoding (ideal coding rules pace frames past).coded → AllEncoded (pictures_of coding) coding.encoding ((ideal coding rules pace frames past).coded ++ option_map_or (λ (x : Coded Style Mb Picture). x ∷ []) (option_map (λ frame. next_coded (pictures_of coding) coding.encoding rules pace frame (ideal coding rules pace frames past).coded (ideal coding rules pace frames past).known) o) [])
-        go None all = subst (λ (xs : List (Coded Style Mb Picture)). AllEncoded (pictures_of coding) coding.encoding xs) (sym (append-nil (ideal coding rules pace frames past).coded)) all
-        go (Some frame) all = next_encoded (pictures_of coding) coding.encoding rules pace frame (ideal coding rules pace frames past).coded (ideal coding rules pace frames past).known range all
+        go : (o : Option Frame) → AllEncoded (pictures_of coding) coding.encoding (call past).coded → AllEncoded (pictures_of coding) coding.encoding ((call past).coded ++ option_map_or (λ (x : Coded Style Mb Picture). x ∷ []) (option_map (λ frame. next_coded (pictures_of coding) coding.encoding rules pace frame (call past).coded (call past).known) o) [])
+        go None all = subst (λ (xs : List (Coded Style Mb Picture)). AllEncoded (pictures_of coding) coding.encoding xs) (sym (append-nil (call past).coded)) all
+        go (Some frame) all = next_encoded (pictures_of coding) coding.encoding rules pace frame (call past).coded (call past).known range all
     all_encoded (Deliver n j ∷ past) = all_encoded past
     all_encoded (Play ∷ past) = all_encoded past
     all_encoded (Back k ∷ past) = all_encoded past
 
-    sound_event : (past : List Event) (e : Event) → IsSoundEvent coding.decoding rules (encoded coding rules pace frames) (packets_of coding.encoding rules) (ideal coding rules pace frames past) e
+    pub sound_event : (past : List Event) (e : Event) → IsSoundEvent coding.decoding rules (encoded coding rules pace frames) (packets_of coding.encoding rules) (call past) e
     sound_event past Send = λ x is. go x (slice_get frames (length c.coded)) is
       where
         c : Call Style Mb Picture
-        c = ideal coding rules pace frames past
+        c = call past
 
-        go : (x : Coded Style Mb Picture) (o : Option Frame) → option_map (λ frame. next_coded (pictures_of coding) coding.encoding rules pace frame (ideal coding rules pace frames past).coded (ideal coding rules pace frames past).known) o ≡ Some x → IsSoundPicture (pictures_of coding) rules (ideal coding rules pace frames past) x
+        go : (x : Coded Style Mb Picture) (o : Option Frame) → option_map (λ frame. next_coded (pictures_of coding) coding.encoding rules pace frame (call past).coded (call past).known) o ≡ Some x → IsSoundPicture (pictures_of coding) rules (call past) x
         go x None is = cc
         go x (Some frame) is =
-            let same : next_coded (pictures_of coding) coding.encoding rules pace frame (ideal coding rules pace frames past).coded (ideal coding rules pace frames past).known ≡ x = cc in
-            subst (λ (y : Coded Style Mb Picture). IsSoundPicture (pictures_of coding) rules (ideal coding rules pace frames past) y) same
-            (capture_sound (pictures_of coding) coding.encoding rules lawful.decodes.pictures lawful.encodes (pace (last_sizes coding.encoding rules (ideal coding rules pace frames past).coded)) frame (ideal coding rules pace frames past) (range (last_sizes coding.encoding rules (ideal coding rules pace frames past).coded) (sizes_few (pictures_of coding) coding.encoding rules (ideal coding rules pace frames past).coded)) (all_encoded past))
-    sound_event past (Deliver n j) = λ x at_n. is_packet (ideal coding rules pace frames past).coded n j x at_n (all_encoded past n x at_n)
+            let same : next_coded (pictures_of coding) coding.encoding rules pace frame (call past).coded (call past).known ≡ x = cc in
+            subst (λ (y : Coded Style Mb Picture). IsSoundPicture (pictures_of coding) rules (call past) y) same
+            (capture_sound (pictures_of coding) coding.encoding rules lawful.decodes.pictures lawful.encodes (pace (last_sizes coding.encoding rules (call past).coded)) frame (call past) (range (last_sizes coding.encoding rules (call past).coded) (sizes_few (pictures_of coding) coding.encoding rules (call past).coded)) (all_encoded past))
+    sound_event past (Deliver n j) = λ x at_n. is_packet (call past).coded n j x at_n (all_encoded past n x at_n)
     sound_event past Play = tt
     sound_event past (Back k) = tt
 
-    -- each event of a call by the encoder is sound
-    pub all_sound : (past : List Event) → AllSound coding.decoding rules (encoded coding rules pace frames) (packets_of coding.encoding rules) past
-    all_sound [] = tt
-    all_sound (e ∷ past) = (sound_event past e, all_sound past)
+  -- each event of a call by the encoder is sound
+  pub all_sound : (pace : List ℕ → ℕ) (frames : List Frame) → IsPace pace → (past : List Event) → AllSound coding.decoding rules (encoded coding rules pace frames) (packets_of coding.encoding rules) past
+  all_sound pace frames range [] = tt
+  all_sound pace frames range (e ∷ past) = (sound_event rules pace frames range past e, all_sound pace frames range past)

@@ -1,7 +1,7 @@
 -- A floor below which no picture is a reference.
 use Rattle.std.proofs.Common.{◌≡◌, ℕ, ◌+◌, ◌<◌, ◌≤◌, Bool, true, false, ◌&&◌, refl, sym, ap, ◌∙◌, arith, inl, inr, Option, Some, None, List, [], ◌∷◌, length, eqb, ltb, leb}
 use Rattle.std.specs.Prelude.{if◌then◌else◌, option_and_then, filter}
-use Rattle.std.proofs.lemmas.Bool.{cases_lt, false≢true, eqb-true, leb-true, leb-false, le-leb, lt-leb, and_parts, and_right}
+use Rattle.std.proofs.lemmas.Bool.{cases_lt, eqb-true, leb-true, leb-false, le-leb, lt-leb, and_parts}
 use Rattle.std.proofs.lemmas.Map.Views.{any-filter_same}
 use Rattle.call_model.specs.Numbers.{greatest}
 use Rattle.call_model.specs.Coding.{Rules, window, Pictures, Encoding}

@@ -16,7 +16,7 @@ use Rattle.call_model.specs.CodedPictures.{Coded, depth_at, picture_at, is_among
 use Rattle.call_model.specs.Sending.{SenderRun, Noted, Old, header_of, bytes_in, made_known, known_by_feedback, feedback_answer, packets_before, packets_of, last_numbers, last_sizes}
 use Rattle.call_model.specs.Stands.{Sender, IsRecent, SenderKeeps}
 use Rattle.call_model.specs.SenderStanding.{reference_by_kept, with_size, is_noted, next_by_kept}
-use Rattle.call_model.specs.Steering.{SteeredRun, SenderHolds, KnowsSent, known_from, from_floor, made_by_kept, NextAboveNothing, NextIsSteered, NewHolds, CaptureHolds, FeedbackHolds, OtherFeedbackHolds}
+use Rattle.call_model.specs.Steering.{SteeredRun, known_from, from_floor, made_by_kept, NextAboveNothing, NextIsSteered, NewHolds, CaptureHolds, FeedbackHolds, OtherFeedbackHolds}
 use Rattle.call_model.specs.Lawful.{IsRules, IsEncoding}
 use Rattle.call_model.proofs.ListLemmas.{slice_get_left, slice_get_last, slice_get_push, greatest_same, greatest_passes}
 use Rattle.call_model.proofs.Capturing.{reference_chosen}

@@ -1,5 +1,5 @@
 -- A sender stands for the longer list after a capture and after feedback: it holds the list's run.
-use Rattle.std.proofs.Common.{◌≡◌, ℕ, ◌+◌, ◌<◌, Bool, true, sym, ap, ◌∙◌, subst, arith, inl, inr, List, [], ◌∷◌, ◌++◌, length, length-append, eqb}
+use Rattle.std.proofs.Common.{ℕ, sym, ap, ◌∙◌, subst, arith, inl, inr, List, [], ◌∷◌, length, length-append, eqb}
 use Rattle.std.specs.Result.{result_ok}
 use Rattle.std.proofs.lemmas.Bool.{or_cases, false≢true}
 use Rattle.std.proofs.lemmas.List.Folds.{list_any-append}
@@ -8,7 +8,7 @@ use Rattle.call_model.specs.CodedPictures.{Coded}
 use Rattle.call_model.specs.Sending.{SenderEntry, Capture, Feedback, known_by_feedback, next_coded, sender_run}
 use Rattle.call_model.specs.Stands.{Sender, SenderStands}
 use Rattle.call_model.specs.SenderStanding.{IsAfterCapture, KnownWereSent, ReferenceByKept, NextByKept, NewSenderStands, CaptureStands, FeedbackStands, OtherFeedbackStands}
-use Rattle.call_model.specs.Steering.{SenderHolds, HoldsItsRun, known_from, next_above}
+use Rattle.call_model.specs.Steering.{SenderHolds, HoldsItsRun}
 use Rattle.call_model.specs.Lawful.{IsRules, IsEncoding}
 use Rattle.call_model.proofs.Feedback.{feedback_below}
 use Rattle.call_model.proofs.Forgetting.{no_floor}

@@ -1,5 +1,5 @@
 -- A steered encoder's pictures are sound, and a receiver follows it.
-use Rattle.std.proofs.Common.{◌≡◌, ℕ, ◌<◌, Bool, true, refl, sym, ap, ◌∙◌, subst, Option, Some, None, List, [], ◌∷◌, ◌++◌, length}
+use Rattle.std.proofs.Common.{◌≡◌, ℕ, Bool, sym, ◌∙◌, subst, Option, Some, None, List, [], ◌∷◌, ◌++◌, length}
 use Rattle.std.specs.Prelude.{filter, slice_get}
 use Rattle.std.specs.Option.{option_map, option_map_or}
 use Rattle.std.proofs.lemmas.Bool.{and_parts}
@@ -16,10 +16,11 @@ use Rattle.call_model.proofs.Forgetting.{among_filtered}
 use Rattle.call_model.proofs.AnySender.{any_sound_sender}
 
 module _ {Frame Style Mb Picture Fault MessageFault : Type 0} (coding : Coding Frame Style Mb Picture Fault MessageFault) (rules : Rules) (lawful : IsCoding coding rules) (ruled : IsRules rules) where
-  module _ (quant : Call Style Mb Picture → ℕ) (may : Call Style Mb Picture → ℕ → Bool) (frames : List Frame) (range : AreQuants quant) where
+  -- in the call of a receiver whatever its numbers
+  module _ (own : Rules) (quant : Call Style Mb Picture → ℕ) (may : Call Style Mb Picture → ℕ → Bool) (frames : List Frame) (range : AreQuants quant) where
     -- the call so far, and its next picture, of this frame
     abbrev call : List Event → Call Style Mb Picture
-    call past = call_from (pictures_of coding) rules (steered coding rules quant may frames) past
+    call past = call_from (pictures_of coding) own (steered coding rules quant may frames) past
 
     abbrev next : Call Style Mb Picture → Frame → Coded Style Mb Picture
     next c frame = capture (pictures_of coding) coding.encoding (quant c) frame c.coded (reference_for rules (depth_at c.coded) (is_among (filter (may c) c.known)) (length c.coded))
@@ -50,7 +51,7 @@ module _ {Frame Style Mb Picture Fault MessageFault : Type 0} (coding : Coding F
         by_some c (next c frame)
         (capture_sound (pictures_of coding) coding.encoding rules lawful.decodes.pictures lawful.encodes (quant c) frame (record c { known = filter (may c) c.known }) (range c) all)
 
-    sound_event : (past : List Event) (e : Event) → IsSoundEvent coding.decoding rules (steered coding rules quant may frames) (packets_of coding.encoding rules) (call past) e
+    pub sound_event : (past : List Event) (e : Event) → IsSoundEvent coding.decoding rules (steered coding rules quant may frames) (packets_of coding.encoding rules) (call past) e
     sound_event past Send = λ x is. go x (slice_get frames (length (call past).coded)) is
       where
         go : (x : Coded Style Mb Picture) (o : Option Frame) → option_map (next (call past)) o ≡ Some x → IsSoundPicture (pictures_of coding) rules (call past) x
@@ -64,7 +65,7 @@ module _ {Frame Style Mb Picture Fault MessageFault : Type 0} (coding : Coding F
 
   pub steered_is_sound : SteeredIsSound coding rules
   steered_is_sound quant may frames [] range = tt
-  steered_is_sound quant may frames (e ∷ past) range = (sound_event quant may frames range past e, steered_is_sound quant may frames past range)
+  steered_is_sound quant may frames (e ∷ past) range = (sound_event rules quant may frames range past e, steered_is_sound quant may frames past range)
 
   pub steered_is_followed : SteeredIsFollowed coding rules
   steered_is_followed quant may frames past range near =

@@ -6,7 +6,6 @@ use Rattle.std.specs.Result.{result_ok}
 use Rattle.call_model.specs.Coding.{Rules, Pictures, Encoding, Coding, pictures_of, reconstruction}
 use Rattle.call_model.specs.CodedPictures.{Coded, depth_at, is_among, reference_for, capture}
 use Rattle.call_model.specs.IdealCall.{Event, Call, Source, AllMayHappenFrom}
-use Rattle.call_model.specs.Lawful.{IsPace}
 use Rattle.call_model.specs.Sending.{SenderEntry, SenderRun, packets_of, known_by_feedback, feedback_answer, next_coded, after_feedback, sender_run}
 use Rattle.call_model.specs.SenderStanding.{IsAfterCapture, IsAfterFeedback, is_noted, next_by_kept, reference_by_kept}
 use Rattle.call_model.specs.Sound.{AllSound, FollowsTheCall}
@@ -119,7 +118,8 @@ module _ {Frame Style Mb Picture MessageFault : Type 0} (pictures : Pictures Sty
       next_above pace frame 0 s ≡ next_by_kept pictures encoding rules pace frame s
 
   -- a sender that stands for entries holds their run, and the other way
-  pub record StandingIsHolding (pace : List ℕ → ℕ) (s : Sender Picture) (entries : List (SenderEntry Frame)) : Type 0 where
+  pub record StandingIsHolding (pace : List ℕ → ℕ) (s : Sender Picture)
+      (entries : List (SenderEntry Frame)) : Type 0 where
     pub holds : SenderStands pictures encoding rules pace s entries
         → SenderHolds s (sender_run pictures encoding rules pace entries)
     pub stands : SenderHolds s (sender_run pictures encoding rules pace entries)

@@ -4,10 +4,12 @@ use Rattle.std.specs.Option.{option_map_or}
 use Rattle.std.specs.List.{sum}
 use Rattle.call_model.specs.Coding.{Rules, Mark, Message, Shown}
 use Rattle.call_model.specs.CodedPictures.{Coded}
-use Rattle.call_model.specs.IdealCall.{Event, Send, Deliver, Play, Back, Call, encoded, ideal}
+use Rattle.call_model.specs.IdealCall.{Event, Send, Deliver, Play, Back, Call, call_from, encoded, ideal}
 use Rattle.call_model.specs.Sending.{packets_of, SenderRun, Capture, Feedback, Reply, feedback_answer, sender_run}
 use Rattle.call_model.specs.Refusals.{checked_call}
 use Rattle.call_model.specs.Lawful.{IsRules, IsPace}
+use Rattle.call_model.specs.OwnWindow.{with_own}
+use Rattle.call_model.specs.Sound.{received}
 use Rattle.call_model.specs.TwoStores.{Agree}
 use Rattle.call_model.specs.Receiving.{Heard, heard, ReceiverEntry, Packet, PlayNext, receiver_run}
 use Rattle.call_model.specs.JoinedRun.{SaidMessage, Joined, joined, new_receiver}
@@ -100,6 +102,23 @@ heard_in rules pace frames (e ∷ past) = heard_in rules pace frames past
 abbrev pub answers : Scene → List (Heard SmallFault)
 answers scene = reverse (heard_in scene.rules scene.pace scene.frames (reverse scene.events))
 
+-- the sender goes by the rules of the scene, and its receiver by rules of its own: the receiver's
+-- answers to the deliveries among these events, both with the newest first
+abbrev pub own_heard_in : Rules → Scene → List Event → List (Heard SmallFault)
+own_heard_in own scene [] = []
+own_heard_in own scene (Deliver n j ∷ past) =
+    let source = encoded small scene.rules scene.pace scene.frames in
+    let packets = packets_of small.encoding scene.rules in
+    let c = call_from small_pictures own source past in
+    option_map_or (λ bytes. heard small.decoding own (received small.decoding own source packets past)
+    (small.decoding.read bytes) ∷ []) (slice_get (packets c.coded n) j) []
+    ++ own_heard_in own scene past
+own_heard_in own scene (e ∷ past) = own_heard_in own scene past
+
+-- the answers of a receiver with this many slots and this lead, the oldest first
+abbrev pub own_answers : ℕ → ℕ → Scene → List (Heard SmallFault)
+own_answers slots lead scene = reverse (own_heard_in (with_own scene.rules slots lead) scene (reverse scene.events))
+
 -- both slices of picture n are delivered
 abbrev pub whole : ℕ → List Event
 whole n = Deliver n 0 ∷ Deliver n 1 ∷ []
@@ -127,6 +146,15 @@ window_scene = record {
   pace = steady;
   frames = replicate 4 (flat 100);
   events = seen 0 1 ++ Back 0 ∷ lost 2 ++ seen 3 1;
+}
+
+-- picture 0 is acknowledged, 1 is lost, and 2, which refers to 0, arrives
+abbrev pub own_scene : Scene
+own_scene = record {
+  rules = rules_of 4 1;
+  pace = steady;
+  frames = replicate 3 (flat 100);
+  events = seen 0 1 ++ Back 0 ∷ lost 1 ++ seen 2 1;
 }
 
 -- picture 0 arrives, 1 is lost, and its NACK comes back

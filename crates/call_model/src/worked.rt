@@ -23,7 +23,7 @@ ghost use Rattle.call_model.specs.Worked.{other_clock_packet, sender_after, then
 ghost use Rattle.call_model.specs.Worked.{whole_packet};
 ghost use Rattle.call_model.specs.Worked.{chain_scene, far_offer_scene, flags_scene, late_scene};
 ghost use Rattle.call_model.specs.Worked.{newer_offer_scene, offer_scene, paced_scene};
-ghost use Rattle.call_model.specs.Worked.{patched_scene};
+ghost use Rattle.call_model.specs.Worked.{own_answers, own_scene, patched_scene};
 ghost use Rattle.call_model.specs.Worked.{shuffled_scene, wide_late_scene, wide_window_scene};
 ghost use Rattle.call_model.specs.Worked.{window_scene, wrap_scene};
 
@@ -97,6 +97,20 @@ pub fn any_order()
     ensures said { (call_of shuffled_scene).said ≡ Got 0 [] ∷ [] }
     ensures pictures { pictures (call_of shuffled_scene).plays ≡ flat 100 ∷ [] }
     ensures receiver { pictures (ends_of shuffled_scene).plays ≡ flat 100 ∷ [] }
+{}
+
+/// The sender has four slots and a lead of one, so its picture 2 refers to picture 0. A receiver with
+/// a smaller lead takes it, and so does one with a greater lead and as many slots more. With the
+/// greater lead alone its window has one picture, and it refuses the packets.
+pub fn own_windows()
+    ensures near { all_near own_scene ≡ true }
+    ensures references { references (call_of own_scene).coded ≡ None ∷ Some 0 ∷ Some 0 ∷ [] }
+    ensures smaller_lead { own_answers 4 0 own_scene
+        ≡ Taken ∷ Completed (Ack 0 []) ∷ Taken ∷ Completed (Ack 2 []) ∷ [] }
+    ensures both_greater { own_answers 5 2 own_scene
+        ≡ Taken ∷ Completed (Ack 0 []) ∷ Taken ∷ Completed (Ack 2 []) ∷ [] }
+    ensures greater_lead { own_answers 4 2 own_scene
+        ≡ Taken ∷ Completed (Ack 0 []) ∷ MissingReference ∷ MissingReference ∷ [] }
 {}
 
 /// Half of picture 1 comes: it is shown patched, and a NACK of it offers picture 0. So picture 2
