@@ -218,7 +218,7 @@ class ForgedTest(Calls):
         self.assertNotEqual(call.receiving.source, call.sending.source)
         seen = call.run(10)
         self.assertEqual(call.receiving.source, call.sending.source)
-        self.assertEqual(seen.exact(OUTAGE[1] + 2), 1.0)
+        self.assertEqual(seen.exact(OUTAGE[1] + 1.3), 1.0)
 
     def test_the_program_joins_by_as_many_plays_at_once_as_are_kept(self) -> None:
         """With a look at the sockets between them; packets that come meanwhile wait."""
