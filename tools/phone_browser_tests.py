@@ -483,10 +483,16 @@ class TwoHostsTest(Browsers):
             self.assertEqual(one.faults(), [])
         here.value("document.getElementById('going_on').open = true")
         here.until("return phone.goingOn.ways.length === 2 && phone.goingOn.ways[1].last > 100")
+        # A record may begin in the call: the other side only sees a pause.
+        here.press("record")
+        here.until("return phone.state.folder && phone.status?.seconds > 4 && phone.status.recent.exact > 60")
+        there.until("return phone.status.recent.exact > 60")
+        folder = Path(here.value("return phone.state.folder"))
         here.press("hang_up")
         there.until("return !phone.state.calls")
         self.assertRegex(there.text("news"), r"^The other side has hung up\. The call took 0:\d\d, \d+ of 100 pictures exact\.$")
         here.until("return !phone.state.calls")
+        self.assertEqual(len(recorded_ways.ways_of(recorded.read_record(folder))), 2)
 
     def test_a_phone_and_live_call(self) -> None:
         """The call is recorded at the phone's side, and the folder is whole."""
