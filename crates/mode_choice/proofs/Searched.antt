@@ -1,5 +1,5 @@
 -- The choice where there is a reference, as the search finds it, and the samples that are handed out with it.
-use Rattle.std.proofs.Common.{◌≡◌, ◌∙◌, refl, ap, sym, subst, ℕ, ℤ, Bool, true, false, cond, List, Option, None, Some, arith, to_z, of_z, w32}
+use Rattle.std.proofs.Common.{◌≡◌, ◌∙◌, refl, ap, sym, subst, ℕ, ℤ, Bool, true, false, cond, ◌≤◌, List, Option, None, Some, arith, to_z, of_z, w32}
 use Rattle.std.proofs.lemmas.Int.{ints}
 use Rattle.h263_types.specs.declared.blocks.Block.{Block}
 use Rattle.h263_types.specs.declared.blocks.Mb.{Mb}
@@ -20,6 +20,10 @@ use Rattle.mode_choice.proofs.Choices.{one_of_two}
 
 pub cost_kept : (z : ℤ) → IsCost z → to_z w32 (of_z w32 z) ≡ z
 cost_kept z h = omega (arith, ints)
+
+-- where a sum isn't low enough, no greater one is
+pub no_greater : (a b : ℕ) (cost : ℤ) → a ≤ b → is_intra a cost ≡ false → false ≡ is_intra b cost
+no_greater a b cost h e = grind (arith, ints)
 
 second_of : {X : Type 0} (t : Bool) (a b : X) → t ≡ false → cond t a b ≡ b
 second_of true a b h = cc

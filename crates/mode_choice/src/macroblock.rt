@@ -19,7 +19,7 @@ ghost use Rattle.mode_choice.specs.Walk.{zero_block};
 
 use crate::chosen::{Chosen, predict_into};
 use crate::coefficients::Quantisation;
-use crate::deviation::deviation;
+use crate::deviation::{deviation, halves_apart, luma_samples};
 use crate::intra::intra_block;
 use crate::laws;
 use crate::predicted::block_residuals;
@@ -122,7 +122,7 @@ fn vector_of(mb: &Mb) -> Vector
 }
 
 // Whether a macroblock is coded by itself, where the best vector costs this much: at 500 or less it
-// isn't, and its mean isn't asked for.
+// isn't, nor where its halves lie too far apart. Then its mean isn't asked for.
 fn is_nearer_to_mean(frame: PictureRef<'_>, mb: u32, cost: i32) -> bool
     requires mb { mb < mbs_of (picture frame).format }
     requires cost { IsCost cost }
@@ -132,7 +132,12 @@ fn is_nearer_to_mean(frame: PictureRef<'_>, mb: u32, cost: i32) -> bool
     if cost <= 500 {
         return false;
     }
-    is_intra(deviation(frame, mb), cost)
+    let samples = luma_samples(frame, mb);
+    if is_intra(halves_apart(&samples), cost) {
+        is_intra(deviation(&samples), cost)
+    } else {
+        false
+    }
 }
 
 // The same by the sum of the differences from the mean.
