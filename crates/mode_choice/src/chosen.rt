@@ -8,19 +8,24 @@ ghost use Rattle.half_sample.specs.Macroblock.{IsPredicted};
 use h263_planes::{PictureRef, Plane};
 use h263_types::{Mb, Vector};
 use half_sample::{Predicted, chroma, luma};
+use motion_search::KeptSums;
 
 /// A macroblock as it is chosen, and the samples that the vector of an inter macroblock predicts,
 /// so that they needn't be predicted again to reconstruct it. With any other macroblock the samples
-/// are left over from an earlier one.
+/// are left over from an earlier one. The sums of the reference are those that the search keeps for
+/// the next macroblock.
 #[derive(Drop)]
 pub struct Chosen {
     pub mb: Mb,
     pub predicted: Predicted,
+    pub sums: KeptSums,
 }
 
 impl Chosen {
-    ghost use Rattle.std.specs.Prelude.{◌≡◌, replicate};
+    ghost use Rattle.std.specs.Prelude.{◌≡◌, replicate, Option};
     ghost use Rattle.h263_types.specs.declared.blocks.Mb.TheVariants.{Skip};
+    ghost use Rattle.h263_planes.specs.Picture.{Picture};
+    ghost use Rattle.motion_search.specs.Areas.{AreSumsOfAny};
 
     /// A place for what is chosen, one macroblock after the other.
     pub fn new() -> Chosen
@@ -28,6 +33,7 @@ impl Chosen {
         ensures y { result.predicted.y ≡ replicate 256 0 }
         ensures cb { result.predicted.cb ≡ replicate 64 0 }
         ensures cr { result.predicted.cr ≡ replicate 64 0 }
+        ensures sums { (reference : Option Picture) → AreSumsOfAny reference result.sums }
     {
         Chosen {
             mb: Mb::Skip,
@@ -36,6 +42,7 @@ impl Chosen {
                 cb: [0; 64],
                 cr: [0; 64],
             },
+            sums: KeptSums::none(),
         }
     }
 }

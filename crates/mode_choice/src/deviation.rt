@@ -1,5 +1,5 @@
 //! How far the luma samples of a macroblock lie from their mean.
-ghost use Rattle.std.specs.Prelude.{◌≡◌, ◌<◌, ◌≤◌, replicate};
+ghost use Rattle.std.specs.Prelude.{◌≡◌, ℕ, ◌<◌, ◌≤◌, replicate};
 ghost use Rattle.h263_types.specs.Sizes.{mbs_of};
 ghost use Rattle.h263_planes.specs.Lent.{picture};
 ghost use Rattle.motion_search.specs.Differences.{differences};
@@ -12,18 +12,25 @@ use half_sample::luma;
 use motion_search::sad;
 
 // The sum of the absolute differences of a macroblock's luma samples from their mean.
-pub(crate) fn deviation(frame: PictureRef<'_>, mb: u32) -> u32
-    requires mb { mb < mbs_of (picture frame).format }
-    ensures value { result ≡ deviation_of (samples_of (picture frame.entry) mb) }
+pub(crate) fn deviation(samples: &[u8; 256]) -> u32
+    ensures value { result ≡ deviation_of samples.now }
     ensures most { result ≤ 65280 }
 {
-    let samples = luma_samples(frame, mb);
-    differences_from(&samples, mean(&samples))
+    differences_from(samples, mean(samples))
+}
+
+// How far the first half of a macroblock's luma samples lies from the second half, sample by
+// sample: all of them together lie at least as far from any one number.
+pub(crate) fn halves_apart(samples: &[u8; 256]) -> u32
+    ensures less { (n : ℕ) → result ≤ differences samples.now (replicate 256 n) }
+    ensures most { result ≤ 32640 }
+{
+    sad(&samples[..128], &samples[128..])
 }
 
 // The luma samples of a macroblock, by rows from the top: what the zero vector predicts from the
 // frame itself.
-fn luma_samples(frame: PictureRef<'_>, mb: u32) -> [u8; 256]
+pub(crate) fn luma_samples(frame: PictureRef<'_>, mb: u32) -> [u8; 256]
     requires mb { mb < mbs_of (picture frame).format }
     ensures { result ≡ samples_of (picture frame.entry) mb }
 {

@@ -10,6 +10,7 @@ ghost use Rattle.h263_planes.specs.Lent.{picture};
 ghost use Rattle.h263_planes.specs.Picture.{Picture};
 ghost use Rattle.h263_planes.specs.References.{HasReferenceOnlyInP};
 ghost use Rattle.half_sample.specs.Macroblock.{IsPredicted, IsPredictionOf};
+ghost use Rattle.motion_search.specs.Areas.{AreSumsOf, AreSumsOfAny};
 ghost use Rattle.motion_search.specs.Cost.{samples_of, IsCost};
 ghost use Rattle.quantiser.specs.Factors.{IsFactor};
 ghost use Rattle.mode_choice.specs.Choice as choice;
@@ -18,7 +19,7 @@ ghost use Rattle.mode_choice.specs.Walk.{zero_block};
 
 use crate::chosen::{Chosen, predict_into};
 use crate::coefficients::Quantisation;
-use crate::deviation::deviation;
+use crate::deviation::{deviation, halves_apart, luma_samples};
 use crate::intra::intra_block;
 use crate::laws;
 use crate::predicted::block_residuals;
@@ -37,7 +38,7 @@ use quantiser::factor_of;
 /// itself; else the motion search of `radius` whole samples decides whether it is predicted, coded
 /// by itself, or not coded at all. The choice is the same whatever the place held before. Where that
 /// is an inter macroblock the search begins at its vector, so the choice comes sooner if it is a
-/// neighbour's.
+/// neighbour's, and its sums are those of this reference: a new place for each picture.
 pub fn choose(
     frame: PictureRef<'_>,
     reference: Option<PictureRef<'_>>,
@@ -52,6 +53,7 @@ pub fn choose(
     requires rounding { header.now.rounding ≤ 1 }
     requires radius { params.now.radius ≤ 15 }
     requires mb { mb < mbs_of (picture frame).format }
+    requires sums { AreSumsOfAny (option_map picture reference) out.old.sums }
     ensures choice { out.new.mb ≡ choice.choice_of
         (picture frame.entry) (option_map picture reference.entry) header.now params.now mb }
     ensures in_range { IsMb out.new.mb }
@@ -60,6 +62,7 @@ pub fn choose(
     ensures plain { HasQuant header.now.quant out.new.mb }
     ensures predicted { IsPredictionOf header.now.rounding (option_map picture reference.entry)
         mb out.new.mb out.new.predicted }
+    ensures sums { AreSumsOfAny (option_map picture reference.entry) out.new.sums }
 {
     laws::chosen_is_in_range();
     match reference {
@@ -83,13 +86,17 @@ fn macroblock_in_p(
     requires rounding { header.now.rounding ≤ 1 }
     requires radius { params.now.radius ≤ 15 }
     requires mb { mb < mbs_of (picture frame).format }
+    requires sums { AreSumsOf (picture reference) out.old.sums }
     ensures choice { out.new.mb ≡ choice.choice_in_p
         (picture frame.entry) (picture reference.entry) header.now params.now mb }
     ensures predicted { IsPredictionOf header.now.rounding (Some (picture reference.entry))
         mb out.new.mb out.new.predicted }
+    ensures sums { AreSumsOf (picture reference.entry) out.new.sums }
 {
     let guess = vector_of(&out.mb);
-    let (vector, cost) = search(frame, reference, mb, params.radius, header.rounding, guess);
+    let radius = params.radius;
+    let sums = &mut out.sums;
+    let (vector, cost) = search(frame, reference, mb, radius, header.rounding, guess, sums);
     if is_nearer_to_mean(frame, mb, cost) {
         intra_macroblock(frame, mb, header.quant, params.keep, &mut out.mb);
         return;
@@ -115,7 +122,7 @@ fn vector_of(mb: &Mb) -> Vector
 }
 
 // Whether a macroblock is coded by itself, where the best vector costs this much: at 500 or less it
-// isn't, and its mean isn't asked for.
+// isn't, nor where its halves lie too far apart. Then its mean isn't asked for.
 fn is_nearer_to_mean(frame: PictureRef<'_>, mb: u32, cost: i32) -> bool
     requires mb { mb < mbs_of (picture frame).format }
     requires cost { IsCost cost }
@@ -125,7 +132,12 @@ fn is_nearer_to_mean(frame: PictureRef<'_>, mb: u32, cost: i32) -> bool
     if cost <= 500 {
         return false;
     }
-    is_intra(deviation(frame, mb), cost)
+    let samples = luma_samples(frame, mb);
+    if is_intra(halves_apart(&samples), cost) {
+        is_intra(deviation(&samples), cost)
+    } else {
+        false
+    }
 }
 
 // The same by the sum of the differences from the mean.

@@ -8,10 +8,10 @@ use Rattle.std.specs.Int.{abs_diff}
 use Rattle.std.specs.List.{range_with_len}
 use Rattle.std.proofs.lemmas.Grind.{same_number_lists}
 use Rattle.std.proofs.lemmas.List.FromFn.{length-map-range_with_len, get_or-map-range_with_len}
-use Rattle.std.proofs.lemmas.Simd.{zip2-map, bitmask_splat, bit_mask_l}
+use Rattle.std.proofs.lemmas.Simd.{zip2-map, bitmask_splat, bit_mask_l, length-chunk, get_or-chunk}
 use Rattle.motion_search.specs.Differences.{differences}
 use Rattle.motion_search.specs.Cost.{square}
-use Rattle.motion_search.specs.Areas.{total, column_sum, area_sum, AreBytes, half_away, halves_away, sixteen, in_block, IsRow}
+use Rattle.motion_search.specs.Areas.{total, column_sum, area_sum, AreBytes, sixteen, in_block, IsRow}
 use Rattle.motion_search.proofs.Blocks.{length-square, get_or-square}
 
 -- ---- sums of numbers by their places
@@ -291,15 +291,19 @@ both_lanes p q ps qs ep eq h =
 small_apart : (a b : ℕ) → a ≤ 16320 → b ≤ 16320 → abs_diff a b ≤ 16320
 small_apart a b ha hb = omega (arith, ha, hb)
 
-pub half_small : (f : ℕ → ℕ → ℕ) (left right x y : ℕ) → AreBytes f → left ≤ 16320 → right ≤ 16320 → half_away f left right x y ≤ 32640
-half_small f left right x y h hl hr = omega (arith, small_apart (area_sum f x y) left (area_small f x y h) hl, small_apart (area_sum f (8 + x) y) right (area_small f (8 + x) y h) hr)
+pub half_small : (a b left right : ℕ) → a ≤ 16320 → b ≤ 16320 → left ≤ 16320 → right ≤ 16320 → abs_diff a left + abs_diff b right ≤ 32640
+half_small a b left right ha hb hl hr = omega (arith, small_apart a left ha hl, small_apart b right hb hr)
 
--- two areas beside each other
-pub half_lanes : (f : ℕ → ℕ → ℕ) (left right y : ℕ) (xs ys : List ℕ) → AreBytes f → left ≤ 16320 → right ≤ 16320 →
-    xs ≡ sixteen (λ i. abs_diff (area_sum f i y) left) → ys ≡ sixteen (λ i. abs_diff (area_sum f (8 + i) y) right) → zip2 plus xs ys ≡ halves_away f left right y
-half_lanes f left right y xs ys h hl hr ex ey =
-    both_lanes (λ i. abs_diff (area_sum f i y) left) (λ i. abs_diff (area_sum f (8 + i) y) right) xs ys ex ey
-    (λ i. omega (arith, half_small f left right i y h hl hr))
+-- how far sixteen sums beside each other, and those eight columns to the right, are from two others
+pub half_lanes : (g : ℕ → ℕ) (at left right : ℕ) (xs ys : List ℕ) → ((k : ℕ) → g k ≤ 16320) → left ≤ 16320 → right ≤ 16320 →
+    xs ≡ sixteen (λ i. abs_diff (g (at + i)) left) → ys ≡ sixteen (λ i. abs_diff (g (at + 8 + i)) right) → zip2 plus xs ys ≡ sixteen (λ i. abs_diff (g (at + i)) left + abs_diff (g (at + 8 + i)) right)
+half_lanes g at left right xs ys h hl hr ex ey =
+    both_lanes (λ i. abs_diff (g (at + i)) left) (λ i. abs_diff (g (at + 8 + i)) right) xs ys ex ey
+    (λ i. omega (arith, half_small (g (at + i)) (g (at + 8 + i)) left right (h (at + i)) (h (at + 8 + i)) hl hr))
+
+-- sixteen sums that are loaded
+pub loaded_sums : (xs : List ℕ) (at : ℕ) → at + 16 ≤ length xs → chunk at 16 xs ≡ sixteen (λ i. get_or xs (at + i) 0)
+loaded_sums xs at h = is_sixteen (chunk at 16 xs) (λ i. get_or xs (at + i) 0) (length-chunk at 16 xs h) (λ i hi. get_or-chunk at 16 xs i 0 hi)
 
 -- a lane that isn't marked has more than the most
 pub mark_tells : (xs : List ℕ) (f : ℕ → ℕ) (most i : ℕ) → xs ≡ sixteen f → i < 16 →

@@ -9,5 +9,5 @@ pub mod Pairs
 pub mod Nears
 pub mod AreaSums
 pub mod Strips
-pub mod Uppers
+pub mod Held
 pub mod AbsoluteSums

@@ -3,7 +3,7 @@ use Rattle.std.proofs.Common.{◌≡◌, arith, subst, sym, ℕ, ◌+◌, ◌*�
 use Rattle.std.proofs.lemmas.Int.{ints}
 use Rattle.h263_types.specs.declared.format.Format.{Format}
 use Rattle.h263_types.specs.declared.vector.Reach.{Reach}
-use Rattle.h263_types.specs.Sizes.{columns_of, height_of, mbs_of}
+use Rattle.h263_types.specs.Sizes.{columns_of, height_of, mbs_of, width_of}
 use Rattle.h263_types.specs.Vectors.{InReach, IsWithin, whole_place}
 use Rattle.motion_search.specs.Vectors.{whole_component}
 use Rattle.motion_search.proofs.Squares.{zero_reaches}
@@ -54,6 +54,18 @@ module _ (f : Format) (mb radius : ℕ) (reach : Reach) (is : Reaches f mb reach
   column_starts left i h e across =
       subst (λ (k : ℕ). pos 0 ≤ℤ whole_place k (whole_component radius i)) (sym e)
       ((is (whole_component radius i) (pos 0)).1 (across, ((is (pos 0) (pos 0)).0 (zero_reaches f mb h)).1)).0.2.0
+
+  -- the sixteen columns that a column of the square leads to end inside the picture
+  pub column_ends : (left x i : ℕ) → mb < mbs_of f → left ≡ 16 * (mb % columns_of f) → (reach.left ≤ℤ whole_component radius i) × (whole_component radius i ≤ℤ reach.right) →
+      pos x ≡ whole_place left (whole_component radius i) → x + 15 < width_of f
+  column_ends left x i h e across ex =
+      let there = ((is (whole_component radius i) (pos 0)).1 (across, ((is (pos 0) (pos 0)).0 (zero_reaches f mb h)).1)).0.2.1 in
+      omega (arith, ints, there, subst (λ (k : ℕ). pos x ≡ whole_place k (whole_component radius i)) e ex)
+
+  pub reached_column_ends : (left x i : ℕ) → left ≡ 16 * (mb % columns_of f) → InReach f mb (whole_component radius i) (whole_component radius row) →
+      pos x ≡ whole_place left (whole_component radius i) → x + 15 < width_of f
+  reached_column_ends left x i e h ex =
+      omega (arith, ints, h.0.2.1, subst (λ (k : ℕ). pos x ≡ whole_place k (whole_component radius i)) e ex)
 
   pub first_row_small : (first : ℕ) → mb < mbs_of f → IsFirst radius reach.up first → first ≤ radius
   first_row_small first h at_first =

@@ -1,5 +1,5 @@
 -- Sixteen vectors beside each other, by the sums of areas.
-use Rattle.std.proofs.Common.{◌≡◌, ◌≢◌, ◌⊎◌, inl, inr, sym, ap, subst, ◌∙◌, arith, ℕ, ◌+◌, ◌*◌, ◌/◌, ◌%◌, ◌<◌, ◌≤◌, List, slice_index, false, pos, ◌-ℤ◌, ◌≤ℤ◌, ◌<ℤ◌}
+use Rattle.std.proofs.Common.{◌≡◌, ◌≢◌, ◌⊎◌, inl, inr, sym, ap, subst, ◌∙◌, arith, ℕ, ◌+◌, ◌*◌, ◌/◌, ◌%◌, ◌<◌, ◌≤◌, List, false, pos, ◌-ℤ◌, ◌≤ℤ◌, ◌<ℤ◌}
 use Rattle.std.proofs.lemmas.Int.{ints}
 use Rattle.std.specs.Int.{int_shr}
 use Rattle.std.proofs.lemmas.Bool.{cases_order}
@@ -8,29 +8,17 @@ use Rattle.h263_types.specs.declared.vector.Vector.{Vector}
 use Rattle.h263_types.specs.Sizes.{columns_of}
 use Rattle.h263_types.specs.Vectors.{whole_place}
 use Rattle.h263_planes.specs.Picture.{Picture}
-use Rattle.h263_planes.specs.Samples.{sample_at, IsPicture}
+use Rattle.h263_planes.specs.Samples.{sample_at}
 use Rattle.h263_planes.specs.declared.Plane.TheVariants.{Y}
 use Rattle.motion_search.specs.declared.candidate.Candidate.{Candidate}
 use Rattle.motion_search.specs.Order.{before}
 use Rattle.motion_search.specs.Cost.{square, difference_of, candidate_of}
 use Rattle.motion_search.specs.Vectors.{zero_vector, whole_at, whole_component}
-use Rattle.motion_search.specs.Areas.{AreBytes, IsRow, samples_from}
+use Rattle.motion_search.specs.Areas.{samples_from}
 use Rattle.motion_search.proofs.Blocks.{costing, is_square, length-square, get_or-square}
 use Rattle.motion_search.proofs.Leads.{not_before_by_differences}
 use Rattle.motion_search.proofs.Places.{whole_predicts}
 use Rattle.motion_search.proofs.Squares.{at_is_even}
-
-pub are_bytes : (p : Picture) (x : ℕ) → IsPicture p → AreBytes (samples_from p x)
-are_bytes p x h = λ i j. h.samples Y _
-
--- two lent parts of a row
-pub lent_row : (p : Picture) (x y y' : ℕ) (xs ys : List ℕ) → y ≡ y' →
-    ((i : ℕ) → i < 16 → slice_index xs i ≡ sample_at p Y (x + i) y) → ((i : ℕ) → i < 16 → slice_index ys i ≡ sample_at p Y (x + 16 + i) y) → IsRow (samples_from p x) y' xs ys
-lent_row p x y y' xs ys e hx hy =
-    record {
-      left = λ i hi. hx i hi ∙ ap (sample_at p Y (x + i)) e;
-      right = λ i hi. let place : x + 16 + i ≡ x + (16 + i) = omega arith in hy i hi ∙ ap (λ (k : ℕ). sample_at p Y k y) place ∙ ap (sample_at p Y (x + (16 + i))) e;
-    }
 
 -- a vector of whole samples moves a place by whole samples
 half_of_even : (a b : ℕ) → int_shr (pos (2 * a) -ℤ pos (2 * b)) 1 ≡ pos a -ℤ pos b
@@ -38,6 +26,10 @@ half_of_even a b = grind (arith, ints)
 
 pub next_place : (at x radius k i : ℕ) → pos x ≡ whole_place at (whole_component radius k) → pos (x + i) ≡ whole_place at (whole_component radius (k + i))
 next_place at x radius k i h = omega (arith, ints, h, half_of_even k radius, half_of_even (k + i) radius)
+
+-- a row of the square leads no more than the radius up or down
+pub row_near : (top y radius row : ℕ) → pos y ≡ whole_place top (whole_component radius row) → row ≤ 2 * radius → (top ≤ y + radius) × (y ≤ top + radius)
+row_near top y radius row h few = (omega (arith, ints, h, half_of_even row radius, few), omega (arith, ints, h, half_of_even row radius, few))
 
 -- a vector that leaves more differences than the best one costs doesn't come before it
 dear_not_before : (block : List ℕ) (p : Picture) (mb n : ℕ) (v : Vector) (best : Candidate) → n ≡ difference_of block p mb 0 v → best.cost <ℤ pos n →

@@ -1,13 +1,13 @@
 -- Sums of samples over areas of 8 x 8.
-use Rattle.std.specs.Prelude.{◌≡◌, ℕ, zero, suc, ◌+◌, ◌*◌, ◌%◌, ◌<◌, List, [], length, map, slice_index, slice_index_or}
-use Rattle.std.specs.Int.{abs_diff}
+use Rattle.std.specs.Prelude.{◌≡◌, ℕ, zero, suc, ◌+◌, ◌*◌, ◌<◌, ◌≤◌, Option, None, Some, List, length, map, slice_index}
 use Rattle.std.specs.List.{range_with_len}
+use Rattle.h263_types.specs.Sizes.{width_of}
 use Rattle.h263_planes.specs.Picture.{Picture}
 use Rattle.h263_planes.specs.Samples.{sample_at, AreSamples}
 use Rattle.h263_planes.specs.declared.Plane.TheVariants.{Y}
 use Rattle.motion_search.specs.declared.areas.Columns.{Columns}
-use Rattle.motion_search.specs.declared.areas.Halves.{Halves}
 use Rattle.motion_search.specs.declared.areas.Quarters.{Quarters}
+use Rattle.motion_search.specs.declared.kept.KeptSums.{KeptSums}
 
 -- f 0 + f 1 + .. + f (n - 1)
 unfoldable pub total : (ℕ → ℕ) → ℕ → ℕ
@@ -56,21 +56,35 @@ pub record AreQuarters (block : List ℕ) (q : Quarters) : Type 0 where
 abbrev pub samples_from : Picture → ℕ → ℕ → ℕ → ℕ
 samples_from p x i j = sample_at p Y (x + i) j
 
--- how far the areas at columns x and x + 8 of row y are from two sums, taken together
-abbrev pub half_away : (ℕ → ℕ → ℕ) → ℕ → ℕ → ℕ → ℕ → ℕ
-half_away f left right x y = abs_diff (area_sum f x y) left + abs_diff (area_sum f (8 + x) y) right
+-- sixteen columns of a picture from column x on, and sixteen from column z on to their right
+pub record IsBeside (p : Picture) (x z : ℕ) (f : ℕ → ℕ → ℕ) : Type 0 where
+  pub left : (i j : ℕ) → i < 16 → f i j ≡ sample_at p Y (x + i) j
+  pub right : (i j : ℕ) → i < 16 → f (16 + i) j ≡ sample_at p Y (z + i) j
 
--- the same of the sixteen columns from the first one on
-abbrev pub halves_away : (ℕ → ℕ → ℕ) → ℕ → ℕ → ℕ → List ℕ
-halves_away f left right y = sixteen (λ i. half_away f left right i y)
+-- there are samples that are these
+pub record AreSomeBeside (p : Picture) (x z : ℕ) : Type 0 where
+  pub samples : ℕ → ℕ → ℕ
+  pub bytes : AreBytes samples
+  pub beside : IsBeside p x z samples
 
-abbrev pub AreHalves : (ℕ → ℕ → ℕ) → ℕ → ℕ → ℕ → Halves → Type 0
-AreHalves f left right y h = h.away ≡ halves_away f left right y
+-- the sums of eight rows of some samples
+pub record AreSomeColumns (c : Columns) : Type 0 where
+  pub samples : ℕ → ℕ → ℕ
+  pub row : ℕ
+  pub bytes : AreBytes samples
+  pub sums : AreColumns samples row 8 c
 
-abbrev pub half_at : List Halves → ℕ → List ℕ
-half_at hs k = (slice_index_or hs k (record { away = [] })).away
+-- sums that are kept of a picture: those of all areas in the rows of areas from `first` to before
+-- `end`, 384 places for each row. Places that no area of the picture has hold any sum that an area
+-- can have.
+pub record AreSumsOf (p : Picture) (s : KeptSums) : Type 0 where
+  pub whole : length s.sums ≡ 14976
+  pub order : s.first ≤ s.end
+  pub room : s.end ≤ s.first + 39
+  pub sums : (x k : ℕ) → x + 8 ≤ width_of p.format → s.first + k < s.end → slice_index s.sums (384 * k + x) ≡ area_sum (sample_at p Y) x (s.first + k)
+  pub small : (k : ℕ) → slice_index s.sums k ≤ 16320
 
--- those of n rows from row y on, each in the place of its row modulo 8
-pub record AreRows (f : ℕ → ℕ → ℕ) (left right y n : ℕ) (hs : List Halves) : Type 0 where
-  pub long : length hs ≡ 8
-  pub rows : (k : ℕ) → k < n → half_at hs ((y + k) % 8) ≡ halves_away f left right (y + k)
+-- the same of a reference that there may be
+abbrev pub AreSumsOfAny : Option Picture → KeptSums → Type 0
+AreSumsOfAny None s = Unit {0}
+AreSumsOfAny (Some p) s = AreSumsOf p s

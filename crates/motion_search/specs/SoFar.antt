@@ -1,8 +1,10 @@
 -- What the step of whole samples knows on its way.
-use Rattle.std.specs.Prelude.{◌≡◌, ℕ, false}
+use Rattle.std.specs.Prelude.{◌≡◌, ℕ, ◌+◌, ◌<◌, ◌≤◌, false}
+use Rattle.h263_types.specs.Sizes.{height_of}
 use Rattle.h263_types.specs.Vectors.{InReach}
 use Rattle.h263_planes.specs.Lent.{picture}
 use Rattle.motion_search.specs.declared.candidate.Candidate.{Candidate}
+use Rattle.motion_search.specs.declared.kept.KeptSums.{KeptSums}
 use Rattle.motion_search.specs.declared.window.Window.{Window}
 use Rattle.motion_search.specs.Order.{before}
 use Rattle.motion_search.specs.Cost.{candidate_of, IsCost}
@@ -24,3 +26,10 @@ abbrev pub IsBehind : Window → ℕ → ℕ → Candidate → Type 0
 IsBehind w column row best =
     InReach (picture w.reference).format w.mb (whole_at w.radius column row).x (whole_at w.radius column row).y
     → before (candidate_of w.block.now (picture w.reference) w.mb 0 (whole_at w.radius column row)) best ≡ false
+
+-- the sums that are kept are those of all rows of areas to which a vector in reach may lead, and of
+-- those eight rows further down
+abbrev pub HoldsAround : Window → KeptSums → Type 0
+HoldsAround w s =
+    (y : ℕ) → w.top ≤ y + w.radius → y ≤ w.top + w.radius → y + 16 ≤ height_of (picture w.reference).format
+    → (s.first ≤ y) × (y + 8 < s.end)

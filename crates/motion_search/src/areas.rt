@@ -1,11 +1,8 @@
 //! Sums of samples over areas of 8 x 8, by which most vectors are ruled out: two blocks differ by
 //! at least as much as the sums of their quarters do.
-ghost use Rattle.std.specs.Prelude.{◌≡◌, ℕ, ◌+◌, ◌%◌, ◌<◌, ◌≤◌, List, length, slice_index};
+ghost use Rattle.std.specs.Prelude.{◌≡◌, ℕ, ◌+◌, ◌%◌, ◌<◌, ◌≤◌, length, slice_index};
 ghost use Rattle.std.specs.Int.{abs_diff, bit_at};
-ghost use Rattle.motion_search.specs.Differences.{differences};
-ghost use Rattle.motion_search.specs.Cost.{square};
-ghost use Rattle.motion_search.specs.declared.areas.Quarters.{Quarters};
-ghost use Rattle.motion_search.specs.Areas.{area_sum, AreBytes, AreColumns, AreHalves, AreQuarters, in_block, IsRow, sixteen};
+ghost use Rattle.motion_search.specs.Areas.{area_sum, AreBytes, AreColumns, AreQuarters, in_block, IsRow, sixteen};
 
 use crate::lent::block_row;
 use h263_planes::laws as planes_laws;
@@ -16,14 +13,6 @@ use std::simd::prelude::*;
 pub(crate) struct Columns {
     pub(crate) left: u16x16,
     pub(crate) right: u16x16,
-}
-
-// How far the sums of sixteen areas and of the areas eight columns to the right of them are from
-// those of two quarters, taken together. The borrow checker takes an array of such structs, but
-// none of vectors.
-#[derive(Clone, Copy)]
-pub(crate) struct Halves {
-    pub(crate) away: u16x16,
 }
 
 // The sums of the 8 x 8 samples of the four quarters of a block.
@@ -99,7 +88,7 @@ const ON_BY_EIGHT: [usize; 16] = [8, 9, 10, 11, 12, 13, 14, 15, 16, 17, 18, 19, 
 // in columns 8 to 23: pairs of columns, pairs of pairs, and pairs of these. The last lanes of
 // `right` go round and mean nothing.
 #[inline(always)]
-fn areas(columns: Columns) -> (u16x16, u16x16)
+pub(crate) fn areas(columns: Columns) -> (u16x16, u16x16)
     ensures { (f : ℕ → ℕ → ℕ) (y : ℕ) → AreBytes f → AreColumns f y 8 columns
         → (result.0 ≡ sixteen (λ i. area_sum f i y)) × (result.1 ≡ sixteen (λ i. area_sum f (8 + i) y)) }
 {
@@ -125,42 +114,39 @@ fn away(sums: u16x16, sum: u16) -> u16x16
     (sums - other).simd_min(other - sums)
 }
 
-// How far the areas of a row are from the upper quarters of a block, and how far from the lower
-// ones.
+// How far sixteen sums beside each other, from place `at` on, and those eight columns to the right of
+// them are from the sums of two quarters, taken together.
 #[inline(always)]
-pub(crate) fn halves_of(quarters: Quarters, columns: Columns) -> (Halves, Halves)
-    requires top_left { quarters.top_left ≤ 16320 }
-    requires top_right { quarters.top_right ≤ 16320 }
-    requires bottom_left { quarters.bottom_left ≤ 16320 }
-    requires bottom_right { quarters.bottom_right ≤ 16320 }
-    ensures upper { (f : ℕ → ℕ → ℕ) (y : ℕ) → AreBytes f → AreColumns f y 8 columns
-        → AreHalves f quarters.top_left quarters.top_right y result.0 }
-    ensures lower { (f : ℕ → ℕ → ℕ) (y : ℕ) → AreBytes f → AreColumns f y 8 columns
-        → AreHalves f quarters.bottom_left quarters.bottom_right y result.1 }
+pub(crate) fn half_away(sums: &[u16], at: usize, left: u16, right: u16) -> u16x16
+    requires left { left ≤ 16320 }
+    requires right { right ≤ 16320 }
+    requires room { at + 24 ≤ length sums.now }
+    requires small { (k : ℕ) → slice_index sums.now k ≤ 16320 }
+    ensures { result ≡ sixteen (λ i. abs_diff (slice_index sums.now (at + i)) left
+        + abs_diff (slice_index sums.now (at + 8 + i)) right) }
 {
-    let (left, right) = areas(columns);
-    let upper = Halves {
-        away: away(left, quarters.top_left) + away(right, quarters.top_right),
-    };
-    let lower = Halves {
-        away: away(left, quarters.bottom_left) + away(right, quarters.bottom_right),
-    };
-    (upper, lower)
+    away(sums_at(sums, at), left) + away(sums_at(sums, at + 8), right)
 }
 
-// Of sixteen blocks beside each other, whose halves are given, those that may differ from a block
-// by `most` or less: bit i for the one in column i. The others differ by more.
+// Sixteen sums beside each other, from place `at` on.
 #[inline(always)]
-pub(crate) fn marks_of(upper: Halves, lower: Halves, most: u16) -> u64
-    ensures { (f : ℕ → ℕ → ℕ) (y : ℕ) (block : List ℕ) (q : Quarters)
-        → AreBytes f → AreQuarters block q → AreHalves f q.top_left q.top_right y upper
-        → AreHalves f q.bottom_left q.bottom_right (y + 8) lower
-        → (i : ℕ) → i < 16 → bit_at result i ≡ 0
-        → most < differences block (square (λ k j. f (i + k) (y + j))) }
+fn sums_at(sums: &[u16], at: usize) -> u16x16
+    requires { at + 16 ≤ length sums.now }
+    ensures { result ≡ sixteen (λ i. slice_index sums.now (at + i)) }
 {
-    (upper.away + lower.away)
-        .simd_le(u16x16::splat(most))
-        .to_bitmask()
+    u16x16::from_slice(&sums[at..])
+}
+
+// Of sixteen blocks beside each other, of which is given how far the sums of their upper and of their
+// lower quarters are from those of a block, those for which that is `most` or less: bit i for the
+// one in column i.
+#[inline(always)]
+pub(crate) fn marks_of(upper: u16x16, lower: u16x16, most: u16) -> u64
+    ensures { (top bottom : ℕ → ℕ) → upper ≡ sixteen top → lower ≡ sixteen bottom
+        → ((i : ℕ) → top i + bottom i < 65536)
+        → (i : ℕ) → i < 16 → bit_at result i ≡ 0 → most < top i + bottom i }
+{
+    (upper + lower).simd_le(u16x16::splat(most)).to_bitmask()
 }
 
 // The sums of eight rows of a block from row `j` on, in its sixteen columns twice.

@@ -14,8 +14,8 @@ use crate::candidate::{Candidate, first, with_differences};
 use crate::laws;
 use crate::sums::sad_of_four;
 use crate::window::Window;
-use h263_planes::{PictureRef, Plane};
-use h263_types::Vector;
+use h263_planes::{PictureRef, Plane, laws as planes_laws};
+use h263_types::{Format, Vector};
 
 // Row `j` of a block.
 #[inline(always)]
@@ -128,4 +128,15 @@ pub(crate) fn better_whole(
     } else {
         first(best, with_differences(vector, sum))
     }
+}
+
+// The picture, whose format is known where this is called: then its rows stand at distances that
+// are known too.
+#[inline(always)]
+pub(crate) fn known(reference: PictureRef<'_>, format: Format) -> PictureRef<'_>
+    requires { (picture reference).format ≡ format }
+    ensures { picture result ≡ picture reference.entry }
+{
+    planes_laws::planes_are_bytes();
+    PictureRef::new(format, reference.bytes())
 }

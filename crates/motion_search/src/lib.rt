@@ -3,12 +3,14 @@
 //! own; H.263 leaves it to the coder.
 //!
 //! [`search`] answers the [`Vector`](h263_types::Vector) and its cost, [`sad`] the absolute
-//! differences of two lists of samples, added up.
+//! differences of two lists of samples, added up. [`KeptSums`] are what the search of one macroblock
+//! leaves to those after it.
 //!
 //! ```rust
 //! // columns of 10 and 11 by turns: half a sample across lies 11 where that is rounded up
 //! let frame = PictureRef::new(Format::SubQcif, &[11; SIZE]);
-//! let found = search(frame, reference, 0, 7, 0, Vector::ZERO);
+//! let mut sums = KeptSums::none();
+//! let found = search(frame, reference, 0, 7, 0, Vector::ZERO, &mut sums);
 //! assert_eq!(rt; found, (Vector { x: 1, y: 0 }, 0));
 //! assert_eq!(rt; sad(&[10, 20, 30, 40], &[11, 18, 33, 36]), 10);
 //! ```
@@ -20,11 +22,13 @@ ghost use Rattle.h263_types.specs.Vectors.{InReach};
 ghost use Rattle.h263_planes.specs.Lent.{picture};
 ghost use Rattle.motion_search.specs.Cost.{samples_of, IsCost};
 ghost use Rattle.motion_search.specs.Best.{best_vector};
+ghost use Rattle.motion_search.specs.Areas.{AreSumsOf};
 
 mod areas;
 mod around;
 mod candidate;
 mod half;
+mod kept;
 pub mod laws;
 mod lent;
 mod marks;
@@ -42,12 +46,14 @@ use crate::whole::best_of_whole;
 use h263_planes::PictureRef;
 use h263_types::Vector;
 use half_sample::luma;
+pub use kept::KeptSums;
 pub use sums::sad;
 
 /// The vector by which `reference` predicts macroblock `mb` of `frame` best, and its cost: the 256
 /// absolute luma differences, less 100 for the zero vector. The search goes `radius` whole samples
 /// far, 0 to 15, and then half a sample further; `rounding` is the picture's rounding bit, 0 or 1.
 /// It answers the same whatever `guess` is, sooner where the guess is near, as a neighbour's vector.
+/// `sums` are those that were kept of this reference, or none: it adds those that it needs.
 pub fn search(
     frame: PictureRef<'_>,
     reference: PictureRef<'_>,
@@ -55,20 +61,23 @@ pub fn search(
     radius: u8,
     rounding: u8,
     guess: Vector,
+    sums: &mut KeptSums,
 ) -> (Vector, i32)
     requires format { (picture frame).format ≡ (picture reference).format }
     requires mb { mb < mbs_of (picture reference).format }
     requires radius { radius ≤ 15 }
     requires rounding { rounding ≤ 1 }
+    requires sums { AreSumsOf (picture reference) sums.old }
     ensures vector { result.0
         ≡ (best_vector (picture frame.entry) (picture reference.entry) mb radius rounding).vector }
     ensures cost { result.1
         ≡ (best_vector (picture frame.entry) (picture reference.entry) mb radius rounding).cost }
     ensures reach { InReach (picture reference.entry).format mb result.0.x result.0.y }
     ensures range { IsCost result.1 }
+    ensures sums { AreSumsOf (picture reference.entry) sums.new }
 {
     let block = samples(frame, mb);
-    let whole = best_of_whole(&block, reference, mb, radius, guess);
+    let whole = best_of_whole(&block, reference, mb, radius, guess, sums);
     let best = best_of_neighbours(&block, reference, mb, rounding, whole);
     (best.vector, best.cost)
 }

@@ -1,39 +1,45 @@
 //! The best of the vectors of whole samples within the radius.
-ghost use Rattle.std.specs.Prelude.{◌≡◌, ℕ, ◌<◌, ◌≤◌};
-ghost use Rattle.h263_types.specs.Sizes.{mbs_of, width_of};
+ghost use Rattle.std.specs.Prelude.{◌≡◌, ℕ, ◌+◌, ◌*◌, ◌<◌, ◌≤◌};
+ghost use Rattle.h263_types.specs.Sizes.{mbs_of};
 ghost use Rattle.h263_planes.specs.Lent.{picture};
 ghost use Rattle.motion_search.specs.Cost.{candidate_of, IsCost};
 ghost use Rattle.motion_search.specs.Vectors.{zero_vector};
 ghost use Rattle.motion_search.specs.Best.{best_whole};
+ghost use Rattle.motion_search.specs.SoFar.{HoldsAround, IsBehind, IsSoFar};
+ghost use Rattle.motion_search.specs.Areas.{AreQuarters, AreSumsOf};
 
-use crate::areas::quarters_of;
+use crate::areas::{Quarters, quarters_of};
 use crate::candidate::{Candidate, is_settled};
+use crate::kept::KeptSums;
+use crate::lent::known;
 use crate::square::{better_at, end_column, first_column, nearest};
 use crate::start::zero;
-use crate::strip::best_from;
+use crate::strip::best_of_strip;
 use crate::window::Window;
-use h263_planes::{PictureRef, laws as planes_laws};
+use h263_planes::PictureRef;
 use h263_types::{Format, Vector, reach};
 
 // The first of the vectors of whole samples within the radius. A low cost that is found early rules
 // out many of the others. So the one nearest to the guess is looked at before all others.
 #[inline(always)]
-fn best_in<const WIDTH: u32>(
+fn best_in(
     block: &[u8; 256],
     reference: PictureRef<'_>,
     mb: u32,
     radius: u8,
     guess: Vector,
+    sums: &mut KeptSums,
     zero: Candidate,
 ) -> Candidate
-    requires width { width_of (picture reference).format ≡ WIDTH }
     requires mb { mb < mbs_of (picture reference).format }
     requires radius { radius ≤ 15 }
     requires zero { zero ≡ candidate_of block.now (picture reference) mb 0 zero_vector }
     requires cost { IsCost zero.cost }
+    requires sums { AreSumsOf (picture reference) sums.old }
     ensures best { (rounding : ℕ)
         → result ≡ best_whole block.now (picture reference.entry) mb radius rounding }
     ensures cost { IsCost result.cost }
+    ensures sums { AreSumsOf (picture reference.entry) sums.new }
 {
     let format = reference.format();
     let left = 16 * (mb % format.columns());
@@ -52,11 +58,60 @@ fn best_in<const WIDTH: u32>(
     let down = nearest(radius, guess.y);
     let mut first = better_at(window, across, down, zero);
     let quarters = quarters_of(block);
-    let mut column = first_column(radius, reach);
-    while column < end_column(radius, reach) {
-        (first, column) = best_from::<WIDTH>(window, quarters, column, first);
+    let from = first_of_rows(top, radius);
+    let end = end_of_rows(top, radius, format.height());
+    sums.hold(reference, from, end);
+    best_of_strips(window, quarters, sums, first)
+}
+
+// The first of the best one and all vectors of the square, sixteen columns at once.
+#[inline(always)]
+fn best_of_strips(
+    window: Window<'_>,
+    quarters: Quarters,
+    sums: &KeptSums,
+    best: Candidate,
+) -> Candidate
+    requires quarters { AreQuarters window.block.now quarters }
+    requires sums { AreSumsOf (picture window.reference) sums.now }
+    requires held { HoldsAround window sums.now }
+    requires so_far { IsSoFar window best }
+    ensures so_far { IsSoFar window.entry result }
+    ensures none { (m n : ℕ) → m < 2 * window.entry.radius + 1
+        → n < 2 * window.entry.radius + 1 → IsBehind window.entry n m result }
+{
+    let mut first = best;
+    let mut column = first_column(window.radius, window.reach);
+    while column < end_column(window.radius, window.reach) {
+        first = best_of_strip(window, quarters, sums, column, first);
+        column += 16;
     }
     first
+}
+
+// The first row of areas to which the vectors lead from row `top` on.
+#[inline(always)]
+fn first_of_rows(top: u32, radius: u8) -> u32
+    ensures near { top ≤ result + radius }
+    ensures first { (y : ℕ) → top ≤ y + radius → result ≤ y }
+{
+    let radius = u32::from(radius);
+    if top < radius { 0 } else { top - radius }
+}
+
+// The row after the last one to which they lead, or eight rows further down, where the lower
+// quarters are: `height` is the picture's.
+#[inline(always)]
+fn end_of_rows(top: u32, radius: u8, height: u32) -> u32
+    requires radius { radius ≤ 15 }
+    requires top { top + 16 ≤ height }
+    requires height { height < 60000 }
+    ensures near { result ≤ top + radius + 9 }
+    ensures inside { result + 7 ≤ height }
+    ensures end { (y : ℕ) → y ≤ top + radius → y + 16 ≤ height → y + 8 < result }
+{
+    let end = top + u32::from(radius) + 9;
+    if end + 7 < height { end } else { height - 7 }
 }
 
 // The first of the vectors of whole samples within the radius, 0 to 15. Their costs don't depend on
@@ -67,34 +122,33 @@ pub(crate) fn best_of_whole(
     mb: u32,
     radius: u8,
     guess: Vector,
+    sums: &mut KeptSums,
 ) -> Candidate
     requires mb { mb < mbs_of (picture reference).format }
     requires radius { radius ≤ 15 }
+    requires sums { AreSumsOf (picture reference) sums.old }
     ensures best { (rounding : ℕ)
         → result ≡ best_whole block.now (picture reference.entry) mb radius rounding }
     ensures cost { IsCost result.cost }
+    ensures sums { AreSumsOf (picture reference.entry) sums.new }
 {
     let zero = zero(block, reference, mb);
     if is_settled(zero) {
         return zero;
     }
     let r = reference;
+    // for each format by itself, so that its rows stand at distances that are known
     match reference.format() {
-        Format::SubQcif => {
-            best_in::<128>(block, known(r, Format::SubQcif), mb, radius, guess, zero)
-        }
-        Format::Qcif => best_in::<176>(block, known(r, Format::Qcif), mb, radius, guess, zero),
-        Format::Cif => best_in::<352>(block, known(r, Format::Cif), mb, radius, guess, zero),
+        Format::SubQcif => best_in(
+            block,
+            known(r, Format::SubQcif),
+            mb,
+            radius,
+            guess,
+            sums,
+            zero,
+        ),
+        Format::Qcif => best_in(block, known(r, Format::Qcif), mb, radius, guess, sums, zero),
+        Format::Cif => best_in(block, known(r, Format::Cif), mb, radius, guess, sums, zero),
     }
-}
-
-// The picture, whose format is known where this is called: then its rows stand at distances that
-// are known too.
-#[inline(always)]
-fn known(reference: PictureRef<'_>, format: Format) -> PictureRef<'_>
-    requires { (picture reference).format ≡ format }
-    ensures { picture result ≡ picture reference.entry }
-{
-    planes_laws::planes_are_bytes();
-    PictureRef::new(format, reference.bytes())
 }

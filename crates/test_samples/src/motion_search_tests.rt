@@ -3,7 +3,7 @@ ghost use Rattle.std.specs.Prelude.{◌<◌};
 
 use h263_planes::PictureRef;
 use h263_types::{Format, Vector};
-use motion_search::{sad, search};
+use motion_search::{KeptSums, sad, search};
 use std::process::Abort;
 use test_fixtures::codec::{SIZE, texture};
 
@@ -12,7 +12,7 @@ const WIDTH: usize = 128;
 const HEIGHT: usize = 96;
 
 // The search in pictures of these bytes: the vector's components and its cost. A guess that is far
-// off changes nothing.
+// off changes nothing, nor do sums that were kept of the macroblock.
 fn found(
     rt: &impl Abort,
     frame: &[u8; SIZE],
@@ -26,11 +26,13 @@ fn found(
     assert!(rt; rounding <= 1);
     let frame = PictureRef::new(Format::SubQcif, frame);
     let reference = PictureRef::new(Format::SubQcif, reference);
-    let (vector, cost) = search(frame, reference, mb, radius, rounding, Vector::ZERO);
+    let mut sums = KeptSums::none();
+    let zero = Vector::ZERO;
+    let (vector, cost) = search(frame, reference, mb, radius, rounding, zero, &mut sums);
     let guess = Vector { x: -27, y: 14 };
-    let (vector_again, cost_again) = search(frame, reference, mb, radius, rounding, guess);
-    assert!(rt; vector_again == vector);
-    assert!(rt; cost_again == cost);
+    let again = search(frame, reference, mb, radius, rounding, guess, &mut sums);
+    assert!(rt; again.0 == vector);
+    assert!(rt; again.1 == cost);
     (vector.x, vector.y, cost)
 }
 

@@ -44,6 +44,7 @@ loop-at-preserved c =
         shows = c.shown_one_by_one.ensures.macroblock h.format h.rounding reference mbs at old new c.loop-at.invariant.shown.shows
             (subst (λ (m : Mb). SetsMb h.format h.rounding reference at m old new) chosen c.recon_predicted.ensures.samples);
       };
+      sums = c.choose.ensures.sums;
       same_loan = c.recon_predicted.ensures.same_loan ∙ c.loop-at.invariant.same_loan;
     }
 
