@@ -57,9 +57,9 @@ untouched zero i x = refl
 untouched (suc n) zero x = refl
 untouched (suc n) (suc i) x = untouched n i x
 
-pub starts : (c : Collector) (many size : ℕ) → first_of c ≡ 0 → c.headers.items ≡ replicate many None → c.marks.items ≡ replicate size false → Collects c 0 []
-starts c many size zeroth headers marks = record {
-  begins = zeroth;
+pub starts : (c : Collector) (first many size : ℕ) → first_of c ≡ first → c.headers.items ≡ replicate many None → c.marks.items ≡ replicate size false → Collects c first []
+starts c first many size begins headers marks = record {
+  begins = begins;
   below = λ t is. elim is [ ];
   headers = λ n row. subst (λ (h : Option Header). IsKept [] n h) (sym (ap (λ (l : List (Option Header)). get_or l (place_in c n) None) headers ∙ untouched many (place_in c n) None)) (none_ever n);
   marks = λ n k row lt.

@@ -171,4 +171,16 @@ impl Collector {
         put(&mut self.marks, from, mbs, false);
         self.first += 1;
     }
+
+    /// Forgets all that was taken: an empty row of as many pictures, from this one on, in the same
+    /// memory.
+    pub fn restart(&mut self, first: u32)
+        requires { first + row_of self.old ≤ 2 ^ 32 }
+        ensures empty { Collects self.new first [] }
+        ensures same { IsRowFrom first self.old self.new }
+    {
+        self.first = first;
+        self.headers.fill(None);
+        self.marks.fill(false);
+    }
 }

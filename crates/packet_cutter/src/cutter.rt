@@ -157,6 +157,20 @@ impl Cutter {
         self.sequence = self.sequence.wrapping_add(self.packets.count() as u16);
     }
 
+    /// Forgets its pictures and their packets, and counts packets from 0 again: as at the start, in
+    /// the same memory.
+    pub fn restart(&mut self)
+        ensures format { format_of self.new ≡ format_of self.old }
+        ensures limit { limit_of self.new ≡ limit_of self.old }
+        ensures none { packets_of self.new ≡ [] }
+        ensures sequence { sequence_of self.new ≡ 0 }
+        ensures added { added_of self.new ≡ 0 }
+    {
+        self.added = 0;
+        self.sequence = 0;
+        self.packets.clear();
+    }
+
     /// How many packets the picture has that was finished last: 0 before the first.
     pub fn count(&self) -> u32
         ensures count { result ≡ length (packets_of self.now) }

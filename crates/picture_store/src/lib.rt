@@ -54,7 +54,7 @@ impl Model for PictureStore {
 impl PictureStore {
     ghost use Rattle.h263_planes.specs.Lent.{picture};
     ghost use Rattle.h263_planes.specs.Samples.{IsPicture};
-    ghost use Rattle.picture_store.specs.Pictures.{works_of, slot_of, picture_in, work_in, IsKept, IsEmpty, Keeps};
+    ghost use Rattle.picture_store.specs.Pictures.{works_of, slots_of, slot_of, picture_in, work_in, IsKept, IsEmpty, Keeps};
     ghost use Rattle.picture_store.specs.Lending.{LendsWork};
     ghost use Rattle.h263_planes.specs.Layout.{picture_of};
     ghost use Rattle.h263_types.specs.Sizes.{size_of_picture};
@@ -171,6 +171,15 @@ impl PictureStore {
         let at = self.numbers.len() + w as usize;
         self.numbers[slot] = Some(number);
         self.slots.swap(slot, at);
+    }
+
+    /// Keeps no picture any more, in the same memory: as a store of as many slots and work pictures
+    /// is at its start.
+    pub fn clear(&mut self)
+        ensures empty { IsEmpty self.old.format (slots_of self.old) (works_of self.old) self.new }
+        ensures room { self.new.room ≡ self.old.room }
+    {
+        self.numbers.fill(None);
     }
 
     /// Gives all slots and the memory back.

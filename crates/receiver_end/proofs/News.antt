@@ -1,13 +1,14 @@
 -- A receiver that has played, and heard nothing.
-use Rattle.std.proofs.Common.{◌≡◌, ℕ, zero, suc, ◌+◌, ◌<◌, ◌≤◌, Bool, true, false, List, [], replicate, get_or, Option, Some, None, refl, ap, sym, ◌∙◌, subst, arith}
+use Rattle.std.proofs.Common.{◌≡◌, ℕ, zero, suc, ◌+◌, ◌<◌, ◌≤◌, ◌^◌, false, List, [], length, replicate, get_or, Option, Some, None, refl, ap, sym, ◌∙◌, subst, arith, mod-lt}
 use Rattle.std.specs.Option.{option_map}
 use Rattle.std.proofs.lemmas.Bool.{false≢true}
+use Rattle.std.proofs.lemmas.List.{length-replicate}
 use Rattle.h263_types.specs.declared.format.Format.{Format}
 use Rattle.h263_types.specs.declared.params.Params.{Params}
 use Rattle.h263_types.specs.Params.{IsParams}
 use Rattle.h263_types.specs.Sizes.{mbs_of}
 use Rattle.h263_planes.specs.Spots.{picture_by}
-use Rattle.picture_store.specs.Pictures.{Pictures, work_in, IsEmpty}
+use Rattle.picture_store.specs.Pictures.{Pictures, slots_of, works_of, work_in, IsEmpty}
 use Rattle.packet_collector.specs.declared.collector.Collector.{Collector}
 use Rattle.packet_collector.specs.Taken.{has_any}
 use Rattle.packet_collector.specs.Collected.{Collects, IsInRow, row_of, format_of, header_in}
@@ -19,7 +20,7 @@ use Rattle.call_decoding.specs.Rules.{rules_of}
 use Rattle.call_decoding.specs.Styles.{header_of}
 use Rattle.receiver_end.specs.declared.kept.Kept.{Kept}
 use Rattle.receiver_end.specs.Decoding.{decoding}
-use Rattle.receiver_end.specs.State.{Stands, last_work, plays_alone, seen}
+use Rattle.receiver_end.specs.State.{Fits, Stands, last_work, plays_alone, seen}
 use Rattle.receiver_end.specs.Steps.{IsSameBut}
 use Rattle.receiver_end.proofs.Headers.{kept_none, untaken}
 
@@ -96,6 +97,24 @@ module _ {Style Mb Picture Fault : Type 0} (decoding : Decoding Style Mb Picture
 
 -- ---- what is kept
 
+module _ (p : Params) (old : Pictures) (slots : slots_of old ≡ p.slots) (many : length old.pictures ≡ p.slots + (p.lead + 2)) where
+  works_are : works_of old ≡ p.lead + 2
+  works_are = omega (arith, slots, many)
+
+  -- a receiver's store that keeps no picture any more is one as at its start
+  pub emptied : (new : Pictures) → old.format ≡ p.format → IsEmpty old.format (slots_of old) (works_of old) new → IsEmpty p.format p.slots (p.lead + 2) new
+  emptied new format empty =
+      subst (λ (f : Format). IsEmpty f p.slots (p.lead + 2) new) format
+      (subst (λ (n : ℕ). IsEmpty old.format n (p.lead + 2) new) slots
+      (subst (λ (w : ℕ). IsEmpty old.format (slots_of old) w new) works_are empty))
+
+-- the work picture on the screen is one of such a store
+pub last_inside : (p : Params) (n : ℕ) (s : Pictures) → IsEmpty p.format p.slots (p.lead + 2) s → last_work p n < works_of s
+last_inside p n s empty =
+    let slots : length s.numbers ≡ p.slots = ap (λ (l : List (Option ℕ)). length l) empty.numbers ∙ length-replicate p.slots None in
+    let below : last_work p n < p.lead + 2 = mod-lt (n + p.lead + 1) (omega arith) in
+    omega (arith, below, slots, empty.pictures)
+
 module _ (p : Params) (is : IsParams p) (n : ℕ) (c : Collector) (s t : Pictures) (empty : IsEmpty p.format p.slots (p.lead + 2) s) (same : IsSameBut s t (last_work p n))
     (collects : Collects c n []) (many : row_of c ≡ p.lead + 1) (format : format_of c ≡ p.format) where
   abbrev new_at : Kept
@@ -111,3 +130,17 @@ module _ (p : Params) (is : IsParams p) (n : ℕ) (c : Collector) (s t : Picture
       (λ m low high. ap (option_map header_of) (kept_none [] m (header_in c m) (nothing m) (collects.headers m (row m low high))))
       (λ m k low high lt. collects.marks m k (row m low high) (subst (λ (f : Format). k < mbs_of f) (sym format) lt) ∙ untaken [] m k (nothing m))
       (λ rest lt. ap (λ (l : List (Option ℕ)). get_or l rest None) (same.numbers ∙ empty.numbers) ∙ none_in p.slots rest)
+
+  pub fits_alone : n ≤ 2 ^ 20 → Fits new_at
+  fits_alone few = record {
+    params = is;
+    format = same.format ∙ empty.format;
+    slots = ap (λ (l : List (Option ℕ)). length l) (same.numbers ∙ empty.numbers) ∙ length-replicate p.slots None;
+    works = same.many ∙ empty.pictures;
+    collected = format;
+    row = many;
+    few = few;
+    exact = λ e. absurd (false≢true e);
+    taken = [];
+    collects = collects;
+  }

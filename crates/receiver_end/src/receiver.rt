@@ -71,6 +71,18 @@ impl Receiver {
         Ok(Receiver { kept, mbs })
     }
 
+    /// Begins a call anew in the memory that it has: nothing was heard, and this many pictures were
+    /// played, 1,048,576 at most.
+    pub fn restart(&mut self, number: u32)
+        requires { number ≤ 2 ^ 20 }
+        ensures params { self.new.params ≡ self.old.params }
+        ensures played { self.new.played ≡ number }
+        ensures room { self.new.store.room ≡ self.old.store.room }
+        ensures stands { Stands self.new (plays_alone number) }
+    {
+        self.kept.restart(number);
+    }
+
     /// Hears a packet. Only where it is taken is anything changed.
     pub fn packet(&mut self, bytes: &[u8]) -> Heard
         ensures params { self.new.params ≡ self.old.params }

@@ -4,7 +4,6 @@ ghost use Rattle.h263_types.specs.Params.{IsParams};
 ghost use Rattle.h263_types.specs.Sizes.{size_of_picture};
 ghost use Rattle.h263_planes.specs.Layout.{picture_of};
 ghost use Rattle.h263_planes.specs.Spots.{picture_by};
-ghost use Rattle.packet_collector.specs.Collected.{Collects, format_of, row_of};
 ghost use Rattle.picture_store.specs.Pictures.{room_for, work_in, works_of};
 ghost use Rattle.receiver_end.specs.Steps.{IsSameBut};
 
@@ -41,20 +40,6 @@ fn clear(store: &mut PictureStore, format: Format, w: u32)
     grey(format, store.work(w));
 }
 
-// Moves a row of which nothing was taken from picture 0 on to this one.
-fn move_on(collector: &mut Collector, number: u32)
-    requires few { number ≤ 2 ^ 20 }
-    requires short { row_of collector.old ≤ 64 }
-    requires empty { Collects collector.old 0 [] }
-    ensures empty { Collects collector.new number [] }
-    ensures many { row_of collector.new ≡ row_of collector.old }
-    ensures format { format_of collector.new ≡ format_of collector.old }
-{
-    'rows: for _ in 0..number {
-        collector.advance();
-    }
-}
-
 impl Kept {
     ghost use Rattle.receiver_end.specs.State.{Fits, Stands, plays_alone};
 
@@ -69,20 +54,37 @@ impl Kept {
             ≡ room_for params.now.format (params.now.slots + (params.now.lead + 2))) }
         ensures stands { IfOk result (λ r. Stands r (plays_alone number)) }
     {
-        laws::is_decoding();
-        call_decoding_laws::are_rules();
-        call_model_laws::receiver_stands::<Styled, Mb, Pictured, Fault>();
-        let mut collector = Collector::start(alloc, params)?;
-        move_on(&mut collector, number);
-        let mut store = PictureStore::start(alloc, params.format, params.slots, params.lead + 2)?;
-        let last = (number + params.lead + 1) % (params.lead + 2);
-        clear(&mut store, params.format, last);
-        Ok(Kept {
+        let collector = Collector::start(alloc, params)?;
+        let store = PictureStore::start(alloc, params.format, params.slots, params.lead + 2)?;
+        let mut kept = Kept {
             params: *params,
-            played: number,
+            played: 0,
             exact: false,
             collector,
             store,
-        })
+        };
+        kept.restart(number);
+        Ok(kept)
+    }
+
+    /// Nothing was taken, and this many pictures were played, in the memory that is there.
+    pub fn restart(&mut self, number: u32)
+        requires fits { Fits self.old }
+        requires few { number ≤ 2 ^ 20 }
+        ensures fits { Fits self.new }
+        ensures params { self.new.params ≡ self.old.params }
+        ensures played { self.new.played ≡ number }
+        ensures room { self.new.store.room ≡ self.old.store.room }
+        ensures stands { Stands self.new (plays_alone number) }
+    {
+        laws::is_decoding();
+        call_decoding_laws::are_rules();
+        call_model_laws::receiver_stands::<Styled, Mb, Pictured, Fault>();
+        self.collector.restart(number);
+        self.store.clear();
+        let last = (number + self.params.lead + 1) % (self.params.lead + 2);
+        clear(&mut self.store, self.params.format, last);
+        self.played = number;
+        self.exact = false;
     }
 }

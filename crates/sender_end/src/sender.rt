@@ -94,6 +94,29 @@ impl<P: Pace> Sender<P> {
         })
     }
 
+    /// Begins a call anew in the memory that it has, with this pace: a sender before its first
+    /// picture.
+    pub fn restart(&mut self, first_pace: P)
+        ensures params { self.new.params ≡ self.old.params }
+        ensures sent { self.new.sent ≡ 0 }
+        ensures pace { self.new.pace ≡ first_pace }
+        ensures room { self.new.store.room ≡ self.old.store.room }
+        ensures stands { Stands (P.quant_of self.new.pace) self.new [] }
+        ensures holds { Holds self.new nothing_done }
+    {
+        call_model_laws::sender_stands::<Framed, Styled, Mb, Pictured, MessageFault>();
+        call_model_laws::sender_holds::<Framed, Styled, Mb, Pictured, MessageFault>();
+        call_decoding_laws::are_rules();
+        let selector = Selector::start(&self.params);
+        self.pace = first_pace;
+        self.sent = 0;
+        self.cutter.restart();
+        self.selector = selector;
+        self.sizes.clear();
+        self.since = 0;
+        self.store.clear();
+    }
+
     /// Codes the next picture, of this frame, with at most four messages about pictures of the
     /// other direction in its header. Fewer than 1,048,576 pictures were coded.
     pub fn code(&mut self, frame: PictureRef<'_>, back: &[Message]) -> Coded

@@ -31,6 +31,10 @@ enum Step {
     Lacks(Mark, &'static [u8]),
     // The first and the last sample of the picture on the screen.
     Screen(u8, u8),
+    // A packet has the bytes of another.
+    Same(usize, usize),
+    // Both ends begin anew, in the memory that they have.
+    Restart,
     // This many pictures are coded and played, and their packets are lost.
     Lose(u32),
     // This many pictures arrive, and each is known before the next one is coded.
@@ -197,6 +201,27 @@ impl Ends {
         (bytes.first().copied(), bytes.last().copied()) == (Some(first), Some(last))
     }
 
+    // Whether two packets have the same bytes.
+    fn same(&self, packet: usize, other: usize) -> bool {
+        let Some(bytes) = self.packets.get(packet) else {
+            return false;
+        };
+        match self.packets.get(other) {
+            None => false,
+            Some(others) => bytes.as_slice() == others.as_slice(),
+        }
+    }
+
+    // Begins both ends anew, and says whether nothing was coded or played then.
+    fn restart(&mut self) -> bool
+        requires format { self.old.format ≡ self.old.sender.params.format }
+        ensures format { self.new.format ≡ self.new.sender.params.format }
+    {
+        self.sender.restart(FixedPace { quant: 8 });
+        self.receiver.restart(0);
+        self.sender.sent() == 0 && self.receiver.played() == 0
+    }
+
     // Whether the next picture, of which nothing comes, is held.
     fn lose_one(&mut self, alloc: Global) -> Result<bool, OutOfMemory>
         requires format { self.old.format ≡ self.old.sender.params.format }
@@ -273,6 +298,8 @@ impl Ends {
             Step::Exact => Ok(self.exact()),
             Step::Lacks(mark, text) => self.lacks(mark, text),
             Step::Screen(first, last) => Ok(self.shows(first, last)),
+            Step::Same(packet, other) => Ok(self.same(packet, other)),
+            Step::Restart => Ok(self.restart()),
             Step::Lose(times) => self.lose(alloc, times),
             Step::Follow(times) => self.follow(alloc, times),
         }
@@ -390,6 +417,43 @@ fn second_packet_comes_late(rt: HostRuntime) -> Result<(), Fail> {
         Step::Deliver(1, Heard::Late),
     ];
     assert_steps(&rt, rt.alloc(), &Params::of(Format::Cif), &steps)?;
+    Ok(())
+}
+
+// Both ends begin anew while a picture is complete that wasn't played. The same call has the same
+// packets then.
+#[test]
+fn same_call_again(rt: HostRuntime) -> Result<(), Fail> {
+    let steps = [
+        Step::Code(100, None),
+        Step::Complete(0, &ACK_0),
+        Step::Exact,
+        Step::Back(0, Feedback::Noted),
+        Step::Code(30, Some(0)),
+        Step::Complete(1, &ACK_1),
+        Step::Exact,
+        Step::Back(1, Feedback::Noted),
+        Step::Code(100, Some(1)),
+        Step::Complete(2, &ACK_2),
+        Step::Restart,
+        Step::Screen(128, 128),
+        Step::Code(100, None),
+        Step::Same(3, 0),
+        Step::Complete(3, &ACK_0),
+        Step::Exact,
+        Step::Screen(100, 100),
+        Step::Back(3, Feedback::Noted),
+        Step::Code(30, Some(0)),
+        Step::Same(4, 1),
+        Step::Complete(4, &ACK_1),
+        Step::Exact,
+        Step::Back(4, Feedback::Noted),
+        Step::Code(100, Some(1)),
+        Step::Same(5, 2),
+        Step::Complete(5, &ACK_2),
+        Step::Exact,
+    ];
+    assert_steps(&rt, rt.alloc(), &NARROW, &steps)?;
     Ok(())
 }
 
