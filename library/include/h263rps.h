@@ -18,7 +18,7 @@
  *    hands the end over, keeps their calls apart. Ends share nothing: two may be used at once. No
  *    call from a signal handler, or in the child of a fork() of a process with threads.
  *  - malloc, realloc and free are of one allocator, whose blocks are aligned to 16 bytes, as those
- *    of every C library on x86-64 are.
+ *    of every C library on x86-64 and 64-bit ARM are.
  *
  * C11 or C++11. The functions of this header are static inline: each tests its pointers and lengths
  * and then calls the library's own, h263rps_raw_NAME, which test nothing of the kind.
@@ -28,6 +28,9 @@
 
 #include <stddef.h>
 #include <stdint.h>
+
+/* The version of this header: 10,000 * major + 100 * minor. h263rps_version() has the library's. */
+#define H263RPS_VERSION 10300
 
 #ifdef __cplusplus
 extern "C" {
@@ -49,7 +52,7 @@ enum h263rps_status {
     H263RPS_NO_MEMORY = 5,    /* a start: nothing is kept */
     H263RPS_ENDED = 6,        /* 1,048,576 pictures were coded or played: finish, and start anew */
     H263RPS_WRONG_LENGTH = 7, /* the picture hasn't h263rps_picture_size() bytes */
-    H263RPS_BAD_MESSAGES = 8, /* more than four messages, or one that is none by this clock */
+    H263RPS_BAD_MESSAGES = 8, /* more than four messages, or what is none by this clock */
     H263RPS_NO_PACKET = 9,    /* the picture that was coded last has no packet of this number */
     H263RPS_SHORT_ROOM = 10,  /* the packet is longer than the room; `limit` bytes always do */
     /* of this header alone */
@@ -72,8 +75,8 @@ enum h263rps_clock {
     H263RPS_CUSTOM_CLOCK = 1    /* 1,024 */
 };
 
-/* Which parameter is out of its range: the first that is, in the order format, clock, and then as
- * they stand here. */
+/* Which parameter is out of its range: the first that is, in the order size, format, clock, and
+ * then as they stand here. */
 enum h263rps_param {
     H263RPS_PARAM_QUANT = 1,
     H263RPS_PARAM_KEEP = 2,
@@ -85,7 +88,8 @@ enum h263rps_param {
     H263RPS_PARAM_FORMAT = 8,
     H263RPS_PARAM_CLOCK = 9,
     H263RPS_PARAM_TARGET = 10,
-    H263RPS_PARAM_NUMBER = 11 /* h263rps_receiver_start_at() alone: above 1,048,576 */
+    H263RPS_PARAM_NUMBER = 11, /* h263rps_receiver_start_at() alone: above 1,048,576 */
+    H263RPS_PARAM_SIZE = 12    /* not the size of h263rps_params in a version that is known */
 };
 
 /* `kind` of the answer to a packet. Only the first two change the receiver. */
@@ -182,17 +186,33 @@ enum h263rps_message_fault {
 
 /* ---- structs ------------------------------------------------------------------------------- */
 
+/* What an end has counted since its start. A count that comes to 2^64 - 1 stays there. */
+typedef struct h263rps_statistics {
+    uint64_t packets; /* that a receiver was given, or a sender copied out */
+    uint64_t bytes;   /* of these packets */
+    /* receiver */
+    uint64_t heard[6];  /* packets by their answer (enum h263rps_heard) */
+    uint64_t faults[5]; /* refused ones by enum h263rps_fault up to OVERLAP; 0: by their bytes */
+    uint64_t played[3]; /* pictures by their mark (enum h263rps_mark) */
+    /* sender */
+    uint64_t coded[6]; /* pictures by how far back the reference is: intra, 1, 2, 3, 4 to 7, 8 on */
+    uint64_t noted[3]; /* messages by their answer (enum h263rps_noted) */
+} h263rps_statistics;
+
 /* An end of a call. All zeros before its start and after its finish: `h263rps_end e = {0};`. It is
  * written by these functions alone, and never copied: once one copy is finished, the other leads to
  * freed memory. One that isn't finished leaks. */
 typedef struct h263rps_end {
     uint32_t kind; /* 0 where it is empty */
     void *at;
+    h263rps_statistics counted; /* h263rps_receiver_statistics(), h263rps_sender_statistics() */
 } h263rps_end;
 
-/* The parameters of a call. h263rps_defaults() sets each; change those that you mean.
- * `format`, `clock`, `slots` and `lead` must be the same at both ends. */
+/* The parameters of a call. h263rps_defaults() sets each; change those that you mean, never `size`.
+ * `format` and `clock` must be the same at both ends, and a receiver's `slots - lead` at least its
+ * sender's. */
 typedef struct h263rps_params {
+    uint32_t size;    /* of this struct in bytes: a newer library knows by it what it was given */
     uint32_t format;  /* enum h263rps_format */
     uint8_t quant;    /* sender: the quantiser, 1 fine to 31 coarse (8); with a target the first */
     uint8_t keep;     /* sender: coefficients of a block that are coded, 1 to 64 (64) */
@@ -205,8 +225,8 @@ typedef struct h263rps_params {
     uint32_t target;  /* sender: bytes a picture that the quantiser follows, to 999,999; 0: none */
 } h263rps_params;
 
-/* A message for the other side: the first `length` bytes, 3 or 5. With a length of 0 there is
- * none. */
+/* A message for the other side: the first `length` bytes, 3 or 5. With a length of 0 there is none;
+ * any other length is none that may be sent. */
 typedef struct h263rps_message {
     uint8_t bytes[5];
     uint8_t length;
@@ -214,9 +234,10 @@ typedef struct h263rps_message {
 
 /* A receiver's answer to a packet or a play. */
 typedef struct h263rps_answer {
-    uint32_t kind;  /* enum h263rps_heard, of a play enum h263rps_mark */
-    uint32_t fault; /* enum h263rps_fault where a packet is refused, else 0 */
-    uint32_t at;    /* the bit of a fault of its bytes, else 0 */
+    uint32_t kind;   /* enum h263rps_heard, of a play enum h263rps_mark */
+    uint32_t fault;  /* enum h263rps_fault where a packet is refused, else 0 */
+    uint32_t at;     /* the bit of a fault of its bytes, else 0 */
+    uint32_t number; /* of a play: that of the picture that is shown, from 0; of a packet 0 */
     h263rps_message message;
 } h263rps_answer;
 
@@ -253,6 +274,7 @@ typedef struct h263rps_lent {
 
 /* ---- the library's own functions: pointers aren't null, also where a length is 0 ------------- */
 
+uint32_t h263rps_raw_version(void);
 uint32_t h263rps_raw_defaults(uint32_t format, h263rps_params *params);
 uint32_t h263rps_raw_picture_size(uint32_t format);
 uint32_t h263rps_raw_packet_start(const uint8_t *bytes, size_t length, h263rps_start *start);
@@ -268,6 +290,7 @@ uint32_t h263rps_raw_receiver_play(h263rps_end *end, uint8_t *picture, size_t le
 uint32_t h263rps_raw_receiver_next(h263rps_end *end, h263rps_answer *answer);
 uint32_t h263rps_raw_receiver_shown(h263rps_end *end, h263rps_lent *lent);
 uint32_t h263rps_raw_receiver_played(h263rps_end *end, uint32_t *count);
+uint32_t h263rps_raw_receiver_statistics(h263rps_end *end, h263rps_statistics *statistics);
 uint32_t h263rps_raw_receiver_finish(h263rps_end *end);
 
 uint32_t h263rps_raw_sender_start(h263rps_end *end, const h263rps_params *params, uint32_t *fault);
@@ -281,6 +304,7 @@ uint32_t h263rps_raw_sender_feedback(h263rps_end *end, const uint8_t *message, s
 uint32_t h263rps_raw_sender_target(h263rps_end *end, uint32_t bytes);
 uint32_t h263rps_raw_sender_forget(h263rps_end *end);
 uint32_t h263rps_raw_sender_sent(h263rps_end *end, uint32_t *count);
+uint32_t h263rps_raw_sender_statistics(h263rps_end *end, h263rps_statistics *statistics);
 uint32_t h263rps_raw_sender_finish(h263rps_end *end);
 
 /* ---- before the start ---------------------------------------------------------------------- */
@@ -304,6 +328,12 @@ static inline const char *h263rps_status_text(uint32_t status) {
     case H263RPS_NO_START: return "no start of a packet";
     default: return "no status";
     }
+}
+
+/* The version of the library, as H263RPS_VERSION has that of the header. A library of the same
+ * soname serves each program that was compiled with a header of its version or an older one. */
+static inline uint32_t h263rps_version(void) {
+    return h263rps_raw_version();
 }
 
 /* Writes the parameters of a call in this format where nothing else is asked for.
@@ -427,6 +457,14 @@ static inline uint32_t h263rps_receiver_played(h263rps_end *end, uint32_t *count
     return h263rps_raw_receiver_played(end, count);
 }
 
+/* Writes what a receiver has counted since its start to `statistics`.
+ * NOT_STARTED, OTHER_END. */
+static inline uint32_t h263rps_receiver_statistics(h263rps_end *end,
+                                                   h263rps_statistics *statistics) {
+    if (!end || !statistics) return H263RPS_NULL;
+    return h263rps_raw_receiver_statistics(end, statistics);
+}
+
 /* Gives a receiver's memory back, and leaves `end` all zeros, ready for a start.
  * NOT_STARTED, OTHER_END. */
 static inline uint32_t h263rps_receiver_finish(h263rps_end *end) {
@@ -446,7 +484,8 @@ static inline uint32_t h263rps_sender_start(h263rps_end *end, const h263rps_para
 
 /* Codes the next picture, of h263rps_picture_size() bytes. Its packets are ready then, until the
  * next one is coded. `messages` are up to four about pictures of the other direction, which travel
- * in the picture's header; with none pass NULL and 0, as most callers do.
+ * in the picture's header; with none pass NULL and 0, as most callers do. One whose length is 0 is
+ * left out; a length that is none of 0, 3 and 5 is BAD_MESSAGES.
  * NOT_STARTED, OTHER_END, ENDED, WRONG_LENGTH, BAD_MESSAGES. */
 static inline uint32_t h263rps_sender_code(h263rps_end *end, const void *picture, size_t length,
                                            const h263rps_message *messages, size_t count,
@@ -530,6 +569,13 @@ static inline uint32_t h263rps_sender_forget(h263rps_end *end) {
 static inline uint32_t h263rps_sender_sent(h263rps_end *end, uint32_t *count) {
     if (!end || !count) return H263RPS_NULL;
     return h263rps_raw_sender_sent(end, count);
+}
+
+/* Writes what a sender has counted since its start to `statistics`.
+ * NOT_STARTED, OTHER_END. */
+static inline uint32_t h263rps_sender_statistics(h263rps_end *end, h263rps_statistics *statistics) {
+    if (!end || !statistics) return H263RPS_NULL;
+    return h263rps_raw_sender_statistics(end, statistics);
 }
 
 /* Gives a sender's memory back. As h263rps_receiver_finish(). */

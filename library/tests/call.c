@@ -64,6 +64,8 @@ int main(int argc, char **argv) {
     uint8_t *picture = (uint8_t *)malloc(size), *room = (uint8_t *)malloc(params.limit);
     h263rps_end sender = {0}, receiver = {0};
     unsigned pictures = 0, played = 0, marks[3] = {0}, refused = 0;
+    /* what both ends must have counted */
+    h263rps_statistics sent = {0}, received = {0}, counted;
     if (!in || !trace || !out || !picture || !room || !fgets(line, sizeof line, in)) return 2;
     clock_t begin = clock();
     must("start", h263rps_sender_start(&sender, &params, NULL));
@@ -80,7 +82,11 @@ int main(int argc, char **argv) {
                 size_t count;
                 must("packet", h263rps_sender_packet(&sender, i, room, params.limit, &count));
                 keep(packets, &packet_count, room, count);
+                sent.packets++;
+                sent.bytes += count;
             }
+            uint32_t back = coded.intra ? 0 : coded.number - coded.reference;
+            sent.coded[back < 4 ? back : back < 8 ? 4 : 5]++;
             first[++pictures] = packet_count;
         } else if (line[0] == 'D') {
             const char *dot = strchr(line, '.');
@@ -94,24 +100,36 @@ int main(int argc, char **argv) {
                 must("packet", h263rps_receiver_packet(&receiver, packet->bytes, packet->length,
                                                        &answer));
                 refused += answer.kind == H263RPS_REFUSED;
+                received.packets++;
+                received.bytes += packet->length;
+                received.heard[answer.kind]++;
+                if (answer.kind == H263RPS_REFUSED)
+                    received.faults[answer.fault <= H263RPS_OVERLAP ? answer.fault : 0]++;
                 keep_message(&answer.message);
             }
         } else if (line[0] == 'P') {
             h263rps_lent shown = {picture, size};
-            if (played++ % 2) {
+            if (played % 2) {
                 must("play", h263rps_receiver_play_lent(&receiver, &shown, &answer));
             } else {
                 must("play", h263rps_receiver_play(&receiver, picture, size, &answer));
             }
+            if (answer.number != played++ || shown.length != size) return 3;
             marks[answer.kind]++;
+            received.played[answer.kind]++;
             keep_message(&answer.message);
             fwrite(shown.samples, 1, shown.length, out);
         } else if (line[0] == 'B') {
             const text *message = &messages[k];
             must("feedback", h263rps_sender_feedback(&sender, message->bytes, message->length,
                                                      &reply));
+            sent.noted[reply.kind]++;
         }
     }
+    must("statistics", h263rps_sender_statistics(&sender, &counted));
+    if (memcmp(&counted, &sent, sizeof sent)) return 4;
+    must("statistics", h263rps_receiver_statistics(&receiver, &counted));
+    if (memcmp(&counted, &received, sizeof received)) return 5;
     printf("pictures %u packets %zu exact %u patched %u held %u refused %u messages %zu "
            "seconds %.3f\n", pictures, packet_count, marks[0], marks[1], marks[2], refused,
            message_count, (double)(clock() - begin) / CLOCKS_PER_SEC);

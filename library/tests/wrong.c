@@ -25,16 +25,18 @@ static size_t count;
 /* Each field by its offset, and what the library writes there. */
 static void layout(void) {
     h263rps_params filled;
-    want("size of an end", sizeof(h263rps_end), 2 * sizeof(void *));
-    want("size of the parameters", sizeof(h263rps_params), 28);
+    want("size of statistics", sizeof(h263rps_statistics), 25 * 8);
+    want("size of an end", sizeof(h263rps_end), 2 * sizeof(void *) + sizeof(h263rps_statistics));
+    want("size of the parameters", sizeof(h263rps_params), 32);
     want("size of a message", sizeof(h263rps_message), 6);
-    want("size of an answer", sizeof(h263rps_answer), 20);
+    want("size of an answer", sizeof(h263rps_answer), 24);
     want("size of a picture", sizeof(h263rps_coded), 16);
     want("size of a reply", sizeof(h263rps_reply), 8);
     want("size of what is lent", sizeof(h263rps_lent), 2 * sizeof(void *));
     want("its length", offsetof(h263rps_lent, length), sizeof(void *));
     memset(&filled, 0xAA, sizeof filled);
     want("defaults", h263rps_defaults(H263RPS_CIF, &filled), H263RPS_OK);
+    want("its size", filled.size, sizeof filled);
     want("format", filled.format, H263RPS_CIF);
     want("quant", filled.quant, 8);
     want("keep", filled.keep, 64);
@@ -68,6 +70,8 @@ static void parameters(int receives) {
         want(#field " is told", fault, number); \
         want(#field ": empty", end.kind, 0); \
     } while (0)
+    BAD(size, 28, H263RPS_PARAM_SIZE);
+    BAD(size, 36, H263RPS_PARAM_SIZE);
     BAD(format, 0, H263RPS_PARAM_FORMAT);
     BAD(format, 4, H263RPS_PARAM_FORMAT);
     BAD(clock, 2, H263RPS_PARAM_CLOCK);
@@ -95,6 +99,7 @@ static void parameters(int receives) {
 static void receiver_calls(h263rps_end *end, uint32_t status) {
     h263rps_lent lent = {room, 77};
     uint32_t pictures = 77;
+    h263rps_statistics statistics = {77};
     memset(&answer, 0xAA, sizeof answer);
     memset(shown, 0xAA, SIZE);
     want("packet", h263rps_receiver_packet(end, "abc", 3, &answer), status);
@@ -102,7 +107,9 @@ static void receiver_calls(h263rps_end *end, uint32_t status) {
     want("play lent", h263rps_receiver_play_lent(end, &lent, &answer), status);
     want("shown", h263rps_receiver_shown(end, &lent), status);
     want("played", h263rps_receiver_played(end, &pictures), status);
+    want("statistics", h263rps_receiver_statistics(end, &statistics), status);
     want("finish", h263rps_receiver_finish(end), status);
+    want("counts are left", statistics.packets == 77, 1);
     want("the number is left", pictures, 77);
     want("answer is left", answer.kind, 0xAAAAAAAA);
     want("picture is left", shown[0], 0xAA);
@@ -113,6 +120,7 @@ static void sender_calls(h263rps_end *end, uint32_t status) {
     memset(&coded, 0xAA, sizeof coded);
     memset(&reply, 0xAA, sizeof reply);
     uint32_t pictures = 77;
+    h263rps_statistics statistics = {77};
     count = 77;
     want("code", h263rps_sender_code(end, picture, SIZE, NULL, 0, &coded), status);
     want("packet", h263rps_sender_packet(end, 0, room, sizeof room, &count), status);
@@ -120,7 +128,9 @@ static void sender_calls(h263rps_end *end, uint32_t status) {
     want("target", h263rps_sender_target(end, 1000000), status);
     want("forget", h263rps_sender_forget(end), status);
     want("sent", h263rps_sender_sent(end, &pictures), status);
+    want("statistics", h263rps_sender_statistics(end, &statistics), status);
     want("finish", h263rps_sender_finish(end), status);
+    want("counts are left", statistics.packets == 77, 1);
     want("the number is left", pictures, 77);
     want("picture is left", coded.number, 0xAAAAAAAA);
     want("reply is left", reply.kind, 0xAAAAAAAA);
@@ -141,6 +151,7 @@ static void lent_pictures(h263rps_end *end) {
     want("grey", lent.samples[0] == 128 && lent.samples[SIZE - 1] == 128, 1);
     want("play lent", h263rps_receiver_play_lent(end, &lent, &answer), H263RPS_OK);
     want("held", answer.kind, H263RPS_HELD);
+    want("the second", answer.number, 1);
     want("its length", (uint32_t)lent.length, SIZE);
     want("a message", answer.message.length, 3);
     want("shown", h263rps_receiver_shown(end, &again), H263RPS_OK);
@@ -151,6 +162,28 @@ static void lent_pictures(h263rps_end *end) {
     want("play", h263rps_receiver_play(end, shown, SIZE, &answer), H263RPS_OK);
     want("shown", h263rps_receiver_shown(end, &lent), H263RPS_OK);
     want("the copied one", memcmp(lent.samples, shown, SIZE), 0);
+}
+
+/* Packets that were refused for their bytes, and pictures that were held. */
+static void counts_of_receiver(h263rps_end *end, uint32_t packets, uint32_t bytes,
+                               uint32_t pictures) {
+    h263rps_statistics is, wanted = {packets, bytes, {0, 0, 0, 0, 0, packets}, {packets},
+                                     {0, 0, pictures}, {0}, {0}};
+    want("null", h263rps_receiver_statistics(end, NULL), H263RPS_NULL);
+    want("null", h263rps_receiver_statistics(NULL, &is), H263RPS_NULL);
+    want("statistics", h263rps_receiver_statistics(end, &is), H263RPS_OK);
+    want("counts", memcmp(&is, &wanted, sizeof is), 0);
+}
+
+/* Pictures that were coded intra and by the one before, messages that were noted and none. */
+static void counts_of_sender(h263rps_end *end) {
+    h263rps_statistics is, wanted = {0, 0, {0}, {0}, {0}, {1, 1}, {1, 0, 1}};
+    want("null", h263rps_sender_statistics(end, NULL), H263RPS_NULL);
+    want("null", h263rps_sender_statistics(NULL, &is), H263RPS_NULL);
+    want("statistics", h263rps_sender_statistics(end, &is), H263RPS_OK);
+    wanted.packets = is.packets;
+    wanted.bytes = is.bytes;
+    want("counts", memcmp(&is, &wanted, sizeof is), 0);
 }
 
 static void receiver(void) {
@@ -168,15 +201,19 @@ static void receiver(void) {
     want("refused", answer.kind, H263RPS_REFUSED);
     want("short", answer.fault, H263RPS_BYTES_SHORT);
     want("of no bytes", answer.at, 0);
+    want("no number", answer.number, 0);
     want("no message", answer.message.length, 0);
     want("short room", h263rps_receiver_play(&end, shown, SIZE - 1, &answer), H263RPS_WRONG_LENGTH);
     want("no room", h263rps_receiver_play(&end, NULL, 0, &answer), H263RPS_WRONG_LENGTH);
+    counts_of_receiver(&end, 1, 0, 0);
     want("play", h263rps_receiver_play(&end, shown, SIZE, &answer), H263RPS_OK);
+    counts_of_receiver(&end, 1, 0, 1);
     want("held", answer.kind, H263RPS_HELD);
     want("grey", shown[0] == 128 && shown[SIZE - 1] == 128, 1);
     want("a message", answer.message.length, 3);
     lent_pictures(&end);
     want("finish", h263rps_receiver_finish(&end), H263RPS_OK);
+    want("all zeros", end.counted.packets == 0 && end.counted.played[2] == 0, 1);
     receiver_calls(&end, H263RPS_NOT_STARTED);
 }
 
@@ -196,6 +233,24 @@ static void joining(void) {
     want("all", pictures, 1048576);
     want("the end", h263rps_receiver_play(&end, shown, SIZE, &answer), H263RPS_ENDED);
     want("finish", h263rps_receiver_finish(&end), H263RPS_OK);
+}
+
+/* A message of each length beside an empty place: three bytes are one, and no other length is. */
+static void messages(void) {
+    h263rps_end end = {0};
+    h263rps_message back[4] = {{{9, 9, 9, 9, 9}, 0}};
+    want("start", h263rps_sender_start(&end, &params, NULL), H263RPS_OK);
+    want("four empty ones", h263rps_sender_code(&end, picture, SIZE, back, 4, &coded), H263RPS_OK);
+    for (unsigned length = 0; length < 256; length++) {
+        h263rps_message ack = {{0xC0, 0x04, 0x00, 0, 0}, (uint8_t)length};
+        back[2] = ack;
+        want("a message", h263rps_sender_code(&end, picture, SIZE, back, 4, &coded),
+             length == 0 || length == 3 ? H263RPS_OK : H263RPS_BAD_MESSAGES);
+    }
+    h263rps_message flagged = {{0xE0, 0x04, 0x00, 0x80, 0x80}, 5};
+    back[3] = flagged;
+    want("five bytes", h263rps_sender_code(&end, picture, SIZE, back + 3, 1, &coded), H263RPS_OK);
+    want("finish", h263rps_sender_finish(&end), H263RPS_OK);
 }
 
 /* Another SSRC and payload type: of a packet of a sender, and back. */
@@ -257,6 +312,7 @@ static void sender(void) {
     want("packet", h263rps_sender_packet(&end, 0, room, sizeof room, &count), H263RPS_OK);
     want("code", h263rps_sender_code(&end, picture, SIZE, NULL, 0, &coded), H263RPS_OK);
     want("the second", coded.number == 1 && coded.intra == 0 && coded.reference == 0, 1);
+    counts_of_sender(&end);
     want("too great a target", h263rps_sender_target(&end, 1000000), H263RPS_BAD_PARAMS);
     want("the greatest", h263rps_sender_target(&end, 999999), H263RPS_OK);
     want("null", h263rps_sender_target(NULL, 0), H263RPS_NULL);
@@ -268,12 +324,14 @@ static void sender(void) {
 
 int main(void) {
     layout();
+    want("version", h263rps_version(), H263RPS_VERSION);
     want("defaults", h263rps_defaults(H263RPS_SUB_QCIF, &params), H263RPS_OK);
     parameters(0);
     parameters(1);
     receiver();
     joining();
     sender();
+    messages();
     labels();
     if (!wrong) printf("each wrong call is refused by its number\n");
     return wrong;

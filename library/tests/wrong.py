@@ -29,6 +29,15 @@ def wanted(error: str, call: Callable[[], object]) -> None:
         sys.exit(f"{told}, and not {error}")
 
 
+# The acknowledgement of picture 0.
+ACK = bytes((0xC0, 0x04, 0x00))
+
+
+def counts(receiver: Receiver) -> tuple[int, int, int]:
+    told = receiver.statistics()
+    return told.heard["refused"], told.faults["bytes"], told.played["held"]
+
+
 wanted("Refused: start: bad params: slots", lambda: Sender(Params.of("qcif", slots=65)))
 wanted("ValueError: quant: 264 is out of its range", lambda: Params.of("qcif", quant=264))
 wanted("ValueError: lead: -1 is out of its range", lambda: Params.of("qcif", lead=-1))
@@ -41,15 +50,22 @@ wanted("Refused: packet start: no start", lambda: packet_start(b"abc"))
 with Sender(Params.of("qcif")) as sender, Receiver(Params.of("qcif")) as receiver:
     wanted("Refused: code: wrong length", lambda: sender.code(bytes(3)))
     wanted("Refused: code: bad messages", lambda: sender.code(bytes(38016), [bytes(6)]))
+    for length in (1, 2, 4, 5):
+        back = [b"", (ACK + bytes(2))[:length]]
+        wanted("Refused: code: bad messages", lambda: sender.code(bytes(38016), back))
+    wanted("Refused: code: bad messages", lambda: sender.code(bytes(38016), 5 * [b""]))
     wanted("Refused: packet: no packet", lambda: sender.packet(0))
     wanted("Refused: target: bad params", lambda: sender.target(1000000))
     wanted("ValueError: target: 4294967296 is out of its range", lambda: sender.target(1 << 32))
     wanted("None", lambda: (sender.target(999999), sender.forget())[1])
     wanted("(0, 0)", lambda: (sender.sent(), receiver.played()))
+    wanted("0", lambda: sum(sender.statistics().coded.values()))
     wanted("Reply(kind='no message', fault=1)", lambda: sender.feedback(b""))
+    wanted("1", lambda: sender.statistics().noted["no message"])
     wanted("'refused'", lambda: receiver.packet(b"").kind)
+    wanted("(1, 1)", lambda: counts(receiver)[:2])
     lent = receiver.play_lent()
-    wanted("'held'", lambda: lent.mark)
+    wanted("('held', 0)", lambda: (lent.mark, lent.number))
     wanted("(38016, 128, 128)", lambda: (len(lent.picture), lent.picture[0], lent.picture[-1]))
     wanted("TypeError: cannot modify read-only memory", lambda: lent.picture.__setitem__(0, 1))
     wanted("True", lambda: bytes(receiver.shown()) == receiver.play().picture)
@@ -65,6 +81,13 @@ sender.close()
 wanted("Refused: forget: not started", sender.forget)
 wanted("Refused: sent: not started", sender.sent)
 wanted("Refused: packet: not started", lambda: sender.packet(0))
+
+# A header has the messages of the places that aren't empty.
+with Sender(Params.of("qcif")) as sender:
+    plain, empty, one = (
+        sender.packets(sender.code(bytes(38016), back))[0] for back in ([], [b""], [b"", ACK, b""])
+    )
+    wanted("(True, True)", lambda: (len(plain) == len(empty), len(empty) < len(one)))
 
 # Another SSRC and payload type, and back.
 with Sender(Params.of("qcif")) as sender, Receiver(Params.of("qcif")) as receiver:

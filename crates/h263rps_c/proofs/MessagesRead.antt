@@ -1,13 +1,14 @@
--- Messages that are read one after the other.
-use Rattle.std.proofs.Common.{arith, ◌≡◌, ℕ, ◌+◌, ◌<◌, List, [], ◌∷◌, ◌++◌, Option, Some, None, Ok, Err, refl, sym, ap, ◌∙◌, subst, append_assoc, length, take, drop, get_or, set}
+-- Places that are read one after the other.
+use Rattle.std.proofs.Common.{arith, ◌≡◌, ℕ, ◌+◌, ◌<◌, List, [], ◌∷◌, ◌++◌, Option, Some, None, refl, sym, ap, ◌∙◌, subst, append_assoc, length, take, drop, get_or, set}
 use Rattle.std.proofs.lemmas.List.{append-nil, drop_all, drop_more, take_more_set}
 use Rattle.h263_types.specs.declared.clock.Clock.{Clock}
 use Rattle.back_messages.specs.declared.message.Message.{Message}
-use Rattle.back_messages.specs.declared.message.MessageFault.{MessageFault}
-use Rattle.back_messages.specs.Text.{IsMessage, message_in}
+use Rattle.back_messages.specs.Text.{IsMessage}
 use Rattle.picture_header.specs.Ranges.{AreMessages}
 use Rattle.h263rps_c.specs.declared.answers.Said.{Said}
-use Rattle.h263rps_c.specs.Messages.{messages_of, text_in, with_message}
+use Rattle.h263rps_c.specs.declared.messages.Place.{Place}
+use Rattle.h263rps_c.specs.declared.messages.Place.TheVariants.{Empty, Says, Wrong}
+use Rattle.h263rps_c.specs.Messages.{IsPlace, messages_of, place_in, with_place}
 
 -- these messages, and then the others, if they are messages
 abbrev pub after : List Message → Option (List Message) → Option (List Message)
@@ -18,45 +19,53 @@ pub none_yet : (others : Option (List Message)) → others ≡ after [] others
 none_yet None = refl
 none_yet (Some others) = refl
 
-one_more : (ms : List Message) (m : Message) (others : Option (List Message)) → after ms (with_message (Ok m) others) ≡ after (ms ++ m ∷ []) others
+one_more : (ms : List Message) (m : Message) (others : Option (List Message)) → after ms (with_place (Says m) others) ≡ after (ms ++ m ∷ []) others
 one_more ms m None = refl
 one_more ms m (Some others) = ap Some (sym (append_assoc ms (m ∷ []) others))
 
 -- from a place on: what is there, and then the rest
-from_place : (clock : Clock) (back : List Said) (i : ℕ) (d : Said) (text : List ℕ) → i < length back → text ≡ text_in (get_or back i d)
-    → messages_of clock (drop i back) ≡ with_message (message_in clock text) (messages_of clock (drop (i + 1) back))
-from_place clock back i d text lt is =
+from_place : (clock : Clock) (back : List Said) (i : ℕ) (d : Said) (p : Place) → i < length back → p ≡ place_in clock (get_or back i d)
+    → messages_of clock (drop i back) ≡ with_place p (messages_of clock (drop (i + 1) back))
+from_place clock back i d p lt is =
     ap (messages_of clock) (drop_more back i d lt)
-    ∙ ap (λ (t : List ℕ). with_message (message_in clock t) (messages_of clock (drop (i + 1) back))) (sym is)
+    ∙ ap (λ (q : Place). with_place q (messages_of clock (drop (i + 1) back))) (sym is)
 
-pub next_message : (clock : Clock) (back : List Said) (places : List Message) (i : ℕ) (d : Said) (text : List ℕ) (m : Message) (v : Option (List Message))
-    → i < length back → i < length places → text ≡ text_in (get_or back i d) → Ok m ≡ message_in clock text
-    → v ≡ after (take i places) (messages_of clock (drop i back))
-    → v ≡ after (take (i + 1) (set places i m)) (messages_of clock (drop (i + 1) back))
-next_message clock back places i d text m v lt room is read before =
+-- a message
+pub next_message : (clock : Clock) (back : List Said) (places : List Message) (i c : ℕ) (d : Said) (m : Message) (v : Option (List Message))
+    → i < length back → c < length places → Says m ≡ place_in clock (get_or back i d)
+    → v ≡ after (take c places) (messages_of clock (drop i back))
+    → v ≡ after (take (c + 1) (set places c m)) (messages_of clock (drop (i + 1) back))
+next_message clock back places i c d m v lt room is before =
     let rest = messages_of clock (drop (i + 1) back) in
-    before ∙ ap (after (take i places)) (from_place clock back i d text lt is ∙ ap (λ (r : _). with_message r rest) (sym read))
-    ∙ one_more (take i places) m rest ∙ ap (λ (ms : List Message). after ms rest) (sym (take_more_set places i m room))
+    before ∙ ap (after (take c places)) (from_place clock back i d (Says m) lt is)
+    ∙ one_more (take c places) m rest ∙ ap (λ (ms : List Message). after ms rest) (sym (take_more_set places c m room))
 
-pub no_message : (clock : Clock) (back : List Said) (places : List Message) (i : ℕ) (d : Said) (text : List ℕ) (fault : MessageFault) (v : Option (List Message))
-    → i < length back → text ≡ text_in (get_or back i d) → Err fault ≡ message_in clock text
-    → v ≡ after (take i places) (messages_of clock (drop i back)) → None ≡ v
-no_message clock back places i d text fault v lt is read before =
-    let rest = messages_of clock (drop (i + 1) back) in
-    sym (before ∙ ap (after (take i places)) (from_place clock back i d text lt is ∙ ap (λ (r : _). with_message r rest) (sym read)))
+-- an empty place
+pub no_place : (clock : Clock) (back : List Said) (before : List Message) (i : ℕ) (d : Said) (v : Option (List Message))
+    → i < length back → Empty ≡ place_in clock (get_or back i d)
+    → v ≡ after before (messages_of clock (drop i back))
+    → v ≡ after before (messages_of clock (drop (i + 1) back))
+no_place clock back ms i d v lt is before = before ∙ ap (after ms) (from_place clock back i d Empty lt is)
 
-pub all_read : (clock : Clock) (back : List Said) (places : List Message) (i : ℕ) (v : Option (List Message))
-    → i ≡ length back → v ≡ after (take i places) (messages_of clock (drop i back)) → Some (take (length back) places) ≡ v
-all_read clock back places i v here before =
-    sym (before ∙ ap (λ (k : ℕ). after (take k places) (messages_of clock (drop k back))) here
-    ∙ ap (λ (l : List Said). after (take (length back) places) (messages_of clock l)) (drop_all (length back) back (omega arith))
-    ∙ ap Some (append-nil (take (length back) places)))
+-- what is no message
+pub no_message : (clock : Clock) (back : List Said) (before : List Message) (i : ℕ) (d : Said) (v : Option (List Message))
+    → i < length back → Wrong ≡ place_in clock (get_or back i d)
+    → v ≡ after before (messages_of clock (drop i back)) → None ≡ v
+no_message clock back ms i d v lt is before =
+    sym (before ∙ ap (after ms) (from_place clock back i d Wrong lt is))
+
+pub all_read : (clock : Clock) (back : List Said) (before : List Message) (i : ℕ) (v : Option (List Message))
+    → i ≡ length back → v ≡ after before (messages_of clock (drop i back)) → Some before ≡ v
+all_read clock back ms i v here before =
+    sym (before ∙ ap (λ (k : ℕ). after ms (messages_of clock (drop k back))) here
+    ∙ ap (λ (l : List Said). after ms (messages_of clock l)) (drop_all (length back) back (omega arith))
+    ∙ ap Some (append-nil ms))
 
 are_more : (clock : Clock) (ms : List Message) (m : Message) → AreMessages clock ms → IsMessage clock m → AreMessages clock (ms ++ m ∷ [])
 are_more clock [] m each is = (is, tt)
 are_more clock (x ∷ ms) m each is = (each.0, are_more clock ms m each.1 is)
 
-pub next_in_range : (clock : Clock) (places : List Message) (i : ℕ) (m : Message) → i < length places
-    → AreMessages clock (take i places) → IsMessage clock m → AreMessages clock (take (i + 1) (set places i m))
-next_in_range clock places i m room each is =
-    subst (AreMessages clock) (sym (take_more_set places i m room)) (are_more clock (take i places) m each is)
+pub next_in_range : (clock : Clock) (places : List Message) (c : ℕ) (m : Message) → c < length places
+    → AreMessages clock (take c places) → IsMessage clock m → AreMessages clock (take (c + 1) (set places c m))
+next_in_range clock places c m room each is =
+    subst (AreMessages clock) (sym (take_more_set places c m room)) (are_more clock (take c places) m each is)

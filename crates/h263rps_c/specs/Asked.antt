@@ -42,6 +42,13 @@ bad_clock = 9
 abbrev pub bad_target : ℕ
 bad_target = 10
 
+-- the bytes of the struct, and the number of another size
+abbrev pub params_size : ℕ
+params_size = 32
+
+abbrev pub bad_size : ℕ
+bad_size = 12
+
 abbrev pub params_with : Asked → Format → Clock → Params
 params_with a format clock =
     record {
@@ -69,10 +76,12 @@ params_in a None clock = Err bad_format
 params_in a (Some format) None = Err bad_clock
 params_in a (Some format) (Some clock) = checked_params a format clock
 
--- the parameters, or the number of the first that is out of its range: the format, the clock, those
--- of a call in their order, the target
+-- the parameters, or the number of the first that is out of its range: the struct's size, the
+-- format, the clock, those of a call in their order, the target
 abbrev pub params_of : Asked → Result Params ℕ
-params_of a = params_in a (format_in a.format) (clock_in a.clock)
+params_of a =
+    if a.size == params_size then params_in a (format_in a.format) (clock_in a.clock)
+    else Err bad_size
 
 abbrev pub bad_number : ℕ
 bad_number = 11
@@ -86,6 +95,7 @@ params_at number (Ok p) = if nat_le number 1048576 then Ok p else Err bad_number
 abbrev pub asked_with : ℕ → Params → Asked
 asked_with number p =
     record {
+      size = params_size;
       format = number;
       quant = p.quant;
       keep = p.keep;

@@ -1,9 +1,10 @@
 -- The ends for which a slot stands, and what is told of them.
-use Rattle.std.specs.Prelude.{◌≡◌, ℕ, List, [], Option, Some, None}
+use Rattle.std.specs.Prelude.{◌≡◌, ℕ, List, [], length, Option, Some, None}
 use Rattle.h263_bits.specs.declared.fault.Fault.{Fault}
 use Rattle.h263_types.specs.declared.blocks.Mb.{Mb}
 use Rattle.h263_types.specs.declared.clock.Clock.{Clock}
 use Rattle.h263_types.specs.declared.params.Params.{Params}
+use Rattle.h263_types.specs.Sizes.{size_of_picture}
 use Rattle.h263_planes.specs.Picture.{Picture}
 use Rattle.h263_planes.specs.Samples.{bytes_of}
 use Rattle.call_model.specs.Coding as coding
@@ -39,10 +40,12 @@ HoldsReceiver p past None = ⊥
 HoldsReceiver p past (Some (Sending s)) = ⊥
 HoldsReceiver p past (Some (Receiving r)) = (r.params ≡ p) × receivers.Stands r past
 
--- these bytes are the picture that a receiver inside shows
+-- these bytes are the picture that a receiver inside shows, and exactly as many as its format has
 abbrev pub ShowsPicture : Option End → List ℕ → Type 0
 ShowsPicture inside bytes = (p : Params) (past : List ReceiverEntry)
-    → HoldsReceiver p past inside → bytes ≡ bytes_of (receivers.run_of p past).screen
+    → HoldsReceiver p past inside
+    → (bytes ≡ bytes_of (receivers.run_of p past).screen)
+    × (length bytes ≡ size_of_picture p.format)
 
 -- the answer to a packet is this one, in numbers
 pub record TellsHeard (clock : Clock) (answer : Answer) (heard : runs.Heard Fault) : Type 0 where

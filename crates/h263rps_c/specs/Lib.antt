@@ -4,6 +4,7 @@ pub mod Returned
 pub mod Pace
 pub mod Asked
 pub mod Numbers
+pub mod Counting
 pub mod Messages
 pub mod Refusals
 pub mod Sending

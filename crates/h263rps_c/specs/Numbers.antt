@@ -20,6 +20,10 @@ use Rattle.h263rps_c.specs.declared.answers.Made.{Made}
 use Rattle.h263rps_c.specs.declared.answers.Reply.{Reply}
 use Rattle.h263rps_c.specs.declared.answers.Said.{Said}
 
+-- 10,000 times the major number of the version, and 100 times the minor one
+abbrev pub library_version : ℕ
+library_version = 10300
+
 -- ---- what is wrong with a packet
 
 -- with its bytes
@@ -85,15 +89,26 @@ no_message = record { bytes = 0 ∷ 0 ∷ 0 ∷ 0 ∷ 0 ∷ []; length = 0 }
 abbrev pub said_of : MessageBytes → Said
 said_of said = record { bytes = said.bytes; length = said.len }
 
+abbrev pub said_in : Option MessageBytes → Said
+said_in None = no_message
+said_in (Some said) = said_of said
+
 abbrev pub plain : ℕ → Answer
-plain kind = record { kind = kind; fault = 0; at = 0; message = no_message }
+plain kind = record { kind = kind; fault = 0; at = 0; number = 0; message = no_message }
 
 abbrev pub saying : ℕ → MessageBytes → Answer
-saying kind said = record { kind = kind; fault = 0; at = 0; message = said_of said }
+saying kind said =
+    record { kind = kind; fault = 0; at = 0; number = 0; message = said_of said }
 
 abbrev pub refusing : PacketFault → Answer
 refusing fault =
-    record { kind = 5; fault = fault_number fault; at = place_of fault; message = no_message }
+    record {
+      kind = 5;
+      fault = fault_number fault;
+      at = place_of fault;
+      number = 0;
+      message = no_message;
+    }
 
 -- to a packet
 abbrev pub heard_answer : Heard → Answer
@@ -109,13 +124,16 @@ mark_number marks.Exact = 0
 mark_number marks.Patched = 1
 mark_number marks.Held = 2
 
-abbrev pub answer_saying : ℕ → Option MessageBytes → Answer
-answer_saying kind None = plain kind
-answer_saying kind (Some said) = saying kind said
-
--- to a play
+-- to a play: with the number of the picture that is shown
 abbrev pub played_answer : Played → Answer
-played_answer played = answer_saying (mark_number played.mark) played.message
+played_answer played =
+    record {
+      kind = mark_number played.mark;
+      fault = 0;
+      at = 0;
+      number = played.number;
+      message = said_in played.message;
+    }
 
 -- ---- a sender's answers
 

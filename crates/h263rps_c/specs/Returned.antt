@@ -5,6 +5,7 @@ use Rattle.std.specs.Borrow.{follows_so, MutBor, Fml}
 use Rattle.h263rps_c.specs.declared.handles.Slot.{Slot}
 use Rattle.h263rps_c.specs.contracts.handles.Slot.{the_row}
 
--- it has the same end
+-- it has the same end, and has counted the same
 abbrev pub KeepsEnd : MutBor Slot → Fml
-KeepsEnd s = follows_so the_row the_row s.ghost_name none (λ _ _. ⊤) (λ v. v.handle.inside ≡ s.now.handle.inside)
+KeepsEnd s = follows_so the_row the_row s.ghost_name none (λ _ _. ⊤)
+    (λ v. (v.handle.inside ≡ s.now.handle.inside) × (v.counted ≡ s.now.counted))

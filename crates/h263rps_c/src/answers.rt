@@ -25,6 +25,8 @@ pub struct Answer {
     pub fault: u32,
     /// The bit at which a fault of its bytes stands, else 0.
     pub at: u32,
+    /// Of a play the number of the picture that is shown; of a packet 0.
+    pub number: u32,
     pub message: Said,
 }
 
@@ -61,6 +63,15 @@ impl Said {
         Said {
             bytes: said.bytes,
             length: said.len,
+        }
+    }
+
+    fn maybe(said: &Option<MessageBytes>) -> Said
+        ensures { result ≡ numbers.said_in said.now }
+    {
+        match said {
+            None => Said::NOTHING,
+            Some(said) => Said::of(said),
         }
     }
 }
@@ -126,6 +137,7 @@ impl Answer {
             kind,
             fault: 0,
             at: 0,
+            number: 0,
             message: Said::NOTHING,
         }
     }
@@ -137,6 +149,7 @@ impl Answer {
             kind,
             fault: 0,
             at: 0,
+            number: 0,
             message: Said::of(said),
         }
     }
@@ -155,6 +168,7 @@ impl Answer {
                 kind: 5,
                 fault: fault_number(*fault),
                 at: place_of(*fault),
+                number: 0,
                 message: Said::NOTHING,
             },
         }
@@ -164,9 +178,12 @@ impl Answer {
     pub fn played(played: &Played) -> Answer
         ensures { result ≡ numbers.played_answer played.now }
     {
-        match &played.message {
-            None => Answer::plain(mark_number(played.mark)),
-            Some(said) => Answer::saying(mark_number(played.mark), said),
+        Answer {
+            kind: mark_number(played.mark),
+            fault: 0,
+            at: 0,
+            number: played.number,
+            message: Said::maybe(&played.message),
         }
     }
 }

@@ -10,6 +10,8 @@ use h263_types::{Clock, Format, ParamFault, Params};
 #[repr(C)]
 #[derive(Clone, Copy)]
 pub struct Asked {
+    /// How many bytes the struct has: 32. A program says so by which parameters it knows.
+    pub size: u32,
     /// 1 sub-QCIF, 2 QCIF, 3 CIF.
     pub format: u32,
     pub quant: u8,
@@ -61,6 +63,10 @@ fn param_number(fault: ParamFault) -> u32
     }
 }
 
+const SIZE: u32 = 32;
+
+const BAD_SIZE: u32 = 12;
+
 const BAD_FORMAT: u32 = 8;
 
 const BAD_CLOCK: u32 = 9;
@@ -109,6 +115,9 @@ impl Asked {
         ensures in_range { IfOk result IsParams }
         ensures target { IfOk result (λ p. self.now.target ≤ 999999) }
     {
+        if self.size != SIZE {
+            return Err(BAD_SIZE);
+        }
         let Some(format) = format_of(self.format) else {
             return Err(BAD_FORMAT);
         };
@@ -142,6 +151,7 @@ impl Asked {
     {
         let params = Params::of(format);
         Asked {
+            size: SIZE,
             format: number,
             quant: params.quant,
             keep: params.keep,

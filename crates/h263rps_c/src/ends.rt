@@ -1,6 +1,7 @@
 //! An end of a call, as its slot keeps it.
 ghost use Rattle.std.specs.Prelude.{◌≡◌, ◌<◌, ◌≤◌, ℕ, List, [], ◌∷◌, ◌++◌, Err, Some, true, false, IfErr, IfOk, IsOk, drop, length, slice_index_or};
 ghost use Rattle.h263_types.specs.Params.{IsParams};
+ghost use Rattle.h263_types.specs.Sizes.{size_of_picture};
 ghost use Rattle.h263_types.specs.declared.params.Params.{Params};
 ghost use Rattle.h263_planes.specs.Samples.{bytes_of};
 ghost use Rattle.back_messages.specs.declared.message.Message.{Message};
@@ -29,6 +30,7 @@ use crate::MOST_PICTURES;
 use crate::answers::Said;
 use crate::refusals::Refusal;
 use crate::sending::Sending;
+use h263_planes::laws;
 use h263_types::Params;
 use receiver_end::{Heard, Played, Receiver};
 use sender_end::{Coded, Feedback};
@@ -66,6 +68,9 @@ fn play_next(receiver: &mut Receiver) -> Result<Played, Refusal>
         → IfOk result (λ played. IsPlayed receiver.old.params.clock played
         (receivers.mark_after receiver.old.params past)
         (receivers.message_after receiver.old.params past)) }
+    ensures number { (past : List ReceiverEntry) → receivers.Stands receiver.old past
+        → IfOk result (λ played.
+        played.number ≡ (receivers.run_of receiver.old.params past).played) }
     ensures stands { (past : List ReceiverEntry) → receivers.Stands receiver.old past
         → IsOk result → receivers.Stands receiver.new (PlayNext ∷ past) }
 {
@@ -85,6 +90,9 @@ fn play_into(receiver: &mut Receiver, picture: &mut [u8]) -> Result<Played, Refu
         → IfOk result (λ played. IsPlayed receiver.old.params.clock played
         (receivers.mark_after receiver.old.params past)
         (receivers.message_after receiver.old.params past)) }
+    ensures number { (past : List ReceiverEntry) → receivers.Stands receiver.old past
+        → IfOk result (λ played.
+        played.number ≡ (receivers.run_of receiver.old.params past).played) }
     ensures stands { (past : List ReceiverEntry) → receivers.Stands receiver.old past
         → IsOk result → receivers.Stands receiver.new (PlayNext ∷ past) }
     ensures shown { (past : List ReceiverEntry) → receivers.Stands receiver.old past
@@ -100,6 +108,16 @@ fn play_into(receiver: &mut Receiver, picture: &mut [u8]) -> Result<Played, Refu
     let played = receiver.play();
     copy(picture, receiver.shown().bytes());
     Ok(played)
+}
+
+// The samples of the picture that a receiver shows: as many as its format has.
+fn samples_of(receiver: &Receiver) -> &[u8]
+    ensures shown { (past : List ReceiverEntry) → receivers.Stands receiver.now past
+        → result.now ≡ bytes_of (receivers.run_of receiver.now.params past).screen }
+    ensures whole { length result.now ≡ size_of_picture receiver.now.params.format }
+{
+    laws::planes_are_bytes();
+    receiver.shown().bytes()
 }
 
 impl End {
@@ -150,7 +168,11 @@ impl End {
     /// Whether it is a receiver.
     pub fn is_receiver(&self) -> bool
         ensures receiver { result ≡ true → for_receiver never (Some self.now) ≡ None }
+        ensures no_sender { result ≡ true
+            → for_sender never (Some self.now) ≡ Some refusals.OtherEnd }
         ensures sender { result ≡ false → for_sender never (Some self.now) ≡ None }
+        ensures no_receiver { result ≡ false
+            → for_receiver never (Some self.now) ≡ Some refusals.OtherEnd }
     {
         match self {
             End::Sending(_) => false,
@@ -183,6 +205,9 @@ impl End {
         ensures told { (p : Params) (past : List ReceiverEntry)
             → HoldsReceiver p past (Some self.old) → IfOk result (λ played. IsPlayed p.clock played
             (receivers.mark_after p past) (receivers.message_after p past)) }
+        ensures number { (p : Params) (past : List ReceiverEntry)
+            → HoldsReceiver p past (Some self.old) → IfOk result (λ played.
+            played.number ≡ (receivers.run_of p past).played) }
         ensures stands { (p : Params) (past : List ReceiverEntry)
             → HoldsReceiver p past (Some self.old) → IsOk result
             → HoldsReceiver p (PlayNext ∷ past) (Some self.new) }
@@ -200,7 +225,7 @@ impl End {
     {
         match self {
             End::Sending(_) => Err(Refusal::OtherEnd),
-            End::Receiving(receiver) => Ok(receiver.shown().bytes()),
+            End::Receiving(receiver) => Ok(samples_of(receiver)),
         }
     }
 
@@ -213,6 +238,9 @@ impl End {
         ensures told { (p : Params) (past : List ReceiverEntry)
             → HoldsReceiver p past (Some self.old) → IfOk result (λ played. IsPlayed p.clock played
             (receivers.mark_after p past) (receivers.message_after p past)) }
+        ensures number { (p : Params) (past : List ReceiverEntry)
+            → HoldsReceiver p past (Some self.old) → IfOk result (λ played.
+            played.number ≡ (receivers.run_of p past).played) }
         ensures stands { (p : Params) (past : List ReceiverEntry)
             → HoldsReceiver p past (Some self.old) → IsOk result
             → HoldsReceiver p (PlayNext ∷ past) (Some self.new) }

@@ -6,7 +6,9 @@ ghost use Rattle.std.specs.declared.option.Option.TheVariants.{None, Some};
 ghost use Rattle.std.specs.Coded.{coded_option};
 ghost use Rattle.std_alloc.specs.Box.Ownership.{box_owns};
 ghost use Rattle.h263rps_c.specs.contracts.ends.End.{the_row};
+ghost use Rattle.h263rps_c.specs.Counting as counts;
 
+use crate::counting::Statistics;
 use crate::ends::End;
 use std::alloc::{Allocator, Global};
 use std::marker::Model;
@@ -116,6 +118,7 @@ fn fresh(alloc: Global) -> Handle
 pub struct Slot {
     kind: u32,
     pub handle: Handle,
+    pub counted: Statistics,
     ghost none: { kind ≡ 0 → handle.inside ≡ None },
     ghost some: { kind ≢ 0 → IsSome handle.inside },
 }
@@ -125,10 +128,12 @@ impl Slot {
     pub fn vacant(alloc: Global) -> Slot
         ensures kind { result.kind ≡ 0 }
         ensures inside { result.handle.inside ≡ None }
+        ensures counted { result.counted ≡ counts.none }
     {
         Slot {
             kind: 0,
             handle: fresh(alloc),
+            counted: Statistics::none(),
         }
     }
 
@@ -140,11 +145,13 @@ impl Slot {
     }
 
     fn occupied(end: Box<End>) -> Slot
-        ensures { result.handle.inside ≡ Some end.value }
+        ensures inside { result.handle.inside ≡ Some end.value }
+        ensures counted { result.counted ≡ counts.none }
     {
         Slot {
             kind: 1,
             handle: Handle::full(Loose::of(end)),
+            counted: Statistics::none(),
         }
     }
 
@@ -153,7 +160,11 @@ impl Slot {
         ensures some { IfSome result (λ end. self.handle.inside ≡ Some end.value) }
         ensures none { result ≡ None → self.handle.inside ≡ None }
     {
-        let Slot { kind, handle } = self;
+        let Slot {
+            kind,
+            handle,
+            counted: _,
+        } = self;
         if kind == 0 {
             handle.done();
             None
@@ -173,6 +184,7 @@ fn exchanged(slot: &mut Slot, new: Slot) -> Slot
 /// Takes the end out of a slot.
 pub fn taken(alloc: Global, slot: &mut Slot) -> Option<Box<End>>
     ensures empty { slot.new.handle.inside ≡ None }
+    ensures counted { slot.new.counted ≡ counts.none }
     ensures some { IfSome result (λ end. slot.old.handle.inside ≡ Some end.value) }
     ensures none { result ≡ None → slot.old.handle.inside ≡ None }
 {
@@ -180,9 +192,10 @@ pub fn taken(alloc: Global, slot: &mut Slot) -> Option<Box<End>>
     exchanged(slot, new).into_box()
 }
 
-/// Puts an end into a slot; what was in it is let go.
+/// Puts an end into a slot, which has counted nothing then; what was in it is let go.
 pub fn put(slot: &mut Slot, end: Box<End>)
-    ensures { slot.new.handle.inside ≡ Some end.value }
+    ensures inside { slot.new.handle.inside ≡ Some end.value }
+    ensures counted { slot.new.counted ≡ counts.none }
 {
     let new = Slot::occupied(end);
     let _old = exchanged(slot, new).into_box();

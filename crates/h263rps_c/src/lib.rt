@@ -10,6 +10,7 @@
 
 mod answers;
 mod asked;
+mod counting;
 mod ends;
 mod handles;
 mod joining;
@@ -22,11 +23,13 @@ mod sender;
 mod sending;
 mod start;
 mod starting;
+mod statistics;
 #[cfg(test)]
 mod tests;
 
 pub use answers::{Answer, Made, Reply, Said};
 pub use asked::Asked;
+pub use counting::Statistics;
 pub use handles::Slot;
 pub use refusals::Refusal;
 pub use start::Start;

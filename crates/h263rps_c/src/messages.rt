@@ -1,8 +1,8 @@
 //! Messages that C hands over for a picture's header.
-ghost use Rattle.std.specs.Prelude.{◌≡◌, ◌≤◌, IfSome, length, take};
+ghost use Rattle.std.specs.Prelude.{◌≡◌, ◌==◌, ◌||◌, ◌≤◌, IfSome, length, take};
 ghost use Rattle.std.specs.Option.{option_map};
 ghost use Rattle.picture_header.specs.Ranges.{AreMessages};
-ghost use Rattle.h263rps_c.specs.Messages.{messages_of, text_in};
+ghost use Rattle.h263rps_c.specs.Messages.{IsPlace, messages_of, place_in, text_in};
 
 use crate::answers::Said;
 use back_messages::{Message, read};
@@ -25,6 +25,15 @@ impl Messages {
     }
 }
 
+/// What is in a place for a message.
+#[derive(Clone, Copy)]
+pub enum Place {
+    Empty,
+    Says(Message),
+    /// What is no message.
+    Wrong,
+}
+
 impl Said {
     // Its bytes, of which there are at most five.
     fn text(&self) -> &[u8]
@@ -33,9 +42,32 @@ impl Said {
         let length = self.length.min(5) as usize;
         &self.bytes[..length]
     }
+
+    fn has_length(&self) -> bool
+        ensures { result ≡ (self.now.length == 3) || (self.now.length == 5) }
+    {
+        self.length == 3 || self.length == 5
+    }
+
+    // What is in it by a clock.
+    fn says(&self, clock: Clock) -> Place
+        ensures value { result ≡ place_in clock self.now }
+        ensures in_range { IsPlace clock result }
+    {
+        if self.length == 0 {
+            return Place::Empty;
+        }
+        if !self.has_length() {
+            return Place::Wrong;
+        }
+        match read(self.text(), clock) {
+            Err(_) => Place::Wrong,
+            Ok(message) => Place::Says(message),
+        }
+    }
 }
 
-/// The messages by a clock, if each is one.
+/// The messages by a clock, if each place that isn't empty has one.
 pub fn messages_from(back: &[Said], clock: Clock) -> Option<Messages>
     requires { length back.now ≤ 4 }
     ensures value { option_map (λ messages. take messages.count messages.places) result
@@ -45,14 +77,16 @@ pub fn messages_from(back: &[Said], clock: Clock) -> Option<Messages>
 {
     let nothing = Message::Ack { tr: 0, marks: None };
     let mut places = [nothing; 4];
+    let mut count = 0;
     'messages: for place in 0..back.len() {
-        match read(back[place].text(), clock) {
-            Err(_) => return None,
-            Ok(message) => places[place] = message,
+        match back[place].says(clock) {
+            Place::Empty => {}
+            Place::Wrong => return None,
+            Place::Says(message) => {
+                places[count] = message;
+                count += 1;
+            }
         }
     }
-    Some(Messages {
-        places,
-        count: back.len(),
-    })
+    Some(Messages { places, count })
 }

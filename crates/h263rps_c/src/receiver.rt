@@ -5,6 +5,7 @@ ghost use Rattle.h263_planes.specs.Samples.{bytes_of};
 ghost use Rattle.call_model.specs.Receiving.{Packet, PlayNext, ReceiverEntry};
 ghost use Rattle.receiver_end.specs.State as receivers;
 ghost use Rattle.h263rps_c.specs.Asked.{params_of};
+ghost use Rattle.h263rps_c.specs.Counting as counts;
 ghost use Rattle.h263rps_c.specs.Ends.{HoldsReceiver, ShowsPicture, TellsHeard, TellsPlayed};
 ghost use Rattle.std.specs.Borrow.{sem};
 ghost use Rattle.h263rps_c.specs.Returned.{KeepsEnd};
@@ -40,6 +41,8 @@ pub extern "C" fn h263rps_raw_receiver_start(
     ensures memory { result ≡ refusal_number refusals.NoMemory
         → start_refusal slot.old.handle.inside (params_of asked.now) ≡ None }
     ensures same { result ≢ 0 → slot.new.handle.inside ≡ slot.old.handle.inside }
+    ensures counts { result ≢ 0 → slot.new.counted ≡ slot.old.counted }
+    ensures nothing { result ≡ 0 → slot.new.counted ≡ counts.none }
     ensures fault { fault.new
         ≡ fault_after slot.old.handle.inside (params_of asked.now) fault.old }
     ensures stands { result ≡ 0 → IfOk (params_of asked.now)
@@ -72,6 +75,9 @@ pub extern "C" fn h263rps_raw_receiver_packet(
 ) -> u32
     ensures result { result ≡ status_of (for_receiver never slot.old.handle.inside) }
     ensures same { result ≢ 0 → slot.new.handle.inside ≡ slot.old.handle.inside }
+    ensures counts { result ≢ 0 → slot.new.counted ≡ slot.old.counted }
+    ensures counted { result ≡ 0
+        → slot.new.counted ≡ counts.with_heard (length bytes.now) answer.new slot.old.counted }
     ensures unanswered { result ≢ 0 → answer.new ≡ answer.old }
     // only a packet that is taken changes anything
     ensures untaken { result ≡ 0 → 2 ≤ answer.new.kind
@@ -90,6 +96,7 @@ pub extern "C" fn h263rps_raw_receiver_packet(
         Err(refusal) => refusal.number(),
         Ok(heard) => {
             *answer = Answer::heard(&heard);
+            slot.counted = slot.counted.with_heard(bytes.len(), answer);
             OK
         }
     }
@@ -105,6 +112,9 @@ pub extern "C" fn h263rps_raw_receiver_play(
     ensures result { result
         ≡ status_of (for_receiver (play_refusal (length picture.old)) slot.old.handle.inside) }
     ensures same { result ≢ 0 → slot.new.handle.inside ≡ slot.old.handle.inside }
+    ensures counts { result ≢ 0 → slot.new.counted ≡ slot.old.counted }
+    ensures counted { result ≡ 0
+        → slot.new.counted ≡ counts.with_played answer.new slot.old.counted }
     ensures unanswered { result ≢ 0 → answer.new ≡ answer.old }
     ensures unwritten { result ≢ 0 → picture.new ≡ picture.old }
     ensures stands { (p : Params) (past : List ReceiverEntry)
@@ -114,6 +124,9 @@ pub extern "C" fn h263rps_raw_receiver_play(
         → HoldsReceiver p past slot.old.handle.inside → result ≡ 0
         → TellsPlayed p.clock answer.new (receivers.mark_after p past)
         (receivers.message_after p past) }
+    ensures number { (p : Params) (past : List ReceiverEntry)
+        → HoldsReceiver p past slot.old.handle.inside → result ≡ 0
+        → answer.new.number ≡ (receivers.run_of p past).played }
     ensures shown { (p : Params) (past : List ReceiverEntry)
         → HoldsReceiver p past slot.old.handle.inside → result ≡ 0
         → picture.new ≡ bytes_of (receivers.run_of p (PlayNext ∷ past)).screen }
@@ -125,6 +138,7 @@ pub extern "C" fn h263rps_raw_receiver_play(
         Err(refusal) => refusal.number(),
         Ok(played) => {
             *answer = Answer::played(&played);
+            slot.counted = slot.counted.with_played(answer);
             OK
         }
     }
@@ -135,6 +149,9 @@ pub extern "C" fn h263rps_raw_receiver_play(
 pub extern "C" fn h263rps_raw_receiver_next(slot: &mut Slot, answer: &mut Answer) -> u32
     ensures result { result ≡ status_of (for_receiver next_refusal slot.old.handle.inside) }
     ensures same { result ≢ 0 → slot.new.handle.inside ≡ slot.old.handle.inside }
+    ensures counts { result ≢ 0 → slot.new.counted ≡ slot.old.counted }
+    ensures counted { result ≡ 0
+        → slot.new.counted ≡ counts.with_played answer.new slot.old.counted }
     ensures unanswered { result ≢ 0 → answer.new ≡ answer.old }
     ensures stands { (p : Params) (past : List ReceiverEntry)
         → HoldsReceiver p past slot.old.handle.inside → result ≡ 0
@@ -143,6 +160,9 @@ pub extern "C" fn h263rps_raw_receiver_next(slot: &mut Slot, answer: &mut Answer
         → HoldsReceiver p past slot.old.handle.inside → result ≡ 0
         → TellsPlayed p.clock answer.new (receivers.mark_after p past)
         (receivers.message_after p past) }
+    ensures number { (p : Params) (past : List ReceiverEntry)
+        → HoldsReceiver p past slot.old.handle.inside → result ≡ 0
+        → answer.new.number ≡ (receivers.run_of p past).played }
 {
     if !slot.is_started() {
         return Refusal::NotStarted.number();
@@ -151,6 +171,7 @@ pub extern "C" fn h263rps_raw_receiver_next(slot: &mut Slot, answer: &mut Answer
         Err(refusal) => refusal.number(),
         Ok(played) => {
             *answer = Answer::played(&played);
+            slot.counted = slot.counted.with_played(answer);
             OK
         }
     }
@@ -185,8 +206,8 @@ fn note<'a>(samples: Result<&'a [u8], Refusal>, lent: &mut Lent<'a>) -> u32
     }
 }
 
-/// Lends the samples that a receiver shows. They are good until the next call with this slot, which
-/// keeps its end.
+/// Lends the samples that a receiver shows, as many as its format has. They are good until the next
+/// call with this slot, which keeps its end.
 #[unsafe(no_mangle)]
 pub extern "C" fn h263rps_raw_receiver_shown<'a>(slot: &'a mut Slot, lent: &mut Lent<'a>) -> u32
     ensures result { result ≡ status_of (for_receiver never slot.old.handle.inside) }
@@ -203,14 +224,16 @@ pub extern "C" fn h263rps_raw_receiver_shown<'a>(slot: &'a mut Slot, lent: &mut 
 pub extern "C" fn h263rps_raw_receiver_finish(alloc: Global, slot: &mut Slot) -> u32
     ensures result { result ≡ status_of (for_receiver never slot.old.handle.inside) }
     ensures same { result ≢ 0 → slot.new.handle.inside ≡ slot.old.handle.inside }
+    ensures counts { result ≢ 0 → slot.new.counted ≡ slot.old.counted }
     ensures empty { result ≡ 0 → slot.new.handle.inside ≡ None }
+    ensures nothing { result ≡ 0 → slot.new.counted ≡ counts.none }
 {
-    let Some(end) = taken(alloc, slot) else {
+    if !slot.is_started() {
         return Refusal::NotStarted.number();
-    };
-    if end.is_receiver() {
-        return OK;
     }
-    put(slot, end);
-    Refusal::OtherEnd.number()
+    if !slot.handle.end_mut().is_receiver() {
+        return Refusal::OtherEnd.number();
+    }
+    let _end = taken(alloc, slot);
+    OK
 }

@@ -18,6 +18,7 @@ pub extern "C" fn h263rps_raw_sender_target(slot: &mut Slot, target: u32) -> u32
     ensures result { result
         ≡ status_of (for_sender (target_refusal target) slot.old.handle.inside) }
     ensures same { result ≢ 0 → slot.new.handle.inside ≡ slot.old.handle.inside }
+    ensures counts { slot.new.counted ≡ slot.old.counted }
     ensures packets { packets_in slot.new.handle.inside ≡ packets_in slot.old.handle.inside }
     ensures steers { (p : Params) (first : ℕ) (past : List Steering)
         → HoldsSteered p first past slot.old.handle.inside → result ≡ 0
@@ -39,6 +40,7 @@ pub extern "C" fn h263rps_raw_sender_target(slot: &mut Slot, target: u32) -> u32
 pub extern "C" fn h263rps_raw_sender_forget(slot: &mut Slot) -> u32
     ensures result { result ≡ status_of (for_sender never slot.old.handle.inside) }
     ensures same { result ≢ 0 → slot.new.handle.inside ≡ slot.old.handle.inside }
+    ensures counts { slot.new.counted ≡ slot.old.counted }
     ensures packets { packets_in slot.new.handle.inside ≡ packets_in slot.old.handle.inside }
     ensures steers { (p : Params) (first : ℕ) (past : List Steering)
         → HoldsSteered p first past slot.old.handle.inside → result ≡ 0
@@ -58,6 +60,7 @@ pub extern "C" fn h263rps_raw_sender_forget(slot: &mut Slot) -> u32
 pub extern "C" fn h263rps_raw_sender_sent(slot: &mut Slot, count: &mut u32) -> u32
     ensures result { result ≡ status_of (for_sender never slot.old.handle.inside) }
     ensures same { slot.new.handle.inside ≡ slot.old.handle.inside }
+    ensures counts { slot.new.counted ≡ slot.old.counted }
     ensures uncounted { result ≢ 0 → count.new ≡ count.old }
     ensures steers { (p : Params) (first : ℕ) (past : List Steering)
         → HoldsSteered p first past slot.old.handle.inside → result ≡ 0

@@ -9,6 +9,7 @@ ghost use Rattle.call_encoding.specs.Frames.{Frame};
 ghost use Rattle.call_encoding.specs.Messages.{read_message};
 ghost use Rattle.sender_end.specs.Stands as senders;
 ghost use Rattle.h263rps_c.specs.Asked.{params_of};
+ghost use Rattle.h263rps_c.specs.Counting as counts;
 ghost use Rattle.h263rps_c.specs.Ends.{HoldsSender, HoldsSteered, TellsCoded, TellsReply, packets_in};
 ghost use Rattle.h263rps_c.specs.Messages.{messages_of};
 ghost use Rattle.h263rps_c.specs.Pace.{pace_of, target_in};
@@ -39,6 +40,8 @@ pub extern "C" fn h263rps_raw_sender_start(
     ensures memory { result ≡ refusal_number refusals.NoMemory
         → start_refusal slot.old.handle.inside (params_of asked.now) ≡ None }
     ensures same { result ≢ 0 → slot.new.handle.inside ≡ slot.old.handle.inside }
+    ensures counts { result ≢ 0 → slot.new.counted ≡ slot.old.counted }
+    ensures nothing { result ≡ 0 → slot.new.counted ≡ counts.none }
     ensures fault { fault.new
         ≡ fault_after slot.old.handle.inside (params_of asked.now) fault.old }
     ensures stands { result ≡ 0 → IfOk (params_of asked.now)
@@ -75,6 +78,8 @@ pub extern "C" fn h263rps_raw_sender_code(
     ensures result { result
         ≡ status_of (for_sender (code_refusal picture.now messages.now) slot.old.handle.inside) }
     ensures same { result ≢ 0 → slot.new.handle.inside ≡ slot.old.handle.inside }
+    ensures counts { result ≢ 0 → slot.new.counted ≡ slot.old.counted }
+    ensures counted { result ≡ 0 → slot.new.counted ≡ counts.with_made made.new slot.old.counted }
     ensures unmade { result ≢ 0 → made.new ≡ made.old }
     ensures count { result ≡ 0 → made.new.packets ≡ length (packets_in slot.new.handle.inside) }
     ensures stands { (p : Params) (target : ℕ) (entries : List (SenderEntry Frame))
@@ -105,6 +110,7 @@ pub extern "C" fn h263rps_raw_sender_code(
         Err(refusal) => refusal.number(),
         Ok(coded) => {
             *made = Made::of(&coded);
+            slot.counted = slot.counted.with_made(made);
             OK
         }
     }
@@ -121,6 +127,9 @@ pub extern "C" fn h263rps_raw_sender_packet(
     ensures result { result
         ≡ status_of (for_sender (packet_refusal number (length room.old)) slot.old.handle.inside) }
     ensures same { slot.new.handle.inside ≡ slot.old.handle.inside }
+    ensures counts { result ≢ 0 → slot.new.counted ≡ slot.old.counted }
+    ensures counted { result ≡ 0
+        → slot.new.counted ≡ counts.with_packet count.new slot.old.counted }
     ensures uncounted { result ≢ 0 → count.new ≡ count.old }
     ensures unwritten { result ≢ 0 → room.new ≡ room.old }
     ensures count { result ≡ 0 → count.new
@@ -147,6 +156,7 @@ pub extern "C" fn h263rps_raw_sender_packet(
         Err(refusal) => refusal.number(),
         Ok(copied) => {
             *count = copied;
+            slot.counted = slot.counted.with_packet(copied);
             OK
         }
     }
@@ -161,6 +171,9 @@ pub extern "C" fn h263rps_raw_sender_feedback(
 ) -> u32
     ensures result { result ≡ status_of (for_sender never slot.old.handle.inside) }
     ensures same { result ≢ 0 → slot.new.handle.inside ≡ slot.old.handle.inside }
+    ensures counts { result ≢ 0 → slot.new.counted ≡ slot.old.counted }
+    ensures counted { result ≡ 0
+        → slot.new.counted ≡ counts.with_reply reply.new slot.old.counted }
     ensures unanswered { result ≢ 0 → reply.new ≡ reply.old }
     // only a message that is noted changes anything
     ensures unnoted { result ≡ 0 → 1 ≤ reply.new.kind
@@ -190,6 +203,7 @@ pub extern "C" fn h263rps_raw_sender_feedback(
         Err(refusal) => refusal.number(),
         Ok(answer) => {
             *reply = Reply::of(&answer);
+            slot.counted = slot.counted.with_reply(reply);
             OK
         }
     }
@@ -200,14 +214,16 @@ pub extern "C" fn h263rps_raw_sender_feedback(
 pub extern "C" fn h263rps_raw_sender_finish(alloc: Global, slot: &mut Slot) -> u32
     ensures result { result ≡ status_of (for_sender never slot.old.handle.inside) }
     ensures same { result ≢ 0 → slot.new.handle.inside ≡ slot.old.handle.inside }
+    ensures counts { result ≢ 0 → slot.new.counted ≡ slot.old.counted }
     ensures empty { result ≡ 0 → slot.new.handle.inside ≡ None }
+    ensures nothing { result ≡ 0 → slot.new.counted ≡ counts.none }
 {
-    let Some(end) = taken(alloc, slot) else {
+    if !slot.is_started() {
         return Refusal::NotStarted.number();
-    };
-    if end.is_receiver() {
-        put(slot, end);
+    }
+    if slot.handle.end_mut().is_receiver() {
         return Refusal::OtherEnd.number();
     }
+    let _end = taken(alloc, slot);
     OK
 }

@@ -5,10 +5,21 @@ ghost use Rattle.h263_types.specs.Sizes.{size_of_picture};
 ghost use Rattle.std.specs.Option.{option_map_or};
 ghost use Rattle.h263rps_c.specs.Asked.{asked_with, format_in};
 ghost use Rattle.h263rps_c.specs.declared.refusals.Refusal.TheVariants as refusals;
+ghost use Rattle.h263rps_c.specs.Numbers.{library_version};
 ghost use Rattle.h263rps_c.specs.Refusals.{refusal_number};
 
 use crate::asked::{Asked, format_of};
 use crate::refusals::{OK, Refusal};
+
+const VERSION: u32 = 10300;
+
+/// The version of the library: 10,000 times its major number and 100 times its minor one.
+#[unsafe(no_mangle)]
+pub extern "C" fn h263rps_raw_version() -> u32
+    ensures { result ≡ library_version }
+{
+    VERSION
+}
 
 /// The parameters of a call in a format where nothing else is asked for.
 #[unsafe(no_mangle)]

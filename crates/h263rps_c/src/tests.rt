@@ -1,6 +1,7 @@
 //! Calls of the functions as C makes them: each is refused where it must be, and a call works.
 use crate::answers::{Answer, Made, Reply, Said};
 use crate::asked::Asked;
+use crate::counting::Statistics;
 use crate::handles::Slot;
 use crate::joining::*;
 use crate::receiver::*;
@@ -8,10 +9,12 @@ use crate::running::*;
 use crate::sender::*;
 use crate::start::*;
 use crate::starting::*;
+use crate::statistics::*;
 use std::alloc::Global;
 use std::test::Fail;
 
 const ASKED: Asked = Asked {
+    size: 32,
     format: 1,
     quant: 8,
     keep: 64,
@@ -28,6 +31,7 @@ const UNTOUCHED: Answer = Answer {
     kind: 77,
     fault: 77,
     at: 77,
+    number: 77,
     message: Said {
         bytes: [7; 5],
         length: 7,
@@ -168,6 +172,14 @@ fn starts(alloc: Global, asked: &Asked) -> [u32; 3] {
 #[test]
 fn parameters(rt: HostRuntime) {
     let faults = [
+        (
+            Asked {
+                size: 28,
+                format: 4,
+                ..ASKED
+            },
+            12,
+        ),
         (Asked { quant: 32, ..ASKED }, 1),
         (Asked { keep: 0, ..ASKED }, 2),
         (
@@ -211,9 +223,13 @@ fn parameters(rt: HostRuntime) {
     assert_eq!(rt; asked.quant, 0);
     assert_eq!(rt; h263rps_raw_defaults(1, &mut asked), 0);
     assert_eq!(rt; starts(rt.alloc(), &asked), [0, 2, 77]);
-    assert_eq!(rt; (asked.quant, asked.limit, asked.target), (8, 1400, 0));
+    assert_eq!(rt;
+        (asked.size, asked.quant, asked.limit, asked.target),
+        (32, 8, 1400, 0)
+    );
     let sizes = [0, 1, 2, 3, 4].map(|format| h263rps_raw_picture_size(format));
     assert_eq!(rt; sizes, [0, 18432, 38016, 152064, 0]);
+    assert_eq!(rt; h263rps_raw_version(), 10300);
 }
 
 // A picture of a sender goes to a receiver: whether anything is refused, what its last packet is
@@ -279,7 +295,10 @@ fn a_call(rt: HostRuntime) -> Result<(), Fail> {
     // nothing came of the fifth
     let mut answer = UNTOUCHED;
     assert_eq!(rt; h263rps_raw_receiver_next(&mut receiver, &mut answer), 0);
-    assert_eq!(rt; (answer.kind, answer.message.length), (2, 3));
+    assert_eq!(rt;
+        (answer.kind, answer.number, answer.message.length),
+        (2, 4, 3)
+    );
     assert_eq!(rt; lent(&mut receiver), (0, 18432, 128));
     let _sender = sender.into_box();
     let _receiver = receiver.into_box();
@@ -370,5 +389,102 @@ fn starts_of_packets(rt: HostRuntime) -> Result<(), Fail> {
     assert_eq!(rt; numbers_of(&start), [77; 6]);
     assert_eq!(rt; start.messages.map(|said| said.length), [7; 4]);
     let _end = sender.into_box();
+    Ok(())
+}
+
+// What a receiver's statistics and a sender's are answered, and what is told.
+fn told(slot: &mut Slot) -> ([u32; 2], Statistics) {
+    let mut told = Statistics {
+        packets: 77,
+        ..Statistics::none()
+    };
+    let receiver = h263rps_raw_receiver_statistics(slot, &mut told);
+    let sender = h263rps_raw_sender_statistics(slot, &mut told);
+    ([receiver, sender], told)
+}
+
+#[test]
+fn counts(rt: HostRuntime) -> Result<(), Fail> {
+    let mut picture = vec![in rt.alloc(); 128; 18432]?;
+    let mut sender = Slot::vacant(rt.alloc());
+    let mut receiver = Slot::vacant(rt.alloc());
+    let mut fault = 77;
+    let (answers, nothing) = told(&mut sender);
+    assert_eq!(rt; (answers, nothing.packets), ([1, 1], 77));
+    assert_eq!(rt;
+        h263rps_raw_sender_start(rt.alloc(), &mut sender, &ASKED, &mut fault),
+        0
+    );
+    assert_eq!(rt;
+        h263rps_raw_receiver_start(rt.alloc(), &mut receiver, &ASKED, &mut fault),
+        0
+    );
+    for _ in 0..3 {
+        let [refused, _, _, _] = sent(&mut sender, &mut receiver, &mut picture);
+        assert_eq!(rt; refused, 0);
+    }
+    // bytes that are no packet, and a picture of which nothing came
+    let mut answer = UNTOUCHED;
+    assert_eq!(rt;
+        h263rps_raw_receiver_packet(&mut receiver, &[1, 2, 3], &mut answer),
+        0
+    );
+    assert_eq!(rt; h263rps_raw_receiver_next(&mut receiver, &mut answer), 0);
+    let (answers, out) = told(&mut sender);
+    let (others, back) = told(&mut receiver);
+    assert_eq!(rt; (answers, others), ([3, 0], [0, 3]));
+    assert_eq!(rt; out.coded, [1, 2, 0, 0, 0, 0]);
+    assert_eq!(rt; out.noted, [3, 0, 0]);
+    assert_eq!(rt; back.heard, [0, 3, 0, 0, 0, 1]);
+    assert_eq!(rt; back.faults, [1, 0, 0, 0, 0]);
+    assert_eq!(rt; back.played, [3, 0, 1]);
+    assert_eq!(rt; back.packets, out.packets.saturating_add(1));
+    assert_eq!(rt; back.bytes, out.bytes.saturating_add(3));
+    let _sender = sender.into_box();
+    let _receiver = receiver.into_box();
+    Ok(())
+}
+
+#[test]
+fn messages_for_a_header(rt: HostRuntime) -> Result<(), Fail> {
+    let picture = vec![in rt.alloc(); 128; 18432]?;
+    let mut sender = Slot::vacant(rt.alloc());
+    let mut fault = 77;
+    let mut made = Made {
+        number: 0,
+        packets: 0,
+        intra: 0,
+        reference: 0,
+    };
+    assert_eq!(rt;
+        h263rps_raw_sender_start(rt.alloc(), &mut sender, &ASKED, &mut fault),
+        0
+    );
+    // an empty place, and then an acknowledgement of so many bytes
+    let lengths = [
+        (0, 0),
+        (1, 8),
+        (2, 8),
+        (3, 0),
+        (4, 8),
+        (5, 8),
+        (6, 8),
+        (200, 8),
+    ];
+    for (length, wanted) in lengths {
+        let places = [
+            Said {
+                bytes: [7; 5],
+                length: 0,
+            },
+            Said {
+                bytes: [0xC0, 0x04, 0, 0, 0],
+                length,
+            },
+        ];
+        let status = h263rps_raw_sender_code(&mut sender, &picture, &places, &mut made);
+        assert_eq!(rt; status, wanted, "{length}");
+    }
+    let _sender = sender.into_box();
     Ok(())
 }

@@ -1,40 +1,37 @@
-use Rattle.std.proofs.Common.{rules, arith, ◌≡◌, ◌<◌, refl, subst, length, take}
+use Rattle.std.proofs.Common.{arith, ◌≡◌, ◌+◌, ◌<◌, List, sym, ap, ap₂, ◌∙◌, subst, length, take, drop, set}
+use Rattle.std.proofs.lemmas.List.{length-set}
+use Rattle.back_messages.specs.declared.message.Message.{Message}
 use Rattle.picture_header.specs.Ranges.{AreMessages}
 use Rattle.h263rps_c.specs.Messages.{messages_of}
-use Rattle.h263rps_c.proofs.MessagesRead.{all_read, next_in_range, next_message, no_message, none_yet}
+use Rattle.h263rps_c.proofs.MessagesRead.{after, next_in_range, next_message, no_place}
+use Rattle.h263rps_c.proofs.messages.messages_from.Goals.{in-Empty, in-Says}
 use Rattle.h263rps_c.proofs.messages.messages_from.Goals as goal
-
-pub messages-init : goal.messages-init
-messages-init c = record {
-  whole = refl;
-  within = omega arith;
-  value = none_yet (messages_of c.args.clock c.args.back.now);
-  in_range = tt;
-}
 
 pub messages-preserved : goal.messages-preserved
 messages-preserved c =
-    let i = c.messages.place in
-    let lt : i < length c.args.back.now = search rules in
-    let room : i < length c.messages.places = omega (arith, lt, c.requires, c.messages.invariant.whole) in
-    record {
-      whole = search rules;
-      within = omega (arith, lt);
-      value = next_message c.args.clock c.args.back.now c.messages.places i _ c.text.result.now c.in-Ok.message _ lt room c.text.ensures c.in-Ok.ensures.value c.messages.invariant.value;
-      in_range = next_in_range c.args.clock c.messages.places i c.in-Ok.message room c.messages.invariant.in_range c.in-Ok.ensures.range;
-    }
-
-pub returns-in-Err-clause-value : goal.returns-in-Err-clause-value
-returns-in-Err-clause-value c =
-    let lt : c.messages.place < length c.args.back.now = search rules in
-    no_message c.args.clock c.args.back.now c.messages.places c.messages.place _ c.text.result.now c.in-Err.field-0 _ lt c.text.ensures c.in-Err.ensures.value c.messages.invariant.value
-
-pub returns-clause-value : goal.returns-clause-value
-returns-clause-value c =
-    let here : c.messages.place ≡ length c.args.back.now = omega (arith, c.messages-test.false, c.messages.invariant.within) in
-    all_read c.args.clock c.args.back.now c.messages.places c.messages.place _ here c.messages.invariant.value
-
-pub returns-clause-in_range : goal.returns-clause-in_range
-returns-clause-in_range c =
-    let here : c.messages.place ≡ length c.args.back.now = omega (arith, c.messages-test.false, c.messages.invariant.within) in
-    subst (λ (k : _). AreMessages c.args.clock (take k c.messages.places)) here c.messages.invariant.in_range
+    let i = c.messages.place in let clock = c.args.clock in let back = c.args.back.now in let before = c.messages.invariant in
+    let lt : i < length back = c.messages-test.true in
+    let Reads : List Message → Type 0 = λ ms. messages_of clock back ≡ after ms (messages_of clock (drop (i + 1) back)) in
+    elim c.match-says.branch [
+      | in-Empty w ↦
+          let same : take c.match-says.count c.match-says.places ≡ take c.messages.count c.messages.places = ap₂ take w.count-is w.places-is in
+          record {
+            whole = ap length w.places-is ∙ before.whole;
+            within = omega (arith, lt);
+            few = omega (arith, w.count-is, before.few);
+            value = subst Reads (sym same) (no_place clock back (take c.messages.count c.messages.places) i _ _ lt w.in-Empty.ensures.value before.value);
+            in_range = subst (AreMessages clock) (sym same) before.in_range;
+          }
+      | in-Says w ↦
+          let m = w.in-Says.message in
+          let room : c.messages.count < length c.messages.places = omega (arith, lt, c.requires, before.few, before.whole) in
+          let same : take c.match-says.count c.match-says.places ≡ take (c.messages.count + 1) (set c.messages.places c.messages.count m) = ap₂ take w.count-is w.places-is in
+          let whole : length (set c.messages.places c.messages.count m) ≡ 4 = length-set c.messages.places c.messages.count m ∙ before.whole in
+          record {
+            whole = ap length w.places-is ∙ whole;
+            within = omega (arith, lt);
+            few = omega (arith, w.count-is, before.few);
+            value = subst Reads (sym same) (next_message clock back c.messages.places i c.messages.count _ m _ lt room w.in-Says.ensures.value before.value);
+            in_range = subst (AreMessages clock) (sym same) (next_in_range clock c.messages.places c.messages.count m room before.in_range w.in-Says.ensures.in_range);
+          }
+    ]

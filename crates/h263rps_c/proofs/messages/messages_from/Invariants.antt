@@ -4,11 +4,12 @@ use Rattle.h263rps_c.specs.Messages.{messages_of}
 use Rattle.h263rps_c.proofs.MessagesRead.{after}
 use Rattle.h263rps_c.proofs.messages.messages_from.Given as goal
 
--- the messages before `place` are read
+-- the places before `place` are read
 abbrev pub invariant-messages : goal.invariant-messages
 invariant-messages l = record {
   whole : length l.places ≡ 4;
   within : l.place ≤ length l.back;
-  value : messages_of l.clock l.back ≡ after (take l.place l.places) (messages_of l.clock (drop l.place l.back));
-  in_range : AreMessages l.clock (take l.place l.places);
+  few : l.count ≤ l.place;
+  value : messages_of l.clock l.back ≡ after (take l.count l.places) (messages_of l.clock (drop l.place l.back));
+  in_range : AreMessages l.clock (take l.count l.places);
 }
