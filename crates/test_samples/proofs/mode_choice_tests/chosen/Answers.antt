@@ -1,6 +1,7 @@
-use Rattle.std.proofs.Common.{◌∙◌, sym, ap, subst, arith, ◌<◌}
+use Rattle.std.proofs.Common.{◌∙◌, sym, ap, subst, arith, ◌<◌, Some}
 use Rattle.h263_types.specs.declared.format.Format.{Format}
 use Rattle.h263_types.specs.Sizes.{mbs_of}
+use Rattle.h263_planes.specs.Lent.{picture}
 use Rattle.h263_planes.specs.Picture.{Picture}
 use Rattle.test_samples.proofs.mode_choice_tests.chosen.Goals as goal
 
@@ -9,3 +10,6 @@ choose-requires-clause-reference g c = ap (λ (p : Picture). p.format) c.new-ref
 
 pub choose-requires-clause-mb : goal.choose-requires-clause-mb
 choose-requires-clause-mb g c = subst (λ (f : Format). c.args.mb < mbs_of f) (sym (ap (λ (p : Picture). p.format) c.new-frame.ensures.picture)) (omega arith)
+
+pub choose-requires-clause-sums : goal.choose-requires-clause-sums
+choose-requires-clause-sums g c = c.new-chosen.ensures.sums (Some (picture c.new-reference.result))

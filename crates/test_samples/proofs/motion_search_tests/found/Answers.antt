@@ -1,6 +1,7 @@
 use Rattle.std.proofs.Common.{◌∙◌, sym, ap, subst, arith, ◌<◌}
 use Rattle.h263_types.specs.declared.format.Format.{Format}
 use Rattle.h263_types.specs.Sizes.{mbs_of}
+use Rattle.h263_planes.specs.Lent.{picture}
 use Rattle.h263_planes.specs.Picture.{Picture}
 use Rattle.test_samples.proofs.motion_search_tests.found.Goals as goal
 
@@ -10,8 +11,11 @@ search-cost-requires-clause-format g c = ap (λ (p : Picture). p.format) c.new-f
 pub search-cost-requires-clause-mb : goal.search-cost-requires-clause-mb
 search-cost-requires-clause-mb g c = subst (λ (f : Format). c.args.mb < mbs_of f) (sym (ap (λ (p : Picture). p.format) c.new-reference.ensures.picture)) (omega arith)
 
-pub search-cost_again-requires-clause-format : goal.search-cost_again-requires-clause-format
-search-cost_again-requires-clause-format g c = ap (λ (p : Picture). p.format) c.new-frame.ensures.picture ∙ sym (ap (λ (p : Picture). p.format) c.new-reference.ensures.picture)
+pub search-again-requires-clause-format : goal.search-again-requires-clause-format
+search-again-requires-clause-format g c = ap (λ (p : Picture). p.format) c.new-frame.ensures.picture ∙ sym (ap (λ (p : Picture). p.format) c.new-reference.ensures.picture)
 
-pub search-cost_again-requires-clause-mb : goal.search-cost_again-requires-clause-mb
-search-cost_again-requires-clause-mb g c = subst (λ (f : Format). c.args.mb < mbs_of f) (sym (ap (λ (p : Picture). p.format) c.new-reference.ensures.picture)) (omega arith)
+pub search-again-requires-clause-mb : goal.search-again-requires-clause-mb
+search-again-requires-clause-mb g c = subst (λ (f : Format). c.args.mb < mbs_of f) (sym (ap (λ (p : Picture). p.format) c.new-reference.ensures.picture)) (omega arith)
+
+pub search-cost-requires-clause-sums : goal.search-cost-requires-clause-sums
+search-cost-requires-clause-sums g c = c.none-sums.ensures (picture c.new-reference.result)
