@@ -8,7 +8,7 @@ use Rattle.picture_header.specs.Ranges.{AreMessages}
 use Rattle.h263rps_c.specs.declared.answers.Said.{Said}
 use Rattle.h263rps_c.specs.declared.messages.Place.{Place}
 use Rattle.h263rps_c.specs.declared.messages.Place.TheVariants.{Empty, Says, Wrong}
-use Rattle.h263rps_c.specs.Messages.{IsPlace, messages_of, place_in, with_place}
+use Rattle.h263rps_c.specs.Messages.{messages_of, place_in, with_place}
 
 -- these messages, and then the others, if they are messages
 abbrev pub after : List Message → Option (List Message) → Option (List Message)

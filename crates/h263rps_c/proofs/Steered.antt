@@ -1,12 +1,12 @@
 -- What steering a sender comes to.
-use Rattle.std.proofs.Common.{◌≡◌, ℕ, ◌+◌, ◌≤◌, refl, sym, ap, ◌∙◌, subst, arith, List, [], ◌∷◌, ◌++◌, length, length-append, Option, Some, None}
+use Rattle.std.proofs.Common.{◌≡◌, ℕ, ◌+◌, ◌≤◌, refl, ap, ◌∙◌, arith, List, [], ◌∷◌, ◌++◌, length, length-append, Option}
 use Rattle.std.specs.Prelude.{map}
 use Rattle.h263_types.specs.declared.params.Params.{Params}
 use Rattle.call_model.specs.CodedPictures.{capture}
 use Rattle.call_model.specs.Sending as call
 use Rattle.call_model.specs.Sending.{SenderEntry}
 use Rattle.call_model.specs.Steering as models
-use Rattle.call_model.specs.Steering.{NoFloor, SteeredRun, after_forget}
+use Rattle.call_model.specs.Steering.{NoFloor}
 use Rattle.call_decoding.specs.Rules.{rules_of}
 use Rattle.call_decoding.specs.Samples.{pictures}
 use Rattle.call_encoding.specs.Encoding.{encoding}
