@@ -76,6 +76,7 @@ impl Acts for Call {
 
     fn act<D: Desk>(alloc: Global, setup: &Terms, desk: &mut D) -> Status {
         outside_laws::calls();
+        desk_program_laws::of_steps();
         desk_program_laws::of_runs::<World>();
         match begin(alloc, setup, desk) {
             Ok(mut begun) => {

@@ -7,7 +7,6 @@ use Rattle.desk_program.specs.UnderWay.{IsUnderWay}
 use Rattle.call_command.specs.Call.{call_begin, call_step, first_state, may_read, most_turns}
 use Rattle.call_command.specs.Converse.{IsFirst}
 use Rattle.call_command.proofs.Acting.{later_stop, not_read_out}
-use Rattle.call_command.proofs.Counting.{keeps_then}
 use Rattle.call_command.proofs.call.CallActs.act.Goals as goal
 
 pub returns-in-Ok-clause-gives : goal.returns-in-Ok-clause-gives
@@ -48,7 +47,7 @@ returns-in-Err-clause-later g c = later_stop c.in-Err.status c.in-Err.ensures.st
 pub returns-in-Ok-clause-rest : goal.returns-in-Ok-clause-rest
 returns-in-Ok-clause-rest g c =
     let outside = g.D.Desk.outside in
-    keeps_then (outside c.args.desk.now) (outside c.begin.new.desk) (outside c.converse-status.new.desk) c.begin.ensures.rest c.converse-status.ensures.rest
+    c.of_steps.ensures.both (outside c.args.desk.now) (outside c.begin.new.desk) (outside c.converse-status.new.desk) c.begin.ensures.rest c.converse-status.ensures.rest
 
 pub returns-in-Ok-clause-cause : goal.returns-in-Ok-clause-cause
 returns-in-Ok-clause-cause g c =
