@@ -17,7 +17,7 @@ use Rattle.call_report.specs.declared.status.Status.TheVariants.{TraceRefused, W
 use Rattle.desk_program.specs.Run.{Step, behind}
 use Rattle.desk_program.specs.Run.Step.{Goes}
 use Rattle.desk_program.specs.Ends.{Ended, Gains, GainsFronts, KeepsRoles, TurnGives, Went, step_texts}
-use Rattle.desk_program.specs.Laws.{TurnLaws}
+use Rattle.desk_program.specs.Laws.{StepLaws, TurnLaws}
 use Rattle.desk_program.specs.Texts.{and_of, no_texts, of}
 use Rattle.call_model.specs.IdealCall.{Event, Send, Deliver, Play, Back, slices_at}
 use Rattle.call_model.specs.JoinedRun.{Joined}
@@ -43,7 +43,7 @@ use Rattle.call_command.specs.Refused.{IsNotRefused, IsRefusedWith, fault_at, fa
 use Rattle.call_command.specs.Standing.{HasDone, HasTaken, Parts, PartsReady, PartsStand, StoodBefore, more_of, parts_of, state_of}
 use Rattle.call_command.specs.Turning.{IsAsked, IsChecked, IsRead, TakesFrame, TakesLine, names_of}
 use Rattle.call_command.proofs.After.{longer, push_then}
-use Rattle.call_command.proofs.Counting.{done_now, gave_up, goes_on, roles_same, was_cut}
+use Rattle.call_command.proofs.Counting.{done_now, gave_up, goes_on, was_cut}
 use Rattle.call_command.proofs.LineTurning.{line_goes, line_refused}
 use Rattle.call_command.proofs.Lines.{nothing_behind}
 
@@ -259,14 +259,14 @@ none_so (Err told) e refusal free allowed = absurd free
 
 -- a line whose event is refused
 pub line_stops : (x : World) (line : ℕ) (event said : Line) (r : Result Bool Status) (status : Status) (checked : Result Unit Told) (now : Outside) → event ≡ said
-    → IsErrAnd r (λ z. z ≡ status) → IsRefusedWith line checked status → x.terms.plain ≡ false → TurnLaws
+    → IsErrAnd r (λ z. z ≡ status) → IsRefusedWith line checked status → x.terms.plain ≡ false → TurnLaws → StepLaws
     → ((old : Outside) (s : CallState) (inputs : Role → List ℕ) → IsRead (parts_of x) line now old s inputs → IsChecked checked said (refusal_after x.terms.params s.before s.frames s.past))
     → TakesLine x x line event r now now
-line_stops x line event said r status (Ok u) now is answer refused recorded laws checks = absurd refused
-line_stops x line event said r status (Err told) now is answer refused recorded laws checks =
+line_stops x line event said r status (Ok u) now is answer refused recorded laws steps checks = absurd refused
+line_stops x line event said r status (Err told) now is answer refused recorded laws steps checks =
     subst (λ (e : Line). TakesLine x x line e r now now) (sym is)
     (gave_up x x now now (IsRead (parts_of x) line now) (λ s inputs. event_step by_ends s inputs (inputs Events) said) (λ _. true) (more_of (parts_of x) + 1)
-    r (TraceRefused (fault_at line told)) (subst (λ (w : Status). IsErrAnd r (λ z. z ≡ w)) refused answer) refl recorded tt tt (roles_same now)
+    r (TraceRefused (fault_at line told)) (subst (λ (w : Status). IsErrAnd r (λ z. z ≡ w)) refused answer) refl recorded tt tt (steps.none now)
     (λ o s inputs b. line_is_refused (parts_of x) s inputs b.stood laws o now b.taken told line b.number (fault_at line told) refl said (checks o s inputs b))
     (λ s stand. stand))
 

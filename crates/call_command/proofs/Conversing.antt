@@ -15,6 +15,8 @@ use Rattle.one_way.specs.Both.{State}
 use Rattle.sender_end.specs.Stands as sender_end
 use Rattle.receiver_end.specs.State as receiver_end
 use Rattle.receiver_end.specs.declared.kept.Kept.{Kept}
+use Rattle.call_command.specs.declared.begun.Begun.{Begun}
+use Rattle.call_command.specs.declared.carrier.Carrier.{Carrier}
 use Rattle.call_command.specs.declared.world.World.{World}
 use Rattle.call_command.specs.declared.terms.Terms.{Terms}
 use Rattle.one_way.specs.Both.{steady}
@@ -22,45 +24,56 @@ use Rattle.one_way.specs.Laws.{WayLaws}
 use Rattle.call_command.specs.Call.{CallState, call_step, first_state, may_read, most_turns, talk_step}
 use Rattle.call_command.specs.Converse.{IsFirst, WorldAnswers, WorldStands, WorldStays, talk_end, talk_of}
 use Rattle.call_command.specs.Laws.{TalkIsTheCall}
-use Rattle.call_command.specs.Standing.{EndsStand, IsFresh, more_of, parts_of}
+use Rattle.call_command.specs.Standing.{EndsStand, IsFresh, Parts, PartsStand, more_of, parts_of}
 use Rattle.call_command.specs.Turning.{IsAnswer, LeavesEnds, names_of}
 use Rattle.call_command.proofs.Counting.{ends_stand}
 use Rattle.call_command.proofs.Starting.{stands_first}
 
+-- what was begun, and what carries it
+abbrev pub parts_with : Begun → Carrier → Parts
+parts_with begun carrier =
+    record {
+      terms = begun.terms;
+      video = begun.video;
+      sender = begun.both.sender;
+      receiver = begun.both.receiver;
+      carrier = carrier;
+    }
+
 -- its parts stand
-pub lent_first : (w : World) (before : List ReceiverEntry) (inputs : Role → List ℕ) → WayLaws w.terms.params → IsFresh w.terms (parts_of w).carrier
-    → w.sender.now.params ≡ w.terms.params → sender_end.Stands (steady w.terms.params) w.sender.now [] → w.sender.now.sent ≡ 0
-    → w.video.now.more ≡ 1048576 → w.receiver.now.params ≡ w.terms.params → w.receiver.now.played ≡ 0 → receiver_end.Stands w.receiver.now before
-    → WorldStands w (first_state w.terms before w.video.now.at) inputs
-lent_first w before inputs laws fresh sender_params sends sent more receiver_params played receives =
-    stands_first (parts_of w) fresh laws sender_params sends sent more before w.video.now.at inputs refl receiver_params receives
+pub lent_first : (x : Parts) (before : List ReceiverEntry) (inputs : Role → List ℕ) → WayLaws x.terms.params → IsFresh x.terms x.carrier
+    → x.sender.params ≡ x.terms.params → sender_end.Stands (steady x.terms.params) x.sender [] → x.sender.sent ≡ 0
+    → x.video.more ≡ 1048576 → x.receiver.params ≡ x.terms.params → x.receiver.played ≡ 0 → receiver_end.Stands x.receiver before
+    → PartsStand x (first_state x.terms before x.video.at) inputs
+lent_first x before inputs laws fresh sender_params sends sent more receiver_params played receives =
+    stands_first x fresh laws sender_params sends sent more before x.video.at inputs refl receiver_params receives
     (subst (λ (p : Params). (receiver_end.run_of p before).played ≡ 0) receiver_params (sym receives.played ∙ played))
 
 -- no frame and no line was read yet
-most_is : (w : World) → w.trace.lines ≡ 0 → w.video.now.more ≡ 1048576 → more_of (parts_of w) ≡ most_turns w.terms.plain
-most_is w lines more = by_trace w.terms.plain
+most_is : (x : Parts) → x.carrier.trace.lines ≡ 0 → x.video.more ≡ 1048576 → more_of x ≡ most_turns x.terms.plain
+most_is x lines more = by_trace x.terms.plain
   where
-    by_trace : (plain : Bool) → (if plain then w.video.now.more else 16777216 - w.trace.lines) ≡ most_turns plain
+    by_trace : (plain : Bool) → (if plain then x.video.more else 16777216 - x.carrier.trace.lines) ≡ most_turns plain
     by_trace true = more
     by_trace false = ap (λ (n : ℕ). 16777216 - n) lines
 
 -- a run of the ideal call that is under way before the first event is one by both ends
-pub alone_under_way : (w : World) → w.trace.lines ≡ 0 → w.video.now.more ≡ 1048576
-    → ((rest : Role → List ℕ) → WorldStands w (first_state w.terms [] w.video.now.at) rest) → TalkIsTheCall w.terms
+pub alone_under_way : (x : Parts) → x.carrier.trace.lines ≡ 0 → x.video.more ≡ 1048576
+    → ((rest : Role → List ℕ) → PartsStand x (first_state x.terms [] x.video.at) rest) → TalkIsTheCall x.terms
     → (run : Run) (inputs : Role → List ℕ) (start : Role → Option (List ℕ)) (now : Outside)
-    → IsUnderWay call_step may_read run inputs start (IsFirst w.terms w.video.now.at) (most_turns w.terms.plain) now
-    → IsUnderWay talk_step may_read run inputs start (WorldStands w) (more_of (parts_of w)) now
-alone_under_way w lines more kept talk run inputs start now u =
-    let most = most_turns w.terms.plain in
-    let same : run_of talk_step (more_of (parts_of w)) u.state u.rest ≡ run_of call_step most u.state u.rest =
-    ap (λ (n : ℕ). run_of talk_step n u.state u.rest) (most_is w lines more)
-    ∙ subst (λ (s : CallState). run_of talk_step most s u.rest ≡ run_of call_step most s u.rest) (sym u.kept) (talk w.video.now.at most u.rest)
+    → IsUnderWay call_step may_read run inputs start (IsFirst x.terms x.video.at) (most_turns x.terms.plain) now
+    → IsUnderWay talk_step may_read run inputs start (PartsStand x) (more_of x) now
+alone_under_way x lines more kept talk run inputs start now u =
+    let most = most_turns x.terms.plain in
+    let same : run_of talk_step (more_of x) u.state u.rest ≡ run_of call_step most u.state u.rest =
+    ap (λ (n : ℕ). run_of talk_step n u.state u.rest) (most_is x lines more)
+    ∙ subst (λ (s : CallState). run_of talk_step most s u.rest ≡ run_of call_step most s u.rest) (sym u.kept) (talk x.video.at most u.rest)
     in
     record {
       done = u.done;
       state = u.state;
       rest = u.rest;
-      kept = subst (λ (s : CallState). WorldStands w s u.rest) (sym u.kept) (kept u.rest);
+      kept = subst (λ (s : CallState). PartsStand x s u.rest) (sym u.kept) (kept u.rest);
       turns = ap (λ (r : Run). u.done ++ r.turns) same ∙ u.turns;
       last = ap (λ (r : Run). r.last) same ∙ u.last;
       place = u.place;
@@ -69,16 +82,16 @@ alone_under_way w lines more kept talk run inputs start now u =
       written = u.written;
     }
 
-module _ (w : World) (before : List ReceiverEntry) (inputs : Role → List ℕ) (now : Outside) (lines : w.trace.lines ≡ 0) (more : w.video.now.more ≡ 1048576)
-    (kept : WorldStands w (first_state w.terms before w.video.now.at) inputs) (told : Tells now inputs) where
+module _ (x : Parts) (before : List ReceiverEntry) (inputs : Role → List ℕ) (now : Outside) (lines : x.carrier.trace.lines ≡ 0) (more : x.video.more ≡ 1048576)
+    (kept : PartsStand x (first_state x.terms before x.video.at) inputs) (told : Tells now inputs) where
   abbrev first : CallState
-  first = first_state w.terms before w.video.now.at
+  first = first_state x.terms before x.video.at
 
-  more_is : more_of (parts_of w) ≡ most_turns w.terms.plain
-  more_is = most_is w lines more
+  more_is : more_of x ≡ most_turns x.terms.plain
+  more_is = most_is x lines more
 
   pub under_way : TurnLaws
-      → IsUnderWay talk_step may_read (talk_of w.terms before w.video.now.at inputs) inputs now.written (WorldStands w) (more_of (parts_of w)) now
+      → IsUnderWay talk_step may_read (talk_of x.terms before x.video.at inputs) inputs now.written (PartsStand x) (more_of x) now
   under_way laws = record {
     done = [];
     state = first;
@@ -92,7 +105,7 @@ module _ (w : World) (before : List ReceiverEntry) (inputs : Role → List ℕ) 
     written = laws.no_text now.written now.written refl;
   }
 
-  pub ends_in : EndsIn talk_step (talk_end w.terms before w.video.now.at inputs) (WorldStands w) (more_of (parts_of w)) now
+  pub ends_in : EndsIn talk_step (talk_end x.terms before x.video.at inputs) (PartsStand x) (more_of x) now
   ends_in = record {
     state = first;
     rest = inputs;

@@ -6,7 +6,7 @@ use Rattle.h263_outside.specs.declared.desk.Role.TheVariants.{Events}
 use Rattle.loss_trace.specs.declared.event.Event.{Event as Line}
 use Rattle.desk_program.specs.Run.Step.{Goes}
 use Rattle.desk_program.specs.Ends.{Went}
-use Rattle.desk_program.specs.Laws.{TurnLaws}
+use Rattle.desk_program.specs.Laws.{StepLaws, TurnLaws}
 use Rattle.desk_program.specs.Texts.{no_texts}
 use Rattle.call_rings.specs.Keeping.{period_of}
 use Rattle.call_rings.specs.Messages.{said_of}
@@ -27,7 +27,6 @@ use Rattle.call_command.specs.Call.{CallState, after_line, by_ends, event_step, 
 use Rattle.call_command.specs.Standing.{HasDone, Parts, PartsReady, PartsStand, StoodBefore, more_of, parts_of}
 use Rattle.call_command.specs.Turning.{TakesLine, names_of}
 use Rattle.call_command.proofs.Behind.{done_here, event_goes, line_goes_on}
-use Rattle.call_command.proofs.Counting.{roles_same}
 use Rattle.call_command.proofs.Readying.{ready_so, recorded_keeps}
 
 -- the parts after a delivery
@@ -60,7 +59,7 @@ module _ (x : Parts) (attached : Role → Bool) (r : PartsReady x attached) (rec
 pub delivered_goes_on : (m y : World) (line : ℕ) (event said : Line) (n j : ℕ) (mid : Outside) (network : Network) (receiver : Kept) (events : CallState → List Event)
     → event ≡ said → names_of y ≡ names_of m → parts_of y ≡ with_network (parts_of m) network receiver
     → PartsReady (parts_of m) mid.attached → m.terms.plain ≡ false → network.way ≡ m.network.way → receiver.played ≡ m.receiver.now.played
-    → said_of network.messages ≤ 400 * (m.trace.lines + m.sender.now.sent) → NearLaws m.terms.params → TurnLaws
+    → said_of network.messages ≤ 400 * (m.trace.lines + m.sender.now.sent) → NearLaws m.terms.params → TurnLaws → StepLaws
     → ((s : CallState) (inputs : Role → List ℕ) → StoodBefore (parts_of m) s inputs → refusal_after m.terms.params s.before s.frames s.past (Deliver n j) ≡ None
     → event_step by_ends s inputs (inputs Events) said ≡ Goes (after_line (record s { past = events s }) (inputs Events)) (line_turn (inputs Events) no_texts))
     → ((s : CallState) (frames : List Frame) → (receiver_end.run_of m.terms.params s.before).played ≡ 0 → HasDone (parts_of m) s.before frames s.past
@@ -70,10 +69,10 @@ pub delivered_goes_on : (m y : World) (line : ℕ) (event said : Line) (n j : �
     × MayHappenNow m.terms.params s.before (s.frames ++ later) s.past (Deliver n j)
     → HasDone (with_network (parts_of m) network receiver) s.before (s.frames ++ later) (events s))
     → TakesLine m y line event (Ok true) mid mid
-delivered_goes_on m y line event said n j mid network receiver events is names same r recorded way played few near turns step none holds =
+delivered_goes_on m y line event said n j mid network receiver events is names same r recorded way played few near turns steps step none holds =
     let x = parts_of m in
     line_goes_on m y line event said mid mid is names (ap more_of same)
-    (subst (λ (q : Parts). PartsReady q mid.attached) (sym same) (ready_delivered x mid.attached r recorded network receiver way played few)) (roles_same mid)
+    (subst (λ (q : Parts). PartsReady q mid.attached) (sym same) (ready_delivered x mid.attached r recorded network receiver way played few)) (steps.none mid)
     (λ o s inputs b.
     let k = b.stood in
     subst (λ (q : Parts). Went (event_step by_ends s inputs (inputs Events) said) (PartsStand q) may_read true inputs o mid) (sym same)

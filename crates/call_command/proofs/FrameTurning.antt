@@ -21,7 +21,7 @@ use Rattle.call_report.specs.declared.status.Status.TheVariants.{Ok as Fine, Out
 use Rattle.call_report.specs.Status.{phase, video_stop}
 use Rattle.desk_program.specs.Run.{Step, behind, refusal}
 use Rattle.desk_program.specs.Run.Step.{Ends}
-use Rattle.desk_program.specs.Ends.{Tells, Gains, GainsFronts, IsPart, Went, Ended, GivesUp, HasCause, TurnGives, StartGives, start_status, step_texts, step_turns}
+use Rattle.desk_program.specs.Ends.{Tells, Gains, GainsFronts, IsPart, Went, Ended, GivesUp, HasCause, StartGives, start_status, step_texts, step_turns}
 use Rattle.desk_program.specs.Texts.{no_bytes, on, of}
 use Rattle.desk_program.specs.Laws.{TurnLaws}
 use Rattle.call_command.specs.declared.terms.Terms.{Terms}
@@ -94,11 +94,6 @@ given_so r known s reader new rest out left is more at format gives =
     gives_so known s reader new rest out left more at format (subst (λ (x : Result Bool VideoStop). FrameGives x reader rest out new left) is gives)
 
 -- ---- what gives up
-
-pub turn_gives : (r : Result Bool Status) (status : Status) (step : Step CallState) (after : CallState → (Role → List ℕ) → Type 0) (reads : CallState → Bool) (now : Bool) (inputs : Role → List ℕ) (old new : Outside)
-    → IsErrAnd r (λ x. x ≡ status) → GivesUp (phase status) status step now inputs old new → TurnGives r step after reads now inputs old new
-turn_gives (Ok b) status step after reads now inputs old new is gives = absurd is
-turn_gives (Err x) status step after reads now inputs old new is gives = subst (λ (y : Status). GivesUp (phase y) y step now inputs old new) (sym is) gives
 
 pub start_gives : {Machine : Type 0} (r : Result Machine Status) (status : Status) (step : Step CallState) (after : Machine → CallState → (Role → List ℕ) → Type 0) (reads : CallState → Bool) (inputs : Role → List ℕ) (old new : Outside)
     → IsErrAnd r (λ x. x ≡ status) → GivesUp (phase status) status step true inputs old new → StartGives r step after reads inputs old new

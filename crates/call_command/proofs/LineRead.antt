@@ -1,7 +1,7 @@
 -- A turn over a recorded trace is what its line says, once the line was read.
-use Rattle.std.proofs.Common.{◌≡◌, ◌≢◌, ℕ, ◌+◌, ◌-◌, ◌≤◌, Bool, List, Option, Some, Result, Ok, refl, sym, subst, arith}
+use Rattle.std.proofs.Common.{◌≡◌, ◌≢◌, ℕ, ◌+◌, ◌-◌, Bool, List, Option, Some, Result, Ok, refl, sym, subst, arith}
 use Rattle.std.specs.Prelude.{if◌then◌else◌, false}
-use Rattle.h263_outside.specs.Desk.{OnlyReads, Outside, Rose}
+use Rattle.h263_outside.specs.Desk.{OnlyReads, Outside}
 use Rattle.h263_outside.specs.declared.desk.Role.{Role}
 use Rattle.h263_outside.specs.declared.desk.Role.TheVariants.{Events}
 use Rattle.loss_trace.specs.declared.event.Event.{Event as Line}
@@ -11,13 +11,13 @@ use Rattle.loss_trace.specs.Reader.{EventGives, Moves}
 use Rattle.call_report.specs.declared.status.Status.{Status}
 use Rattle.desk_program.specs.Run.{Step}
 use Rattle.desk_program.specs.Ends.{Falls, Tells, TurnGives}
-use Rattle.desk_program.specs.Laws.{TurnLaws}
+use Rattle.desk_program.specs.Laws.{StepLaws, TurnLaws}
 use Rattle.call_command.specs.declared.world.World.{World}
 use Rattle.call_command.specs.Call.{CallState, by_ends, event_step, may_read, talk_step}
 use Rattle.call_command.specs.Standing.{HasRoom, Parts, PartsReady, PartsStand, ReadsTrace, more_of, parts_of, state_of}
 use Rattle.call_command.specs.Turning.{IsRead, TakesLine, TakesTurn}
 use Rattle.call_command.proofs.Behind.{stood_behind}
-use Rattle.call_command.proofs.Counting.{cause_since, keeps_then, line_by_line, reads_keep}
+use Rattle.call_command.proofs.Counting.{line_by_line}
 use Rattle.call_command.proofs.LineTurning.{found_could, found_is, found_number, found_taken}
 use Rattle.call_command.proofs.Readying.{ready_so}
 
@@ -28,7 +28,7 @@ read_on m after = record m { trace = after }
 -- this line of the trace was read, and nothing else was done
 pub record IsLineRead (m : World) (after : TraceReader) (line : ℕ) (event : Line) (old mid : Outside) : Type 0 where
   pub laws : TurnLaws
-  pub rose : (a b c : ℕ) → a ≤ b → Rose b c → Rose a c
+  pub steps : StepLaws
   pub recorded : m.terms.plain ≡ false
   pub gives : (text : List ℕ) → old.left Events ≡ Some text → EventGives (Ok (Some (line, event))) m.trace text after (mid.left Events)
   pub moves : Moves (Ok (Some (line, event))) m.trace after
@@ -37,12 +37,12 @@ pub record IsLineRead (m : World) (after : TraceReader) (line : ℕ) (event : Li
 
 -- by what the reader of the trace answers
 pub line_read : (m : World) (after : TraceReader) (line : ℕ) (event : Line) (old mid : Outside) (answer : Result (Option (ℕ × Line)) TraceStop) → answer ≡ Ok (Some (line, event))
-    → TurnLaws → ((a b c : ℕ) → a ≤ b → Rose b c → Rose a c) → m.terms.plain ≡ false
+    → TurnLaws → StepLaws → m.terms.plain ≡ false
     → ((text : List ℕ) → old.left Events ≡ Some text → EventGives answer m.trace text after (mid.left Events)) → Moves answer m.trace after
     → ((r : Role) → r ≢ Events → mid.left r ≡ old.left r) → OnlyReads old mid → IsLineRead m after line event old mid
-line_read m after line event old mid answer is laws rose recorded gives moves others rest = record {
+line_read m after line event old mid answer is laws steps recorded gives moves others rest = record {
   laws = laws;
-  rose = rose;
+  steps = steps;
   recorded = recorded;
   gives = λ text left. subst (λ (q : Result (Option (ℕ × Line)) TraceStop). EventGives q m.trace text after (mid.left Events)) is (gives text left);
   moves = subst (λ (q : Result (Option (ℕ × Line)) TraceStop). Moves q m.trace after) is moves;
@@ -101,6 +101,6 @@ module _ {m : World} {after : TraceReader} {line : ℕ} {event : Line} {old mid 
     ready = t.ready;
     answers = t.answers;
     stop = t.stop;
-    cause = cause_since result old.faults mid.faults new.faults w.rest.faults w.rose t.stop t.cause;
-    rest = keeps_then old mid new (reads_keep old mid w.rest) t.rest;
+    cause = w.steps.since result old.faults mid.faults new.faults w.rest.faults t.stop t.cause;
+    rest = w.steps.both old mid new (w.steps.reads old mid w.rest) t.rest;
   }

@@ -5,7 +5,7 @@ use Rattle.call_model.specs.Receiving.{ReceiverEntry}
 use Rattle.desk_program.specs.Run.{Run, run_of, end_state}
 use Rattle.sender_end.specs.Stands as sender_end
 use Rattle.receiver_end.specs.State as receiver_end
-use Rattle.call_command.specs.declared.call.Begun.{Begun}
+use Rattle.call_command.specs.declared.begun.Begun.{Begun}
 use Rattle.call_command.specs.declared.world.World.{World}
 use Rattle.call_command.specs.declared.terms.Terms.{Terms}
 use Rattle.one_way.specs.Both.{steady}
@@ -32,15 +32,15 @@ abbrev pub IsFirst : Terms → ℕ → CallState → (Role → List ℕ) → Typ
 IsFirst t at s rest = s ≡ first_state t [] at
 
 -- what was begun may converse: nothing was sent, heard or played yet, and no frame was read
-pub record MayConverse (plain : Bool) (attached : Role → Bool) (begun : Begun) : Type 0 where
-  pub opens : CallOpens (record { params = begun.params; plain = plain }) attached
-  pub format : begun.video.format ≡ begun.params.format
+pub record MayConverse (attached : Role → Bool) (begun : Begun) : Type 0 where
+  pub opens : CallOpens begun.terms attached
+  pub format : begun.video.format ≡ begun.terms.params.format
   pub frames : begun.video.more ≡ 1048576
-  pub sender_params : begun.both.sender.params ≡ begun.params
-  pub receiver_params : begun.both.receiver.params ≡ begun.params
-  pub quant : begun.both.sender.pace.quant ≡ begun.params.quant
+  pub sender_params : begun.both.sender.params ≡ begun.terms.params
+  pub receiver_params : begun.both.receiver.params ≡ begun.terms.params
+  pub quant : begun.both.sender.pace.quant ≡ begun.terms.params.quant
   pub sent : begun.both.sender.sent ≡ 0
-  pub sends : sender_end.Stands (steady begun.params) begun.both.sender []
+  pub sends : sender_end.Stands (steady begun.terms.params) begun.both.sender []
   pub played : begun.both.receiver.played ≡ 0
   pub receives : receiver_end.Stands begun.both.receiver []
 

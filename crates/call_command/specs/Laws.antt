@@ -1,26 +1,20 @@
 -- What holds of a call by both ends, of a video, and of the turns of lines.
-use Rattle.std.specs.Prelude.{◌≡◌, ℕ, ◌+◌, ◌≤◌, Bool, true, false, List, [], ◌∷◌, take, drop, Some, None, Result, Ok, IfErr}
-use Rattle.h263_outside.specs.Desk.{Faults, NoneFalls, OnlyReads, OnlyWrites, Outside, Rose}
+use Rattle.std.specs.Prelude.{◌≡◌, ℕ, ◌+◌, ◌≤◌, true, false, List, [], ◌∷◌, take, drop, Some, None, Ok}
+use Rattle.h263_outside.specs.Desk.{Outside}
 use Rattle.h263_outside.specs.declared.desk.Role.{Role}
 use Rattle.h263_outside.specs.declared.desk.Role.TheVariants.{Events, Video}
 use Rattle.h263_types.specs.declared.format.Format.{Format}
 use Rattle.y4m.specs.Head.{head_of, head_size}
 use Rattle.y4m.specs.Frame.{frame_of, frame_size}
-use Rattle.y4m.specs.declared.fault.VideoStop.{VideoStop}
-use Rattle.y4m.specs.declared.fault.VideoStop.TheVariants as video
 use Rattle.loss_trace.specs.Lines.{NoNewline, behind_line, is_closed}
 use Rattle.loss_trace.specs.Reader.{IsOver}
 use Rattle.loss_trace.specs.declared.fault.TraceFault.{TraceFault}
-use Rattle.loss_trace.specs.declared.fault.TraceStop.{TraceStop}
-use Rattle.loss_trace.specs.declared.fault.TraceStop.TheVariants as trace
 use Rattle.loss_trace.specs.declared.reader.TraceReader.{TraceReader}
-use Rattle.call_report.specs.Status.{trace_stop, video_stop}
-use Rattle.call_report.specs.declared.status.Status.{Status}
 use Rattle.call_report.specs.declared.status.Status.TheVariants.{Ok as Fine, TraceRefused}
 use Rattle.call_model.specs.Coding.{Rules}
 use Rattle.call_model.specs.IdealCall.{Send, Deliver, Play}
 use Rattle.call_model.specs.Refusals.{NoFrame, Refusal, first_refusal}
-use Rattle.desk_program.specs.Ends.{EndsBy, Gains, HasCause, IsPart, IsStop, KeepsRoles, Tells, holds, turn_status}
+use Rattle.desk_program.specs.Ends.{EndsBy, Gains, IsPart, Tells, holds}
 use Rattle.desk_program.specs.Run.{Turn, behind, run_of}
 use Rattle.desk_program.specs.Texts.{and_of, no_texts, of}
 use Rattle.call_command.specs.declared.terms.Terms.{Terms}
@@ -101,21 +95,3 @@ pub record LineLaws : Type 0 where
   pub over : (reader : TraceReader) (inputs : Role → List ℕ) (old mid new : Outside) → ReadsTrace inputs old mid
       → IsOver reader (inputs Events) (mid.left Events) → (reader.ended ≡ true → inputs Events ≡ [])
       → new.left ≡ mid.left → IsPlayedOut inputs old mid new
-
--- how two steps over a desk add up, and why a turn stops
-pub record StepLaws : Type 0 where
-  -- the roles are kept by reads, by writes, by one step after another, and where nothing is done
-  pub reads : (old new : Outside) → OnlyReads old new → KeepsRoles old new
-  pub writes : (old new : Outside) → OnlyWrites old new → KeepsRoles old new
-  pub both : (old mid new : Outside) → KeepsRoles old mid → KeepsRoles mid new → KeepsRoles old new
-  pub none : (now : Outside) → KeepsRoles now now
-  -- where a turn gives up, its cause since a step is one since before that step
-  pub since : (r : Result Bool Status) (old mid new : Faults) → NoneFalls old mid → IfErr r IsStop
-      → HasCause (turn_status r) mid new → HasCause (turn_status r) old new
-  -- a stop by the reader of the video, or of the trace: its cause is a read that failed
-  pub video_stops : (stop : VideoStop) → IsStop (video_stop stop)
-  pub video_cause : (stop : VideoStop) (old new : Faults) → (stop ≡ video.Read → Rose old.read new.read)
-      → HasCause (video_stop stop) old new
-  pub trace_stops : (stop : TraceStop) → IsStop (trace_stop stop)
-  pub trace_cause : (stop : TraceStop) (old new : Faults) → (stop ≡ trace.Read → Rose old.read new.read)
-      → HasCause (trace_stop stop) old new

@@ -8,7 +8,7 @@ ghost use Rattle.call_command.specs.Converse.{IsFirst, MayConverse};
 ghost use Rattle.call_command.specs.Standing.{CallOpens};
 
 use crate::world::World;
-use crate::{Terms, converse, laws};
+use crate::{Begun, Terms, converse, laws};
 use call_report::Status;
 use desk_program::{Acts, laws as desk_program_laws, put_head};
 use h263_outside::{Desk, laws as outside_laws};
@@ -17,23 +17,15 @@ use one_way::Both;
 use std::alloc::Global;
 use y4m::Y4mReader;
 
-// A call before its first event: its parameters, with the format of its video, the reader of the
-// video after the head, and both ends. They must be finished.
-struct Begun {
-    params: Params,
-    video: Y4mReader,
-    both: Both,
-}
-
 // Reads the head, starts both ends, and writes the head of the pictures.
 fn begin<D: Desk>(alloc: Global, setup: &Terms, desk: &mut D) -> Result<Begun, Status>
     requires { CallOpens setup.now (D.outside desk.old).attached }
     ensures gives { (inputs : Role → List ℕ) → Tells (D.outside desk.old) inputs
         → StartGives result (call_begin setup.now inputs)
-        (λ begun. IsFirst (record { params = begun.params; plain = setup.now.plain })
-        begun.video.at)
+        (λ begun. IsFirst begun.terms begun.video.at)
         may_read inputs (D.outside desk.old) (D.outside desk.new) }
-    ensures ready { IfOk result (MayConverse setup.now.plain (D.outside desk.new).attached) }
+    ensures plain { IfOk result (λ begun. begun.terms.plain ≡ setup.now.plain) }
+    ensures ready { IfOk result (MayConverse (D.outside desk.new).attached) }
     ensures stop { IfErr result IsUnstarted }
     ensures cause { HasCause (start_status result)
         (D.outside desk.old).faults (D.outside desk.new).faults }
@@ -54,7 +46,10 @@ fn begin<D: Desk>(alloc: Global, setup: &Terms, desk: &mut D) -> Result<Begun, S
         return Err(status);
     }
     Ok(Begun {
-        params,
+        terms: Terms {
+            params,
+            plain: setup.plain,
+        },
         video,
         both,
     })
@@ -81,27 +76,12 @@ impl Acts for Call {
 
     fn act<D: Desk>(alloc: Global, setup: &Terms, desk: &mut D) -> Status {
         outside_laws::calls();
+        desk_program_laws::of_steps();
         desk_program_laws::of_runs::<World>();
         match begin(alloc, setup, desk) {
             Ok(mut begun) => {
-                let terms = Terms {
-                    params: begun.params,
-                    plain: setup.plain,
-                };
-                let status = converse(
-                    alloc,
-                    desk,
-                    &terms,
-                    &mut begun.video,
-                    &mut begun.both.sender,
-                    &mut begun.both.receiver,
-                );
-                let Begun {
-                    params: _,
-                    video: _,
-                    both,
-                } = begun;
-                both.finish();
+                let status = converse(alloc, desk, &mut begun);
+                begun.finish();
                 status
             }
             Err(status) => status,

@@ -18,7 +18,7 @@ ghost use Rattle.one_way.specs.Both.{steady};
 ghost use Rattle.desk_program.specs.Run.{refusal, run_from};
 ghost use Rattle.call_command.specs.declared.terms.Terms.{Terms};
 ghost use Rattle.call_command.specs.Call.{call_begin, call_step, most_turns};
-ghost use Rattle.call_command.specs.Laws.{FramesLeft, LineLaws, StepLaws, TalkIsTheCall, VideoLaws};
+ghost use Rattle.call_command.specs.Laws.{FramesLeft, LineLaws, TalkIsTheCall, VideoLaws};
 ghost use Rattle.call_command.specs.Plain.{ShowsEachFrame, status_for};
 ghost use Rattle.call_command.specs.Recorded.{FollowsItsTrace, ShowsWhatArrived};
 
@@ -28,7 +28,6 @@ use call_encoding::Framed;
 use call_model::laws::{frames_by_events, later_frames, refusals, searches};
 use desk_program::laws::of_turns;
 use h263_bits::Fault;
-use h263_outside::laws::calls;
 use h263_types::Mb;
 use one_way::laws as one_way_laws;
 use y4m::laws::{cut_behind, frame_by_frame};
@@ -131,10 +130,3 @@ pub fn of_lines()
 pub fn of_frames_left()
     ensures { FramesLeft }
 {}
-
-/// How two steps over a desk add up, and why a turn stops.
-pub fn of_steps()
-    ensures { StepLaws }
-{
-    calls();
-}

@@ -7,7 +7,7 @@ ghost use Rattle.desk_program.specs.Ends.{KeepsRoles, Tells, silent};
 ghost use Rattle.desk_program.specs.Run.{Run};
 ghost use Rattle.desk_program.specs.UnderWay.{IsUnderWay};
 ghost use Rattle.sender_end.specs.Stands as sender_end;
-ghost use Rattle.receiver_end.specs.State as receiver_end;
+ghost use Rattle.receiver_end.specs.State.{Stands};
 ghost use Rattle.one_way.specs.Both.{steady};
 ghost use Rattle.call_command.specs.Call.{call_step, may_read, most_turns};
 ghost use Rattle.call_command.specs.Converse.{IsFirst, talk_end, talk_of};
@@ -16,16 +16,12 @@ ghost use Rattle.call_command.specs.Turning.{IsAnswer};
 
 use crate::carrier::Carrier;
 use crate::world::World;
-use crate::{Terms, laws};
+use crate::{Begun, laws};
 use call_report::Status;
 use desk_program::{Turns, laws as desk_program_laws, take_turns};
 use h263_outside::Desk;
-use h263_types::FixedPace;
 use one_way::laws as one_way_laws;
-use receiver_end::Receiver;
-use sender_end::Sender;
 use std::alloc::Global;
-use y4m::Y4mReader;
 
 impl<'a> Turns for World<'a> {
     ghost use Rattle.std.specs.Prelude.{Some};
@@ -70,41 +66,36 @@ impl<'a> Turns for World<'a> {
 /// It is the call by both ends, after whatever the receiver had heard (`gives`). With a receiver
 /// that had heard nothing it is the ideal call, which goes on with a run that is under way
 /// (`alone`).
-pub fn converse<D: Desk>(
-    alloc: Global,
-    desk: &mut D,
-    terms: &Terms,
-    video: &mut Y4mReader,
-    sender: &mut Sender<FixedPace>,
-    receiver: &mut Receiver,
-) -> Status
-    requires opens { CallOpens terms.now (D.outside desk.old).attached }
-    requires format { video.old.format ≡ terms.now.params.format }
-    requires frames { video.old.more ≡ 1048576 }
-    requires sender_params { sender.old.params ≡ terms.now.params }
-    requires receiver_params { receiver.old.params ≡ terms.now.params }
-    requires quant { sender.old.pace.quant ≡ terms.now.params.quant }
-    requires sent { sender.old.sent ≡ 0 }
-    requires sends { sender_end.Stands (steady terms.now.params) sender.old [] }
-    requires played { receiver.old.played ≡ 0 }
+pub fn converse<D: Desk>(alloc: Global, desk: &mut D, call: &mut Begun) -> Status
+    requires opens { CallOpens call.old.terms (D.outside desk.old).attached }
+    requires format { call.old.video.format ≡ call.old.terms.params.format }
+    requires frames { call.old.video.more ≡ 1048576 }
+    requires sender_params { call.old.both.sender.params ≡ call.old.terms.params }
+    requires receiver_params { call.old.both.receiver.params ≡ call.old.terms.params }
+    requires quant { call.old.both.sender.pace.quant ≡ call.old.terms.params.quant }
+    requires sent { call.old.both.sender.sent ≡ 0 }
+    requires sends { sender_end.Stands (steady call.old.terms.params) call.old.both.sender [] }
+    requires played { call.old.both.receiver.played ≡ 0 }
     ensures gives { (before : List ReceiverEntry) (inputs : Role → List ℕ)
-        → receiver_end.Stands receiver.old before → Tells (D.outside desk.old) inputs
-        → HasEnded (talk_of terms.now before video.old.at inputs) silent result inputs
+        → Stands call.old.both.receiver before → Tells (D.outside desk.old) inputs
+        → HasEnded (talk_of call.old.terms before call.old.video.at inputs) silent result inputs
         (D.outside desk.old).written (D.outside desk.new) }
     ensures alone { (run : Run) (inputs : Role → List ℕ) (start : Role → Option (List ℕ))
-        → receiver_end.Stands receiver.old []
-        → IsUnderWay call_step may_read run inputs start (IsFirst terms.now video.old.at)
-        (most_turns terms.now.plain) (D.outside desk.old)
+        → Stands call.old.both.receiver []
+        → IsUnderWay call_step may_read run inputs start
+        (IsFirst call.old.terms call.old.video.at)
+        (most_turns call.old.terms.plain) (D.outside desk.old)
         → HasEnded run silent result inputs start (D.outside desk.new) }
     ensures stands { (before : List ReceiverEntry) (inputs : Role → List ℕ)
-        → receiver_end.Stands receiver.old before → Tells (D.outside desk.old) inputs
-        → AfterAll result (EndsStand terms.now sender.new receiver.new
-        (talk_end terms.now before video.old.at inputs)) }
+        → Stands call.old.both.receiver before → Tells (D.outside desk.old) inputs
+        → AfterAll result (EndsStand call.old.terms call.new.both.sender call.new.both.receiver
+        (talk_end call.old.terms before call.old.video.at inputs)) }
     ensures whole_input { (before : List ReceiverEntry) (inputs : Role → List ℕ)
-        → receiver_end.Stands receiver.old before → Tells (D.outside desk.old) inputs
-        → IsReadOut result (Some (source_of terms.now)) (D.outside desk.new) }
-    ensures answers { IsAnswer terms.now.plain result }
-    ensures pace { sender.new.pace ≡ sender.old.pace }
+        → Stands call.old.both.receiver before → Tells (D.outside desk.old) inputs
+        → IsReadOut result (Some (source_of call.old.terms)) (D.outside desk.new) }
+    ensures answers { IsAnswer call.old.terms.plain result }
+    ensures terms { call.new.terms ≡ call.old.terms }
+    ensures pace { call.new.both.sender.pace ≡ call.old.both.sender.pace }
     ensures later { IsLater result }
     ensures cause { HasCause result (D.outside desk.old).faults (D.outside desk.new).faults }
     ensures rest { KeepsRoles (D.outside desk.old) (D.outside desk.new) }
@@ -113,22 +104,17 @@ pub fn converse<D: Desk>(
     desk_program_laws::of_runs::<World>();
     laws::talks_agree();
     one_way_laws::of_the_way();
-    let Ok(carrier) = Carrier::start(alloc, terms) else {
+    let Ok(carrier) = Carrier::start(alloc, &call.terms) else {
         return Status::OutOfMemory;
     };
-    let Carrier {
-        trace,
-        network,
-        frame,
-    } = carrier;
     let mut world = World {
-        terms: *terms,
-        video,
-        sender,
-        receiver,
-        trace,
-        network,
-        frame,
+        terms: call.terms,
+        video: &mut call.video,
+        sender: &mut call.both.sender,
+        receiver: &mut call.both.receiver,
+        trace: carrier.trace,
+        network: carrier.network,
+        frame: carrier.frame,
     };
     let status = take_turns(desk, &mut world);
     let World {

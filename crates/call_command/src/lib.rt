@@ -2,7 +2,7 @@
 //! trace says, or nothing.
 //!
 //! `specs/Call` says what it does with each frame of the video or each line of the trace, by the
-//! ideal call of `call_model`. [`Call`] begins both ends and lends them to [`converse`], which
+//! ideal call of `call_model`. [`Call`] begins a call ([`Begun`]) and lends it to [`converse`], which
 //! takes the events, whatever the receiver had heard before. What an event does to the ends and to
 //! the network between them is `one_way`'s.
 //!
@@ -13,6 +13,7 @@
 //! ```
 #![tactic(auto)]
 
+mod begun;
 mod call;
 mod carrier;
 mod counts;
@@ -23,6 +24,7 @@ mod show;
 mod terms;
 mod world;
 
+pub use begun::Begun;
 pub use call::Call;
 pub use counts::counts_line;
 pub use lent::converse;

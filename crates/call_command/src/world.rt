@@ -39,6 +39,7 @@ impl<'a> World<'a> {
         ensures { TakesTurn self.old self.new result (D.outside desk.old) (D.outside desk.new) }
     {
         desk_program_laws::of_turns();
+        desk_program_laws::of_steps();
         outside_laws::calls();
         laws::of_the_video();
         one_way_laws::of_the_way();
@@ -62,6 +63,7 @@ impl<'a> World<'a> {
         ensures { TakesTurn self.old self.new result (D.outside desk.old) (D.outside desk.new) }
     {
         desk_program_laws::of_turns();
+        desk_program_laws::of_steps();
         outside_laws::calls();
         one_way_laws::of_the_way();
         let Some((line, event)) = self.trace.next(desk)? else {
@@ -80,6 +82,7 @@ impl<'a> World<'a> {
             (D.outside desk.old) (D.outside desk.new) }
     {
         desk_program_laws::of_turns();
+        desk_program_laws::of_steps();
         one_way_laws::later_frames();
         one_way_laws::of_the_way();
         one_way_laws::of_near_events();
@@ -121,6 +124,7 @@ impl<'a> World<'a> {
             (D.outside desk.old) (D.outside desk.new) }
     {
         desk_program_laws::of_turns();
+        desk_program_laws::of_steps();
         outside_laws::calls();
         laws::of_the_video();
         one_way_laws::later_frames();

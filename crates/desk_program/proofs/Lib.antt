@@ -4,3 +4,4 @@ pub mod Running
 pub mod Attaching
 pub mod Finishing
 pub mod Parts
+pub mod Steps

@@ -1,12 +1,16 @@
--- How the reads and writes of one turn add up, what a refusal comes to, and how runs begin.
-use Rattle.std.specs.Prelude.{ℕ, ◌≡◌, ◌≢◌, Bool, true, List, [], Option, Some, drop}
-use Rattle.h263_outside.specs.Desk.{Outside, appended, GainsFront}
+-- How the reads and writes of one turn add up, what a refusal comes to, why a turn stops, and how runs begin.
+use Rattle.std.specs.Prelude.{ℕ, ◌≡◌, ◌≢◌, Bool, true, List, [], Option, Some, Result, IfErr, drop}
+use Rattle.h263_outside.specs.Desk.{Faults, NoneFalls, OnlyReads, OnlyWrites, Outside, Rose, appended, GainsFront}
 use Rattle.h263_outside.specs.declared.desk.Role.{Role}
+use Rattle.y4m.specs.declared.fault.VideoStop.{VideoStop}
+use Rattle.y4m.specs.declared.fault.VideoStop.TheVariants as video
+use Rattle.loss_trace.specs.declared.fault.TraceStop.{TraceStop}
+use Rattle.loss_trace.specs.declared.fault.TraceStop.TheVariants as trace
 use Rattle.call_report.specs.declared.status.Status.{Status}
 use Rattle.call_report.specs.declared.status.Status.TheVariants.{OutOfMemory}
-use Rattle.call_report.specs.Status.{phase}
+use Rattle.call_report.specs.Status.{phase, trace_stop, video_stop}
 use Rattle.desk_program.specs.Run.{Run, Step, behind, refusal, run_from}
-use Rattle.desk_program.specs.Ends.{Tells, Gains, GainsFronts, EndsBy, GivesUp, HasEnded, Went, silent}
+use Rattle.desk_program.specs.Ends.{Tells, Gains, GainsFronts, EndsBy, GivesUp, HasCause, HasEnded, IsStop, KeepsRoles, Went, silent, turn_status}
 use Rattle.desk_program.specs.UnderWay.{IsUnderWay}
 use Rattle.desk_program.specs.Texts.{no_texts, on, then_also, no_bytes, of, and_of}
 
@@ -46,6 +50,24 @@ pub record TurnLaws : Type 0 where
   -- a refusal says nothing of what it takes, and writes nothing
   pub refuses : (status : Status) (inputs : Role → List ℕ) (old new : Outside) →
       new.written ≡ old.written → EndsBy (refusal status) status inputs old new
+
+-- how two steps over a desk add up, and why a turn stops
+pub record StepLaws : Type 0 where
+  -- the roles are kept by reads, by writes, by one step after another, and where nothing is done
+  pub reads : (old new : Outside) → OnlyReads old new → KeepsRoles old new
+  pub writes : (old new : Outside) → OnlyWrites old new → KeepsRoles old new
+  pub both : (old mid new : Outside) → KeepsRoles old mid → KeepsRoles mid new → KeepsRoles old new
+  pub none : (now : Outside) → KeepsRoles now now
+  -- where a turn gives up, its cause since a step is one since before that step
+  pub since : (r : Result Bool Status) (old mid new : Faults) → NoneFalls old mid → IfErr r IsStop
+      → HasCause (turn_status r) mid new → HasCause (turn_status r) old new
+  -- a stop by the reader of the video, or of the trace: its cause is a read that failed
+  pub video_stops : (stop : VideoStop) → IsStop (video_stop stop)
+  pub video_cause : (stop : VideoStop) (old new : Faults) → (stop ≡ video.Read → Rose old.read new.read)
+      → HasCause (video_stop stop) old new
+  pub trace_stops : (stop : TraceStop) → IsStop (trace_stop stop)
+  pub trace_cause : (stop : TraceStop) (old new : Faults) → (stop ≡ trace.Read → Rose old.read new.read)
+      → HasCause (trace_stop stop) old new
 
 -- where a run begins, just one state is kept in mind
 abbrev pub IsFrom : {State : Type 0} → State → State → (Role → List ℕ) → Type 0

@@ -14,7 +14,7 @@ use Rattle.call_report.specs.declared.status.Status.TheVariants.{TraceRefused, V
 use Rattle.desk_program.specs.Run.{Step, behind}
 use Rattle.desk_program.specs.Run.Step.{Goes}
 use Rattle.desk_program.specs.Ends.{Ended, Gains, GainsFronts, KeepsRoles, TurnGives, Went, step_texts}
-use Rattle.desk_program.specs.Laws.{TurnLaws}
+use Rattle.desk_program.specs.Laws.{StepLaws, TurnLaws}
 use Rattle.desk_program.specs.Texts.{and_of, no_texts, of}
 use Rattle.call_model.specs.IdealCall.{Event, Send, Deliver, Play, Back}
 use Rattle.call_model.specs.Refusals.{Refusal}
@@ -33,7 +33,7 @@ use Rattle.duplex_ends.specs.declared.party.PartyEnds.{PartyEnds}
 use Rattle.duplex_command.specs.declared.station.Station.{Station}
 use Rattle.duplex_command.specs.Duplex.{DuplexState, after_line, capture_step, event_step, may_read, place_of, play_step, play_texts, quiet_step, refusal_at, seen_of, unless, with_frame, with_next}
 use Rattle.call_command.specs.Call.{line_size, line_turn}
-use Rattle.call_command.specs.Laws.{LineLaws, StepLaws}
+use Rattle.call_command.specs.Laws.{LineLaws}
 use Rattle.call_command.specs.Refused.{IsNotRefused, IsRefusedWith, fault_at, fault_of}
 use Rattle.call_command.specs.Turning.{IsChecked}
 use Rattle.duplex_command.specs.Standing.{StationReady, StationsReady, StationsStand, place_in}

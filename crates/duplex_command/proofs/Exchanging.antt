@@ -10,7 +10,7 @@ use Rattle.call_report.specs.declared.status.Status.{Status}
 use Rattle.call_report.specs.declared.status.Status.TheVariants.{Ok as Fine, OutOfMemory, Usage, ReadFault, WriteFault, VideoRefused, TraceRefused, LogRefused, OpenFault, Video2Refused}
 use Rattle.desk_program.specs.Run.{Turn, Step, behind}
 use Rattle.desk_program.specs.Run.Step.{Goes, Ends}
-use Rattle.desk_program.specs.Ends.{Ended, Falls, Gains, GainsFronts, HasCause, IsPart, IsStop, KeepsRoles, Lost, OnEnd, OnGoing, Tells, TurnGives, Went, holds, step_texts, step_turns, turn_status}
+use Rattle.desk_program.specs.Ends.{Ended, Gains, GainsFronts, HasCause, IsPart, IsStop, KeepsRoles, Lost, OnEnd, OnGoing, Tells, TurnGives, Went, holds, step_texts, step_turns, turn_status}
 use Rattle.duplex_command.specs.Exchange.{for_second, second_end, second_result, second_status, second_step, second_turn}
 
 pub twice : (r : Role) → exchanged (exchanged r) ≡ r
@@ -83,11 +83,6 @@ stop_at_second (Err (TraceRefused fault)) s = s
 stop_at_second (Err (LogRefused fault)) s = s
 stop_at_second (Err (OpenFault role)) s = s
 stop_at_second (Err (Video2Refused fault)) s = s
-
-pub falls_at_second : (result : Result Bool Status) (old new : ℕ) → Falls result old new → Falls (second_result result) old new
-falls_at_second (Ok true) old new f = f
-falls_at_second (Ok false) old new f = f
-falls_at_second (Err status) old new f = f
 
 pub going_at_second : (result : Result Bool Status) (p : Type 0) → OnGoing result p → OnGoing (second_result result) p
 going_at_second (Ok true) p is = is

@@ -249,11 +249,6 @@ module _ (p : Party → Params) (shots : Party → List Picture) (laws : CallLaw
   some_left zero at f rest planes is = absurd (cc is)
   some_left (suc m) at f rest planes is = omega arith
 
-  -- the bytes of a line are no video's
-  no_video : (x : Party) (size : ℕ) (inputs : Role → List ℕ) → behind inputs (of Events size) (video_of x) ≡ inputs (video_of x)
-  no_video A size inputs = refl
-  no_video B size inputs = refl
-
   -- all frames were sent and are coded
   coded_are : (past : List Lettered) → Near past → (x : Party) → sent_before (way x (ways past)).past ≡ length (way x (ways past)).frames
       → length (call x past).coded ≡ length (way x (ways past)).frames

@@ -22,7 +22,8 @@ use Rattle.duplex_command.specs.declared.event.Said.{Said}
 use Rattle.duplex_command.specs.declared.talk.Talk.{Talk}
 use Rattle.duplex_command.specs.Duplex.{DuplexState, after_line, duplex_step, line_step, may_read, party_step}
 use Rattle.call_command.specs.Call.{line_size}
-use Rattle.call_command.specs.Laws.{LineLaws, StepLaws}
+use Rattle.desk_program.specs.Laws.{StepLaws}
+use Rattle.call_command.specs.Laws.{LineLaws}
 use Rattle.call_command.specs.Standing.{ReadsTrace}
 use Rattle.duplex_command.specs.Standing.{DuplexOpens, StationsReady, StationsStand, TalkReady, TalkStands, more_of}
 use Rattle.duplex_command.specs.Turning.{IsRead, TakesLine, TakesTurn}

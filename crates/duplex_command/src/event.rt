@@ -48,7 +48,7 @@ fn send_frame<D: Desk>(
     outside_laws::calls();
     call_command_laws::of_the_video();
     call_command_laws::of_lines();
-    call_command_laws::of_steps();
+    desk_program_laws::of_steps();
     laws::of_refusals();
     if !own.video.frame(desk, planes)? {
         return Err(Status::TraceRefused {
@@ -76,7 +76,7 @@ fn party_turn<D: Desk>(
 {
     desk_program_laws::of_turns();
     call_command_laws::of_lines();
-    call_command_laws::of_steps();
+    desk_program_laws::of_steps();
     laws::of_refusals();
     match said.event {
         Event::Nothing => Ok(true),

@@ -55,7 +55,7 @@ impl Talk {
         desk_program_laws::of_turns();
         outside_laws::calls();
         call_command_laws::of_lines();
-        call_command_laws::of_steps();
+        desk_program_laws::of_steps();
         loss_trace_laws::exact_lines();
         let mut bytes = [0; 64];
         let Some((line, length)) = self.trace.raw(desk, &mut bytes)? else {

@@ -49,9 +49,6 @@ pub waiting_fit : (clock : Clock) (told : List Carried) (loaded : ℕ) → AreOf
 waiting_fit clock told loaded fit =
     are_messages clock (last_four (drop loaded told)) (drop_fit clock _ (drop loaded told) (drop_fit clock loaded told fit))
 
-pub waiting_few : (told : List Carried) (loaded : ℕ) → length (map message_in (last_four (drop loaded told))) ≤ 4
-waiting_few told loaded = omega (arith, map_long message_in (last_four (drop loaded told)), last_few (drop loaded told))
-
 -- ---- the way after a capture
 
 one_longer : {X : Type 0} (xs : List X) (x : X) → length (xs ++ x ∷ []) ≡ length xs + 1

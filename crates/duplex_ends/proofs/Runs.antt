@@ -47,10 +47,6 @@ module _ {Frame Style Mb Picture Fault MessageFault : Type 0} (coding : Coding F
   coded_still [] past = refl
   coded_still (k ∷ ks) past = coded_still ks (Back k ∷ past)
 
-  pub played_still : (ks : List ℕ) (past : List Event) → (ideal coding rules pace frames (brought ks past)).played ≡ (ideal coding rules pace frames past).played
-  played_still [] past = refl
-  played_still (k ∷ ks) past = played_still ks (Back k ∷ past)
-
 pub told_still : (p : Params) (w : WayRun Frame) (ks : List ℕ) → told_by p (record w { past = brought ks w.past }) ≡ told_by p w
 told_still p w ks = ap (λ (notes : List NumberedMessage). map (carried_as (rules_of p)) notes) (said_still (coding p) (rules_of p) (steady p) w.frames ks w.past)
 

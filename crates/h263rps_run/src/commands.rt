@@ -1,12 +1,10 @@
 //! The commands, each over a desk on which the report alone is attached.
-ghost use Rattle.std.specs.Prelude.{◌≡◌, ◌∷◌, [], None, Some};
-ghost use Rattle.h263_outside.specs.declared.desk.Role.TheVariants.{Report};
+ghost use Rattle.std.specs.Prelude.{◌≡◌, None, Some};
 ghost use Rattle.command_words.specs.declared.command.Command.TheVariants as commands;
-ghost use Rattle.command_words.specs.Asked.{HasNames, IsCommand, IsGiven, word_for};
+ghost use Rattle.command_words.specs.Asked.{IsGiven, word_for};
 ghost use Rattle.command_words.specs.View.{asked_of};
-ghost use Rattle.desk_program.specs.Attached.{AreAttached};
 ghost use Rattle.h263rps_run.specs.Output.{the_word};
-ghost use Rattle.h263rps_run.specs.Promises.{IsRun};
+ghost use Rattle.h263rps_run.specs.Promises.{IsReady, IsRun};
 
 use crate::Status;
 use audit_command::{Audit, laws as audit_command_laws};
@@ -39,10 +37,7 @@ pub(crate) fn call<D: Desk>(
     traced: bool,
     desk: &mut D,
 ) -> Status
-    requires report { AreAttached ((Report, []) ∷ []) (D.outside desk.old) }
-    requires names { HasNames (asked_of words.now) }
-    requires command { IsCommand words.now.command }
-    requires is { words.now.command ≡ commands.Call params traced }
+    requires { IsReady (asked_of words.now) (commands.Call params traced) (D.outside desk.old) }
     ensures { IsRun (Some (asked_of words.now)) result (D.outside desk.old) (D.outside desk.new) }
 {
     call_command_laws::refused_videos();
@@ -79,10 +74,7 @@ pub(crate) fn send<D: Desk>(
     target: Option<u32>,
     desk: &mut D,
 ) -> Status
-    requires report { AreAttached ((Report, []) ∷ []) (D.outside desk.old) }
-    requires names { HasNames (asked_of words.now) }
-    requires command { IsCommand words.now.command }
-    requires is { words.now.command ≡ commands.Send params target }
+    requires { IsReady (asked_of words.now) (commands.Send params target) (D.outside desk.old) }
     ensures { IsRun (Some (asked_of words.now)) result (D.outside desk.old) (D.outside desk.new) }
 {
     send_command_laws::refused_videos();
@@ -103,10 +95,7 @@ pub(crate) fn recv<D: Desk>(
     join: bool,
     desk: &mut D,
 ) -> Status
-    requires report { AreAttached ((Report, []) ∷ []) (D.outside desk.old) }
-    requires names { HasNames (asked_of words.now) }
-    requires command { IsCommand words.now.command }
-    requires is { words.now.command ≡ commands.Recv params join }
+    requires { IsReady (asked_of words.now) (commands.Recv params join) (D.outside desk.old) }
     ensures { IsRun (Some (asked_of words.now)) result (D.outside desk.old) (D.outside desk.new) }
 {
     recv_command_laws::no_video_refused();
@@ -130,11 +119,8 @@ pub(crate) fn demo<D: Desk>(
     terms: &DemoTerms,
     desk: &mut D,
 ) -> Status
-    requires report { AreAttached ((Report, []) ∷ []) (D.outside desk.old) }
-    requires names { HasNames (asked_of words.now) }
-    requires command { IsCommand words.now.command }
-    requires is { words.now.command
-        ≡ commands.Demo terms.now.params terms.now.seed terms.now.frames }
+    requires { IsReady (asked_of words.now)
+        (commands.Demo terms.now.params terms.now.seed terms.now.frames) (D.outside desk.old) }
     ensures { IsRun (Some (asked_of words.now)) result (D.outside desk.old) (D.outside desk.new) }
 {
     demo_command_laws::ends_well();
@@ -149,10 +135,7 @@ pub(crate) fn rate<D: Desk>(
     bucket: u32,
     desk: &mut D,
 ) -> Status
-    requires report { AreAttached ((Report, []) ∷ []) (D.outside desk.old) }
-    requires names { HasNames (asked_of words.now) }
-    requires command { IsCommand words.now.command }
-    requires is { words.now.command ≡ commands.Rate target bucket }
+    requires { IsReady (asked_of words.now) (commands.Rate target bucket) (D.outside desk.old) }
     ensures { IsRun (Some (asked_of words.now)) result (D.outside desk.old) (D.outside desk.new) }
 {
     rate_command_laws::no_video_refused();
@@ -167,10 +150,7 @@ pub(crate) fn audit<D: Desk>(
     params: Params,
     desk: &mut D,
 ) -> Status
-    requires report { AreAttached ((Report, []) ∷ []) (D.outside desk.old) }
-    requires names { HasNames (asked_of words.now) }
-    requires command { IsCommand words.now.command }
-    requires is { words.now.command ≡ commands.Audit params }
+    requires { IsReady (asked_of words.now) (commands.Audit params) (D.outside desk.old) }
     ensures { IsRun (Some (asked_of words.now)) result (D.outside desk.old) (D.outside desk.new) }
 {
     audit_command_laws::no_video_refused();
@@ -185,10 +165,7 @@ pub(crate) fn duplex<D: Desk>(
     params: Params,
     desk: &mut D,
 ) -> Status
-    requires report { AreAttached ((Report, []) ∷ []) (D.outside desk.old) }
-    requires names { HasNames (asked_of words.now) }
-    requires command { IsCommand words.now.command }
-    requires is { words.now.command ≡ commands.Duplex params }
+    requires { IsReady (asked_of words.now) (commands.Duplex params) (D.outside desk.old) }
     ensures { IsRun (Some (asked_of words.now)) result (D.outside desk.old) (D.outside desk.new) }
 {
     duplex_command_laws::refused_videos();

@@ -1,13 +1,10 @@
 //! The top call.
-ghost use Rattle.std.specs.Prelude.{◌≡◌, [], ◌∷◌, Some};
+ghost use Rattle.std.specs.Prelude.{◌≡◌, Some};
 ghost use Rattle.h263_outside.specs.Desk.{NoneAttached};
-ghost use Rattle.h263_outside.specs.declared.desk.Role.TheVariants.{Report};
-ghost use Rattle.command_words.specs.Asked.{HasNames, IsCommand};
 ghost use Rattle.command_words.specs.Clap.{texts};
 ghost use Rattle.command_words.specs.View.{asked_of};
-ghost use Rattle.desk_program.specs.Attached.{AreAttached};
 ghost use Rattle.h263rps_run.specs.Output.{command_of, word_stop};
-ghost use Rattle.h263rps_run.specs.Promises.{IsRun};
+ghost use Rattle.h263rps_run.specs.Promises.{IsReady, IsRun};
 
 use crate::Status;
 use crate::commands::{audit, call, demo, duplex, rate, recv, send};
@@ -29,9 +26,7 @@ fn unasked(stop: WordStop) -> Status
 
 // Runs the command of these words, on a desk on which the report alone is attached.
 fn carry_out<D: Desk>(alloc: Global, words: &Words<'_>, desk: &mut D) -> Status
-    requires report { AreAttached ((Report, []) ∷ []) (D.outside desk.old) }
-    requires names { HasNames (asked_of words.now) }
-    requires command { IsCommand words.now.command }
+    requires { IsReady (asked_of words.now) words.now.command (D.outside desk.old) }
     ensures { IsRun (Some (asked_of words.now)) result (D.outside desk.old) (D.outside desk.new) }
 {
     match words.command() {

@@ -5,7 +5,6 @@ use Rattle.h263_types.specs.declared.blocks.Mb.{Mb}
 use Rattle.h263_types.specs.declared.params.Params.{Params}
 use Rattle.h263_types.specs.declared.Mark.{Mark}
 use Rattle.h263_planes.specs.Picture.{Picture}
-use Rattle.packet_cutter.specs.Cutting.{packets_of}
 use Rattle.call_rings.specs.declared.sent_packets.SentPackets.{SentPackets}
 use Rattle.call_rings.specs.Keeping as ring
 use Rattle.call_model.specs.Coding.{Shown}

@@ -1,14 +1,13 @@
 -- What the run of both ends says of single events.
-use Rattle.std.proofs.Common.{◌≡◌, ℕ, List, [], ◌∷◌, ◌++◌, length, Option, Some, refl, sym, ap, ◌∙◌}
+use Rattle.std.proofs.Common.{◌≡◌, ℕ, List, [], ◌∷◌, ◌++◌, length, Option, Some, ap}
 use Rattle.std.specs.Prelude.{slice_get}
 use Rattle.std.specs.Option.{option_map_or}
 use Rattle.call_model.specs.Coding.{Rules, Coding, pictures_of}
 use Rattle.call_model.specs.CodedPictures.{Coded}
-use Rattle.call_model.specs.IdealCall.{Event, Send, Deliver, Call, ideal}
+use Rattle.call_model.specs.IdealCall.{Event, Send, Deliver}
 use Rattle.call_model.specs.Sending.{SenderEntry, Capture, next_coded, packets_of, after_capture}
 use Rattle.call_model.specs.Receiving.{ReceiverRun, ReceiverEntry, Packet}
-use Rattle.call_model.specs.JoinedRun.{Joined, joined, new_receiver, sender_entries, receiver_entries}
-use Rattle.call_model.specs.TwoStores.{EndsFollow}
+use Rattle.call_model.specs.JoinedRun.{Joined, joined, sender_entries, receiver_entries}
 
 module _ {Frame Style Mb Picture Fault MessageFault : Type 0} (coding : Coding Frame Style Mb Picture Fault MessageFault) (rules : Rules) (pace : List ℕ → ℕ) (frames : List Frame) where
   -- the next picture, of this frame

@@ -1,9 +1,7 @@
 -- Both ends after one event more.
-use Rattle.std.proofs.Common.{◌≡◌, ℕ, ◌-◌, ◌<◌, List, [], ◌∷◌, ◌++◌, length, Option, Some, None, sym, ap, subst, ◌∙◌}
-use Rattle.std.specs.Prelude.{slice_get, slice_index_or}
-use Rattle.std.proofs.lemmas.Option.{slice_get-get_or}
+use Rattle.std.proofs.Common.{◌≡◌, ℕ, ◌-◌, List, [], ◌∷◌, ◌++◌, length, Option, Some, None, sym, ap, subst, ◌∙◌}
+use Rattle.std.specs.Prelude.{slice_get}
 use Rattle.h263_types.specs.declared.params.Params.{Params}
-use Rattle.packet_cutter.specs.Cutting.{packets_of}
 use Rattle.std.specs.Option.{option_map_or}
 use Rattle.call_model.specs.IdealCall.{Event, Send, Deliver, Play, Back}
 use Rattle.call_model.specs.JoinedRun.{EachEndRuns, Joined, SaidMessage, sender_entries, receiver_entries}
@@ -76,13 +74,6 @@ module _ (p : Params) (runs : EachEndRuns (coding p) (rules_of p)) (pace : List 
       ∙ ap (λ (q : Params). sender_end.last_packets q pace sent_so) j.sender_params
       ∙ ap (λ (run : SenderRun Style Mb Picture). call.packets_of (encoding p) (rules_of p) run.coded (length run.coded - 1)) (sym sender_is)
       ∙ ap (λ (k : ℕ). call.packets_of (encoding p) (rules_of p) both.sender.coded (k - 1)) (sym sent_is)
-
-  pub last_packet : (place : ℕ) (bytes : List ℕ) → place < length (sender.packets) → bytes ≡ slice_index_or (sender.packets) place []
-      → slice_get (call.packets_of (encoding p) (rules_of p) both.sender.coded (sender.sent - 1)) place ≡ Some bytes
-  last_packet place bytes below is =
-      ap (λ (l : List (List ℕ)). slice_get l place) (sym packets_are)
-      ∙ slice_get-get_or (sender.packets) place [] below
-      ∙ ap (λ (b : List ℕ). Some b) (sym is)
 
   -- ---- a picture is sent
 

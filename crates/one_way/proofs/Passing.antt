@@ -1,5 +1,5 @@
 -- The numbers of a call, and the count of one play more.
-use Rattle.std.proofs.Common.{◌≡◌, ℕ, ◌+◌, ◌<◌, ◌≤◌, List, ◌∷◌, refl, ap, ◌∙◌, arith}
+use Rattle.std.proofs.Common.{◌≡◌, ℕ, ◌+◌, ◌≤◌, List, ◌∷◌, refl, ap, ◌∙◌, arith}
 use Rattle.h263_types.specs.declared.Mark.{Mark}
 use Rattle.h263_types.specs.declared.Mark.TheVariants as marks
 use Rattle.h263_types.specs.declared.clock.Clock.{Clock}
@@ -15,10 +15,6 @@ use Rattle.receiver_end.specs.Answers.{mark_of}
 use Rattle.one_way.specs.declared.tally.Tally.{Tally}
 use Rattle.one_way.specs.Counts.{AreCounted, counted, one_exact, one_patched, one_held}
 use Rattle.one_way.specs.Both.{steady}
-
-pub half_some : (clock : Clock) → 0 < half_of clock
-half_some Standard = omega arith
-half_some Custom = omega arith
 
 -- half a period is 512 at most
 pub half_few : (clock : Clock) → half_of clock ≤ 512

@@ -11,7 +11,7 @@ ghost use Rattle.coded_call.specs.Bytes.{AreBytes};
 ghost use Rattle.recv_command.specs.Said.{back_text, shown_text};
 
 use back_messages::MessageBytes;
-use call_report::{Status, picture_line};
+use call_report::{PictureRow, Status, picture_line};
 use coded_call::laws as coded_call_laws;
 use desk_program::{laws as desk_program_laws, put_entry, put_line, put_picture};
 use h263_outside::{Desk, laws as outside_laws};
@@ -72,9 +72,12 @@ pub fn show<D: Desk>(desk: &mut D, picture: PictureRef<'_>, played: Played) -> R
     outside_laws::calls();
     desk_program_laws::of_turns();
     put_picture(desk, played.mark, picture)?;
-    put_line(
-        desk,
-        &picture_line(played.number, Some(played.mark), None, None),
-    )?;
+    let row = PictureRow {
+        party: None,
+        number: played.number,
+        mark: Some(played.mark),
+        reference: None,
+    };
+    put_line(desk, &picture_line(row))?;
     say(desk, played.message)
 }

@@ -1,10 +1,8 @@
 -- What is judged of a packet is what the rules say of it.
-use Rattle.std.proofs.Common.{◌∙◌, ap, None, ◌≡◌, ℕ, zero, suc, ◌-◌, ◌<◌, true, false, refl, sym, arith, inl, inr, Some, Option, List, ◌∷◌, Ok, eqb}
+use Rattle.std.proofs.Common.{◌∙◌, ap, None, ◌≡◌, ℕ, zero, suc, ◌-◌, ◌<◌, true, false, refl, sym, arith, inl, inr, Some, Option, List, Ok, eqb}
 use Rattle.std.specs.Option.{option_map, option_map_or}
-use Rattle.std.proofs.lemmas.Bool.{cases_Bool, eq-eqb, ne_eqb, false≢true}
+use Rattle.std.proofs.lemmas.Bool.{cases_Bool, eq-eqb, false≢true}
 use Rattle.h263_types.specs.declared.blocks.Mb.{Mb}
-use Rattle.h263_types.specs.declared.clock.Clock.{Clock}
-use Rattle.h263_types.specs.declared.clock.Clock.TheVariants.{Standard, Custom}
 use Rattle.h263_types.specs.Clocks.{half_of}
 use Rattle.packet_collector.specs.declared.piece.Piece.{Piece}
 use Rattle.call_model.specs.Coding as call
@@ -18,16 +16,10 @@ use Rattle.stream_audit.specs.declared.verdict.Rule.TheVariants as rule
 use Rattle.receiver_end.specs.Decoding.{decoding}
 use Rattle.call_encoding.specs.Messages.{read_message}
 use Rattle.stream_audit.specs.State.{Fits, Keeps, Spells}
-use Rattle.stream_audit.specs.Stream.{Item, Part, Picture, begun_by, StreamPicture, is_of, last_picture, with_packet, with_part}
-use Rattle.stream_audit.specs.Verdict.{broken_at, broken_by, broken_next, broken_within, present}
+use Rattle.stream_audit.specs.Stream.{Item, Part, StreamPicture, is_of, last_picture, with_packet, with_part}
+use Rattle.stream_audit.specs.Verdict.{broken_at, broken_by, broken_within, present}
 use Rattle.stream_audit.proofs.Headers.{same_header_is}
 use Rattle.stream_audit.proofs.Lists.{not_none}
-
-half_tells : (a b : Clock) → half_of a ≡ half_of b → a ≡ b
-half_tells Standard Standard e = refl
-half_tells Custom Custom e = refl
-half_tells Standard Custom e = absurd (omega (arith, e))
-half_tells Custom Standard e = absurd (omega (arith, e))
 
 positive : (n : ℕ) → (n ≡ 0 → ⊥) → 0 < n
 positive zero none = absurd (none refl)
@@ -64,11 +56,6 @@ module _ (k : Kept) (items : List (Item Style Mb)) (part : Part Style Mb) (piece
   same_half : piece.header.clock ≡ k.params.clock → eqb part.piece.header.half (half_of k.params.clock) ≡ true
   same_half same = eq-eqb part.piece.header.half (half_of k.params.clock) (half ∙ ap half_of same)
 
-  pub at_other : (piece.header.clock ≡ k.params.clock → ⊥) → Some (broken_at (k.pictures - 1) rule.Packet) ≡ By
-  at_other differ =
-      let no : eqb part.piece.header.half (half_of k.params.clock) ≡ false = ne_eqb part.piece.header.half (half_of k.params.clock) (λ (e : part.piece.header.half ≡ half_of k.params.clock). differ (half_tells piece.header.clock k.params.clock (sym half ∙ e))) in
-      ap (λ (n : ℕ). Some (broken_at n rule.Packet)) (sym here) ∙ sym (rw no refl)
-
   pub own_picture : is_of (last_picture items) part.piece ≡ true → (p : StreamPicture Style Mb) × (last_picture items ≡ Some p)
   own_picture own = go (last_picture items) refl own
     where
@@ -84,14 +71,8 @@ module _ (k : Kept) (items : List (Item Style Mb)) (part : Part Style Mb) (piece
       ∙ ap (option_map (broken_at (present items))) (at ∙ ap (λ (x : Option (StreamPicture Style Mb)). broken_within (decoding k.params.format) (read_message k.params.clock) (rules_of k.params) x part.piece) (sym is))
       ∙ sym (rw (same_half same, own) refl)
 
-  pub at_next : piece.header.clock ≡ k.params.clock → is_of (last_picture items) part.piece ≡ false → broken_next (decoding k.params.format) (read_message k.params.clock) (rules_of k.params) items part.piece ≡ By
-  at_next same next = sym (rw (same_half same, next) refl)
-
   pub kept_own : (new : Kept) → is_of (last_picture items) part.piece ≡ true → Keeps new (with_part items part) → Keeps new (with_packet items part)
   kept_own new own keeps' = rw own keeps'
-
-  pub kept_next : (new : Kept) → is_of (last_picture items) part.piece ≡ false → Keeps new (Picture (begun_by part) ∷ items) → Keeps new (with_packet items part)
-  kept_next new next keeps' = rw next keeps'
 
   -- a packet of the last picture that breaks nothing has its header
   pub one_header : IsDecoding (decoding k.params.format) (rules_of k.params) → (p : StreamPicture Style Mb) → None ≡ broken_within (decoding k.params.format) (read_message k.params.clock) (rules_of k.params) (Some p) part.piece → part.piece.header ≡ p.header

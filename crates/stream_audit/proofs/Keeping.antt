@@ -14,7 +14,7 @@ use Rattle.picture_header.specs.declared.header.Header.{Header}
 use Rattle.packet_collector.specs.declared.piece.Piece.{Piece}
 use Rattle.packet_collector.specs.declared.piece.Place.{Place}
 use Rattle.packet_collector.specs.declared.piece.Place.TheVariants as places
-use Rattle.packet_collector.specs.Taken.{Taken, TakenLaws, IsPlace, HasNoOther, HasOther, has_taken, has_any, is_whole}
+use Rattle.packet_collector.specs.Taken.{TakenLaws, IsPlace, HasNoOther, HasOther, has_taken, is_whole}
 use Rattle.packet_collector.specs.Taken as kept
 use Rattle.call_model.specs.Numbers.{all_below, AllBelowIs}
 use Rattle.call_model.specs.Coding as call
@@ -122,13 +122,6 @@ module _ (k : Kept) (items : List (Item Style Mb)) (keeps : Keeps k items) (rest
 
   named : (o : Option ℕ) → nearest_below (rules_of k.params) k.pictures rest ≡ o → nearest_below (rules_of k.params) (pictures_in items) rest ≡ o
   named o e = ap (λ (n : ℕ). nearest_below (rules_of k.params) n rest) (sym keeps.count) ∙ e
-
-  pub none_named : nearest_below (rules_of k.params) k.pictures rest ≡ None → Reference (nearest_below (rules_of k.params) (pictures_in items) rest) ≡ false
-  none_named e = ap Reference (named None e)
-
-  pub far_named : (m : ℕ) → nearest_below (rules_of k.params) k.pictures rest ≡ Some m → m + (k.params.slots - k.params.lead - 1) < k.pictures → Reference (nearest_below (rules_of k.params) (pictures_in items) rest) ≡ false
-  far_named m e lt =
-      ap Reference (named (Some m) e) ∙ far (rules_of k.params) known (pictures_in items) m (omega (arith, lt, keeps.count))
 
   pub near_named : (m : ℕ) → nearest_below (rules_of k.params) k.pictures rest ≡ Some m → k.pictures ≤ m + (k.params.slots - k.params.lead - 1) → Reference (nearest_below (rules_of k.params) (pictures_in items) rest) ≡ is_among known m
   near_named m e le =

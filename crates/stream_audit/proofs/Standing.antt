@@ -1,5 +1,5 @@
 -- What an audit stands for after one entry more.
-use Rattle.std.proofs.Common.{◌∙◌, ap, None, ◌≡◌, ℕ, ◌-◌, refl, sym, subst, Some, Option, List, ◌∷◌, Ok, Err, Result}
+use Rattle.std.proofs.Common.{◌∙◌, ap, None, ◌≡◌, ℕ, ◌-◌, sym, subst, Some, Option, List, ◌∷◌, Ok, Result}
 use Rattle.h263_bits.specs.declared.fault.Fault.{Fault}
 use Rattle.h263_types.specs.declared.blocks.Mb.{Mb}
 use Rattle.h263_types.specs.declared.params.Params.{Params}
@@ -12,7 +12,7 @@ use Rattle.stream_audit.specs.declared.verdict.Rule.TheVariants as rule
 use Rattle.stream_audit.specs.Logs.{broken_by_on, broken_in_on, first_broken_on, stream_on}
 use Rattle.stream_audit.specs.State.{IsJudged, Keeps, Stands}
 use Rattle.stream_audit.specs.Stream.{Feedback, Fed, LogEntry, Sent, with_bytes}
-use Rattle.stream_audit.specs.Verdict.{broken_at, first_of}
+use Rattle.stream_audit.specs.Verdict.{first_of}
 use Rattle.stream_audit.proofs.Lists.{not_none}
 
 pub none_left : (b : Broken) (o : Option Broken) → o ≡ Some b → o ≡ None → ⊥
@@ -32,15 +32,6 @@ module _ (k : Kept) (past : List LogEntry) (stands : Stands k past) (going : k.b
   first_is : (e : LogEntry) → first_broken_on k.params (e ∷ past) ≡ broken_in_on k.params (stream_on k.params past) e
   first_is e =
       ap (λ (o : Option Broken). first_of o (broken_in_on k.params (stream_on k.params past) e)) (sym stands.broken ∙ going)
-
-  pub unread : (bytes : List ℕ) (fault : Fault) → (decoding k.params.format).read bytes ≡ Err fault
-      → Stands (record k { broken = Some (broken_at (k.pictures - 1) rule.Packet) }) (Sent bytes ∷ past)
-  unread bytes fault read =
-      let now : Option Broken = Some (broken_at (k.pictures - 1) rule.Packet) in
-      let is : broken_in_on k.params (stream_on k.params past) (Sent bytes) ≡ now =
-      ap (broken_by_on k.params (stream_on k.params past)) read
-      ∙ ap (λ (n : ℕ). Some (broken_at (n - 1) rule.Packet)) (sym (stands.keeps going).count) in
-      record { broken = sym (first_is (Sent bytes) ∙ is); keeps = λ none. absurd (none_left _ now refl none) }
 
   pub judged : (new : Kept) (bytes : List ℕ) (q : call.Piece Style Mb) → new.params ≡ k.params
       → (decoding k.params.format).read bytes ≡ Ok q

@@ -6,7 +6,7 @@ ghost use Rattle.h263_outside.specs.declared.desk.Role.TheVariants.{Video, Event
 ghost use Rattle.h263_outside.specs.declared.desk.Role.TheVariants.{Report};
 
 use crate::by_words::check;
-use call_command::{Terms, converse};
+use call_command::{Begun, Terms, converse};
 use call_report::Status;
 use desk_program::attach_all;
 use h263_outside::{Desk, MemoryDesk, Role};
@@ -443,38 +443,24 @@ fn conversed(alloc: Global) -> Result<(Status, bool, bool), OutOfMemory> {
     desk.put(Role::Video, &joined(alloc, DARKER)?)?;
     desk.put(Role::Events, b"")?;
     attach_roles(&mut desk)?;
-    let Ok(mut video) = Y4mReader::head(&mut desk) else {
+    let Ok(video) = Y4mReader::head(&mut desk) else {
         return Err(OutOfMemory);
     };
     let params = Params::of(video.format());
-    let pace = FixedPace {
-        quant: params.quant,
+    let both = Both::start(alloc, &params)?;
+    let mut call = Begun {
+        terms: Terms {
+            params,
+            plain: true,
+        },
+        video,
+        both,
     };
-    let mut sender = Sender::start(alloc, &params, pace)?;
-    let mut receiver = match Receiver::start(alloc, &params) {
-        Ok(receiver) => receiver,
-        Err(_) => {
-            sender.finish();
-            return Err(OutOfMemory);
-        }
-    };
-    let terms = Terms {
-        params,
-        plain: true,
-    };
-    let status = match hear_another(alloc, &params, &mut receiver) {
-        Ok(()) => converse(
-            alloc,
-            &mut desk,
-            &terms,
-            &mut video,
-            &mut sender,
-            &mut receiver,
-        ),
+    let status = match hear_another(alloc, &params, &mut call.both.receiver) {
+        Ok(()) => converse(alloc, &mut desk, &mut call),
         Err(_) => Status::OutOfMemory,
     };
-    sender.finish();
-    receiver.finish();
+    call.finish();
     if status == Status::OutOfMemory {
         return Err(OutOfMemory);
     }
@@ -504,24 +490,21 @@ fn refused(alloc: Global, trace: &[u8]) -> Result<(Status, bool), OutOfMemory> {
     desk.put(Role::Video, &joined(alloc, TWO)?)?;
     desk.put(Role::Events, trace)?;
     attach_roles(&mut desk)?;
-    let Ok(mut video) = Y4mReader::head(&mut desk) else {
+    let Ok(video) = Y4mReader::head(&mut desk) else {
         return Err(OutOfMemory);
     };
     let params = Params::of(video.format());
-    let mut both = Both::start(alloc, &params)?;
-    let terms = Terms {
-        params,
-        plain: false,
+    let both = Both::start(alloc, &params)?;
+    let mut call = Begun {
+        terms: Terms {
+            params,
+            plain: false,
+        },
+        video,
+        both,
     };
-    let status = converse(
-        alloc,
-        &mut desk,
-        &terms,
-        &mut video,
-        &mut both.sender,
-        &mut both.receiver,
-    );
-    both.finish();
+    let status = converse(alloc, &mut desk, &mut call);
+    call.finish();
     let mut rest = vec![in alloc; 0; 40_000]?;
     let Ok(count) = desk.read(Role::Video, &mut rest) else {
         return Err(OutOfMemory);

@@ -6,8 +6,7 @@ use Rattle.y4m.specs.Text.{head_text}
 use Rattle.call_report.specs.Status.{video_stop}
 use Rattle.desk_program.specs.Ends.{Gains, GainsFronts}
 use Rattle.desk_program.specs.Texts.{on}
-use Rattle.call_command.specs.declared.call.Begun.{Begun}
-use Rattle.call_command.specs.declared.terms.Terms.{Terms}
+use Rattle.call_command.specs.declared.begun.Begun.{Begun}
 use Rattle.call_command.specs.Call.{CallState, call_begin, first_state, may_read, with_format}
 use Rattle.call_command.specs.Converse.{IsFirst}
 use Rattle.call_command.proofs.Starting.{in_format}
@@ -15,14 +14,14 @@ use Rattle.call_command.proofs.FrameTurning.{cut_gives, head_cut, head_goes, hea
 use Rattle.call_command.proofs.call.begin.Goals as goal
 
 -- what was begun stands before the first event
-abbrev begun_first : Terms → Begun → CallState → (Role → List ℕ) → Type 0
-begun_first t begun = IsFirst (record { params = begun.params; plain = t.plain }) begun.video.at
+abbrev begun_first : Begun → CallState → (Role → List ℕ) → Type 0
+begun_first begun = IsFirst begun.terms begun.video.at
 
 pub returns-in_err-video-clause-gives : goal.returns-in_err-video-clause-gives
 returns-in_err-video-clause-gives g c = λ inputs told.
     let outside = g.D.Desk.outside in
     let t = c.args.setup.now in
-    start_gives c.from_residual.result (video_stop c.in_err-video.field-0.0) (call_begin t inputs) (begun_first t) may_read inputs (outside c.args.desk.now) (outside c.head.new.desk) c.from_residual.ensures.1
+    start_gives c.from_residual.result (video_stop c.in_err-video.field-0.0) (call_begin t inputs) begun_first may_read inputs (outside c.args.desk.now) (outside c.head.new.desk) c.from_residual.ensures.1
     (head_stops c.of_turns.ensures c.of_the_video.ensures inputs (outside c.args.desk.now) (outside c.head.new.desk) told c.head.ensures.others c.head.ensures.rest.written t c.in_err-video.field-0.0
     (c.in_err-video.ensures.gives (inputs Video) (told Video refl)))
 
@@ -42,10 +41,10 @@ returns-clause-gives g c = λ inputs told.
     let outside = g.D.Desk.outside in
     let t = c.args.setup.now in
     let video = c.in_ok-video.video in
-    let begun : Begun = record { params = record t.params { format = c.format.result }; video = video; both = c.in_ok-both.both } in
+    let begun : Begun = record { terms = record t { params = record t.params { format = c.format.result } }; video = video; both = c.in_ok-both.both } in
     let e = c.in_ok-video.ensures.gives (inputs Video) (told Video refl) in
     head_goes c.of_turns.ensures c.of_the_video.ensures inputs (outside c.args.desk.now) (outside c.head.new.desk) told c.head.ensures.others c.head.ensures.rest.written
-    (outside c.put_head.new.desk) c.put_head.ensures.rest.left t video.format e.0 e.2 (begun_first t begun)
+    (outside c.put_head.new.desk) c.put_head.ensures.rest.left t video.format e.0 e.2 (begun_first begun)
     (λ i. first_state (with_format t (sym c.format.ensures i)) [] (sym e.1 i))
     (subst (λ (f : Format). Gains (on Pictures (head_text f)) (outside c.head.new.desk).written (outside c.put_head.new.desk).written) c.format.ensures c.in_default.ensures.ok)
 

@@ -1,4 +1,4 @@
-use Rattle.std.proofs.Common.{◌∙◌, subst}
+use Rattle.std.proofs.Common.{◌∙◌, refl, subst}
 use Rattle.call_report.specs.declared.status.Status.{Status}
 use Rattle.command_words.specs.Clap.{texts}
 use Rattle.command_words.specs.View.{asked_of}
@@ -26,8 +26,16 @@ returns-in-Err-read g c =
     (stopped_run words c.in-Err-read.stop mid new c.in-Err-read.ensures.answer (report_alone old mid c.requires attached.attached attached.name)
     c.finish.ensures.rest c.finish.result (subst (λ (s : Status). Finishes s c.finish.result mid new) c.unasked.ensures c.finish.ensures.told))
 
-pub carry_out-requires-clause-names : goal.carry_out-requires-clause-names
-carry_out-requires-clause-names g c = c.names_are_given.ensures (texts c.args.words.now) (asked_of c.in-Ok.words) c.in-Ok.ensures.answer
+pub carry_out-requires : goal.carry_out-requires
+carry_out-requires g c =
+    let outside = g.D.Desk.outside in
+    let attached = c.in_default.ensures in
+    record {
+      is = refl;
+      command = c.in-Ok.ensures.ready;
+      names = c.names_are_given.ensures (texts c.args.words.now) (asked_of c.in-Ok.words) c.in-Ok.ensures.answer;
+      report = report_alone (outside c.args.desk.now) (outside c.attach_role.new.desk) c.requires attached.attached attached.name;
+    }
 
 pub returns : goal.returns
 returns g c =

@@ -29,7 +29,7 @@ use Rattle.call_command.specs.declared.carrier.Carrier.{Carrier}
 use Rattle.call_command.specs.Call.{CallState, may_read}
 use Rattle.call_command.specs.Standing.{PartsStand, parts_of, state_of}
 use Rattle.call_command.specs.Turning.{Names, names_of}
-use Rattle.call_command.proofs.Counting.{counts_are, plainly, reads_keep, reads_then_writes, turn_gave_up, turn_goes_on, turn_is_over, turn_was_cut, video_answers, video_cause, video_stops}
+use Rattle.call_command.proofs.Counting.{counts_are, plainly, turn_gave_up, turn_goes_on, turn_is_over, turn_was_cut, video_answers}
 use Rattle.call_command.proofs.Framing.{among_last, at, count_of, may_deliver, may_play, may_send, stands_after, texts_are}
 use Rattle.call_command.proofs.FrameTurning.{end_cut, frame_cut, frame_goes, frame_stops, given_so, gives_so, lent, video_ends}
 use Rattle.call_command.proofs.Readying.{can_still, few_mbs, plain_keeps, ready_so}
@@ -43,8 +43,8 @@ returns-in_err-frame g c =
     let m = c.args.self.now in
     let x = parts_of m in
     let stop = c.in_err-frame.field-0.0 in
-    turn_gave_up m _ old mid c.from_residual.result (video_stop stop) c.from_residual.ensures.1 refl (video_answers m.terms.plain stop) (video_stops stop)
-    (video_cause stop old.faults mid.faults (λ is. c.in_err-frame.ensures.cause (ap (λ e. Err e) is))) (reads_keep old mid c.frame.ensures.rest)
+    turn_gave_up m _ old mid c.from_residual.result (video_stop stop) c.from_residual.ensures.1 refl (video_answers m.terms.plain stop) (c.of_steps.ensures.video_stops stop)
+    (c.of_steps.ensures.video_cause stop old.faults mid.faults (λ is. c.in_err-frame.ensures.cause (ap (λ e. Err e) is))) (c.of_steps.ensures.reads old mid c.frame.ensures.rest)
     (λ s inputs k told.
     let here = state_of x s.before s.frames s.past in
     let e = gives_so (Err stop) here x.video c.frame.new.self (inputs Video) c.frame.new.out _ refl refl c.requires.ready.format (c.in_err-frame.ensures.gives (inputs Video) (told Video refl)) in
@@ -63,7 +63,7 @@ returns-in_err-tell_counts g c =
     let counts = counts_of x.carrier.network.way.tally x.receiver.played x.sender.sent in
     turn_was_cut m _ old new c.from_residual-in_err-tell_counts.result c.in_err-tell_counts.field-0.0 c.from_residual-in_err-tell_counts.ensures.1 refl c.in_err-tell_counts.ensures.kind
     (c.calls.ensures.rose_since old.faults.write mid.faults.write new.faults.write c.frame.ensures.rest.faults.write c.in_err-tell_counts.ensures.cause)
-    (reads_then_writes old mid new c.frame.ensures.rest c.tell_counts.ensures.rest)
+    (c.of_steps.ensures.both old mid new (c.of_steps.ensures.reads old mid c.frame.ensures.rest) (c.of_steps.ensures.writes mid new c.tell_counts.ensures.rest))
     (λ s inputs k told.
     let here = state_of x s.before s.frames s.past in
     let e = given_so (Ok c.in_ok-frame.field-0) (Ok false) here x.video c.frame.new.self (inputs Video) c.frame.new.out _ (ap (λ (b : Bool). Ok b) c.if-not-branch.true) refl refl c.requires.ready.format (c.in_ok-frame.ensures.gives (inputs Video) (told Video refl)) in
@@ -80,7 +80,7 @@ returns-then-not-branch g c =
     let m = c.args.self.now in
     let x = parts_of m in
     let counts = counts_of x.carrier.network.way.tally x.receiver.played x.sender.sent in
-    turn_is_over m _ old new refl (reads_then_writes old mid new c.frame.ensures.rest c.tell_counts.ensures.rest)
+    turn_is_over m _ old new refl (c.of_steps.ensures.both old mid new (c.of_steps.ensures.reads old mid c.frame.ensures.rest) (c.of_steps.ensures.writes mid new c.tell_counts.ensures.rest))
     (λ s inputs k told.
     let here = state_of x s.before s.frames s.past in
     let e = given_so (Ok c.in_ok-frame.field-0) (Ok false) here x.video c.frame.new.self (inputs Video) c.frame.new.out _ (ap (λ (b : Bool). Ok b) c.if-not-branch.true) refl refl c.requires.ready.format (c.in_ok-frame.ensures.gives (inputs Video) (told Video refl)) in
@@ -109,7 +109,7 @@ returns-in_err-play_next g c =
     turn_was_cut m _ old new c.from_residual-in_err-play_next.result c.in_err-play_next.field-0.0 c.from_residual-in_err-play_next.ensures.1
     (ap (λ (q : FixedPace). let names : Names = record (names_of m) { pace = q } in names) c.send-sent.ensures.same.pace) c.in_err-play_next.ensures.kind
     (c.calls.ensures.rose_since old.faults.write mid.faults.write new.faults.write c.frame.ensures.rest.faults.write c.in_err-play_next.ensures.cause)
-    (reads_then_writes old mid new c.frame.ensures.rest c.play_next.ensures.rest)
+    (c.of_steps.ensures.both old mid new (c.of_steps.ensures.reads old mid c.frame.ensures.rest) (c.of_steps.ensures.writes mid new c.play_next.ensures.rest))
     (λ s inputs k told.
     let here = state_of x s.before s.frames s.past in
     let level = r.level c.requires.plain in
@@ -167,7 +167,7 @@ returns g c =
     (λ plain. omega (arith, level, c.send-sent.ensures.sent, c.play_next.ensures.played, c.deliver_all.ensures.played))
     long (λ plain. r.unread plain) c.play_next.ensures.counted
     (omega (arith, r.said, c.play_next.ensures.few, c.deliver_all.ensures.few, ap said_of c.send-sent.ensures.messages, c.send-sent.ensures.ready.most, few_mbs sender.params.format, c.send-sent.ensures.sent)))
-    (reads_then_writes old mid new c.frame.ensures.rest c.play_next.ensures.rest)
+    (c.of_steps.ensures.both old mid new (c.of_steps.ensures.reads old mid c.frame.ensures.rest) (c.of_steps.ensures.writes mid new c.play_next.ensures.rest))
     (λ s inputs k told.
     let here = state_of x s.before s.frames s.past in
     let laws = c.of_the_way.ensures p in

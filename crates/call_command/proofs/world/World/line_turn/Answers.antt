@@ -12,7 +12,7 @@ use Rattle.desk_program.specs.Ends.{Ended, GainsFronts, GivesUp, step_texts}
 use Rattle.call_command.specs.Counts.{counts_of}
 use Rattle.call_command.specs.Call.{CallState}
 use Rattle.call_command.specs.Standing.{parts_of, state_of}
-use Rattle.call_command.proofs.Counting.{counts_are, line_by_line, reads_keep, reads_then_writes, trace_answers, trace_cause, trace_halts, turn_gave_up, turn_is_over, turn_was_cut}
+use Rattle.call_command.proofs.Counting.{counts_are, line_by_line, trace_answers, turn_gave_up, turn_is_over, turn_was_cut}
 use Rattle.call_command.proofs.LineTurning.{read_out, trace_cut, trace_ends, trace_stops}
 use Rattle.call_command.proofs.LineRead.{line_read, line_taken, ready_read, room_read}
 use Rattle.call_command.proofs.world.World.line_turn.Goals as goal
@@ -29,8 +29,8 @@ returns-in_err-line g c =
     let m = c.args.self.now in
     let x = parts_of m in
     let stop = c.in_err-line.field-0.0 in
-    turn_gave_up m _ old mid c.from_residual.result (trace_stop stop) c.from_residual.ensures.1 refl (trace_answers m.terms.plain c.requires.recorded stop) (trace_halts stop)
-    (trace_cause stop old.faults mid.faults (λ is. c.in_err-line.ensures.cause (ap (λ e. Err e) is))) (reads_keep old mid c.next.ensures.rest)
+    turn_gave_up m _ old mid c.from_residual.result (trace_stop stop) c.from_residual.ensures.1 refl (trace_answers m.terms.plain c.requires.recorded stop) (c.of_steps.ensures.trace_stops stop)
+    (c.of_steps.ensures.trace_cause stop old.faults mid.faults (λ is. c.in_err-line.ensures.cause (ap (λ e. Err e) is))) (c.of_steps.ensures.reads old mid c.next.ensures.rest)
     (λ s inputs k told.
     let here = state_of x s.before s.frames s.past in
     line_by_line x s inputs k.is c.requires.recorded (λ (step : Step CallState) (now : Bool). GivesUp (phase (trace_stop stop)) (trace_stop stop) step now inputs old mid)
@@ -48,7 +48,7 @@ returns-in_err-tell_counts g c =
     let x = parts_of m in
     turn_was_cut m _ old new c.from_residual-in_err-tell_counts.result c.in_err-tell_counts.field-0.0 c.from_residual-in_err-tell_counts.ensures.1 refl c.in_err-tell_counts.ensures.kind
     (c.calls.ensures.rose_since old.faults.write mid.faults.write new.faults.write c.next.ensures.rest.faults.write c.in_err-tell_counts.ensures.cause)
-    (reads_then_writes old mid new c.next.ensures.rest c.tell_counts.ensures.rest)
+    (c.of_steps.ensures.both old mid new (c.of_steps.ensures.reads old mid c.next.ensures.rest) (c.of_steps.ensures.writes mid new c.tell_counts.ensures.rest))
     (λ s inputs k told.
     let here = state_of x s.before s.frames s.past in
     let e = answered (Ok c.in_ok-line.field-0) (Ok None) x.carrier.trace c.next.new.self (inputs Events) _ (ap (λ (o : Option (ℕ × Line)). Ok o) c.in_default.is) (c.in_ok-line.ensures.gives (inputs Events) (told Events refl)) in
@@ -64,7 +64,7 @@ returns-in_default g c =
     let new = outside c.tell_counts.new.desk in
     let m = c.args.self.now in
     let x = parts_of m in
-    turn_is_over m _ old new refl (reads_then_writes old mid new c.next.ensures.rest c.tell_counts.ensures.rest)
+    turn_is_over m _ old new refl (c.of_steps.ensures.both old mid new (c.of_steps.ensures.reads old mid c.next.ensures.rest) (c.of_steps.ensures.writes mid new c.tell_counts.ensures.rest))
     (λ s inputs k told.
     let here = state_of x s.before s.frames s.past in
     let e = answered (Ok c.in_ok-line.field-0) (Ok None) x.carrier.trace c.next.new.self (inputs Events) _ (ap (λ (o : Option (ℕ × Line)). Ok o) c.in_default.is) (c.in_ok-line.ensures.gives (inputs Events) (told Events refl)) in
@@ -83,17 +83,17 @@ returns-in_default g c =
 pub event_turn-requires-clause-ready : goal.event_turn-requires-clause-ready
 event_turn-requires-clause-ready g c =
     let w = line_read c.args.self.now c.next.new.self c.in-Some.line c.in-Some.event (g.D.Desk.outside c.args.desk.now) (g.D.Desk.outside c.next.new.desk) (Ok c.in_ok-line.field-0) (ap (λ (o : Option (ℕ × Line)). Ok o) c.in-Some.is)
-    c.of_turns.ensures c.calls.ensures.rose_since c.requires.recorded c.in_ok-line.ensures.gives c.in_ok-line.ensures.moves c.next.ensures.others c.next.ensures.rest in
+    c.of_turns.ensures c.of_steps.ensures c.requires.recorded c.in_ok-line.ensures.gives c.in_ok-line.ensures.moves c.next.ensures.others c.next.ensures.rest in
     ready_read w c.requires.ready
 
 pub event_turn-requires-clause-room : goal.event_turn-requires-clause-room
 event_turn-requires-clause-room g c =
     let w = line_read c.args.self.now c.next.new.self c.in-Some.line c.in-Some.event (g.D.Desk.outside c.args.desk.now) (g.D.Desk.outside c.next.new.desk) (Ok c.in_ok-line.field-0) (ap (λ (o : Option (ℕ × Line)). Ok o) c.in-Some.is)
-    c.of_turns.ensures c.calls.ensures.rose_since c.requires.recorded c.in_ok-line.ensures.gives c.in_ok-line.ensures.moves c.next.ensures.others c.next.ensures.rest in
+    c.of_turns.ensures c.of_steps.ensures c.requires.recorded c.in_ok-line.ensures.gives c.in_ok-line.ensures.moves c.next.ensures.others c.next.ensures.rest in
     room_read w c.requires.ready
 
 pub returns : goal.returns
 returns g c =
     let w = line_read c.args.self.now c.next.new.self c.in-Some.line c.in-Some.event (g.D.Desk.outside c.args.desk.now) (g.D.Desk.outside c.next.new.desk) (Ok c.in_ok-line.field-0) (ap (λ (o : Option (ℕ × Line)). Ok o) c.in-Some.is)
-    c.of_turns.ensures c.calls.ensures.rose_since c.requires.recorded c.in_ok-line.ensures.gives c.in_ok-line.ensures.moves c.next.ensures.others c.next.ensures.rest in
+    c.of_turns.ensures c.of_steps.ensures c.requires.recorded c.in_ok-line.ensures.gives c.in_ok-line.ensures.moves c.next.ensures.others c.next.ensures.rest in
     line_taken w c.event_turn.new.self c.event_turn.result (g.D.Desk.outside c.event_turn.new.desk) c.event_turn.ensures

@@ -25,7 +25,7 @@ use Rattle.call_command.specs.Turning.{IsAsked, Names, names_of}
 use Rattle.call_command.proofs.After.{at_end, below_end}
 use Rattle.call_command.proofs.Behind.{format_is, refusal_here, refusal_later, stands_sent, video_format, video_more, video_place}
 use Rattle.call_command.proofs.Capturing.{frame_missing, frame_sent, frame_stops}
-use Rattle.call_command.proofs.Counting.{gave_up, goes_on, reads_keep, video_answers, video_cause, video_stops}
+use Rattle.call_command.proofs.Counting.{gave_up, goes_on, video_answers}
 use Rattle.call_command.proofs.FrameTurning.{given_so, gives_so, lent}
 use Rattle.call_command.proofs.Readying.{ready_so}
 use Rattle.call_command.proofs.world.World.send_frame.Goals as goal
@@ -40,8 +40,8 @@ returns-in_err-frame g c =
     let stop = c.in_err-frame.field-0.0 in
     let out = c.frame.new.out in
     gave_up m _ old mid (IsAsked x c.args.line old) (λ s inputs. capture_step s (inputs Events) (inputs Video)) (λ _. true) (more_of x + 1)
-    c.from_residual.result (video_stop stop) c.from_residual.ensures.1 refl (video_answers m.terms.plain stop) (video_stops stop)
-    (video_cause stop old.faults mid.faults (λ is. c.in_err-frame.ensures.cause (ap (λ e. Err e) is))) (reads_keep old mid c.frame.ensures.rest)
+    c.from_residual.result (video_stop stop) c.from_residual.ensures.1 refl (video_answers m.terms.plain stop) (c.of_steps.ensures.video_stops stop)
+    (c.of_steps.ensures.video_cause stop old.faults mid.faults (λ is. c.in_err-frame.ensures.cause (ap (λ e. Err e) is))) (c.of_steps.ensures.reads old mid c.frame.ensures.rest)
     (λ o s inputs b.
     let k = b.read.stood in
     let taken = b.read.taken in
@@ -59,7 +59,7 @@ returns-then-not-branch g c =
     let out = c.frame.new.out in
     let status = TraceRefused (NoFrame c.args.line) in
     gave_up m _ old mid (IsAsked x c.args.line old) (λ s inputs. capture_step s (inputs Events) (inputs Video)) (λ _. true) (more_of x + 1)
-    (Err status) status refl refl c.requires.recorded tt tt (reads_keep old mid c.frame.ensures.rest)
+    (Err status) status refl refl c.requires.recorded tt tt (c.of_steps.ensures.reads old mid c.frame.ensures.rest)
     (λ o s inputs b.
     let k = b.read.stood in
     let taken = b.read.taken in
@@ -91,7 +91,7 @@ returns g c =
     (ready_so x old.attached mid.attached r c.frame.ensures.rest.attached c.frame.new.self sender x.receiver carrier moves.0 send.ensures.same.params send.ensures.ready send.ensures.kept
     (omega (arith, r.sent, send.ensures.sent, moves.1)) (omega (arith, r.played, send.ensures.sent)) (λ plain. absurd (cc (plain, c.requires.recorded))) long
     (λ plain. absurd (cc (plain, c.requires.recorded))) (ap total_of send.ensures.tally ∙ r.counted) (omega (arith, r.said, ap said_of send.ensures.messages, send.ensures.sent)))
-    (reads_keep old mid c.frame.ensures.rest)
+    (c.of_steps.ensures.reads old mid c.frame.ensures.rest)
     (λ o s inputs b.
     let k = b.read.stood in
     let taken = b.read.taken in

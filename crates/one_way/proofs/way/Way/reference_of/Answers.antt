@@ -1,4 +1,4 @@
-use Rattle.std.proofs.Common.{◌≡◌, ℕ, ◌+◌, ◌<◌, length, map, Option, ◌∙◌, arith}
+use Rattle.std.proofs.Common.{◌≡◌, length, map, ◌∙◌, arith}
 use Rattle.h263_types.specs.declared.blocks.Mb.{Mb}
 use Rattle.h263_planes.specs.Picture.{Picture}
 use Rattle.call_model.specs.CodedPictures.{Coded}

@@ -1,5 +1,5 @@
-use Rattle.call_command.proofs.Counting.{cause_since, keeps_then, reads_keep, roles_same, trace_cause, trace_halts, video_cause, video_stops, writes_keep}
-use Rattle.call_command.proofs.laws.of_steps.Goals as goal
+use Rattle.desk_program.proofs.Steps.{cause_since, keeps_then, reads_keep, roles_same, trace_cause, trace_halts, video_cause, video_stops, writes_keep}
+use Rattle.desk_program.proofs.laws.of_steps.Goals as goal
 
 pub returns : goal.returns
 returns c = record {
