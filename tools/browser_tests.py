@@ -152,7 +152,8 @@ class BrowserTest(Room):
             browser.scheme(name)
             browser.value(UNTIL.format(f"matchMedia('(prefers-color-scheme: {name})').matches"))
             grounds.append(browser.value("coloursOf(document.documentElement).paper"))
-            self.assertEqual(browser.value("page.timeline.colours().paper"), grounds[-1])
+            # The time line hears of it by an event of its own.
+            browser.value(UNTIL.format("page.timeline.colours().paper === coloursOf(document.documentElement).paper"))
         self.assertNotEqual(*grounds)
 
     def test_all_that_is_pressed_has_a_name(self) -> None:
