@@ -485,7 +485,8 @@ class TwoHostsTest(Browsers):
         here.until("return phone.goingOn.ways.length === 2 && phone.goingOn.ways[1].last > 100")
         # A record may begin in the call: the other side only sees a pause.
         here.press("record")
-        here.until("return phone.state.folder && phone.status?.seconds > 4 && phone.status.recent.exact > 60")
+        here.until("return phone.state.folder && phone.status?.seconds < 3")
+        here.until("return phone.status.seconds > 4 && phone.status.recent.exact > 60")
         there.until("return phone.status.recent.exact > 60")
         folder = Path(here.value("return phone.state.folder"))
         here.press("hang_up")

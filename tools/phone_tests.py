@@ -483,6 +483,34 @@ class ServerTest(Room):
         self.assertEqual(told.pictures[0].number, 0)
 
     @needs_library
+    def test_a_hang_up_right_after_a_record_began_is_heard(self) -> None:
+        """The other side still follows the stream from before."""
+        here, there, told = free_port(), free_port(), []
+        self.phone._options = replace(self.phone._options, at="127.0.0.1", port=here)
+        places = ("127.0.0.2", there), ("127.0.0.1", here)
+        wanted = call.Wanted(settings(), *places, bad_network.BadNetwork(), None, in_process.library())
+
+        async def work() -> None:
+            other = call.PhoneCall(self.turns, wanted, lambda _: None)
+            other.on_over = told.append
+            async with self.opened() as page_:
+                await page_.send_str(json.dumps({**CALL, "host": "127.0.0.2", "port": there}))
+                while not (await self.words(page_, "state"))["calls"]:
+                    pass
+                for number in range(30):
+                    await page_.send_bytes(struct.pack("<d", number) + made.made_frame(QCIF, 1, number))
+                    await asyncio.sleep(0.033)
+                await page_.send_str('{"do": "record", "on": true}')
+                await page_.send_str('{"do": "hang up"}')
+                while (await self.words(page_, "state"))["calls"]:
+                    pass
+                await asyncio.sleep(1.5)
+
+        with contextlib.chdir(self.room):
+            self.with_session(work)
+        self.assertEqual(told, ["the other side has hung up"])
+
+    @needs_library
     def test_a_record_begins_in_a_call_with_another_side(self) -> None:
         """Both sides show exact pictures again a second and a half later, and go on to; the folder has both ways."""
         period, here, there = float(1 / y4m.RATE), free_port(), free_port()

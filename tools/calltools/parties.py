@@ -58,12 +58,13 @@ class Party:
         screen.on_gone, screen.on_fault = self._gone, self._fault
         self.screen, self.receiving = screen, receiving
 
-    def stop_camera(self) -> None:
-        """No more pictures, and the other party is told."""
+    def stop_camera(self, before: tuple[int, ...] = ()) -> None:
+        """No more pictures, and the other party is told, whichever of this side's streams it follows: this one, or one
+        from before."""
         if self.camera and self.sending:
             self.camera.stop()
-            for _ in range(_BYES):
-                self._line.control.send(bye_bytes(self.sending.source))
+            for source in (*before, self.sending.source) * _BYES:
+                self._line.control.send(bye_bytes(source))
 
     def stop(self) -> None:
         """Both ends finish; the receiving one plays what it has."""

@@ -42,6 +42,8 @@ class Wanted:
     network: BadNetwork
     folder: Optional[Path]
     library: ModuleType
+    # The streams that this side sent before in the same call: the other side may still follow one when it ends.
+    before: tuple[int, ...] = ()
 
 
 class PageCamera(Camera):
@@ -135,6 +137,12 @@ class PhoneCall:
     def folder(self) -> Optional[Path]:
         """Where it is recorded, if it is."""
         return self._recorder.folder
+
+    @property
+    def sources(self) -> tuple[int, ...]:
+        """The streams that this side has sent, this call's the last."""
+        sending = self._parties[0].sending
+        return (*self._wanted.before, sending.source) if sending else self._wanted.before
 
     @property
     def wanted(self) -> Wanted:
@@ -231,7 +239,7 @@ class PhoneCall:
             return
         self._is_ending, self._why = True, why
         for party in self._parties:
-            party.stop_camera()
+            party.stop_camera(self._wanted.before)
         way = self.network.delay + self.network.jitter if self.is_alone else 0.0
         until = self._turns.now() + way + self._settings.wait + _MORE
         self._turns.at(until, self._stop)

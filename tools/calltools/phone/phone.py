@@ -250,7 +250,7 @@ class Phone:
         call.on_over = lambda _: None
         call.renounce()
         self._call = None
-        self._begin(replace(call.wanted, folder=self._folder(), network=self._network))
+        self._begin(replace(call.wanted, folder=self._folder(), network=self._network, before=call.sources[-3:]))
 
     def _over(self, call: PhoneCall, why: str) -> None:
         self._tell_status(call)
