@@ -1,6 +1,6 @@
 //! The best of the vectors of whole samples within the radius.
 ghost use Rattle.std.specs.Prelude.{◌≡◌, ℕ, ◌+◌, ◌*◌, ◌<◌, ◌≤◌};
-ghost use Rattle.h263_types.specs.Sizes.{mbs_of};
+ghost use Rattle.h263_types.specs.Sizes.{mbs_of, width_of};
 ghost use Rattle.h263_planes.specs.Lent.{picture};
 ghost use Rattle.motion_search.specs.Cost.{candidate_of, IsCost};
 ghost use Rattle.motion_search.specs.Vectors.{zero_vector};
@@ -20,9 +20,10 @@ use h263_planes::PictureRef;
 use h263_types::{Format, Vector, reach};
 
 // The first of the vectors of whole samples within the radius. A low cost that is found early rules
-// out many of the others. So the one nearest to the guess is looked at before all others.
+// out many of the others. So the one nearest to the guess is looked at before all others. Each width
+// has code of its own, in which rows stand at known distances.
 #[inline(always)]
-fn best_in(
+fn best_in<const WIDTH: u32>(
     block: &[u8; 256],
     reference: PictureRef<'_>,
     mb: u32,
@@ -31,6 +32,7 @@ fn best_in(
     sums: &mut KeptSums,
     zero: Candidate,
 ) -> Candidate
+    requires width { width_of (picture reference).format ≡ WIDTH }
     requires mb { mb < mbs_of (picture reference).format }
     requires radius { radius ≤ 15 }
     requires zero { zero ≡ candidate_of block.now (picture reference) mb 0 zero_vector }
@@ -139,7 +141,7 @@ pub(crate) fn best_of_whole(
     let r = reference;
     // for each format by itself, so that its rows stand at distances that are known
     match reference.format() {
-        Format::SubQcif => best_in(
+        Format::SubQcif => best_in::<128>(
             block,
             known(r, Format::SubQcif),
             mb,
@@ -148,7 +150,15 @@ pub(crate) fn best_of_whole(
             sums,
             zero,
         ),
-        Format::Qcif => best_in(block, known(r, Format::Qcif), mb, radius, guess, sums, zero),
-        Format::Cif => best_in(block, known(r, Format::Cif), mb, radius, guess, sums, zero),
+        Format::Qcif => best_in::<176>(
+            block,
+            known(r, Format::Qcif),
+            mb,
+            radius,
+            guess,
+            sums,
+            zero,
+        ),
+        Format::Cif => best_in::<352>(block, known(r, Format::Cif), mb, radius, guess, sums, zero),
     }
 }

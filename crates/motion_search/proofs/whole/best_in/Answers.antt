@@ -17,14 +17,14 @@ use Rattle.motion_search.proofs.Places.{not_rounded, whole_not_rounded}
 use Rattle.motion_search.proofs.whole.best_in.Goals as goal
 
 pub invariant_of-window-clause-reaches : goal.invariant_of-window-clause-reaches
-invariant_of-window-clause-reaches c =
+invariant_of-window-clause-reaches g c =
     subst (λ (f : Format). (x y : ℤ) → InReach f c.args.mb x y ↔ IsWithin c.reach-reach.result x y) c.format-format.ensures.format c.reach-reach.ensures
 
 zero_first : (block : List ℕ) (p : Picture) (mb : ℕ) (zero : Candidate) → zero ≡ candidate_of block p mb 0 zero_vector → before (candidate_of block p mb 0 zero_vector) zero ≡ false
 zero_first block p mb zero e = subst (λ (d : Candidate). before (candidate_of block p mb 0 zero_vector) d ≡ false) (sym e) (not_itself (candidate_of block p mb 0 zero_vector))
 
 pub better_at-first-requires-clause-zero : goal.better_at-first-requires-clause-zero
-better_at-first-requires-clause-zero c = zero_first c.args.block.now (picture c.args.reference) c.args.mb c.args.zero c.requires.zero
+better_at-first-requires-clause-zero g c = zero_first c.args.block.now (picture c.args.reference) c.args.mb c.args.zero c.requires.zero
 
 -- the picture's height, and the row's place in it
 inside : (f g : Format) (mb n height : ℕ) → mb < mbs_of f → g ≡ f → n ≡ columns_of g → height ≡ height_of g → (16 * (mb / n) + 16 ≤ height) × (height < 60000) × (height ≡ height_of f)
@@ -34,34 +34,34 @@ inside f g mb n height h same columns e =
     (subst (λ (k : ℕ). 16 * (mb / k) + 16 ≤ height) (sym n') (omega (arith, e', top_inside f mb h)), omega (arith, e', height_small f), e')
 
 pub end_of_rows-end-requires-clause-top : goal.end_of_rows-end-requires-clause-top
-end_of_rows-end-requires-clause-top c = (inside (picture c.args.reference).format c.format-format.result c.args.mb c.columns-2.result c.height.result c.requires.mb c.format-format.ensures.format c.columns-2.ensures c.height.ensures).0
+end_of_rows-end-requires-clause-top g c = (inside (picture c.args.reference).format c.format-format.result c.args.mb c.columns-2.result c.height.result c.requires.mb c.format-format.ensures.format c.columns-2.ensures c.height.ensures).0
 
 pub end_of_rows-end-requires-clause-height : goal.end_of_rows-end-requires-clause-height
-end_of_rows-end-requires-clause-height c = (inside (picture c.args.reference).format c.format-format.result c.args.mb c.columns-2.result c.height.result c.requires.mb c.format-format.ensures.format c.columns-2.ensures c.height.ensures).1
+end_of_rows-end-requires-clause-height g c = (inside (picture c.args.reference).format c.format-format.result c.args.mb c.columns-2.result c.height.result c.requires.mb c.format-format.ensures.format c.columns-2.ensures c.height.ensures).1
 
 pub hold-requires-clause-order : goal.hold-requires-clause-order
-hold-requires-clause-order c =
+hold-requires-clause-order g c =
     let top = 16 * (c.args.mb / c.columns-2.result) in
     let is = inside (picture c.args.reference).format c.format-format.result c.args.mb c.columns-2.result c.height.result c.requires.mb c.format-format.ensures.format c.columns-2.ensures c.height.ensures in
     omega (arith, c.first_of_rows-from.ensures.first top (omega arith), c.end_of_rows-end.ensures.end top (omega arith) is.0)
 
 pub hold-requires-clause-room : goal.hold-requires-clause-room
-hold-requires-clause-room c = omega (arith, c.first_of_rows-from.ensures.near, c.end_of_rows-end.ensures.near, c.requires.radius)
+hold-requires-clause-room g c = omega (arith, c.first_of_rows-from.ensures.near, c.end_of_rows-end.ensures.near, c.requires.radius)
 
 pub hold-requires-clause-inside : goal.hold-requires-clause-inside
-hold-requires-clause-inside c =
+hold-requires-clause-inside g c =
     let is = inside (picture c.args.reference).format c.format-format.result c.args.mb c.columns-2.result c.height.result c.requires.mb c.format-format.ensures.format c.columns-2.ensures c.height.ensures in
     omega (arith, c.end_of_rows-end.ensures.inside, is.2)
 
 pub best_of_strips-requires-clause-held : goal.best_of_strips-requires-clause-held
-best_of_strips-requires-clause-held c = λ y low high within.
+best_of_strips-requires-clause-held g c = λ y low high within.
     let is = inside (picture c.args.reference).format c.format-format.result c.args.mb c.columns-2.result c.height.result c.requires.mb c.format-format.ensures.format c.columns-2.ensures c.height.ensures in (
       omega (arith, c.first_of_rows-from.ensures.first y low, c.hold.ensures.first),
       omega (arith, c.end_of_rows-end.ensures.end y high (omega (arith, within, is.2)), c.hold.ensures.end),
     )
 
 pub best_of_strips-requires-clause-so_far : goal.best_of_strips-requires-clause-so_far
-best_of_strips-requires-clause-so_far c =
+best_of_strips-requires-clause-so_far g c =
     let block = c.args.block.now in
     let p = picture c.args.reference in
     let mb = c.args.mb in
@@ -78,7 +78,7 @@ best_of_strips-requires-clause-so_far c =
     }
 
 pub returns-clause-best : goal.returns-clause-best
-returns-clause-best c = λ r.
+returns-clause-best g c = λ r.
     let block = c.args.block.now in
     let p = picture c.args.reference in
     let mb = c.args.mb in
