@@ -28,6 +28,12 @@ levels_at blocks k = (slice_index_or blocks k (record { levels = [] })).levels
 abbrev pub AreMarksOf : List Block → List ℕ → Type 0
 AreMarksOf blocks marks = (k : ℕ) → k < 6 → slice_index_or marks k 0 ≡ marks_of (levels_at blocks k)
 
+-- and those of a macroblock's blocks, if it has any
+abbrev pub HasMarks : Mb → List ℕ → Type 0
+HasMarks Skip marks = Unit {0}
+HasMarks (Intra quant blocks) marks = AreMarksOf blocks marks
+HasMarks (Inter quant vector blocks) marks = AreMarksOf blocks marks
+
 -- whether a block of an inter macroblock is coded: a level isn't 0
 abbrev pub has_levels : List ℤ → Bool
 has_levels levels = not (none_left levels)

@@ -3,8 +3,9 @@
 //!
 //! `specs/Text` gives the syntax of a macroblock, and `specs/Written` the text that is written of
 //! it. [`read_mb`] finds exactly what the syntax says, or the first fault at its place, and
-//! [`write_mb`] writes what is read again. A macroblock is an [`Mb`](h263_types::Mb); [`predictor`]
-//! is the vector that its own is coded against.
+//! [`write_mb`] writes what is read again, [`write_marked`] the same from marks that are known. A
+//! macroblock is an [`Mb`](h263_types::Mb); [`predictor`] is the vector that its own is coded
+//! against.
 //!
 //! ```rust
 //! // not coded where the first bit is 1; after it the reader stands at bit 1
@@ -21,4 +22,4 @@ mod writing;
 
 pub use prediction::predictor;
 pub use reading::{pass_skipped, read_mb};
-pub use writing::write_mb;
+pub use writing::{marks_in, write_marked, write_mb};

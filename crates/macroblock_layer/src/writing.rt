@@ -12,7 +12,7 @@ ghost use Rattle.code_tables.specs.Mcbpc.{IsInTable};
 ghost use Rattle.code_tables.specs.Tables.{bit_of, cbpy_text};
 ghost use Rattle.block_layer.specs.Text.{none_left, is_coded, coded_in, intra_text, inter_text};
 ghost use Rattle.macroblock_layer.specs.Text.{wrapped, IsMbText};
-ghost use Rattle.macroblock_layer.specs.Written.{levels_at, AreMarksOf, cbpy_of, cbpc_of, class_of, cod_text, class_text, step_text, head_text, vector_text, blocks_text, intra_mb_text, inter_mb_text, mb_text, IsNear, IsStepped, IsReached};
+ghost use Rattle.macroblock_layer.specs.Written.{levels_at, AreMarksOf, HasMarks, cbpy_of, cbpc_of, class_of, cod_text, class_text, step_text, head_text, vector_text, blocks_text, intra_mb_text, inter_mb_text, mb_text, IsNear, IsStepped, IsReached};
 
 use crate::laws;
 use crate::reading::wrapped;
@@ -21,12 +21,11 @@ use code_tables::{MbClass, Mcbpc, write_cbpy, write_dquant, write_mcbpc, write_m
 use h263_bits::BitWriter;
 use h263_types::{Block, Kind, Mb, Vector};
 
-// Which of the six blocks are coded, and the marks by which that was found.
+// Which of the six blocks are coded.
 #[derive(Clone, Copy)]
 struct Pattern {
     cbpy: u8,
     cbpc: u8,
-    marks: [u64; 6],
 }
 
 fn cbpy(a: bool, b: bool, c: bool, d: bool) -> u8
@@ -58,16 +57,30 @@ fn marks_of_six(blocks: &[Block; 6]) -> [u64; 6]
     ]
 }
 
-// Which of the six blocks of a macroblock are coded.
-fn pattern_of(intra: bool, blocks: &[Block; 6]) -> Pattern
-    ensures cbpy { result.cbpy ≡ cbpy_of (coded_in intra) blocks.now }
-    ensures cbpc { result.cbpc ≡ cbpc_of (coded_in intra) blocks.now }
-    ensures marks { AreMarksOf blocks.now result.marks }
+/// The marks of a macroblock's six blocks, for [`write_marked`]: zeros where it has none.
+pub fn marks_in(mb: &Mb) -> [u64; 6]
+    ensures { HasMarks mb.now result }
+{
+    match mb {
+        Mb::Skip => [0; 6],
+        Mb::Intra { quant: _, blocks } => marks_of_six(blocks),
+        Mb::Inter {
+            quant: _,
+            vector: _,
+            blocks,
+        } => marks_of_six(blocks),
+    }
+}
+
+// Which of the six blocks of a macroblock are coded, by their marks.
+fn pattern_by(intra: bool, marks: &[u64; 6]) -> Pattern
+    ensures cbpy { (blocks : List Block)
+        → AreMarksOf blocks marks.now → result.cbpy ≡ cbpy_of (coded_in intra) blocks }
+    ensures cbpc { (blocks : List Block)
+        → AreMarksOf blocks marks.now → result.cbpc ≡ cbpc_of (coded_in intra) blocks }
     ensures cbpy_below { result.cbpy < 16 }
     ensures cbpc_below { result.cbpc < 4 }
-    ensures whole { AreWhole blocks.now }
 {
-    let marks = marks_of_six(blocks);
     let a = is_coded_by(intra, marks[0]);
     let b = is_coded_by(intra, marks[1]);
     let c = is_coded_by(intra, marks[2]);
@@ -77,7 +90,6 @@ fn pattern_of(intra: bool, blocks: &[Block; 6]) -> Pattern
     Pattern {
         cbpy: cbpy(a, b, c, d),
         cbpc: cbpc(e, f),
-        marks,
     }
 }
 
@@ -185,9 +197,9 @@ fn write_vector(writer: &mut BitWriter<'_>, predictor: Vector, vector: Vector)
     write_mvd(writer, difference_along(vector, predictor));
 }
 
-fn write_intra_blocks(writer: &mut BitWriter<'_>, blocks: &[Block; 6], marks: [u64; 6])
+fn write_intra_blocks(writer: &mut BitWriter<'_>, blocks: &[Block; 6], marks: &[u64; 6])
     requires blocks { All (λ (b : Block). IsIntraBlock b) blocks.now }
-    requires marks { AreMarksOf blocks.now marks }
+    requires marks { AreMarksOf blocks.now marks.now }
     requires whole { AreWhole blocks.now }
     requires room { len_of writer.old + length (blocks_text intra_text blocks.now)
         ≤ room_of writer.old }
@@ -200,9 +212,9 @@ fn write_intra_blocks(writer: &mut BitWriter<'_>, blocks: &[Block; 6], marks: [u
     }
 }
 
-fn write_inter_blocks(writer: &mut BitWriter<'_>, blocks: &[Block; 6], marks: [u64; 6])
+fn write_inter_blocks(writer: &mut BitWriter<'_>, blocks: &[Block; 6], marks: &[u64; 6])
     requires blocks { All (λ (b : Block). IsInterBlock b) blocks.now }
-    requires marks { AreMarksOf blocks.now marks }
+    requires marks { AreMarksOf blocks.now marks.now }
     requires whole { AreWhole blocks.now }
     requires room { len_of writer.old + length (blocks_text inter_text blocks.now)
         ≤ room_of writer.old }
@@ -218,20 +230,28 @@ fn write_inter_blocks(writer: &mut BitWriter<'_>, blocks: &[Block; 6], marks: [u
 // The longest text of a macroblock has at most this many bits: 18 before the vector, 26 of the
 // vector, and 1,408 of each block.
 #[tactic(auto, unfolding(crate::specs::Written::intra_mb_text))]
-fn write_intra_mb(writer: &mut BitWriter<'_>, kind: Kind, quant: u8, new: u8, blocks: &[Block; 6])
+fn write_intra_mb(
+    writer: &mut BitWriter<'_>,
+    kind: Kind,
+    quant: u8,
+    new: u8,
+    blocks: &[Block; 6],
+    marks: &[u64; 6],
+)
     requires quant { quant ≤ 31 }
     requires mb { IsIntraMb new blocks.now }
+    requires marks { AreMarksOf blocks.now marks.now }
+    requires whole { AreWhole blocks.now }
     requires near { IsNear quant new }
     requires room { len_of writer.old + 8492 ≤ room_of writer.old }
     ensures bits { Appends writer.old writer.new (intra_mb_text kind quant new blocks.now) }
     ensures len { len_of writer.new
         ≡ len_of writer.old + length (intra_mb_text kind quant new blocks.now) }
-    ensures whole { AreWhole blocks.now }
 {
     block_layer::laws::in_a_syntax();
-    let pattern = pattern_of(true, blocks);
+    let pattern = pattern_by(true, marks);
     write_head(writer, kind, quant, new, true, pattern);
-    write_intra_blocks(writer, blocks, pattern.marks);
+    write_intra_blocks(writer, blocks, marks);
 }
 
 #[tactic(auto, unfolding(crate::specs::Written::inter_mb_text))]
@@ -242,22 +262,24 @@ fn write_inter_mb(
     new: u8,
     vector: Vector,
     blocks: &[Block; 6],
+    marks: &[u64; 6],
 )
     requires quant { quant ≤ 31 }
     requires mb { IsInterMb new vector blocks.now }
+    requires marks { AreMarksOf blocks.now marks.now }
+    requires whole { AreWhole blocks.now }
     requires near { IsNear quant new }
     requires room { len_of writer.old + 8492 ≤ room_of writer.old }
     ensures bits { Appends writer.old writer.new
         (inter_mb_text quant predictor new vector blocks.now) }
     ensures len { len_of writer.new
         ≡ len_of writer.old + length (inter_mb_text quant predictor new vector blocks.now) }
-    ensures whole { AreWhole blocks.now }
 {
     block_layer::laws::in_a_syntax();
-    let pattern = pattern_of(false, blocks);
+    let pattern = pattern_by(false, marks);
     write_head(writer, Kind::P, quant, new, false, pattern);
     write_vector(writer, predictor, vector);
-    write_inter_blocks(writer, blocks, pattern.marks);
+    write_inter_blocks(writer, blocks, marks);
 }
 
 /// Writes a macroblock of a picture of this kind (H.263, 5.3), whose quantiser is within 2 of
@@ -277,14 +299,44 @@ pub fn write_mb(writer: &mut BitWriter<'_>, kind: Kind, quant: u8, predictor: Ve
     ensures spells { (reach : Reach) → IsReached reach mb.now
         → IsMbText kind quant reach predictor mb.now (mb_text kind quant predictor mb.now) }
 {
+    write_marked(writer, kind, quant, predictor, mb, &marks_in(mb));
+}
+
+/// The same as [`write_mb`], where the marks of the macroblock's blocks are known: so they aren't
+/// found again.
+pub fn write_marked(
+    writer: &mut BitWriter<'_>,
+    kind: Kind,
+    quant: u8,
+    predictor: Vector,
+    mb: &Mb,
+    marks: &[u64; 6],
+)
+    requires quant { IsQuant quant }
+    requires mb { IsMb mb.now }
+    requires marks { HasMarks mb.now marks.now }
+    requires kind { IsOfKind kind mb.now }
+    requires step { IsStepped quant mb.now }
+    requires room { len_of writer.old + 8492 ≤ room_of writer.old }
+    ensures bits { Appends writer.old writer.new (mb_text kind quant predictor mb.now) }
+    ensures len { len_of writer.new
+        ≡ len_of writer.old + length (mb_text kind quant predictor mb.now) }
+    ensures short { length (mb_text kind quant predictor mb.now) ≤ 8492 }
+    // It is a text of the macroblock, where its vector, if it has one, is in reach.
+    ensures spells { (reach : Reach) → IsReached reach mb.now
+        → IsMbText kind quant reach predictor mb.now (mb_text kind quant predictor mb.now) }
+{
     laws::in_a_syntax();
+    mb.is_whole();
     match mb {
         Mb::Skip => writer.put(1, 1),
-        Mb::Intra { quant: new, blocks } => write_intra_mb(writer, kind, quant, *new, blocks),
+        Mb::Intra { quant: new, blocks } => {
+            write_intra_mb(writer, kind, quant, *new, blocks, marks)
+        }
         Mb::Inter {
             quant: new,
             vector,
             blocks,
-        } => write_inter_mb(writer, quant, predictor, *new, *vector, blocks),
+        } => write_inter_mb(writer, quant, predictor, *new, *vector, blocks, marks),
     }
 }
