@@ -13,12 +13,14 @@ ghost use Rattle.h263_planes.specs.References.{HasReference};
 ghost use Rattle.h263_planes.specs.Samples.{Inside, IsPicture, sample_at};
 ghost use Rattle.h263_planes.specs.Work.{loan_of, work};
 ghost use Rattle.half_sample.specs.Macroblock.{IsPredictionOf};
+ghost use Rattle.picture_recon.specs.Marks.{AreMarkedIn, HasMarked};
 ghost use Rattle.picture_recon.specs.Samples.{sample_in};
 ghost use Rattle.picture_recon.specs.Shown.{SetsMb};
 
 use crate::coded::{Coding, draw_blocks};
 use crate::predicted::put_inter;
 use crate::skipped::put_skipped;
+use crate::values::marks_of_six;
 use h263_planes::{PictureMut, PictureRef};
 use h263_types::{Block, Format, Mb, SliceHead};
 use half_sample::{Predicted, predict};
@@ -55,7 +57,10 @@ pub fn recon_mb(
                 put_skipped(picture, at, header.format, out);
             }
         }
-        Mb::Intra { quant, blocks } => put_intra(*quant, blocks, at, header.format, out),
+        Mb::Intra { quant, blocks } => {
+            let marks = marks_of_six(blocks);
+            put_intra(*quant, blocks, &marks, at, header.format, out)
+        }
         Mb::Inter {
             quant,
             vector,
@@ -63,16 +68,18 @@ pub fn recon_mb(
         } => {
             if let Some(picture) = reference {
                 let predicted = predict(picture, at, *vector, header.rounding);
-                put_inter(&predicted, *quant, blocks, at, header.format, out);
+                let marks = marks_of_six(blocks);
+                put_inter(&predicted, *quant, blocks, &marks, at, header.format, out);
             }
         }
     }
 }
 
-/// The same as [`recon_mb`], where what the vector of an inter macroblock predicts is known: so it
-/// isn't predicted again.
+/// The same as [`recon_mb`], where the marks of the macroblock's blocks are known, and what the
+/// vector of an inter macroblock predicts: so neither is found again.
 pub fn recon_predicted(
     mb: &Mb,
+    marks: &[u64; 6],
     predicted: &Predicted,
     at: u32,
     header: &Header,
@@ -89,6 +96,7 @@ pub fn recon_predicted(
     requires reach { ReachesInside header.now.format at mb.now }
     requires predicted { IsPredictionOf header.now.rounding (option_map picture reference)
         at mb.now predicted.now }
+    requires marks { HasMarked mb.now marks.now }
     ensures same_loan { loan_of out.new ≡ loan_of out.old }
     ensures format { (work out.new).format ≡ header.now.format }
     ensures whole { IsPicture (work out.new) }
@@ -102,20 +110,28 @@ pub fn recon_predicted(
                 put_skipped(picture, at, header.format, out);
             }
         }
-        Mb::Intra { quant, blocks } => put_intra(*quant, blocks, at, header.format, out),
+        Mb::Intra { quant, blocks } => { put_intra(*quant, blocks, marks, at, header.format, out) }
         Mb::Inter {
             quant,
             vector: _,
             blocks,
-        } => put_inter(predicted, *quant, blocks, at, header.format, out),
+        } => put_inter(predicted, *quant, blocks, marks, at, header.format, out),
     }
 }
 
 // Sets the samples of an intra macroblock.
-fn put_intra(quant: u8, blocks: &[Block; 6], at: u32, format: Format, out: &mut PictureMut<'_>)
+fn put_intra(
+    quant: u8,
+    blocks: &[Block; 6],
+    marks: &[u64; 6],
+    at: u32,
+    format: Format,
+    out: &mut PictureMut<'_>,
+)
     requires format { (work out.old).format ≡ format }
     requires at { at < mbs_of format }
     requires in_range { IsIntraMb quant blocks.now }
+    requires marks { AreMarkedIn blocks.now marks.now }
     requires whole { IsPicture (work out.old) }
     ensures same_loan { loan_of out.new ≡ loan_of out.old }
     ensures format { (work out.new).format ≡ format }
@@ -123,7 +139,7 @@ fn put_intra(quant: u8, blocks: &[Block; 6], at: u32, format: Format, out: &mut 
     ensures samples { (rounding : ℕ) (reference : Option Picture) →
         SetsMb format rounding reference at (Intra quant blocks.now) (work out.old) (work out.new) }
 {
-    draw_blocks(Coding::Alone { quant }, blocks, at, format, out);
+    draw_blocks(Coding::Alone { quant }, blocks, marks, at, format, out);
 }
 
 /// Sets the samples of the macroblocks of a slice in `out`, a picture of the header's format. `mbs`

@@ -11,6 +11,7 @@ ghost use Rattle.h263_planes.specs.Samples.{Inside, IsPicture, same_plane, sampl
 ghost use Rattle.h263_planes.specs.Work.{loan_of, work};
 ghost use Rattle.half_sample.specs.Macroblock.{IsPredicted};
 ghost use Rattle.half_sample.specs.Prediction.{ArePredicted, columns_in, predicted_sample};
+ghost use Rattle.picture_recon.specs.Marks.{AreMarkedIn};
 ghost use Rattle.picture_recon.specs.Shown.{SetsMb};
 
 use crate::coded::{Coding, draw_blocks};
@@ -20,11 +21,12 @@ use h263_types::{Block, Format};
 use half_sample::Predicted;
 
 // Sets the samples of an inter macroblock: the predicted ones, and then those of the blocks that
-// have levels.
+// have levels, by their marks.
 pub(crate) fn put_inter(
     predicted: &Predicted,
     quant: u8,
     blocks: &[Block; 6],
+    marks: &[u64; 6],
     at: u32,
     format: Format,
     out: &mut PictureMut<'_>,
@@ -33,6 +35,7 @@ pub(crate) fn put_inter(
     requires at { at < mbs_of format }
     requires quant { IsQuant quant }
     requires blocks { All IsInterBlock blocks.now }
+    requires marks { AreMarkedIn blocks.now marks.now }
     requires whole { IsPicture (work out.old) }
     ensures same_loan { loan_of out.new ≡ loan_of out.old }
     ensures format { (work out.new).format ≡ format }
@@ -42,7 +45,7 @@ pub(crate) fn put_inter(
         → SetsMb format r (Some p) at (Inter quant v blocks.now) (work out.old) (work out.new) }
 {
     put_predicted(predicted, at, format, out);
-    draw_blocks(Coding::Added { quant }, blocks, at, format, out);
+    draw_blocks(Coding::Added { quant }, blocks, marks, at, format, out);
 }
 
 // Sets the samples of macroblock `at` to the predicted ones.

@@ -4,7 +4,7 @@ ghost use Rattle.h263_types.specs.Blocks.{IsDc, IsInterBlock, IsIntraBlock, IsLe
 ghost use Rattle.idct8.specs.Ranges.{Within};
 ghost use Rattle.idct8.specs.Transform.{inverse_at, rounded};
 ghost use Rattle.picture_recon.specs.Samples.{inter_value, inter_values, intra_values, limited};
-ghost use Rattle.picture_recon.specs.Marks.{AreMarked, HasMarkedValues};
+ghost use Rattle.picture_recon.specs.Marks.{AreMarked, AreMarkedIn, HasMarkedValues};
 
 use crate::classes::inverse_by_marks;
 use h263_types::{Block, laws as types_laws};
@@ -15,14 +15,14 @@ use quantiser::{block_place, laws as quantiser_laws, value};
 // other level. Else INTRADC is added to what the others give, which are small: so the transform is
 // quick.
 #[inline(always)]
-pub(crate) fn intra_samples(quant: u8, block: &Block) -> [u8; 64]
+pub(crate) fn intra_samples(quant: u8, block: &Block, marks: u64) -> [u8; 64]
     requires quant { IsQuant quant }
     requires block { IsIntraBlock block.now }
+    requires marked { AreMarked block.now.levels marks }
     ensures { (y x : ℕ) → y < 8 → x < 8
         → slice_index result (8 * y + x) ≡ limited (inverse_at (intra_values quant block.now) y x) }
 {
     quantiser_laws::one_order();
-    let marks = marks_of(*block);
     let samples = flat(block.levels[0]);
     if marks == FIRST_ALONE {
         return samples;
@@ -78,9 +78,23 @@ fn number_of_first(value: i16) -> i16
 // The marks of a block whose levels are 0 but for the first.
 const FIRST_ALONE: u64 = 1;
 
+// The marks of a macroblock's six blocks.
+pub(crate) fn marks_of_six(blocks: &[Block; 6]) -> [u64; 6]
+    ensures { AreMarkedIn blocks.now result }
+{
+    [
+        marks_of(blocks[0]),
+        marks_of(blocks[1]),
+        marks_of(blocks[2]),
+        marks_of(blocks[3]),
+        marks_of(blocks[4]),
+        marks_of(blocks[5]),
+    ]
+}
+
 // Which levels aren't 0: bit k is for place k of the zigzag order.
 #[inline(always)]
-pub(crate) fn marks_of(block: Block) -> u64
+fn marks_of(block: Block) -> u64
     ensures { AreMarked block.levels result }
 {
     types_laws::marks();

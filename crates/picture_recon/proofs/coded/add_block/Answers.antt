@@ -16,7 +16,7 @@ pub returns-then-marks-eq0-clause-samples : goal.returns-then-marks-eq0-clause-s
 returns-then-marks-eq0-clause-samples c = λ plane x y h.
     let values = inter_values c.args.quant c.args.levels.now in
     let zeros = no_levels c.one_order.ensures c.args.quant c.args.levels.now
-    (none_at_all c.args.levels.now c.marks_of-marks.result c.marks_of-marks.ensures c.if-marks-eq0.true) in
+    (none_at_all c.args.levels.now c.args.marks c.requires.marked c.if-marks-eq0.true) in
     nothing_added (mb_of c.args.format plane x y) c.args.at (block_of plane x y) c.args.block (sample_at (work c.args.out.now) plane x y) _
     (λ here. sample_kept (sample_at (work c.args.out.now) plane x y) (inverse_at values (y % 8) (x % 8)) (c.requires.whole.samples plane _) (c.zeros_give_zeros.ensures values zeros (y % 8) (x % 8)))
 

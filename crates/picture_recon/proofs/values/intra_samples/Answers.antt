@@ -11,7 +11,7 @@ pub returns-then-marks-eq-FIRST_ALONE : goal.returns-then-marks-eq-FIRST_ALONE
 returns-then-marks-eq-FIRST_ALONE c = λ y x hy hx.
     let block = c.args.block.now in
     flat c.one_order.ensures c.args.quant block c.requires.block.dc
-    (none_later block c.marks_of-marks.result c.marks_of-marks.ensures c.if-marks-eq-FIRST_ALONE.true)
+    (none_later block c.args.marks c.requires.marked c.if-marks-eq-FIRST_ALONE.true)
     (get_or c.flat-samples.result (8 * y + x) 0) (c.flat-samples.ensures (8 * y + x) (omega arith) ∙ same_dc (level_at block 0) c.requires.block.dc) y x hy hx
 
 pub limited_sums-requires : goal.limited_sums-requires
