@@ -7,14 +7,14 @@ ghost use Rattle.h263_types.specs.declared.blocks.Mb.{Mb};
 ghost use Rattle.picture_header.specs.declared.header.Header.{Header};
 ghost use Rattle.picture_header.specs.Ranges.{IsHeader};
 ghost use Rattle.macroblock_layer.specs.Prediction.{predictor_of};
-ghost use Rattle.macroblock_layer.specs.Written.{IsStepped, mb_text};
+ghost use Rattle.macroblock_layer.specs.Written.{HasMarks, IsStepped, mb_text};
 ghost use Rattle.slice_layer.specs.Around.{vector_of, quant_after};
 
 use crate::shared::{quant_after, vector_of};
 use crate::writing_text::{LastBits, MbRoom, paste, write_apart, write_front};
 use h263_bits::BitReader;
 use h263_types::{Format, Kind, Mb, Vector};
-use macroblock_layer::predictor;
+use macroblock_layer::{marks_in, predictor};
 use picture_header::{Header, laws as picture_header_laws};
 
 /// Whether a macroblock was added.
@@ -147,10 +147,46 @@ impl<'a> SliceWriter<'a> {
         ensures whole { HasWholeBlocks mb.now }
         ensures room { length (bytes_in self.new) ≡ length (bytes_in self.old) }
     {
+        self.add_marked(mb, &marks_in(mb), apart)
+    }
+
+    /// The same as [`add`](SliceWriter::add), where the marks of the macroblock's blocks are known:
+    /// so they aren't found again.
+    pub fn add_marked(&mut self, mb: &Mb, marks: &[u64; 6], apart: &mut MbRoom) -> Added
+        requires mb { IsMb mb.now }
+        requires marks { HasMarks mb.now marks.now }
+        requires kind { IsOfKind (kind_of self.old) mb.now }
+        requires step { IsStepped (quant_of self.old) mb.now }
+        requires left { next_of self.old < mbs_of (format_of self.old) }
+        ensures answer { (h : Header) (begins : Bool) (first : ℕ) (mbs : List Mb)
+            → HoldsSlice self.old h begins first mbs → result ≡ answer (length (bytes_in self.old))
+            (bytes_of (slice_text h begins first (mbs ++ mb.now ∷ []))) }
+        ensures fits { (h : Header) (begins : Bool) (first : ℕ) (mbs : List Mb)
+            → HoldsSlice self.old h begins first mbs
+            → result ≡ Added.Fits → HoldsSlice self.new h begins first (mbs ++ mb.now ∷ []) }
+        ensures full { result ≡ Added.Full → self.new ≡ self.old }
+        // There is room for the first macroblock.
+        ensures first { (h : Header) (begins : Bool) (first : ℕ) → IsHeader h → 1150
+            ≤ length (bytes_in self.old) → HoldsSlice self.old h begins first [] → result ≡ Added.Fits }
+        ensures slice { GoesOn self.old self.new }
+        ensures next { result ≡ Added.Fits → next_of self.new ≡ next_of self.old + 1 }
+        ensures quant { result ≡ Added.Fits
+            → quant_of self.new ≡ quant_after (quant_of self.old) mb.now }
+        ensures whole { HasWholeBlocks mb.now }
+        ensures room { length (bytes_in self.new) ≡ length (bytes_in self.old) }
+    {
         picture_header_laws::in_a_syntax();
         let predictor = self.predictor(mb);
         let last = self.last_bits();
-        let len = write_apart(&mut apart.bytes, last, self.kind, self.quant, predictor, mb);
+        let len = write_apart(
+            &mut apart.bytes,
+            last,
+            self.kind,
+            self.quant,
+            predictor,
+            mb,
+            marks,
+        );
         let at = (self.len / 8) as usize;
         let size = ((len + 7) / 8) as usize;
         if self.bytes.len() < at + size {

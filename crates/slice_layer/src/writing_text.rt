@@ -4,13 +4,13 @@ ghost use Rattle.h263_bits.specs.Bits.{spelled};
 ghost use Rattle.h263_bits.specs.Written.{Appends, len_of, to_byte};
 ghost use Rattle.h263_types.specs.Blocks.{IsQuant, IsMb, IsOfKind, HasWholeBlocks};
 ghost use Rattle.picture_header.specs.Ranges.{IsHeader};
-ghost use Rattle.macroblock_layer.specs.Written.{mb_text, IsStepped};
+ghost use Rattle.macroblock_layer.specs.Written.{mb_text, HasMarks, IsStepped};
 ghost use Rattle.slice_layer.specs.Written.{opening_text, IsPlace, IsFront};
 
 use crate::writing_head::write_opening;
 use h263_bits::BitWriter;
 use h263_types::{Kind, Mb, Vector};
-use macroblock_layer::write_mb;
+use macroblock_layer::write_marked;
 use picture_header::Header;
 
 // Appends zero bits up to a byte. Answers how many bits were there before.
@@ -61,8 +61,8 @@ pub struct LastBits {
     pub count: u32,
 }
 
-/// Writes a macroblock's text after the last bits of what stands before it. Answers how many bits
-/// that are together.
+/// Writes a macroblock's text, whose marks are given, after the last bits of what stands before it.
+/// Answers how many bits that are together.
 pub fn write_apart(
     bytes: &mut [u8; 1063],
     last: LastBits,
@@ -70,11 +70,13 @@ pub fn write_apart(
     quant: u8,
     predictor: Vector,
     mb: &Mb,
+    marks: &[u64; 6],
 ) -> u32
     requires few { last.count < 8 }
     requires fits { last.number < 2 ^ last.count }
     requires quant { IsQuant quant }
     requires mb { IsMb mb.now }
+    requires marks { HasMarks mb.now marks.now }
     requires kind { IsOfKind kind mb.now }
     requires step { IsStepped quant mb.now }
     ensures text { IsFront
@@ -86,7 +88,7 @@ pub fn write_apart(
     mb.is_whole();
     let mut writer = BitWriter::new(bytes);
     writer.put(last.number, last.count);
-    write_mb(&mut writer, kind, quant, predictor, mb);
+    write_marked(&mut writer, kind, quant, predictor, mb, marks);
     pad(&mut writer)
 }
 

@@ -9,7 +9,7 @@ use Rattle.slice_layer.proofs.Adding.{no_text, next_text, answer_fits, answer_fu
 use Rattle.slice_layer.proofs.Openings.{opening_short}
 use Rattle.slice_layer.proofs.Fronts.{grown}
 use Rattle.slice_layer.proofs.Holding.{next_is, next_length, held}
-use Rattle.slice_layer.proofs.writing.SliceWriter.add.Goals as goal
+use Rattle.slice_layer.proofs.writing.SliceWriter.add_marked.Goals as goal
 
 pub returns-then-self-at-clause-answer : goal.returns-then-self-at-clause-answer
 returns-then-self-at-clause-answer c h begins first mbs holds =
