@@ -1,6 +1,7 @@
 pub mod Lanes
 pub mod Rows
 pub mod Levels
+pub mod Marked
 pub mod Blocks
 pub mod Differences
 pub mod Choices

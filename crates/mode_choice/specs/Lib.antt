@@ -1,4 +1,5 @@
 pub mod Choice
 pub mod Guess
+pub mod Marked
 pub mod Residuals
 pub mod Walk

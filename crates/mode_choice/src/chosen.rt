@@ -10,13 +10,15 @@ use h263_types::{Mb, Vector};
 use half_sample::{Predicted, chroma, luma};
 use motion_search::KeptSums;
 
-/// A macroblock as it is chosen, and the samples that the vector of an inter macroblock predicts,
-/// so that they needn't be predicted again to reconstruct it. With any other macroblock the samples
-/// are left over from an earlier one. The sums of the reference are those that the search keeps for
-/// the next macroblock.
+/// A macroblock as it is chosen, the marks of its blocks, and the samples that the vector of an
+/// inter macroblock predicts: so that none of this need be found again to write or to reconstruct
+/// it. With any other macroblock the samples are left over from an earlier one, and with one that
+/// has no blocks the marks mean nothing. The sums of the reference are those that the search keeps
+/// for the next macroblock.
 #[derive(Drop)]
 pub struct Chosen {
     pub mb: Mb,
+    pub marks: [u64; 6],
     pub predicted: Predicted,
     pub sums: KeptSums,
 }
@@ -37,6 +39,7 @@ impl Chosen {
     {
         Chosen {
             mb: Mb::Skip,
+            marks: [0; 6],
             predicted: Predicted {
                 y: [0; 256],
                 cb: [0; 64],

@@ -15,6 +15,7 @@ ghost use Rattle.motion_search.specs.Cost.{samples_of, IsCost};
 ghost use Rattle.quantiser.specs.Factors.{IsFactor};
 ghost use Rattle.mode_choice.specs.Choice as choice;
 ghost use Rattle.mode_choice.specs.Guess.{vector_in};
+ghost use Rattle.mode_choice.specs.Marked.{AreMarksOfFirst, HasMarks};
 ghost use Rattle.mode_choice.specs.Walk.{zero_block};
 
 use crate::chosen::{Chosen, predict_into};
@@ -32,13 +33,14 @@ use motion_search::search;
 use picture_header::Header;
 use quantiser::factor_of;
 
-/// Writes the macroblock that is coded at place `mb` of `frame` into its place, with what the vector
-/// of an inter macroblock predicts: by the quantiser of the header, with the first `keep` places of
-/// each block's zigzag order. Without a reference, which only a P picture has, it is coded by
-/// itself; else the motion search of `radius` whole samples decides whether it is predicted, coded
-/// by itself, or not coded at all. The choice is the same whatever the place held before. Where that
-/// is an inter macroblock the search begins at its vector, so the choice comes sooner if it is a
-/// neighbour's, and its sums are those of this reference: a new place for each picture.
+/// Writes the macroblock that is coded at place `mb` of `frame` into its place, with the marks of
+/// its blocks and what the vector of an inter macroblock predicts: by the quantiser of the header,
+/// with the first `keep` places of each block's zigzag order. Without a reference, which only a P
+/// picture has, it is coded by itself; else the motion search of `radius` whole samples decides
+/// whether it is predicted, coded by itself, or not coded at all. The choice is the same whatever
+/// the place held before. Where that is an inter macroblock the search begins at its vector, so the
+/// choice comes sooner if it is a neighbour's, and its sums are those of this reference: a new place
+/// for each picture.
 pub fn choose(
     frame: PictureRef<'_>,
     reference: Option<PictureRef<'_>>,
@@ -60,13 +62,17 @@ pub fn choose(
     ensures of_kind { IsOfKind header.now.kind out.new.mb }
     ensures reach { ReachesInside (picture frame.entry).format mb out.new.mb }
     ensures plain { HasQuant header.now.quant out.new.mb }
+    ensures marks { HasMarks out.new.mb out.new.marks }
     ensures predicted { IsPredictionOf header.now.rounding (option_map picture reference.entry)
         mb out.new.mb out.new.predicted }
     ensures sums { AreSumsOfAny (option_map picture reference.entry) out.new.sums }
 {
     laws::chosen_is_in_range();
     match reference {
-        None => intra_macroblock(frame, mb, header.quant, params.keep, &mut out.mb),
+        None => {
+            let (quant, keep) = (header.quant, params.keep);
+            intra_macroblock(frame, mb, quant, keep, &mut out.mb, &mut out.marks)
+        }
         Some(reference) => macroblock_in_p(frame, reference, mb, header, params, out),
     }
 }
@@ -91,6 +97,7 @@ fn macroblock_in_p(
         (picture frame.entry) (picture reference.entry) header.now params.now mb }
     ensures predicted { IsPredictionOf header.now.rounding (Some (picture reference.entry))
         mb out.new.mb out.new.predicted }
+    ensures marks { HasMarks out.new.mb out.new.marks }
     ensures sums { AreSumsOf (picture reference.entry) out.new.sums }
 {
     let guess = vector_of(&out.mb);
@@ -98,7 +105,8 @@ fn macroblock_in_p(
     let sums = &mut out.sums;
     let (vector, cost) = search(frame, reference, mb, radius, header.rounding, guess, sums);
     if is_nearer_to_mean(frame, mb, cost) {
-        intra_macroblock(frame, mb, header.quant, params.keep, &mut out.mb);
+        let (quant, keep) = (header.quant, params.keep);
+        intra_macroblock(frame, mb, quant, keep, &mut out.mb, &mut out.marks);
         return;
     }
     predict_into(reference, mb, vector, header.rounding, &mut out.predicted);
@@ -107,8 +115,15 @@ fn macroblock_in_p(
         factor: factor_of(header.quant),
         keep: params.keep,
     };
-    let predicted = &out.predicted;
-    inter_macroblock(frame, mb, vector, quantisation, predicted, &mut out.mb);
+    inter_macroblock(
+        frame,
+        mb,
+        vector,
+        quantisation,
+        &out.predicted,
+        &mut out.mb,
+        &mut out.marks,
+    );
 }
 
 // The vector of a macroblock; where it has none, the zero vector.
@@ -149,8 +164,8 @@ fn is_intra(deviation: u32, cost: i32) -> bool
     (deviation as i32) < cost - 500
 }
 
-// The macroblock predicted by a vector, whose samples are given. Its levels are written where they
-// stay.
+// The macroblock predicted by a vector, whose samples are given. Its levels and their marks are
+// written where they stay.
 fn inter_macroblock(
     frame: PictureRef<'_>,
     mb: u32,
@@ -158,13 +173,15 @@ fn inter_macroblock(
     quantisation: Quantisation,
     predicted: &Predicted,
     out: &mut Mb,
+    marks: &mut [u64; 6],
 )
     requires quant { IsQuant quantisation.quant }
     requires factor { IsFactor quantisation.quant quantisation.factor }
     requires mb { mb < mbs_of (picture frame).format }
-    ensures { (reference : Picture) (r : ℕ) → IsPredicted reference mb vector r predicted.now
+    ensures choice { (reference : Picture) (r : ℕ) → IsPredicted reference mb vector r predicted.now
         → out.new ≡ choice.inter_of (picture frame.entry) reference
         quantisation.quant quantisation.keep r mb vector }
+    ensures marks { HasMarks out.new marks.new }
 {
     *out = Mb::Inter {
         quant: quantisation.quant,
@@ -173,7 +190,7 @@ fn inter_macroblock(
     };
     match out {
         Mb::Inter { blocks, .. } => {
-            inter_blocks(frame, mb, quantisation, predicted, blocks);
+            inter_blocks(frame, mb, quantisation, predicted, blocks, marks);
             if is_skipped(vector, blocks) {
                 put_skip(out);
             }
@@ -198,36 +215,48 @@ fn is_skipped(vector: Vector, blocks: &[Block; 6]) -> bool
     vector.x == 0 && vector.y == 0 && are_empty(blocks)
 }
 
-// Puts the levels of what a prediction leaves of a macroblock's six blocks into zeros.
+// Puts the levels of what a prediction leaves of a macroblock's six blocks into zeros, and their
+// marks into their place.
 fn inter_blocks(
     frame: PictureRef<'_>,
     mb: u32,
     quantisation: Quantisation,
     predicted: &Predicted,
     out: &mut [Block; 6],
+    marks: &mut [u64; 6],
 )
     requires quant { IsQuant quantisation.quant }
     requires factor { IsFactor quantisation.quant quantisation.factor }
     requires mb { mb < mbs_of (picture frame).format }
     requires zeros { out.old ≡ replicate 6 zero_block }
-    ensures { (reference : Picture) (r : ℕ)
+    ensures blocks { (reference : Picture) (r : ℕ)
         (v : Vector) → IsPredicted reference mb v r predicted.now → out.new
         ≡ choice.residual_blocks_of (picture frame.entry) reference
         quantisation.quant quantisation.keep r mb v }
+    ensures marks { AreMarksOfFirst 6 out.new marks.new }
 {
     types_laws::one_more::<Block>();
     let mut residuals = [0; 64];
     for block in 0..6u32 {
         block_residuals(frame, mb, block, predicted, &mut residuals);
-        residual_block(quantisation, &residuals, &mut out[block as usize]);
+        let k = block as usize;
+        marks[k] = residual_block(quantisation, &residuals, &mut out[k]);
     }
 }
 
-// The macroblock coded by itself. Its levels are written where they stay.
-fn intra_macroblock(frame: PictureRef<'_>, mb: u32, quant: u8, keep: u8, out: &mut Mb)
+// The macroblock coded by itself. Its levels and their marks are written where they stay.
+fn intra_macroblock(
+    frame: PictureRef<'_>,
+    mb: u32,
+    quant: u8,
+    keep: u8,
+    out: &mut Mb,
+    marks: &mut [u64; 6],
+)
     requires quant { IsQuant quant }
     requires mb { mb < mbs_of (picture frame).format }
-    ensures { out.new ≡ choice.intra_of (picture frame.entry) quant keep mb }
+    ensures choice { out.new ≡ choice.intra_of (picture frame.entry) quant keep mb }
+    ensures marks { HasMarks out.new marks.new }
 {
     *out = Mb::Intra {
         quant,
@@ -239,24 +268,32 @@ fn intra_macroblock(frame: PictureRef<'_>, mb: u32, quant: u8, keep: u8, out: &m
         keep,
     };
     match out {
-        Mb::Intra { blocks, .. } => intra_blocks(frame, mb, quantisation, blocks),
+        Mb::Intra { blocks, .. } => intra_blocks(frame, mb, quantisation, blocks, marks),
         _ => {}
     }
 }
 
-// Puts the levels of a macroblock's six blocks into zeros.
-fn intra_blocks(frame: PictureRef<'_>, mb: u32, quantisation: Quantisation, out: &mut [Block; 6])
+// Puts the levels of a macroblock's six blocks into zeros, and their marks into their place.
+fn intra_blocks(
+    frame: PictureRef<'_>,
+    mb: u32,
+    quantisation: Quantisation,
+    out: &mut [Block; 6],
+    marks: &mut [u64; 6],
+)
     requires quant { IsQuant quantisation.quant }
     requires factor { IsFactor quantisation.quant quantisation.factor }
     requires mb { mb < mbs_of (picture frame).format }
     requires zeros { out.old ≡ replicate 6 zero_block }
-    ensures { out.new
+    ensures blocks { out.new
         ≡ choice.blocks_of (picture frame.entry) quantisation.quant quantisation.keep mb }
+    ensures marks { AreMarksOfFirst 6 out.new marks.new }
 {
     types_laws::one_more::<Block>();
     let mut samples = [0; 64];
     for block in 0..6u32 {
         block_samples(frame, mb, block, &mut samples);
-        intra_block(quantisation, &samples, &mut out[block as usize]);
+        let k = block as usize;
+        marks[k] = intra_block(quantisation, &samples, &mut out[k]);
     }
 }

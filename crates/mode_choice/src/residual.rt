@@ -1,6 +1,7 @@
 //! The levels of what a prediction leaves of a block.
 ghost use Rattle.std.specs.Prelude.{◌≡◌, ℕ, ◌*◌, ◌≤◌, All, IsTrue, pos, slice_index_or, unsigned_abs};
 ghost use Rattle.h263_types.specs.Blocks.{IsQuant};
+ghost use Rattle.h263_types.specs.Marks.{marks_of};
 ghost use Rattle.idct8.specs.Ranges.{IsSample};
 ghost use Rattle.idct8.specs.Sums.{total};
 ghost use Rattle.idct8.specs.Vectors.{square};
@@ -14,19 +15,25 @@ use crate::transformed::transformed;
 use h263_types::Block;
 use idct8::{are_below, laws as idct8_laws};
 
-// Puts the levels of a block of residuals into a block of zeros.
-pub(crate) fn residual_block(quantisation: Quantisation, residuals: &[i16; 64], out: &mut Block)
+// Puts the levels of a block of residuals into a block of zeros, and gives their marks.
+pub(crate) fn residual_block(
+    quantisation: Quantisation,
+    residuals: &[i16; 64],
+    out: &mut Block,
+) -> u64
     requires quant { IsQuant quantisation.quant }
     requires factor { IsFactor quantisation.quant quantisation.factor }
     requires residuals { All IsSample residuals.now }
     requires zeros { out.old ≡ zero_block }
-    ensures { out.new
+    ensures levels { out.new
         ≡ choice.residual_levels_of quantisation.quant quantisation.keep residuals.now }
+    ensures marks { result ≡ marks_of out.new.levels }
 {
     if are_small(quantisation.quant, residuals) {
-        return;
+        return 0;
     }
     transformed(Coding::Inter, quantisation, residuals, &mut out.levels);
+    out.marks()
 }
 
 // Whether residuals are so small that they leave no level, which needs no transform. Most blocks of

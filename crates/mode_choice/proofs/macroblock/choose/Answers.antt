@@ -10,7 +10,7 @@ use Rattle.mode_choice.proofs.macroblock.choose.Goals as goal
 
 pub returns-in-None-clause-in_range : goal.returns-in-None-clause-in_range
 returns-in-None-clause-in_range c =
-    subst IsMb (sym c.intra_macroblock.ensures) (c.chosen_is_in_range.ensures.in_range (picture c.args.frame) None c.args.header.now c.args.params.now c.args.mb c.requires.quant)
+    subst IsMb (sym c.intra_macroblock.ensures.choice) (c.chosen_is_in_range.ensures.in_range (picture c.args.frame) None c.args.header.now c.args.params.now c.args.mb c.requires.quant)
 
 pub returns-in-Some-clause-in_range : goal.returns-in-Some-clause-in_range
 returns-in-Some-clause-in_range c =
