@@ -9,3 +9,4 @@ pub mod Reread
 pub mod Packed
 pub mod Places
 pub mod Turns
+pub mod Marked

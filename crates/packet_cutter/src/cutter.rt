@@ -6,24 +6,34 @@ ghost use Rattle.h263_types.specs.Params.{IsParams};
 ghost use Rattle.h263_types.specs.Sizes.{mbs_of};
 ghost use Rattle.picture_header.specs.declared.header.Header.{Header};
 ghost use Rattle.picture_header.specs.Ranges.{IsHeader};
+ghost use Rattle.macroblock_layer.specs.Written.{HasMarks};
 ghost use Rattle.packet_cutter.specs.Kept.{most_bytes, room_of, kept_packets};
 ghost use Rattle.packet_cutter.specs.Packets as sent;
 ghost use Rattle.packet_cutter.specs.Packets.{ArePacketsOf};
 ghost use Rattle.packet_cutter.specs.Slices.{cut_of};
-ghost use Rattle.packet_cutter.specs.Taken.{IsTaken};
+ghost use Rattle.packet_cutter.specs.Taken.{AreMarked, IsTaken};
 
 use crate::laws;
 use crate::packets::Packets;
 use h263_types::{Mb, OutOfMemory, Params};
+use macroblock_layer::marks_in;
 use picture_header::Header;
 use std::alloc::Global;
 
 // Cuts a picture: packet after packet.
-fn cut(packets: &mut Packets, header: &Header, mbs: &[Mb], number: u32, sequence: u16)
+fn cut(
+    packets: &mut Packets,
+    header: &Header,
+    mbs: &[Mb],
+    marks: &[[u64; 6]],
+    number: u32,
+    sequence: u16,
+)
     requires room { most_bytes packets.old * length mbs.now ≤ room_of packets.old }
     requires header { IsHeader header.now }
     requires whole { length mbs.now ≡ mbs_of header.now.format }
     requires each { All (IsTaken header.now.kind header.now.quant) mbs.now }
+    requires marks { AreMarked mbs.now marks.now }
     ensures packets { ArePacketsOf number sequence header.now
         (most_bytes packets.old) mbs.now (kept_packets packets.new) }
     ensures limit { most_bytes packets.new ≡ most_bytes packets.old }
@@ -33,7 +43,8 @@ fn cut(packets: &mut Packets, header: &Header, mbs: &[Mb], number: u32, sequence
     let mut first = 0;
     'packets: while (first as usize) < mbs.len() {
         let next = sequence.wrapping_add(packets.count() as u16);
-        first += packets.append(header, first, &mbs[first as usize..], number, next);
+        let at = first as usize;
+        first += packets.append(header, first, &mbs[at..], &marks[at..], number, next);
     }
 }
 
@@ -45,11 +56,14 @@ pub struct Cutter {
     header: Header,
     // The picture's macroblocks: the first `added` ones are there.
     mbs: Vec<Mb>,
+    // Which levels of their blocks aren't 0, found before they are added.
+    marks: Vec<[u64; 6]>,
     added: u32,
     // The number of the next packet.
     sequence: u16,
     packets: Packets,
     ghost whole: { length mbs.items ≡ mbs_of header.format },
+    ghost beside: { length marks.items ≡ length mbs.items },
     ghost within: { added ≤ length mbs.items },
     ghost room: { most_bytes packets * length mbs.items ≤ room_of packets },
 }
@@ -82,6 +96,7 @@ impl Cutter {
             number: 0,
             header: Header::blank(params.format),
             mbs: vec![in alloc; Mb::Skip; count as usize]?,
+            marks: vec![in alloc; [0; 6]; count as usize]?,
             added: 0,
             sequence: 0,
             packets: Packets::start(alloc, params.limit, count)?,
@@ -121,7 +136,26 @@ impl Cutter {
         ensures added { added_of self.new ≡ added_of self.old + 1 }
         ensures rest { OnlyAdds self.old self.new }
     {
+        self.add_marked(mb, &marks_in(mb));
+    }
+
+    /// The same as [`add`](Cutter::add), where the marks of the macroblock's blocks are known: so
+    /// they aren't found again.
+    pub fn add_marked(&mut self, mb: &Mb, marks: &[u64; 6])
+        requires begun { IsBegun self.old }
+        requires mb { IsMb mb.now }
+        requires marks { HasMarks mb.now marks.now }
+        requires kind { IsOfKind (kind_of self.old) mb.now }
+        requires quant { HasQuant (quant_of self.old) mb.now }
+        requires left { added_of self.old < mbs_of (format_of self.old) }
+        ensures begun { IsBegun self.new }
+        ensures holds { (number : ℕ) (h : Header) (mbs : List Mb)
+            → Holds self.old number h mbs → Holds self.new number h (mbs ++ mb.now ∷ []) }
+        ensures added { added_of self.new ≡ added_of self.old + 1 }
+        ensures rest { OnlyAdds self.old self.new }
+    {
         put(&mut self.mbs[self.added as usize], mb);
+        self.marks[self.added as usize] = *marks;
         self.added += 1;
     }
 
@@ -151,6 +185,7 @@ impl Cutter {
             &mut self.packets,
             &self.header,
             &self.mbs,
+            &self.marks,
             self.number,
             self.sequence,
         );

@@ -2,7 +2,7 @@
 ghost use Rattle.std.specs.Prelude.{◌≡◌, ℕ, ◌+◌, ◌*◌, ◌^◌, ◌<◌, ◌≤◌, ◌++◌, [], length, slice_index_or, slice_range, take, drop, All, IfOk};
 ghost use Rattle.h263_types.specs.Sizes.{mbs_of};
 ghost use Rattle.picture_header.specs.Ranges.{IsHeader};
-ghost use Rattle.packet_cutter.specs.Taken.{IsTaken, ArePlaced};
+ghost use Rattle.packet_cutter.specs.Taken.{AreMarked, IsTaken, ArePlaced};
 
 use crate::filling::write_packet;
 use h263_types::Mb;
@@ -85,12 +85,13 @@ impl Packets {
     }
 
     /// Writes the next packet after the others, with the longest slice from macroblock `first` on:
-    /// `mbs` are those that are left of the picture. Answers how many it has.
+    /// `mbs` are those that are left of the picture, `marks` theirs. Answers how many it has.
     pub fn append(
         &mut self,
         header: &Header,
         first: u32,
         mbs: &[Mb],
+        marks: &[[u64; 6]],
         number: u32,
         sequence: u16,
     ) -> u32
@@ -100,6 +101,7 @@ impl Packets {
         requires some { 0 < length mbs.now }
         requires left { first + length mbs.now ≡ mbs_of header.now.format }
         requires each { All (IsTaken header.now.kind header.now.quant) mbs.now }
+        requires marks { AreMarked mbs.now marks.now }
         ensures packet { Appends self.old self.new number sequence header.now first mbs.now result }
         ensures within { result ≤ length mbs.now }
         ensures some { 0 < result }
@@ -114,6 +116,7 @@ impl Packets {
             header,
             first,
             mbs,
+            marks,
             number,
             sequence,
         );

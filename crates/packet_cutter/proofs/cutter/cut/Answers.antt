@@ -3,8 +3,12 @@ use Rattle.std.proofs.lemmas.List.{take_all, length-drop}
 use Rattle.h263_types.specs.declared.blocks.Mb.{Mb}
 use Rattle.packet_cutter.specs.Cut.{IsLongest}
 use Rattle.packet_cutter.specs.Kept.{most_bytes, kept_packets, Appends}
+use Rattle.packet_cutter.proofs.Marked.{left_marked}
 use Rattle.packet_cutter.proofs.Turns.{IsUnderWay, IsNext, turned}
 use Rattle.packet_cutter.proofs.cutter.cut.Goals as goal
+
+pub append-first-requires-clause-marks : goal.append-first-requires-clause-marks
+append-first-requires-clause-marks c = left_marked c.args.mbs.now c.args.marks.now c.packets.first c.packets.invariant.within c.requires.marks
 
 pub packets-preserved : goal.packets-preserved
 packets-preserved c =
