@@ -15,7 +15,7 @@ ghost use Rattle.packet_cutter.specs.Cutting.{Holds, added_of, format_of, limit_
 ghost use Rattle.packet_cutter.specs.Packets.{ArePacketsOf};
 
 use h263_planes::{PictureMut, PictureRef};
-use h263_types::Params;
+use h263_types::{Params, laws as types_laws};
 use mode_choice::{Chosen, choose, laws as mode_choice_laws};
 use packet_cutter::Cutter;
 use picture_header::Header;
@@ -66,7 +66,9 @@ pub fn code_picture(
     ensures format { (lent.work work.new).format ≡ params.now.format }
     ensures whole { IsPicture (lent.work work.new) }
 {
-    // One choice for each place, and a picture that shows them all is their reconstruction.
+    // A mark is there exactly where a level isn't 0. There is one choice for each place, and a
+    // picture that shows them all is their reconstruction.
+    types_laws::marks();
     mode_choice_laws::one_for_each_place();
     picture_recon_laws::shown_one_by_one();
     work.is_picture();
@@ -74,8 +76,9 @@ pub fn code_picture(
     let mut chosen = Chosen::new();
     for at in 0..params.format.mbs() {
         choose(frame, reference, at, header, params, &mut chosen);
-        cutter.add(&chosen.mb);
-        recon_predicted(&chosen.mb, &chosen.predicted, at, header, reference, work);
+        let (mb, marks) = (&chosen.mb, &chosen.marks);
+        cutter.add_marked(mb, marks);
+        recon_predicted(mb, marks, &chosen.predicted, at, header, reference, work);
     }
     cutter.finish();
 }

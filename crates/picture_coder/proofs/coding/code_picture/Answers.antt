@@ -1,16 +1,51 @@
-use Rattle.std.proofs.Common.{◌≡◌, ◌+◌, ◌<◌, ◌++◌, ◌∷◌, [], ℕ, List, take, sym, ap, subst, ◌∙◌, arith}
+use Rattle.std.proofs.Common.{◌≡◌, ◌+◌, ◌<◌, ◌++◌, ◌∷◌, [], ℕ, ℤ, pos, Bool, true, false, cond, List, take, get_or, refl, sym, ap, subst, ◌∙◌, arith}
+use Rattle.std.specs.Int.{bit_at}
 use Rattle.std.specs.Option.{option_map}
+use Rattle.std.proofs.lemmas.Bool.Decides.{Decides-int_eq}
 use Rattle.h263_types.specs.declared.format.Format.{Format}
 use Rattle.h263_types.specs.declared.blocks.Mb.{Mb}
+use Rattle.h263_types.specs.declared.blocks.Mb.TheVariants.{Skip, Intra, Inter}
+use Rattle.h263_types.specs.Marks.{EachIsMarked, is_zero, marks_of}
 use Rattle.h263_types.specs.Sizes.{mbs_of}
 use Rattle.h263_planes.specs.Lent.{picture}
 use Rattle.h263_planes.specs.Work as lent
 use Rattle.mode_choice.specs.Choice.{choices_of}
-use Rattle.picture_recon.specs.Samples.{reconstruction}
+use Rattle.mode_choice.specs.Marked as chosen
+use Rattle.macroblock_layer.specs.Written.{HasMarks}
+use Rattle.picture_recon.specs.Marks.{AreMarked, HasMarked}
+use Rattle.picture_recon.specs.Samples.{block_in, reconstruction}
 use Rattle.picture_recon.specs.Shown.{SetsMb, ShowsFirst}
 use Rattle.packet_cutter.specs.Cutting.{Holds, packets_of, sequence_of}
 use Rattle.packet_cutter.specs.Packets.{ArePacketsOf}
 use Rattle.picture_coder.proofs.coding.code_picture.Goals as goal
+
+-- a level whose bit isn't set is 0
+unset : (z : ℤ) (t : Bool) → is_zero z ≡ t → ◌≡◌ {A = ℕ} (cond t 0 1) 0 → z ≡ pos 0
+unset z true e none = (Decides-int_eq z (pos 0)).0 e
+unset z false e none = absurd (cc none)
+
+marked : EachIsMarked → (levels : List ℤ) (n : ℕ) → n ≡ marks_of levels → AreMarked levels n
+marked each levels n e k less none =
+    let z = get_or levels k (pos 0) in
+    unset z (is_zero z) refl (sym (each levels k) ∙ ap (λ (n : ℕ). bit_at n k) (sym e) ∙ none)
+
+-- the marks as they are chosen serve to draw
+drawn_by : EachIsMarked → (m : Mb) (marks : List ℕ) → chosen.HasMarks m marks → HasMarked m marks
+drawn_by each Skip marks are = tt
+drawn_by each (Intra quant blocks) marks are = λ b less. marked each (block_in blocks b).levels (get_or marks b 0) (are b less)
+drawn_by each (Inter quant vector blocks) marks are = λ b less. marked each (block_in blocks b).levels (get_or marks b 0) (are b less)
+
+-- and to write
+written_by : (m : Mb) (marks : List ℕ) → chosen.HasMarks m marks → HasMarks m marks
+written_by Skip marks are = tt
+written_by (Intra quant blocks) marks are = are
+written_by (Inter quant vector blocks) marks are = are
+
+pub add_marked-requires-clause-marks : goal.add_marked-requires-clause-marks
+add_marked-requires-clause-marks c = written_by c.choose.new.out.mb c.choose.new.out.marks c.choose.ensures.marks
+
+pub recon_predicted-requires-clause-marks : goal.recon_predicted-requires-clause-marks
+recon_predicted-requires-clause-marks c = drawn_by c.marks.ensures c.choose.new.out.mb c.choose.new.out.marks c.choose.ensures.marks
 
 pub loop-at-preserved : goal.loop-at-preserved
 loop-at-preserved c =
@@ -26,18 +61,18 @@ loop-at-preserved c =
     let chosen = c.choose.ensures.choice ∙ sym (c.one_for_each_place.ensures.each frame reference h params at inside) in
     record {
       added = record {
-        begun = c.add.ensures.begun;
+        begun = c.add_marked.ensures.begun;
         holds =
-            subst (λ (l : List Mb). Holds c.add.new.self c.args.number h l)
+            subst (λ (l : List Mb). Holds c.add_marked.new.self c.args.number h l)
             (ap (λ (m : Mb). take at mbs ++ m ∷ []) c.choose.ensures.choice ∙ sym (c.one_for_each_place.ensures.next frame reference h params at inside))
-            (c.add.ensures.holds c.args.number h (take at mbs) c.loop-at.invariant.added.holds);
-        added = c.add.ensures.added ∙ ap (λ (n : ℕ). n + 1) c.loop-at.invariant.added.added;
-        kind = c.add.ensures.rest.kind ∙ c.loop-at.invariant.added.kind;
-        quant = c.add.ensures.rest.quant ∙ c.loop-at.invariant.added.quant;
-        format = c.add.ensures.rest.format ∙ c.loop-at.invariant.added.format;
+            (c.add_marked.ensures.holds c.args.number h (take at mbs) c.loop-at.invariant.added.holds);
+        added = c.add_marked.ensures.added ∙ ap (λ (n : ℕ). n + 1) c.loop-at.invariant.added.added;
+        kind = c.add_marked.ensures.rest.kind ∙ c.loop-at.invariant.added.kind;
+        quant = c.add_marked.ensures.rest.quant ∙ c.loop-at.invariant.added.quant;
+        format = c.add_marked.ensures.rest.format ∙ c.loop-at.invariant.added.format;
       };
-      limit = c.add.ensures.rest.limit ∙ c.loop-at.invariant.limit;
-      sequence = c.add.ensures.rest.sequence ∙ c.loop-at.invariant.sequence;
+      limit = c.add_marked.ensures.rest.limit ∙ c.loop-at.invariant.limit;
+      sequence = c.add_marked.ensures.rest.sequence ∙ c.loop-at.invariant.sequence;
       shown = record {
         whole = c.recon_predicted.ensures.whole;
         format = c.recon_predicted.ensures.format;
