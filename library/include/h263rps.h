@@ -50,7 +50,7 @@ enum h263rps_status {
     H263RPS_OTHER_END = 3,    /* a sender was handed to a receiver's function, or the other way */
     H263RPS_BAD_PARAMS = 4,   /* a parameter is out of its range: `fault` says which */
     H263RPS_NO_MEMORY = 5,    /* a start: nothing is kept */
-    H263RPS_ENDED = 6,        /* 1,048,576 pictures were coded or played: finish, and start anew */
+    H263RPS_ENDED = 6,        /* 1,048,576 pictures were coded or played: a reset begins anew */
     H263RPS_WRONG_LENGTH = 7, /* the picture hasn't h263rps_picture_size() bytes */
     H263RPS_BAD_MESSAGES = 8, /* more than four messages, or what is none by this clock */
     H263RPS_NO_PACKET = 9,    /* the picture that was coded last has no packet of this number */
@@ -186,7 +186,7 @@ enum h263rps_message_fault {
 
 /* ---- structs ------------------------------------------------------------------------------- */
 
-/* What an end has counted since its start. A count that comes to 2^64 - 1 stays there. */
+/* What an end has counted since its start or reset. A count that comes to 2^64 - 1 stays there. */
 typedef struct h263rps_statistics {
     uint64_t packets; /* that a receiver was given, or a sender copied out */
     uint64_t bytes;   /* of these packets */
@@ -289,6 +289,7 @@ uint32_t h263rps_raw_receiver_play(h263rps_end *end, uint8_t *picture, size_t le
                                    h263rps_answer *answer);
 uint32_t h263rps_raw_receiver_next(h263rps_end *end, h263rps_answer *answer);
 uint32_t h263rps_raw_receiver_shown(h263rps_end *end, h263rps_lent *lent);
+uint32_t h263rps_raw_receiver_reset(h263rps_end *end, uint32_t number);
 uint32_t h263rps_raw_receiver_played(h263rps_end *end, uint32_t *count);
 uint32_t h263rps_raw_receiver_statistics(h263rps_end *end, h263rps_statistics *statistics);
 uint32_t h263rps_raw_receiver_finish(h263rps_end *end);
@@ -303,6 +304,7 @@ uint32_t h263rps_raw_sender_feedback(h263rps_end *end, const uint8_t *message, s
                                      h263rps_reply *reply);
 uint32_t h263rps_raw_sender_target(h263rps_end *end, uint32_t bytes);
 uint32_t h263rps_raw_sender_forget(h263rps_end *end);
+uint32_t h263rps_raw_sender_reset(h263rps_end *end, uint32_t bytes);
 uint32_t h263rps_raw_sender_sent(h263rps_end *end, uint32_t *count);
 uint32_t h263rps_raw_sender_statistics(h263rps_end *end, h263rps_statistics *statistics);
 uint32_t h263rps_raw_sender_finish(h263rps_end *end);
@@ -449,6 +451,15 @@ static inline uint32_t h263rps_receiver_play_lent(h263rps_end *end, h263rps_lent
     return status ? status : h263rps_receiver_shown(end, lent);
 }
 
+/* A receiver begins a call anew, in the memory that it has: it is as h263rps_receiver_start_at() at
+ * this number, up to 1,048,576, would leave it, with the parameters of its start. It has counted
+ * nothing then.
+ * NOT_STARTED, OTHER_END, BAD_PARAMS. */
+static inline uint32_t h263rps_receiver_reset(h263rps_end *end, uint32_t number) {
+    if (!end) return H263RPS_NULL;
+    return h263rps_raw_receiver_reset(end, number);
+}
+
 /* Writes how many pictures a receiver has played to `count`: the number of the next one, with those
  * that h263rps_receiver_start_at() left out.
  * NOT_STARTED, OTHER_END. */
@@ -457,7 +468,7 @@ static inline uint32_t h263rps_receiver_played(h263rps_end *end, uint32_t *count
     return h263rps_raw_receiver_played(end, count);
 }
 
-/* Writes what a receiver has counted since its start to `statistics`.
+/* Writes what a receiver has counted since its start or reset to `statistics`.
  * NOT_STARTED, OTHER_END. */
 static inline uint32_t h263rps_receiver_statistics(h263rps_end *end,
                                                    h263rps_statistics *statistics) {
@@ -564,6 +575,15 @@ static inline uint32_t h263rps_sender_forget(h263rps_end *end) {
     return h263rps_raw_sender_forget(end);
 }
 
+/* A sender begins a call anew, in the memory that it has: it is as h263rps_sender_start() left it,
+ * but for its target, which is this many bytes a picture, up to 999,999, or none where it is 0. It
+ * has no packets then, and has counted nothing.
+ * NOT_STARTED, OTHER_END, BAD_PARAMS. */
+static inline uint32_t h263rps_sender_reset(h263rps_end *end, uint32_t bytes) {
+    if (!end) return H263RPS_NULL;
+    return h263rps_raw_sender_reset(end, bytes);
+}
+
 /* Writes how many pictures a sender has coded to `count`: the number of the next one.
  * NOT_STARTED, OTHER_END. */
 static inline uint32_t h263rps_sender_sent(h263rps_end *end, uint32_t *count) {
@@ -571,7 +591,7 @@ static inline uint32_t h263rps_sender_sent(h263rps_end *end, uint32_t *count) {
     return h263rps_raw_sender_sent(end, count);
 }
 
-/* Writes what a sender has counted since its start to `statistics`.
+/* Writes what a sender has counted since its start or reset to `statistics`.
  * NOT_STARTED, OTHER_END. */
 static inline uint32_t h263rps_sender_statistics(h263rps_end *end, h263rps_statistics *statistics) {
     if (!end || !statistics) return H263RPS_NULL;

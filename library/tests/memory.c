@@ -1,5 +1,5 @@
 /* Each request for memory refused in turn: start answers NO_MEMORY and keeps nothing. After start
- * none is made. Linked with --wrap for malloc, realloc and free. */
+ * none is made, nor by a reset. Linked with --wrap for malloc, realloc and free. */
 #include "h263rps.h"
 
 #include <stdio.h>
@@ -50,35 +50,46 @@ static long requests_of(int receives, const h263rps_params *params) {
     }
 }
 
-int main(void) {
-    h263rps_params params;
-    h263rps_end sender = {0}, receiver = {0};
+/* A call of this many pictures, each shown exactly: 0, or where it went wrong. */
+static int call(h263rps_end *sender, h263rps_end *receiver, unsigned pictures) {
     h263rps_answer answer;
     h263rps_coded coded;
     h263rps_reply reply;
     size_t count;
+    for (unsigned n = 0; n < pictures; n++) {
+        for (size_t i = 0; i < sizeof picture; i++)
+            picture[i] = (uint8_t)(i * 7 + n * 3 + (i * i >> 5));
+        if (h263rps_sender_code(sender, picture, sizeof picture, NULL, 0, &coded)) return 2;
+        for (uint32_t i = 0; i < coded.packets; i++) {
+            if (h263rps_sender_packet(sender, i, room, sizeof room, &count)) return 3;
+            if (h263rps_receiver_packet(receiver, room, count, &answer)) return 3;
+        }
+        if (h263rps_sender_feedback(sender, answer.message.bytes, answer.message.length, &reply))
+            return 4;
+        if (h263rps_receiver_play(receiver, picture, sizeof picture, &answer)) return 5;
+        if (answer.kind != H263RPS_EXACT) return 6;
+    }
+    return 0;
+}
+
+int main(void) {
+    h263rps_params params;
+    h263rps_end sender = {0}, receiver = {0};
+    int status;
     h263rps_defaults(H263RPS_CIF, &params);
     long by_sender = requests_of(0, &params), by_receiver = requests_of(1, &params);
     refused = -1;
     if (start(0, &sender, &params) || start(1, &receiver, &params)) return 1;
     asked = 0;
-    for (unsigned n = 0; n < 50; n++) {
-        for (size_t i = 0; i < sizeof picture; i++)
-            picture[i] = (uint8_t)(i * 7 + n * 3 + (i * i >> 5));
-        if (h263rps_sender_code(&sender, picture, sizeof picture, NULL, 0, &coded)) return 2;
-        for (uint32_t i = 0; i < coded.packets; i++) {
-            if (h263rps_sender_packet(&sender, i, room, sizeof room, &count)) return 3;
-            if (h263rps_receiver_packet(&receiver, room, count, &answer)) return 3;
-        }
-        if (h263rps_sender_feedback(&sender, answer.message.bytes, answer.message.length, &reply))
-            return 4;
-        if (h263rps_receiver_play(&receiver, picture, sizeof picture, &answer)) return 5;
-        if (answer.kind != H263RPS_EXACT) return 6;
-    }
+    status = call(&sender, &receiver, 50);
+    if (status) return status;
+    if (h263rps_sender_reset(&sender, 0) || h263rps_receiver_reset(&receiver, 0)) return 7;
+    status = call(&sender, &receiver, 10);
+    if (status) return status;
     long later = asked;
     h263rps_sender_finish(&sender);
     h263rps_receiver_finish(&receiver);
-    printf("requests for memory: a sender's start %ld, a receiver's %ld, 50 pictures then %ld\n",
-           by_sender, by_receiver, later);
+    printf("requests for memory: a sender's start %ld, a receiver's %ld, 50 pictures, a reset and "
+           "10 more then %ld\n", by_sender, by_receiver, later);
     return by_sender < 1 || by_receiver < 1 || later;
 }

@@ -1,5 +1,5 @@
-/* A sender that is steered, and a receiver that joins: what the line, a request for an intra
- * picture and a new viewer ask of a call. */
+/* A sender that is steered, a receiver that joins, and a call that begins anew: what the line, a
+ * request for an intra picture, a new viewer and the next call ask of both ends. */
 #include "h263rps.h"
 
 #include <stdio.h>
@@ -157,12 +157,60 @@ static void joining(void) {
     want("finish", h263rps_sender_finish(&sender), 0);
 }
 
+/* A picture is coded, its packets are heard and acknowledged, and it is shown exactly. */
+static void pass(h263rps_end *sender, h263rps_end *receiver, uint32_t number, struct made *made) {
+    h263rps_answer answer;
+    h263rps_reply reply;
+    code(sender, number, made);
+    for (uint32_t i = 0; i < made->coded.packets; i++)
+        want("packet", h263rps_receiver_packet(receiver, made->packets[i], made->lengths[i],
+                                               &answer), 0);
+    want("completed", answer.kind, H263RPS_COMPLETED);
+    want("feedback", h263rps_sender_feedback(sender, answer.message.bytes, answer.message.length,
+                                             &reply), 0);
+    want("play", h263rps_receiver_play(receiver, shown, SIZE, &answer), 0);
+    want("exact", answer.kind == H263RPS_EXACT && answer.number == number, 1);
+}
+
+/* A call that begins anew has the packets of the first one, byte for byte, and its counts begin at
+ * 0; a number or a target out of its range changes nothing. */
+static void beginning_anew(void) {
+    enum { PICTURES = 4 };
+    static struct made first[PICTURES], again;
+    h263rps_end sender = {0}, receiver = {0};
+    h263rps_statistics counted;
+    size_t length;
+    want("start", h263rps_sender_start(&sender, &params, NULL), 0);
+    want("start", h263rps_receiver_start(&receiver, &params, NULL), 0);
+    for (uint32_t number = 0; number < PICTURES; number++)
+        pass(&sender, &receiver, number, &first[number]);
+    want("target", h263rps_sender_target(&sender, 500), 0);
+    pass(&sender, &receiver, PICTURES, &again);
+    want("a great target", h263rps_sender_reset(&sender, 1000000), H263RPS_BAD_PARAMS);
+    want("a late number", h263rps_receiver_reset(&receiver, 1048577), H263RPS_BAD_PARAMS);
+    pass(&sender, &receiver, PICTURES + 1, &again);
+    want("reset", h263rps_sender_reset(&sender, params.target), 0);
+    want("reset", h263rps_receiver_reset(&receiver, 0), 0);
+    want("no packets", h263rps_sender_packet(&sender, 0, shown, SIZE, &length), H263RPS_NO_PACKET);
+    want("statistics", h263rps_sender_statistics(&sender, &counted), 0);
+    want("no pictures", (uint32_t)counted.coded[0], 0);
+    want("statistics", h263rps_receiver_statistics(&receiver, &counted), 0);
+    want("no packets", (uint32_t)counted.packets, 0);
+    for (uint32_t number = 0; number < PICTURES; number++) {
+        pass(&sender, &receiver, number, &again);
+        want("the same packets", memcmp(&first[number], &again, sizeof again), 0);
+    }
+    want("finish", h263rps_receiver_finish(&receiver), 0);
+    want("finish", h263rps_sender_finish(&sender), 0);
+}
+
 int main(void) {
     want("defaults", h263rps_defaults(H263RPS_SUB_QCIF, &params), 0);
     forgetting();
     same_target();
     later_target();
     joining();
-    if (!wrong) printf("a sender is steered, and a receiver joins\n");
+    beginning_anew();
+    if (!wrong) printf("a sender is steered, a receiver joins, and a call begins anew\n");
     return wrong;
 }

@@ -107,6 +107,7 @@ static void receiver_calls(h263rps_end *end, uint32_t status) {
     want("play lent", h263rps_receiver_play_lent(end, &lent, &answer), status);
     want("shown", h263rps_receiver_shown(end, &lent), status);
     want("played", h263rps_receiver_played(end, &pictures), status);
+    want("reset", h263rps_receiver_reset(end, 1048577), status);
     want("statistics", h263rps_receiver_statistics(end, &statistics), status);
     want("finish", h263rps_receiver_finish(end), status);
     want("counts are left", statistics.packets == 77, 1);
@@ -127,6 +128,7 @@ static void sender_calls(h263rps_end *end, uint32_t status) {
     want("feedback", h263rps_sender_feedback(end, "abc", 3, &reply), status);
     want("target", h263rps_sender_target(end, 1000000), status);
     want("forget", h263rps_sender_forget(end), status);
+    want("reset", h263rps_sender_reset(end, 1000000), status);
     want("sent", h263rps_sender_sent(end, &pictures), status);
     want("statistics", h263rps_sender_statistics(end, &statistics), status);
     want("finish", h263rps_sender_finish(end), status);
@@ -229,6 +231,7 @@ static void joining(void) {
     want("start", h263rps_receiver_start_at(&end, &params, 1048576, NULL), H263RPS_OK);
     want("started", h263rps_receiver_start_at(&end, &params, 0, NULL), H263RPS_STARTED);
     want("null", h263rps_receiver_played(&end, NULL), H263RPS_NULL);
+    want("null", h263rps_receiver_reset(NULL, 0), H263RPS_NULL);
     want("played", h263rps_receiver_played(&end, &pictures), H263RPS_OK);
     want("all", pictures, 1048576);
     want("the end", h263rps_receiver_play(&end, shown, SIZE, &answer), H263RPS_ENDED);
@@ -317,6 +320,7 @@ static void sender(void) {
     want("the greatest", h263rps_sender_target(&end, 999999), H263RPS_OK);
     want("null", h263rps_sender_target(NULL, 0), H263RPS_NULL);
     want("null", h263rps_sender_forget(NULL), H263RPS_NULL);
+    want("null", h263rps_sender_reset(NULL, 0), H263RPS_NULL);
     want("null", h263rps_sender_sent(&end, NULL), H263RPS_NULL);
     want("finish", h263rps_sender_finish(&end), H263RPS_OK);
     sender_calls(&end, H263RPS_NOT_STARTED);

@@ -57,6 +57,9 @@ with Sender(Params.of("qcif")) as sender, Receiver(Params.of("qcif")) as receive
     wanted("Refused: packet: no packet", lambda: sender.packet(0))
     wanted("Refused: target: bad params", lambda: sender.target(1000000))
     wanted("ValueError: target: 4294967296 is out of its range", lambda: sender.target(1 << 32))
+    wanted("Refused: reset: bad params", lambda: sender.reset(1000000))
+    wanted("Refused: reset: bad params", lambda: receiver.reset(1048577))
+    wanted("ValueError: number: -1 is out of its range", lambda: receiver.reset(-1))
     wanted("None", lambda: (sender.target(999999), sender.forget())[1])
     wanted("(0, 0)", lambda: (sender.sent(), receiver.played()))
     wanted("0", lambda: sum(sender.statistics().coded.values()))
@@ -105,6 +108,20 @@ with Sender(Params.of("qcif")) as sender:
     told = "Refused: packets: no packet: picture 0 isn't the last one"
     wanted(told, lambda: sender.packets(first))
     wanted("True", lambda: len(sender.packets(second)) == second.packets)
+
+# A call that begins anew: the same packets, no picture of before, and counts from 0.
+with Sender(Params.of("qcif")) as sender, Receiver(Params.of("qcif")) as receiver:
+    first = sender.code(bytes(38016))
+    before = sender.packets(first)
+    receiver.packet(before[0])
+    receiver.play()
+    sender.reset(0)
+    receiver.reset()
+    wanted("Refused: packets: no packet: picture 0 isn't the last one", lambda: sender.packets(first))
+    wanted("(0, 0, 0)", lambda: (sender.sent(), receiver.played(), receiver.statistics().packets))
+    wanted("True", lambda: sender.packets(sender.code(bytes(38016))) == before)
+    receiver.reset(700)
+    wanted("700", receiver.played)
 
 # While a part of a loan is held, no call is made; once it is let go, the same call is.
 HELD = "BufferError: the picture that was lent is still held, by a slice or an array"

@@ -12,3 +12,4 @@ pub mod Steering
 pub mod Slots
 pub mod Ends
 pub mod Start
+pub mod Resetting

@@ -18,6 +18,7 @@ pub mod laws;
 mod messages;
 mod receiver;
 mod refusals;
+mod resetting;
 mod running;
 mod sender;
 mod sending;

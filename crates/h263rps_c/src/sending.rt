@@ -212,6 +212,25 @@ impl Sending {
         self.sender.forget();
     }
 
+    /// Begins a call anew in the memory that it has, and follows this target, or none where it is 0.
+    pub fn restart(&mut self, target: u32) -> Result<(), Refusal>
+        ensures refusal { refusal_in result ≡ target_refusal target self.old }
+        ensures same { IfErr result (λ why. self.new ≡ self.old) }
+        ensures packets { IsOk result → self.new.packets ≡ [] }
+        ensures stands { (p : Params) → self.old.params ≡ p → IsOk result
+            → IsSender p target [] self.new }
+        ensures steers { (p : Params) → self.old.params ≡ p → IsOk result
+            → Steers p target [] self.new }
+    {
+        if target > MOST_BYTES {
+            return Err(Refusal::BadParams);
+        }
+        self.sender
+            .restart(SendPace::choose(followed(target), self.params.quant));
+        self.packets = 0;
+        Ok(())
+    }
+
     /// How many pictures were coded.
     pub fn sent(&self) -> u32
         ensures value { result ≡ self.now.sent }

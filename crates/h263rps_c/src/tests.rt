@@ -5,6 +5,7 @@ use crate::counting::Statistics;
 use crate::handles::Slot;
 use crate::joining::*;
 use crate::receiver::*;
+use crate::resetting::*;
 use crate::running::*;
 use crate::sender::*;
 use crate::start::*;
@@ -103,6 +104,34 @@ fn steering(rt: HostRuntime) {
         0
     );
     assert_eq!(rt; steering_calls(&mut slot), [4, 0, 0, 0, 0, 3, 77]);
+    let _end = slot.into_box();
+}
+
+// What the resets answer, and what is counted then.
+fn resets(slot: &mut Slot) -> [u32; 6] {
+    let mut sent = 77;
+    let mut played = 77;
+    let great = h263rps_raw_sender_reset(slot, 1_000_000);
+    let target = h263rps_raw_sender_reset(slot, 999_999);
+    let late = h263rps_raw_receiver_reset(slot, 1_048_577);
+    let last = h263rps_raw_receiver_reset(slot, 1_048_576);
+    let _ = h263rps_raw_sender_sent(slot, &mut sent);
+    let _ = h263rps_raw_receiver_played(slot, &mut played);
+    [great, target, late, last, sent, played]
+}
+
+#[test]
+fn a_call_begins_anew(rt: HostRuntime) {
+    let mut slot = Slot::vacant(rt.alloc());
+    let mut fault = 77;
+    assert_eq!(rt; resets(&mut slot), [1, 1, 1, 1, 77, 77]);
+    let started = h263rps_raw_sender_start(rt.alloc(), &mut slot, &ASKED, &mut fault);
+    assert_eq!(rt; started, 0);
+    assert_eq!(rt; resets(&mut slot), [4, 0, 3, 3, 0, 77]);
+    assert_eq!(rt; h263rps_raw_sender_finish(rt.alloc(), &mut slot), 0);
+    let started = h263rps_raw_receiver_start(rt.alloc(), &mut slot, &ASKED, &mut fault);
+    assert_eq!(rt; started, 0);
+    assert_eq!(rt; resets(&mut slot), [3, 3, 4, 0, 77, 1_048_576]);
     let _end = slot.into_box();
 }
 
