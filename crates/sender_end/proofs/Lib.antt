@@ -4,3 +4,4 @@ pub mod Keeping
 pub mod Storing
 pub mod Captured
 pub mod Noted
+pub mod Counted

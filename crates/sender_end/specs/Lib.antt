@@ -4,3 +4,4 @@ pub mod Selecting
 pub mod State
 pub mod Parts
 pub mod Stands
+pub mod Known

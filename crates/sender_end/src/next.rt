@@ -1,10 +1,11 @@
 //! The reference of the next picture.
-ghost use Rattle.std.specs.Prelude.{◌≡◌, ◌+◌, ◌<◌, ◌≤◌, ℕ, Bool, IfSome};
+ghost use Rattle.std.specs.Prelude.{◌≡◌, ◌+◌, ◌-◌, ◌^◌, ◌&&◌, ◌<◌, ◌≤◌, ℕ, Bool, IfSome, nat_le, if◌then◌else◌};
 ghost use Rattle.std.specs.Option.{option_map_or};
 ghost use Rattle.reference_selector.specs.Stands.{SelectorStands};
 ghost use Rattle.call_model.specs.Coding.{Rules};
 ghost use Rattle.call_model.specs.CodedPictures.{reference_for};
 ghost use Rattle.call_model.specs.Steering.{from_floor};
+ghost use Rattle.sender_end.specs.Known.{count_below};
 ghost use Rattle.sender_end.specs.Selecting.{IsSelecting};
 
 use call_model::laws as call_model_laws;
@@ -52,4 +53,41 @@ pub fn next_from(pictures: &Selector, number: u32, floor: u32) -> Next
             depth: pictures.depth(m) + 1,
         },
     }
+}
+
+// Whether a picture that is among the last `slots` that were coded is known, and not below the
+// floor.
+fn counts(pictures: &Selector, number: u32, floor: u32) -> bool
+    ensures { (rules : Rules) (sent : ℕ) (depth : ℕ → ℕ) (known : ℕ → Bool)
+        → number < sent → sent ≤ number + rules.slots
+        → SelectorStands rules pictures.now sent depth known
+        → result ≡ (nat_le floor number && known number) }
+{
+    if number < floor {
+        return false;
+    }
+    pictures.knows(number)
+}
+
+// A count, with one more if that counts.
+fn counted(count: u32, more: bool) -> u32
+    requires { count < 2 ^ 32 - 1 }
+    ensures { result ≡ (if more then count + 1 else count) }
+{
+    if more { count + 1 } else { count }
+}
+
+/// How many pictures from `first` on are known, where `sent` were coded, without those below the
+/// floor.
+pub fn known_from(pictures: &Selector, first: u32, floor: u32, sent: u32) -> u32
+    requires { first ≤ sent }
+    ensures { (rules : Rules) (depth : ℕ → ℕ) (known : ℕ → Bool)
+        → SelectorStands rules pictures.now sent depth known → sent ≤ first + rules.slots
+        → result ≡ count_below sent (λ m. nat_le first m && (nat_le floor m && known m)) }
+{
+    let mut count = 0;
+    'numbers: for number in first..sent {
+        count = counted(count, counts(pictures, number, floor));
+    }
+    count
 }

@@ -18,7 +18,7 @@ ghost use Rattle.call_encoding.specs.Messages.{read_message};
 use crate::answers::{Coded, Feedback};
 use crate::coding::{code_in_store, push_size, size_of};
 use crate::headers::header_of;
-use crate::next::{Next, next_from};
+use crate::next::{Next, known_from, next_from};
 use arrayvec::ArrayVec;
 use back_messages::{Message, MessageFault, read};
 use call_decoding::{Pictured, Styled, laws as call_decoding_laws};
@@ -65,6 +65,7 @@ impl<P: Pace> Sender<P> {
     ghost use Rattle.sender_end.specs.Stands.{reply_of, run_of};
     ghost use Rattle.sender_end.specs.Stands.{Holds, Run, after_code, after_message, next_in};
     ghost use Rattle.sender_end.specs.Stands.{packets_after};
+    ghost use Rattle.sender_end.specs.Known.{known_in};
 
     /// A sender before its first picture.
     pub fn start(alloc: Global, params: &Params, pace: P) -> Result<Sender<P>, OutOfMemory>
@@ -219,6 +220,16 @@ impl<P: Pace> Sender<P> {
         ensures holds { (run : Run) → Holds self.now run → result ≡ length run.run.coded }
     {
         self.sent
+    }
+
+    /// How many pictures it knows to be complete at the other end, of those to which its next
+    /// picture may refer: those in the window of `slots - lead - 1` numbers, but for what it forgot.
+    pub fn known(&self) -> u32
+        ensures { (run : Run) → Holds self.now run → result ≡ known_in self.now.params run }
+    {
+        let window = self.params.slots - self.params.lead - 1;
+        let first = self.sent.saturating_sub(window);
+        known_from(&self.selector, first, self.since, self.sent)
     }
 
     /// Takes feedback: the bytes of a message of the other end. Only what is known of the last
