@@ -306,6 +306,7 @@ uint32_t h263rps_raw_sender_target(h263rps_end *end, uint32_t bytes);
 uint32_t h263rps_raw_sender_forget(h263rps_end *end);
 uint32_t h263rps_raw_sender_reset(h263rps_end *end, uint32_t bytes);
 uint32_t h263rps_raw_sender_sent(h263rps_end *end, uint32_t *count);
+uint32_t h263rps_raw_sender_known(h263rps_end *end, uint32_t *count);
 uint32_t h263rps_raw_sender_statistics(h263rps_end *end, h263rps_statistics *statistics);
 uint32_t h263rps_raw_sender_finish(h263rps_end *end);
 
@@ -589,6 +590,15 @@ static inline uint32_t h263rps_sender_reset(h263rps_end *end, uint32_t bytes) {
 static inline uint32_t h263rps_sender_sent(h263rps_end *end, uint32_t *count) {
     if (!end || !count) return H263RPS_NULL;
     return h263rps_raw_sender_sent(end, count);
+}
+
+/* Writes to `count` how many pictures a sender knows to be complete on the other side, of those to
+ * which its next picture may refer: the last `slots - lead - 1`, but for what it forgot. With 0 the
+ * next picture is intra. How it moves tells how a line does.
+ * NOT_STARTED, OTHER_END. */
+static inline uint32_t h263rps_sender_known(h263rps_end *end, uint32_t *count) {
+    if (!end || !count) return H263RPS_NULL;
+    return h263rps_raw_sender_known(end, count);
 }
 
 /* Writes what a sender has counted since its start or reset to `statistics`.

@@ -81,6 +81,12 @@ static void forgetting(void) {
     want("from the intra picture", made.coded.reference, 2);
     want("sent", h263rps_sender_sent(&sender, &pictures), 0);
     want("five", pictures, 5);
+    /* 0 and 1 were forgotten, and nothing is known of 3 and 4 */
+    want("known", h263rps_sender_known(&sender, &pictures), 0);
+    want("one", pictures, 1);
+    acknowledge(&sender, 4);
+    want("known", h263rps_sender_known(&sender, &pictures), 0);
+    want("two", pictures, 2);
     want("finish", h263rps_sender_finish(&sender), 0);
 }
 

@@ -130,6 +130,7 @@ static void sender_calls(h263rps_end *end, uint32_t status) {
     want("forget", h263rps_sender_forget(end), status);
     want("reset", h263rps_sender_reset(end, 1000000), status);
     want("sent", h263rps_sender_sent(end, &pictures), status);
+    want("known", h263rps_sender_known(end, &pictures), status);
     want("statistics", h263rps_sender_statistics(end, &statistics), status);
     want("finish", h263rps_sender_finish(end), status);
     want("counts are left", statistics.packets == 77, 1);
@@ -322,6 +323,7 @@ static void sender(void) {
     want("null", h263rps_sender_forget(NULL), H263RPS_NULL);
     want("null", h263rps_sender_reset(NULL, 0), H263RPS_NULL);
     want("null", h263rps_sender_sent(&end, NULL), H263RPS_NULL);
+    want("null", h263rps_sender_known(&end, NULL), H263RPS_NULL);
     want("finish", h263rps_sender_finish(&end), H263RPS_OK);
     sender_calls(&end, H263RPS_NOT_STARTED);
 }

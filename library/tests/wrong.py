@@ -61,7 +61,7 @@ with Sender(Params.of("qcif")) as sender, Receiver(Params.of("qcif")) as receive
     wanted("Refused: reset: bad params", lambda: receiver.reset(1048577))
     wanted("ValueError: number: -1 is out of its range", lambda: receiver.reset(-1))
     wanted("None", lambda: (sender.target(999999), sender.forget())[1])
-    wanted("(0, 0)", lambda: (sender.sent(), receiver.played()))
+    wanted("(0, 0, 0)", lambda: (sender.sent(), sender.known(), receiver.played()))
     wanted("0", lambda: sum(sender.statistics().coded.values()))
     wanted("Reply(kind='no message', fault=1)", lambda: sender.feedback(b""))
     wanted("1", lambda: sender.statistics().noted["no message"])

@@ -15,6 +15,7 @@ ghost use Rattle.call_encoding.specs.Messages.{read_message};
 ghost use Rattle.receiver_end.specs.Answers.{IsHeard, IsPlayed, takes};
 ghost use Rattle.receiver_end.specs.State as receivers;
 ghost use Rattle.receiver_end.specs.State.{plays_alone};
+ghost use Rattle.sender_end.specs.Known.{known_in};
 ghost use Rattle.sender_end.specs.Stands as senders;
 ghost use Rattle.h263rps_c.specs.Ends.{HoldsReceiver, HoldsSender, HoldsSteered, ShowsPicture, packets_in};
 ghost use Rattle.h263rps_c.specs.Sending.{frame_of};
@@ -388,6 +389,19 @@ impl End {
     {
         match self {
             End::Sending(sending) => Ok(sending.sent()),
+            End::Receiving(_) => Err(Refusal::OtherEnd),
+        }
+    }
+
+    /// How many pictures a sender knows to be complete, of those to which its next one may refer.
+    pub fn known(&self) -> Result<u32, Refusal>
+        ensures refusal { refusal_in result ≡ for_sender never (Some self.now) }
+        ensures steers { (p : Params) (first : ℕ) (past : List Steering)
+            → HoldsSteered p first past (Some self.now) → IfOk result (λ count.
+            count ≡ known_in p (run_after p (target_in first) past)) }
+    {
+        match self {
+            End::Sending(sending) => Ok(sending.known()),
             End::Receiving(_) => Err(Refusal::OtherEnd),
         }
     }

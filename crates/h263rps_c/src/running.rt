@@ -1,6 +1,7 @@
 //! What steers a sender of C while it runs.
 ghost use Rattle.std.specs.Prelude.{◌≡◌, ◌≢◌, ℕ, List, ◌∷◌, length};
 ghost use Rattle.h263_types.specs.declared.params.Params.{Params};
+ghost use Rattle.sender_end.specs.Known.{known_in};
 ghost use Rattle.h263rps_c.specs.Ends.{HoldsSteered, packets_in};
 ghost use Rattle.h263rps_c.specs.Pace.{target_in};
 ghost use Rattle.h263rps_c.specs.Refusals.{status_of, target_refusal};
@@ -73,6 +74,30 @@ pub extern "C" fn h263rps_raw_sender_sent(slot: &mut Slot, count: &mut u32) -> u
         Err(refusal) => refusal.number(),
         Ok(sent) => {
             *count = sent;
+            OK
+        }
+    }
+}
+
+/// How many pictures a sender knows to be complete at the other end, of those to which its next one
+/// may refer.
+#[unsafe(no_mangle)]
+pub extern "C" fn h263rps_raw_sender_known(slot: &mut Slot, count: &mut u32) -> u32
+    ensures result { result ≡ status_of (for_sender never slot.old.handle.inside) }
+    ensures same { slot.new.handle.inside ≡ slot.old.handle.inside }
+    ensures counts { slot.new.counted ≡ slot.old.counted }
+    ensures uncounted { result ≢ 0 → count.new ≡ count.old }
+    ensures steers { (p : Params) (first : ℕ) (past : List Steering)
+        → HoldsSteered p first past slot.old.handle.inside → result ≡ 0
+        → count.new ≡ known_in p (run_after p (target_in first) past) }
+{
+    if !slot.is_started() {
+        return Refusal::NotStarted.number();
+    }
+    match slot.handle.end_mut().known() {
+        Err(refusal) => refusal.number(),
+        Ok(known) => {
+            *count = known;
             OK
         }
     }

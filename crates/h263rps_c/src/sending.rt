@@ -9,6 +9,7 @@ ghost use Rattle.call_model.specs.SenderStanding.{is_noted};
 ghost use Rattle.call_decoding.specs.Rules.{rules_of};
 ghost use Rattle.call_encoding.specs.Frames.{Frame};
 ghost use Rattle.call_encoding.specs.Messages.{read_message};
+ghost use Rattle.sender_end.specs.Known.{known_in};
 ghost use Rattle.sender_end.specs.Stands as senders;
 ghost use Rattle.h263rps_c.specs.Sending.{IsSender, frame_of};
 ghost use Rattle.h263rps_c.specs.Steering.{Steering, Steers, next_after, run_after};
@@ -242,6 +243,15 @@ impl Sending {
             → result ≡ length (run_after p (target_in first) past).run.coded }
     {
         self.sender.sent()
+    }
+
+    /// How many pictures it knows to be complete, of those to which its next picture may refer.
+    pub fn known(&self) -> u32
+        ensures { (p : Params) (first : ℕ) (past : List Steering)
+            → Steers p first past self.now
+            → result ≡ known_in p (run_after p (target_in first) past) }
+    {
+        self.sender.known()
     }
 
     /// Gives all memory back.

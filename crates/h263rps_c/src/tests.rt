@@ -83,27 +83,31 @@ fn sender_calls(alloc: Global, slot: &mut Slot) -> [u32; 5] {
 
 // What the functions that steer a sender answer, a target that is too great first, and how many
 // pictures were coded; and what a receiver has played.
-fn steering_calls(slot: &mut Slot) -> [u32; 7] {
+fn steering_calls(slot: &mut Slot) -> [u32; 9] {
     let mut sent = 77;
+    let mut known = 77;
     let mut played = 77;
     let great = h263rps_raw_sender_target(slot, 1_000_000);
     let target = h263rps_raw_sender_target(slot, 999_999);
     let forget = h263rps_raw_sender_forget(slot);
     let coded = h263rps_raw_sender_sent(slot, &mut sent);
+    let complete = h263rps_raw_sender_known(slot, &mut known);
     let shown = h263rps_raw_receiver_played(slot, &mut played);
-    [great, target, forget, coded, sent, shown, played]
+    [
+        great, target, forget, coded, sent, complete, known, shown, played,
+    ]
 }
 
 #[test]
 fn steering(rt: HostRuntime) {
     let mut slot = Slot::vacant(rt.alloc());
     let mut fault = 77;
-    assert_eq!(rt; steering_calls(&mut slot), [1, 1, 1, 1, 77, 1, 77]);
+    assert_eq!(rt; steering_calls(&mut slot), [1, 1, 1, 1, 77, 1, 77, 1, 77]);
     assert_eq!(rt;
         h263rps_raw_sender_start(rt.alloc(), &mut slot, &ASKED, &mut fault),
         0
     );
-    assert_eq!(rt; steering_calls(&mut slot), [4, 0, 0, 0, 0, 3, 77]);
+    assert_eq!(rt; steering_calls(&mut slot), [4, 0, 0, 0, 0, 0, 0, 3, 77]);
     let _end = slot.into_box();
 }
 
@@ -143,7 +147,10 @@ fn a_receiver_at_a_number(rt: HostRuntime) {
     assert_eq!(rt; (late, fault), (4, 11));
     let last = h263rps_raw_receiver_start_at(rt.alloc(), &mut slot, &ASKED, 1_048_576, &mut fault);
     assert_eq!(rt; (last, fault), (0, 11));
-    assert_eq!(rt; steering_calls(&mut slot), [3, 3, 3, 3, 77, 0, 1_048_576]);
+    assert_eq!(rt;
+        steering_calls(&mut slot),
+        [3, 3, 3, 3, 77, 3, 77, 0, 1_048_576]
+    );
     let mut answer = UNTOUCHED;
     assert_eq!(rt; h263rps_raw_receiver_next(&mut slot, &mut answer), 6);
     let again = h263rps_raw_receiver_start_at(rt.alloc(), &mut slot, &ASKED, 5, &mut fault);
