@@ -135,6 +135,14 @@ impl Collector {
         self.marks[self.marks_at(self.place_of(number)) + mb as usize]
     }
 
+    /// The header of what was taken of a picture in the row, or None where nothing was.
+    pub fn header(&self, number: u32) -> Option<Header>
+        requires { IsInRow self.now number }
+        ensures { result ≡ header_in self.now number }
+    {
+        self.headers[self.place_of(number)]
+    }
+
     /// Whether something of a picture in the row was taken.
     pub fn any(&self, number: u32) -> bool
         requires { IsInRow self.now number }

@@ -19,3 +19,4 @@ pub mod News
 pub mod Told
 pub mod Runs
 pub mod Saying
+pub mod Referred

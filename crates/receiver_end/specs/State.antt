@@ -1,5 +1,5 @@
 -- What a receiver keeps, and the run that it stands for.
-use Rattle.std.specs.Prelude.{◌≡◌, ℕ, zero, suc, ◌+◌, ◌-◌, ◌%◌, ◌^◌, ◌≤◌, Bool, true, false, ◌==◌, List, [], ◌∷◌, length, Option, if◌then◌else◌}
+use Rattle.std.specs.Prelude.{◌≡◌, ℕ, zero, suc, ◌+◌, ◌-◌, ◌%◌, ◌^◌, ◌≤◌, Bool, true, false, ◌==◌, List, [], ◌∷◌, length, Option, Some, None, option_and_then, if◌then◌else◌}
 use Rattle.std.specs.Option.{option_map, option_map_or}
 use Rattle.h263_bits.specs.declared.fault.Fault.{Fault}
 use Rattle.h263_types.specs.declared.blocks.Mb.{Mb}
@@ -9,8 +9,8 @@ use Rattle.h263_planes.specs.Picture.{Picture}
 use Rattle.picture_store.specs.Pictures.{Pictures, slots_of, number_in, picture_in, work_in, IsKept}
 use Rattle.packet_collector.specs.Collected.{Collects, row_of, format_of, header_in, has_in}
 use Rattle.packet_collector.specs.Taken.{Taken}
-use Rattle.call_model.specs.Coding.{Mark, Message}
-use Rattle.call_model.specs.Receiving.{ReceiverRun, ReceiverEntry, PlayNext, Heard, heard, played_mark, played_message, receiver_run}
+use Rattle.call_model.specs.Coding.{Header, Mark, Message}
+use Rattle.call_model.specs.Receiving.{ReceiverRun, ReceiverEntry, PlayNext, Heard, TakenSlice, heard, played_mark, played_message, receiver_run, reference_in}
 use Rattle.call_model.specs.Stands.{Receiver, ReceiverStands}
 use Rattle.call_decoding.specs.Rules.{rules_of}
 use Rattle.call_decoding.specs.Styles.{Style, header_of}
@@ -89,6 +89,25 @@ mark_after p past = played_mark (decoding p.format) (rules_of p) (run_of p past)
 
 abbrev pub message_after : Params → List ReceiverEntry → Option Message
 message_after p past = played_message (decoding p.format) (rules_of p) (run_of p past)
+
+-- the header of what was taken of picture n: its slices have one
+abbrev pub header_taken : {Style Mb : Type 0} → List (TakenSlice Style Mb) → ℕ → Option (Header Style)
+header_taken [] n = None
+header_taken (t ∷ ts) n = if t.number == n then Some t.piece.header else header_taken ts n
+
+-- The picture to which the next one refers, by the header of what was taken of it: None where it is
+-- intra, and where nothing of it was taken.
+abbrev pub reference_after : Params → List ReceiverEntry → Option ℕ
+reference_after p past =
+    let run = run_of p past in
+    option_and_then (reference_in (decoding p.format) (rules_of p) run.played)
+    (header_taken run.taken run.played)
+
+-- the same, by the header that is kept
+abbrev pub reference_kept : Kept → Option ℕ
+reference_kept r =
+    option_and_then (reference_in (decoding r.params.format) (rules_of r.params) r.played)
+    (option_map header_of (header_in r.collector r.played))
 
 -- the receiver stands for this list of entries, the newest first
 abbrev pub Stands : Kept → List ReceiverEntry → Type 0

@@ -48,11 +48,13 @@ impl Heard {
     }
 }
 
-/// What a play says: which picture it is, how that is shown, and where it isn't complete the message
-/// that asks for another reference.
+/// What a play says: which picture it is, how that is shown, to which picture it refers (None where
+/// it is intra, and where nothing of it was taken), and where it isn't complete the message that asks
+/// for another reference.
 #[derive(Clone, Copy, Debug, PartialEq, Eq)]
 pub struct Played {
     pub number: u32,
     pub mark: Mark,
+    pub reference: Option<u32>,
     pub message: Option<MessageBytes>,
 }

@@ -11,6 +11,7 @@ ghost use Rattle.receiver_end.specs.Decoding.{decoding};
 use crate::answers::Played;
 use crate::kept::Kept;
 use crate::laws;
+use crate::numbers::named;
 use crate::patching::{patch_by_kept, patch_by_work};
 use call_decoding::{Pictured, Styled, laws as call_decoding_laws};
 use call_model::laws as call_model_laws;
@@ -19,7 +20,7 @@ use h263_planes::laws as planes_laws;
 use h263_types::{Mark, Mb};
 
 impl Kept {
-    ghost use Rattle.receiver_end.specs.State.{Fits, Stands, seen};
+    ghost use Rattle.receiver_end.specs.State.{Fits, Stands, reference_kept, seen};
     ghost use Rattle.receiver_end.specs.Steps.{IsPatched, IsShown};
 
     // The mark of a picture that isn't complete.
@@ -34,25 +35,40 @@ impl Kept {
         Mark::Held
     }
 
+    // The picture to which the next one refers, by the header of what was taken of it.
+    fn reference(&self) -> Option<u32>
+        requires { Fits self.now }
+        ensures { result ≡ reference_kept self.now }
+    {
+        match self.collector.header(self.played) {
+            None => None,
+            Some(header) => named(self.played, header.trp, self.params.clock),
+        }
+    }
+
     // What the next play says.
     fn told(&self) -> Played
         requires fits { Fits self.now }
         ensures number { result.number ≡ self.now.played }
+        ensures reference { result.reference ≡ reference_kept self.now }
         ensures told { IsPlayed self.now.params.clock result (mark_by_kept
             (decoding self.now.params.format) (rules_of self.now.params) (seen self.now))
             (message_by_kept (decoding self.now.params.format) (rules_of self.now.params)
             (seen self.now)) }
     {
+        let reference = self.reference();
         if self.holds(self.played) {
             return Played {
                 number: self.played,
                 mark: Mark::Exact,
+                reference,
                 message: None,
             };
         }
         Played {
             number: self.played,
             mark: self.part(),
+            reference,
             message: Some(self.nack()),
         }
     }
@@ -107,6 +123,7 @@ impl Kept {
         ensures params { self.new.params ≡ self.old.params }
         ensures played { self.new.played ≡ self.old.played + 1 }
         ensures number { result.number ≡ self.old.played }
+        ensures reference { result.reference ≡ reference_kept self.old }
         ensures told { IsPlayed self.old.params.clock result (mark_by_kept
             (decoding self.old.params.format) (rules_of self.old.params) (seen self.old))
             (message_by_kept (decoding self.old.params.format) (rules_of self.old.params)

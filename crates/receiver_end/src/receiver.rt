@@ -41,7 +41,7 @@ impl Receiver {
     ghost use Rattle.call_model.specs.Receiving.{ReceiverEntry, Packet, PlayNext};
     ghost use Rattle.receiver_end.specs.Answers.{IsHeard, IsPlayed, takes};
     ghost use Rattle.receiver_end.specs.State.{Stands, answer_after, mark_after, message_after};
-    ghost use Rattle.receiver_end.specs.State.{plays_alone, run_of};
+    ghost use Rattle.receiver_end.specs.State.{plays_alone, reference_after, run_of};
 
     /// Nothing was heard or played. All memory of the receiver is taken here.
     pub fn start(alloc: Global, params: &Params) -> Result<Receiver, OutOfMemory>
@@ -110,6 +110,8 @@ impl Receiver {
         ensures number { result.number ≡ self.old.played }
         ensures run { (past : List ReceiverEntry) → Stands self.old past → result.number
             ≡ (run_of self.old.params past).played }
+        ensures reference { (past : List ReceiverEntry) → Stands self.old past
+            → result.reference ≡ reference_after self.old.params past }
         ensures told { (past : List ReceiverEntry) → Stands self.old past
             → IsPlayed self.old.params.clock result (mark_after self.old.params past)
             (message_after self.old.params past) }

@@ -154,12 +154,17 @@ impl Ends {
         ensures sender { self.new.sender ≡ self.old.sender }
         ensures format { self.new.format ≡ self.old.format }
     {
+        let number = self.receiver.played();
+        let Some(played) = self.play() else {
+            return false;
+        };
         let exact = Played {
-            number: self.receiver.played(),
+            number,
             mark: Mark::Exact,
             message: None,
+            ..played
         };
-        self.play() == Some(exact)
+        played == exact
     }
 
     // The message of the next picture, if it has this mark.

@@ -58,6 +58,7 @@ fn cut_packet_before_the_whole_one(rt: HostRuntime) -> Result<(), Fail> {
         Played {
             number: 0,
             mark: Mark::Exact,
+            reference: None,
             message: None
         }
     );
@@ -80,7 +81,7 @@ fn reference_comes_late(rt: HostRuntime) -> Result<(), Fail> {
     assert_eq!(rt; early, MISSING);
     assert_eq!(rt; first, Heard::Completed(ACK_0));
     assert_eq!(rt; second, Heard::Completed(ACK_1));
-    assert_eq!(rt; played.mark, Mark::Exact);
+    assert_eq!(rt; (played.mark, played.reference), (Mark::Exact, Some(0)));
     assert_eq!(rt; seen, 100);
     Ok(())
 }
@@ -120,6 +121,7 @@ fn held_pictures(rt: HostRuntime) -> Result<(), Fail> {
         Played {
             number: 0,
             mark: Mark::Held,
+            reference: None,
             message: Some(MessageBytes {
                 bytes: [0x80, 0x04, 0x00, 0, 0],
                 len: 3

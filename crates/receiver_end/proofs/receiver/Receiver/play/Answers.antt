@@ -1,10 +1,11 @@
-use Rattle.std.proofs.Common.{sym, subst}
+use Rattle.std.proofs.Common.{sym, subst, ap, ◌∙◌}
 use Rattle.call_model.specs.Receiving.{played_mark, played_message}
 use Rattle.call_decoding.specs.Rules.{rules_of}
 use Rattle.receiver_end.specs.declared.kept.Kept.{Kept}
 use Rattle.receiver_end.specs.Answers.{IsPlayed}
 use Rattle.receiver_end.specs.Decoding.{decoding}
-use Rattle.receiver_end.specs.State.{Stands, run_of}
+use Rattle.receiver_end.specs.State.{Stands, reference_after, run_of}
+use Rattle.receiver_end.proofs.Referred.{reference_is}
 use Rattle.receiver_end.proofs.Runs.{played_so}
 use Rattle.receiver_end.proofs.receiver.Receiver.play.Goals as goal
 
@@ -17,3 +18,10 @@ returns-clause-told c = λ past stands.
 
 pub returns-clause-stands : goal.returns-clause-stands
 returns-clause-stands c = λ past stands. c.play.ensures.stands past (subst (λ (x : Kept). Stands x past) (sym c.self.view_is) stands)
+
+pub returns-clause-reference : goal.returns-clause-reference
+returns-clause-reference c = λ past stands.
+    let k = c.self.inside.kept in
+    let mine : Stands k past = subst (λ (x : Kept). Stands x past) (sym c.self.view_is) stands in
+    c.play.ensures.reference ∙ reference_is k past (c.is_decoding.ensures k.params) mine
+    ∙ ap (λ (x : Kept). reference_after x.params past) c.self.view_is
