@@ -176,6 +176,8 @@ static void pass(h263rps_end *sender, h263rps_end *receiver, uint32_t number, st
                                              &reply), 0);
     want("play", h263rps_receiver_play(receiver, shown, SIZE, &answer), 0);
     want("exact", answer.kind == H263RPS_EXACT && answer.number == number, 1);
+    want("predicted", answer.predicted, !made->coded.intra);
+    want("its reference", answer.reference, made->coded.reference);
 }
 
 /* A call that begins anew has the packets of the first one, byte for byte, and its counts begin at

@@ -29,7 +29,7 @@ static void layout(void) {
     want("size of an end", sizeof(h263rps_end), 2 * sizeof(void *) + sizeof(h263rps_statistics));
     want("size of the parameters", sizeof(h263rps_params), 32);
     want("size of a message", sizeof(h263rps_message), 6);
-    want("size of an answer", sizeof(h263rps_answer), 24);
+    want("size of an answer", sizeof(h263rps_answer), 32);
     want("size of a picture", sizeof(h263rps_coded), 16);
     want("size of a reply", sizeof(h263rps_reply), 8);
     want("size of what is lent", sizeof(h263rps_lent), 2 * sizeof(void *));

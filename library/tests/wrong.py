@@ -68,7 +68,7 @@ with Sender(Params.of("qcif")) as sender, Receiver(Params.of("qcif")) as receive
     wanted("'refused'", lambda: receiver.packet(b"").kind)
     wanted("(1, 1)", lambda: counts(receiver)[:2])
     lent = receiver.play_lent()
-    wanted("('held', 0)", lambda: (lent.mark, lent.number))
+    wanted("('held', 0, None)", lambda: (lent.mark, lent.number, lent.reference))
     wanted("(38016, 128, 128)", lambda: (len(lent.picture), lent.picture[0], lent.picture[-1]))
     wanted("TypeError: cannot modify read-only memory", lambda: lent.picture.__setitem__(0, 1))
     wanted("True", lambda: bytes(receiver.shown()) == receiver.play().picture)

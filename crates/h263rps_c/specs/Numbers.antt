@@ -1,5 +1,5 @@
 -- The numbers of the header: each answer as C has it.
-use Rattle.std.specs.Prelude.{ℕ, [], ◌∷◌, Option, Some, None}
+use Rattle.std.specs.Prelude.{◌≡◌, ℕ, [], ◌∷◌, Option, Some, None}
 use Rattle.h263_bits.specs.declared.fault.FaultKind.{FaultKind}
 use Rattle.h263_bits.specs.declared.fault.FaultKind.TheVariants as kinds
 use Rattle.h263_types.specs.declared.Mark.{Mark}
@@ -94,11 +94,28 @@ said_in None = no_message
 said_in (Some said) = said_of said
 
 abbrev pub plain : ℕ → Answer
-plain kind = record { kind = kind; fault = 0; at = 0; number = 0; message = no_message }
+plain kind =
+    record {
+      kind = kind;
+      fault = 0;
+      at = 0;
+      number = 0;
+      predicted = 0;
+      reference = 0;
+      message = no_message;
+    }
 
 abbrev pub saying : ℕ → MessageBytes → Answer
 saying kind said =
-    record { kind = kind; fault = 0; at = 0; number = 0; message = said_of said }
+    record {
+      kind = kind;
+      fault = 0;
+      at = 0;
+      number = 0;
+      predicted = 0;
+      reference = 0;
+      message = said_of said;
+    }
 
 abbrev pub refusing : PacketFault → Answer
 refusing fault =
@@ -107,6 +124,8 @@ refusing fault =
       fault = fault_number fault;
       at = place_of fault;
       number = 0;
+      predicted = 0;
+      reference = 0;
       message = no_message;
     }
 
@@ -124,7 +143,22 @@ mark_number marks.Exact = 0
 mark_number marks.Patched = 1
 mark_number marks.Held = 2
 
--- to a play: with the number of the picture that is shown
+-- there is a reference, as a number
+abbrev pub is_predicted : Option ℕ → ℕ
+is_predicted None = 0
+is_predicted (Some m) = 1
+
+-- its number, or 0
+abbrev pub reference_number : Option ℕ → ℕ
+reference_number None = 0
+reference_number (Some m) = m
+
+-- the answer names this reference, if there is one
+abbrev pub NamesReference : Answer → Option ℕ → Type 0
+NamesReference answer o =
+    (answer.predicted ≡ is_predicted o) × (answer.reference ≡ reference_number o)
+
+-- to a play: with the number of the picture that is shown, and that of its reference
 abbrev pub played_answer : Played → Answer
 played_answer played =
     record {
@@ -132,6 +166,8 @@ played_answer played =
       fault = 0;
       at = 0;
       number = played.number;
+      predicted = is_predicted played.reference;
+      reference = reference_number played.reference;
       message = said_in played.message;
     }
 

@@ -27,6 +27,10 @@ pub struct Answer {
     pub at: u32,
     /// Of a play the number of the picture that is shown; of a packet 0.
     pub number: u32,
+    /// Of a play 1 where what was taken of the picture that is shown refers to another one, else 0.
+    pub predicted: u32,
+    /// The number of that one, else 0.
+    pub reference: u32,
     pub message: Said,
 }
 
@@ -129,6 +133,25 @@ fn mark_number(mark: Mark) -> u32
     }
 }
 
+// Whether there is a reference, as a number.
+fn is_predicted(reference: Option<u32>) -> u32
+    ensures { result ≡ numbers.is_predicted reference }
+{
+    match reference {
+        None => 0,
+        Some(_) => 1,
+    }
+}
+
+fn reference_number(reference: Option<u32>) -> u32
+    ensures { result ≡ numbers.reference_number reference }
+{
+    match reference {
+        None => 0,
+        Some(number) => number,
+    }
+}
+
 impl Answer {
     fn plain(kind: u32) -> Answer
         ensures { result ≡ numbers.plain kind }
@@ -138,6 +161,8 @@ impl Answer {
             fault: 0,
             at: 0,
             number: 0,
+            predicted: 0,
+            reference: 0,
             message: Said::NOTHING,
         }
     }
@@ -150,6 +175,8 @@ impl Answer {
             fault: 0,
             at: 0,
             number: 0,
+            predicted: 0,
+            reference: 0,
             message: Said::of(said),
         }
     }
@@ -169,6 +196,8 @@ impl Answer {
                 fault: fault_number(*fault),
                 at: place_of(*fault),
                 number: 0,
+                predicted: 0,
+                reference: 0,
                 message: Said::NOTHING,
             },
         }
@@ -183,6 +212,8 @@ impl Answer {
             fault: 0,
             at: 0,
             number: played.number,
+            predicted: is_predicted(played.reference),
+            reference: reference_number(played.reference),
             message: Said::maybe(&played.message),
         }
     }

@@ -72,6 +72,9 @@ fn play_next(receiver: &mut Receiver) -> Result<Played, Refusal>
     ensures number { (past : List ReceiverEntry) → receivers.Stands receiver.old past
         → IfOk result (λ played.
         played.number ≡ (receivers.run_of receiver.old.params past).played) }
+    ensures reference { (past : List ReceiverEntry) → receivers.Stands receiver.old past
+        → IfOk result (λ played.
+        played.reference ≡ receivers.reference_after receiver.old.params past) }
     ensures stands { (past : List ReceiverEntry) → receivers.Stands receiver.old past
         → IsOk result → receivers.Stands receiver.new (PlayNext ∷ past) }
 {
@@ -94,6 +97,9 @@ fn play_into(receiver: &mut Receiver, picture: &mut [u8]) -> Result<Played, Refu
     ensures number { (past : List ReceiverEntry) → receivers.Stands receiver.old past
         → IfOk result (λ played.
         played.number ≡ (receivers.run_of receiver.old.params past).played) }
+    ensures reference { (past : List ReceiverEntry) → receivers.Stands receiver.old past
+        → IfOk result (λ played.
+        played.reference ≡ receivers.reference_after receiver.old.params past) }
     ensures stands { (past : List ReceiverEntry) → receivers.Stands receiver.old past
         → IsOk result → receivers.Stands receiver.new (PlayNext ∷ past) }
     ensures shown { (past : List ReceiverEntry) → receivers.Stands receiver.old past
@@ -209,6 +215,9 @@ impl End {
         ensures number { (p : Params) (past : List ReceiverEntry)
             → HoldsReceiver p past (Some self.old) → IfOk result (λ played.
             played.number ≡ (receivers.run_of p past).played) }
+        ensures reference { (p : Params) (past : List ReceiverEntry)
+            → HoldsReceiver p past (Some self.old) → IfOk result (λ played.
+            played.reference ≡ receivers.reference_after p past) }
         ensures stands { (p : Params) (past : List ReceiverEntry)
             → HoldsReceiver p past (Some self.old) → IsOk result
             → HoldsReceiver p (PlayNext ∷ past) (Some self.new) }
@@ -242,6 +251,9 @@ impl End {
         ensures number { (p : Params) (past : List ReceiverEntry)
             → HoldsReceiver p past (Some self.old) → IfOk result (λ played.
             played.number ≡ (receivers.run_of p past).played) }
+        ensures reference { (p : Params) (past : List ReceiverEntry)
+            → HoldsReceiver p past (Some self.old) → IfOk result (λ played.
+            played.reference ≡ receivers.reference_after p past) }
         ensures stands { (p : Params) (past : List ReceiverEntry)
             → HoldsReceiver p past (Some self.old) → IsOk result
             → HoldsReceiver p (PlayNext ∷ past) (Some self.new) }

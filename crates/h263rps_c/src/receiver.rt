@@ -9,6 +9,7 @@ ghost use Rattle.h263rps_c.specs.Counting as counts;
 ghost use Rattle.h263rps_c.specs.Ends.{HoldsReceiver, ShowsPicture, TellsHeard, TellsPlayed};
 ghost use Rattle.std.specs.Borrow.{sem};
 ghost use Rattle.h263rps_c.specs.Returned.{KeepsEnd};
+ghost use Rattle.h263rps_c.specs.Numbers.{NamesReference};
 ghost use Rattle.h263rps_c.specs.Refusals.{next_refusal, play_refusal, refusal_in, status_of, refusal_number};
 ghost use Rattle.h263rps_c.specs.Slots.{fault_after, for_receiver, never, start_refusal};
 ghost use Rattle.h263rps_c.specs.declared.refusals.Refusal.TheVariants as refusals;
@@ -127,6 +128,9 @@ pub extern "C" fn h263rps_raw_receiver_play(
     ensures number { (p : Params) (past : List ReceiverEntry)
         → HoldsReceiver p past slot.old.handle.inside → result ≡ 0
         → answer.new.number ≡ (receivers.run_of p past).played }
+    ensures reference { (p : Params) (past : List ReceiverEntry)
+        → HoldsReceiver p past slot.old.handle.inside → result ≡ 0
+        → NamesReference answer.new (receivers.reference_after p past) }
     ensures shown { (p : Params) (past : List ReceiverEntry)
         → HoldsReceiver p past slot.old.handle.inside → result ≡ 0
         → picture.new ≡ bytes_of (receivers.run_of p (PlayNext ∷ past)).screen }
@@ -163,6 +167,9 @@ pub extern "C" fn h263rps_raw_receiver_next(slot: &mut Slot, answer: &mut Answer
     ensures number { (p : Params) (past : List ReceiverEntry)
         → HoldsReceiver p past slot.old.handle.inside → result ≡ 0
         → answer.new.number ≡ (receivers.run_of p past).played }
+    ensures reference { (p : Params) (past : List ReceiverEntry)
+        → HoldsReceiver p past slot.old.handle.inside → result ≡ 0
+        → NamesReference answer.new (receivers.reference_after p past) }
 {
     if !slot.is_started() {
         return Refusal::NotStarted.number();

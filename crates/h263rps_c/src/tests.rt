@@ -33,6 +33,8 @@ const UNTOUCHED: Answer = Answer {
     fault: 77,
     at: 77,
     number: 77,
+    predicted: 77,
+    reference: 77,
     message: Said {
         bytes: [7; 5],
         length: 7,
@@ -269,7 +271,7 @@ fn parameters(rt: HostRuntime) {
 }
 
 // A picture of a sender goes to a receiver: whether anything is refused, what its last packet is
-// answered, how it is shown, and whether it is intra.
+// answered, how it is shown, and whether it is intra. A wrong reference is a refusal, too.
 fn sent(sender: &mut Slot, receiver: &mut Slot, picture: &mut [u8]) -> [u32; 4] {
     let mut made = Made {
         number: 0,
@@ -294,6 +296,9 @@ fn sent(sender: &mut Slot, receiver: &mut Slot, picture: &mut [u8]) -> [u32; 4] 
     refused |= h263rps_raw_sender_feedback(sender, said, &mut reply);
     let completed = heard.kind;
     refused |= h263rps_raw_receiver_play(receiver, picture, &mut heard);
+    if heard.predicted == made.intra || heard.reference != made.reference {
+        refused = 99;
+    }
     [refused, completed, heard.kind, made.intra]
 }
 
