@@ -20,3 +20,4 @@ pub mod Told
 pub mod Runs
 pub mod Saying
 pub mod Referred
+pub mod Arrived

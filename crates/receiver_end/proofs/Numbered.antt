@@ -22,7 +22,7 @@ use Rattle.receiver_end.specs.Steps.{Spells}
 apart : (a b : ℕ) → a ≡ 128 → b ≡ 512 → a ≡ b → ⊥
 apart a b p q e = omega (arith, p, q, e)
 
-halves : (a b : Clock) → half_of a ≡ half_of b → a ≡ b
+pub halves : (a b : Clock) → half_of a ≡ half_of b → a ≡ b
 halves Standard Standard e = refl
 halves Custom Custom e = refl
 halves Standard Custom e = absurd (apart (half_of Standard) (half_of Custom) refl refl e)

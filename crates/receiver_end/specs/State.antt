@@ -1,6 +1,7 @@
 -- What a receiver keeps, and the run that it stands for.
 use Rattle.std.specs.Prelude.{◌≡◌, ℕ, zero, suc, ◌+◌, ◌-◌, ◌%◌, ◌^◌, ◌≤◌, Bool, true, false, ◌==◌, List, [], ◌∷◌, length, Option, Some, None, option_and_then, if◌then◌else◌}
 use Rattle.std.specs.Option.{option_map, option_map_or}
+use Rattle.std.specs.Result.{result_ok}
 use Rattle.h263_bits.specs.declared.fault.Fault.{Fault}
 use Rattle.h263_types.specs.declared.blocks.Mb.{Mb}
 use Rattle.h263_types.specs.declared.params.Params.{Params}
@@ -10,7 +11,7 @@ use Rattle.picture_store.specs.Pictures.{Pictures, slots_of, number_in, picture_
 use Rattle.packet_collector.specs.Collected.{Collects, row_of, format_of, header_in, has_in}
 use Rattle.packet_collector.specs.Taken.{Taken}
 use Rattle.call_model.specs.Coding.{Header, Mark, Message}
-use Rattle.call_model.specs.Receiving.{ReceiverRun, ReceiverEntry, PlayNext, Heard, TakenSlice, heard, played_mark, played_message, receiver_run, reference_in}
+use Rattle.call_model.specs.Receiving.{ReceiverRun, ReceiverEntry, PlayNext, Heard, TakenSlice, heard, piece_number, played_mark, played_message, receiver_run, reference_in}
 use Rattle.call_model.specs.Stands.{Receiver, ReceiverStands}
 use Rattle.call_decoding.specs.Rules.{rules_of}
 use Rattle.call_decoding.specs.Styles.{Style, header_of}
@@ -89,6 +90,13 @@ mark_after p past = played_mark (decoding p.format) (rules_of p) (run_of p past)
 
 abbrev pub message_after : Params → List ReceiverEntry → Option Message
 message_after p past = played_message (decoding p.format) (rules_of p) (run_of p past)
+
+-- The number of the picture that a packet is of: the one nearest to the play. None where the packet
+-- has a fault or is of the other picture clock, and where that would be before picture 0.
+abbrev pub number_after : Params → List ReceiverEntry → List ℕ → Option ℕ
+number_after p past bytes =
+    option_and_then (piece_number (rules_of p) (run_of p past).played)
+    (result_ok ((decoding p.format).read bytes))
 
 -- the header of what was taken of picture n: its slices have one
 abbrev pub header_taken : {Style Mb : Type 0} → List (TakenSlice Style Mb) → ℕ → Option (Header Style)

@@ -48,6 +48,15 @@ impl Heard {
     }
 }
 
+/// The answer to a packet, and the number of the picture that the packet is of: the one nearest to the
+/// play. None where the packet has a fault or is of the other picture clock, and where that would be
+/// before picture 0.
+#[derive(Clone, Copy, Debug, PartialEq, Eq)]
+pub struct Arrival {
+    pub heard: Heard,
+    pub number: Option<u32>,
+}
+
 /// What a play says: which picture it is, how that is shown, to which picture it refers (None where
 /// it is intra, and where nothing of it was taken), and where it isn't complete the message that asks
 /// for another reference.

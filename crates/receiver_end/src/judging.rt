@@ -3,10 +3,11 @@ ghost use Rattle.std.specs.Prelude.{◌≡◌, ◌↔◌, ◌+◌, ◌^◌, ◌�
 ghost use Rattle.h263_types.specs.declared.blocks.Mb.{Mb};
 ghost use Rattle.h263_types.specs.Blocks.{IsHeadOf};
 ghost use Rattle.call_model.specs.Coding as call;
+ghost use Rattle.call_model.specs.Receiving.{piece_number};
 ghost use Rattle.call_model.specs.ReceiverStanding.{heard_by_kept};
 ghost use Rattle.call_model.specs.Stands.{judged, reference_is_kept};
 ghost use Rattle.call_decoding.specs.Rules.{rules_of};
-ghost use Rattle.call_decoding.specs.Styles.{Style};
+ghost use Rattle.call_decoding.specs.Styles.{Style, header_of};
 ghost use Rattle.receiver_end.specs.declared.answers.Heard.TheVariants as heards;
 ghost use Rattle.receiver_end.specs.Decoding.{decoding};
 
@@ -93,6 +94,19 @@ impl Kept {
             Place::Overlap => Err(refused(PacketFault::Overlap)),
             Place::Fresh => Ok(Fresh { number, reference }),
         }
+    }
+
+    /// The number of a slice's picture: the one nearest to the play. None where the slice is of the
+    /// other picture clock, and where that would be before picture 0.
+    pub fn number_of(&self, piece: &Piece) -> Option<u32>
+        requires { Fits self.now }
+        ensures { (p : call.Piece Style Mb) → p.header ≡ header_of piece.now.header
+            → result ≡ piece_number (rules_of self.now.params) self.now.played p }
+    {
+        if !is_same_clock(piece.header.clock, self.params.clock) {
+            return None;
+        }
+        nearest(self.played, piece.header.tr, self.params.clock)
     }
 
     /// What becomes of a slice: its picture and its reference where it may be taken, or the answer.

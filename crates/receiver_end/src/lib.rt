@@ -26,5 +26,5 @@ mod receiver;
 mod starting;
 mod taking;
 
-pub use answers::{Heard, PacketFault, Played};
+pub use answers::{Arrival, Heard, PacketFault, Played};
 pub use receiver::Receiver;

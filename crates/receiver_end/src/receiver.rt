@@ -3,7 +3,7 @@ ghost use Rattle.std.specs.Prelude.{◌≡◌, ◌+◌, ◌^◌, ◌<◌, ◌≤
 ghost use Rattle.h263_types.specs.Params.{IsParams};
 ghost use Rattle.picture_store.specs.Pictures.{room_for};
 
-use crate::answers::{Heard, PacketFault, Played};
+use crate::answers::{Arrival, Heard, PacketFault, Played};
 use crate::kept::Kept;
 use crate::laws;
 use call_decoding::{Pictured, Styled, laws as call_decoding_laws};
@@ -41,7 +41,7 @@ impl Receiver {
     ghost use Rattle.call_model.specs.Receiving.{ReceiverEntry, Packet, PlayNext};
     ghost use Rattle.receiver_end.specs.Answers.{IsHeard, IsPlayed, takes};
     ghost use Rattle.receiver_end.specs.State.{Stands, answer_after, mark_after, message_after};
-    ghost use Rattle.receiver_end.specs.State.{plays_alone, reference_after, run_of};
+    ghost use Rattle.receiver_end.specs.State.{number_after, plays_alone, reference_after, run_of};
 
     /// Nothing was heard or played. All memory of the receiver is taken here.
     pub fn start(alloc: Global, params: &Params) -> Result<Receiver, OutOfMemory>
@@ -93,12 +93,34 @@ impl Receiver {
         ensures stands { (past : List ReceiverEntry) → Stands self.old past
             → Stands self.new (Packet bytes.now ∷ past) }
     {
+        self.arrival(bytes).heard
+    }
+
+    /// Hears a packet as `packet` does, and says of which picture it is.
+    pub fn arrival(&mut self, bytes: &[u8]) -> Arrival
+        ensures params { self.new.params ≡ self.old.params }
+        ensures played { self.new.played ≡ self.old.played }
+        ensures same { takes result.heard ≡ false → self.new ≡ self.old }
+        ensures number { (past : List ReceiverEntry) → Stands self.old past
+            → result.number ≡ number_after self.old.params past bytes.now }
+        ensures answer { (past : List ReceiverEntry) → Stands self.old past
+            → IsHeard self.old.params.clock result.heard
+            (answer_after self.old.params past bytes.now) }
+        ensures stands { (past : List ReceiverEntry) → Stands self.old past
+            → Stands self.new (Packet bytes.now ∷ past) }
+    {
         laws::is_decoding();
         call_decoding_laws::are_rules();
         call_model_laws::receiver_stands::<Styled, Mb, Pictured, Fault>();
         match read_packet(bytes, self.kept.params.format, &mut self.mbs) {
-            Err(fault) => Heard::Refused(PacketFault::Bytes(fault)),
-            Ok(piece) => self.kept.hear(&piece, &self.mbs),
+            Err(fault) => Arrival {
+                heard: Heard::Refused(PacketFault::Bytes(fault)),
+                number: None,
+            },
+            Ok(piece) => Arrival {
+                number: self.kept.number_of(&piece),
+                heard: self.kept.hear(&piece, &self.mbs),
+            },
         }
     }
 
