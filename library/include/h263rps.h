@@ -237,7 +237,9 @@ typedef struct h263rps_answer {
     uint32_t kind;   /* enum h263rps_heard, of a play enum h263rps_mark */
     uint32_t fault;  /* enum h263rps_fault where a packet is refused, else 0 */
     uint32_t at;     /* the bit of a fault of its bytes, else 0 */
-    uint32_t number; /* of a play: that of the picture that is shown, from 0; of a packet 0 */
+    /* of a play: that of the picture that is shown, from 0; of a packet: that of its picture, and 0
+     * where its bytes are at fault, the clock is the other one, or the picture is before the call */
+    uint32_t number;
     /* of a play: 1 where what came of this picture refers to another one, else 0: it is intra, or
      * nothing of it was taken */
     uint32_t predicted;

@@ -171,7 +171,7 @@ static void pass(h263rps_end *sender, h263rps_end *receiver, uint32_t number, st
     for (uint32_t i = 0; i < made->coded.packets; i++)
         want("packet", h263rps_receiver_packet(receiver, made->packets[i], made->lengths[i],
                                                &answer), 0);
-    want("completed", answer.kind, H263RPS_COMPLETED);
+    want("completed", answer.kind == H263RPS_COMPLETED && answer.number == number, 1);
     want("feedback", h263rps_sender_feedback(sender, answer.message.bytes, answer.message.length,
                                              &reply), 0);
     want("play", h263rps_receiver_play(receiver, shown, SIZE, &answer), 0);

@@ -20,7 +20,7 @@ use Rattle.call_model.specs.Receiving.{ReceiverEntry}
 use Rattle.call_model.specs.Sending.{SenderEntry}
 use Rattle.call_decoding.specs.Styles.{Style}
 use Rattle.call_encoding.specs.Frames.{Frame}
-use Rattle.receiver_end.specs.declared.answers.Heard.{Heard}
+use Rattle.receiver_end.specs.declared.answers.Arrival.{Arrival}
 use Rattle.receiver_end.specs.declared.answers.Played.{Played}
 use Rattle.receiver_end.specs.Answers.{IsHeard, IsPlayed}
 use Rattle.receiver_end.specs.State as receivers
@@ -30,7 +30,7 @@ use Rattle.h263rps_c.specs.declared.answers.Answer.{Answer}
 use Rattle.h263rps_c.specs.declared.answers.Made.{Made}
 use Rattle.h263rps_c.specs.declared.ends.End.{End}
 use Rattle.h263rps_c.specs.declared.ends.End.TheVariants.{Receiving, Sending}
-use Rattle.h263rps_c.specs.Numbers.{heard_answer, made_of, played_answer, reply_of}
+use Rattle.h263rps_c.specs.Numbers.{arrived_answer, made_of, played_answer, reply_of}
 
 -- ---- a receiver
 
@@ -47,11 +47,13 @@ ShowsPicture inside bytes = (p : Params) (past : List ReceiverEntry)
     → (bytes ≡ bytes_of (receivers.run_of p past).screen)
     × (length bytes ≡ size_of_picture p.format)
 
--- the answer to a packet is this one, in numbers
-pub record TellsHeard (clock : Clock) (answer : Answer) (heard : runs.Heard Fault) : Type 0 where
-  pub told : Heard
-  pub is_heard : IsHeard clock told heard
-  pub is_told : answer ≡ heard_answer told
+-- the answer to a packet is this one, in numbers, with that of its picture, if it has one
+pub record TellsHeard (clock : Clock) (answer : Answer) (heard : runs.Heard Fault)
+    (number : Option ℕ) : Type 0 where
+  pub told : Arrival
+  pub is_heard : IsHeard clock told.heard heard
+  pub is_of : told.number ≡ number
+  pub is_told : answer ≡ arrived_answer told
 
 -- the answer to a play is this mark and this message, in numbers
 pub record TellsPlayed (clock : Clock) (answer : Answer) (mark : coding.Mark)

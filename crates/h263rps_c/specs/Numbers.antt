@@ -7,6 +7,7 @@ use Rattle.h263_types.specs.declared.Mark.TheVariants as marks
 use Rattle.back_messages.specs.declared.message.MessageFault.{MessageFault}
 use Rattle.back_messages.specs.declared.message.MessageFault.TheVariants as messages
 use Rattle.back_messages.specs.declared.writing.MessageBytes.{MessageBytes}
+use Rattle.receiver_end.specs.declared.answers.Arrival.{Arrival}
 use Rattle.receiver_end.specs.declared.answers.Heard.{Heard}
 use Rattle.receiver_end.specs.declared.answers.Heard.TheVariants as heards
 use Rattle.receiver_end.specs.declared.answers.PacketFault.{PacketFault}
@@ -129,7 +130,7 @@ refusing fault =
       message = no_message;
     }
 
--- to a packet
+-- to a packet, but for the number of its picture
 abbrev pub heard_answer : Heard → Answer
 heard_answer heards.Taken = plain 0
 heard_answer (heards.Completed said) = saying 1 said
@@ -137,6 +138,15 @@ heard_answer heards.Late = plain 2
 heard_answer heards.Early = plain 3
 heard_answer heards.Repeat = plain 4
 heard_answer (heards.Refused fault) = refusing fault
+
+-- a number, or 0
+abbrev pub number_or_zero : Option ℕ → ℕ
+number_or_zero None = 0
+number_or_zero (Some n) = n
+
+-- to a packet: with the number of its picture
+abbrev pub arrived_answer : Arrival → Answer
+arrived_answer x = record (heard_answer x.heard) { number = number_or_zero x.number }
 
 abbrev pub mark_number : Mark → ℕ
 mark_number marks.Exact = 0
@@ -148,15 +158,10 @@ abbrev pub is_predicted : Option ℕ → ℕ
 is_predicted None = 0
 is_predicted (Some m) = 1
 
--- its number, or 0
-abbrev pub reference_number : Option ℕ → ℕ
-reference_number None = 0
-reference_number (Some m) = m
-
 -- the answer names this reference, if there is one
 abbrev pub NamesReference : Answer → Option ℕ → Type 0
 NamesReference answer o =
-    (answer.predicted ≡ is_predicted o) × (answer.reference ≡ reference_number o)
+    (answer.predicted ≡ is_predicted o) × (answer.reference ≡ number_or_zero o)
 
 -- to a play: with the number of the picture that is shown, and that of its reference
 abbrev pub played_answer : Played → Answer
@@ -167,7 +172,7 @@ played_answer played =
       at = 0;
       number = played.number;
       predicted = is_predicted played.reference;
-      reference = reference_number played.reference;
+      reference = number_or_zero played.reference;
       message = said_in played.message;
     }
 

@@ -5,7 +5,7 @@ ghost use Rattle.h263rps_c.specs.Numbers as numbers;
 use back_messages::{MessageBytes, MessageFault};
 use h263_bits::FaultKind;
 use h263_types::Mark;
-use receiver_end::{Heard, PacketFault, Played};
+use receiver_end::{Arrival, Heard, PacketFault, Played};
 use sender_end::{Coded, Feedback};
 
 /// A message for the other end: the first `length` bytes, 3 or 5; with a length of 0 there is none.
@@ -25,7 +25,7 @@ pub struct Answer {
     pub fault: u32,
     /// The bit at which a fault of its bytes stands, else 0.
     pub at: u32,
-    /// Of a play the number of the picture that is shown; of a packet 0.
+    /// Of a play the number of the picture that is shown; of a packet that of its picture, or 0.
     pub number: u32,
     /// Of a play 1 where what was taken of the picture that is shown refers to another one, else 0.
     pub predicted: u32,
@@ -143,8 +143,8 @@ fn is_predicted(reference: Option<u32>) -> u32
     }
 }
 
-fn reference_number(reference: Option<u32>) -> u32
-    ensures { result ≡ numbers.reference_number reference }
+fn number_or_zero(reference: Option<u32>) -> u32
+    ensures { result ≡ numbers.number_or_zero reference }
 {
     match reference {
         None => 0,
@@ -181,8 +181,8 @@ impl Answer {
         }
     }
 
-    /// The answer to a packet.
-    pub fn heard(heard: &Heard) -> Answer
+    // What is answered to a packet, but for the number of its picture.
+    fn heard(heard: &Heard) -> Answer
         ensures { result ≡ numbers.heard_answer heard.now }
     {
         match heard {
@@ -203,6 +203,16 @@ impl Answer {
         }
     }
 
+    /// The answer to a packet.
+    pub fn arrived(arrival: &Arrival) -> Answer
+        ensures { result ≡ numbers.arrived_answer arrival.now }
+    {
+        Answer {
+            number: number_or_zero(arrival.number),
+            ..Answer::heard(&arrival.heard)
+        }
+    }
+
     /// The answer to a play.
     pub fn played(played: &Played) -> Answer
         ensures { result ≡ numbers.played_answer played.now }
@@ -213,7 +223,7 @@ impl Answer {
             at: 0,
             number: played.number,
             predicted: is_predicted(played.reference),
-            reference: reference_number(played.reference),
+            reference: number_or_zero(played.reference),
             message: Said::maybe(&played.message),
         }
     }

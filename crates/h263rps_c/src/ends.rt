@@ -33,7 +33,7 @@ use crate::refusals::Refusal;
 use crate::sending::Sending;
 use h263_planes::laws;
 use h263_types::Params;
-use receiver_end::{Heard, Played, Receiver};
+use receiver_end::{Arrival, Played, Receiver};
 use sender_end::{Coded, Feedback};
 use std::alloc::Global;
 
@@ -188,20 +188,23 @@ impl End {
     }
 
     /// Gives a packet to a receiver.
-    pub fn hear(&mut self, bytes: &[u8]) -> Result<Heard, Refusal>
+    pub fn hear(&mut self, bytes: &[u8]) -> Result<Arrival, Refusal>
         ensures refusal { refusal_in result ≡ for_receiver never (Some self.old) }
         ensures same { IfErr result (λ why. self.new ≡ self.old) }
-        ensures untaken { IfOk result (λ heard. takes heard ≡ false → self.new ≡ self.old) }
+        ensures untaken { IfOk result (λ x. takes x.heard ≡ false → self.new ≡ self.old) }
         ensures stands { (p : Params) (past : List ReceiverEntry)
             → HoldsReceiver p past (Some self.old)
             → HoldsReceiver p (Packet bytes.now ∷ past) (Some self.new) }
         ensures answer { (p : Params) (past : List ReceiverEntry)
             → HoldsReceiver p past (Some self.old) → IfOk result
-            (λ heard. IsHeard p.clock heard (receivers.answer_after p past bytes.now)) }
+            (λ x. IsHeard p.clock x.heard (receivers.answer_after p past bytes.now)) }
+        ensures number { (p : Params) (past : List ReceiverEntry)
+            → HoldsReceiver p past (Some self.old) → IfOk result
+            (λ x. x.number ≡ receivers.number_after p past bytes.now) }
     {
         match self {
             End::Sending(_) => Err(Refusal::OtherEnd),
-            End::Receiving(receiver) => Ok(receiver.packet(bytes)),
+            End::Receiving(receiver) => Ok(receiver.arrival(bytes)),
         }
     }
 

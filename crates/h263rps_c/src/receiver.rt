@@ -88,15 +88,16 @@ pub extern "C" fn h263rps_raw_receiver_packet(
         → HoldsReceiver p (Packet bytes.now ∷ past) slot.new.handle.inside }
     ensures answer { (p : Params) (past : List ReceiverEntry)
         → HoldsReceiver p past slot.old.handle.inside
-        → TellsHeard p.clock answer.new (receivers.answer_after p past bytes.now) }
+        → TellsHeard p.clock answer.new (receivers.answer_after p past bytes.now)
+        (receivers.number_after p past bytes.now) }
 {
     if !slot.is_started() {
         return Refusal::NotStarted.number();
     }
     match slot.handle.end_mut().hear(bytes) {
         Err(refusal) => refusal.number(),
-        Ok(heard) => {
-            *answer = Answer::heard(&heard);
+        Ok(arrival) => {
+            *answer = Answer::arrived(&arrival);
             slot.counted = slot.counted.with_heard(bytes.len(), answer);
             OK
         }
