@@ -21,7 +21,9 @@ packed_size packed = packed / 2048
 -- whether a word stands for the LAST, RUN and size that are packed
 abbrev pub is_meant : ℕ → Option Level → Bool
 is_meant packed None = false
-is_meant packed (Some l) = (if l.last then packed_last packed else not (packed_last packed)) && ((l.run == packed_run packed) && (l.size == packed_size packed))
+is_meant packed (Some l) =
+    (if l.last then packed_last packed else not (packed_last packed))
+    && ((l.run == packed_run packed) && (l.size == packed_size packed))
 
 -- whether the word at a place is what is packed, and `width` bits begin with it
 abbrev pub is_packed_at : ℕ → ℕ → ℕ → Option ℕ → Bool

@@ -1,8 +1,11 @@
 -- Which of a block's levels aren't 0.
-use Rattle.std.specs.Prelude.{◌≡◌, ◌≢◌, ◌<◌, ◌*◌, ◌^◌, ◌%◌, ℕ, List, Bool, ℤ, pos, not, map, slice_index_or, if◌then◌else◌, bit_and}
+use Rattle.std.specs.Prelude.{◌≡◌, ◌≢◌, ◌<◌, ◌*◌, ◌^◌, ◌%◌, ℕ, List, [], Bool, ℤ, pos, not, map, slice_index_or, if◌then◌else◌, bit_and}
 use Rattle.std.specs.Ordering.{int_eq}
 use Rattle.std.specs.Int.{bit_at, bit_not, trailing_zeros, w64}
 use Rattle.std.specs.Simd.Lanes.{mask_l}
+use Rattle.h263_types.specs.declared.blocks.Block.{Block}
+use Rattle.h263_types.specs.declared.blocks.Mb.{Mb}
+use Rattle.h263_types.specs.declared.blocks.Mb.TheVariants.{Skip, Intra, Inter}
 
 abbrev pub is_zero : ℤ → Bool
 is_zero z = int_eq z (pos 0)
@@ -10,6 +13,17 @@ is_zero z = int_eq z (pos 0)
 -- a bit for each level that isn't 0, the lowest for the first
 unfoldable pub marks_of : List ℤ → ℕ
 marks_of levels = mask_l (map (λ z. not (is_zero z)) levels)
+
+-- the first `count` of these are the marks of the first `count` blocks
+abbrev pub AreMarksOfFirst : ℕ → List Block → List ℕ → Type 0
+AreMarksOfFirst count blocks marks =
+    (k : ℕ) → k < count → slice_index_or marks k 0 ≡ marks_of (slice_index_or blocks k (record { levels = [] })).levels
+
+-- the marks of a macroblock's six blocks, if it has any
+abbrev pub HasMarks : Mb → List ℕ → Type 0
+HasMarks Skip marks = Unit {0}
+HasMarks (Intra quant blocks) marks = AreMarksOfFirst 6 blocks marks
+HasMarks (Inter quant vector blocks) marks = AreMarksOfFirst 6 blocks marks
 
 -- a level whose bit isn't set is 0, and only such a one
 abbrev pub EachIsMarked : Type 0

@@ -1,5 +1,5 @@
--- The forward transform nearly: a pass down and one across, each rounded, so that all that they give fits 16 bits. It gives
--- sixteenths of coefficients.
+-- The forward transform nearly: a pass down and one across, each rounded, so that all that they give fits 16 bits.
+-- It gives sixteenths of coefficients.
 use Rattle.std.specs.Prelude.{ℕ, ◌+◌, ◌/◌, ◌^◌, ◌≤◌, ℤ, pos, ◌+ℤ◌, ◌*ℤ◌, ◌≤ℤ◌, unsigned_abs, List}
 use Rattle.std.specs.Int.{int_shr}
 use Rattle.idct8.specs.Sums.{sum_below}

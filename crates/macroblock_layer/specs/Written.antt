@@ -8,7 +8,6 @@ use Rattle.h263_types.specs.declared.vector.Reach.{Reach}
 use Rattle.h263_types.specs.declared.blocks.Block.{Block}
 use Rattle.h263_types.specs.declared.blocks.Mb.{Mb}
 use Rattle.h263_types.specs.declared.blocks.Mb.TheVariants.{Skip, Intra, Inter}
-use Rattle.h263_types.specs.Marks.{marks_of}
 use Rattle.h263_types.specs.Vectors.{IsWithin}
 use Rattle.code_tables.specs.declared.macroblock.MbClass.{MbClass}
 use Rattle.code_tables.specs.declared.macroblock.MbClass.TheVariants as classes
@@ -23,16 +22,6 @@ use Rattle.macroblock_layer.specs.Text.{wrapped}
 -- the levels of a block of the six
 abbrev pub levels_at : List Block → ℕ → List ℤ
 levels_at blocks k = (slice_index_or blocks k (record { levels = [] })).levels
-
--- the marks of the six blocks
-abbrev pub AreMarksOf : List Block → List ℕ → Type 0
-AreMarksOf blocks marks = (k : ℕ) → k < 6 → slice_index_or marks k 0 ≡ marks_of (levels_at blocks k)
-
--- and those of a macroblock's blocks, if it has any
-abbrev pub HasMarks : Mb → List ℕ → Type 0
-HasMarks Skip marks = Unit {0}
-HasMarks (Intra quant blocks) marks = AreMarksOf blocks marks
-HasMarks (Inter quant vector blocks) marks = AreMarksOf blocks marks
 
 -- whether a block of an inter macroblock is coded: a level isn't 0
 abbrev pub has_levels : List ℤ → Bool

@@ -5,14 +5,14 @@ ghost use Rattle.h263_types.specs.declared.Kind.TheVariants as kinds;
 ghost use Rattle.h263_types.specs.declared.vector.Reach.{Reach};
 ghost use Rattle.h263_types.specs.declared.blocks.Block.{Block};
 ghost use Rattle.h263_types.specs.Blocks.{IsQuant, IsVector, IsIntraBlock, IsInterBlock, IsIntraMb, IsInterMb, IsMb, IsOfKind, AreWhole};
-ghost use Rattle.h263_types.specs.Marks.{marks_of};
+ghost use Rattle.h263_types.specs.Marks.{marks_of, AreMarksOfFirst, HasMarks};
 ghost use Rattle.code_tables.specs.declared.macroblock.MbClass.{MbClass};
 ghost use Rattle.code_tables.specs.declared.macroblock.Mcbpc.TheVariants.{Word};
 ghost use Rattle.code_tables.specs.Mcbpc.{IsInTable};
 ghost use Rattle.code_tables.specs.Tables.{bit_of, cbpy_text};
 ghost use Rattle.block_layer.specs.Text.{none_left, is_coded, coded_in, intra_text, inter_text};
 ghost use Rattle.macroblock_layer.specs.Text.{wrapped, IsMbText};
-ghost use Rattle.macroblock_layer.specs.Written.{levels_at, AreMarksOf, HasMarks, cbpy_of, cbpc_of, class_of, cod_text, class_text, step_text, head_text, vector_text, blocks_text, intra_mb_text, inter_mb_text, mb_text, IsNear, IsStepped, IsReached};
+ghost use Rattle.macroblock_layer.specs.Written.{levels_at, cbpy_of, cbpc_of, class_of, cod_text, class_text, step_text, head_text, vector_text, blocks_text, intra_mb_text, inter_mb_text, mb_text, IsNear, IsStepped, IsReached};
 
 use crate::laws;
 use crate::reading::wrapped;
@@ -44,7 +44,7 @@ fn cbpc(a: bool, b: bool) -> u8
 
 // The marks of the six blocks.
 fn marks_of_six(blocks: &[Block; 6]) -> [u64; 6]
-    ensures marks { AreMarksOf blocks.now result }
+    ensures marks { AreMarksOfFirst 6 blocks.now result }
     ensures whole { AreWhole blocks.now }
 {
     [
@@ -75,9 +75,9 @@ pub fn marks_in(mb: &Mb) -> [u64; 6]
 // Which of the six blocks of a macroblock are coded, by their marks.
 fn pattern_by(intra: bool, marks: &[u64; 6]) -> Pattern
     ensures cbpy { (blocks : List Block)
-        → AreMarksOf blocks marks.now → result.cbpy ≡ cbpy_of (coded_in intra) blocks }
+        → AreMarksOfFirst 6 blocks marks.now → result.cbpy ≡ cbpy_of (coded_in intra) blocks }
     ensures cbpc { (blocks : List Block)
-        → AreMarksOf blocks marks.now → result.cbpc ≡ cbpc_of (coded_in intra) blocks }
+        → AreMarksOfFirst 6 blocks marks.now → result.cbpc ≡ cbpc_of (coded_in intra) blocks }
     ensures cbpy_below { result.cbpy < 16 }
     ensures cbpc_below { result.cbpc < 4 }
 {
@@ -199,7 +199,7 @@ fn write_vector(writer: &mut BitWriter<'_>, predictor: Vector, vector: Vector)
 
 fn write_intra_blocks(writer: &mut BitWriter<'_>, blocks: &[Block; 6], marks: &[u64; 6])
     requires blocks { All (λ (b : Block). IsIntraBlock b) blocks.now }
-    requires marks { AreMarksOf blocks.now marks.now }
+    requires marks { AreMarksOfFirst 6 blocks.now marks.now }
     requires whole { AreWhole blocks.now }
     requires room { len_of writer.old + length (blocks_text intra_text blocks.now)
         ≤ room_of writer.old }
@@ -214,7 +214,7 @@ fn write_intra_blocks(writer: &mut BitWriter<'_>, blocks: &[Block; 6], marks: &[
 
 fn write_inter_blocks(writer: &mut BitWriter<'_>, blocks: &[Block; 6], marks: &[u64; 6])
     requires blocks { All (λ (b : Block). IsInterBlock b) blocks.now }
-    requires marks { AreMarksOf blocks.now marks.now }
+    requires marks { AreMarksOfFirst 6 blocks.now marks.now }
     requires whole { AreWhole blocks.now }
     requires room { len_of writer.old + length (blocks_text inter_text blocks.now)
         ≤ room_of writer.old }
@@ -240,7 +240,7 @@ fn write_intra_mb(
 )
     requires quant { quant ≤ 31 }
     requires mb { IsIntraMb new blocks.now }
-    requires marks { AreMarksOf blocks.now marks.now }
+    requires marks { AreMarksOfFirst 6 blocks.now marks.now }
     requires whole { AreWhole blocks.now }
     requires near { IsNear quant new }
     requires room { len_of writer.old + 8492 ≤ room_of writer.old }
@@ -266,7 +266,7 @@ fn write_inter_mb(
 )
     requires quant { quant ≤ 31 }
     requires mb { IsInterMb new vector blocks.now }
-    requires marks { AreMarksOf blocks.now marks.now }
+    requires marks { AreMarksOfFirst 6 blocks.now marks.now }
     requires whole { AreWhole blocks.now }
     requires near { IsNear quant new }
     requires room { len_of writer.old + 8492 ≤ room_of writer.old }

@@ -1,8 +1,7 @@
 -- The marks of blocks, which are found one after the other.
 use Rattle.std.proofs.Common.{◌≡◌, ◌∙◌, ℕ, ◌+◌, ◌<◌, List, [], refl, ap, sym, arith, below_more, get_or, get_or-set_same, get_or-set_other, length, replicate, slice_set, pos}
 use Rattle.h263_types.specs.declared.blocks.Block.{Block}
-use Rattle.h263_types.specs.Marks.{marks_of}
-use Rattle.mode_choice.specs.Marked.{AreMarksOfFirst}
+use Rattle.h263_types.specs.Marks.{marks_of, AreMarksOfFirst}
 use Rattle.mode_choice.specs.Walk.{zero_block}
 
 no_marks : 0 ≡ marks_of (replicate 64 (pos 0))

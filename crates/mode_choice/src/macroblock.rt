@@ -15,7 +15,7 @@ ghost use Rattle.motion_search.specs.Cost.{samples_of, IsCost};
 ghost use Rattle.quantiser.specs.Factors.{IsFactor};
 ghost use Rattle.mode_choice.specs.Choice as choice;
 ghost use Rattle.mode_choice.specs.Guess.{vector_in};
-ghost use Rattle.mode_choice.specs.Marked.{AreMarksOfFirst, HasMarks};
+ghost use Rattle.h263_types.specs.Marks.{AreMarksOfFirst, HasMarks};
 ghost use Rattle.mode_choice.specs.Walk.{zero_block};
 
 use crate::chosen::{Chosen, predict_into};

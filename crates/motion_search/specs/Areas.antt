@@ -81,7 +81,8 @@ pub record AreSumsOf (p : Picture) (s : KeptSums) : Type 0 where
   pub whole : length s.sums ≡ 14976
   pub order : s.first ≤ s.end
   pub room : s.end ≤ s.first + 39
-  pub sums : (x k : ℕ) → x + 8 ≤ width_of p.format → s.first + k < s.end → slice_index s.sums (384 * k + x) ≡ area_sum (sample_at p Y) x (s.first + k)
+  pub sums : (x k : ℕ) → x + 8 ≤ width_of p.format → s.first + k < s.end
+      → slice_index s.sums (384 * k + x) ≡ area_sum (sample_at p Y) x (s.first + k)
   pub small : (k : ℕ) → slice_index s.sums k ≤ 16320
 
 -- the same of a reference that there may be

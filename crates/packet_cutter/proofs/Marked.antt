@@ -4,7 +4,7 @@ use Rattle.std.proofs.lemmas.List.{get_or-drop, get_or-take, length-drop, length
 use Rattle.h263_types.specs.declared.blocks.Mb.{Mb}
 use Rattle.h263_types.specs.declared.blocks.Mb.TheVariants.{Skip}
 use Rattle.h263_types.specs.Blocks.{mb_in}
-use Rattle.macroblock_layer.specs.Written.{HasMarks}
+use Rattle.h263_types.specs.Marks.{HasMarks}
 use Rattle.packet_cutter.specs.Taken.{AreMarked}
 
 marked_as : (m n : Mb) (marks theirs : List ℕ) → n ≡ m → theirs ≡ marks → HasMarks m marks → HasMarks n theirs

@@ -5,7 +5,7 @@ use Rattle.h263_types.specs.declared.format.Format.{Format}
 use Rattle.h263_types.specs.declared.blocks.Mb.{Mb}
 use Rattle.h263_types.specs.Blocks.{mb_in}
 use Rattle.picture_header.specs.declared.header.Header.{Header}
-use Rattle.macroblock_layer.specs.Written.{HasMarks}
+use Rattle.h263_types.specs.Marks.{HasMarks}
 use Rattle.packet_cutter.specs.declared.cutter.Cutter.{Cutter}
 use Rattle.picture_header.specs.Ranges.{IsHeader}
 use Rattle.packet_cutter.specs.Taken.{IsTaken}

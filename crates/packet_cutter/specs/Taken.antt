@@ -3,7 +3,7 @@ use Rattle.std.specs.Prelude.{◌≡◌, ℕ, zero, suc, ◌+◌, ◌*◌, ◌<�
 use Rattle.h263_types.specs.declared.Kind.{Kind}
 use Rattle.h263_types.specs.declared.blocks.Mb.{Mb}
 use Rattle.h263_types.specs.Blocks.{HasQuant, IsMb, IsOfKind, mb_in}
-use Rattle.macroblock_layer.specs.Written.{HasMarks}
+use Rattle.h263_types.specs.Marks.{HasMarks}
 
 -- a macroblock of a picture of this kind and with this quantiser
 pub record IsTaken (kind : Kind) (quant : ℕ) (m : Mb) : Type 0 where

@@ -6,7 +6,7 @@ ghost use Rattle.h263_types.specs.Params.{IsParams};
 ghost use Rattle.h263_types.specs.Sizes.{mbs_of};
 ghost use Rattle.picture_header.specs.declared.header.Header.{Header};
 ghost use Rattle.picture_header.specs.Ranges.{IsHeader};
-ghost use Rattle.macroblock_layer.specs.Written.{HasMarks};
+ghost use Rattle.h263_types.specs.Marks.{HasMarks};
 ghost use Rattle.packet_cutter.specs.Kept.{most_bytes, room_of, kept_packets};
 ghost use Rattle.packet_cutter.specs.Packets as sent;
 ghost use Rattle.packet_cutter.specs.Packets.{ArePacketsOf};

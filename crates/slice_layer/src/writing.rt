@@ -7,7 +7,8 @@ ghost use Rattle.h263_types.specs.declared.blocks.Mb.{Mb};
 ghost use Rattle.picture_header.specs.declared.header.Header.{Header};
 ghost use Rattle.picture_header.specs.Ranges.{IsHeader};
 ghost use Rattle.macroblock_layer.specs.Prediction.{predictor_of};
-ghost use Rattle.macroblock_layer.specs.Written.{HasMarks, IsStepped, mb_text};
+ghost use Rattle.h263_types.specs.Marks.{HasMarks};
+ghost use Rattle.macroblock_layer.specs.Written.{IsStepped, mb_text};
 ghost use Rattle.slice_layer.specs.Around.{vector_of, quant_after};
 
 use crate::shared::{quant_after, vector_of};

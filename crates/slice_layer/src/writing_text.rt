@@ -4,7 +4,8 @@ ghost use Rattle.h263_bits.specs.Bits.{spelled};
 ghost use Rattle.h263_bits.specs.Written.{Appends, len_of, to_byte};
 ghost use Rattle.h263_types.specs.Blocks.{IsQuant, IsMb, IsOfKind, HasWholeBlocks};
 ghost use Rattle.picture_header.specs.Ranges.{IsHeader};
-ghost use Rattle.macroblock_layer.specs.Written.{mb_text, HasMarks, IsStepped};
+ghost use Rattle.h263_types.specs.Marks.{HasMarks};
+ghost use Rattle.macroblock_layer.specs.Written.{mb_text, IsStepped};
 ghost use Rattle.slice_layer.specs.Written.{opening_text, IsPlace, IsFront};
 
 use crate::writing_head::write_opening;

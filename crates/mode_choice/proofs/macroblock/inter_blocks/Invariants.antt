@@ -5,7 +5,7 @@ use Rattle.h263_planes.specs.Lent.{picture}
 use Rattle.h263_planes.specs.Picture.{Picture}
 use Rattle.half_sample.specs.Macroblock.{IsPredicted}
 use Rattle.mode_choice.specs.Choice.{residual_levels_of, residuals_of}
-use Rattle.mode_choice.specs.Marked.{AreMarksOfFirst}
+use Rattle.h263_types.specs.Marks.{AreMarksOfFirst}
 use Rattle.mode_choice.specs.Walk.{AreZerosFrom}
 use Rattle.mode_choice.proofs.macroblock.inter_blocks.Given as goal
 

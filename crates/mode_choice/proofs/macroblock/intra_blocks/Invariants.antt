@@ -2,7 +2,7 @@ use Rattle.std.proofs.Common.{◌≡◌, ℕ, ◌<◌, length, get_or}
 use Rattle.h263_types.specs.declared.blocks.Block.{Block}
 use Rattle.h263_planes.specs.Lent.{picture}
 use Rattle.mode_choice.specs.Choice.{levels_of, samples_of}
-use Rattle.mode_choice.specs.Marked.{AreMarksOfFirst}
+use Rattle.h263_types.specs.Marks.{AreMarksOfFirst}
 use Rattle.mode_choice.specs.Walk.{AreZerosFrom}
 use Rattle.mode_choice.proofs.macroblock.intra_blocks.Given as goal
 

@@ -5,13 +5,11 @@ use Rattle.std.proofs.lemmas.Bool.Decides.{Decides-int_eq}
 use Rattle.h263_types.specs.declared.format.Format.{Format}
 use Rattle.h263_types.specs.declared.blocks.Mb.{Mb}
 use Rattle.h263_types.specs.declared.blocks.Mb.TheVariants.{Skip, Intra, Inter}
-use Rattle.h263_types.specs.Marks.{EachIsMarked, is_zero, marks_of}
+use Rattle.h263_types.specs.Marks.{EachIsMarked, HasMarks, is_zero, marks_of}
 use Rattle.h263_types.specs.Sizes.{mbs_of}
 use Rattle.h263_planes.specs.Lent.{picture}
 use Rattle.h263_planes.specs.Work as lent
 use Rattle.mode_choice.specs.Choice.{choices_of}
-use Rattle.mode_choice.specs.Marked as chosen
-use Rattle.macroblock_layer.specs.Written.{HasMarks}
 use Rattle.picture_recon.specs.Marks.{AreMarked, HasMarked}
 use Rattle.picture_recon.specs.Samples.{block_in, reconstruction}
 use Rattle.picture_recon.specs.Shown.{SetsMb, ShowsFirst}
@@ -30,19 +28,10 @@ marked each levels n e k less none =
     unset z (is_zero z) refl (sym (each levels k) ∙ ap (λ (n : ℕ). bit_at n k) (sym e) ∙ none)
 
 -- the marks as they are chosen serve to draw
-drawn_by : EachIsMarked → (m : Mb) (marks : List ℕ) → chosen.HasMarks m marks → HasMarked m marks
+drawn_by : EachIsMarked → (m : Mb) (marks : List ℕ) → HasMarks m marks → HasMarked m marks
 drawn_by each Skip marks are = tt
 drawn_by each (Intra quant blocks) marks are = λ b less. marked each (block_in blocks b).levels (get_or marks b 0) (are b less)
 drawn_by each (Inter quant vector blocks) marks are = λ b less. marked each (block_in blocks b).levels (get_or marks b 0) (are b less)
-
--- and to write
-written_by : (m : Mb) (marks : List ℕ) → chosen.HasMarks m marks → HasMarks m marks
-written_by Skip marks are = tt
-written_by (Intra quant blocks) marks are = are
-written_by (Inter quant vector blocks) marks are = are
-
-pub add_marked-requires-clause-marks : goal.add_marked-requires-clause-marks
-add_marked-requires-clause-marks c = written_by c.choose.new.out.mb c.choose.new.out.marks c.choose.ensures.marks
 
 pub recon_predicted-requires-clause-marks : goal.recon_predicted-requires-clause-marks
 recon_predicted-requires-clause-marks c = drawn_by c.marks.ensures c.choose.new.out.mb c.choose.new.out.marks c.choose.ensures.marks
