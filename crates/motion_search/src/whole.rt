@@ -12,7 +12,7 @@ use crate::areas::{Quarters, quarters_of};
 use crate::candidate::{Candidate, is_settled};
 use crate::kept::KeptSums;
 use crate::lent::known;
-use crate::square::{better_at, end_column, first_column, nearest};
+use crate::square::{across, better_at, end_in, first_in, nearest};
 use crate::start::zero;
 use crate::strip::best_of_strip;
 use crate::window::{SearchArea, Window};
@@ -83,8 +83,9 @@ fn best_of_strips(
         → n < 2 * window.entry.radius + 1 → IsBehind window.entry n m result }
 {
     let mut first = best;
-    let mut column = first_column(window.radius, window.reach);
-    while column < end_column(window.radius, window.reach) {
+    let across = across(window.reach);
+    let mut column = first_in(window.radius, across);
+    while column < end_in(window.radius, across) {
         first = best_of_strip(window, quarters, sums, column, first);
         column += 16;
     }
